@@ -1,0 +1,4 @@
+pub mod Characters
+pub mod Names
+pub mod Lines
+pub mod Counts

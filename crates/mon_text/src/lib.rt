@@ -1,0 +1,12 @@
+//! Names, lines, words and numbers: the text that every other crate reads and writes.
+//!
+//! All text is ASCII, and a contract sees it as the list of its bytes.
+#![tactic(auto)]
+
+pub mod count;
+pub mod line;
+pub mod name;
+
+pub use count::{BadNumber, put_number, read_count};
+pub use line::{Line, LineError, read_line, split_words};
+pub use name::{BadName, Name, read_name};
