@@ -1,0 +1,76 @@
+//! An account and its groups.
+ghost use Rattle.std.specs.Prelude.{◌≡◌, ◌==◌, [], ◌∷◌, ◌++◌, length, OnOk, OnErr};
+ghost use Rattle.mon_access.specs.Groups.{is_among};
+
+use mon_text::Name;
+use std::alloc::{AllocError, Global};
+use std::marker::Model;
+
+/// The groups of an account beside its primary one, in the order in which they were given.
+///
+/// A contract sees them as the list of their names. A group may stand in it more than once.
+#[derive(Debug, Drop)]
+pub struct Groups {
+    names: Vec<Name>,
+}
+
+impl Model for Groups {
+    ghost use Rattle.std.specs.Prelude.{ℕ, List};
+
+    ghost Value = { List (List ℕ) };
+
+    ghost view = { λ g. g.names.items };
+}
+
+/// Who may ask for something: a name, a primary group and further groups.
+#[derive(Debug, Drop)]
+pub struct Account {
+    pub name: Name,
+    pub primary: Name,
+    pub groups: Groups,
+}
+
+impl Groups {
+    /// No groups.
+    pub fn new(alloc: Global) -> Groups
+        ensures { result ≡ [] }
+    {
+        Groups {
+            names: Vec::new(alloc),
+        }
+    }
+
+    /// How many groups there are; one that was given twice counts twice.
+    pub fn len(&self) -> usize
+        ensures { result ≡ length self.now }
+    {
+        self.names.len()
+    }
+
+    /// Whether there is no group.
+    pub fn is_empty(&self) -> bool
+        ensures { result ≡ (length self.now == 0) }
+    {
+        self.names.is_empty()
+    }
+
+    /// Adds a group at the end.
+    ///
+    /// # Errors
+    ///
+    /// Where a growth was refused; the groups are then unchanged.
+    pub fn push(&mut self, group: Name) -> Result<(), AllocError>
+        ensures added { OnOk result (self.new ≡ self.old ++ group ∷ []) }
+        ensures unchanged { OnErr result (self.new ≡ self.old) }
+    {
+        self.names.push(group)?;
+        Ok(())
+    }
+
+    /// Whether a group is one of these.
+    pub fn contains(&self, group: &Name) -> bool
+        ensures { result ≡ is_among group.now self.now }
+    {
+        self.names.contains(group)
+    }
+}

@@ -1,0 +1,77 @@
+-- Entries of a permission list, which lists are valid, and in which order they stand (acl(5) "ACL TYPES", "VALID ACLs").
+use Rattle.std.specs.Prelude.{◌≡◌, ℕ, ◌<◌, ◌≤◌, ◌==◌, Bool, true, false, ◌&&◌, ◌||◌, List, [], ◌∷◌, map, count_by, All, IsTrue, Option, Some, None, nat_eq}
+use Rattle.std.specs.List.Sorted.{IsStrictlySortedBy}
+use Rattle.std.specs.Cmp.Lexicographic.{pointwise, slice_cmp}
+use Rattle.std.specs.Ordering.{nat_cmp}
+use Rattle.mon_text.specs.Names.{is_name}
+use Rattle.mon_acl.specs.declared.entries.Tag.{Tag}
+use Rattle.mon_acl.specs.declared.entries.Tag.TheVariants.{UserObj, User, GroupObj, Group, Mask, Other}
+use Rattle.mon_acl.specs.declared.entries.Entry.{Entry}
+
+-- the types in canonical order (own)
+abbrev pub rank : Tag → ℕ
+rank UserObj = 0
+rank User = 1
+rank GroupObj = 2
+rank Group = 3
+rank Mask = 4
+rank Other = 5
+
+abbrev pub is_tag : Tag → Tag → Bool
+is_tag t u = rank t == rank u
+
+abbrev pub has_tag : Tag → Entry → Bool
+has_tag t e = is_tag e.tag t
+
+-- an entry for one user or group by name: ACL_USER and ACL_GROUP
+abbrev pub is_named : Entry → Bool
+is_named e = has_tag User e || has_tag Group e
+
+abbrev pub bytes_of : Option (List ℕ) → List ℕ
+bytes_of (Some name) = name
+bytes_of None = []
+
+-- the name that an entry is for; empty for an entry of the owner, the owning group, the mask and all others
+abbrev pub qualifier : Entry → List ℕ
+qualifier e = bytes_of e.name
+
+-- an entry of this type for this name
+abbrev pub is_for : Tag → List ℕ → Entry → Bool
+is_for t name e = has_tag t e && pointwise nat_eq (qualifier e) name
+
+-- named users and groups have a name, other entries have none
+abbrev pub is_qualified : Tag → Option (List ℕ) → Bool
+is_qualified User (Some name) = is_name name
+is_qualified User None = false
+is_qualified Group (Some name) = is_name name
+is_qualified Group None = false
+is_qualified _ (Some name) = false
+is_qualified _ None = true
+
+abbrev pub IsEntry : Entry → Type 0
+IsEntry e = IsTrue (is_qualified e.tag e.name)
+
+-- a valid list (acl(5) "VALID ACLs"), of at most 100 named entries (own)
+pub record IsValidAcl (es : List Entry) : Type 0 where
+  pub entries : All IsEntry es
+  pub owner : count_by (has_tag UserObj) es ≡ 1
+  pub owning_group : count_by (has_tag GroupObj) es ≡ 1
+  pub other : count_by (has_tag Other) es ≡ 1
+  pub one_mask : count_by (has_tag Mask) es ≤ 1
+  pub masked : 0 < count_by is_named es → count_by (has_tag Mask) es ≡ 1
+  pub users_differ : (name : List ℕ) → count_by (is_for User name) es ≤ 1
+  pub groups_differ : (name : List ℕ) → count_by (is_for Group name) es ≤ 1
+  pub few : count_by is_named es ≤ 100
+
+-- where an entry stands: by its type, and within a type by its qualifier's bytes (own)
+abbrev pub place : Entry → List ℕ
+place e = rank e.tag ∷ qualifier e
+
+-- the canonical order: each entry stands before those after it (own)
+abbrev pub IsCanonical : List Entry → Type 0
+IsCanonical es = IsStrictlySortedBy (slice_cmp nat_cmp) (map place es)
+
+-- a permission list: valid, in canonical order
+pub record IsAcl (es : List Entry) : Type 0 where
+  pub valid : IsValidAcl es
+  pub canonical : IsCanonical es

@@ -1,0 +1,81 @@
+-- Which text spells which entry, and which short text spells which permission list (acl(5) "ACL TEXT FORMS").
+use Rattle.std.specs.Prelude.{◌≡◌, ℕ, ◌==◌, Bool, true, ◌||◌, if◌then◌else◌, List, [], ◌∷◌, map, reverse, count_by, Contains, IsPermutation, IsTrue, Option, Some, None, codes}
+use Rattle.std.specs.List.{list_all, slice_split, AllZip}
+use Rattle.mon_acl.specs.declared.entries.Perms.{Perms}
+use Rattle.mon_acl.specs.declared.entries.Tag.{Tag}
+use Rattle.mon_acl.specs.declared.entries.Tag.TheVariants.{UserObj, User, GroupObj, Group, Mask, Other}
+use Rattle.mon_acl.specs.declared.entries.Entry.{Entry}
+use Rattle.mon_acl.specs.Entries.{qualifier, is_tag, IsEntry, IsAcl}
+
+-- a space or a tab
+abbrev pub is_gap : ℕ → Bool
+is_gap c = c == 32 || c == 9
+
+abbrev pub without_leading_gaps : List ℕ → List ℕ
+without_leading_gaps [] = []
+without_leading_gaps (c ∷ cs) = if is_gap c then without_leading_gaps cs else c ∷ cs
+
+-- the text without the gaps round it
+abbrev pub trimmed : List ℕ → List ℕ
+trimmed text = reverse (without_leading_gaps (reverse (without_leading_gaps text)))
+
+-- the parts of what stands behind a separator, where there is one
+abbrev pub parts_behind : (ℕ → Bool) → Option (List ℕ) → List (List ℕ)
+parts_behind is_separator (Some rest) = slice_split is_separator rest
+parts_behind is_separator None = []
+
+abbrev pub is_comma : ℕ → Bool
+is_comma c = c == 44
+
+abbrev pub is_colon : ℕ → Bool
+is_colon c = c == 58
+
+-- the texts of the entries of a short text
+abbrev pub pieces : List ℕ → List (List ℕ)
+pieces text = slice_split is_comma text
+
+-- the fields of an entry's text
+abbrev pub fields : List ℕ → List (List ℕ)
+fields piece = map trimmed (slice_split is_colon piece)
+
+-- the two words of a type
+abbrev pub tag_words : Tag → List (List ℕ)
+tag_words UserObj = codes "user" ∷ codes "u" ∷ []
+tag_words User = codes "user" ∷ codes "u" ∷ []
+tag_words GroupObj = codes "group" ∷ codes "g" ∷ []
+tag_words Group = codes "group" ∷ codes "g" ∷ []
+tag_words Mask = codes "mask" ∷ codes "m" ∷ []
+tag_words Other = codes "other" ∷ codes "o" ∷ []
+
+-- `r`, `w`, `x` and `-`
+abbrev pub is_permission : ℕ → Bool
+is_permission c = c == 114 || c == 119 || c == 120 || c == 45
+
+abbrev pub times : ℕ → List ℕ → ℕ
+times letter field = count_by (λ c. c == letter) field
+
+abbrev pub once_if : Bool → ℕ
+once_if held = if held then 1 else 0
+
+-- each permission that is held once, in any order, and `-` anywhere (own)
+abbrev pub SpellsPerms : List ℕ → Perms → Type 0
+SpellsPerms field p =
+    IsTrue (list_all is_permission field) × (times 114 field ≡ once_if p.read) ×
+    (times 119 field ≡ once_if p.write) × (times 120 field ≡ once_if p.execute)
+
+-- where an empty qualifier and its colon may be left out
+abbrev pub may_leave_out : Tag → Bool
+may_leave_out t = is_tag t Mask || is_tag t Other
+
+-- a type, a qualifier and permissions, or a type and permissions
+abbrev pub SpellsFields : List (List ℕ) → Entry → Type 0
+SpellsFields (word ∷ name ∷ perms ∷ []) e = Contains (tag_words e.tag) word × (name ≡ qualifier e) × SpellsPerms perms e.perms
+SpellsFields (word ∷ perms ∷ []) e = Contains (tag_words e.tag) word × IsTrue (may_leave_out e.tag) × SpellsPerms perms e.perms
+SpellsFields _ e = ⊥
+
+abbrev pub SpellsEntry : List ℕ → Entry → Type 0
+SpellsEntry text e = IsEntry e × SpellsFields (fields text) e
+
+-- the pieces spell the entries of the list, in any order
+abbrev pub IsShortText : List ℕ → List Entry → Type 0
+IsShortText text es = IsAcl es × (written : List Entry) × AllZip SpellsEntry (pieces text) written × IsPermutation written es

@@ -1,0 +1,161 @@
+//! The entries of a permission list: a type, a qualifier and permissions.
+ghost use Rattle.std.specs.Prelude.{◌≡◌, ◌++◌, OnOk};
+ghost use Rattle.std.specs.Cmp.Lexicographic.{slice_cmp};
+ghost use Rattle.std.specs.Ordering.{nat_cmp};
+ghost use Rattle.mon_acl.specs.Permissions.{holds};
+ghost use Rattle.mon_acl.specs.Entries.{rank, qualifier, place, is_named};
+ghost use Rattle.mon_acl.specs.Printing.{entry_head, entry_text, tag_word, letter, perms_text};
+
+use mon_text::Name;
+use std::alloc::AllocError;
+use std::cmp::Ordering;
+
+/// Permissions: to read, to write, to execute.
+#[derive(Clone, Copy, Debug, Default, PartialEq, Eq)]
+pub struct Perms {
+    pub read: bool,
+    pub write: bool,
+    pub execute: bool,
+}
+
+/// The types of entries (acl(5) "ACL TYPES"), in canonical order.
+#[derive(Clone, Copy, Debug, Default, PartialEq, Eq)]
+pub enum Tag {
+    /// The owner, `user::`.
+    #[default]
+    UserObj,
+    /// One account by name, as `user:lisa:`.
+    User,
+    /// The owning group, `group::`.
+    GroupObj,
+    /// One group by name, as `group:staff:`.
+    Group,
+    /// The most that named entries and the owning group are granted, `mask::`.
+    Mask,
+    /// All others, `other::`.
+    Other,
+}
+
+/// An entry. It has a name exactly where its type is `User` or `Group`.
+#[derive(Debug, Default, Drop)]
+pub struct Entry {
+    pub tag: Tag,
+    pub name: Option<Name>,
+    pub perms: Perms,
+}
+
+impl Perms {
+    /// Those of the three permissions that are true.
+    pub fn new(read: bool, write: bool, execute: bool) -> Perms
+        ensures { result ≡ record { read = read; write = write; execute = execute } }
+    {
+        Perms { read, write, execute }
+    }
+
+    /// Whether each permission of the request is held.
+    pub fn contains(self, request: Perms) -> bool
+        ensures { result ≡ holds self request }
+    {
+        (!request.read || self.read)
+            && (!request.write || self.write)
+            && (!request.execute || self.execute)
+    }
+
+    /// Appends the three places `rwx`, with `-` for what is not held.
+    fn put(self, out: &mut Vec<u8>) -> Result<(), AllocError>
+        ensures { OnOk result (out.new.items ≡ out.old.items ++ perms_text self) }
+    {
+        let places =
+            [place_of(self.read, b'r'), place_of(self.write, b'w'), place_of(self.execute, b'x')];
+        out.extend_from_slice(&places)
+    }
+}
+
+/// The letter of a permission, or `-`.
+fn place_of(held: bool, sign: u8) -> u8
+    ensures { result ≡ letter held sign }
+{
+    if held { sign } else { b'-' }
+}
+
+impl Tag {
+    /// The number of the type in canonical order.
+    pub(crate) fn rank(self) -> u8
+        ensures { result ≡ rank self }
+    {
+        self as u8
+    }
+
+    /// The word that the type is printed with.
+    fn word(self) -> &'static [u8]
+        ensures { result.now ≡ tag_word self }
+    {
+        match self {
+            Tag::UserObj | Tag::User => b"user",
+            Tag::GroupObj | Tag::Group => b"group",
+            Tag::Mask => b"mask",
+            Tag::Other => b"other",
+        }
+    }
+}
+
+impl Entry {
+    /// The bytes of the entry's name; none where it has no name.
+    pub fn qualifier(&self) -> &[u8]
+        ensures { result.now ≡ qualifier self.now }
+    {
+        match &self.name {
+            Some(name) => name.as_bytes(),
+            None => &[],
+        }
+    }
+
+    /// The same entry once more.
+    pub fn copy(&self) -> Entry
+        ensures { result ≡ self.now }
+    {
+        let name = match &self.name {
+            Some(name) => Some(name.copy()),
+            None => None,
+        };
+        Entry { tag: self.tag, name, perms: self.perms }
+    }
+
+    /// Appends the entry without its permissions, as `user:lisa:`.
+    ///
+    /// # Errors
+    ///
+    /// Where a growth was refused; `out` may then hold a part of the text.
+    pub fn put_head(&self, out: &mut Vec<u8>) -> Result<(), AllocError>
+        ensures { OnOk result (out.new.items ≡ out.old.items ++ entry_head self.now) }
+    {
+        out.extend_from_slice(self.tag.word())?;
+        out.push(b':')?;
+        out.extend_from_slice(self.qualifier())?;
+        out.push(b':')?;
+        Ok(())
+    }
+
+    /// Appends the entry, as `user:lisa:rw-`.
+    pub(crate) fn put(&self, out: &mut Vec<u8>) -> Result<(), AllocError>
+        ensures { OnOk result (out.new.items ≡ out.old.items ++ entry_text self.now) }
+    {
+        self.put_head(out)?;
+        self.perms.put(out)
+    }
+
+    /// Whether the entry is for one user or group by name.
+    pub(crate) fn is_named(&self) -> bool
+        ensures { result ≡ is_named self.now }
+    {
+        matches!(self.tag, Tag::User | Tag::Group)
+    }
+
+    /// Which of the two stands first in canonical order.
+    pub(crate) fn compare(&self, other: &Entry) -> Ordering
+        ensures { result ≡ slice_cmp nat_cmp (place self.now) (place other.now) }
+    {
+        let by_type = self.tag.rank().cmp(&other.tag.rank());
+        by_type.then(self.qualifier().cmp(other.qualifier()))
+    }
+}

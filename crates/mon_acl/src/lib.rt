@@ -1,0 +1,15 @@
+//! Permission lists after acl(5): their entries, which lists are valid, and the short text form.
+//!
+//! A contract sees an `Acl` as the list of its entries in canonical order.
+#![tactic(auto)]
+
+mod arranging;
+pub mod entries;
+mod fields;
+pub mod list;
+mod reading;
+pub mod refusals;
+
+pub use entries::{Entry, Perms, Tag};
+pub use list::Acl;
+pub use refusals::AclError;

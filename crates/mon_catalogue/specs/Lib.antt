@@ -1,0 +1,6 @@
+pub mod Records
+pub mod Sets
+pub mod Text
+pub mod Head
+pub mod Progress
+pub mod Stages

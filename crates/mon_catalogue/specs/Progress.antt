@@ -1,0 +1,99 @@
+-- Where the reading of a catalogue's text stands, line by line, and what one more line makes of it.
+use Rattle.std.specs.Prelude.{◌≡◌, ℕ, ◌+◌, ◌-◌, ◌==◌, Bool, true, false, nat_lt, List, [], ◌∷◌, ◌++◌, length, Option, None, Some, Result, Ok, Err, if◌then◌else◌}
+use Rattle.mon_text.specs.Lines.{is_blank_line, words}
+use Rattle.mon_acl.specs.declared.entries.Entry.{Entry}
+use Rattle.mon_acl.specs.Reading.{read_short}
+use Rattle.mon_acl.specs.declared.refusals.AclError.{AclError}
+use Rattle.mon_catalogue.specs.declared.data_set.DataSet.{DataSet}
+use Rattle.mon_catalogue.specs.declared.head.Head.{Head}
+use Rattle.mon_catalogue.specs.declared.loading.CatalogueError.{CatalogueError}
+use Rattle.mon_catalogue.specs.declared.loading.CatalogueError.TheVariants.{BadText, Memory}
+use Rattle.mon_catalogue.specs.Sets.{Sets, empty_set}
+use Rattle.mon_catalogue.specs.Head.{head_of, head_refusal}
+
+pub data Progress : Type 0 where
+  -- so many lines spell these sets, and a `$SET` line is due
+  SetDue : ℕ → Sets → Progress
+  -- the permission list of the set of this `$SET` line is due
+  ListDue : ℕ → Sets → Head → Progress
+  -- so many more records of this set are due
+  RecordsDue : ℕ → Sets → List ℕ → DataSet → ℕ → Progress
+  -- the text is refused, however it goes on
+  Refused : CatalogueError → Progress
+
+-- how many lines were taken; after a refusal they aren't counted
+abbrev pub lines_taken : Progress → ℕ
+lines_taken (SetDue n _) = n
+lines_taken (ListDue n _ _) = n
+lines_taken (RecordsDue n _ _ _ _) = n
+lines_taken (Refused _) = 0
+
+-- whether a `$SET` line is due
+abbrev pub is_due : Progress → Bool
+is_due (SetDue _ _) = true
+is_due _ = false
+
+-- the set has so many more records to come
+abbrev pub with_due : ℕ → Sets → List ℕ → DataSet → ℕ → Progress
+with_due n sets name set left = if left == 0 then SetDue n (sets ++ (name, set) ∷ []) else RecordsDue n sets name set left
+
+abbrev pub after_head : ℕ → Sets → Head → Option CatalogueError → Progress
+after_head n sets head None = ListDue n sets head
+after_head n sets head (Some e) = Refused e
+
+abbrev pub after_words : ℕ → Sets → Option Head → Progress
+after_words n sets None = Refused (BadText n)
+after_words n sets (Some head) = after_head n sets head (head_refusal n sets head)
+
+-- after the n-th line, where a `$SET` line was due: blank lines are skipped
+abbrev pub after_set_due : ℕ → Sets → List ℕ → Progress
+after_set_due n sets line = if is_blank_line line then SetDue n sets else after_words n sets (head_of (words line))
+
+abbrev pub after_acl : ℕ → Sets → Head → Result (List Entry) AclError → Progress
+after_acl n sets head (Err _) = Refused (BadText n)
+after_acl n sets head (Ok acl) = with_due n sets head.name (empty_set head.owner head.group acl) head.count
+
+abbrev pub with_record : DataSet → List ℕ → DataSet
+with_record set line = record set { records = set.records ++ line ∷ [] }
+
+abbrev pub after_record : ℕ → Sets → List ℕ → DataSet → ℕ → List ℕ → Progress
+after_record n sets name set left line = if nat_lt 1024 (length line) then Refused (BadText n) else with_due n sets name (with_record set line) (left - 1)
+
+-- what one more line makes of it
+abbrev pub step : Progress → List ℕ → Progress
+step (SetDue n sets) line = after_set_due (n + 1) sets line
+step (ListDue n sets head) line = after_acl (n + 1) sets head (read_short line)
+step (RecordsDue n sets name set left) line = after_record (n + 1) sets name set left line
+step (Refused e) line = Refused e
+
+-- what the text says if it ends here: a set that isn't whole is refused at the line after the last
+abbrev pub finished : Progress → Result Sets CatalogueError
+finished (SetDue n sets) = Ok sets
+finished (ListDue n _ _) = Err (BadText (n + 1))
+finished (RecordsDue n _ _ _ _) = Err (BadText (n + 1))
+finished (Refused e) = Err e
+
+-- where it stands after these lines
+abbrev pub after_lines : Progress → List (List ℕ) → Progress
+after_lines p [] = p
+after_lines p (line ∷ lines) = after_lines (step p line) lines
+
+-- where the reading of a text stands after its first lines
+abbrev pub loaded : List (List ℕ) → Progress
+loaded lines = after_lines (SetDue 0 []) lines
+
+abbrev pub refusal_of : Progress → Option CatalogueError
+refusal_of (Refused e) = Some e
+refusal_of _ = None
+
+-- after a line the reading stands at p, which refuses with e where the answer is e; where memory was short it refuses for that
+abbrev pub Answers : {A : Type 0} → Result A CatalogueError → Progress → Progress → Type 0
+Answers (Ok _) new p = (new ≡ p) × (refusal_of p ≡ None)
+Answers (Err Memory) new p = new ≡ Refused Memory
+Answers (Err e) new p = (new ≡ Refused e) × (p ≡ Refused e)
+
+-- a text is answered by what it says, unless memory was short
+abbrev pub Gives : Result Sets CatalogueError → Result Sets CatalogueError → Type 0
+Gives (Ok sets) said = said ≡ Ok sets
+Gives (Err Memory) said = Unit {0}
+Gives (Err e) said = said ≡ Err e

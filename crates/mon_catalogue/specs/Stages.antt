@@ -1,0 +1,30 @@
+-- What the program keeps of a loading, as the progress that contracts speak of.
+use Rattle.std.specs.Prelude.{◌≡◌, ℕ, ◌+◌, ◌<◌, ◌≤◌, List, length, None, Result, Ok, Err}
+use Rattle.mon_catalogue.specs.declared.loading.CatalogueError.{CatalogueError}
+use Rattle.mon_catalogue.specs.declared.loading.CatalogueError.TheVariants.{Memory}
+use Rattle.mon_catalogue.specs.declared.loading.Stage.{Stage}
+use Rattle.mon_catalogue.specs.declared.loading.Stage.TheVariants as stages
+use Rattle.mon_catalogue.specs.Sets.{Sets, find_set}
+use Rattle.mon_catalogue.specs.Progress.{Progress, SetDue, ListDue, RecordsDue, Refused}
+
+abbrev pub progress_of : ℕ → Sets → Stage → Progress
+progress_of n sets stages.SetDue = SetDue n sets
+progress_of n sets (stages.ListDue head) = ListDue n sets head
+progress_of n sets (stages.RecordsDue name set left) = RecordsDue n sets name set left
+progress_of n sets (stages.Refused e) = Refused e
+
+-- a set of this name with so many records may be put last
+abbrev pub IsAwaited : Sets → List ℕ → ℕ → Type 0
+IsAwaited sets name count = (find_set name sets ≡ None) × (length sets < 1000) × (count ≤ 100000)
+
+abbrev pub IsSound : Sets → Stage → Type 0
+IsSound sets stages.SetDue = Unit {0}
+IsSound sets (stages.ListDue head) = IsAwaited sets head.name head.count
+IsSound sets (stages.RecordsDue name set left) = IsAwaited sets name (length set.records + left) × (0 < left)
+IsSound sets (stages.Refused e) = Unit {0}
+
+-- the stage at which a line left the reading, or its error, is that of this progress
+abbrev pub Reaches : ℕ → Sets → Result Stage CatalogueError → Progress → Type 0
+Reaches n sets (Ok stage) p = progress_of n sets stage ≡ p
+Reaches n sets (Err Memory) p = Unit {0}
+Reaches n sets (Err e) p = p ≡ Refused e

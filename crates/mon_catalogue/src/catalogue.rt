@@ -1,0 +1,158 @@
+//! The catalogue: data sets in the order of their creation, found by name.
+ghost use Rattle.std.specs.Prelude.{◌≡◌, ◌==◌, ◌<◌, [], ◌∷◌, ◌++◌, length, slice_get, OnOk, OnErr, None};
+ghost use Rattle.std.specs.Option.{option_copied, option_map};
+ghost use Rattle.std.specs.Map.Iter.{deref_pair};
+ghost use Rattle.mon_catalogue.specs.Sets.{find_set, empty_set, create_refusal, refused_as, IsCatalogue};
+ghost use Rattle.mon_catalogue.specs.Text.{catalogue_text};
+
+use crate::data_set::{DataSet, Records};
+use crate::text::put_set;
+use indexmap::IndexMap;
+use mon_acl::Acl;
+use mon_text::Name;
+use std::alloc::{AllocError, Global};
+use std::marker::Model;
+use thiserror::Error;
+
+/// How many data sets a catalogue has at the most.
+pub const MOST_SETS: usize = 1_000;
+
+/// Data sets in the order of their creation, no two of one name: at most 1,000.
+///
+/// A contract sees the catalogue as the list of its named data sets.
+#[derive(Drop)]
+pub struct Catalogue {
+    sets: IndexMap<Name, DataSet>,
+}
+
+impl Model for Catalogue {
+    ghost use Rattle.std.specs.Prelude.{ℕ, List};
+    ghost use Rattle.mon_catalogue.specs.Sets.{Sets, IsCatalogue};
+
+    ghost Value = { Sets };
+
+    ghost view = { λ c. c.sets.entries };
+
+    ghost invariant = { λ c. IsCatalogue c.sets.entries };
+}
+
+/// Why a data set could not be created.
+#[derive(Clone, Copy, Debug, PartialEq, Eq, Error)]
+pub enum CreateError {
+    /// The catalogue has a set of this name.
+    #[error("K1 NAME TAKEN")]
+    NameTaken,
+    /// The catalogue has 1,000 sets.
+    #[error("K4 CATALOGUE FULL")]
+    CatalogueFull,
+    /// A growth was refused.
+    #[error("out of memory")]
+    Memory,
+}
+
+impl Catalogue {
+    /// A catalogue with no set.
+    pub fn new(alloc: Global) -> Catalogue
+        ensures { result ≡ [] }
+    {
+        Catalogue {
+            sets: IndexMap::new(alloc),
+        }
+    }
+
+    /// How many sets there are.
+    pub fn len(&self) -> usize
+        ensures value { result ≡ length self.now }
+        ensures sound { IsCatalogue self.now }
+    {
+        self.sets.len()
+    }
+
+    /// Whether there is no set.
+    pub fn is_empty(&self) -> bool
+        ensures { result ≡ (length self.now == 0) }
+    {
+        self.sets.is_empty()
+    }
+
+    /// The set at a place in the order of creation, counted from 0, with its name.
+    pub fn at(&self, place: usize) -> Option<(&Name, &DataSet)>
+        ensures { option_map deref_pair result ≡ slice_get self.now place }
+    {
+        self.sets.get_index(place)
+    }
+
+    /// The set of a name. It takes no memory, and the time does not grow with the catalogue.
+    pub fn find(&self, name: &Name) -> Option<&DataSet>
+        ensures { option_copied result ≡ find_set name.now self.now }
+    {
+        self.sets.get(name)
+    }
+
+    /// Creates a set with no records, and puts it last.
+    ///
+    /// # Errors
+    ///
+    /// `NameTaken` where there is a set of this name, else `CatalogueFull` where there are 1,000 sets;
+    /// `Memory` where a growth was refused. The catalogue is then unchanged.
+    pub fn create(
+        &mut self,
+        name: Name,
+        owner: Name,
+        group: Name,
+        acl: Acl,
+    ) -> Result<(), CreateError>
+        ensures created { OnOk result (self.new ≡ self.old ++ (name, empty_set owner group acl) ∷ []) }
+        ensures refused { refused_as result ≡ create_refusal name self.old }
+        ensures unchanged { OnErr result (self.new ≡ self.old) }
+    {
+        if self.sets.contains_key(&name) {
+            return Err(CreateError::NameTaken);
+        }
+        if self.sets.len() >= MOST_SETS {
+            return Err(CreateError::CatalogueFull);
+        }
+        let records = Records::new(self.allocator());
+        let set = DataSet {
+            owner,
+            group,
+            acl,
+            records,
+        };
+        match self.add(name, set) {
+            Ok(()) => Ok(()),
+            Err(_) => Err(CreateError::Memory),
+        }
+    }
+
+    /// Appends the catalogue's text: for each set a line `$SET name owner group count`, its permission list in short
+    /// form, and its records as they are. Each line is ended by LF.
+    ///
+    /// # Errors
+    ///
+    /// Where a growth was refused; `out` may then hold a part of the text.
+    pub fn put_text(&self, out: &mut Vec<u8>) -> Result<(), AllocError>
+    {
+        for (name, set) in &self.sets {
+            put_set(name, set, out)?;
+        }
+        Ok(())
+    }
+
+    // Puts a set last.
+    pub(crate) fn add(&mut self, name: Name, set: DataSet) -> Result<(), AllocError>
+        requires absent { find_set name self.old ≡ None }
+        requires room { length self.old < MOST_SETS }
+        ensures added { OnOk result (self.new ≡ self.old ++ (name, set) ∷ []) }
+        ensures unchanged { OnErr result (self.new ≡ self.old) }
+    {
+        match self.sets.insert(name, set) {
+            Ok(_) => Ok(()),
+            Err(_) => Err(AllocError),
+        }
+    }
+
+    pub(crate) fn allocator(&self) -> Global {
+        *self.sets.allocator()
+    }
+}

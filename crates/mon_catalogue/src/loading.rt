@@ -1,0 +1,261 @@
+//! Reading a catalogue's text.
+ghost use Rattle.std.specs.Prelude.{◌≡◌, ◌<◌, ◌≤◌, ◌+◌, ◌-◌, ◌^◌, [], length, Err, IfOk};
+ghost use Rattle.mon_acl.specs.Reading.{read_short};
+ghost use Rattle.mon_catalogue.specs.declared.loading.CatalogueError.{CatalogueError};
+ghost use Rattle.mon_catalogue.specs.Head.{head_refusal};
+ghost use Rattle.mon_catalogue.specs.Progress.{Refused, Answers, Gives, loaded, SetDue, step, finished, is_due, lines_taken, with_due, after_head, after_set_due, after_acl, after_record};
+ghost use Rattle.mon_catalogue.specs.Stages.{Reaches, IsSound, IsAwaited, progress_of};
+
+use crate::catalogue::{Catalogue, MOST_SETS};
+use crate::data_set::{DataSet, MOST_RECORD_CHARACTERS, MOST_RECORDS, Records};
+use crate::head::{Head, read_head};
+use mon_acl::{Acl, AclError};
+use mon_text::{Line, Name};
+use std::alloc::Global;
+use std::marker::Model;
+use std::mem;
+use thiserror::Error;
+
+/// Why a text is no catalogue. The number is that of the line within the text, from 1.
+#[derive(Clone, Copy, Debug, PartialEq, Eq, Error)]
+pub enum CatalogueError {
+    /// A set before has this name.
+    #[error("K1 NAME TAKEN")]
+    NameTaken(u64),
+    /// The set would have more than 100,000 records.
+    #[error("K3 SET FULL")]
+    SetFull(u64),
+    /// There are 1,000 sets before.
+    #[error("K4 CATALOGUE FULL")]
+    CatalogueFull(u64),
+    /// The line is not what must stand there, or the text ends within a set.
+    #[error("K5 BAD TEXT")]
+    BadText(u64),
+    /// A growth was refused.
+    #[error("out of memory")]
+    Memory,
+}
+
+// What is due next.
+#[derive(Drop)]
+pub(crate) enum Stage {
+    SetDue,
+    ListDue(Head),
+    RecordsDue(Name, DataSet, u64),
+    Refused(CatalogueError),
+}
+
+/// A catalogue's text on its way in, line by line.
+///
+/// A contract sees how far it has come: what the lines spell so far and what is due next, or why the text is refused.
+#[derive(Drop)]
+pub struct Loading {
+    catalogue: Catalogue,
+    lines_taken: u64,
+    stage: Stage,
+}
+
+impl Model for Loading {
+    ghost use Rattle.std.specs.Prelude.{◌≤◌, ◌^◌, ℕ};
+    ghost use Rattle.mon_catalogue.specs.Progress.{Progress};
+
+    ghost Value = { Progress };
+
+    ghost use Rattle.mon_catalogue.specs.Stages.{progress_of, IsSound};
+
+    ghost view = { λ l. progress_of l.lines_taken l.catalogue l.stage };
+
+    ghost invariant = { λ l. (l.lines_taken ≤ 2 ^ 63) × IsSound l.catalogue l.stage };
+}
+
+impl Loading {
+    /// A loading that has taken no line.
+    pub fn new(alloc: Global) -> Loading
+        ensures { result ≡ SetDue 0 [] }
+    {
+        Loading {
+            catalogue: Catalogue::new(alloc),
+            lines_taken: 0,
+            stage: Stage::SetDue,
+        }
+    }
+
+    /// Whether a `$SET` line is due: nothing was refused, and each set so far is whole.
+    pub fn due(&self) -> bool
+        ensures { result ≡ is_due self.now }
+    {
+        matches!(&self.stage, Stage::SetDue)
+    }
+
+    /// Takes the next line. Blank lines where a `$SET` line is due are skipped.
+    ///
+    /// There must be fewer than 2^63 lines.
+    ///
+    /// # Errors
+    ///
+    /// `BadText` where the line is not what is due; for a `$SET` line then `SetFull`, `NameTaken` and `CatalogueFull`, in this order;
+    /// `Memory` where a growth was refused. After an error each further call answers the same error.
+    pub fn line(&mut self, line: Line) -> Result<(), CatalogueError>
+        requires { lines_taken self.old < 2 ^ 63 }
+        ensures counted { lines_taken self.new ≤ lines_taken self.old + 1 }
+    {
+        let stage = mem::replace(&mut self.stage, Stage::SetDue);
+        if let Stage::Refused(error) = stage {
+            self.stage = Stage::Refused(error);
+            return Err(error);
+        }
+        let next = after(&mut self.catalogue, self.lines_taken, stage, line);
+        self.lines_taken += 1;
+        match next {
+            Ok(next) => {
+                self.stage = next;
+                Ok(())
+            }
+            Err(error) => {
+                self.stage = Stage::Refused(error);
+                Err(error)
+            }
+        }
+    }
+
+    /// The catalogue that the lines spell.
+    ///
+    /// # Errors
+    ///
+    /// The error that `line` answered, if any, else `BadText` at the line after the last where a set is not whole.
+    pub fn finish(self) -> Result<Catalogue, CatalogueError>
+        ensures { result ≡ finished self }
+    {
+        let Loading {
+            catalogue,
+            lines_taken,
+            stage,
+        } = self;
+        match stage {
+            Stage::SetDue => Ok(catalogue),
+            Stage::ListDue(_) | Stage::RecordsDue(..) => Err(CatalogueError::BadText(lines_taken + 1)),
+            Stage::Refused(error) => Err(error),
+        }
+    }
+}
+
+// What is due after one more line.
+fn after(
+    catalogue: &mut Catalogue,
+    lines_taken: u64,
+    stage: Stage,
+    line: Line,
+) -> Result<Stage, CatalogueError>
+    requires few { lines_taken < 2 ^ 63 }
+    requires sound { IsSound catalogue.old stage }
+    ensures sound { IfOk result (IsSound catalogue.new) }
+{
+    let number = lines_taken + 1;
+    match stage {
+        Stage::SetDue => after_set_due(catalogue, number, &line),
+        Stage::ListDue(head) => after_list(catalogue, number, head, &line),
+        Stage::RecordsDue(name, set, left) => after_record(catalogue, number, name, set, left, line),
+        Stage::Refused(error) => Err(error),
+    }
+}
+
+fn after_set_due(catalogue: &Catalogue, number: u64, line: &Line) -> Result<Stage, CatalogueError>
+    ensures sound { IfOk result (IsSound catalogue.now) }
+{
+    if line.is_blank() {
+        return Ok(Stage::SetDue);
+    }
+    match read_head(catalogue.allocator(), line) {
+        Err(_) => Err(CatalogueError::Memory),
+        Ok(None) => Err(CatalogueError::BadText(number)),
+        Ok(Some(head)) => after_head(catalogue, number, head),
+    }
+}
+
+fn after_head(catalogue: &Catalogue, number: u64, head: Head) -> Result<Stage, CatalogueError>
+    ensures sound { IfOk result (IsSound catalogue.now) }
+{
+    if head.count > MOST_RECORDS {
+        return Err(CatalogueError::SetFull(number));
+    }
+    if catalogue.find(&head.name).is_some() {
+        return Err(CatalogueError::NameTaken(number));
+    }
+    if catalogue.len() >= MOST_SETS {
+        return Err(CatalogueError::CatalogueFull(number));
+    }
+    Ok(Stage::ListDue(head))
+}
+
+fn after_list(catalogue: &mut Catalogue, number: u64, head: Head, line: &Line) -> Result<Stage, CatalogueError>
+    requires sound { IsAwaited catalogue.old head.name head.count }
+    ensures sound { IfOk result (IsSound catalogue.new) }
+{
+    match Acl::parse_short(catalogue.allocator(), line.as_bytes()) {
+        Ok(acl) => {
+            let records = Records::new(catalogue.allocator());
+            let set = DataSet { owner: head.owner, group: head.group, acl, records };
+            with_due(catalogue, number, head.name, set, head.count)
+        }
+        Err(AclError::Memory) => Err(CatalogueError::Memory),
+        Err(_) => Err(CatalogueError::BadText(number)),
+    }
+}
+
+fn after_record(
+    catalogue: &mut Catalogue,
+    number: u64,
+    name: Name,
+    mut set: DataSet,
+    left: u64,
+    line: Line,
+) -> Result<Stage, CatalogueError>
+    requires sound { IsSound catalogue.old (Stage.RecordsDue name set left) }
+    ensures sound { IfOk result (IsSound catalogue.new) }
+{
+    if line.len() > MOST_RECORD_CHARACTERS {
+        return Err(CatalogueError::BadText(number));
+    }
+    match set.records.push(line) {
+        Ok(()) => with_due(catalogue, number, name, set, left - 1),
+        Err(_) => Err(CatalogueError::Memory),
+    }
+}
+
+// The set has so many more records to come.
+fn with_due(
+    catalogue: &mut Catalogue,
+    number: u64,
+    name: Name,
+    set: DataSet,
+    left: u64,
+) -> Result<Stage, CatalogueError>
+    requires sound { IsAwaited catalogue.old name (length set.records + left) }
+    ensures sound { IfOk result (IsSound catalogue.new) }
+{
+    if left > 0 {
+        return Ok(Stage::RecordsDue(name, set, left));
+    }
+    match catalogue.add(name, set) {
+        Ok(()) => Ok(Stage::SetDue),
+        Err(_) => Err(CatalogueError::Memory),
+    }
+}
+
+/// Reads a catalogue's text, given as its lines.
+///
+/// # Errors
+///
+/// As `Loading::line` at the first line that is refused, else as `Loading::finish`.
+pub fn read_text(alloc: Global, lines: &[Line]) -> Result<Catalogue, CatalogueError>
+    requires { length lines.now < 2 ^ 63 }
+{
+    let mut loading = Loading::new(alloc);
+    for line in lines {
+        match line.copy(alloc) {
+            Ok(line) => loading.line(line)?,
+            Err(_) => return Err(CatalogueError::Memory),
+        }
+    }
+    loading.finish()
+}

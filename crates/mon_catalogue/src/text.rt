@@ -1,0 +1,46 @@
+//! Writing a catalogue's text.
+ghost use Rattle.std.specs.Prelude.{◌≡◌, [], ◌∷◌, ◌++◌, OnOk};
+ghost use Rattle.mon_catalogue.specs.Text.{set_line, set_lines, text_of};
+
+use crate::data_set::{DataSet, Records};
+use mon_text::{Line, Name, put_number};
+use std::alloc::AllocError;
+
+/// Appends the lines of a set.
+pub(crate) fn put_set(name: &Name, set: &DataSet, out: &mut Vec<u8>) -> Result<(), AllocError>
+{
+    put_head(name, set, out)?;
+    set.acl.put_short(out)?;
+    out.push(b'\n')?;
+    put_records(&set.records, out)
+}
+
+fn put_head(name: &Name, set: &DataSet, out: &mut Vec<u8>) -> Result<(), AllocError>
+{
+    out.extend_from_slice(b"$SET ")?;
+    out.extend_from_slice(name.as_bytes())?;
+    out.push(b' ')?;
+    out.extend_from_slice(set.owner.as_bytes())?;
+    out.push(b' ')?;
+    out.extend_from_slice(set.group.as_bytes())?;
+    out.push(b' ')?;
+    put_number(set.records.len(), out)?;
+    out.push(b'\n')?;
+    Ok(())
+}
+
+fn put_records(records: &Records, out: &mut Vec<u8>) -> Result<(), AllocError>
+{
+    for line in records.as_slice() {
+        put_line(line, out)?;
+    }
+    Ok(())
+}
+
+fn put_line(line: &Line, out: &mut Vec<u8>) -> Result<(), AllocError>
+    ensures { OnOk result (out.new.items ≡ out.old.items ++ (line.now ++ 10 ∷ [])) }
+{
+    out.extend_from_slice(line.as_bytes())?;
+    out.push(b'\n')?;
+    Ok(())
+}

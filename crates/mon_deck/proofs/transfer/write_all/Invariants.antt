@@ -1,0 +1,13 @@
+-- What is left to write would make all that is to be written; nothing has failed so far.
+use Rattle.std.proofs.Common.{◌≡◌, ◌++◌, ℕ, List, length, Option}
+use Rattle.mon_deck.specs.Devices.{Takes}
+use Rattle.mon_deck.proofs.transfer.write_all.Given as goal
+
+abbrev pub invariant-loop-rest : goal.invariant-loop-rest
+invariant-loop-rest g l = record {
+  all : (after : Option (List ℕ)) → Takes (g.W.DeckWriter.written l.writer) l.rest after → Takes (g.W.DeckWriter.written l.fn.writer) l.fn.bytes after;
+  sound : g.W.DeckWriter.has_failed l.writer ≡ g.W.DeckWriter.has_failed l.fn.writer;
+}
+
+abbrev pub decreases-loop-rest : goal.decreases-loop-rest
+decreases-loop-rest g l = length l.rest

@@ -1,0 +1,98 @@
+//! The lines of a deck, one after another, with their numbers.
+ghost use Rattle.std.specs.Prelude.{◌≡◌, ◌<◌, ◌≤◌, ◌+◌, ◌^◌, ◌∷◌, [], length, IfNone, IfSome, OnOk, position};
+ghost use Rattle.std.specs.List.{position_or_len};
+ghost use Rattle.std.specs.Str.Lines.{lines, strip_carriage_return};
+ghost use Rattle.mon_deck.specs.Lines.{is_line_feed};
+
+use crate::code::{Code, Stop};
+use mon_text::{Line, read_line};
+use std::alloc::Global;
+
+/// The first line of these bytes and what comes after it, or none where no byte is there.
+///
+/// A line ends with LF, and one CR before it belongs to the line end. A last line without LF counts.
+pub(crate) fn split_line(bytes: &[u8]) -> Option<(&[u8], &[u8])>
+    ensures none { IfNone result (bytes.now ≡ []) }
+    ensures line { IfSome result (λ split. lines bytes.now ≡ split.0.now ∷ lines split.1.now) }
+    ensures shorter { IfSome result (λ split. length split.1.now < length bytes.now) }
+{
+    if bytes.is_empty() {
+        return None;
+    }
+    let end = line_end(bytes);
+    if end == bytes.len() {
+        return Some((bytes, &[]));
+    }
+    Some((without_carriage_return(&bytes[..end]), &bytes[end + 1..]))
+}
+
+// Where the first LF stands, or the number of bytes where none does.
+fn line_end(bytes: &[u8]) -> usize
+    ensures place { result ≡ position_or_len is_line_feed bytes.now }
+    ensures within { result ≤ length bytes.now }
+{
+    first_line_feed(bytes).unwrap_or(bytes.len())
+}
+
+fn first_line_feed(bytes: &[u8]) -> Option<usize>
+    ensures place { result ≡ position is_line_feed bytes.now }
+    ensures within { IfSome result (λ place. place < length bytes.now) }
+{
+    bytes.iter().position(|byte| *byte == b'\n')
+}
+
+fn without_carriage_return(line: &[u8]) -> &[u8]
+    ensures { result.now ≡ strip_carriage_return line.now }
+{
+    match line {
+        [front @ .., b'\r'] => front,
+        _ => line,
+    }
+}
+
+/// The lines of a deck that are still to come, and how many were taken.
+#[derive(Drop)]
+pub(crate) struct Lines<'a> {
+    rest: &'a [u8],
+    taken: u64,
+    ghost numbered: { taken + length rest.now < 2 ^ 63 },
+}
+
+impl<'a> Lines<'a> {
+    /// All lines of these bytes.
+    pub(crate) fn new(bytes: &'a [u8]) -> Lines<'a>
+        ensures rest { result.rest.now ≡ bytes.now }
+        ensures taken { result.taken ≡ 0 }
+    {
+        Lines {
+            rest: bytes,
+            taken: 0,
+        }
+    }
+
+    /// The next line, read with at most `limit` characters.
+    ///
+    /// # Errors
+    ///
+    /// `Truncated` where no line is left; `LineTooLong`, then `BadCharacter`; memory.
+    pub(crate) fn next(&mut self, alloc: Global, limit: usize) -> Result<Line, Stop>
+        ensures shorter { OnOk result (length self.new.rest.now < length self.old.rest.now) }
+        ensures counted { OnOk result (self.new.taken ≡ self.old.taken + 1) }
+    {
+        let Some((text, rest)) = split_line(self.rest) else {
+            return Err(Stop::Refused(Code::Truncated));
+        };
+        self.rest = rest;
+        self.taken += 1;
+        Ok(read_line(alloc, text, limit)?)
+    }
+
+    /// The number of the line at which a deck is refused with this code: that of the line taken last, or of the
+    /// one after it where there is none.
+    pub(crate) fn place(&self, code: Code) -> u64 {
+        match code {
+            Code::Truncated => self.taken + 1,
+            _ => self.taken,
+        }
+    }
+}

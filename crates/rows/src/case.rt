@@ -1,0 +1,88 @@
+//! A worked deck, and what a run of it has to show.
+
+use crate::difference::{Difference, first_difference};
+use anyhow::{Context, Result};
+use mon_deck::{MemReader, MemWriter, Options, exit_status, put_fault, run_deck};
+use std::alloc::{AllocError, Global};
+use std::fs;
+use std::rt::Files;
+
+/// Room for the longest output of a case, and for some more.
+const ROOM: usize = 65_536;
+
+/// How many bytes a read and a write move at the most. Each case is run once with each of these pairs.
+const PIECES: [(usize, usize); 3] = [(usize::MAX, usize::MAX), (1, 1), (7, 3)];
+
+/// What a run shows to the outside.
+#[derive(Drop)]
+pub struct Outcome {
+    pub stdout: Vec<u8>,
+    pub stderr: Vec<u8>,
+    pub status: u8,
+}
+
+#[derive(Drop)]
+pub struct Case {
+    deck: Vec<u8>,
+    wanted: Outcome,
+}
+
+impl Case {
+    /// Reads the files of a case: `deck`, `stdout`, `stderr` and `status`, in its own folder of `cases/`.
+    pub fn read<R: Files + AllocGlobal>(rt: &R, name: &str) -> Result<Case> {
+        Ok(Case {
+            deck: read_part(rt, name, "deck")?,
+            wanted: Outcome {
+                stdout: read_part(rt, name, "stdout")?,
+                stderr: read_part(rt, name, "stderr")?,
+                status: read_status(rt, name)?,
+            },
+        })
+    }
+
+    /// Runs the deck, and prints a line on how it went: `ok NAME`, or the first line that is not as wanted.
+    pub fn holds<R: Print + AllocGlobal>(&self, rt: &R, name: &str) -> Result<bool> {
+        for (most_read, most_written) in PIECES {
+            let seen = self.run(rt.alloc(), most_read, most_written)?;
+            if let Some(difference) = first_difference(&self.wanted, &seen) {
+                println!(rt; "FAILED {name}: {difference}")?;
+                return Ok(false);
+            }
+        }
+        println!(rt; "ok {name}")?;
+        Ok(true)
+    }
+
+    fn run(
+        &self,
+        alloc: Global,
+        most_read: usize,
+        most_written: usize,
+    ) -> Result<Outcome, AllocError> {
+        let mut reader = MemReader::in_pieces(self.deck.as_slice(), most_read);
+        let mut writer = MemWriter::in_pieces(alloc, ROOM, most_written)?;
+        let counts = run_deck(alloc, &mut reader, &mut writer, Options::new());
+        let mut stderr = Vec::new(alloc);
+        if let Err(fault) = &counts {
+            put_fault(fault, &mut stderr)?;
+        }
+        Ok(Outcome {
+            stdout: Vec::from_slice(alloc, writer.as_bytes())?,
+            stderr,
+            status: exit_status(&counts),
+        })
+    }
+}
+
+fn read_part<R: Files + AllocGlobal>(rt: &R, name: &str, part: &str) -> Result<Vec<u8>> {
+    let path = format!(in rt.alloc(); "cases/{name}/{part}")?;
+    fs::read(rt, path.as_str()).context(format_args!("reading {path}"))
+}
+
+fn read_status<R: Files + AllocGlobal>(rt: &R, name: &str) -> Result<u8> {
+    let path = format!(in rt.alloc(); "cases/{name}/status")?;
+    let text = fs::read_to_string(rt, path.as_str()).context(format_args!("reading {path}"))?;
+    text.trim()
+        .parse::<u8>()
+        .context(format_args!("reading {path}"))
+}
