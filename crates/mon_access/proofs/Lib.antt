@@ -1,2 +1,8 @@
 mod Tables
 mod Places
+mod Meanings
+mod Cases
+mod Smaller
+mod Changes
+mod Counts
+mod Denials

@@ -3,3 +3,5 @@ pub mod Accounts
 pub mod Layout
 pub mod Matches
 pub mod AccessCheck
+pub mod FourCases
+pub mod Laws

@@ -114,46 +114,51 @@ fn decided(granted: bool, decider: Decider) -> Decision
     }
 }
 
-#[tactic(auto, using(crate::proofs::Places::places), unfolding(crate::specs::AccessCheck::decision))]
-/// Decides whether an account may do what is requested with a data set, by the data set's owner, its group and its
-/// permission list.
-///
-/// The cases are those of acl(5), "ACCESS CHECK ALGORITHM". A denial names the entry that decided it: the owner's; the
-/// named user's, or the mask where only the mask lacks a part of the request; the first matching group entry, or the
-/// mask where some one matching group entry holds the request; the entry for everyone else.
-pub fn check(account: &Account, owner: &Name, group: &Name, acl: &Acl, request: Perms) -> Decision
-    ensures { result ≡ decision account.now owner.now group.now acl.now request }
+/// Who denies to an account that has entries: the mask where one of them holds the request, else the first of them.
+fn mask_or(held: bool, first: Decider) -> Decider
+    ensures { result ≡ (if held then Decider.Mask else first) }
 {
-    let entries = acl.entries();
+    if held { Decider::Mask } else { first }
+}
+
+#[tactic(auto, using(crate::proofs::Places::places), unfolding(crate::specs::AccessCheck::decision))]
+fn decision_among(
+    account: &Account,
+    owner: &Name,
+    group: &Name,
+    entries: &[Entry],
+    request: Perms,
+) -> Decision
+    ensures { result ≡ decision account.now owner.now group.now entries.now request }
+{
     if account.name == *owner {
-        decided(tag_holds(Tag::UserObj, entries, request), Decider::UserObj)
-    } else if let Some(place) = user_place(account, entries) {
+        return decided(tag_holds(Tag::UserObj, entries, request), Decider::UserObj);
+    }
+    if let Some(place) = user_place(account, entries) {
         let held = user_holds(account, entries, request);
         let granted = held && tag_holds(Tag::Mask, entries, request);
-        decided(
-            granted,
-            if held {
-                Decider::Mask
-            } else {
-                Decider::User(place)
-            },
-        )
-    } else if let Some(place) = group_place(account, group, entries) {
+        return decided(granted, mask_or(held, Decider::User(place)));
+    }
+    if let Some(place) = group_place(account, group, entries) {
         let held = group_holds(account, group, entries, request);
         let granted = if has_mask(entries) {
             held && tag_holds(Tag::Mask, entries, request)
         } else {
             tag_holds(Tag::GroupObj, entries, request)
         };
-        decided(
-            granted,
-            if held {
-                Decider::Mask
-            } else {
-                Decider::Group(place)
-            },
-        )
-    } else {
-        decided(tag_holds(Tag::Other, entries, request), Decider::Other)
+        return decided(granted, mask_or(held, Decider::Group(place)));
     }
+    decided(tag_holds(Tag::Other, entries, request), Decider::Other)
+}
+
+/// Decides whether an account may do what is requested with a data set, by the data set's owner, its group and its
+/// permission list.
+///
+/// The cases are those of acl(5), "ACCESS CHECK ALGORITHM". A denial names the entry that decided it: the owner's; the
+/// named user's, or the mask where only the mask lacks a part of the request; the first matching group entry, or the
+/// mask where some one matching group entry holds the request; the entry for all others.
+pub fn check(account: &Account, owner: &Name, group: &Name, acl: &Acl, request: Perms) -> Decision
+    ensures { result ≡ decision account.now owner.now group.now acl.now request }
+{
+    decision_among(account, owner, group, acl.entries(), request)
 }

@@ -6,8 +6,12 @@
 
 pub mod access;
 pub mod account;
+pub mod laws;
 pub mod table;
 
 pub use access::{Decider, Decision, check};
 pub use account::{Account, Groups};
 pub use table::{AccountError, Accounts, MOST_GROUPS};
+
+#[cfg(test)]
+mod tests;

@@ -1,7 +1,10 @@
 -- Cutting a text at its first separator.
-use Rattle.std.proofs.Common.{◌≡◌, ◌∙◌, ap, sym, subst, ℕ, ◌+◌, ◌-◌, ◌<◌, ◌≤◌, Bool, true, false, cond, List, [], ◌∷◌, length, take, drop, Option, Some, None, arith, length-drop, refl}
+use Rattle.std.proofs.Common.{◌≡◌, ◌∙◌, ap, sym, subst, ℕ, ◌+◌, ◌-◌, ◌<◌, ◌≤◌, Bool, true, false, cond, List, [], ◌∷◌, length, take, drop, Option, Some, None, arith, length-drop, refl, map, option_copied, Bor}
+use Rattle.mon_acl.specs.declared.entries.Tag.{Tag}
+use Rattle.mon_acl.specs.Texts.{is_colon, trimmed, parts_behind}
+use Rattle.mon_acl.specs.Reading.{parts_of}
 use Rattle.std.specs.Prelude.{nat_lt}
-use Rattle.std.specs.List.{slice_split, position, position_or_len}
+use Rattle.std.specs.List.{slice_split, onto_first, position, position_or_len}
 use Rattle.std.proofs.lemmas.List.Splits.{slice_split_first, slice_split_none}
 use Rattle.std.proofs.lemmas.List.Sums.{fails_before_first}
 use Rattle.std.proofs.lemmas.List.{take_all}
@@ -28,3 +31,24 @@ cut_none p xs e = slice_split_none p xs (λ k d h. fails_before_first p xs k d (
     at : (b : Bool) (k : ℕ) → k < length xs → (b ≡ false → length xs ≤ position_or_len p xs) → cond b (Some (position_or_len p xs)) None ≡ None → k < position_or_len p xs
     at true k h f e = absurd (let n : Some (position_or_len p xs) ≡ None = e in cc)
     at false k h f e = let l : length xs ≤ position_or_len p xs = f refl in omega arith
+
+pub split_some : (p : ℕ → Bool) (xs : List ℕ) → (y : List ℕ) × (ys : List (List ℕ)) × (slice_split p xs ≡ y ∷ ys)
+split_some p [] = ([], [], refl)
+split_some p (x ∷ xs) = at (p x) (split_some p xs)
+  where
+    at : (b : Bool) → (y : List ℕ) × (ys : List (List ℕ)) × (slice_split p xs ≡ y ∷ ys) →
+        (y : List ℕ) × (ys : List (List ℕ)) × (cond b ([] ∷ slice_split p xs) (onto_first x (slice_split p xs)) ≡ y ∷ ys)
+    at true (y, ys, e) = ([], slice_split p xs, refl)
+    at false (y, ys, e) = (x ∷ y, ys, ap (λ (l : List (List ℕ)). onto_first x l) e)
+
+-- four fields are too many
+pub four_fields : (tag : Tag) (f : Option (Bor (List ℕ))) (a : Bor (List ℕ)) (second : List ℕ) (f2 : Option (Bor (List ℕ))) (b : Bor (List ℕ)) (third : List ℕ) (f3 : Option (Bor (List ℕ))) (r : Bor (List ℕ)) →
+    f ≡ Some a → slice_split is_colon a.now ≡ second ∷ parts_behind is_colon (option_copied f2) →
+    f2 ≡ Some b → slice_split is_colon b.now ≡ third ∷ parts_behind is_colon (option_copied f3) →
+    f3 ≡ Some r → None ≡ parts_of tag (map trimmed (parts_behind is_colon (option_copied f)))
+four_fields tag f a second f2 b third f3 r e ea e2 eb e3 =
+    let behind : Option (Bor (List ℕ)) → List (List ℕ) = λ o. parts_behind is_colon (option_copied o) in
+    let more = split_some is_colon r.now in
+    let whole : behind f ≡ second ∷ third ∷ more.0 ∷ more.1 =
+        ap behind e ∙ ea ∙ ap (λ (l : List (List ℕ)). second ∷ l) (ap behind e2 ∙ eb ∙ ap (λ (l : List (List ℕ)). third ∷ l) (ap behind e3 ∙ more.2)) in
+    sym (ap (λ (l : List (List ℕ)). parts_of tag (map trimmed l)) whole)

@@ -1,8 +1,9 @@
 -- Entries of a permission list, which lists are valid, and in which order they stand (acl(5) "ACL TYPES", "VALID ACLs").
-use Rattle.std.specs.Prelude.{◌≡◌, ℕ, ◌<◌, ◌≤◌, ◌==◌, Bool, true, false, ◌&&◌, ◌||◌, List, [], ◌∷◌, map, count_by, All, IsTrue, Option, Some, None, nat_eq}
+use Rattle.std.specs.Prelude.{◌≡◌, ℕ, ◌<◌, ◌≤◌, ◌==◌, Bool, true, false, ◌&&◌, ◌||◌, List, [], ◌∷◌, count_by, All, IsTrue, Option, Some, None, nat_eq}
 use Rattle.std.specs.List.Sorted.{IsStrictlySortedBy}
 use Rattle.std.specs.Cmp.Lexicographic.{pointwise, slice_cmp}
 use Rattle.std.specs.Ordering.{nat_cmp}
+use Rattle.std.specs.declared.cmp.Ordering.{Ordering}
 use Rattle.mon_text.specs.Names.{is_name}
 use Rattle.mon_acl.specs.declared.entries.Tag.{Tag}
 use Rattle.mon_acl.specs.declared.entries.Tag.TheVariants.{UserObj, User, GroupObj, Group, Mask, Other}
@@ -67,9 +68,12 @@ pub record IsValidAcl (es : List Entry) : Type 0 where
 abbrev pub place : Entry → List ℕ
 place e = rank e.tag ∷ qualifier e
 
+abbrev pub compared : Entry → Entry → Ordering
+compared d e = slice_cmp nat_cmp (place d) (place e)
+
 -- the canonical order: each entry stands before those after it (own)
 abbrev pub IsCanonical : List Entry → Type 0
-IsCanonical es = IsStrictlySortedBy (slice_cmp nat_cmp) (map place es)
+IsCanonical es = IsStrictlySortedBy compared es
 
 -- a permission list: valid, in canonical order
 pub record IsAcl (es : List Entry) : Type 0 where

@@ -1,17 +1,26 @@
 -- Reading a short text: the list that it spells, or the first refusal (acl(5) "ACL TEXT FORMS"; the order of refusals is own).
-use Rattle.std.specs.Prelude.{ℕ, ◌+◌, ◌==◌, Bool, true, false, not, ◌&&◌, ◌||◌, nat_le, nat_eq, if◌then◌else◌, List, [], ◌∷◌, count_by, codes, Option, Some, None, option_map, ok_or, Result, Ok, Err}
+use Rattle.std.specs.Prelude.{◌≡◌, ℕ, ◌+◌, ◌==◌, Bool, true, false, not, ◌&&◌, ◌||◌, nat_le, nat_eq, if◌then◌else◌, List, [], ◌∷◌, count_by, codes, Option, Some, None, option_map, ok_or, Result, Ok, Err}
 use Rattle.std.specs.List.{list_all, list_any}
-use Rattle.std.specs.Cmp.Lexicographic.{pointwise, slice_cmp}
-use Rattle.std.specs.Ordering.{nat_cmp, is_lt}
+use Rattle.std.specs.Cmp.Lexicographic.{pointwise}
+use Rattle.std.specs.Ordering.{is_lt}
 use Rattle.mon_text.specs.Names.{is_name}
 use Rattle.mon_acl.specs.declared.entries.Perms.{Perms}
 use Rattle.mon_acl.specs.declared.entries.Tag.{Tag}
 use Rattle.mon_acl.specs.declared.entries.Tag.TheVariants.{UserObj, User, GroupObj, Group, Mask, Other}
 use Rattle.mon_acl.specs.declared.entries.Entry.{Entry}
 use Rattle.mon_acl.specs.declared.refusals.AclError.{AclError}
-use Rattle.mon_acl.specs.declared.refusals.AclError.TheVariants.{BadTag, BadQualifier, BadPerms, Missing, Twice, NoMask, TooMany}
-use Rattle.mon_acl.specs.Entries.{has_tag, is_named, is_for, qualifier, place}
+use Rattle.mon_acl.specs.declared.refusals.AclError.TheVariants.{BadTag, BadQualifier, BadPerms, Missing, Twice, NoMask, TooMany, Memory}
+use Rattle.mon_acl.specs.Entries.{has_tag, is_named, is_for, qualifier, compared}
 use Rattle.mon_acl.specs.Texts.{fields, pieces, is_permission, times, may_leave_out}
+
+-- what a call answers: what reading gives, unless memory ran out
+abbrev pub Refuses : {A : Type 0} → AclError → Result A AclError → Type 0
+Refuses Memory read = Unit {0}
+Refuses e read = read ≡ Err e
+
+abbrev pub Gives : {A B : Type 0} → (A → B) → Result A AclError → Result B AclError → Type 0
+Gives seen (Ok x) read = read ≡ Ok (seen x)
+Gives seen (Err e) read = Refuses e read
 
 -- what is tried first refuses first
 infixl 10 ◌>>=◌
@@ -77,6 +86,19 @@ joined n e es =
     else if is_named e && (count_by is_named es == 100) then Err (TooMany n)
     else Ok (e ∷ es)
 
+-- an entry put behind those that stand before it in canonical order
+abbrev pub put_in : Entry → List Entry → List Entry
+put_in e [] = e ∷ []
+put_in e (x ∷ xs) = if is_lt (compared x e) then x ∷ put_in e xs else e ∷ x ∷ xs
+
+-- the entries so far, in canonical order, with one more
+abbrev pub added : ℕ → Entry → List Entry → Result (List Entry) AclError
+added n e es = joined n e es >>= λ _. Ok (put_in e es)
+
+-- the entries so far, in canonical order, with that of the n-th piece
+abbrev pub piece_added : ℕ → List ℕ → List Entry → Result (List Entry) AclError
+piece_added n piece es = entry_of n piece >>= λ e. added n e es
+
 -- what the whole list lacks
 abbrev pub lacking : List Entry → Option AclError
 lacking es =
@@ -86,24 +108,27 @@ lacking es =
     else if list_any is_named es && not (list_any (has_tag Mask) es) then Some NoMask
     else None
 
--- an entry put behind those that stand before it in canonical order
-abbrev pub put_in : Entry → List Entry → List Entry
-put_in e [] = e ∷ []
-put_in e (x ∷ xs) = if is_lt (slice_cmp nat_cmp (place x) (place e)) then x ∷ put_in e xs else e ∷ x ∷ xs
-
 -- the entries in canonical order
 abbrev pub arranged : List Entry → List Entry
 arranged [] = []
 arranged (e ∷ es) = put_in e (arranged es)
 
-abbrev pub finished : List Entry → Option AclError → Result (List Entry) AclError
-finished es (Some refusal) = Err refusal
-finished es None = Ok (arranged es)
+-- a list that lacks nothing
+abbrev pub whole : Option AclError → List Entry → Result (List Entry) AclError
+whole (Some refusal) es = Err refusal
+whole None es = Ok es
 
--- the pieces from the n-th on, after the entries of those before
-abbrev pub read_on : ℕ → List Entry → List (List ℕ) → Result (List Entry) AclError
-read_on n es [] = finished es (lacking es)
-read_on n es (p ∷ ps) = entry_of n p >>= λ e. joined n e es >>= λ more. read_on (n + 1) more ps
+-- the entries of the pieces from the n-th on, with those before
+abbrev pub entries_on : ℕ → List Entry → List (List ℕ) → Result (List Entry) AclError
+entries_on n es [] = Ok es
+entries_on n es (p ∷ ps) = entry_of n p >>= λ e. joined n e es >>= λ more. entries_on (n + 1) more ps
 
+abbrev pub entries_of : List ℕ → Result (List Entry) AclError
+entries_of text = entries_on 1 [] (pieces text)
+
+abbrev pub canonical_entries_of : List ℕ → Result (List Entry) AclError
+canonical_entries_of text = entries_of text >>= λ es. Ok (arranged es)
+
+-- the list that a short text spells, or its first refusal
 abbrev pub read_short : List ℕ → Result (List Entry) AclError
-read_short text = read_on 1 [] (pieces text)
+read_short text = entries_of text >>= λ es. whole (lacking es) (arranged es)

@@ -1,5 +1,5 @@
 -- Which text spells which entry, and which short text spells which permission list (acl(5) "ACL TEXT FORMS").
-use Rattle.std.specs.Prelude.{◌≡◌, ℕ, ◌==◌, Bool, true, ◌||◌, if◌then◌else◌, List, [], ◌∷◌, map, reverse, count_by, Contains, IsPermutation, IsTrue, Option, Some, None, codes}
+use Rattle.std.specs.Prelude.{◌≡◌, ℕ, ◌==◌, Bool, true, ◌||◌, if◌then◌else◌, List, [], ◌∷◌, map, reverse, count_by, ◌⊎◌, IsPermutation, IsTrue, Option, Some, None, codes}
 use Rattle.std.specs.List.{list_all, slice_split, AllZip}
 use Rattle.mon_acl.specs.declared.entries.Perms.{Perms}
 use Rattle.mon_acl.specs.declared.entries.Tag.{Tag}
@@ -38,14 +38,25 @@ pieces text = slice_split is_comma text
 abbrev pub fields : List ℕ → List (List ℕ)
 fields piece = map trimmed (slice_split is_colon piece)
 
--- the two words of a type
-abbrev pub tag_words : Tag → List (List ℕ)
-tag_words UserObj = codes "user" ∷ codes "u" ∷ []
-tag_words User = codes "user" ∷ codes "u" ∷ []
-tag_words GroupObj = codes "group" ∷ codes "g" ∷ []
-tag_words Group = codes "group" ∷ codes "g" ∷ []
-tag_words Mask = codes "mask" ∷ codes "m" ∷ []
-tag_words Other = codes "other" ∷ codes "o" ∷ []
+-- the word of a type, and its letter
+abbrev pub tag_word : Tag → List ℕ
+tag_word UserObj = codes "user"
+tag_word User = codes "user"
+tag_word GroupObj = codes "group"
+tag_word Group = codes "group"
+tag_word Mask = codes "mask"
+tag_word Other = codes "other"
+
+abbrev pub tag_letter : Tag → List ℕ
+tag_letter UserObj = codes "u"
+tag_letter User = codes "u"
+tag_letter GroupObj = codes "g"
+tag_letter Group = codes "g"
+tag_letter Mask = codes "m"
+tag_letter Other = codes "o"
+
+abbrev pub SpellsTag : List ℕ → Tag → Type 0
+SpellsTag word t = (word ≡ tag_word t) ⊎ (word ≡ tag_letter t)
 
 -- `r`, `w`, `x` and `-`
 abbrev pub is_permission : ℕ → Bool
@@ -69,8 +80,8 @@ may_leave_out t = is_tag t Mask || is_tag t Other
 
 -- a type, a qualifier and permissions, or a type and permissions
 abbrev pub SpellsFields : List (List ℕ) → Entry → Type 0
-SpellsFields (word ∷ name ∷ perms ∷ []) e = Contains (tag_words e.tag) word × (name ≡ qualifier e) × SpellsPerms perms e.perms
-SpellsFields (word ∷ perms ∷ []) e = Contains (tag_words e.tag) word × IsTrue (may_leave_out e.tag) × SpellsPerms perms e.perms
+SpellsFields (word ∷ name ∷ perms ∷ []) e = SpellsTag word e.tag × (name ≡ qualifier e) × SpellsPerms perms e.perms
+SpellsFields (word ∷ perms ∷ []) e = SpellsTag word e.tag × IsTrue (may_leave_out e.tag) × SpellsPerms perms e.perms
 SpellsFields _ e = ⊥
 
 abbrev pub SpellsEntry : List ℕ → Entry → Type 0

@@ -1,4 +1,9 @@
 //! The entries of a list while it is read: kept in canonical order.
+ghost use Rattle.std.specs.Prelude.{◌≡◌, ◌==◌, ◌≤◌, ◌&&◌, true, false, count_by, insert, length, IfSome, MatchOption};
+ghost use Rattle.std.specs.List.{list_any};
+ghost use Rattle.mon_acl.specs.Entries.{has_tag, is_named, is_for, qualifier, IsCanonical};
+ghost use Rattle.mon_acl.specs.Reading.{Gives, added, put_in, lacking};
+
 use crate::entries::{Entry, Tag};
 use crate::refusals::AclError;
 use smallvec::SmallVec;
@@ -14,34 +19,71 @@ pub(crate) fn add(
     entries: &mut SmallVec<Entry, ENTRIES_INLINE>,
     entry: Entry,
     n: u64,
-) -> Result<(), AclError> {
-    let place = match entries.as_slice().binary_search_by(|other| other.compare(&entry)) {
-        Ok(_) => return Err(AclError::Twice(n)),
-        Err(place) => place,
+) -> Result<(), AclError>
+    requires { IsCanonical entries.old.items }
+    ensures { Gives (λ _. entries.new.items) result (added n entry entries.old.items) }
+{
+    let Some(place) = free_place(entries.as_slice(), &entry) else {
+        return Err(AclError::Twice(n));
     };
-    if entry.is_named() && named(entries.as_slice()) == MOST_NAMED_ENTRIES {
+    if is_one_too_many(entries.as_slice(), &entry) {
         return Err(AclError::TooMany(n));
     }
-    entries.insert(place, entry).map_err(|_| AclError::Memory)
+    match entries.insert(place, entry) {
+        Ok(()) => Ok(()),
+        Err(_) => Err(AclError::Memory),
+    }
 }
 
-fn named(entries: &[Entry]) -> usize {
+/// Where an entry is to stand among the others; none where one of its type and qualifier is there.
+fn free_place(entries: &[Entry], entry: &Entry) -> Option<usize>
+    requires { IsCanonical entries.now }
+    ensures taken { MatchOption result (list_any (is_for entry.now.tag (qualifier entry.now)) entries.now ≡ true) (λ _. list_any (is_for entry.now.tag (qualifier entry.now)) entries.now ≡ false) }
+    ensures within { IfSome result (λ i. i ≤ length entries.now) }
+    ensures place { IfSome result (λ i. put_in entry.now entries.now ≡ insert entries.now i entry.now) }
+{
+    match entries.binary_search_by(|other| other.compare(entry)) {
+        Ok(_) => None,
+        Err(place) => Some(place),
+    }
+}
+
+/// Whether an entry is the 101st of those for a name.
+fn is_one_too_many(entries: &[Entry], entry: &Entry) -> bool
+    ensures { result ≡ (is_named entry.now && (count_by is_named entries.now == 100)) }
+{
+    entry.is_named() && named(entries) == MOST_NAMED_ENTRIES
+}
+
+fn named(entries: &[Entry]) -> usize
+    ensures { result ≡ count_by is_named entries.now }
+{
     entries.iter().filter(|entry| entry.is_named()).count()
 }
 
-fn has(entries: &[Entry], tag: Tag) -> bool {
+fn has_named(entries: &[Entry]) -> bool
+    ensures { result ≡ list_any is_named entries.now }
+{
+    entries.iter().any(|entry| entry.is_named())
+}
+
+fn has(entries: &[Entry], tag: Tag) -> bool
+    ensures { result ≡ list_any (has_tag tag) entries.now }
+{
     entries.iter().any(|entry| entry.tag == tag)
 }
 
 /// What the whole list lacks.
-pub(crate) fn lacking(entries: &[Entry]) -> Option<AclError> {
+pub(crate) fn lacking(entries: &[Entry]) -> Option<AclError>
+    ensures { result ≡ lacking entries.now }
+{
     if !has(entries, Tag::UserObj) {
         Some(AclError::Missing(Tag::UserObj))
     } else if !has(entries, Tag::GroupObj) {
         Some(AclError::Missing(Tag::GroupObj))
     } else if !has(entries, Tag::Other) {
         Some(AclError::Missing(Tag::Other))
-    } else if named(entries) > 0 && !has(entries, Tag::Mask) {
+    } else if has_named(entries) && !has(entries, Tag::Mask) {
         Some(AclError::NoMask)
     } else {
         None

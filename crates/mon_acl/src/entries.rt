@@ -1,10 +1,9 @@
 //! The entries of a permission list: a type, a qualifier and permissions.
 ghost use Rattle.std.specs.Prelude.{◌≡◌, ◌++◌, OnOk};
-ghost use Rattle.std.specs.Cmp.Lexicographic.{slice_cmp};
-ghost use Rattle.std.specs.Ordering.{nat_cmp};
 ghost use Rattle.mon_acl.specs.Permissions.{holds};
-ghost use Rattle.mon_acl.specs.Entries.{rank, qualifier, place, is_named};
-ghost use Rattle.mon_acl.specs.Printing.{entry_head, entry_text, tag_word, letter, perms_text};
+ghost use Rattle.mon_acl.specs.Entries.{rank, qualifier, compared, is_named};
+ghost use Rattle.mon_acl.specs.Texts.{tag_word};
+ghost use Rattle.mon_acl.specs.Printing.{entry_head, entry_text, letter, perms_text};
 
 use mon_text::Name;
 use std::alloc::AllocError;
@@ -153,7 +152,7 @@ impl Entry {
 
     /// Which of the two stands first in canonical order.
     pub(crate) fn compare(&self, other: &Entry) -> Ordering
-        ensures { result ≡ slice_cmp nat_cmp (place self.now) (place other.now) }
+        ensures { result ≡ compared self.now other.now }
     {
         let by_type = self.tag.rank().cmp(&other.tag.rank());
         by_type.then(self.qualifier().cmp(other.qualifier()))

@@ -1,6 +1,8 @@
 //! Permission lists, and their short text form.
-ghost use Rattle.std.specs.Prelude.{◌≡◌, ◌++◌, length, IfOk, OnOk, slice_get, option_copied};
-ghost use Rattle.mon_acl.specs.Printing.{short_form};
+ghost use Rattle.std.specs.Prelude.{◌≡◌, ◌++◌, length, flat_map, IfOk, OnOk, slice_get, option_copied};
+ghost use Rattle.mon_acl.specs.Printing.{short_form, next_text};
+ghost use Rattle.mon_acl.specs.Entries.{IsAcl, IsCanonical};
+ghost use Rattle.mon_acl.specs.Reading.{Gives, piece_added, canonical_entries_of, read_short};
 
 use crate::arranging::{ENTRIES_INLINE, add, lacking};
 use crate::entries::Entry;
@@ -22,10 +24,13 @@ pub struct Acl {
 impl Model for Acl {
     ghost use Rattle.std.specs.Prelude.{List};
     ghost use Rattle.mon_acl.specs.declared.entries.Entry.{Entry};
+    ghost use Rattle.mon_acl.specs.Entries.{IsAcl};
 
     ghost Value = { List Entry };
 
     ghost view = { λ a. a.entries.items };
+
+    ghost invariant = { λ a. IsAcl a.entries.items };
 }
 
 impl Acl {
@@ -34,16 +39,10 @@ impl Acl {
     /// # Errors
     ///
     /// The first refusal: entry by entry; then a required entry that is missing; then a missing mask.
-    pub fn parse_short(alloc: Global, text: &[u8]) -> Result<Acl, AclError> {
-        let mut entries = SmallVec::new(alloc);
-        let mut n = 1;
-        let mut rest = Some(text);
-        while let Some(pieces) = rest {
-            let (piece, after) = cut(pieces, b',');
-            add(&mut entries, entry_of(n, piece)?, n)?;
-            n += 1;
-            rest = after;
-        }
+    pub fn parse_short(alloc: Global, text: &[u8]) -> Result<Acl, AclError>
+        ensures { Gives (λ acl. acl) result (read_short text.now) }
+    {
+        let entries = read_entries(alloc, text)?;
         match lacking(entries.as_slice()) {
             Some(refusal) => Err(refusal),
             None => Ok(Acl { entries }),
@@ -55,27 +54,30 @@ impl Acl {
     /// # Errors
     ///
     /// Where a growth was refused; `out` may then hold a part of the text.
-    pub fn put_short(&self, out: &mut Vec<u8>) -> Result<(), AllocError> {
-        if let [first, others @ ..] = self.entries.as_slice() {
-            first.put(out)?;
-            for other in others {
-                out.push(b',')?;
-                other.put(out)?;
+    pub fn put_short(&self, out: &mut Vec<u8>) -> Result<(), AllocError>
+        ensures { OnOk result (out.new.items ≡ out.old.items ++ short_form self.now) }
+    {
+        match self.entries.as_slice() {
+            [] => Ok(()),
+            [first, others @ ..] => {
+                first.put(out)?;
+                put_others(others, out)
             }
         }
-        Ok(())
     }
 
     /// The entries in canonical order.
     pub fn entries(&self) -> &[Entry]
-        ensures { result.now ≡ self.now }
+        ensures value { result.now ≡ self.now }
+        ensures valid { IsAcl self.now }
     {
         self.entries.as_slice()
     }
 
     /// The number of entries.
     pub fn len(&self) -> usize
-        ensures { result ≡ length self.now }
+        ensures value { result ≡ length self.now }
+        ensures valid { IsAcl self.now }
     {
         self.entries.len()
     }
@@ -101,4 +103,44 @@ impl Acl {
         }
         Ok(Acl { entries })
     }
+}
+
+/// The entries of a text, in canonical order.
+fn read_entries(alloc: Global, text: &[u8]) -> Result<SmallVec<Entry, ENTRIES_INLINE>, AclError>
+    ensures { Gives (λ entries. entries.items) result (canonical_entries_of text.now) }
+{
+    let mut entries = SmallVec::new(alloc);
+    let mut n = 1;
+    let mut rest = Some(text);
+    while let Some(pieces) = rest {
+        let (piece, after) = cut(pieces, b',');
+        read_piece(&mut entries, n, piece)?;
+        n += 1;
+        rest = after;
+    }
+    Ok(entries)
+}
+
+/// Reads the `n`-th piece, and puts its entry among those before it.
+fn read_piece(
+    entries: &mut SmallVec<Entry, ENTRIES_INLINE>,
+    n: u64,
+    piece: &[u8],
+) -> Result<(), AclError>
+    requires { IsCanonical entries.old.items }
+    ensures { Gives (λ _. entries.new.items) result (piece_added n piece.now entries.old.items) }
+{
+    let entry = entry_of(n, piece)?;
+    add(entries, entry, n)
+}
+
+/// Appends entries, a comma before each.
+fn put_others(others: &[Entry], out: &mut Vec<u8>) -> Result<(), AllocError>
+    ensures { OnOk result (out.new.items ≡ out.old.items ++ flat_map next_text others.now) }
+{
+    for other in others {
+        out.push(b',')?;
+        other.put(out)?;
+    }
+    Ok(())
 }

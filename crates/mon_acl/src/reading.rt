@@ -1,15 +1,24 @@
 //! Reading one entry of the short text form.
+ghost use Rattle.std.specs.Prelude.{◌≡◌, map, option_map, option_copied};
+ghost use Rattle.std.specs.List.{list_all};
+ghost use Rattle.mon_acl.specs.Texts.{is_permission, times, trimmed, is_colon, parts_behind};
+ghost use Rattle.mon_acl.specs.Reading.{is_either, type_of, named_type, qualified, parts_of, is_perms, perms_of, entry_of};
+
 use crate::entries::{Entry, Perms, Tag};
 use crate::fields::{cut, trimmed};
 use crate::refusals::AclError;
 use mon_text::{Name, read_name};
 
-fn is_either(word: &[u8], long: &[u8], short: &[u8]) -> bool {
+fn is_either(word: &[u8], long: &[u8], short: &[u8]) -> bool
+    ensures { result ≡ is_either word.now long.now short.now }
+{
     word == long || word == short
 }
 
 /// The type of an entry that begins with this word and has no qualifier.
-fn type_of(word: &[u8]) -> Option<Tag> {
+fn type_of(word: &[u8]) -> Option<Tag>
+    ensures { result ≡ type_of word.now }
+{
     if is_either(word, b"user", b"u") {
         Some(Tag::UserObj)
     } else if is_either(word, b"group", b"g") {
@@ -24,7 +33,9 @@ fn type_of(word: &[u8]) -> Option<Tag> {
 }
 
 /// The type of an entry of the same word that has a qualifier.
-fn named_type(tag: Tag) -> Option<Tag> {
+fn named_type(tag: Tag) -> Option<Tag>
+    ensures { result ≡ named_type tag }
+{
     match tag {
         Tag::UserObj => Some(Tag::User),
         Tag::GroupObj => Some(Tag::Group),
@@ -33,7 +44,9 @@ fn named_type(tag: Tag) -> Option<Tag> {
 }
 
 /// The type of an entry and its name, by the qualifier.
-fn qualified(tag: Tag, qualifier: &[u8]) -> Option<(Tag, Option<Name>)> {
+fn qualified(tag: Tag, qualifier: &[u8]) -> Option<(Tag, Option<Name>)>
+    ensures { option_map (λ p. (p.0, p.1)) result ≡ qualified tag qualifier.now }
+{
     if qualifier.is_empty() {
         return Some((tag, None));
     }
@@ -42,7 +55,9 @@ fn qualified(tag: Tag, qualifier: &[u8]) -> Option<(Tag, Option<Name>)> {
 }
 
 /// The qualifier and the permissions, of the fields behind the first.
-fn parts_of(tag: Tag, fields: Option<&[u8]>) -> Option<(&[u8], &[u8])> {
+fn parts_of(tag: Tag, fields: Option<&[u8]>) -> Option<(&[u8], &[u8])>
+    ensures { option_map (λ p. (p.0.now, p.1.now)) result ≡ parts_of tag (map trimmed (parts_behind is_colon (option_copied fields.entry))) }
+{
     let (second, rest) = cut(fields?, b':');
     match rest {
         Some(rest) => {
@@ -59,26 +74,53 @@ fn parts_of(tag: Tag, fields: Option<&[u8]>) -> Option<(&[u8], &[u8])> {
     }
 }
 
-fn times(letter: u8, field: &[u8]) -> usize {
+fn times(letter: u8, field: &[u8]) -> usize
+    ensures { result ≡ times letter field.now }
+{
     field.iter().filter(|byte| **byte == letter).count()
 }
 
-fn is_permission(byte: u8) -> bool {
+fn is_permission(byte: u8) -> bool
+    ensures { result ≡ is_permission byte }
+{
     matches!(byte, b'r' | b'w' | b'x' | b'-')
 }
 
-/// The permissions that a field spells: each at most once.
-fn perms_of(field: &[u8]) -> Option<Perms> {
-    let (read, write, execute) = (times(b'r', field), times(b'w', field), times(b'x', field));
-    if field.iter().all(|byte| is_permission(*byte)) && read <= 1 && write <= 1 && execute <= 1 {
-        Some(Perms::new(read == 1, write == 1, execute == 1))
+fn are_permissions(field: &[u8]) -> bool
+    ensures { result ≡ list_all is_permission field.now }
+{
+    field.iter().all(|byte| is_permission(*byte))
+}
+
+/// Whether a field spells permissions: each at most once.
+fn is_perms(field: &[u8]) -> bool
+    ensures { result ≡ is_perms field.now }
+{
+    are_permissions(field)
+        && times(b'r', field) <= 1
+        && times(b'w', field) <= 1
+        && times(b'x', field) <= 1
+}
+
+/// The permissions that a field spells.
+fn perms_of(field: &[u8]) -> Option<Perms>
+    ensures { result ≡ perms_of field.now }
+{
+    if is_perms(field) {
+        Some(Perms::new(
+            times(b'r', field) == 1,
+            times(b'w', field) == 1,
+            times(b'x', field) == 1,
+        ))
     } else {
         None
     }
 }
 
 /// The entry of the `n`-th piece of a text.
-pub(crate) fn entry_of(n: u64, piece: &[u8]) -> Result<Entry, AclError> {
+pub(crate) fn entry_of(n: u64, piece: &[u8]) -> Result<Entry, AclError>
+    ensures { result ≡ entry_of n piece.now }
+{
     let (word, rest) = cut(piece, b':');
     let plain = type_of(trimmed(word)).ok_or(AclError::BadTag(n))?;
     let (qualifier, perms) = parts_of(plain, rest).ok_or(AclError::BadPerms(n))?;

@@ -4,3 +4,5 @@ pub mod Text
 pub mod Head
 pub mod Progress
 pub mod Stages
+pub mod Reading
+pub mod Spelling

@@ -1,5 +1,5 @@
 -- Where the reading of a catalogue's text stands, line by line, and what one more line makes of it.
-use Rattle.std.specs.Prelude.{◌≡◌, ℕ, ◌+◌, ◌-◌, ◌==◌, Bool, true, false, nat_lt, List, [], ◌∷◌, ◌++◌, length, Option, None, Some, Result, Ok, Err, if◌then◌else◌}
+use Rattle.std.specs.Prelude.{◌≡◌, ℕ, ◌+◌, ◌-◌, ◌==◌, Bool, true, false, List, [], ◌∷◌, ◌++◌, Option, None, Some, Result, Ok, Err, if◌then◌else◌}
 use Rattle.mon_text.specs.Lines.{is_blank_line, words}
 use Rattle.mon_acl.specs.declared.entries.Entry.{Entry}
 use Rattle.mon_acl.specs.Reading.{read_short}
@@ -8,6 +8,7 @@ use Rattle.mon_catalogue.specs.declared.data_set.DataSet.{DataSet}
 use Rattle.mon_catalogue.specs.declared.head.Head.{Head}
 use Rattle.mon_catalogue.specs.declared.loading.CatalogueError.{CatalogueError}
 use Rattle.mon_catalogue.specs.declared.loading.CatalogueError.TheVariants.{BadText, Memory}
+use Rattle.mon_catalogue.specs.Records.{is_record}
 use Rattle.mon_catalogue.specs.Sets.{Sets, empty_set}
 use Rattle.mon_catalogue.specs.Head.{head_of, head_refusal}
 
@@ -57,7 +58,7 @@ abbrev pub with_record : DataSet → List ℕ → DataSet
 with_record set line = record set { records = set.records ++ line ∷ [] }
 
 abbrev pub after_record : ℕ → Sets → List ℕ → DataSet → ℕ → List ℕ → Progress
-after_record n sets name set left line = if nat_lt 1024 (length line) then Refused (BadText n) else with_due n sets name (with_record set line) (left - 1)
+after_record n sets name set left line = if is_record line then with_due n sets name (with_record set line) (left - 1) else Refused (BadText n)
 
 -- what one more line makes of it
 abbrev pub step : Progress → List ℕ → Progress

@@ -131,7 +131,9 @@ impl Catalogue {
     /// # Errors
     ///
     /// Where a growth was refused; `out` may then hold a part of the text.
+    #[tactic(auto, using(crate::proofs::Texts::catalogue_text_cons))]
     pub fn put_text(&self, out: &mut Vec<u8>) -> Result<(), AllocError>
+        ensures { OnOk result (out.new.items ≡ out.old.items ++ catalogue_text self.now) }
     {
         for (name, set) in &self.sets {
             put_set(name, set, out)?;

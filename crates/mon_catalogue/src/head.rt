@@ -17,6 +17,7 @@ pub(crate) struct Head {
 
 /// What a `$SET` line says, or `None` where the line is none.
 pub(crate) fn read_head(alloc: Global, line: &Line) -> Result<Option<Head>, AllocError>
+    ensures { IfOk result (λ head. head ≡ head_of (words line.now)) }
 {
     let words = split_words(alloc, line)?;
     Ok(head_of(words.as_slice()))
@@ -24,6 +25,7 @@ pub(crate) fn read_head(alloc: Global, line: &Line) -> Result<Option<Head>, Allo
 
 // What the words of a `$SET` line say.
 fn head_of(words: &[&[u8]]) -> Option<Head>
+    ensures { result ≡ head_of (map (λ word. word.now) words.now) }
 {
     match words {
         [card, name, owner, group, count] => head_of_five(card, name, owner, group, count),

@@ -1,10 +1,10 @@
 //! Reading a catalogue's text.
-ghost use Rattle.std.specs.Prelude.{◌≡◌, ◌<◌, ◌≤◌, ◌+◌, ◌-◌, ◌^◌, [], length, Err, IfOk};
+ghost use Rattle.std.specs.Prelude.{◌≡◌, ◌<◌, ◌≤◌, ◌+◌, ◌-◌, ◌^◌, [], length, Err, IfOk, OnOk};
 ghost use Rattle.mon_acl.specs.Reading.{read_short};
 ghost use Rattle.mon_catalogue.specs.declared.loading.CatalogueError.{CatalogueError};
 ghost use Rattle.mon_catalogue.specs.Head.{head_refusal};
 ghost use Rattle.mon_catalogue.specs.Progress.{Refused, Answers, Gives, loaded, SetDue, step, finished, is_due, lines_taken, with_due, after_head, after_set_due, after_acl, after_record};
-ghost use Rattle.mon_catalogue.specs.Stages.{Reaches, IsSound, IsAwaited, progress_of};
+ghost use Rattle.mon_catalogue.specs.Stages.{Reaches, Arrives, Pushes, IsSound, IsAwaited, progress_of};
 
 use crate::catalogue::{Catalogue, MOST_SETS};
 use crate::data_set::{DataSet, MOST_RECORD_CHARACTERS, MOST_RECORDS, Records};
@@ -97,25 +97,16 @@ impl Loading {
     /// `Memory` where a growth was refused. After an error each further call answers the same error.
     pub fn line(&mut self, line: Line) -> Result<(), CatalogueError>
         requires { lines_taken self.old < 2 ^ 63 }
+        ensures step { Answers result self.new (step self.old line) }
+        ensures again { (e : CatalogueError) → self.old ≡ Refused e → (result ≡ Err e) × (self.new ≡ Refused e) }
         ensures counted { lines_taken self.new ≤ lines_taken self.old + 1 }
     {
-        let stage = mem::replace(&mut self.stage, Stage::SetDue);
-        if let Stage::Refused(error) = stage {
-            self.stage = Stage::Refused(error);
-            return Err(error);
+        if let Stage::Refused(error) = &self.stage {
+            return Err(*error);
         }
-        let next = after(&mut self.catalogue, self.lines_taken, stage, line);
+        let answer = advance(&mut self.catalogue, &mut self.stage, self.lines_taken, line);
         self.lines_taken += 1;
-        match next {
-            Ok(next) => {
-                self.stage = next;
-                Ok(())
-            }
-            Err(error) => {
-                self.stage = Stage::Refused(error);
-                Err(error)
-            }
-        }
+        answer
     }
 
     /// The catalogue that the lines spell.
@@ -139,6 +130,68 @@ impl Loading {
     }
 }
 
+// Goes on by one more line. Where it is refused, the stage is that refusal from then on.
+fn advance(
+    catalogue: &mut Catalogue,
+    stage: &mut Stage,
+    lines_taken: u64,
+    line: Line,
+) -> Result<(), CatalogueError>
+    requires few { lines_taken < 2 ^ 63 }
+    requires sound { IsSound catalogue.old stage.old }
+    ensures step { Answers result (progress_of (lines_taken + 1) catalogue.new stage.new) (step (progress_of lines_taken catalogue.old stage.old) line) }
+    ensures sound { IsSound catalogue.new stage.new }
+{
+    let answer = match stage {
+        Stage::RecordsDue(_, set, left) if *left > 1 => push_record(set, left, lines_taken + 1, line),
+        _ => turn(catalogue, stage, lines_taken, line),
+    };
+    if let Err(error) = answer {
+        *stage = Stage::Refused(error);
+    }
+    answer
+}
+
+// One more record of a set that is not whole by it. The set stays where it is, since most lines of a text are records.
+fn push_record(
+    set: &mut DataSet,
+    left: &mut u64,
+    number: u64,
+    line: Line,
+) -> Result<(), CatalogueError>
+    requires more { 1 < left.old }
+    requires room { length set.old.records + left.old ≤ MOST_RECORDS }
+    ensures pushed { Pushes number set.old left.old line set.new left.new result }
+{
+    if line.len() > MOST_RECORD_CHARACTERS {
+        return Err(CatalogueError::BadText(number));
+    }
+    match set.records.push(line) {
+        Ok(()) => {
+            *left -= 1;
+            Ok(())
+        }
+        Err(_) => Err(CatalogueError::Memory),
+    }
+}
+
+// Goes on to what is due after one more line.
+fn turn(
+    catalogue: &mut Catalogue,
+    stage: &mut Stage,
+    lines_taken: u64,
+    line: Line,
+) -> Result<(), CatalogueError>
+    requires few { lines_taken < 2 ^ 63 }
+    requires sound { IsSound catalogue.old stage.old }
+    ensures step { Arrives (lines_taken + 1) catalogue.new stage.new result (step (progress_of lines_taken catalogue.old stage.old) line) }
+    ensures sound { OnOk result (IsSound catalogue.new stage.new) }
+{
+    let due = mem::replace(stage, Stage::SetDue);
+    *stage = after(catalogue, lines_taken, due, line)?;
+    Ok(())
+}
+
 // What is due after one more line.
 fn after(
     catalogue: &mut Catalogue,
@@ -148,6 +201,7 @@ fn after(
 ) -> Result<Stage, CatalogueError>
     requires few { lines_taken < 2 ^ 63 }
     requires sound { IsSound catalogue.old stage }
+    ensures step { Reaches (lines_taken + 1) catalogue.new result (step (progress_of lines_taken catalogue.old stage) line) }
     ensures sound { IfOk result (IsSound catalogue.new) }
 {
     let number = lines_taken + 1;
@@ -160,6 +214,7 @@ fn after(
 }
 
 fn after_set_due(catalogue: &Catalogue, number: u64, line: &Line) -> Result<Stage, CatalogueError>
+    ensures step { Reaches number catalogue.now result (after_set_due number catalogue.now line.now) }
     ensures sound { IfOk result (IsSound catalogue.now) }
 {
     if line.is_blank() {
@@ -173,6 +228,7 @@ fn after_set_due(catalogue: &Catalogue, number: u64, line: &Line) -> Result<Stag
 }
 
 fn after_head(catalogue: &Catalogue, number: u64, head: Head) -> Result<Stage, CatalogueError>
+    ensures step { Reaches number catalogue.now result (after_head number catalogue.now head (head_refusal number catalogue.now head)) }
     ensures sound { IfOk result (IsSound catalogue.now) }
 {
     if head.count > MOST_RECORDS {
@@ -189,6 +245,7 @@ fn after_head(catalogue: &Catalogue, number: u64, head: Head) -> Result<Stage, C
 
 fn after_list(catalogue: &mut Catalogue, number: u64, head: Head, line: &Line) -> Result<Stage, CatalogueError>
     requires sound { IsAwaited catalogue.old head.name head.count }
+    ensures step { Reaches number catalogue.new result (after_acl number catalogue.old head (read_short line.now)) }
     ensures sound { IfOk result (IsSound catalogue.new) }
 {
     match Acl::parse_short(catalogue.allocator(), line.as_bytes()) {
@@ -211,6 +268,7 @@ fn after_record(
     line: Line,
 ) -> Result<Stage, CatalogueError>
     requires sound { IsSound catalogue.old (Stage.RecordsDue name set left) }
+    ensures step { Reaches number catalogue.new result (after_record number catalogue.old name set left line) }
     ensures sound { IfOk result (IsSound catalogue.new) }
 {
     if line.len() > MOST_RECORD_CHARACTERS {
@@ -231,6 +289,7 @@ fn with_due(
     left: u64,
 ) -> Result<Stage, CatalogueError>
     requires sound { IsAwaited catalogue.old name (length set.records + left) }
+    ensures step { Reaches number catalogue.new result (with_due number catalogue.old name set left) }
     ensures sound { IfOk result (IsSound catalogue.new) }
 {
     if left > 0 {
@@ -249,6 +308,7 @@ fn with_due(
 /// As `Loading::line` at the first line that is refused, else as `Loading::finish`.
 pub fn read_text(alloc: Global, lines: &[Line]) -> Result<Catalogue, CatalogueError>
     requires { length lines.now < 2 ^ 63 }
+    ensures { Gives result (finished (loaded lines.now)) }
 {
     let mut loading = Loading::new(alloc);
     for line in lines {

@@ -8,14 +8,17 @@ use std::alloc::AllocError;
 
 /// Appends the lines of a set.
 pub(crate) fn put_set(name: &Name, set: &DataSet, out: &mut Vec<u8>) -> Result<(), AllocError>
+    ensures { OnOk result (out.new.items ≡ out.old.items ++ text_of (set_lines (name.now, set.now))) }
 {
     put_head(name, set, out)?;
     set.acl.put_short(out)?;
     out.push(b'\n')?;
-    put_records(&set.records, out)
+    put_records(&set.records, out)?;
+    Ok(())
 }
 
 fn put_head(name: &Name, set: &DataSet, out: &mut Vec<u8>) -> Result<(), AllocError>
+    ensures { OnOk result (out.new.items ≡ out.old.items ++ (set_line name.now set.now ++ 10 ∷ [])) }
 {
     out.extend_from_slice(b"$SET ")?;
     out.extend_from_slice(name.as_bytes())?;
@@ -30,6 +33,7 @@ fn put_head(name: &Name, set: &DataSet, out: &mut Vec<u8>) -> Result<(), AllocEr
 }
 
 fn put_records(records: &Records, out: &mut Vec<u8>) -> Result<(), AllocError>
+    ensures { OnOk result (out.new.items ≡ out.old.items ++ text_of records.now) }
 {
     for line in records.as_slice() {
         put_line(line, out)?;

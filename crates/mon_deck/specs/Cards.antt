@@ -1,7 +1,6 @@
 -- The cards of a deck (own): a line's first word says which one it is.
-use Rattle.std.specs.Prelude.{ℕ, Bool, List, [], Option, Some, None, nat_eq, codes, if◌then◌else◌, slice_get, unwrap_or}
+use Rattle.std.specs.Prelude.{ℕ, Bool, true, false, List, [], Option, Some, None, nat_eq, codes, if◌then◌else◌, slice_get, unwrap_or}
 use Rattle.std.specs.Cmp.Lexicographic.{pointwise}
-use Rattle.mon_text.specs.Lines.{words}
 use Rattle.mon_deck.specs.declared.card.Card.{Card}
 use Rattle.mon_deck.specs.declared.card.Card.TheVariants.{Accounts, Catalogue, Set, Stream, List as Listing, Stop}
 
@@ -19,10 +18,24 @@ card_of word =
     else if is_text (codes "$STOP") word then Some Stop
     else None
 
--- the word of a line at a place, or nothing
-abbrev pub word_at : ℕ → List ℕ → List ℕ
-word_at place line = unwrap_or (slice_get (words line) place) []
+abbrev pub is_same_card : Card → Card → Bool
+is_same_card Accounts Accounts = true
+is_same_card Catalogue Catalogue = true
+is_same_card Set Set = true
+is_same_card Stream Stream = true
+is_same_card Listing Listing = true
+is_same_card Stop Stop = true
+is_same_card _ _ = false
 
--- the card that a line's first word names
-abbrev pub card_on : List ℕ → Option Card
-card_on line = card_of (word_at 0 line)
+-- the card that was found is this one
+abbrev pub is_card : Card → Option Card → Bool
+is_card due None = false
+is_card due (Some found) = is_same_card due found
+
+-- the word at a place, or nothing
+abbrev pub word_at : ℕ → List (List ℕ) → List ℕ
+word_at place ws = unwrap_or (slice_get ws place) []
+
+-- the card that the first of these words names
+abbrev pub card_among : List (List ℕ) → Option Card
+card_among ws = card_of (word_at 0 ws)

@@ -3,4 +3,7 @@ pub mod Codes
 pub mod Devices
 pub mod Faults
 pub mod Lines
+pub mod Sections
 pub mod Stops
+pub mod Readings
+pub mod Printouts

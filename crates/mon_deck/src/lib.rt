@@ -12,6 +12,7 @@ pub mod reading;
 pub mod run;
 pub mod streams;
 mod transfer;
+mod words;
 
 pub use card::Listing;
 pub use code::{Code, RunError};

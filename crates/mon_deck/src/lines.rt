@@ -1,8 +1,10 @@
 //! The lines of a deck, one after another, with their numbers.
-ghost use Rattle.std.specs.Prelude.{◌≡◌, ◌<◌, ◌≤◌, ◌+◌, ◌^◌, ◌∷◌, [], length, IfNone, IfSome, OnOk, position};
+ghost use Rattle.std.specs.Prelude.{◌≡◌, ◌<◌, ◌≤◌, ◌+◌, ◌^◌, ◌∷◌, [], length, None, Some, IfNone, IfSome, IfOk, IfErr, OnOk, position};
 ghost use Rattle.std.specs.List.{position_or_len};
 ghost use Rattle.std.specs.Str.Lines.{lines, strip_carriage_return};
 ghost use Rattle.mon_deck.specs.Lines.{is_line_feed};
+ghost use Rattle.mon_deck.specs.Sections.{line_refusal};
+ghost use Rattle.mon_deck.specs.Stops.{IfRefused, next_refusal, place_of};
 
 use crate::code::{Code, Stop};
 use mon_text::{Line, read_line};
@@ -76,20 +78,31 @@ impl<'a> Lines<'a> {
     ///
     /// `Truncated` where no line is left; `LineTooLong`, then `BadCharacter`; memory.
     pub(crate) fn next(&mut self, alloc: Global, limit: usize) -> Result<Line, Stop>
+        ensures line { IfOk result (λ line. lines self.old.rest.now ≡ line ∷ lines self.new.rest.now) }
+        ensures good { IfOk result (λ line. line_refusal limit line ≡ None) }
         ensures shorter { OnOk result (length self.new.rest.now < length self.old.rest.now) }
         ensures counted { OnOk result (self.new.taken ≡ self.old.taken + 1) }
+        ensures refused { IfErr result (IfRefused (λ code. next_refusal limit (lines self.old.rest.now) ≡ Some code)) }
+        ensures placed { IfErr result (IfRefused (λ code. place_of self.new.taken code ≡ self.old.taken + 1)) }
     {
-        let Some((text, rest)) = split_line(self.rest) else {
-            return Err(Stop::Refused(Code::Truncated));
-        };
-        self.rest = rest;
-        self.taken += 1;
-        Ok(read_line(alloc, text, limit)?)
+        match split_line(self.rest) {
+            None => Err(Stop::Refused(Code::Truncated)),
+            Some((text, rest)) => {
+                self.rest = rest;
+                self.taken += 1;
+                match read_line(alloc, text, limit) {
+                    Ok(line) => Ok(line),
+                    Err(error) => Err(Stop::from(error)),
+                }
+            }
+        }
     }
 
     /// The number of the line at which a deck is refused with this code: that of the line taken last, or of the
     /// one after it where there is none.
-    pub(crate) fn place(&self, code: Code) -> u64 {
+    pub(crate) fn place(&self, code: Code) -> u64
+        ensures { result ≡ place_of self.now.taken code }
+    {
         match code {
             Code::Truncated => self.taken + 1,
             _ => self.taken,

@@ -16,21 +16,33 @@ pub struct MemReader<'a> {
 
 impl<'a> MemReader<'a> {
     /// A reader that gives all these bytes.
-    pub fn new(bytes: &'a [u8]) -> MemReader<'a>
-    {
-        MemReader { rest: bytes, most: usize::MAX, calls_to_failure: None, has_failed: false }
+    pub fn new(bytes: &'a [u8]) -> MemReader<'a> {
+        MemReader {
+            rest: bytes,
+            most: usize::MAX,
+            calls_to_failure: None,
+            has_failed: false,
+        }
     }
 
     /// A reader that gives at most so many bytes a call, at least one.
-    pub fn in_pieces(bytes: &'a [u8], most: usize) -> MemReader<'a>
-    {
-        MemReader { rest: bytes, most: most.max(1), calls_to_failure: None, has_failed: false }
+    pub fn in_pieces(bytes: &'a [u8], most: usize) -> MemReader<'a> {
+        MemReader {
+            rest: bytes,
+            most: most.max(1),
+            calls_to_failure: None,
+            has_failed: false,
+        }
     }
 
     /// A reader whose call of this number, counted from 0, fails.
-    pub fn failing_at(bytes: &'a [u8], call: u64) -> MemReader<'a>
-    {
-        MemReader { rest: bytes, most: usize::MAX, calls_to_failure: Some(call), has_failed: false }
+    pub fn failing_at(bytes: &'a [u8], call: u64) -> MemReader<'a> {
+        MemReader {
+            rest: bytes,
+            most: usize::MAX,
+            calls_to_failure: Some(call),
+            has_failed: false,
+        }
     }
 }
 

@@ -15,7 +15,10 @@ impl<R: Read + Drop> StdReader<R> {
     pub fn new(inner: R) -> StdReader<R>
         ensures { result.has_failed ≡ false }
     {
-        StdReader { inner, has_failed: false }
+        StdReader {
+            inner,
+            has_failed: false,
+        }
     }
 }
 
@@ -46,7 +49,10 @@ impl<W: Write + Drop> StdWriter<W> {
     pub fn new(inner: W) -> StdWriter<W>
         ensures { result.has_failed ≡ false }
     {
-        StdWriter { inner, has_failed: false }
+        StdWriter {
+            inner,
+            has_failed: false,
+        }
     }
 }
 

@@ -1,0 +1,42 @@
+//! Laws of the access check. Each is the contract of a function that does nothing.
+ghost use Rattle.mon_access.specs.Laws.{ExactlyOneCaseApplies, GrantsByItsCase, GrantsSmallerRequests, NeverFallsThrough, MaskLimitsNamedEntriesAndGroups, MaskSparesOwnerAndOthers, GroupsAreNotJoined, DecidersLackThePart};
+
+/// Exactly one of the four cases of acl(5), "ACCESS CHECK ALGORITHM", applies.
+pub fn exactly_one_case_applies()
+    ensures { ExactlyOneCaseApplies }
+{}
+
+/// In the case that applies, access is granted exactly where acl(5) grants it.
+pub fn grants_by_its_case()
+    ensures { GrantsByItsCase }
+{}
+
+/// What is granted is granted in part too.
+pub fn grants_smaller_requests()
+    ensures { GrantsSmallerRequests }
+{}
+
+/// The mask limits neither the owner nor all others.
+pub fn mask_spares_owner_and_others()
+    ensures { MaskSparesOwnerAndOthers }
+{}
+
+/// An account that a named user's entry or a group's entry is for is never judged by the entry for all others.
+pub fn never_falls_through()
+    ensures { NeverFallsThrough }
+{}
+
+/// The mask limits named users, the owning group and named groups.
+pub fn mask_limits_named_entries_and_groups()
+    ensures { MaskLimitsNamedEntriesAndGroups }
+{}
+
+/// Two groups of an account are never joined: what a group grants, some one of its entries holds whole.
+pub fn groups_are_not_joined()
+    ensures { GroupsAreNotJoined }
+{}
+
+/// The decider of a denial is an entry of the list that lacks a part of the request, or the mask that does.
+pub fn deciders_lack_the_part()
+    ensures { DecidersLackThePart }
+{}

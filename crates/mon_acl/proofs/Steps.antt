@@ -1,0 +1,144 @@
+-- Reading with the entries kept in canonical order: what the loop does, piece by piece.
+use Rattle.std.proofs.Common.{◌≡◌, ◌∙◌, ap, sym, subst, refl, ℕ, ◌+◌, Bool, true, false, cond, List, [], ◌∷◌, Option, Some, None, not}
+use Rattle.std.specs.Prelude.{Result, Ok, Err, count_by, ◌==◌, ◌&&◌}
+use Rattle.std.specs.List.{list_any}
+use Rattle.mon_acl.specs.declared.entries.Entry.{Entry}
+use Rattle.mon_acl.specs.declared.entries.Tag.TheVariants.{UserObj, GroupObj, Mask, Other}
+use Rattle.mon_acl.specs.declared.refusals.AclError.{AclError}
+use Rattle.mon_acl.specs.declared.refusals.AclError.TheVariants.{BadTag, BadQualifier, BadPerms, Missing, Twice, NoMask, TooMany, Memory}
+use Rattle.mon_acl.specs.Entries.{is_for, qualifier, is_named, has_tag, IsCanonical}
+use Rattle.mon_acl.specs.Reading.{◌>>=◌, Refuses, Gives, entry_of, joined, added, piece_added, put_in, arranged, entries_on, entries_of, canonical_entries_of, read_short, whole, lacking}
+use Rattle.std.specs.List.{slice_split}
+use Rattle.std.specs.Prelude.{option_copied, IsErrAnd}
+use Rattle.std.proofs.Common.{Bor}
+use Rattle.mon_acl.specs.Texts.{is_comma, parts_behind, pieces}
+use Rattle.mon_acl.proofs.Order.{any_arranged, count_arranged, put_sorted}
+
+abbrev pub sorted_on : ℕ → List Entry → List (List ℕ) → Result (List Entry) AclError
+sorted_on n es [] = Ok es
+sorted_on n es (p ∷ ps) = piece_added n p es >>= λ more. sorted_on (n + 1) more ps
+
+-- a refusal is not Memory, and stays where more would follow
+pub refuse : {A : Type 0} (e : AclError) (read : Result A AclError) → read ≡ Err e → Refuses e read
+refuse (BadTag n) read h = h
+refuse (BadQualifier n) read h = h
+refuse (BadPerms n) read h = h
+refuse (Missing t) read h = h
+refuse (Twice n) read h = h
+refuse NoMask read h = h
+refuse (TooMany n) read h = h
+refuse Memory read h = tt
+
+pub refuse_then : {A B : Type 0} (e : AclError) (read : Result A AclError) (f : A → Result B AclError) → Refuses e read → Refuses e (read >>= f)
+refuse_then (BadTag n) read f h = ap (λ r. r >>= f) h
+refuse_then (BadQualifier n) read f h = ap (λ r. r >>= f) h
+refuse_then (BadPerms n) read f h = ap (λ r. r >>= f) h
+refuse_then (Missing t) read f h = ap (λ r. r >>= f) h
+refuse_then (Twice n) read f h = ap (λ r. r >>= f) h
+refuse_then NoMask read f h = ap (λ r. r >>= f) h
+refuse_then (TooMany n) read f h = ap (λ r. r >>= f) h
+refuse_then Memory read f h = tt
+
+-- one more entry, among those in any order and among those in canonical order
+added_arranged : (n : ℕ) (e : Entry) (es : List Entry) → added n e (arranged es) ≡ (joined n e es >>= λ more. Ok (arranged more))
+added_arranged n e es =
+    ap (λ (b : Bool). (cond b (Err (Twice n)) (cond (is_named e && (count_by is_named (arranged es) == 100)) (Err (TooMany n)) (Ok (e ∷ arranged es)))) >>= λ _. Ok (put_in e (arranged es)))
+    (any_arranged (is_for e.tag (qualifier e)) es)
+    ∙ ap (λ (k : ℕ). (cond (list_any (is_for e.tag (qualifier e)) es) (Err (Twice n)) (cond (is_named e && (k == 100)) (Err (TooMany n)) (Ok (e ∷ arranged es)))) >>= λ _. Ok (put_in e (arranged es)))
+    (count_arranged is_named es)
+    ∙ at (list_any (is_for e.tag (qualifier e)) es) (is_named e && (count_by is_named es == 100))
+  where
+    at : (b c : Bool) → ((cond b (Err (Twice n)) (cond c (Err (TooMany n)) (Ok (e ∷ arranged es)))) >>= λ _. Ok (put_in e (arranged es)))
+        ≡ ((cond b (Err (Twice n)) (cond c (Err (TooMany n)) (Ok (e ∷ es)))) >>= λ more. Ok (arranged more))
+    at true c = refl
+    at false true = refl
+    at false false = refl
+
+-- the loop reads the entries, and arranges them
+pub sorted_as_read : (n : ℕ) (es : List Entry) (ps : List (List ℕ)) → sorted_on n (arranged es) ps ≡ (entries_on n es ps >>= λ all. Ok (arranged all))
+sorted_as_read n es [] = refl
+sorted_as_read n es (p ∷ ps) = first (λ more. sorted_as_read (n + 1) more ps) (entry_of n p)
+  where
+    second : ((more : List Entry) → sorted_on (n + 1) (arranged more) ps ≡ (entries_on (n + 1) more ps >>= λ all. Ok (arranged all))) → (e : Entry) (j : Result (List Entry) AclError) →
+        ((j >>= λ more. Ok (arranged more)) >>= λ more. sorted_on (n + 1) more ps) ≡ ((j >>= λ more. entries_on (n + 1) more ps) >>= λ all. Ok (arranged all))
+    second rest e (Ok more) = rest more
+    second rest e (Err refusal) = refl
+    first : ((more : List Entry) → sorted_on (n + 1) (arranged more) ps ≡ (entries_on (n + 1) more ps >>= λ all. Ok (arranged all))) → (r : Result Entry AclError) →
+        ((r >>= λ e. added n e (arranged es)) >>= λ more. sorted_on (n + 1) more ps) ≡ ((r >>= λ e. joined n e es >>= λ more. entries_on (n + 1) more ps) >>= λ all. Ok (arranged all))
+    first rest (Ok e) = ap (λ (j : Result (List Entry) AclError). j >>= λ more. sorted_on (n + 1) more ps) (added_arranged n e es) ∙ second rest e (joined n e es)
+    first rest (Err refusal) = refl
+
+pub lacking_arranged : (es : List Entry) → lacking (arranged es) ≡ lacking es
+lacking_arranged es = cc (any_arranged (has_tag UserObj) es, any_arranged (has_tag GroupObj) es, any_arranged (has_tag Other) es, any_arranged (has_tag Mask) es, any_arranged is_named es)
+
+-- what one more entry leaves is in canonical order
+pub added_sorted : (n : ℕ) (e : Entry) (es more : List Entry) → IsCanonical es → added n e es ≡ Ok more → IsCanonical more
+added_sorted n e es more s h = at (list_any (is_for e.tag (qualifier e)) es) refl (is_named e && (count_by is_named es == 100)) h
+  where
+    at : (b : Bool) → list_any (is_for e.tag (qualifier e)) es ≡ b → (c : Bool) →
+        ((cond b (Err (Twice n)) (cond c (Err (TooMany n)) (Ok (e ∷ es)))) >>= λ _. Ok (put_in e es)) ≡ Ok more → IsCanonical more
+    at true t c h = absurd (let k : Err (Twice n) ≡ Ok more = h in cc)
+    at false t true h = absurd (let k : Err (TooMany n) ≡ Ok more = h in cc)
+    at false t false h = subst IsCanonical (let k : Ok (put_in e es) ≡ Ok more = h in cc) (put_sorted e es s t)
+
+pub piece_sorted : (n : ℕ) (p : List ℕ) (es more : List Entry) → IsCanonical es → piece_added n p es ≡ Ok more → IsCanonical more
+piece_sorted n p es more s h = at (entry_of n p) h
+  where
+    at : (r : Result Entry AclError) → (r >>= λ e. added n e es) ≡ Ok more → IsCanonical more
+    at (Ok e) h = added_sorted n e es more s h
+    at (Err refusal) h = absurd (let k : Err refusal ≡ Ok more = h in cc)
+
+pub exit : {X B : Type 0} (seen : X → B) (r : Result X AclError) (e : AclError) (read : Result B AclError) → r ≡ Err e → Refuses e read → Gives seen r read
+exit {X = X} seen r e read is h = subst (λ (s : Result X AclError). Gives seen s read) (sym is) h
+
+-- the loop's next piece
+pub at_piece : (read : Result (List Entry) AclError) (n : ℕ) (es : List Entry) (rest : Option (Bor (List ℕ))) (text : Bor (List ℕ)) (piece : List ℕ) (after : Option (Bor (List ℕ))) →
+    read ≡ sorted_on n es (parts_behind is_comma (option_copied rest)) → rest ≡ Some text →
+    slice_split is_comma text.now ≡ piece ∷ parts_behind is_comma (option_copied after) →
+    read ≡ (piece_added n piece es >>= λ more. sorted_on (n + 1) more (parts_behind is_comma (option_copied after)))
+at_piece read n es rest text piece after h is parts =
+    h ∙ ap (λ (o : Option (Bor (List ℕ))). sorted_on n es (parts_behind is_comma (option_copied o))) is ∙ ap (sorted_on n es) parts
+
+pub at_end : (read : Result (List Entry) AclError) (n : ℕ) (es : List Entry) (rest : Option (Bor (List ℕ))) →
+    read ≡ sorted_on n es (parts_behind is_comma (option_copied rest)) → rest ≡ None → read ≡ Ok es
+at_end read n es rest h is = h ∙ ap (λ (o : Option (Bor (List ℕ))). sorted_on n es (parts_behind is_comma (option_copied o))) is
+
+-- the list of the loop's entries is the list that is read, where it lacks nothing
+pub read_whole : (text : List ℕ) (es : List Entry) (lacks : Option AclError) → canonical_entries_of text ≡ Ok es → lacks ≡ lacking es → read_short text ≡ whole lacks es
+read_whole text es lacks h k = at (entries_of text) h
+  where
+    at : (r : Result (List Entry) AclError) → (r >>= λ all. Ok (arranged all)) ≡ Ok es → (r >>= λ all. whole (lacking all) (arranged all)) ≡ whole lacks es
+    at (Ok all) h =
+        let same : arranged all ≡ es = (let t : Ok (arranged all) ≡ Ok es = h in cc) in
+        ap (λ (o : Option AclError). whole o (arranged all)) (sym (lacking_arranged all) ∙ ap lacking same ∙ sym k) ∙ ap (whole lacks) same
+    at (Err e) h = absurd (let t : Err e ≡ Ok es = h in cc)
+
+-- what the entries are refused for, the list is
+pub read_refused : (text : List ℕ) (e : AclError) → Refuses e (canonical_entries_of text) → Refuses e (read_short text)
+read_refused text e h = at (entries_of text) e h
+  where
+    at : (r : Result (List Entry) AclError) (e : AclError) → Refuses e (r >>= λ all. Ok (arranged all)) → Refuses e (r >>= λ all. whole (lacking all) (arranged all))
+    at (Err d) (BadTag n) h = h
+    at (Err d) (BadQualifier n) h = h
+    at (Err d) (BadPerms n) h = h
+    at (Err d) (Missing t) h = h
+    at (Err d) (Twice n) h = h
+    at (Err d) NoMask h = h
+    at (Err d) (TooMany n) h = h
+    at (Err d) Memory h = tt
+    at (Ok all) (BadTag n) h = absurd (let t : Ok (arranged all) ≡ Err (BadTag n) = h in cc)
+    at (Ok all) (BadQualifier n) h = absurd (let t : Ok (arranged all) ≡ Err (BadQualifier n) = h in cc)
+    at (Ok all) (BadPerms n) h = absurd (let t : Ok (arranged all) ≡ Err (BadPerms n) = h in cc)
+    at (Ok all) (Missing g) h = absurd (let t : Ok (arranged all) ≡ Err (Missing g) = h in cc)
+    at (Ok all) (Twice n) h = absurd (let t : Ok (arranged all) ≡ Err (Twice n) = h in cc)
+    at (Ok all) NoMask h = absurd (let t : Ok (arranged all) ≡ Err NoMask = h in cc)
+    at (Ok all) (TooMany n) h = absurd (let t : Ok (arranged all) ≡ Err (TooMany n) = h in cc)
+    at (Ok all) Memory h = tt
+
+-- a piece that is refused refuses the text
+pub piece_refused : (text : List ℕ) (n : ℕ) (es : List Entry) (piece : List ℕ) (ps : List (List ℕ)) (e : AclError) →
+    sorted_on 1 [] (pieces text) ≡ (piece_added n piece es >>= λ more. sorted_on (n + 1) more ps) →
+    Refuses e (piece_added n piece es) → Refuses e (canonical_entries_of text)
+piece_refused text n es piece ps e reads h =
+    subst (λ (r : Result (List Entry) AclError). Refuses e r) (sym reads ∙ sorted_as_read 1 [] (pieces text))
+    (refuse_then e (piece_added n piece es) (λ more. sorted_on (n + 1) more ps) h)

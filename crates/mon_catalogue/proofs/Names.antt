@@ -1,0 +1,35 @@
+-- Names that differ.
+use Rattle.std.proofs.Common.{◌≡◌, ℕ, nat_eq, Bool, true, false, cond, ◌||◌, List, [], ◌∷◌, ◌++◌, Option, None, Some, is_some, refl, ap, ◌∙◌, true≢false}
+use Rattle.std.specs.List.{IsDistinct, AllByRecursion, list_any}
+use Rattle.std.specs.Map.{keys_of}
+use Rattle.std.specs.Cmp.Lexicographic.{pointwise, nat_list_eq_equiv}
+use Rattle.std.proofs.lemmas.Map.Keys.{IsDistinct-head, IsDistinct-tail}
+use Rattle.mon_catalogue.specs.declared.data_set.DataSet.{DataSet}
+use Rattle.mon_catalogue.specs.Sets.{Sets, find_set}
+
+-- a set is found exactly where its name is among the names
+pub any_name : (name : List ℕ) (sets : Sets) → is_some (find_set name sets) ≡ list_any (pointwise nat_eq name) (keys_of sets)
+any_name name [] = refl
+any_name name (set ∷ sets) = by (pointwise nat_eq name set.0) (any_name name sets)
+  where
+    by : (same : Bool) → is_some (find_set name sets) ≡ list_any (pointwise nat_eq name) (keys_of sets)
+        → is_some (cond same (Some set.1) (find_set name sets)) ≡ (same || list_any (pointwise nat_eq name) (keys_of sets))
+    by true rest = refl
+    by false rest = rest
+
+pub not_found : (o : Option DataSet) → is_some o ≡ false → o ≡ None
+not_found None h = refl
+not_found (Some set) h = absurd (true≢false h)
+
+-- where names differ, none of those before a name is that name
+pub none_before : (names : List (List ℕ)) (name : List ℕ) (others : List (List ℕ)) → IsDistinct (pointwise nat_eq) (names ++ name ∷ others)
+    → list_any (pointwise nat_eq name) names ≡ false
+none_before [] name others differ = refl
+none_before (first ∷ names) name others differ =
+    let apart = among names (IsDistinct-head (pointwise nat_eq) first (names ++ name ∷ others) differ) in
+    let rest = none_before names name others (IsDistinct-tail (pointwise nat_eq) first (names ++ name ∷ others) differ) in
+    ap (λ (same : Bool). same || list_any (pointwise nat_eq name) names) (nat_list_eq_equiv.symm name first ∙ apart) ∙ rest
+  where
+    among : (names : List (List ℕ)) → AllByRecursion (λ y. pointwise nat_eq first y ≡ false) (names ++ name ∷ others) → pointwise nat_eq first name ≡ false
+    among [] h = h.0
+    among (n ∷ ns) h = among ns h.1

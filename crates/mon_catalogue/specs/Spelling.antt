@@ -1,0 +1,38 @@
+-- Which text is the text of which catalogue (own). Blank lines may stand before, between and after the sets.
+use Rattle.std.specs.Prelude.{◌≡◌, ℕ, List, [], ◌∷◌, ◌++◌, length, codes, Ok, IsTrue}
+use Rattle.std.specs.List.{list_all}
+use Rattle.mon_text.specs.Names.{IsName}
+use Rattle.mon_text.specs.Counts.{IsCount, value_of}
+use Rattle.mon_text.specs.Lines.{is_blank_line, words}
+use Rattle.mon_acl.specs.Reading.{read_short}
+use Rattle.mon_catalogue.specs.declared.data_set.DataSet.{DataSet}
+use Rattle.mon_catalogue.specs.Records.{AreRecords}
+use Rattle.mon_catalogue.specs.Sets.{Sets, IsCatalogue}
+
+abbrev pub AreBlank : List (List ℕ) → Type 0
+AreBlank lines = IsTrue (list_all is_blank_line lines)
+
+-- a `$SET` line: five words, the last of them a count of the records
+abbrev pub SpellsHead : List ℕ → List ℕ → DataSet → Type 0
+SpellsHead line name set =
+    (count : List ℕ) × (words line ≡ codes "$SET" ∷ name ∷ set.owner ∷ set.group ∷ count ∷ [])
+    × IsName name × IsName set.owner × IsName set.group × IsCount count × (value_of count ≡ length set.records)
+
+-- lines that begin with those of a set, and then go on with the rest: its `$SET` line, its permission list, its records as they are
+pub record SpellsSet (lines : List (List ℕ)) (named : List ℕ × DataSet) (rest : List (List ℕ)) : Type 0 where
+  pub blanks : List (List ℕ)
+  pub head : List ℕ
+  pub list : List ℕ
+  pub lines_are : lines ≡ blanks ++ head ∷ list ∷ named.1.records ++ rest
+  pub blanks_are : AreBlank blanks
+  pub head_is : SpellsHead head named.0 named.1
+  pub list_is : read_short list ≡ Ok named.1.acl
+  pub records_are : AreRecords named.1.records
+
+abbrev pub SpellsSets : List (List ℕ) → Sets → Type 0
+SpellsSets lines [] = AreBlank lines
+SpellsSets lines (named ∷ sets) = (rest : List (List ℕ)) × SpellsSet lines named rest × SpellsSets rest sets
+
+-- the lines are a text of this catalogue
+abbrev pub IsCatalogueText : List (List ℕ) → Sets → Type 0
+IsCatalogueText lines sets = SpellsSets lines sets × IsCatalogue sets

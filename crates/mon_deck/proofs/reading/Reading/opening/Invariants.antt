@@ -1,0 +1,10 @@
+-- What is left makes the deck that all of it makes; each turn takes a line.
+use Rattle.std.proofs.Common.{◌≡◌, length}
+use Rattle.mon_deck.specs.Readings.{opening}
+use Rattle.mon_deck.proofs.reading.Reading.opening.Given as goal
+
+abbrev pub invariant-lines : goal.invariant-lines
+invariant-lines l = opening l.self ≡ opening l.fn.self
+
+abbrev pub decreases-lines : goal.decreases-lines
+decreases-lines l = length l.self.lines.rest.now
