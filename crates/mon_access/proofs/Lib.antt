@@ -6,3 +6,4 @@ mod Smaller
 mod Changes
 mod Counts
 mod Denials
+mod Examples

@@ -1,9 +1,10 @@
 //! The access check on lists worked by hand from acl(5), and the account table.
 use super::*;
+use crate::access::Decider as By;
+use crate::access::Decision::{Denied, Granted};
 use mon_acl::{Acl, Perms};
-use mon_text::{Name, read_name};
+use mon_text::read_name;
 use std::alloc::Global;
-use std::process::Abort;
 use std::test::Fail;
 
 const NONE: Perms = Perms {
@@ -75,27 +76,183 @@ enum Who {
     Zoe,
 }
 
-/// What is wanted of a check.
-#[derive(Clone, Copy, Debug)]
-enum Wanted {
-    Granted,
-    ByUserObj,
-    ByUser(usize),
-    ByGroup(usize),
-    ByMask,
-    ByOther,
+/// What each row's account is answered to its request, by a list for a data set of anna and the group admin.
+struct Case {
+    meaning: &'static str,
+    list: &'static [u8],
+    rows: &'static [(Who, Perms, Decision)],
 }
 
-fn decision(wanted: Wanted) -> Decision {
-    match wanted {
-        Wanted::Granted => Decision::Granted,
-        Wanted::ByUserObj => Decision::Denied(Decider::UserObj),
-        Wanted::ByUser(place) => Decision::Denied(Decider::User(place)),
-        Wanted::ByGroup(place) => Decision::Denied(Decider::Group(place)),
-        Wanted::ByMask => Decision::Denied(Decider::Mask),
-        Wanted::ByOther => Decision::Denied(Decider::Other),
-    }
-}
+/// Entries by place: 0 `user::`, 1 hugo, 2 lisa, 3 `group::`, 4 ops, 5 staff, 6 `mask::`, 7 `other::`.
+const FULL: &[u8] = b"u::rwx,u:lisa:rw-,u:hugo:---,g::r--,g:ops:r-x,g:staff:-w-,m::rw-,o::--x";
+
+/// Worked by hand from acl(5), "ACCESS CHECK ALGORITHM". A place is that of the canonical order.
+static CASES: [Case; 12] = [
+    Case {
+        meaning: "the owner is judged by the owner's entry alone",
+        list: FULL,
+        rows: &[
+            (Who::Anna, NONE, Granted),
+            (Who::Anna, R, Granted),
+            (Who::Anna, W, Granted),
+            (Who::Anna, X, Granted),
+            (Who::Anna, RW, Granted),
+            (Who::Anna, RX, Granted),
+            (Who::Anna, WX, Granted),
+            (Who::Anna, RWX, Granted),
+        ],
+    },
+    Case {
+        meaning: "the owner is denied what the group may do",
+        list: b"u::---,g::rw-,o::---",
+        rows: &[
+            (Who::Anna, NONE, Granted),
+            (Who::Anna, R, Denied(By::UserObj)),
+            (Who::Anna, RW, Denied(By::UserObj)),
+        ],
+    },
+    Case {
+        meaning: "the owner is judged as the owner where the list names them too",
+        list: b"u::r-x,u:anna:rwx,g::rwx,m::rwx,o::rwx",
+        rows: &[
+            (Who::Anna, R, Granted),
+            (Who::Anna, RX, Granted),
+            (Who::Anna, W, Denied(By::UserObj)),
+            (Who::Anna, RWX, Denied(By::UserObj)),
+        ],
+    },
+    Case {
+        meaning: "a named user is judged by that entry and the mask",
+        list: FULL,
+        rows: &[
+            (Who::Lisa, NONE, Granted),
+            (Who::Lisa, R, Granted),
+            (Who::Lisa, W, Granted),
+            (Who::Lisa, RW, Granted),
+            (Who::Lisa, X, Denied(By::User(2))),
+            (Who::Lisa, RX, Denied(By::User(2))),
+            (Who::Lisa, WX, Denied(By::User(2))),
+            (Who::Lisa, RWX, Denied(By::User(2))),
+            (Who::Hugo, NONE, Granted),
+            (Who::Hugo, R, Denied(By::User(1))),
+            (Who::Hugo, W, Denied(By::User(1))),
+            (Who::Hugo, X, Denied(By::User(1))),
+        ],
+    },
+    Case {
+        meaning: "the mask lacks what a named user's entry holds",
+        list: b"user::rwx,user:lisa:rw-,group::r--,mask::r--,other::---",
+        rows: &[
+            (Who::Lisa, R, Granted),
+            (Who::Lisa, W, Denied(By::Mask)),
+            (Who::Lisa, RW, Denied(By::Mask)),
+            (Who::Lisa, X, Denied(By::User(1))),
+            (Who::Lisa, WX, Denied(By::User(1))),
+            (Who::Hugo, R, Denied(By::Other)),
+            (Who::Ada, R, Granted),
+            (Who::Ada, W, Denied(By::Group(2))),
+        ],
+    },
+    Case {
+        meaning: "some one group entry holds the whole request",
+        list: FULL,
+        rows: &[
+            (Who::Otto, NONE, Granted),
+            (Who::Otto, R, Granted),
+            (Who::Otto, W, Granted),
+            (Who::Otto, RW, Denied(By::Group(4))),
+            (Who::Otto, X, Denied(By::Mask)),
+            (Who::Otto, RX, Denied(By::Mask)),
+            (Who::Otto, WX, Denied(By::Group(4))),
+            (Who::Otto, RWX, Denied(By::Group(4))),
+            (Who::Ada, R, Granted),
+            (Who::Ada, W, Denied(By::Group(3))),
+            (Who::Ada, X, Denied(By::Group(3))),
+            (Who::Ada, RW, Denied(By::Group(3))),
+            (Who::Sue, R, Granted),
+            (Who::Sue, W, Granted),
+            (Who::Sue, X, Denied(By::Group(3))),
+            (Who::Sue, RW, Denied(By::Group(3))),
+            (Who::Tim, R, Granted),
+            (Who::Tim, W, Denied(By::Group(4))),
+            (Who::Tim, X, Denied(By::Mask)),
+            (Who::Tim, RW, Denied(By::Group(4))),
+            (Who::Tim, RX, Denied(By::Mask)),
+        ],
+    },
+    Case {
+        meaning: "two groups are not joined",
+        list: b"u::rwx,g::---,g:ops:r--,g:staff:-w-,m::rw-,o::---",
+        rows: &[
+            (Who::Hugo, R, Granted),
+            (Who::Hugo, W, Granted),
+            (Who::Hugo, RW, Denied(By::Group(2))),
+            (Who::Hugo, X, Denied(By::Group(2))),
+            (Who::Ada, R, Denied(By::Group(1))),
+        ],
+    },
+    Case {
+        meaning: "the owning group and a named entry for it both match",
+        list: b"u::---,g::r--,g:admin:rw-,m::rwx,o::---",
+        rows: &[
+            (Who::Ada, R, Granted),
+            (Who::Ada, RW, Granted),
+            (Who::Ada, X, Denied(By::Group(1))),
+            (Who::Lisa, R, Denied(By::Other)),
+        ],
+    },
+    Case {
+        meaning: "the mask limits groups and neither the owner nor all others",
+        list: b"u::rwx,g::rw-,m::r--,o::-w-",
+        rows: &[
+            (Who::Anna, RWX, Granted),
+            (Who::Ada, R, Granted),
+            (Who::Ada, W, Denied(By::Mask)),
+            (Who::Ada, RW, Denied(By::Mask)),
+            (Who::Ada, X, Denied(By::Group(1))),
+            (Who::Zoe, W, Granted),
+            (Who::Zoe, R, Denied(By::Other)),
+        ],
+    },
+    Case {
+        meaning: "a mask of nothing denies named users and groups",
+        list: b"u::rwx,u:lisa:rwx,g::rwx,g:ops:rwx,m::---,o::rwx",
+        rows: &[
+            (Who::Lisa, NONE, Granted),
+            (Who::Lisa, R, Denied(By::Mask)),
+            (Who::Ada, W, Denied(By::Mask)),
+            (Who::Otto, X, Denied(By::Mask)),
+            (Who::Anna, RWX, Granted),
+            (Who::Zoe, RWX, Granted),
+        ],
+    },
+    Case {
+        meaning: "with no mask the owning group's entry decides, and none falls through",
+        list: b"u::r--,g::-w-,o::rwx",
+        rows: &[
+            (Who::Anna, R, Granted),
+            (Who::Anna, W, Denied(By::UserObj)),
+            (Who::Ada, W, Granted),
+            (Who::Ada, R, Denied(By::Group(1))),
+            (Who::Ada, X, Denied(By::Group(1))),
+            (Who::Ada, RW, Denied(By::Group(1))),
+            (Who::Lisa, RWX, Granted),
+            (Who::Zoe, RWX, Granted),
+        ],
+    },
+    Case {
+        meaning: "all others are judged by the last entry",
+        list: FULL,
+        rows: &[
+            (Who::Zoe, NONE, Granted),
+            (Who::Zoe, X, Granted),
+            (Who::Zoe, R, Denied(By::Other)),
+            (Who::Zoe, W, Denied(By::Other)),
+            (Who::Zoe, RX, Denied(By::Other)),
+            (Who::Zoe, RWX, Denied(By::Other)),
+        ],
+    },
+];
 
 fn account(alloc: Global, name: &[u8], primary: &[u8], further: &[&[u8]]) -> Result<Account, Fail> {
     let mut groups = Groups::new(alloc);
@@ -122,221 +279,20 @@ fn account_of(alloc: Global, who: Who) -> Result<Account, Fail> {
     }
 }
 
-/// Compares the check with what acl(5) answers, row by row.
-fn compare(
-    rt: &impl Abort,
-    alloc: Global,
-    list: &[u8],
-    rows: &[(Who, Perms, Wanted)],
-) -> Result<(), Fail> {
+#[test]
+fn the_access_check_is_acl5_worked_by_hand(rt: HostRuntime) -> Result<(), Fail> {
     let owner = read_name(b"anna")?;
     let group = read_name(b"admin")?;
-    let acl = Acl::parse_short(alloc, list)?;
-    for (who, request, wanted) in rows {
-        let asks = account_of(alloc, *who)?;
-        let answer = check(&asks, &owner, &group, &acl, *request);
-        assert_eq!(rt; answer, decision(*wanted), "{who:?} asks for {request:?}");
+    for case in &CASES {
+        let acl = Acl::parse_short(rt.alloc(), case.list)?;
+        for (who, request, wanted) in case.rows {
+            let account = account_of(rt.alloc(), *who)?;
+            let answer = check(&account, &owner, &group, &acl, *request);
+            let meaning = case.meaning;
+            assert_eq!(rt; answer, *wanted, "{meaning}: {who:?} asks for {request:?}");
+        }
     }
     Ok(())
-}
-
-/// Entries by place: 0 `user::`, 1 hugo, 2 lisa, 3 `group::`, 4 ops, 5 staff, 6 `mask::`, 7 `other::`.
-const FULL: &[u8] = b"u::rwx,u:lisa:rw-,u:hugo:---,g::r--,g:ops:r-x,g:staff:-w-,m::rw-,o::--x";
-
-#[test]
-fn the_owner_is_judged_by_the_owners_entry_alone(rt: HostRuntime) -> Result<(), Fail> {
-    compare(
-        &rt,
-        rt.alloc(),
-        FULL,
-        &[
-            (Who::Anna, NONE, Wanted::Granted),
-            (Who::Anna, R, Wanted::Granted),
-            (Who::Anna, W, Wanted::Granted),
-            (Who::Anna, X, Wanted::Granted),
-            (Who::Anna, RW, Wanted::Granted),
-            (Who::Anna, RX, Wanted::Granted),
-            (Who::Anna, WX, Wanted::Granted),
-            (Who::Anna, RWX, Wanted::Granted),
-        ],
-    )?;
-    compare(
-        &rt,
-        rt.alloc(),
-        b"u::---,g::rw-,o::---",
-        &[
-            (Who::Anna, NONE, Wanted::Granted),
-            (Who::Anna, R, Wanted::ByUserObj),
-            (Who::Anna, RW, Wanted::ByUserObj),
-        ],
-    )?;
-    compare(
-        &rt,
-        rt.alloc(),
-        b"u::r-x,u:anna:rwx,g::rwx,m::rwx,o::rwx",
-        &[
-            (Who::Anna, R, Wanted::Granted),
-            (Who::Anna, RX, Wanted::Granted),
-            (Who::Anna, W, Wanted::ByUserObj),
-            (Who::Anna, RWX, Wanted::ByUserObj),
-        ],
-    )
-}
-
-#[test]
-fn a_named_user_is_judged_by_that_entry_and_the_mask(rt: HostRuntime) -> Result<(), Fail> {
-    compare(
-        &rt,
-        rt.alloc(),
-        FULL,
-        &[
-            (Who::Lisa, NONE, Wanted::Granted),
-            (Who::Lisa, R, Wanted::Granted),
-            (Who::Lisa, W, Wanted::Granted),
-            (Who::Lisa, RW, Wanted::Granted),
-            (Who::Lisa, X, Wanted::ByUser(2)),
-            (Who::Lisa, RX, Wanted::ByUser(2)),
-            (Who::Lisa, WX, Wanted::ByUser(2)),
-            (Who::Lisa, RWX, Wanted::ByUser(2)),
-            (Who::Hugo, NONE, Wanted::Granted),
-            (Who::Hugo, R, Wanted::ByUser(1)),
-            (Who::Hugo, W, Wanted::ByUser(1)),
-            (Who::Hugo, X, Wanted::ByUser(1)),
-        ],
-    )?;
-    compare(
-        &rt,
-        rt.alloc(),
-        b"user::rwx,user:lisa:rw-,group::r--,mask::r--,other::---",
-        &[
-            (Who::Lisa, R, Wanted::Granted),
-            (Who::Lisa, W, Wanted::ByMask),
-            (Who::Lisa, RW, Wanted::ByMask),
-            (Who::Lisa, X, Wanted::ByUser(1)),
-            (Who::Lisa, WX, Wanted::ByUser(1)),
-            (Who::Hugo, R, Wanted::ByOther),
-            (Who::Ada, R, Wanted::Granted),
-            (Who::Ada, W, Wanted::ByGroup(2)),
-        ],
-    )
-}
-
-#[test]
-fn some_one_group_entry_holds_the_whole_request(rt: HostRuntime) -> Result<(), Fail> {
-    compare(
-        &rt,
-        rt.alloc(),
-        FULL,
-        &[
-            (Who::Otto, NONE, Wanted::Granted),
-            (Who::Otto, R, Wanted::Granted),
-            (Who::Otto, W, Wanted::Granted),
-            (Who::Otto, RW, Wanted::ByGroup(4)),
-            (Who::Otto, X, Wanted::ByMask),
-            (Who::Otto, RX, Wanted::ByMask),
-            (Who::Otto, WX, Wanted::ByGroup(4)),
-            (Who::Otto, RWX, Wanted::ByGroup(4)),
-            (Who::Ada, R, Wanted::Granted),
-            (Who::Ada, W, Wanted::ByGroup(3)),
-            (Who::Ada, X, Wanted::ByGroup(3)),
-            (Who::Ada, RW, Wanted::ByGroup(3)),
-            (Who::Sue, R, Wanted::Granted),
-            (Who::Sue, W, Wanted::Granted),
-            (Who::Sue, X, Wanted::ByGroup(3)),
-            (Who::Sue, RW, Wanted::ByGroup(3)),
-            (Who::Tim, R, Wanted::Granted),
-            (Who::Tim, W, Wanted::ByGroup(4)),
-            (Who::Tim, X, Wanted::ByMask),
-            (Who::Tim, RW, Wanted::ByGroup(4)),
-            (Who::Tim, RX, Wanted::ByMask),
-        ],
-    )?;
-    compare(
-        &rt,
-        rt.alloc(),
-        b"u::rwx,g::---,g:ops:r--,g:staff:-w-,m::rw-,o::---",
-        &[
-            (Who::Hugo, R, Wanted::Granted),
-            (Who::Hugo, W, Wanted::Granted),
-            (Who::Hugo, RW, Wanted::ByGroup(2)),
-            (Who::Hugo, X, Wanted::ByGroup(2)),
-            (Who::Ada, R, Wanted::ByGroup(1)),
-        ],
-    )?;
-    compare(
-        &rt,
-        rt.alloc(),
-        b"u::---,g::r--,g:admin:rw-,m::rwx,o::---",
-        &[
-            (Who::Ada, R, Wanted::Granted),
-            (Who::Ada, RW, Wanted::Granted),
-            (Who::Ada, X, Wanted::ByGroup(1)),
-            (Who::Lisa, R, Wanted::ByOther),
-        ],
-    )
-}
-
-#[test]
-fn the_mask_limits_groups_and_neither_owner_nor_others(rt: HostRuntime) -> Result<(), Fail> {
-    compare(
-        &rt,
-        rt.alloc(),
-        b"u::rwx,g::rw-,m::r--,o::-w-",
-        &[
-            (Who::Anna, RWX, Wanted::Granted),
-            (Who::Ada, R, Wanted::Granted),
-            (Who::Ada, W, Wanted::ByMask),
-            (Who::Ada, RW, Wanted::ByMask),
-            (Who::Ada, X, Wanted::ByGroup(1)),
-            (Who::Zoe, W, Wanted::Granted),
-            (Who::Zoe, R, Wanted::ByOther),
-        ],
-    )?;
-    compare(
-        &rt,
-        rt.alloc(),
-        b"u::rwx,u:lisa:rwx,g::rwx,g:ops:rwx,m::---,o::rwx",
-        &[
-            (Who::Lisa, NONE, Wanted::Granted),
-            (Who::Lisa, R, Wanted::ByMask),
-            (Who::Ada, W, Wanted::ByMask),
-            (Who::Otto, X, Wanted::ByMask),
-            (Who::Anna, RWX, Wanted::Granted),
-            (Who::Zoe, RWX, Wanted::Granted),
-        ],
-    )
-}
-
-#[test]
-fn an_account_with_an_entry_never_falls_through_to_others(rt: HostRuntime) -> Result<(), Fail> {
-    compare(
-        &rt,
-        rt.alloc(),
-        b"u::r--,g::-w-,o::rwx",
-        &[
-            (Who::Anna, R, Wanted::Granted),
-            (Who::Anna, W, Wanted::ByUserObj),
-            (Who::Ada, W, Wanted::Granted),
-            (Who::Ada, R, Wanted::ByGroup(1)),
-            (Who::Ada, X, Wanted::ByGroup(1)),
-            (Who::Ada, RW, Wanted::ByGroup(1)),
-            (Who::Lisa, RWX, Wanted::Granted),
-            (Who::Zoe, RWX, Wanted::Granted),
-        ],
-    )?;
-    compare(
-        &rt,
-        rt.alloc(),
-        FULL,
-        &[
-            (Who::Zoe, NONE, Wanted::Granted),
-            (Who::Zoe, X, Wanted::Granted),
-            (Who::Zoe, R, Wanted::ByOther),
-            (Who::Zoe, W, Wanted::ByOther),
-            (Who::Zoe, RX, Wanted::ByOther),
-            (Who::Zoe, RWX, Wanted::ByOther),
-        ],
-    )
 }
 
 #[test]
@@ -379,5 +335,23 @@ fn accounts_are_refused(rt: HostRuntime) -> Result<(), Fail> {
     }
     accounts.add(crowded(rt.alloc(), b"hugo", 0)?)?;
     assert!(rt; accounts.find(&read_name(b"hugo")?).is_some());
+    Ok(())
+}
+
+/// Under `rt try --test --fail-alloc N` the Nth growth is refused: that is told, and nothing else differs.
+#[test]
+fn a_refused_growth_changes_nothing(rt: HostRuntime) -> Result<(), Fail> {
+    let names: [&[u8]; 5] = [b"anna", b"hugo", b"lisa", b"tim", b"zoe"];
+    let mut accounts = Accounts::new(rt.alloc());
+    for name in &names {
+        if let Err(refusal) = accounts.add(account(rt.alloc(), name, b"staff", &[])?) {
+            assert_eq!(rt; refusal, AccountError::Memory);
+            assert!(rt; accounts.find(&read_name(name)?).is_none());
+            accounts.add(account(rt.alloc(), name, b"staff", &[])?)?;
+        }
+    }
+    for name in &names {
+        assert!(rt; accounts.find(&read_name(name)?).is_some());
+    }
     Ok(())
 }

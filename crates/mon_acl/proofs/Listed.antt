@@ -1,24 +1,24 @@
 -- The whole text: what is read is spelled, what is spelled is read, and one order is canonical.
-use Rattle.std.proofs.Common.{◌≡◌, ◌∙◌, ap, sym, subst, refl, ℕ, ◌+◌, ◌<◌, ◌≤◌, Bool, true, false, cond, List, [], ◌∷◌, ◌++◌, Option, Some, None, not, arith, ◌⊎◌, inl, inr}
-use Rattle.std.specs.Prelude.{Result, Ok, Err, All, Contains, IsPermutation, count_by, ◌==◌, ◌&&◌}
+use Rattle.std.proofs.Common.{◌≡◌, ◌∙◌, ap, sym, subst, refl, ℕ, ◌+◌, ◌≤◌, Bool, true, false, cond, List, [], ◌∷◌, ◌++◌, Option, Some, None, not, arith, ◌⊎◌, inl, inr}
+use Rattle.std.specs.Prelude.{Result, Ok, Err, IsPermutation, count_by, ◌==◌, ◌&&◌}
 use Rattle.std.specs.List.{list_any, AllZip, AllByRecursion}
 use Rattle.std.specs.List.Sorted.{IsStrictlySortedBy}
-use Rattle.std.specs.declared.cmp.Ordering.{Ordering}
-use Rattle.std.specs.declared.cmp.Ordering.TheVariants.{Less, Equal, Greater}
+use Rattle.std.specs.declared.cmp.Ordering.TheVariants.{Less, Equal}
 use Rattle.std.proofs.lemmas.Cmp.{tied_itself}
 use Rattle.std.proofs.lemmas.Bool.{ne_eqb}
-use Rattle.std.proofs.lemmas.List.Sorted.{IsPermutation-refl, IsPermutation-sym, IsPermutation-trans, IsPermutation-cons, IsPermutation-middle, list_any-IsPermutation}
+use Rattle.std.proofs.lemmas.List.Elements.{All-from_recursion, recursion_from_All}
+use Rattle.std.proofs.lemmas.List.Sorted.{All-permutation, IsPermutation-refl, IsPermutation-sym, IsPermutation-trans, IsPermutation-middle}
 use Rattle.mon_acl.specs.declared.entries.Tag.TheVariants.{UserObj, User, GroupObj, Group, Mask, Other}
-use Rattle.mon_acl.specs.declared.entries.Tag.{Tag}
 use Rattle.mon_acl.specs.declared.entries.Entry.{Entry}
 use Rattle.mon_acl.specs.declared.refusals.AclError.{AclError}
 use Rattle.mon_acl.specs.declared.refusals.AclError.TheVariants.{Twice, TooMany, Missing, NoMask}
-use Rattle.mon_acl.specs.Entries.{has_tag, is_named, is_for, qualifier, IsValidAcl, IsCanonical, IsAcl, compared}
+use Rattle.mon_acl.specs.Entries.{has_tag, is_named, is_for, IsValidAcl, IsCanonical, IsAcl, compared}
 use Rattle.mon_acl.specs.Texts.{pieces, SpellsEntry, IsShortText}
-use Rattle.mon_acl.specs.Reading.{◌>>=◌, joined, lacking, whole, arranged, entry_of, entries_on, entries_of, read_short}
+use Rattle.mon_acl.specs.Refusals.{◌>>=◌, joined, lacking, entry_of, entries_on}
+use Rattle.mon_acl.specs.Reading.{whole, arranged, read_short}
 use Rattle.mon_acl.proofs.Order.{order, count_moved, arranged_moves}
 use Rattle.mon_acl.proofs.Spelled.{bind_ok, read_spells, spelled_read}
-use Rattle.mon_acl.proofs.Valid.{count_some, IsApart, apart_rest, apart_moved, arranged_sorted, counted, count_less, some_of_count, none_of_count, joined_ok, Readable, readable, read_acl, valid_moved}
+use Rattle.mon_acl.proofs.Valid.{count_some, IsApart, apart_rest, apart_moved, arranged_sorted, counted, count_less, some_of_count, joined_ok, readable, read_acl, valid_moved}
 
 -- ---- what is read is spelled
 
@@ -29,10 +29,12 @@ read_spelled n es (p ∷ ps) all h =
     let a = bind_ok (entry_of n p) (λ e. joined n e es >>= λ more. entries_on (n + 1) more ps) all h in
     let b = bind_ok (joined n a.0 es) (λ more. entries_on (n + 1) more ps) all a.2 in
     let j = joined_ok n a.0 es b.0 b.1 in
-    let rest = read_spelled (n + 1) (a.0 ∷ es) ps all (ap (λ (more : List Entry). entries_on (n + 1) more ps) j.2 ∙ b.2) in
-    (a.0 ∷ rest.0, (read_spells n p a.0 a.1, rest.1),
-     IsPermutation-trans (a.0 ∷ (rest.0 ++ es)) (rest.0 ++ a.0 ∷ es) all
-        (IsPermutation-sym (rest.0 ++ a.0 ∷ es) (a.0 ∷ (rest.0 ++ es)) (IsPermutation-middle rest.0 a.0 es)) rest.2)
+    let rest = read_spelled (n + 1) (a.0 ∷ es) ps all (ap (λ (more : List Entry). entries_on (n + 1) more ps) j.2 ∙ b.2) in (
+      a.0 ∷ rest.0,
+      (read_spells n p a.0 a.1, rest.1),
+      IsPermutation-trans (a.0 ∷ (rest.0 ++ es)) (rest.0 ++ a.0 ∷ es) all
+          (IsPermutation-sym (rest.0 ++ a.0 ∷ es) (a.0 ∷ (rest.0 ++ es)) (IsPermutation-middle rest.0 a.0 es)) rest.2,
+    )
 
 append_none : (xs : List Entry) → xs ++ [] ≡ xs
 append_none [] = refl
@@ -41,10 +43,13 @@ append_none (x ∷ xs) = ap (λ (ys : List Entry). x ∷ ys) (append_none xs)
 pub read_is_text : (text : List ℕ) (es : List Entry) → read_short text ≡ Ok es → IsShortText text es
 read_is_text text es h =
     let r = readable text es h in
-    let w = read_spelled 1 [] (pieces text) r.all r.read in
-    (read_acl text es h, w.0, w.1,
-     IsPermutation-trans w.0 r.all es (subst (λ (xs : List Entry). IsPermutation xs r.all) (append_none w.0) w.2)
-        (subst (IsPermutation r.all) r.is (arranged_moves r.all)))
+    let w = read_spelled 1 [] (pieces text) r.all r.read in (
+      read_acl text es h,
+      w.0,
+      w.1,
+      IsPermutation-trans w.0 r.all es (subst (λ (xs : List Entry). IsPermutation xs r.all) (append_none w.0) w.2)
+          (subst (IsPermutation r.all) r.is (arranged_moves r.all)),
+    )
 
 -- ---- what is spelled is read
 
@@ -90,12 +95,13 @@ spelled_entries n es (p ∷ ps) (e ∷ ws) z apart few =
     let back : IsPermutation (e ∷ (ws ++ es)) (ws ++ e ∷ es) = IsPermutation-sym (ws ++ e ∷ es) (e ∷ (ws ++ es)) (IsPermutation-middle ws e es) in
     let apart' : IsApart (ws ++ e ∷ es) = apart_moved (e ∷ (ws ++ es)) (ws ++ e ∷ es) back apart in
     let few' : count_by is_named (ws ++ e ∷ es) ≤ 100 = omega (arith, few, count_moved is_named (e ∷ (ws ++ es)) (ws ++ e ∷ es) back) in
-    let rest = spelled_entries (n + 1) (e ∷ es) ps ws z.1 apart' few' in
-    (rest.0,
-     ap (λ (r : Result Entry AclError). r >>= λ x. joined n x es >>= λ more. entries_on (n + 1) more ps) (spelled_read n p e z.0)
-     ∙ ap (λ (r : Result (List Entry) AclError). r >>= λ more. entries_on (n + 1) more ps) (joined_one n e es (apart_behind ws (e ∷ es) apart') (few_behind ws (e ∷ es) few'))
-     ∙ rest.1,
-     IsPermutation-trans (e ∷ (ws ++ es)) (ws ++ e ∷ es) rest.0 back rest.2)
+    let rest = spelled_entries (n + 1) (e ∷ es) ps ws z.1 apart' few' in (
+      rest.0,
+      ap (λ (r : Result Entry AclError). r >>= λ x. joined n x es >>= λ more. entries_on (n + 1) more ps) (spelled_read n p e z.0)
+          ∙ ap (λ (r : Result (List Entry) AclError). r >>= λ more. entries_on (n + 1) more ps) (joined_one n e es (apart_behind ws (e ∷ es) apart') (few_behind ws (e ∷ es) few'))
+          ∙ rest.1,
+      IsPermutation-trans (e ∷ (ws ++ es)) (ws ++ e ∷ es) rest.0 back rest.2,
+    )
 
 valid_lacks : (es : List Entry) → IsValidAcl es → lacking es ≡ None
 valid_lacks es v =
@@ -147,9 +153,55 @@ same_order (x ∷ xs) (y ∷ ys) s t f g =
     at (inl e) k = e
     at (inr h) (inl e) = sym e
     at (inr h) (inr k) = absurd (less_back x y (in_each (λ z. compared x z ≡ Less) y xs s.0 k) (in_each (λ z. compared y z ≡ Less) x ys t.0 h))
+
     one : (z : Entry) → IsIn z xs → (z ≡ y) ⊎ IsIn z ys → x ≡ y → IsIn z ys
     one z h (inr k) e = k
     one z h (inl k) e = absurd (less_not_self x (subst (λ (w : Entry). compared x w ≡ Less) (k ∙ sym e) (in_each (λ w. compared x w ≡ Less) z xs s.0 h)))
+
     two : (z : Entry) → IsIn z ys → (z ≡ x) ⊎ IsIn z xs → x ≡ y → IsIn z xs
     two z h (inr k) e = k
     two z h (inl k) e = absurd (less_not_self y (subst (λ (w : Entry). compared y w ≡ Less) (k ∙ e) (in_each (λ w. compared y w ≡ Less) z ys t.0 h)))
+
+each_weaker : (P Q : Entry → Type 0) → ((x : Entry) → P x → Q x) → (xs : List Entry) → AllByRecursion P xs → AllByRecursion Q xs
+each_weaker P Q f [] all = tt
+each_weaker P Q f (x ∷ xs) all = (f x all.0, each_weaker P Q f xs all.1)
+
+in_itself : (xs : List Entry) → AllByRecursion (λ w. IsIn w xs) xs
+in_itself [] = tt
+in_itself (x ∷ xs) = (inl refl, each_weaker (λ w. IsIn w xs) (λ w. IsIn w (x ∷ xs)) (λ w h. inr h) xs (in_itself xs))
+
+in_moved : (xs ys : List Entry) → IsPermutation xs ys → (z : Entry) → IsIn z ys → IsIn z xs
+in_moved xs ys m z h =
+    in_each (λ w. IsIn w xs) z ys
+    (recursion_from_All (λ w. IsIn w xs) ys (All-permutation (λ w. IsIn w xs) xs ys m (All-from_recursion (λ w. IsIn w xs) xs (in_itself xs)))) h
+
+-- the same entries have one canonical order
+pub one_order : (xs ys : List Entry) → IsCanonical xs → IsCanonical ys → IsPermutation xs ys → xs ≡ ys
+one_order xs ys s t m = same_order xs ys s t (in_moved ys xs (IsPermutation-sym xs ys m)) (in_moved xs ys m)
+
+pub text_is_read : (text : List ℕ) (es : List Entry) → IsShortText text es → read_short text ≡ Ok es
+text_is_read text es h =
+    let written = h.1 in
+    let back : IsPermutation es written = IsPermutation-sym written es h.3 in
+    let valid = valid_moved es written back h.0.valid in
+    let apart : IsApart (written ++ []) = subst IsApart (sym (append_none written)) (valid_apart written valid) in
+    let few : count_by is_named (written ++ []) ≤ 100 = subst (λ (xs : List Entry). count_by is_named xs ≤ 100) (sym (append_none written)) valid.few in
+    let r = spelled_entries 1 [] (pieces text) written h.2 apart few in
+    let moved : IsPermutation written r.0 = subst (λ (xs : List Entry). IsPermutation xs r.0) (append_none written) r.2 in
+    let valid_all = valid_moved written r.0 moved valid in
+    let same : arranged r.0 ≡ es =
+    one_order (arranged r.0) es (arranged_sorted r.0 (valid_apart r.0 valid_all)) h.0.canonical
+    (IsPermutation-trans (arranged r.0) r.0 es (IsPermutation-sym r.0 (arranged r.0) (arranged_moves r.0))
+    (IsPermutation-trans r.0 written es (IsPermutation-sym written r.0 moved) h.3)) in
+    ap (λ (x : Result (List Entry) AclError). x >>= λ all. whole (lacking all) (arranged all)) r.1
+    ∙ ap (λ (o : Option AclError). whole o (arranged r.0)) (valid_lacks r.0 valid_all)
+    ∙ ap (λ (xs : List Entry). Ok xs) same
+
+-- a text spells one list at the most
+pub one_list : (text : List ℕ) (es fs : List Entry) → IsShortText text es → IsShortText text fs → es ≡ fs
+one_list text es fs h k = let e : Ok es ≡ Ok fs = sym (text_is_read text es h) ∙ text_is_read text fs k in cc
+
+-- each valid list has a canonical order
+pub canonical_order : (es : List Entry) → IsValidAcl es → (cs : List Entry) × IsPermutation es cs × IsAcl cs
+canonical_order es v =
+    (arranged es, arranged_moves es, record { valid = valid_moved es (arranged es) (arranged_moves es) v; canonical = arranged_sorted es (valid_apart es v) })

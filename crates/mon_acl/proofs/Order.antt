@@ -1,14 +1,14 @@
 -- The canonical order of entries, and the place of one more.
-use Rattle.std.proofs.Common.{◌≡◌, ◌∙◌, ap, sym, subst, refl, ℕ, ◌+◌, ◌-◌, ◌<◌, ◌≤◌, Bool, true, false, cond, List, [], ◌∷◌, ◌++◌, length, take, drop, get_or, arith, length-take, length-drop, not}
+use Rattle.std.proofs.Common.{◌≡◌, ◌∙◌, ap, sym, subst, refl, ℕ, ◌+◌, ◌<◌, Bool, true, false, cond, List, [], ◌∷◌, ◌++◌, length, take, drop, get_or, arith, length-take, length-drop}
 use Rattle.std.specs.Prelude.{All, HoldsAt, insert, count_by, IsPermutation, ◌||◌}
 use Rattle.std.specs.List.{list_any, AllWithin, AllByRecursion}
-use Rattle.std.specs.List.Sorted.{IsSortedBy, IsNonDecreasingBy, IsStrictlySortedBy}
+use Rattle.std.specs.List.Sorted.{IsNonDecreasingBy, IsStrictlySortedBy}
 use Rattle.std.specs.Cmp.{IsTotalOrder}
-use Rattle.std.specs.Cmp.Lexicographic.{slice_cmp, texts_ties, nat_list_cmp_total}
-use Rattle.std.specs.Ordering.{nat_cmp, is_lt, is_eq, ordering_index, ordering_reverse}
+use Rattle.std.specs.Cmp.Lexicographic.{texts_ties, nat_list_cmp_total}
+use Rattle.std.specs.Ordering.{is_lt, is_eq, ordering_index, ordering_reverse}
 use Rattle.std.specs.declared.cmp.Ordering.{Ordering}
 use Rattle.std.specs.declared.cmp.Ordering.TheVariants.{Less, Equal, Greater}
-use Rattle.std.proofs.lemmas.Cmp.{on_total, is_lt_index}
+use Rattle.std.proofs.lemmas.Cmp.{on_total}
 use Rattle.std.proofs.lemmas.List.{get_or-take, get_or-drop, take-append-drop}
 use Rattle.std.proofs.lemmas.List.Elements.{All-head, All-tail, All-append}
 use Rattle.std.proofs.lemmas.List.Folds.{list_any_at, list_any_none}
@@ -30,8 +30,8 @@ pub rises : (es : List Entry) (e : Entry) → IsCanonical es → IsNonDecreasing
 rises es e s =
     searchable_from_sorted nat_list_cmp_total place es (place e)
     (λ k d _ h.
-        let up : compared (get_or es k d) (get_or es (k + 1) d) ≡ Less = Less-from_sorted compared es k (k + 1) d s (omega arith) h in
-        ap is_lt (order.antisymm (get_or es (k + 1) d) (get_or es k d) ∙ ap ordering_reverse up))
+    let up : compared (get_or es k d) (get_or es (k + 1) d) ≡ Less = Less-from_sorted compared es k (k + 1) d s (omega arith) h in
+    ap is_lt (order.antisymm (get_or es (k + 1) d) (get_or es k d) ∙ ap ordering_reverse up))
 
 pub there : (es : List Entry) (e : Entry) (i : ℕ) → i < length es → HoldsAt (λ y. compared y e ≡ Equal) es i →
     list_any (is_for e.tag (qualifier e)) es ≡ true
@@ -123,6 +123,7 @@ put_sorted e (x ∷ xs) s n = at (put_sorted e xs s.1) (compared x e) refl (both
     both_false : (a b : Bool) → (a || b) ≡ false → (a ≡ false) × (b ≡ false)
     both_false true b h = absurd (let t : true ≡ false = h in cc)
     both_false false b h = (refl, h)
+
     at : (list_any (is_for e.tag (qualifier e)) xs ≡ false → IsStrictlySortedBy compared (put_in e xs)) → (o : Ordering) → compared x e ≡ o → (is_for e.tag (qualifier e) x ≡ false) × (list_any (is_for e.tag (qualifier e)) xs ≡ false) →
         IsStrictlySortedBy compared (cond (is_lt o) (x ∷ put_in e xs) (e ∷ x ∷ xs))
     at more Less h f = (each_put (λ y. compared x y ≡ Less) e xs h s.0, more f.1)

@@ -2,7 +2,7 @@
 use Rattle.std.proofs.Common.{◌≡◌, ◌∙◌, ap, sym, subst, ℕ, ◌+◌, ◌-◌, ◌<◌, ◌≤◌, Bool, true, false, cond, List, [], ◌∷◌, length, take, drop, Option, Some, None, arith, length-drop, refl, map, option_copied, Bor}
 use Rattle.mon_acl.specs.declared.entries.Tag.{Tag}
 use Rattle.mon_acl.specs.Texts.{is_colon, trimmed, parts_behind}
-use Rattle.mon_acl.specs.Reading.{parts_of}
+use Rattle.mon_acl.specs.Refusals.{parts_of}
 use Rattle.std.specs.Prelude.{nat_lt}
 use Rattle.std.specs.List.{slice_split, onto_first, position, position_or_len}
 use Rattle.std.proofs.lemmas.List.Splits.{slice_split_first, slice_split_none}
@@ -50,5 +50,5 @@ four_fields tag f a second f2 b third f3 r e ea e2 eb e3 =
     let behind : Option (Bor (List ℕ)) → List (List ℕ) = λ o. parts_behind is_colon (option_copied o) in
     let more = split_some is_colon r.now in
     let whole : behind f ≡ second ∷ third ∷ more.0 ∷ more.1 =
-        ap behind e ∙ ea ∙ ap (λ (l : List (List ℕ)). second ∷ l) (ap behind e2 ∙ eb ∙ ap (λ (l : List (List ℕ)). third ∷ l) (ap behind e3 ∙ more.2)) in
+    ap behind e ∙ ea ∙ ap (λ (l : List (List ℕ)). second ∷ l) (ap behind e2 ∙ eb ∙ ap (λ (l : List (List ℕ)). third ∷ l) (ap behind e3 ∙ more.2)) in
     sym (ap (λ (l : List (List ℕ)). parts_of tag (map trimmed l)) whole)

@@ -1,5 +1,5 @@
 -- One entry: what is read from a piece is what the piece spells, and all of it.
-use Rattle.std.proofs.Common.{◌≡◌, ◌∙◌, ap, sym, subst, refl, ℕ, ◌+◌, ◌≤◌, Bool, true, false, cond, List, [], ◌∷◌, Option, Some, None, not, inl, inr, ◌⊎◌, arith}
+use Rattle.std.proofs.Common.{◌≡◌, ◌∙◌, ap, sym, subst, refl, ℕ, Bool, true, false, cond, List, [], ◌∷◌, Option, Some, None, inl, inr, ◌⊎◌, arith}
 use Rattle.std.proofs.lemmas.Bool.{eqb-true, eqb-false, leb-true}
 use Rattle.std.specs.Prelude.{Result, Ok, Err, ok_or, option_map, codes, IsTrue, ◌==◌, ◌&&◌, ◌||◌, nat_eq, nat_le}
 use Rattle.std.specs.List.{list_all}
@@ -12,8 +12,8 @@ use Rattle.mon_acl.specs.declared.entries.Entry.{Entry}
 use Rattle.mon_acl.specs.declared.refusals.AclError.{AclError}
 use Rattle.mon_acl.specs.declared.refusals.AclError.TheVariants.{BadTag, BadQualifier, BadPerms}
 use Rattle.mon_acl.specs.Entries.{is_qualified, qualifier, bytes_of, IsEntry}
-use Rattle.mon_acl.specs.Texts.{fields, is_permission, times, once_if, may_leave_out, tag_word, tag_letter, SpellsTag, SpellsPerms, SpellsFields, SpellsEntry}
-use Rattle.mon_acl.specs.Reading.{◌>>=◌, is_either, type_of, named_type, qualified, parts_of, is_perms, perms_of, entry_of, entry_of_fields}
+use Rattle.mon_acl.specs.Texts.{fields, is_permission, times, once_if, may_leave_out, SpellsTag, SpellsPerms, SpellsFields, SpellsEntry}
+use Rattle.mon_acl.specs.Refusals.{◌>>=◌, is_either, type_of, named_type, qualified, parts_of, is_perms, perms_of, entry_of, entry_of_fields}
 
 -- ---- results in a row
 
@@ -66,6 +66,7 @@ typed word t h =
   where
     found : (s : Tag) → SpellsTag word s → is_plain s ≡ true → Some s ≡ Some t → SpellsTag word t × (is_plain t ≡ true)
     found s w p h = let same : s ≡ t = (let k : Some s ≡ Some t = h in cc) in subst (λ (u : Tag). SpellsTag word u × (is_plain u ≡ true)) same (w, p)
+
     at : (a : Bool) → is_either word (codes "user") (codes "u") ≡ a → (b : Bool) → is_either word (codes "group") (codes "g") ≡ b →
         (c : Bool) → is_either word (codes "mask") (codes "m") ≡ c → (d : Bool) → is_either word (codes "other") (codes "o") ≡ d →
         cond a (Some UserObj) (cond b (Some GroupObj) (cond c (Some Mask) (cond d (Some Other) None))) ≡ Some t → SpellsTag word t × (is_plain t ≡ true)
@@ -108,6 +109,7 @@ whole_of plain [] w p h = at (let k : Some (plain, None) ≡ Some w = h in cc)
     valid Group p = absurd (let k : false ≡ true = p in cc)
     valid Mask p = (refl, refl)
     valid Other p = (refl, refl)
+
     at : (plain, None) ≡ w → Whole plain [] w.0 w.1
     at e = subst (λ (v : Tag × Option (List ℕ)). Whole plain [] v.0 v.1) e (record { valid = (valid plain p).0; same_word = (valid plain p).1; is = refl; left_out = λ _. refl })
 whole_of plain (c ∷ cs) w p h = at plain (if_some (is_name (c ∷ cs)) (option_map (λ t. (t, Some (c ∷ cs))) (named_type plain)) w h)
@@ -116,6 +118,7 @@ whole_of plain (c ∷ cs) w p h = at plain (if_some (is_name (c ∷ cs)) (option
     some plain t s v h =
         let e : (t, Some (c ∷ cs)) ≡ w = (let k : Some (t, Some (c ∷ cs)) ≡ Some w = h in cc) in
         subst (λ (u : Tag × Option (List ℕ)). Whole plain (c ∷ cs) u.0 u.1) e (record { valid = v; same_word = s; is = refl; left_out = λ n. absurd (let k : (c ∷ cs) ≡ [] = n in cc) })
+
     at : (plain : Tag) → (is_name (c ∷ cs) ≡ true) × (option_map (λ t. (t, Some (c ∷ cs))) (named_type plain) ≡ Some w) → Whole plain (c ∷ cs) w.0 w.1
     at UserObj n = some UserObj User refl n.0 n.1
     at GroupObj n = some GroupObj Group refl n.0 n.1
@@ -229,9 +232,11 @@ read_spells_fields n (word ∷ rest) e h =
     let same : record { tag = c.0.0; name = c.0.1; perms = d.0 } ≡ e = (let k : Ok (record { tag = c.0.0; name = c.0.1; perms = d.0 }) ≡ Ok e = d.2 in cc) in
     let t = typed word a.0 (or_ok (type_of word) (BadTag n) a.0 a.1) in
     let w = whole_of a.0 b.0.0 c.0 t.1 (or_ok (qualified a.0 b.0.0) (BadQualifier n) c.0 c.1) in
-    subst (λ (f : Entry). IsEntry f × SpellsFields (word ∷ rest) f) same
-    (w.valid, spell_fields word rest b.0.0 b.0.1 a.0 (record { tag = c.0.0; name = c.0.1; perms = d.0 }) t.0
-        (parts_are a.0 rest b.0 (or_ok (parts_of a.0 rest) (BadPerms n) b.0 b.1)) w (perms_spell b.0.1 d.0 (or_ok (perms_of b.0.1) (BadPerms n) d.0 d.1)))
+    subst (λ (f : Entry). IsEntry f × SpellsFields (word ∷ rest) f) same (
+      w.valid,
+      spell_fields word rest b.0.0 b.0.1 a.0 (record { tag = c.0.0; name = c.0.1; perms = d.0 }) t.0
+          (parts_are a.0 rest b.0 (or_ok (parts_of a.0 rest) (BadPerms n) b.0 b.1)) w (perms_spell b.0.1 d.0 (or_ok (perms_of b.0.1) (BadPerms n) d.0 d.1)),
+    )
 
 -- what is read is spelled
 pub read_spells : (n : ℕ) (piece : List ℕ) (e : Entry) → entry_of n piece ≡ Ok e → SpellsEntry piece e

@@ -1,5 +1,5 @@
 -- Reading with the entries kept in canonical order: what the loop does, piece by piece.
-use Rattle.std.proofs.Common.{◌≡◌, ◌∙◌, ap, sym, subst, refl, ℕ, ◌+◌, Bool, true, false, cond, List, [], ◌∷◌, Option, Some, None, not}
+use Rattle.std.proofs.Common.{◌≡◌, ◌∙◌, ap, sym, subst, refl, ℕ, ◌+◌, Bool, true, false, cond, List, [], ◌∷◌, Option, Some, None}
 use Rattle.std.specs.Prelude.{Result, Ok, Err, count_by, ◌==◌, ◌&&◌}
 use Rattle.std.specs.List.{list_any}
 use Rattle.mon_acl.specs.declared.entries.Entry.{Entry}
@@ -7,9 +7,10 @@ use Rattle.mon_acl.specs.declared.entries.Tag.TheVariants.{UserObj, GroupObj, Ma
 use Rattle.mon_acl.specs.declared.refusals.AclError.{AclError}
 use Rattle.mon_acl.specs.declared.refusals.AclError.TheVariants.{BadTag, BadQualifier, BadPerms, Missing, Twice, NoMask, TooMany, Memory}
 use Rattle.mon_acl.specs.Entries.{is_for, qualifier, is_named, has_tag, IsCanonical}
-use Rattle.mon_acl.specs.Reading.{◌>>=◌, Refuses, Gives, entry_of, joined, added, piece_added, put_in, arranged, entries_on, entries_of, canonical_entries_of, read_short, whole, lacking}
+use Rattle.mon_acl.specs.Refusals.{◌>>=◌, entry_of, joined, entries_on, entries_of, lacking}
+use Rattle.mon_acl.specs.Reading.{Refuses, Gives, added, piece_added, put_in, arranged, canonical_entries_of, read_short, whole}
 use Rattle.std.specs.List.{slice_split}
-use Rattle.std.specs.Prelude.{option_copied, IsErrAnd}
+use Rattle.std.specs.Prelude.{option_copied}
 use Rattle.std.proofs.Common.{Bor}
 use Rattle.mon_acl.specs.Texts.{is_comma, parts_behind, pieces}
 use Rattle.mon_acl.proofs.Order.{any_arranged, count_arranged, put_sorted}
@@ -63,6 +64,7 @@ sorted_as_read n es (p ∷ ps) = first (λ more. sorted_as_read (n + 1) more ps)
         ((j >>= λ more. Ok (arranged more)) >>= λ more. sorted_on (n + 1) more ps) ≡ ((j >>= λ more. entries_on (n + 1) more ps) >>= λ all. Ok (arranged all))
     second rest e (Ok more) = rest more
     second rest e (Err refusal) = refl
+
     first : ((more : List Entry) → sorted_on (n + 1) (arranged more) ps ≡ (entries_on (n + 1) more ps >>= λ all. Ok (arranged all))) → (r : Result Entry AclError) →
         ((r >>= λ e. added n e (arranged es)) >>= λ more. sorted_on (n + 1) more ps) ≡ ((r >>= λ e. joined n e es >>= λ more. entries_on (n + 1) more ps) >>= λ all. Ok (arranged all))
     first rest (Ok e) = ap (λ (j : Result (List Entry) AclError). j >>= λ more. sorted_on (n + 1) more ps) (added_arranged n e es) ∙ second rest e (joined n e es)

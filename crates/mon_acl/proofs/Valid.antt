@@ -1,8 +1,7 @@
 -- Counting entries: what is read makes a valid list.
-use Rattle.std.proofs.Common.{◌≡◌, ◌∙◌, ap, sym, subst, refl, ℕ, ◌+◌, ◌<◌, ◌≤◌, Bool, true, false, cond, List, [], ◌∷◌, Option, Some, None, not, arith}
-use Rattle.std.specs.Prelude.{Result, Ok, Err, All, IsPermutation, IsTrue, count_by, nat_eq, ◌==◌, ◌&&◌, ◌||◌}
+use Rattle.std.proofs.Common.{◌≡◌, ◌∙◌, ap, sym, subst, refl, ℕ, ◌+◌, ◌≤◌, Bool, true, false, cond, List, [], ◌∷◌, Option, Some, None, not, arith}
+use Rattle.std.specs.Prelude.{Ok, Err, All, IsPermutation, IsTrue, count_by, nat_eq, ◌==◌, ◌&&◌, ◌||◌}
 use Rattle.std.specs.List.{list_any}
-use Rattle.std.specs.List.Sorted.{IsStrictlySortedBy}
 use Rattle.std.specs.Cmp.Lexicographic.{pointwise, bytes_decides}
 use Rattle.std.proofs.lemmas.Bool.{eqb-false}
 use Rattle.std.proofs.lemmas.Cmp.{nat_list_eq_equiv}
@@ -14,8 +13,9 @@ use Rattle.mon_acl.specs.declared.entries.Tag.TheVariants.{UserObj, User, GroupO
 use Rattle.mon_acl.specs.declared.entries.Entry.{Entry}
 use Rattle.mon_acl.specs.declared.refusals.AclError.{AclError}
 use Rattle.mon_acl.specs.declared.refusals.AclError.TheVariants.{Twice, TooMany, Missing, NoMask}
-use Rattle.mon_acl.specs.Entries.{rank, place, is_tag, has_tag, is_named, is_for, qualifier, is_qualified, bytes_of, IsEntry, IsValidAcl, IsCanonical, IsAcl, compared}
-use Rattle.mon_acl.specs.Reading.{◌>>=◌, joined, lacking, whole, arranged, entry_of, entries_on, entries_of, read_short}
+use Rattle.mon_acl.specs.Entries.{rank, place, is_tag, has_tag, is_named, is_for, qualifier, is_qualified, bytes_of, IsEntry, IsValidAcl, IsCanonical, IsAcl}
+use Rattle.mon_acl.specs.Refusals.{◌>>=◌, joined, lacking, entry_of, entries_on, entries_of}
+use Rattle.mon_acl.specs.Reading.{whole, arranged, read_short}
 use Rattle.mon_acl.specs.Texts.{pieces}
 use Rattle.mon_acl.proofs.Order.{put_sorted, none_sorted, any_arranged, count_moved, arranged_moves}
 use Rattle.mon_acl.proofs.Spelled.{bind_ok, read_spells}
@@ -89,9 +89,10 @@ apart_more e es apart none t name = omega (arith, counted (is_for t name) e es, 
     at false h = omega (arith, apart t name)
 
 pub apart_rest : (e : Entry) (es : List Entry) → IsApart (e ∷ es) → IsApart es × (list_any (is_for e.tag (qualifier e)) es ≡ false)
-apart_rest e es apart =
-    (λ t name. omega (arith, apart t name, counted (is_for t name) e es),
-     none_of_count (is_for e.tag (qualifier e)) es (let k : 1 + count_by (is_for e.tag (qualifier e)) es ≤ 1 = subst (λ (b : Bool). cond b 1 0 + count_by (is_for e.tag (qualifier e)) es ≤ 1) (for_itself e) (omega (arith, apart e.tag (qualifier e), counted (is_for e.tag (qualifier e)) e es)) in omega arith))
+apart_rest e es apart = (
+  λ t name. omega (arith, apart t name, counted (is_for t name) e es),
+  none_of_count (is_for e.tag (qualifier e)) es (let k : 1 + count_by (is_for e.tag (qualifier e)) es ≤ 1 = subst (λ (b : Bool). cond b 1 0 + count_by (is_for e.tag (qualifier e)) es ≤ 1) (for_itself e) (omega (arith, apart e.tag (qualifier e), counted (is_for e.tag (qualifier e)) e es)) in omega arith),
+)
 
 pub apart_moved : (xs ys : List Entry) → IsPermutation xs ys → IsApart xs → IsApart ys
 apart_moved xs ys m apart t name = omega (arith, apart t name, count_moved (is_for t name) xs ys m)
@@ -129,7 +130,7 @@ so_far_more n e es more v s h =
     subst SoFar j.2 (record {
       entries = All-cons IsEntry e es v s.entries;
       apart = apart_more e es s.apart j.0;
-      few = omega (arith, counted is_named e es, few_more (is_named e) (count_by is_named es) s.few j.1)
+      few = omega (arith, counted is_named e es, few_more (is_named e) (count_by is_named es) s.few j.1);
     })
 
 pub so_far_read : (n : ℕ) (es : List Entry) (ps : List (List ℕ)) (all : List Entry) → SoFar es → entries_on n es ps ≡ Ok all → SoFar all
@@ -203,7 +204,7 @@ valid_of es s l =
       masked = λ h. omega (arith, mask, count_some (has_tag Mask) es (l.masked (some_of_count is_named es (omega arith))));
       users_differ = s.apart User;
       groups_differ = s.apart Group;
-      few = s.few
+      few = s.few;
     }
 
 pub valid_moved : (xs ys : List Entry) → IsPermutation xs ys → IsValidAcl xs → IsValidAcl ys
@@ -216,7 +217,7 @@ valid_moved xs ys m v = record {
   masked = λ h. count_moved (has_tag Mask) xs ys m ∙ v.masked (omega (arith, h, count_moved is_named xs ys m));
   users_differ = λ name. omega (arith, count_moved (is_for User name) xs ys m, v.users_differ name);
   groups_differ = λ name. omega (arith, count_moved (is_for Group name) xs ys m, v.groups_differ name);
-  few = omega (arith, count_moved is_named xs ys m, v.few)
+  few = omega (arith, count_moved is_named xs ys m, v.few);
 }
 
 whole_ok : (o : Option AclError) (es all : List Entry) → whole o es ≡ Ok all → (o ≡ None) × (es ≡ all)
@@ -243,5 +244,5 @@ read_acl text es h =
     let s = so_far_read 1 [] (pieces text) r.all nothing_so_far r.read in
     subst IsAcl r.is (record {
       valid = valid_moved r.all (arranged r.all) (arranged_moves r.all) (valid_of r.all s (lacks_nothing r.all r.lacks));
-      canonical = arranged_sorted r.all s.apart
+      canonical = arranged_sorted r.all s.apart;
     })

@@ -1,6 +1,7 @@
 pub mod Permissions
 pub mod Entries
 pub mod Texts
-pub mod Reading
 pub mod Refusals
+pub mod Reading
 pub mod Printing
+pub mod Laws

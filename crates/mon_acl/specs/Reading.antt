@@ -1,17 +1,11 @@
--- Reading a short text: the list that it spells, or the first refusal (acl(5) "ACL TEXT FORMS"; the order of refusals is own).
-use Rattle.std.specs.Prelude.{◌≡◌, ℕ, ◌+◌, ◌==◌, Bool, true, false, not, ◌&&◌, ◌||◌, nat_le, nat_eq, if◌then◌else◌, List, [], ◌∷◌, count_by, codes, Option, Some, None, option_map, ok_or, Result, Ok, Err}
-use Rattle.std.specs.List.{list_all, list_any}
-use Rattle.std.specs.Cmp.Lexicographic.{pointwise}
+-- Reading a short text in one go, as the code does: the list in canonical order, or the first refusal.
+use Rattle.std.specs.Prelude.{◌≡◌, ℕ, if◌then◌else◌, List, [], ◌∷◌, Option, Some, None, Result, Ok, Err}
 use Rattle.std.specs.Ordering.{is_lt}
-use Rattle.mon_text.specs.Names.{is_name}
-use Rattle.mon_acl.specs.declared.entries.Perms.{Perms}
-use Rattle.mon_acl.specs.declared.entries.Tag.{Tag}
-use Rattle.mon_acl.specs.declared.entries.Tag.TheVariants.{UserObj, User, GroupObj, Group, Mask, Other}
 use Rattle.mon_acl.specs.declared.entries.Entry.{Entry}
 use Rattle.mon_acl.specs.declared.refusals.AclError.{AclError}
-use Rattle.mon_acl.specs.declared.refusals.AclError.TheVariants.{BadTag, BadQualifier, BadPerms, Missing, Twice, NoMask, TooMany, Memory}
-use Rattle.mon_acl.specs.Entries.{has_tag, is_named, is_for, qualifier, compared}
-use Rattle.mon_acl.specs.Texts.{fields, pieces, is_permission, times, may_leave_out}
+use Rattle.mon_acl.specs.declared.refusals.AclError.TheVariants.{Memory}
+use Rattle.mon_acl.specs.Entries.{compared}
+use Rattle.mon_acl.specs.Refusals.{◌>>=◌, entry_of, joined, entries_of, lacking}
 
 -- what a call answers: what reading gives, unless memory ran out
 abbrev pub Refuses : {A : Type 0} → AclError → Result A AclError → Type 0
@@ -22,69 +16,10 @@ abbrev pub Gives : {A B : Type 0} → (A → B) → Result A AclError → Result
 Gives seen (Ok x) read = read ≡ Ok (seen x)
 Gives seen (Err e) read = Refuses e read
 
--- what is tried first refuses first
-infixl 10 ◌>>=◌
-abbrev pub ◌>>=◌ : {A B : Type 0} → Result A AclError → (A → Result B AclError) → Result B AclError
-(Ok x) >>= f = f x
-(Err e) >>= f = Err e
-
-abbrev pub is_either : List ℕ → List ℕ → List ℕ → Bool
-is_either word long short = pointwise nat_eq word long || pointwise nat_eq word short
-
--- the type of an entry that begins with this word and has no qualifier
-abbrev pub type_of : List ℕ → Option Tag
-type_of word =
-    if is_either word (codes "user") (codes "u") then Some UserObj
-    else if is_either word (codes "group") (codes "g") then Some GroupObj
-    else if is_either word (codes "mask") (codes "m") then Some Mask
-    else if is_either word (codes "other") (codes "o") then Some Other
-    else None
-
--- the type of an entry of the same word that has a qualifier
-abbrev pub named_type : Tag → Option Tag
-named_type UserObj = Some User
-named_type GroupObj = Some Group
-named_type _ = None
-
--- the type of an entry and its name, by the qualifier
-abbrev pub qualified : Tag → List ℕ → Option (Tag × Option (List ℕ))
-qualified tag [] = Some (tag, None)
-qualified tag (c ∷ cs) = if is_name (c ∷ cs) then option_map (λ t. (t, Some (c ∷ cs))) (named_type tag) else None
-
--- the qualifier and the permissions, of the fields behind the first
-abbrev pub parts_of : Tag → List (List ℕ) → Option (List ℕ × List ℕ)
-parts_of tag (name ∷ perms ∷ []) = Some (name, perms)
-parts_of tag (perms ∷ []) = if may_leave_out tag then Some ([], perms) else None
-parts_of tag _ = None
-
--- each permission at most once
-abbrev pub is_perms : List ℕ → Bool
-is_perms field = list_all is_permission field && nat_le (times 114 field) 1 && nat_le (times 119 field) 1 && nat_le (times 120 field) 1
-
-abbrev pub perms_of : List ℕ → Option Perms
-perms_of field =
-    if is_perms field then Some (record { read = times 114 field == 1; write = times 119 field == 1; execute = times 120 field == 1 })
-    else None
-
-abbrev pub entry_of_fields : ℕ → List (List ℕ) → Result Entry AclError
-entry_of_fields n [] = Err (BadTag n)
-entry_of_fields n (word ∷ rest) =
-    ok_or (type_of word) (BadTag n) >>= λ plain.
-    ok_or (parts_of plain rest) (BadPerms n) >>= λ parts.
-    ok_or (qualified plain parts.0) (BadQualifier n) >>= λ whole.
-    ok_or (perms_of parts.1) (BadPerms n) >>= λ perms.
-    Ok (record { tag = whole.0; name = whole.1; perms = perms })
-
--- the entry of the n-th piece, or why it has none
-abbrev pub entry_of : ℕ → List ℕ → Result Entry AclError
-entry_of n piece = entry_of_fields n (fields piece)
-
--- the entries so far with one more, the n-th
-abbrev pub joined : ℕ → Entry → List Entry → Result (List Entry) AclError
-joined n e es =
-    if list_any (is_for e.tag (qualifier e)) es then Err (Twice n)
-    else if is_named e && (count_by is_named es == 100) then Err (TooMany n)
-    else Ok (e ∷ es)
+-- which refusal an error is
+abbrev pub IsRefusal : AclError → Option AclError → Type 0
+IsRefusal Memory refusal = Unit {0}
+IsRefusal e refusal = refusal ≡ Some e
 
 -- an entry put behind those that stand before it in canonical order
 abbrev pub put_in : Entry → List Entry → List Entry
@@ -99,15 +34,6 @@ added n e es = joined n e es >>= λ _. Ok (put_in e es)
 abbrev pub piece_added : ℕ → List ℕ → List Entry → Result (List Entry) AclError
 piece_added n piece es = entry_of n piece >>= λ e. added n e es
 
--- what the whole list lacks
-abbrev pub lacking : List Entry → Option AclError
-lacking es =
-    if not (list_any (has_tag UserObj) es) then Some (Missing UserObj)
-    else if not (list_any (has_tag GroupObj) es) then Some (Missing GroupObj)
-    else if not (list_any (has_tag Other) es) then Some (Missing Other)
-    else if list_any is_named es && not (list_any (has_tag Mask) es) then Some NoMask
-    else None
-
 -- the entries in canonical order
 abbrev pub arranged : List Entry → List Entry
 arranged [] = []
@@ -117,14 +43,6 @@ arranged (e ∷ es) = put_in e (arranged es)
 abbrev pub whole : Option AclError → List Entry → Result (List Entry) AclError
 whole (Some refusal) es = Err refusal
 whole None es = Ok es
-
--- the entries of the pieces from the n-th on, with those before
-abbrev pub entries_on : ℕ → List Entry → List (List ℕ) → Result (List Entry) AclError
-entries_on n es [] = Ok es
-entries_on n es (p ∷ ps) = entry_of n p >>= λ e. joined n e es >>= λ more. entries_on (n + 1) more ps
-
-abbrev pub entries_of : List ℕ → Result (List Entry) AclError
-entries_of text = entries_on 1 [] (pieces text)
 
 abbrev pub canonical_entries_of : List ℕ → Result (List Entry) AclError
 canonical_entries_of text = entries_of text >>= λ es. Ok (arranged es)

@@ -1,5 +1,5 @@
 -- Which text spells which entry, and which short text spells which permission list (acl(5) "ACL TEXT FORMS").
-use Rattle.std.specs.Prelude.{◌≡◌, ℕ, ◌==◌, Bool, true, ◌||◌, if◌then◌else◌, List, [], ◌∷◌, map, reverse, count_by, ◌⊎◌, IsPermutation, IsTrue, Option, Some, None, codes}
+use Rattle.std.specs.Prelude.{◌≡◌, ℕ, ◌==◌, Bool, ◌||◌, if◌then◌else◌, List, [], ◌∷◌, map, reverse, count_by, ◌⊎◌, IsPermutation, IsTrue, Option, Some, None, codes}
 use Rattle.std.specs.List.{list_all, slice_split, AllZip}
 use Rattle.mon_acl.specs.declared.entries.Perms.{Perms}
 use Rattle.mon_acl.specs.declared.entries.Tag.{Tag}

@@ -2,7 +2,8 @@
 ghost use Rattle.std.specs.Prelude.{◌≡◌, ◌==◌, ◌≤◌, ◌&&◌, true, false, count_by, insert, length, IfSome, MatchOption};
 ghost use Rattle.std.specs.List.{list_any};
 ghost use Rattle.mon_acl.specs.Entries.{has_tag, is_named, is_for, qualifier, IsCanonical};
-ghost use Rattle.mon_acl.specs.Reading.{Gives, added, put_in, lacking};
+ghost use Rattle.mon_acl.specs.Refusals.{lacking};
+ghost use Rattle.mon_acl.specs.Reading.{Gives, added, put_in};
 
 use crate::entries::{Entry, Tag};
 use crate::refusals::AclError;

@@ -48,7 +48,11 @@ impl Perms {
     pub fn new(read: bool, write: bool, execute: bool) -> Perms
         ensures { result ≡ record { read = read; write = write; execute = execute } }
     {
-        Perms { read, write, execute }
+        Perms {
+            read,
+            write,
+            execute,
+        }
     }
 
     /// Whether each permission of the request is held.
@@ -64,8 +68,11 @@ impl Perms {
     fn put(self, out: &mut Vec<u8>) -> Result<(), AllocError>
         ensures { OnOk result (out.new.items ≡ out.old.items ++ perms_text self) }
     {
-        let places =
-            [place_of(self.read, b'r'), place_of(self.write, b'w'), place_of(self.execute, b'x')];
+        let places = [
+            place_of(self.read, b'r'),
+            place_of(self.write, b'w'),
+            place_of(self.execute, b'x'),
+        ];
         out.extend_from_slice(&places)
     }
 }
@@ -117,7 +124,11 @@ impl Entry {
             Some(name) => Some(name.copy()),
             None => None,
         };
-        Entry { tag: self.tag, name, perms: self.perms }
+        Entry {
+            tag: self.tag,
+            name,
+            perms: self.perms,
+        }
     }
 
     /// Appends the entry without its permissions, as `user:lisa:`.

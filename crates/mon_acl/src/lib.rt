@@ -6,9 +6,12 @@
 mod arranging;
 pub mod entries;
 mod fields;
+pub mod laws;
 pub mod list;
 mod reading;
 pub mod refusals;
+#[cfg(test)]
+mod tests;
 
 pub use entries::{Entry, Perms, Tag};
 pub use list::Acl;

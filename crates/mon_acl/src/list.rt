@@ -1,8 +1,11 @@
 //! Permission lists, and their short text form.
-ghost use Rattle.std.specs.Prelude.{◌≡◌, ◌++◌, length, flat_map, IfOk, OnOk, slice_get, option_copied};
+ghost use Rattle.std.specs.Prelude.{◌≡◌, ◌++◌, List, length, flat_map, IfOk, IfErr, OnOk, slice_get, option_copied};
 ghost use Rattle.mon_acl.specs.Printing.{short_form, next_text};
+ghost use Rattle.mon_acl.specs.declared.entries.Entry.{Entry};
+ghost use Rattle.mon_acl.specs.Texts.{IsShortText};
+ghost use Rattle.mon_acl.specs.Refusals.{acl_refusal};
 ghost use Rattle.mon_acl.specs.Entries.{IsAcl, IsCanonical};
-ghost use Rattle.mon_acl.specs.Reading.{Gives, piece_added, canonical_entries_of, read_short};
+ghost use Rattle.mon_acl.specs.Reading.{Gives, IsRefusal, piece_added, canonical_entries_of, read_short};
 
 use crate::arranging::{ENTRIES_INLINE, add, lacking};
 use crate::entries::Entry;
@@ -38,15 +41,15 @@ impl Acl {
     ///
     /// # Errors
     ///
-    /// The first refusal: entry by entry; then a required entry that is missing; then a missing mask.
+    /// The first refusal of the text: entry by entry, and then what the whole list lacks.
+    /// `Memory` where a growth was refused.
     pub fn parse_short(alloc: Global, text: &[u8]) -> Result<Acl, AclError>
-        ensures { Gives (λ acl. acl) result (read_short text.now) }
+        ensures spelled { IfOk result (λ acl. IsShortText text.now acl) }
+        ensures only { (es : List Entry) → IsShortText text.now es → Gives (λ acl. acl) result (Ok es) }
+        ensures refused { IfErr result (λ error. IsRefusal error (acl_refusal text.now)) }
+        ensures computed { Gives (λ acl. acl) result (read_short text.now) }
     {
-        let entries = read_entries(alloc, text)?;
-        match lacking(entries.as_slice()) {
-            Some(refusal) => Err(refusal),
-            None => Ok(Acl { entries }),
-        }
+        read_list(alloc, text)
     }
 
     /// Appends the short text form, in canonical order, with full words and three places for permissions.
@@ -57,7 +60,7 @@ impl Acl {
     pub fn put_short(&self, out: &mut Vec<u8>) -> Result<(), AllocError>
         ensures { OnOk result (out.new.items ≡ out.old.items ++ short_form self.now) }
     {
-        match self.entries.as_slice() {
+        match self.entries() {
             [] => Ok(()),
             [first, others @ ..] => {
                 first.put(out)?;
@@ -86,7 +89,7 @@ impl Acl {
     pub fn entry(&self, i: usize) -> Option<&Entry>
         ensures { option_copied result ≡ slice_get self.now i }
     {
-        self.entries.as_slice().get(i)
+        self.entries().get(i)
     }
 
     /// The same list once more.
@@ -98,10 +101,22 @@ impl Acl {
         ensures { IfOk result (λ copy. copy ≡ self.now) }
     {
         let mut entries = SmallVec::new(alloc);
-        for entry in self.entries.as_slice() {
+        entries.reserve(self.entries.len())?;
+        for entry in self.entries() {
             entries.push(entry.copy())?;
         }
         Ok(Acl { entries })
+    }
+}
+
+/// The list that a text spells.
+fn read_list(alloc: Global, text: &[u8]) -> Result<Acl, AclError>
+    ensures { Gives (λ acl. acl) result (read_short text.now) }
+{
+    let entries = read_entries(alloc, text)?;
+    match lacking(entries.as_slice()) {
+        Some(refusal) => Err(refusal),
+        None => Ok(Acl { entries }),
     }
 }
 

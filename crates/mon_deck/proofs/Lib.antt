@@ -1,3 +1,4 @@
 pub mod Splitting
 pub mod AccountWords
 pub mod AccountLines
+pub mod Holding

@@ -1,5 +1,6 @@
 -- What a reader or a writer tells of its bytes (own): some of them, or nothing at all.
 use Rattle.std.specs.Prelude.{◌≡◌, ℕ, ◌≤◌, List, [], ◌++◌, length, Option, Some, None, IfSome}
+use Rattle.std.specs.Option.{option_map}
 
 -- a reader that had the first bytes left gave these, and has the last ones left now
 abbrev pub Gives : Option (List ℕ) → List ℕ → Option (List ℕ) → Type 0
@@ -11,11 +12,9 @@ Gives (Some before) given (Some after) = before ≡ given ++ after
 abbrev pub IsAtEnd : Option (List ℕ) → Type 0
 IsAtEnd told = IfSome told (λ left. left ≡ [])
 
--- a writer that held the first bytes took these, and holds the last ones now
-abbrev pub Takes : Option (List ℕ) → List ℕ → Option (List ℕ) → Type 0
-Takes None taken after = Unit {0}
-Takes (Some before) taken None = ⊥
-Takes (Some before) taken (Some after) = after ≡ before ++ taken
+-- what a writer holds after these bytes more, where it tells
+abbrev pub holding : Option (List ℕ) → List ℕ → Option (List ℕ)
+holding told bytes = option_map (λ held. held ++ bytes) told
 
 -- at least so many bytes are left, as far as the reader tells
 abbrev pub HasAtLeast : ℕ → Option (List ℕ) → Type 0

@@ -7,3 +7,4 @@ pub mod Sections
 pub mod Stops
 pub mod Readings
 pub mod Printouts
+pub mod Runs

@@ -46,9 +46,12 @@ decision_text set Granted = records_text set.records
 decision_text set (Denied decider) = codes "DENIED BY " ++ decider_text set.acl decider ++ codes "\n"
 
 -- the records, exactly where the access check grants r
+abbrev pub access_text : Account → DataSet → List ℕ
+access_text account set = decision_text set (decision account set.owner set.group set.acl read_request)
+
 abbrev pub set_text : Account → Option DataSet → List ℕ
 set_text account None = codes "DENIED NO DATA SET\n"
-set_text account (Some set) = decision_text set (decision account set.owner set.group set.acl read_request)
+set_text account (Some set) = access_text account set
 
 abbrev pub account_text : Option Account → Option DataSet → List ℕ
 account_text None set = codes "REFUSED M2 NO ACCOUNT\n"
@@ -65,12 +68,12 @@ abbrev pub printouts : Deck → List ℕ
 printouts deck = flat_map (printout deck.accounts deck.catalogue) deck.listings
 
 -- a deck that was not refused gives its catalogue back
-abbrev pub closing : Deck → Ending → List ℕ
-closing deck Stopped = codes "$CATALOGUE\n" ++ catalogue_text deck.catalogue
-closing deck (Refused n code) = []
+abbrev pub closing : Sets → Ending → List ℕ
+closing sets Stopped = codes "$CATALOGUE\n" ++ catalogue_text sets
+closing sets (Refused n code) = []
 
 abbrev pub output_of_deck : Deck → List ℕ
-output_of_deck deck = printouts deck ++ closing deck deck.ending
+output_of_deck deck = printouts deck ++ closing deck.catalogue deck.ending
 
 -- what is written for these bytes
 abbrev pub output_of : List ℕ → List ℕ

@@ -1,6 +1,6 @@
 //! What a deck is read from and an output is written to.
 ghost use Rattle.std.specs.Prelude.{◌≡◌, ◌≤◌, ◌<◌, ◌||◌, ℕ, List, [], Option, Bool, length, take, is_err, IfOk, OnErr};
-ghost use Rattle.mon_deck.specs.Devices.{Gives, Takes, IsAtEnd};
+ghost use Rattle.mon_deck.specs.Devices.{Gives, IsAtEnd, holding};
 
 use thiserror::Error;
 
@@ -48,7 +48,7 @@ pub trait DeckWriter {
         requires { 0 < length piece.now }
         ensures some { IfOk result (λ count. 0 < count) }
         ensures within { IfOk result (λ count. count ≤ length piece.now) }
-        ensures taken { IfOk result (λ count. Takes (written self.old) (take count piece.now) (written self.new)) }
+        ensures taken { IfOk result (λ count. written self.new ≡ holding (written self.old) (take count piece.now)) }
         ensures err { OnErr result (written self.new ≡ written self.old) }
         ensures failed { has_failed self.new ≡ (has_failed self.old || is_err result) };
 }

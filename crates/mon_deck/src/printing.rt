@@ -1,5 +1,6 @@
 //! The printout of a `$LIST` card.
 ghost use Rattle.std.specs.Prelude.{◌≡◌, ◌++◌, OnOk};
+ghost use Rattle.mon_deck.specs.Printouts.{printout, heading, access_text, records_text, decider_text};
 
 use crate::card::Listing;
 use mon_access::{Account, Accounts, Decider, Decision, check};
@@ -18,7 +19,9 @@ pub fn put_listing(
     catalogue: &Catalogue,
     card: &Listing,
     out: &mut Vec<u8>,
-) -> Result<(), AllocError> {
+) -> Result<(), AllocError>
+    ensures { OnOk result (out.new.items ≡ out.old.items ++ printout accounts.now catalogue.now card.now) }
+{
     put_card(card, out)?;
     match accounts.find(&card.account) {
         None => out.extend_from_slice(b"REFUSED M2 NO ACCOUNT\n"),
@@ -29,7 +32,9 @@ pub fn put_listing(
     }
 }
 
-fn put_card(card: &Listing, out: &mut Vec<u8>) -> Result<(), AllocError> {
+fn put_card(card: &Listing, out: &mut Vec<u8>) -> Result<(), AllocError>
+    ensures { OnOk result (out.new.items ≡ out.old.items ++ heading card.now) }
+{
     out.extend_from_slice(b"LIST ")?;
     out.extend_from_slice(card.account.as_bytes())?;
     out.extend_from_slice(b" ")?;
@@ -38,7 +43,9 @@ fn put_card(card: &Listing, out: &mut Vec<u8>) -> Result<(), AllocError> {
 }
 
 // The records where the access check grants r, else the entry that decided.
-fn put_access(account: &Account, set: &DataSet, out: &mut Vec<u8>) -> Result<(), AllocError> {
+fn put_access(account: &Account, set: &DataSet, out: &mut Vec<u8>) -> Result<(), AllocError>
+    ensures { OnOk result (out.new.items ≡ out.old.items ++ access_text account.now set.now) }
+{
     let request = Perms::new(true, false, false);
     match check(account, &set.owner, &set.group, &set.acl, request) {
         Decision::Granted => put_records(&set.records, out),
@@ -50,7 +57,9 @@ fn put_access(account: &Account, set: &DataSet, out: &mut Vec<u8>) -> Result<(),
     }
 }
 
-fn put_records(records: &Records, out: &mut Vec<u8>) -> Result<(), AllocError> {
+fn put_records(records: &Records, out: &mut Vec<u8>) -> Result<(), AllocError>
+    ensures { OnOk result (out.new.items ≡ out.old.items ++ records_text records.now) }
+{
     for record in records.as_slice() {
         out.extend_from_slice(b" ")?;
         out.extend_from_slice(record.as_bytes())?;
@@ -61,7 +70,9 @@ fn put_records(records: &Records, out: &mut Vec<u8>) -> Result<(), AllocError> {
     out.extend_from_slice(b"\n")
 }
 
-fn put_decider(decider: &Decider, acl: &Acl, out: &mut Vec<u8>) -> Result<(), AllocError> {
+fn put_decider(decider: &Decider, acl: &Acl, out: &mut Vec<u8>) -> Result<(), AllocError>
+    ensures { OnOk result (out.new.items ≡ out.old.items ++ decider_text acl.now decider.now) }
+{
     match decider {
         Decider::UserObj => out.extend_from_slice(b"user::"),
         Decider::Mask => out.extend_from_slice(b"mask::"),

@@ -1,5 +1,13 @@
 //! A whole run: a deck is read, understood, and answered.
-ghost use Rattle.std.specs.Prelude.{◌≡◌, ◌++◌, ◌≤◌, ◌↔◌, false, IsSome, IfSome, OnOk};
+ghost use Rattle.std.specs.Prelude.{◌≡◌, ◌++◌, ◌≤◌, ◌↔◌, ◌⊎◌, ◌||◌, ℕ, true, false, is_err, IsSome, IfSome, IfOk, OnOk};
+ghost use Rattle.std.specs.Str.Lines.{lines};
+ghost use Rattle.mon_deck.specs.declared.code.Code.{Code};
+ghost use Rattle.mon_deck.specs.declared.deck.Ending.TheVariants.{Stopped, Refused};
+ghost use Rattle.mon_deck.specs.declared.transfer.TheConstants.{MOST_READS};
+ghost use Rattle.mon_deck.specs.Devices.{IsAtEnd, HasAtLeast, holding};
+ghost use Rattle.mon_deck.specs.Sections.{deck_of};
+ghost use Rattle.mon_deck.specs.Printouts.{output_of, output_of_deck, closing};
+ghost use Rattle.mon_deck.specs.Runs.{ending_of, counts_of};
 ghost use Rattle.mon_deck.specs.Faults.{status_of, fault_line};
 
 use crate::code::RunError;
@@ -7,7 +15,8 @@ use crate::deck::{Deck, Ending};
 use crate::device::{DeckReader, DeckWriter, Failed};
 use crate::printing::put_listing;
 use crate::reading::read_deck;
-use crate::transfer::{InputError, read_all, write_all};
+use crate::transfer::{InputError, OutputError, read_all, write_all};
+use mon_catalogue::Catalogue;
 use mon_text::put_number;
 use std::alloc::{AllocError, Global};
 
@@ -73,38 +82,90 @@ pub fn run_deck<R: DeckReader, W: DeckWriter>(
     reader: &mut R,
     writer: &mut W,
     options: Options,
-) -> Result<Counts, RunError> {
+) -> Result<Counts, RunError>
+    requires reader { R.has_failed reader.old ≡ false }
+    requires writer { W.has_failed writer.old ≡ false }
+
+    // A good deck was read to its end, and its output was written.
+    ensures at_end { OnOk result (IsAtEnd (R.remaining reader.new)) }
+    ensures stopped { OnOk result (IfSome (R.remaining reader.old) (λ bytes. ending_of bytes ≡ Stopped)) }
+    ensures output { OnOk result (IfSome (R.remaining reader.old) (λ bytes.
+        W.written writer.new ≡ holding (W.written writer.old) (output_of bytes))) }
+    ensures counts { IfOk result (λ counts. IfSome (R.remaining reader.old) (λ bytes. counts ≡ counts_of bytes)) }
+
+    // A refused deck is refused at its first refusal, and what came before that was written.
+    ensures refused { (line : ℕ) (code : Code) → result ≡ Err (RunError.DeckRefused line code) →
+        IfSome (R.remaining reader.old) (λ bytes. ending_of bytes ≡ Refused line code) }
+    ensures refused_output { (line : ℕ) (code : Code) → result ≡ Err (RunError.DeckRefused line code) →
+        IfSome (R.remaining reader.old) (λ bytes. W.written writer.new ≡ holding (W.written writer.old) (output_of bytes)) }
+
+    // Faults are told only where a device failed.
+    ensures read_fault { result ≡ Err RunError.ReadFault →
+        (R.has_failed reader.new ≡ true) ⊎ HasAtLeast MOST_READS (R.remaining reader.old) }
+    ensures write_fault { result ≡ Err RunError.WriteFault → W.has_failed writer.new ≡ true }
+{
     let _ = options;
     let deck = input_of(alloc, reader)?;
-    let mut out = Vec::new(alloc);
-    for card in deck.listings.as_slice() {
-        put_listing(&deck.accounts, &deck.catalogue, card, &mut out)?;
-        if out.len() >= WRITE_SIZE {
-            write_all(writer, &out)?;
-            out.clear();
-        }
-    }
+    put_output(alloc, &deck, writer)?;
     match deck.ending {
-        Ending::Refused(line, code) => {
-            write_all(writer, &out)?;
-            Err(RunError::DeckRefused(line, code))
-        }
-        Ending::Stopped => {
-            out.extend_from_slice(b"$CATALOGUE\n")?;
-            deck.catalogue.put_text(&mut out)?;
-            write_all(writer, &out)?;
-            Ok(Counts {
-                jobs: 0,
-                commands: deck.listings.as_slice().len() as u64,
-            })
-        }
+        Ending::Refused(line, code) => Err(RunError::DeckRefused(line, code)),
+        Ending::Stopped => Ok(Counts {
+            jobs: 0,
+            commands: deck.listings.as_slice().len() as u64,
+        }),
     }
 }
 
 // The deck that the reader gives.
-fn input_of<R: DeckReader>(alloc: Global, reader: &mut R) -> Result<Deck, RunError> {
+fn input_of<R: DeckReader>(alloc: Global, reader: &mut R) -> Result<Deck, InputError>
+    ensures at_end { OnOk result (IsAtEnd (R.remaining reader.new)) }
+    ensures deck { IfOk result (λ deck. IfSome (R.remaining reader.old) (λ bytes. deck ≡ deck_of (lines bytes))) }
+    ensures fault { result ≡ Err InputError.Fault →
+        (R.has_failed reader.new ≡ true) ⊎ HasAtLeast MOST_READS (R.remaining reader.old) }
+{
     let bytes = read_all(alloc, reader)?;
     Ok(read_deck(alloc, &bytes)?)
+}
+
+// Writes the output of a deck.
+fn put_output<W: DeckWriter>(alloc: Global, deck: &Deck, writer: &mut W) -> Result<(), OutputError>
+    ensures written { OnOk result (W.written writer.new ≡ holding (W.written writer.old) (output_of_deck deck.now)) }
+    ensures fault { result ≡ Err OutputError.Fault → W.has_failed writer.new ≡ true }
+{
+    let mut out = Vec::new(alloc);
+    for card in deck.listings.as_slice() {
+        put_listing(&deck.accounts, &deck.catalogue, card, &mut out)?;
+        flush(writer, &mut out)?;
+    }
+    put_closing(&deck.catalogue, deck.ending, &mut out)?;
+    Ok(write_all(writer, &out)?)
+}
+
+// Writes what is gathered, where it is much.
+#[tactic(auto, using(crate::proofs::Holding::holds))]
+fn flush<W: DeckWriter>(writer: &mut W, out: &mut Vec<u8>) -> Result<(), Failed>
+    ensures kept { OnOk result (holding (W.written writer.new) out.new.items ≡ holding (W.written writer.old) out.old.items) }
+    ensures failed { W.has_failed writer.new ≡ (W.has_failed writer.old || is_err result) }
+{
+    if out.len() >= WRITE_SIZE {
+        write_all(writer, out)?;
+        out.clear();
+    }
+    Ok(())
+}
+
+// A deck that was not refused gives its catalogue back.
+fn put_closing(catalogue: &Catalogue, ending: Ending, out: &mut Vec<u8>) -> Result<(), AllocError>
+    ensures { OnOk result (out.new.items ≡ out.old.items ++ closing catalogue.now ending) }
+{
+    match ending {
+        Ending::Refused(..) => Ok(()),
+        Ending::Stopped => {
+            out.extend_from_slice(b"$CATALOGUE\n")?;
+            catalogue.put_text(out)?;
+            Ok(())
+        }
+    }
 }
 
 /// How many bytes of output are gathered before they are written.
@@ -145,6 +206,11 @@ pub fn put_fault(fault: &RunError, out: &mut Vec<u8>) -> Result<(), AllocError>
 }
 
 impl From<InputError> for RunError {
+    ghost use Rattle.std.specs.Prelude.{◌≡◌};
+    ghost use Rattle.mon_deck.specs.Faults.{fault_of_input};
+
+    ghost from_gives = { λ error fault. fault ≡ fault_of_input error };
+
     fn from(error: InputError) -> RunError {
         match error {
             InputError::Fault => RunError::ReadFault,
@@ -153,14 +219,16 @@ impl From<InputError> for RunError {
     }
 }
 
-impl From<Failed> for RunError {
-    fn from(_: Failed) -> RunError {
-        RunError::WriteFault
-    }
-}
+impl From<OutputError> for RunError {
+    ghost use Rattle.std.specs.Prelude.{◌≡◌};
+    ghost use Rattle.mon_deck.specs.Faults.{fault_of_output};
 
-impl From<AllocError> for RunError {
-    fn from(_: AllocError) -> RunError {
-        RunError::Memory
+    ghost from_gives = { λ error fault. fault ≡ fault_of_output error };
+
+    fn from(error: OutputError) -> RunError {
+        match error {
+            OutputError::Fault => RunError::WriteFault,
+            OutputError::Memory => RunError::Memory,
+        }
     }
 }

@@ -1,6 +1,6 @@
 //! All of a reader's bytes, and bytes to a writer.
 ghost use Rattle.std.specs.Prelude.{◌≡◌, ◌⊎◌, ◌||◌, ℕ, true, false, Some, IfOk, IfSome, OnOk, OnErr, is_err, vec_len};
-ghost use Rattle.mon_deck.specs.Devices.{Gives, Takes, IsAtEnd, HasAtLeast};
+ghost use Rattle.mon_deck.specs.Devices.{Gives, IsAtEnd, HasAtLeast, holding};
 ghost use Rattle.mon_deck.specs.declared.transfer.TheConstants.{MOST_READS};
 
 use crate::device::{DeckReader, DeckWriter, Failed};
@@ -27,6 +27,35 @@ impl From<AllocError> for InputError {
 
     fn from(_: AllocError) -> InputError {
         InputError::Memory
+    }
+}
+
+/// Why an output could not be written to its end.
+#[derive(Clone, Copy, Debug, PartialEq, Eq)]
+pub(crate) enum OutputError {
+    Fault,
+    Memory,
+}
+
+impl From<Failed> for OutputError {
+    ghost use Rattle.std.specs.Prelude.{◌≡◌};
+    ghost use Rattle.mon_deck.specs.declared.transfer.OutputError.TheVariants.{Fault};
+
+    ghost from_gives = { λ _ e. e ≡ Fault };
+
+    fn from(_: Failed) -> OutputError {
+        OutputError::Fault
+    }
+}
+
+impl From<AllocError> for OutputError {
+    ghost use Rattle.std.specs.Prelude.{◌≡◌};
+    ghost use Rattle.mon_deck.specs.declared.transfer.OutputError.TheVariants.{Memory};
+
+    ghost from_gives = { λ _ e. e ≡ Memory };
+
+    fn from(_: AllocError) -> OutputError {
+        OutputError::Memory
     }
 }
 
@@ -57,8 +86,9 @@ pub(crate) fn read_all<R: DeckReader>(alloc: Global, reader: &mut R) -> Result<V
 }
 
 /// Writes all the bytes.
+#[tactic(auto, using(crate::proofs::Holding::holds))]
 pub(crate) fn write_all<W: DeckWriter>(writer: &mut W, bytes: &[u8]) -> Result<(), Failed>
-    ensures all { OnOk result (Takes (W.written writer.old) bytes.now (W.written writer.new)) }
+    ensures all { OnOk result (W.written writer.new ≡ holding (W.written writer.old) bytes.now) }
     ensures failed { W.has_failed writer.new ≡ (W.has_failed writer.old || is_err result) }
 {
     let mut rest = bytes;

@@ -1,7 +1,8 @@
-use Rattle.std.proofs.Common.{rules, ◌≡◌, ◌∙◌, ◌+◌, ap, sym, subst, refl, [], arith, option_copied}
+use Rattle.std.proofs.Common.{rules, ◌∙◌, ◌+◌, ap, sym, subst, [], arith, option_copied}
 use Rattle.std.proofs.lemmas.Result.{err_from_is_err_and}
 use Rattle.mon_acl.specs.Entries.{IsCanonical}
-use Rattle.mon_acl.specs.Reading.{◌>>=◌, Refuses, canonical_entries_of}
+use Rattle.mon_acl.specs.Refusals.{◌>>=◌}
+use Rattle.mon_acl.specs.Reading.{Refuses, canonical_entries_of}
 use Rattle.mon_acl.specs.Texts.{pieces, is_comma, parts_behind}
 use Rattle.mon_acl.proofs.Order.{none_sorted}
 use Rattle.mon_acl.proofs.Steps.{sorted_on, exit, piece_refused, at_piece, at_end, piece_sorted, sorted_as_read}
@@ -11,7 +12,7 @@ pub loop-rest-init : goal.loop-rest-init
 loop-rest-init c = record {
   counted = omega arith;
   canonical = subst IsCanonical (sym c.new-entries.ensures.items) none_sorted;
-  reads = ap (λ es. sorted_on 1 es (pieces c.args.text.now)) (sym c.new-entries.ensures.items)
+  reads = ap (λ es. sorted_on 1 es (pieces c.args.text.now)) (sym c.new-entries.ensures.items);
 }
 
 pub returns-in_err-read_piece : goal.returns-in_err-read_piece
@@ -29,9 +30,9 @@ loop-rest-preserved c = record {
   counted = search rules;
   canonical = piece_sorted c.loop-rest.n c.cut.result.0.now c.loop-rest.entries.items c.read_piece.new.entries.items c.loop-rest.invariant.canonical c.in_ok-read_piece.ensures;
   reads =
-    at_piece _ c.loop-rest.n c.loop-rest.entries.items c.loop-rest.rest c.in-Some.pieces c.cut.result.0.now c.cut.result.1
-    c.loop-rest.invariant.reads c.in-Some.is c.cut.ensures.parts
-    ∙ ap (λ r. r >>= λ more. sorted_on (c.loop-rest.n + 1) more (parts_behind is_comma (option_copied c.cut.result.1))) c.in_ok-read_piece.ensures
+      at_piece _ c.loop-rest.n c.loop-rest.entries.items c.loop-rest.rest c.in-Some.pieces c.cut.result.0.now c.cut.result.1
+      c.loop-rest.invariant.reads c.in-Some.is c.cut.ensures.parts
+      ∙ ap (λ r. r >>= λ more. sorted_on (c.loop-rest.n + 1) more (parts_behind is_comma (option_copied c.cut.result.1))) c.in_ok-read_piece.ensures;
 }
 
 pub returns : goal.returns

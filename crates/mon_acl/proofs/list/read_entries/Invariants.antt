@@ -9,7 +9,7 @@ abbrev pub invariant-loop-rest : goal.invariant-loop-rest
 invariant-loop-rest l = record {
   counted : l.n + left (option_copied l.rest) ≤ length l.text + 2;
   canonical : IsCanonical l.entries.items;
-  reads : sorted_on 1 [] (pieces l.text) ≡ sorted_on l.n l.entries.items (parts_behind is_comma (option_copied l.rest))
+  reads : sorted_on 1 [] (pieces l.text) ≡ sorted_on l.n l.entries.items (parts_behind is_comma (option_copied l.rest));
 }
 
 abbrev pub decreases-loop-rest : goal.decreases-loop-rest

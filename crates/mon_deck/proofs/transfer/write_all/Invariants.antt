@@ -1,11 +1,11 @@
 -- What is left to write would make all that is to be written; nothing has failed so far.
-use Rattle.std.proofs.Common.{◌≡◌, ◌++◌, ℕ, List, length, Option}
-use Rattle.mon_deck.specs.Devices.{Takes}
+use Rattle.std.proofs.Common.{◌≡◌, length}
+use Rattle.mon_deck.specs.Devices.{holding}
 use Rattle.mon_deck.proofs.transfer.write_all.Given as goal
 
 abbrev pub invariant-loop-rest : goal.invariant-loop-rest
 invariant-loop-rest g l = record {
-  all : (after : Option (List ℕ)) → Takes (g.W.DeckWriter.written l.writer) l.rest after → Takes (g.W.DeckWriter.written l.fn.writer) l.fn.bytes after;
+  all : holding (g.W.DeckWriter.written l.writer) l.rest ≡ holding (g.W.DeckWriter.written l.fn.writer) l.fn.bytes;
   sound : g.W.DeckWriter.has_failed l.writer ≡ g.W.DeckWriter.has_failed l.fn.writer;
 }
 

@@ -1,21 +1,11 @@
-use Rattle.std.proofs.Common.{Some, None, ◌≡◌, ◌∙◌, ap, sym}
-use Rattle.mon_acl.specs.Reading.{lacking}
-use Rattle.mon_acl.proofs.Steps.{refuse, read_whole}
-use Rattle.mon_acl.proofs.Valid.{read_acl}
+use Rattle.mon_acl.proofs.Whole.{gives_text, gives_only, gives_refusal}
 use Rattle.mon_acl.proofs.list.Acl.parse_short.Goals as goal
 
-pub returns-in-Some : goal.returns-in-Some
-returns-in-Some c =
-    refuse c.in-Some.refusal _
-    (read_whole c.args.text.now c.in_ok-entries.entries.items (Some c.in-Some.refusal) c.in_ok-entries.ensures (sym c.in-Some.is ∙ c.lacking.ensures ∙ ap lacking c.as_slice.ensures))
+pub returns-clause-spelled : goal.returns-clause-spelled
+returns-clause-spelled c = gives_text c.args.text.now c.read_list.result c.read_list.ensures
 
-pub returns-in-None : goal.returns-in-None
-returns-in-None c =
-    read_whole c.args.text.now c.in_ok-entries.entries.items None c.in_ok-entries.ensures
-    (sym c.in-None.is ∙ c.lacking.ensures ∙ ap lacking c.as_slice.ensures)
+pub returns-clause-only : goal.returns-clause-only
+returns-clause-only c = gives_only c.args.text.now c.read_list.result c.read_list.ensures
 
-pub invariant_of-result : goal.invariant_of-result
-invariant_of-result c =
-    read_acl c.args.text.now c.in_ok-entries.entries.items
-    (read_whole c.args.text.now c.in_ok-entries.entries.items None c.in_ok-entries.ensures
-        (sym c.in-None.is ∙ c.lacking.ensures ∙ ap lacking c.as_slice.ensures))
+pub returns-clause-refused : goal.returns-clause-refused
+returns-clause-refused c = gives_refusal c.args.text.now c.read_list.result c.read_list.ensures

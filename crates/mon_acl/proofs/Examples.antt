@@ -1,0 +1,44 @@
+-- The definitions on worked cases.
+use Rattle.std.proofs.Common.{◌≡◌, Some, true, false, refl}
+use Rattle.std.specs.Prelude.{codes, Ok}
+use Rattle.mon_acl.specs.declared.entries.Tag.TheVariants.{User, Other}
+use Rattle.mon_acl.specs.declared.refusals.AclError.TheVariants.{BadTag, BadQualifier, BadPerms, Missing, Twice, NoMask}
+use Rattle.mon_acl.specs.Refusals.{entry_of, acl_refusal}
+use Rattle.mon_acl.specs.Reading.{read_short}
+use Rattle.mon_acl.specs.Printing.{entry_head}
+
+any_order : read_short (codes "o::, g::r ,u::wr") ≡ read_short (codes "user::rw-,group::r--,other::---")
+any_order = refl
+
+lisa : entry_of 1 (codes " u : lisa : rw ") ≡ Ok (record { tag = User; name = Some (codes "lisa"); perms = record { read = true; write = true; execute = false } })
+lisa = refl
+
+lisas_head : entry_head (record { tag = User; name = Some (codes "lisa"); perms = record { read = true; write = true; execute = false } }) ≡ codes "user:lisa:"
+lisas_head = refl
+
+short_mask : entry_of 1 (codes "m:w") ≡ entry_of 1 (codes "mask::-w-")
+short_mask = refl
+
+trailing_comma : acl_refusal (codes "o::,g::r,u::wr,") ≡ Some (BadTag 4)
+trailing_comma = refl
+
+empty_text : acl_refusal (codes "") ≡ Some (BadTag 1)
+empty_text = refl
+
+two_fields : acl_refusal (codes "u:1bad,g::r,o::") ≡ Some (BadPerms 1)
+two_fields = refl
+
+mask_qualified : acl_refusal (codes "u::r,mask:rw:") ≡ Some (BadQualifier 2)
+mask_qualified = refl
+
+read_twice : acl_refusal (codes "u::rr") ≡ Some (BadPerms 1)
+read_twice = refl
+
+same_twice : acl_refusal (codes "u::r,u::r,g::r,o::r") ≡ Some (Twice 2)
+same_twice = refl
+
+missing_other : acl_refusal (codes "u::r,g::r,u:lisa:r") ≡ Some (Missing Other)
+missing_other = refl
+
+missing_mask : acl_refusal (codes "u::rw-,u:lisa:rw-,g::r--,o::---") ≡ Some NoMask
+missing_mask = refl
