@@ -1,6 +1,6 @@
 -- What a grant to a member of a group rests on, and what a denial names.
-use Rattle.std.proofs.Common.{◌≡◌, ◌≢◌, ℕ, ◌+◌, ◌<◌, Bool, true, false, ◌||◌, ◌&&◌, ◌⊎◌, inl, inr, List, [], ◌∷◌, length, get_or, Option, None, Some, refl, sym, ap, subst, ◌∙◌, true≢false, arith, nat_lt}
-use Rattle.std.specs.Prelude.{Any, Decides, IsSomeAnd, IfSome, slice_get, count_by, if◌then◌else◌}
+use Rattle.std.proofs.Common.{◌≡◌, ◌≢◌, ℕ, ◌<◌, Bool, true, false, ◌||◌, ◌&&◌, ◌⊎◌, inl, inr, List, length, get_or, Option, None, Some, refl, sym, subst, ◌∙◌, true≢false, arith, nat_lt}
+use Rattle.std.specs.Prelude.{Any, Decides, IsSomeAnd, IfSome, slice_get, if◌then◌else◌}
 use Rattle.std.specs.List.{list_any, position_or_len}
 use Rattle.std.specs.Option.{option_map_or}
 use Rattle.std.proofs.lemmas.Bool.Decides.{nat_tests}
@@ -13,14 +13,13 @@ use Rattle.mon_acl.specs.declared.entries.Entry.{Entry}
 use Rattle.mon_acl.specs.Entries.{has_tag, is_named, IsValidAcl}
 use Rattle.mon_acl.specs.Permissions.{holds}
 use Rattle.mon_access.specs.declared.account.Account.{Account}
-use Rattle.mon_access.specs.declared.access.Decision.TheVariants.{Granted, Denied}
 use Rattle.mon_access.specs.declared.access.Decider.{Decider}
 use Rattle.mon_access.specs.declared.access.Decider.TheVariants.{UserObj as ByUserObj, User as ByUser, Group as ByGroup, Mask as ByMask, Other as ByOther}
 use Rattle.mon_access.specs.Matches.{is_in_group, is_for_user, is_for_group, some_holds}
-use Rattle.mon_access.specs.AccessCheck.{Case, Owner, NamedUser, InGroup, Others, case_of, grants, decider, decision_in, decision}
-use Rattle.mon_access.specs.FourCases.{IsInGroup, IsOf, IsForUser, IsForGroup, Holds, Lacks, SomeHolds, Applies, Grants}
-use Rattle.mon_access.specs.Laws.{HasEntry, with_perms, NeverFallsThrough, MaskLimitsNamedEntriesAndGroups, GroupsAreNotJoined, IsRightDecider, DecidersLackThePart}
-use Rattle.mon_access.proofs.Meanings.{refuted, any_Decides, has_tag-Decides, is_for_user-Decides, is_for_group-Decides, some_holds-Decides}
+use Rattle.mon_access.specs.AccessCheck.{Case, Owner, NamedUser, InGroup, Others, case_of, grants, decider, decision}
+use Rattle.mon_access.specs.FourCases.{IsOf, IsForUser, IsForGroup, Lacks, SomeHolds, Applies, Grants}
+use Rattle.mon_access.specs.Laws.{HasEntry, NeverFallsThrough, MaskLimitsNamedEntriesAndGroups, GroupsAreNotJoined, IsRightDecider, DecidersLackThePart}
+use Rattle.mon_access.proofs.Meanings.{refuted, has_tag-Decides, is_for_user-Decides, is_for_group-Decides, some_holds-Decides}
 use Rattle.mon_access.proofs.Places.{list_any_by_place}
 use Rattle.mon_access.proofs.Counts.{any_from_one, masked_by, unnamed}
 use Rattle.mon_access.proofs.Smaller.{both, both_pass, any_less, any_more}

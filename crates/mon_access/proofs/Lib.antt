@@ -2,6 +2,7 @@ mod Tables
 mod Places
 mod Meanings
 mod Cases
+mod Orders
 mod Smaller
 mod Changes
 mod Counts

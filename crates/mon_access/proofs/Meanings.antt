@@ -1,6 +1,6 @@
 -- The tests on entries say what the relations say.
-use Rattle.std.proofs.Common.{◌≡◌, ℕ, Bool, true, false, cond, ◌||◌, ◌&&◌, ◌⊎◌, inl, inr, List, [], ◌∷◌, Option, None, Some, refl, sym, ap, subst, ◌∙◌, true≢false}
-use Rattle.std.specs.Prelude.{Any, Contains, IsTrue, ◌==◌, bytes_eq, Decides}
+use Rattle.std.proofs.Common.{◌≡◌, ℕ, Bool, true, false, cond, List, Option, None, Some, refl, sym, ap, subst, ◌∙◌, true≢false}
+use Rattle.std.specs.Prelude.{Any, ◌==◌, bytes_eq, Decides}
 use Rattle.std.specs.List.{list_any}
 use Rattle.std.specs.Option.{option_map_or}
 use Rattle.std.specs.Cmp.Lexicographic.{nat_list_eq_equiv}
@@ -17,7 +17,7 @@ use Rattle.mon_acl.specs.Entries.{rank, is_tag, has_tag}
 use Rattle.mon_acl.specs.Permissions.{holds}
 use Rattle.mon_access.specs.declared.account.Account.{Account}
 use Rattle.mon_access.specs.Matches.{is_owner, is_in_group, is_for_user, is_for_group, some_holds}
-use Rattle.mon_access.specs.FourCases.{IsInGroup, IsOf, IsForUser, IsForNamedGroup, IsForGroup, SomeHolds}
+use Rattle.mon_access.specs.FourCases.{IsInGroup, IsOf, IsForUser, IsForGroup, SomeHolds}
 
 -- a test that fails refutes, and what is refuted fails
 pub refuted : {P : Type 0} (r : Bool) → Decides r P → r ≡ false → ¬ P

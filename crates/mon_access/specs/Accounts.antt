@@ -1,5 +1,5 @@
 -- An account table, as the list of its accounts in the order in which they were added (own).
-use Rattle.std.specs.Prelude.{◌≡◌, ℕ, List, Option, find, map, bytes_eq}
+use Rattle.std.specs.Prelude.{ℕ, List, Option, find, map, bytes_eq}
 use Rattle.std.specs.List.{IsDistinct}
 use Rattle.mon_access.specs.declared.account.Account.{Account}
 

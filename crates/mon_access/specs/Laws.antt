@@ -1,5 +1,5 @@
 -- What holds of the access check, for every account, owner, group, list and request.
-use Rattle.std.specs.Prelude.{◌≡◌, ◌≢◌, ℕ, ◌<◌, ◌⊎◌, ◌↔◌, List, map, slice_get, Any, IsTrue, IsSomeAnd, IfSome, if◌then◌else◌}
+use Rattle.std.specs.Prelude.{◌≡◌, ◌≢◌, ℕ, ◌<◌, ◌⊎◌, ◌↔◌, List, map, slice_get, Any, Contains, IsTrue, IsSomeAnd, IfSome, if◌then◌else◌}
 use Rattle.mon_acl.specs.declared.entries.Perms.{Perms}
 use Rattle.mon_acl.specs.declared.entries.Tag.{Tag}
 use Rattle.mon_acl.specs.declared.entries.Tag.TheVariants.{UserObj, Mask, Other}
@@ -7,12 +7,11 @@ use Rattle.mon_acl.specs.declared.entries.Entry.{Entry}
 use Rattle.mon_acl.specs.Permissions.{holds}
 use Rattle.mon_acl.specs.Entries.{has_tag, IsValidAcl}
 use Rattle.mon_access.specs.declared.account.Account.{Account}
-use Rattle.mon_access.specs.declared.access.Decision.{Decision}
 use Rattle.mon_access.specs.declared.access.Decision.TheVariants.{Granted, Denied}
 use Rattle.mon_access.specs.declared.access.Decider.{Decider}
 use Rattle.mon_access.specs.declared.access.Decider.TheVariants.{UserObj as ByUserObj, User as ByUser, Group as ByGroup, Mask as ByMask, Other as ByOther}
-use Rattle.mon_access.specs.AccessCheck.{Case, Owner, NamedUser, InGroup, Others, decision}
-use Rattle.mon_access.specs.FourCases.{IsOf, IsForUser, IsForGroup, Holds, Lacks, SomeHolds, Applies, Grants}
+use Rattle.mon_access.specs.AccessCheck.{Case, InGroup, decision}
+use Rattle.mon_access.specs.FourCases.{IsOf, IsForUser, IsForGroup, Lacks, SomeHolds, Applies, Grants}
 
 -- exactly one of the four cases applies
 abbrev pub ExactlyOneCaseApplies : Type 0
@@ -25,6 +24,16 @@ abbrev pub GrantsByItsCase : Type 0
 GrantsByItsCase = (account : Account) (owner group : List ℕ) (entries : List Entry) (request : Perms) (case : Case)
     → Applies case account owner group entries
     → (decision account owner group entries request ≡ Granted) ↔ Grants case account group entries request
+
+-- two lists of the same entries, in whatever order
+abbrev pub HaveSameEntries : List Entry → List Entry → Type 0
+HaveSameEntries entries others = (e : Entry) → Contains entries e ↔ Contains others e
+
+-- the entries are read as a set: their order grants nothing
+abbrev pub OrderGrantsNothing : Type 0
+OrderGrantsNothing = (account : Account) (owner group : List ℕ) (entries others : List Entry) (request : Perms)
+    → HaveSameEntries entries others
+    → decision account owner group entries request ≡ Granted → decision account owner group others request ≡ Granted
 
 -- what is granted is granted in part too
 abbrev pub GrantsSmallerRequests : Type 0
@@ -79,6 +88,7 @@ IsRightDecider ByMask account group entries request =
     × SomeHolds (λ e. IsForUser account e ⊎ IsForGroup account group e) entries request
 IsRightDecider ByOther account group entries request = Any (λ e. IsOf Other e × Lacks e request) entries
 
+-- every denial of a valid list is by the right decider
 abbrev pub DecidersLackThePart : Type 0
 DecidersLackThePart = (account : Account) (owner group : List ℕ) (entries : List Entry) (request : Perms) (decider : Decider)
     → IsValidAcl entries → decision account owner group entries request ≡ Denied decider

@@ -7,6 +7,7 @@ use Rattle.mon_access.specs.Accounts.{names_of, HaveDifferentNames}
 abbrev pub accounts_of : List (List ℕ × Account) → List Account
 accounts_of entries = map (λ entry. entry.1) entries
 
+-- each account stands under its own name, and no name twice
 pub record IsTable (entries : List (List ℕ × Account)) : Type 0 where
   pub own_names : map (λ entry. entry.0) entries ≡ names_of (accounts_of entries)
   pub different : HaveDifferentNames (accounts_of entries)

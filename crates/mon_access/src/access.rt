@@ -13,12 +13,13 @@ use mon_text::Name;
 /// What the access check answers.
 #[derive(Clone, Copy, Debug, PartialEq, Eq)]
 pub enum Decision {
+    /// The whole request is granted.
     Granted,
-    /// Denied, by the entry that decided.
+    /// The request is denied, by the entry that decided.
     Denied(Decider),
 }
 
-/// The entry of a permission list that decided a denial. A place is one of `Acl::entry`.
+/// The entry of a permission list that decided a denial (own). A place is that of `Acl::entry`, so in canonical order.
 #[derive(Clone, Copy, Debug, PartialEq, Eq)]
 pub enum Decider {
     /// The owner's entry.

@@ -22,11 +22,13 @@ impl Model for Groups {
     ghost view = { λ g. g.names.items };
 }
 
-/// Who may ask for something: a name, a primary group and further groups.
+/// Someone who may ask: a name, and the groups that the name is in.
 #[derive(Debug, Drop)]
 pub struct Account {
     pub name: Name,
+    /// The primary group.
     pub primary: Name,
+    /// The further groups; a table takes at most 16.
     pub groups: Groups,
 }
 

@@ -1,5 +1,5 @@
 //! Laws of the access check. Each is the contract of a function that does nothing.
-ghost use Rattle.mon_access.specs.Laws.{ExactlyOneCaseApplies, GrantsByItsCase, GrantsSmallerRequests, NeverFallsThrough, MaskLimitsNamedEntriesAndGroups, MaskSparesOwnerAndOthers, GroupsAreNotJoined, DecidersLackThePart};
+ghost use Rattle.mon_access.specs.Laws.{ExactlyOneCaseApplies, GrantsByItsCase, OrderGrantsNothing, GrantsSmallerRequests, NeverFallsThrough, MaskLimitsNamedEntriesAndGroups, MaskSparesOwnerAndOthers, GroupsAreNotJoined, DecidersLackThePart};
 
 /// Exactly one of the four cases of acl(5), "ACCESS CHECK ALGORITHM", applies.
 pub fn exactly_one_case_applies()
@@ -9,6 +9,11 @@ pub fn exactly_one_case_applies()
 /// In the case that applies, access is granted exactly where acl(5) grants it.
 pub fn grants_by_its_case()
     ensures { GrantsByItsCase }
+{}
+
+/// The entries are read as a set: two lists of the same entries grant alike, whatever their order.
+pub fn order_grants_nothing()
+    ensures { OrderGrantsNothing }
 {}
 
 /// What is granted is granted in part too.

@@ -1,7 +1,7 @@
 //! Accounts, and the access check of acl(5).
 //!
 //! An account table finds an account by its name; `check` decides what an account may do to a data set, by the data
-//! set's owner, its group and its permission list.
+//! set's owner, its group and its permission list. `laws` says what holds of every such decision.
 #![tactic(auto)]
 
 pub mod access;

@@ -16,7 +16,7 @@ pub const MOST_GROUPS: usize = 16;
 /// The accounts of a deck, no two of one name, in the order in which they were added.
 ///
 /// A contract sees the table as the list of its accounts.
-#[derive(Drop)]
+#[derive(Debug, Drop)]
 pub struct Accounts {
     by_name: IndexMap<Name, Account>,
 }

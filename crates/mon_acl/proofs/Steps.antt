@@ -12,7 +12,8 @@ use Rattle.mon_acl.specs.Reading.{Refuses, Gives, added, piece_added, put_in, ar
 use Rattle.std.specs.List.{slice_split}
 use Rattle.std.specs.Prelude.{option_copied}
 use Rattle.std.proofs.Common.{Bor}
-use Rattle.mon_acl.specs.Texts.{is_comma, parts_behind, pieces}
+use Rattle.mon_acl.specs.Texts.{is_comma, pieces}
+use Rattle.mon_acl.specs.Reading.{parts_behind}
 use Rattle.mon_acl.proofs.Order.{any_arranged, count_arranged, put_sorted}
 
 abbrev pub sorted_on : ℕ → List Entry → List (List ℕ) → Result (List Entry) AclError

@@ -1,4 +1,4 @@
--- Entries of a permission list, which lists are valid, and in which order they stand (acl(5) "ACL TYPES", "VALID ACLs").
+-- Entries of a permission list, which lists are valid, and in which order they stand (acl(5) "ACL ENTRIES", "VALID ACLs").
 use Rattle.std.specs.Prelude.{◌≡◌, ℕ, ◌<◌, ◌≤◌, ◌==◌, Bool, true, false, ◌&&◌, ◌||◌, List, [], ◌∷◌, count_by, All, IsTrue, Option, Some, None, nat_eq}
 use Rattle.std.specs.List.Sorted.{IsStrictlySortedBy}
 use Rattle.std.specs.Cmp.Lexicographic.{pointwise, slice_cmp}
@@ -18,9 +18,11 @@ rank Group = 3
 rank Mask = 4
 rank Other = 5
 
+-- whether two types are the same
 abbrev pub is_tag : Tag → Tag → Bool
 is_tag t u = rank t == rank u
 
+-- whether an entry is of a type
 abbrev pub has_tag : Tag → Entry → Bool
 has_tag t e = is_tag e.tag t
 
@@ -28,6 +30,7 @@ has_tag t e = is_tag e.tag t
 abbrev pub is_named : Entry → Bool
 is_named e = has_tag User e || has_tag Group e
 
+-- the bytes of a name; empty for none
 abbrev pub bytes_of : Option (List ℕ) → List ℕ
 bytes_of (Some name) = name
 bytes_of None = []
@@ -49,6 +52,7 @@ is_qualified Group None = false
 is_qualified _ (Some name) = false
 is_qualified _ None = true
 
+-- an entry that a list may have
 abbrev pub IsEntry : Entry → Type 0
 IsEntry e = IsTrue (is_qualified e.tag e.name)
 
@@ -68,6 +72,7 @@ pub record IsValidAcl (es : List Entry) : Type 0 where
 abbrev pub place : Entry → List ℕ
 place e = rank e.tag ∷ qualifier e
 
+-- which of two entries stands first
 abbrev pub compared : Entry → Entry → Ordering
 compared d e = slice_cmp nat_cmp (place d) (place e)
 

@@ -10,7 +10,7 @@ use Rattle.mon_acl.specs.Texts.{tag_word}
 abbrev pub letter : Bool → ℕ → ℕ
 letter held c = if held then c else 45
 
--- three places
+-- the three places `rwx`
 abbrev pub perms_text : Perms → List ℕ
 perms_text p = letter p.read 114 ∷ letter p.write 119 ∷ letter p.execute 120 ∷ []
 
@@ -18,13 +18,14 @@ perms_text p = letter p.read 114 ∷ letter p.write 119 ∷ letter p.execute 120
 abbrev pub entry_head : Entry → List ℕ
 entry_head e = tag_word e.tag ++ 58 ∷ qualifier e ++ 58 ∷ []
 
+-- an entry, as `user:lisa:rw-`
 abbrev pub entry_text : Entry → List ℕ
 entry_text e = entry_head e ++ perms_text e.perms
 
--- an entry that follows another
+-- an entry behind another, with the comma between them
 abbrev pub next_text : Entry → List ℕ
 next_text e = 44 ∷ entry_text e
 
--- the entries in the order of the list, commas between them
+-- the entries in the order of the list, with commas between them
 abbrev pub short_form : List Entry → List ℕ
 short_form es = join_with_byte 44 (map entry_text es)

@@ -18,6 +18,7 @@ abbrev pub ◌>>=◌ : {A B : Type 0} → Result A AclError → (A → Result B 
 (Ok x) >>= f = f x
 (Err e) >>= f = Err e
 
+-- a word, or the letter that stands for it
 abbrev pub is_either : List ℕ → List ℕ → List ℕ → Bool
 is_either word long short = pointwise nat_eq word long || pointwise nat_eq word short
 
@@ -51,11 +52,13 @@ parts_of tag _ = None
 abbrev pub is_perms : List ℕ → Bool
 is_perms field = list_all is_permission field && nat_le (times 114 field) 1 && nat_le (times 119 field) 1 && nat_le (times 120 field) 1
 
+-- the permissions that a field spells
 abbrev pub perms_of : List ℕ → Option Perms
 perms_of field =
     if is_perms field then Some (record { read = times 114 field == 1; write = times 119 field == 1; execute = times 120 field == 1 })
     else None
 
+-- the entry of the n-th piece's fields: its type is tried first, then their number, the qualifier, the permissions
 abbrev pub entry_of_fields : ℕ → List (List ℕ) → Result Entry AclError
 entry_of_fields n [] = Err (BadTag n)
 entry_of_fields n (word ∷ rest) =
@@ -69,7 +72,7 @@ entry_of_fields n (word ∷ rest) =
 abbrev pub entry_of : ℕ → List ℕ → Result Entry AclError
 entry_of n piece = entry_of_fields n (fields piece)
 
--- the entries so far with one more, the n-th
+-- the entries so far with one more, the n-th; the 101st named entry is one too many (own)
 abbrev pub joined : ℕ → Entry → List Entry → Result (List Entry) AclError
 joined n e es =
     if list_any (is_for e.tag (qualifier e)) es then Err (Twice n)
@@ -81,10 +84,11 @@ abbrev pub entries_on : ℕ → List Entry → List (List ℕ) → Result (List 
 entries_on n es [] = Ok es
 entries_on n es (p ∷ ps) = entry_of n p >>= λ e. joined n e es >>= λ more. entries_on (n + 1) more ps
 
+-- the entries of a text, each tried in order, or the first refusal
 abbrev pub entries_of : List ℕ → Result (List Entry) AclError
 entries_of text = entries_on 1 [] (pieces text)
 
--- what the whole list lacks
+-- what the whole list lacks first
 abbrev pub lacking : List Entry → Option AclError
 lacking es =
     if not (list_any (has_tag UserObj) es) then Some (Missing UserObj)

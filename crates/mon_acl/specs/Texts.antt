@@ -1,5 +1,5 @@
 -- Which text spells which entry, and which short text spells which permission list (acl(5) "ACL TEXT FORMS").
-use Rattle.std.specs.Prelude.{◌≡◌, ℕ, ◌==◌, Bool, ◌||◌, if◌then◌else◌, List, [], ◌∷◌, map, reverse, count_by, ◌⊎◌, IsPermutation, IsTrue, Option, Some, None, codes}
+use Rattle.std.specs.Prelude.{◌≡◌, ℕ, ◌==◌, Bool, ◌||◌, if◌then◌else◌, List, [], ◌∷◌, map, reverse, count_by, ◌⊎◌, IsPermutation, IsTrue, codes}
 use Rattle.std.specs.List.{list_all, slice_split, AllZip}
 use Rattle.mon_acl.specs.declared.entries.Perms.{Perms}
 use Rattle.mon_acl.specs.declared.entries.Tag.{Tag}
@@ -7,38 +7,36 @@ use Rattle.mon_acl.specs.declared.entries.Tag.TheVariants.{UserObj, User, GroupO
 use Rattle.mon_acl.specs.declared.entries.Entry.{Entry}
 use Rattle.mon_acl.specs.Entries.{qualifier, is_tag, IsEntry, IsAcl}
 
--- a space or a tab
+-- a blank: a space or a tab
 abbrev pub is_gap : ℕ → Bool
 is_gap c = c == 32 || c == 9
 
+-- the text from its first character on that is no blank
 abbrev pub without_leading_gaps : List ℕ → List ℕ
 without_leading_gaps [] = []
 without_leading_gaps (c ∷ cs) = if is_gap c then without_leading_gaps cs else c ∷ cs
 
--- the text without the gaps round it
+-- the text without the blanks round it
 abbrev pub trimmed : List ℕ → List ℕ
 trimmed text = reverse (without_leading_gaps (reverse (without_leading_gaps text)))
 
--- the parts of what stands behind a separator, where there is one
-abbrev pub parts_behind : (ℕ → Bool) → Option (List ℕ) → List (List ℕ)
-parts_behind is_separator (Some rest) = slice_split is_separator rest
-parts_behind is_separator None = []
-
+-- `,`
 abbrev pub is_comma : ℕ → Bool
 is_comma c = c == 44
 
+-- `:`
 abbrev pub is_colon : ℕ → Bool
 is_colon c = c == 58
 
--- the texts of the entries of a short text
+-- what stands between commas: the texts of the entries
 abbrev pub pieces : List ℕ → List (List ℕ)
 pieces text = slice_split is_comma text
 
--- the fields of an entry's text
+-- what stands between colons, without the blanks round it: the fields of an entry's text
 abbrev pub fields : List ℕ → List (List ℕ)
 fields piece = map trimmed (slice_split is_colon piece)
 
--- the word of a type, and its letter
+-- the word of a type
 abbrev pub tag_word : Tag → List ℕ
 tag_word UserObj = codes "user"
 tag_word User = codes "user"
@@ -47,6 +45,7 @@ tag_word Group = codes "group"
 tag_word Mask = codes "mask"
 tag_word Other = codes "other"
 
+-- the letter that may stand for the word
 abbrev pub tag_letter : Tag → List ℕ
 tag_letter UserObj = codes "u"
 tag_letter User = codes "u"
@@ -55,6 +54,7 @@ tag_letter Group = codes "g"
 tag_letter Mask = codes "m"
 tag_letter Other = codes "o"
 
+-- the first field of an entry of the type
 abbrev pub SpellsTag : List ℕ → Tag → Type 0
 SpellsTag word t = (word ≡ tag_word t) ⊎ (word ≡ tag_letter t)
 
@@ -62,9 +62,11 @@ SpellsTag word t = (word ≡ tag_word t) ⊎ (word ≡ tag_letter t)
 abbrev pub is_permission : ℕ → Bool
 is_permission c = c == 114 || c == 119 || c == 120 || c == 45
 
+-- how often a letter stands in a field
 abbrev pub times : ℕ → List ℕ → ℕ
 times letter field = count_by (λ c. c == letter) field
 
+-- once where it holds, else never
 abbrev pub once_if : Bool → ℕ
 once_if held = if held then 1 else 0
 
@@ -74,7 +76,7 @@ SpellsPerms field p =
     IsTrue (list_all is_permission field) × (times 114 field ≡ once_if p.read) ×
     (times 119 field ≡ once_if p.write) × (times 120 field ≡ once_if p.execute)
 
--- where an empty qualifier and its colon may be left out
+-- of a mask and of all others the empty qualifier and its colon may be left out
 abbrev pub may_leave_out : Tag → Bool
 may_leave_out t = is_tag t Mask || is_tag t Other
 
@@ -84,9 +86,10 @@ SpellsFields (word ∷ name ∷ perms ∷ []) e = SpellsTag word e.tag × (name 
 SpellsFields (word ∷ perms ∷ []) e = SpellsTag word e.tag × IsTrue (may_leave_out e.tag) × SpellsPerms perms e.perms
 SpellsFields _ e = ⊥
 
+-- a text and the entry that it spells
 abbrev pub SpellsEntry : List ℕ → Entry → Type 0
 SpellsEntry text e = IsEntry e × SpellsFields (fields text) e
 
--- the pieces spell the entries of the list, in any order
+-- a text and the permission list that it spells: its pieces spell the entries, in any order
 abbrev pub IsShortText : List ℕ → List Entry → Type 0
 IsShortText text es = IsAcl es × (written : List Entry) × AllZip SpellsEntry (pieces text) written × IsPermutation written es

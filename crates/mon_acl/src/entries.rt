@@ -8,6 +8,7 @@ ghost use Rattle.mon_acl.specs.Printing.{entry_head, entry_text, letter, perms_t
 use mon_text::Name;
 use std::alloc::AllocError;
 use std::cmp::Ordering;
+use std::fmt;
 
 /// Permissions: to read, to write, to execute.
 #[derive(Clone, Copy, Debug, Default, PartialEq, Eq)]
@@ -17,7 +18,7 @@ pub struct Perms {
     pub execute: bool,
 }
 
-/// The types of entries (acl(5) "ACL TYPES"), in canonical order.
+/// The types of entries (acl(5) "ACL ENTRIES"), in canonical order.
 #[derive(Clone, Copy, Debug, Default, PartialEq, Eq)]
 pub enum Tag {
     /// The owner, `user::`.
@@ -102,6 +103,17 @@ impl Tag {
             Tag::Mask => b"mask",
             Tag::Other => b"other",
         }
+    }
+}
+
+impl fmt::Display for Tag {
+    fn fmt<W: fmt::Write>(&self, f: &mut fmt::Formatter<W>) -> fmt::Result {
+        f.write_str(match self {
+            Tag::UserObj | Tag::User => "user",
+            Tag::GroupObj | Tag::Group => "group",
+            Tag::Mask => "mask",
+            Tag::Other => "other",
+        })
     }
 }
 

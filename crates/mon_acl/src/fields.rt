@@ -1,7 +1,8 @@
-//! Cutting a text at a separator, and skipping the gaps round a field.
+//! Cutting a text at a separator, and skipping the gaps (spaces and tabs) round a field.
 ghost use Rattle.std.specs.Prelude.{◌≡◌, ◌<◌, ◌==◌, ◌∷◌, length, reverse, position, IfSome, option_copied};
 ghost use Rattle.std.specs.List.{slice_split};
-ghost use Rattle.mon_acl.specs.Texts.{is_gap, without_leading_gaps, trimmed, parts_behind};
+ghost use Rattle.mon_acl.specs.Texts.{is_gap, without_leading_gaps, trimmed};
+ghost use Rattle.mon_acl.specs.Reading.{parts_behind};
 
 /// Whether a byte is a space or a tab.
 fn is_gap(byte: u8) -> bool
@@ -45,6 +46,7 @@ pub(crate) fn trimmed(text: &[u8]) -> &[u8]
     without_trailing_gaps(without_leading_gaps(text))
 }
 
+/// Where the first separator stands.
 fn first_place(text: &[u8], separator: u8) -> Option<usize>
     ensures { result ≡ position (λ b. b == separator) text.now }
 {

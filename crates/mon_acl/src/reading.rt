@@ -1,7 +1,8 @@
 //! Reading one entry of the short text form.
 ghost use Rattle.std.specs.Prelude.{◌≡◌, map, option_map, option_copied};
 ghost use Rattle.std.specs.List.{list_all};
-ghost use Rattle.mon_acl.specs.Texts.{is_permission, times, trimmed, is_colon, parts_behind};
+ghost use Rattle.mon_acl.specs.Texts.{is_permission, times, trimmed, is_colon};
+ghost use Rattle.mon_acl.specs.Reading.{parts_behind};
 ghost use Rattle.mon_acl.specs.Refusals.{is_either, type_of, named_type, qualified, parts_of, is_perms, perms_of, entry_of};
 
 use crate::entries::{Entry, Perms, Tag};
@@ -9,6 +10,7 @@ use crate::fields::{cut, trimmed};
 use crate::refusals::AclError;
 use mon_text::{Name, read_name};
 
+/// Whether a word is the long or the short of two.
 fn is_either(word: &[u8], long: &[u8], short: &[u8]) -> bool
     ensures { result ≡ is_either word.now long.now short.now }
 {
@@ -74,6 +76,7 @@ fn parts_of(tag: Tag, fields: Option<&[u8]>) -> Option<(&[u8], &[u8])>
     }
 }
 
+/// How often a letter stands in a field.
 fn times(letter: u8, field: &[u8]) -> usize
     ensures { result ≡ times letter field.now }
 {

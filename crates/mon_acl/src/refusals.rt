@@ -15,7 +15,7 @@ pub enum AclError {
     #[error("A3 BAD PERMS ENTRY {0}")]
     BadPerms(u64),
     /// There is no entry of this type: the owner's, the owning group's, or that of all others.
-    #[error("A4 MISSING {0:?}")]
+    #[error("A4 MISSING {0}::")]
     Missing(Tag),
     /// An entry before has the same type and qualifier.
     #[error("A5 TWICE ENTRY {0}")]

@@ -1,5 +1,5 @@
 //! The short text form on texts whose answers are known, and the calls that allocate on their happy path.
-use crate::{Acl, Perms, Tag};
+use crate::{Acl, AclError, Perms, Tag};
 use std::alloc::{AllocError, Global};
 use std::process::Abort;
 use std::test::Fail;
@@ -132,6 +132,7 @@ const HUNDRED_USERS: &str =
 fn answer(alloc: Global, text: &[u8]) -> Result<Vec<u8>, AllocError> {
     match Acl::parse_short(alloc, text) {
         Ok(acl) => printed(alloc, &acl),
+        Err(AclError::Memory) => Err(AllocError),
         Err(refusal) => Ok(format!(in alloc; "{refusal:?}")?.into_bytes()),
     }
 }

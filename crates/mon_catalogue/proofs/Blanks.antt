@@ -29,10 +29,10 @@ after_blanks [] n sets lines blank = ap (λ (m : ℕ). sets_at m sets 0 lines) (
 after_blanks (line ∷ blanks) n sets lines blank =
     let parts = both (is_blank_line line) (list_all is_blank_line blanks) blank in
     ap (λ (b : Bool). if b then sets_at (n + 1) sets 0 (blanks ++ lines)
-        else (head_at n sets line >>= λ head.
-            acl_at (n + 1) (blanks ++ lines) >>= λ acl.
-            records_at (n + 2) head.count (drop 1 (blanks ++ lines)) >>= λ records.
-            sets_at (n + 1) (sets ++ (head.name, set_of head acl records) ∷ []) (1 + head.count) (blanks ++ lines))) parts.0
+    else (head_at n sets line >>= λ head.
+    acl_at (n + 1) (blanks ++ lines) >>= λ acl.
+    records_at (n + 2) head.count (drop 1 (blanks ++ lines)) >>= λ records.
+    sets_at (n + 1) (sets ++ (head.name, set_of head acl records) ∷ []) (1 + head.count) (blanks ++ lines))) parts.0
     ∙ after_blanks blanks (n + 1) sets lines parts.1
     ∙ ap (λ (m : ℕ). sets_at m sets 0 lines) (omega arith)
 

@@ -2,5 +2,13 @@ pub mod Heads
 pub mod Steps
 pub mod Texts
 pub mod Readings
+pub mod Acls
 pub mod Blanks
 pub mod Names
+pub mod Complete
+pub mod Sound
+pub mod Whole
+pub mod Counts
+pub mod Words
+pub mod Back
+pub mod Examples

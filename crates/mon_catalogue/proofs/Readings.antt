@@ -59,6 +59,7 @@ records_said (suc left) n sets name set (line ∷ lines) =
     joined records =
         ap (λ (m : ℕ). said (SetDue m (sets ++ (name, more (with_record set line) records) ∷ [])) (drop left lines)) (omega arith)
         ∙ ap (λ (all : List (List ℕ)). said (SetDue (n + suc left) (sets ++ (name, record set { records = all }) ∷ [])) (drop left lines)) (append_assoc set.records (line ∷ []) records)
+
     at : (short : Bool) → said (with_due (n + 1) sets name (with_record set line) left) lines ≡ (records_at (n + 1 + 1) left lines >>= rest_of_records (n + 1) sets name (with_record set line) left lines)
         → said (if short then with_due (n + 1) sets name (with_record set line) (suc left - 1) else Refused (BadText (n + 1))) lines
         ≡ ((if short then (records_at (n + 1 + 1) left lines >>= λ records. Ok (line ∷ records)) else Err (BadText (n + 1))) >>= rest_of_records n sets name set (suc left) (line ∷ lines))
@@ -81,7 +82,7 @@ list_said n sets head (line ∷ lines) = at (read_short line)
     at (Err e) = said_refused (BadText (n + 1)) lines
 
 -- the lines of a set are passed over
-skipped : (within n : ℕ) (sets : Sets) (lines : List (List ℕ)) → sets_at n sets within lines ≡ sets_at (n + within) sets 0 (drop within lines)
+pub skipped : (within n : ℕ) (sets : Sets) (lines : List (List ℕ)) → sets_at n sets within lines ≡ sets_at (n + within) sets 0 (drop within lines)
 skipped zero n sets lines = ap (λ (m : ℕ). sets_at m sets 0 lines) (sym (add-zero n))
 skipped (suc within) n sets [] = refl
 skipped (suc within) n sets (line ∷ lines) = skipped within (n + 1) sets lines ∙ ap (λ (m : ℕ). sets_at m sets 0 (drop within lines)) (omega arith)
@@ -109,6 +110,7 @@ set_said bound shorter n sets lines short head = list_said n sets head lines ∙
         ∙ ap (λ (ls : List (List ℕ)). sets_at (n + 1 + head.count + 1) (sets ++ (head.name, set_of head acl records) ∷ []) 0 ls) (drop-drop head.count 1 lines)
         ∙ ap (λ (m : ℕ). sets_at m (sets ++ (head.name, set_of head acl records) ∷ []) 0 (drop (1 + head.count) lines)) (omega arith)
         ∙ sym (skipped (1 + head.count) (n + 1) (sets ++ (head.name, set_of head acl records) ∷ []) lines)
+
     with_acl : (acl : List Entry) → said (with_due (n + 1) sets head.name (empty_set head.owner head.group acl) head.count) (drop 1 lines)
         ≡ (records_at (n + 2) head.count (drop 1 lines) >>= λ records. sets_at (n + 1) (sets ++ (head.name, set_of head acl records) ∷ []) (1 + head.count) lines)
     with_acl acl =
@@ -126,9 +128,11 @@ text_said (suc bound) n sets (line ∷ lines) short = by_blank (is_blank_line li
         → said (after_head (n + 1) sets head refusal) lines ≡ (unless refusal head >>= rest_of_set (n + 1) sets lines)
     by_refusal shorter head None = set_said bound shorter (n + 1) sets lines (omega arith) head
     by_refusal shorter head (Some e) = said_refused e lines
+
     by_head : Shorter bound → (head : Option Head) → said (after_words (n + 1) sets head) lines ≡ (checked_head (n + 1) sets head >>= rest_of_set (n + 1) sets lines)
     by_head shorter None = said_refused (BadText (n + 1)) lines
     by_head shorter (Some head) = by_refusal shorter head (head_refusal (n + 1) sets head)
+
     by_blank : (blank : Bool) → Shorter bound → said (if blank then SetDue (n + 1) sets else after_words (n + 1) sets (head_of (words line))) lines
         ≡ (if blank then sets_at (n + 1 + 1) sets 0 lines else (head_at (n + 1) sets line >>= rest_of_set (n + 1) sets lines))
     by_blank true shorter = shorter (n + 1) sets lines (omega arith)

@@ -6,3 +6,5 @@ pub mod Progress
 pub mod Stages
 pub mod Reading
 pub mod Spelling
+pub mod Stored
+pub mod Laws

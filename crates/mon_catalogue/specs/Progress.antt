@@ -92,9 +92,3 @@ abbrev pub Answers : {A : Type 0} → Result A CatalogueError → Progress → P
 Answers (Ok _) new p = (new ≡ p) × (refusal_of p ≡ None)
 Answers (Err Memory) new p = new ≡ Refused Memory
 Answers (Err e) new p = (new ≡ Refused e) × (p ≡ Refused e)
-
--- a text is answered by what it says, unless memory was short
-abbrev pub Gives : Result Sets CatalogueError → Result Sets CatalogueError → Type 0
-Gives (Ok sets) said = said ≡ Ok sets
-Gives (Err Memory) said = Unit {0}
-Gives (Err e) said = said ≡ Err e

@@ -1,5 +1,5 @@
 -- What a text says, over all of its lines: a catalogue, or the first refusal (own).
-use Rattle.std.specs.Prelude.{ℕ, zero, suc, ◌+◌, List, [], ◌∷◌, ◌++◌, drop, Option, None, Some, Result, Ok, Err, if◌then◌else◌}
+use Rattle.std.specs.Prelude.{◌≡◌, ℕ, zero, suc, ◌+◌, List, [], ◌∷◌, ◌++◌, drop, Option, None, Some, Result, Ok, Err, if◌then◌else◌}
 use Rattle.mon_text.specs.Lines.{is_blank_line, words}
 use Rattle.mon_acl.specs.declared.entries.Entry.{Entry}
 use Rattle.mon_acl.specs.declared.refusals.AclError.{AclError}
@@ -7,7 +7,7 @@ use Rattle.mon_acl.specs.Reading.{read_short}
 use Rattle.mon_catalogue.specs.declared.data_set.DataSet.{DataSet}
 use Rattle.mon_catalogue.specs.declared.head.Head.{Head}
 use Rattle.mon_catalogue.specs.declared.loading.CatalogueError.{CatalogueError}
-use Rattle.mon_catalogue.specs.declared.loading.CatalogueError.TheVariants.{BadText}
+use Rattle.mon_catalogue.specs.declared.loading.CatalogueError.TheVariants.{BadText, Memory}
 use Rattle.mon_catalogue.specs.Records.{is_record}
 use Rattle.mon_catalogue.specs.Sets.{Sets}
 use Rattle.mon_catalogue.specs.Head.{head_of, head_refusal}
@@ -57,9 +57,9 @@ sets_at n sets (suc within) (line ∷ lines) = sets_at (n + 1) sets within lines
 sets_at n sets zero (line ∷ lines) =
     if is_blank_line line then sets_at (n + 1) sets zero lines
     else head_at n sets line >>= λ head.
-        acl_at (n + 1) lines >>= λ acl.
-        records_at (n + 2) head.count (drop 1 lines) >>= λ records.
-        sets_at (n + 1) (sets ++ (head.name, set_of head acl records) ∷ []) (1 + head.count) lines
+    acl_at (n + 1) lines >>= λ acl.
+    records_at (n + 2) head.count (drop 1 lines) >>= λ records.
+    sets_at (n + 1) (sets ++ (head.name, set_of head acl records) ∷ []) (1 + head.count) lines
 
 -- the catalogue that a text says, or its refusal
 abbrev pub catalogue_of : List (List ℕ) → Result Sets CatalogueError
@@ -72,3 +72,12 @@ error_of (Err e) = Some e
 -- the first refusal of a text: its line and its code
 abbrev pub catalogue_refusal : List (List ℕ) → Option CatalogueError
 catalogue_refusal lines = error_of (catalogue_of lines)
+
+-- an answer is what the text says, unless memory was short
+abbrev pub Refuses : CatalogueError → Option CatalogueError → Type 0
+Refuses Memory refusal = Unit {0}
+Refuses e refusal = refusal ≡ Some e
+
+abbrev pub Gives : Result Sets CatalogueError → Result Sets CatalogueError → Type 0
+Gives (Ok sets) said = said ≡ Ok sets
+Gives (Err e) said = Refuses e (error_of said)

@@ -1,10 +1,10 @@
 -- Which text is the text of which catalogue (own). Blank lines may stand before, between and after the sets.
-use Rattle.std.specs.Prelude.{◌≡◌, ℕ, List, [], ◌∷◌, ◌++◌, length, codes, Ok, IsTrue}
+use Rattle.std.specs.Prelude.{◌≡◌, ℕ, List, [], ◌∷◌, ◌++◌, length, codes, IsTrue}
 use Rattle.std.specs.List.{list_all}
 use Rattle.mon_text.specs.Names.{IsName}
 use Rattle.mon_text.specs.Counts.{IsCount, value_of}
 use Rattle.mon_text.specs.Lines.{is_blank_line, words}
-use Rattle.mon_acl.specs.Reading.{read_short}
+use Rattle.mon_acl.specs.Texts.{IsShortText}
 use Rattle.mon_catalogue.specs.declared.data_set.DataSet.{DataSet}
 use Rattle.mon_catalogue.specs.Records.{AreRecords}
 use Rattle.mon_catalogue.specs.Sets.{Sets, IsCatalogue}
@@ -23,10 +23,10 @@ pub record SpellsSet (lines : List (List ℕ)) (named : List ℕ × DataSet) (re
   pub blanks : List (List ℕ)
   pub head : List ℕ
   pub list : List ℕ
-  pub lines_are : lines ≡ blanks ++ head ∷ list ∷ named.1.records ++ rest
+  pub lines_are : lines ≡ blanks ++ (head ∷ list ∷ named.1.records ++ rest)
   pub blanks_are : AreBlank blanks
   pub head_is : SpellsHead head named.0 named.1
-  pub list_is : read_short list ≡ Ok named.1.acl
+  pub list_is : IsShortText list named.1.acl
   pub records_are : AreRecords named.1.records
 
 abbrev pub SpellsSets : List (List ℕ) → Sets → Type 0

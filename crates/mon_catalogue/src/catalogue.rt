@@ -1,9 +1,11 @@
 //! The catalogue: data sets in the order of their creation, found by name.
-ghost use Rattle.std.specs.Prelude.{◌≡◌, ◌==◌, ◌<◌, [], ◌∷◌, ◌++◌, length, slice_get, OnOk, OnErr, None};
+ghost use Rattle.std.specs.Prelude.{◌≡◌, ◌==◌, ◌<◌, [], ◌∷◌, ◌++◌, length, slice_get, Ok, OnOk, OnErr, None};
 ghost use Rattle.std.specs.Option.{option_copied, option_map};
 ghost use Rattle.std.specs.Map.Iter.{deref_pair};
+ghost use Rattle.mon_catalogue.specs.Reading.{catalogue_of};
+ghost use Rattle.mon_catalogue.specs.Stored.{IsStored};
 ghost use Rattle.mon_catalogue.specs.Sets.{find_set, empty_set, create_refusal, refused_as, IsCatalogue};
-ghost use Rattle.mon_catalogue.specs.Text.{catalogue_text};
+ghost use Rattle.mon_catalogue.specs.Text.{catalogue_text, catalogue_lines};
 
 use crate::data_set::{DataSet, Records};
 use crate::text::put_set;
@@ -27,7 +29,9 @@ pub struct Catalogue {
 
 impl Model for Catalogue {
     ghost use Rattle.std.specs.Prelude.{ℕ, List};
-    ghost use Rattle.mon_catalogue.specs.Sets.{Sets, IsCatalogue};
+    ghost use Rattle.mon_catalogue.specs.Reading.{catalogue_of};
+ghost use Rattle.mon_catalogue.specs.Stored.{IsStored};
+ghost use Rattle.mon_catalogue.specs.Sets.{Sets, IsCatalogue};
 
     ghost Value = { Sets };
 
@@ -109,7 +113,7 @@ impl Catalogue {
         if self.sets.contains_key(&name) {
             return Err(CreateError::NameTaken);
         }
-        if self.sets.len() >= MOST_SETS {
+        if self.len() >= MOST_SETS {
             return Err(CreateError::CatalogueFull);
         }
         let records = Records::new(self.allocator());
@@ -133,7 +137,9 @@ impl Catalogue {
     /// Where a growth was refused; `out` may then hold a part of the text.
     #[tactic(auto, using(crate::proofs::Texts::catalogue_text_cons))]
     pub fn put_text(&self, out: &mut Vec<u8>) -> Result<(), AllocError>
-        ensures { OnOk result (out.new.items ≡ out.old.items ++ catalogue_text self.now) }
+        ensures written { OnOk result (out.new.items ≡ out.old.items ++ catalogue_text self.now) }
+        ensures stored { OnOk result (IsStored self.now) }
+        ensures reads_back { OnOk result (catalogue_of (catalogue_lines self.now) ≡ Ok self.now) }
     {
         for (name, set) in &self.sets {
             put_set(name, set, out)?;

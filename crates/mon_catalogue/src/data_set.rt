@@ -69,7 +69,7 @@ impl Records {
         self.lines.is_empty()
     }
 
-    /// The records.
+    /// The records, in order.
     pub fn as_slice(&self) -> &[Line]
         ensures { result.now ≡ self.now }
     {

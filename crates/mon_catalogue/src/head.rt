@@ -33,13 +33,7 @@ fn head_of(words: &[&[u8]]) -> Option<Head>
     }
 }
 
-fn head_of_five(
-    card: &[u8],
-    name: &[u8],
-    owner: &[u8],
-    group: &[u8],
-    count: &[u8],
-) -> Option<Head>
+fn head_of_five(card: &[u8], name: &[u8], owner: &[u8], group: &[u8], count: &[u8]) -> Option<Head>
     ensures { result ≡ head_of_five card.now name.now owner.now group.now count.now }
 {
     if card != b"$SET".as_slice() {

@@ -7,7 +7,10 @@
 pub mod catalogue;
 pub mod data_set;
 pub mod head;
+pub mod laws;
 pub mod loading;
+#[cfg(test)]
+mod tests;
 pub mod text;
 
 pub use catalogue::{Catalogue, CreateError, MOST_SETS};

@@ -1,9 +1,12 @@
 //! Reading a catalogue's text.
-ghost use Rattle.std.specs.Prelude.{◌≡◌, ◌<◌, ◌≤◌, ◌+◌, ◌-◌, ◌^◌, [], length, Err, IfOk, OnOk};
+ghost use Rattle.std.specs.Prelude.{◌≡◌, ℕ, ◌<◌, ◌≤◌, ◌+◌, ◌-◌, ◌^◌, List, [], length, Ok, Err, IfOk, IfErr, OnOk};
 ghost use Rattle.mon_acl.specs.Reading.{read_short};
 ghost use Rattle.mon_catalogue.specs.declared.loading.CatalogueError.{CatalogueError};
 ghost use Rattle.mon_catalogue.specs.Head.{head_refusal};
-ghost use Rattle.mon_catalogue.specs.Progress.{Refused, Answers, Gives, loaded, SetDue, step, finished, is_due, lines_taken, with_due, after_head, after_set_due, after_acl, after_record};
+ghost use Rattle.mon_catalogue.specs.Progress.{Refused, Answers, SetDue, step, finished, is_due, lines_taken, with_due, after_head, after_set_due, after_acl, after_record};
+ghost use Rattle.mon_catalogue.specs.Reading.{catalogue_of, catalogue_refusal, Gives, Refuses};
+ghost use Rattle.mon_catalogue.specs.Sets.{Sets};
+ghost use Rattle.mon_catalogue.specs.Spelling.{IsCatalogueText};
 ghost use Rattle.mon_catalogue.specs.Stages.{Reaches, Arrives, Pushes, IsSound, IsAwaited, progress_of};
 
 use crate::catalogue::{Catalogue, MOST_SETS};
@@ -61,6 +64,9 @@ impl Model for Loading {
 
     ghost Value = { Progress };
 
+    ghost use Rattle.mon_catalogue.specs.Reading.{catalogue_of, catalogue_refusal, Gives, Refuses};
+    ghost use Rattle.mon_catalogue.specs.Sets.{Sets};
+    ghost use Rattle.mon_catalogue.specs.Spelling.{IsCatalogueText};
     ghost use Rattle.mon_catalogue.specs.Stages.{progress_of, IsSound};
 
     ghost view = { λ l. progress_of l.lines_taken l.catalogue l.stage };
@@ -124,7 +130,9 @@ impl Loading {
         } = self;
         match stage {
             Stage::SetDue => Ok(catalogue),
-            Stage::ListDue(_) | Stage::RecordsDue(..) => Err(CatalogueError::BadText(lines_taken + 1)),
+            Stage::ListDue(_) | Stage::RecordsDue(..) => Err(CatalogueError::BadText(
+                lines_taken + 1,
+            )),
             Stage::Refused(error) => Err(error),
         }
     }
@@ -143,7 +151,12 @@ fn advance(
     ensures sound { IsSound catalogue.new stage.new }
 {
     let answer = match stage {
-        Stage::RecordsDue(_, set, left) if *left > 1 => push_record(set, left, lines_taken + 1, line),
+        Stage::RecordsDue(_, set, left) if *left > 1 => push_record(
+            set,
+            left,
+            lines_taken + 1,
+            line,
+        ),
         _ => turn(catalogue, stage, lines_taken, line),
     };
     if let Err(error) = answer {
@@ -208,7 +221,9 @@ fn after(
     match stage {
         Stage::SetDue => after_set_due(catalogue, number, &line),
         Stage::ListDue(head) => after_list(catalogue, number, head, &line),
-        Stage::RecordsDue(name, set, left) => after_record(catalogue, number, name, set, left, line),
+        Stage::RecordsDue(name, set, left) => after_record(
+            catalogue, number, name, set, left, line,
+        ),
         Stage::Refused(error) => Err(error),
     }
 }
@@ -243,7 +258,12 @@ fn after_head(catalogue: &Catalogue, number: u64, head: Head) -> Result<Stage, C
     Ok(Stage::ListDue(head))
 }
 
-fn after_list(catalogue: &mut Catalogue, number: u64, head: Head, line: &Line) -> Result<Stage, CatalogueError>
+fn after_list(
+    catalogue: &mut Catalogue,
+    number: u64,
+    head: Head,
+    line: &Line,
+) -> Result<Stage, CatalogueError>
     requires sound { IsAwaited catalogue.old head.name head.count }
     ensures step { Reaches number catalogue.new result (after_acl number catalogue.old head (read_short line.now)) }
     ensures sound { IfOk result (IsSound catalogue.new) }
@@ -251,7 +271,12 @@ fn after_list(catalogue: &mut Catalogue, number: u64, head: Head, line: &Line) -
     match Acl::parse_short(catalogue.allocator(), line.as_bytes()) {
         Ok(acl) => {
             let records = Records::new(catalogue.allocator());
-            let set = DataSet { owner: head.owner, group: head.group, acl, records };
+            let set = DataSet {
+                owner: head.owner,
+                group: head.group,
+                acl,
+                records,
+            };
             with_due(catalogue, number, head.name, set, head.count)
         }
         Err(AclError::Memory) => Err(CatalogueError::Memory),
@@ -308,7 +333,10 @@ fn with_due(
 /// As `Loading::line` at the first line that is refused, else as `Loading::finish`.
 pub fn read_text(alloc: Global, lines: &[Line]) -> Result<Catalogue, CatalogueError>
     requires { length lines.now < 2 ^ 63 }
-    ensures { Gives result (finished (loaded lines.now)) }
+    ensures spelled { IfOk result (λ catalogue. IsCatalogueText lines.now catalogue) }
+    ensures only { (sets : Sets) → IsCatalogueText lines.now sets → Gives result (Ok sets) }
+    ensures refused { IfErr result (λ e. Refuses e (catalogue_refusal lines.now)) }
+    ensures computed { Gives result (catalogue_of lines.now) }
 {
     let mut loading = Loading::new(alloc);
     for line in lines {

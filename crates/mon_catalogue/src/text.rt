@@ -1,16 +1,22 @@
 //! Writing a catalogue's text.
 ghost use Rattle.std.specs.Prelude.{◌≡◌, [], ◌∷◌, ◌++◌, OnOk};
+ghost use Rattle.mon_text.specs.Names.{IsName};
+ghost use Rattle.mon_catalogue.specs.Records.{AreRecords};
+ghost use Rattle.mon_catalogue.specs.Stored.{IsStoredSet};
 ghost use Rattle.mon_catalogue.specs.Text.{set_line, set_lines, text_of};
 
 use crate::data_set::{DataSet, Records};
 use mon_text::{Line, Name, put_number};
 use std::alloc::AllocError;
 
-/// Appends the lines of a set.
+// Appends the lines of a set.
 pub(crate) fn put_set(name: &Name, set: &DataSet, out: &mut Vec<u8>) -> Result<(), AllocError>
-    ensures { OnOk result (out.new.items ≡ out.old.items ++ text_of (set_lines (name.now, set.now))) }
+    ensures written { OnOk result (out.new.items ≡ out.old.items ++ text_of (set_lines (name.now, set.now))) }
+    ensures stored { OnOk result (IsStoredSet (name.now, set.now)) }
 {
     put_head(name, set, out)?;
+    // Said of every list: it is valid, and so is read back.
+    let _entries = set.acl.len();
     set.acl.put_short(out)?;
     out.push(b'\n')?;
     put_records(&set.records, out)?;
@@ -18,7 +24,9 @@ pub(crate) fn put_set(name: &Name, set: &DataSet, out: &mut Vec<u8>) -> Result<(
 }
 
 fn put_head(name: &Name, set: &DataSet, out: &mut Vec<u8>) -> Result<(), AllocError>
-    ensures { OnOk result (out.new.items ≡ out.old.items ++ (set_line name.now set.now ++ 10 ∷ [])) }
+    ensures written { OnOk result (out.new.items ≡ out.old.items ++ (set_line name.now set.now ++ 10 ∷ [])) }
+    ensures names { OnOk result (IsName name.now × IsName set.now.owner × IsName set.now.group) }
+    ensures records { OnOk result (AreRecords set.now.records) }
 {
     out.extend_from_slice(b"$SET ")?;
     out.extend_from_slice(name.as_bytes())?;

@@ -2,3 +2,4 @@ pub mod Splitting
 pub mod AccountWords
 pub mod AccountLines
 pub mod Holding
+pub mod ShownRecords

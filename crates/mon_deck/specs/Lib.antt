@@ -8,3 +8,4 @@ pub mod Stops
 pub mod Readings
 pub mod Printouts
 pub mod Runs
+pub mod Laws

@@ -5,6 +5,7 @@ pub mod card;
 pub mod code;
 pub mod deck;
 pub mod device;
+pub mod laws;
 mod lines;
 pub mod memory;
 pub mod printing;

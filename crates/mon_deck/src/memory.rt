@@ -1,5 +1,5 @@
 //! A reader and a writer over memory, with a call that fails.
-ghost use Rattle.std.specs.Prelude.{◌≡◌, ◌<◌, Some};
+ghost use Rattle.std.specs.Prelude.{◌≡◌, ◌<◌, [], Some, false, IfOk};
 
 use crate::device::{DeckReader, DeckWriter, Failed};
 use std::alloc::{AllocError, Global};
@@ -7,16 +7,21 @@ use std::alloc::{AllocError, Global};
 /// Reads bytes from memory.
 #[derive(Debug, Drop)]
 pub struct MemReader<'a> {
-    rest: &'a [u8],
+    /// The bytes that are still to come.
+    pub rest: &'a [u8],
     most: usize,
     calls_to_failure: Option<u64>,
-    has_failed: bool,
+    /// Whether a call has failed.
+    pub has_failed: bool,
     ghost gives_some: { 0 < most },
 }
 
 impl<'a> MemReader<'a> {
     /// A reader that gives all these bytes.
-    pub fn new(bytes: &'a [u8]) -> MemReader<'a> {
+    pub fn new(bytes: &'a [u8]) -> MemReader<'a>
+        ensures bytes { result.rest.now ≡ bytes.now }
+        ensures sound { result.has_failed ≡ false }
+    {
         MemReader {
             rest: bytes,
             most: usize::MAX,
@@ -26,7 +31,10 @@ impl<'a> MemReader<'a> {
     }
 
     /// A reader that gives at most so many bytes a call, at least one.
-    pub fn in_pieces(bytes: &'a [u8], most: usize) -> MemReader<'a> {
+    pub fn in_pieces(bytes: &'a [u8], most: usize) -> MemReader<'a>
+        ensures bytes { result.rest.now ≡ bytes.now }
+        ensures sound { result.has_failed ≡ false }
+    {
         MemReader {
             rest: bytes,
             most: most.max(1),
@@ -36,7 +44,10 @@ impl<'a> MemReader<'a> {
     }
 
     /// A reader whose call of this number, counted from 0, fails.
-    pub fn failing_at(bytes: &'a [u8], call: u64) -> MemReader<'a> {
+    pub fn failing_at(bytes: &'a [u8], call: u64) -> MemReader<'a>
+        ensures bytes { result.rest.now ≡ bytes.now }
+        ensures sound { result.has_failed ≡ false }
+    {
         MemReader {
             rest: bytes,
             most: usize::MAX,
@@ -79,11 +90,13 @@ fn is_due(calls_to_failure: &mut Option<u64>) -> bool {
 /// Keeps what is written in memory, up to the room that it was made with.
 #[derive(Debug, Drop)]
 pub struct MemWriter {
-    bytes: Vec<u8>,
+    /// What was written.
+    pub bytes: Vec<u8>,
     room: usize,
     most: usize,
     calls_to_failure: Option<u64>,
-    has_failed: bool,
+    /// Whether a call has failed.
+    pub has_failed: bool,
     ghost takes_some: { 0 < most },
 }
 
@@ -93,7 +106,10 @@ impl MemWriter {
     /// # Errors
     ///
     /// Where that room was refused.
-    pub fn new(alloc: Global, room: usize) -> Result<MemWriter, AllocError> {
+    pub fn new(alloc: Global, room: usize) -> Result<MemWriter, AllocError>
+        ensures empty { IfOk result (λ writer. writer.bytes.items ≡ []) }
+        ensures sound { IfOk result (λ writer. writer.has_failed ≡ false) }
+    {
         Ok(MemWriter {
             bytes: Vec::with_capacity(alloc, room)?,
             room,
@@ -108,7 +124,10 @@ impl MemWriter {
     /// # Errors
     ///
     /// Where that room was refused.
-    pub fn in_pieces(alloc: Global, room: usize, most: usize) -> Result<MemWriter, AllocError> {
+    pub fn in_pieces(alloc: Global, room: usize, most: usize) -> Result<MemWriter, AllocError>
+        ensures empty { IfOk result (λ writer. writer.bytes.items ≡ []) }
+        ensures sound { IfOk result (λ writer. writer.has_failed ≡ false) }
+    {
         Ok(MemWriter {
             bytes: Vec::with_capacity(alloc, room)?,
             room,
@@ -123,7 +142,10 @@ impl MemWriter {
     /// # Errors
     ///
     /// Where that room was refused.
-    pub fn failing_at(alloc: Global, room: usize, call: u64) -> Result<MemWriter, AllocError> {
+    pub fn failing_at(alloc: Global, room: usize, call: u64) -> Result<MemWriter, AllocError>
+        ensures empty { IfOk result (λ writer. writer.bytes.items ≡ []) }
+        ensures sound { IfOk result (λ writer. writer.has_failed ≡ false) }
+    {
         Ok(MemWriter {
             bytes: Vec::with_capacity(alloc, room)?,
             room,

@@ -8,10 +8,12 @@ use std::io::{Read, Write};
 #[derive(Drop)]
 pub struct StdReader<R: Read + Drop> {
     inner: R,
-    has_failed: bool,
+    /// Whether a call has failed.
+    pub has_failed: bool,
 }
 
 impl<R: Read + Drop> StdReader<R> {
+    /// A reader of which no call has failed.
     pub fn new(inner: R) -> StdReader<R>
         ensures { result.has_failed ≡ false }
     {
@@ -42,10 +44,12 @@ impl<R: Read + Drop> DeckReader for StdReader<R> {
 #[derive(Drop)]
 pub struct StdWriter<W: Write + Drop> {
     inner: W,
-    has_failed: bool,
+    /// Whether a call has failed.
+    pub has_failed: bool,
 }
 
 impl<W: Write + Drop> StdWriter<W> {
+    /// A writer of which no call has failed.
     pub fn new(inner: W) -> StdWriter<W>
         ensures { result.has_failed ≡ false }
     {

@@ -3,7 +3,8 @@ use Rattle.std.proofs.lemmas.Result.{err_from_is_err_and}
 use Rattle.mon_acl.specs.Entries.{IsCanonical}
 use Rattle.mon_acl.specs.Refusals.{◌>>=◌}
 use Rattle.mon_acl.specs.Reading.{Refuses, canonical_entries_of}
-use Rattle.mon_acl.specs.Texts.{pieces, is_comma, parts_behind}
+use Rattle.mon_acl.specs.Texts.{pieces, is_comma}
+use Rattle.mon_acl.specs.Reading.{parts_behind}
 use Rattle.mon_acl.proofs.Order.{none_sorted}
 use Rattle.mon_acl.proofs.Steps.{sorted_on, exit, piece_refused, at_piece, at_end, piece_sorted, sorted_as_read}
 use Rattle.mon_acl.proofs.list.read_entries.Goals as goal

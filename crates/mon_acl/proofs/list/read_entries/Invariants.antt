@@ -1,6 +1,7 @@
 use Rattle.std.proofs.Common.{◌≡◌, length, ◌+◌, ◌≤◌, [], option_copied}
 use Rattle.mon_acl.specs.Entries.{IsCanonical}
-use Rattle.mon_acl.specs.Texts.{pieces, is_comma, parts_behind}
+use Rattle.mon_acl.specs.Texts.{pieces, is_comma}
+use Rattle.mon_acl.specs.Reading.{parts_behind}
 use Rattle.mon_acl.proofs.Parts.{left}
 use Rattle.mon_acl.proofs.Steps.{sorted_on}
 use Rattle.mon_acl.proofs.list.read_entries.Given as goal

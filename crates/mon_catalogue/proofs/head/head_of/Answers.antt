@@ -12,5 +12,6 @@ returns-in_default c =
     let same = length-map c.args.words.now (λ (word : Bor (List ℕ)). word.now) in
     let words = map (λ (word : Bor (List ℕ)). word.now) c.args.words.now in
     elim c.in_default.branch [
-        in_default-via-then-words-lt5 w ↦ sym (head_of_others words (λ e. omega (arith, ltb-true, ltb-false)))
-      | in_default-via-else-words-lt5+else-words-lt6 w ↦ sym (head_of_others words (λ e. omega (arith, ltb-true, ltb-false))) ]
+      | in_default-via-then-words-lt5 w ↦ sym (head_of_others words (λ e. omega (arith, ltb-true, ltb-false)))
+      | in_default-via-else-words-lt5+else-words-lt6 w ↦ sym (head_of_others words (λ e. omega (arith, ltb-true, ltb-false)))
+    ]

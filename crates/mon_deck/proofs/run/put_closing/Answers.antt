@@ -5,7 +5,7 @@ use Rattle.mon_deck.proofs.run.put_closing.Goals as goal
 
 pub returns-in_ok-put_text-in-Stopped : goal.returns-in_ok-put_text-in-Stopped
 returns-in_ok-put_text-in-Stopped c =
-    c.in_ok-put_text-in-Stopped.ensures
+    c.in_ok-put_text-in-Stopped.ensures.written
     ∙ ap (λ text. text ++ catalogue_text c.args.catalogue.now) c.in_ok-extend_from_slice-in-Stopped.ensures.items
     ∙ append_assoc c.args.out.now.items (codes "$CATALOGUE\n") (catalogue_text c.args.catalogue.now)
     ∙ ap (λ ending. c.args.out.now.items ++ closing c.args.catalogue.now ending) (sym c.in-Stopped.is)

@@ -1,4 +1,4 @@
-use Rattle.std.proofs.Common.{◌≡◌, ◌∙◌, sym, subst}
+use Rattle.std.proofs.Common.{◌∙◌}
 use Rattle.mon_access.proofs.Tables.{lookup-accounts_of}
 use Rattle.mon_access.proofs.table.Accounts.find.Goals as goal
 
