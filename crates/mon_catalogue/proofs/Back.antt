@@ -21,16 +21,20 @@ head_spelled named (name, owner, group, list, records) =
 
 sets_spelled : (sets : Sets) → AllByRecursion IsStoredSet sets → SpellsSets (catalogue_lines sets) sets
 sets_spelled [] stored = refl
-sets_spelled (named ∷ sets) (is, stored) =
-    (catalogue_lines sets, record {
-        blanks = [];
-        head = set_line named.0 named.1;
-        list = short_form named.1.acl;
-        lines_are = refl;
-        blanks_are = refl;
-        head_is = head_spelled named is;
-        list_is = (reading_spells (short_form named.1.acl) named.1.acl).1 (reads_back named.1.acl is.3);
-        records_are = is.4 }, sets_spelled sets stored)
+sets_spelled (named ∷ sets) (is, stored) = (
+  catalogue_lines sets,
+  record {
+    blanks = [];
+    head = set_line named.0 named.1;
+    list = short_form named.1.acl;
+    lines_are = refl;
+    blanks_are = refl;
+    head_is = head_spelled named is;
+    list_is = (reading_spells (short_form named.1.acl) named.1.acl).1 (reads_back named.1.acl is.3);
+    records_are = is.4;
+  },
+  sets_spelled sets stored,
+)
 
 -- the lines of a catalogue are a text of it
 pub lines_spell : (sets : Sets) → IsStored sets → IsCatalogueText (catalogue_lines sets) sets

@@ -23,11 +23,12 @@ one_digit : (n : ℕ) → n < 10 → AreDigitsOf n ((48 + n) ∷ [])
 one_digit n small = (ap (λ (b : Bool). b && true) (is_digit_of n small), omega arith)
 
 one_more_digit : (n : ℕ) (ds : List ℕ) → 10 ≤ n → AreDigitsOf (n / 10) ds → AreDigitsOf n (ds ++ (48 + n % 10) ∷ [])
-one_more_digit n ds large (digits, value) =
-    (list_all-append is_digit ds ((48 + n % 10) ∷ [])
-        ∙ ap (λ (b : Bool). b && (is_digit (48 + n % 10) && true)) digits
-        ∙ ap (λ (b : Bool). b && true) (is_digit_of (n % 10) (omega arith)),
-     read_on_push 0 ds (48 + n % 10) ∙ omega (arith, value))
+one_more_digit n ds large (digits, value) = (
+  list_all-append is_digit ds ((48 + n % 10) ∷ [])
+      ∙ ap (λ (b : Bool). b && (is_digit (48 + n % 10) && true)) digits
+      ∙ ap (λ (b : Bool). b && true) (is_digit_of (n % 10) (omega arith)),
+  read_on_push 0 ds (48 + n % 10) ∙ omega (arith, value),
+)
 
 pub digits_of_decimal : (n : ℕ) → n < 2 ^ 64 → AreDigitsOf n (decimal n)
 digits_of_decimal n small = decimal_by_steps AreDigitsOf one_digit one_more_digit n small
@@ -35,8 +36,9 @@ digits_of_decimal n small = decimal_by_steps AreDigitsOf one_digit one_more_digi
 pub count_of_decimal : (n : ℕ) → n ≤ 100000 → IsCount (decimal n) × (value_of (decimal n) ≡ n)
 count_of_decimal n small =
     let fits : n < 2 ^ 64 = omega arith in
-    let d = digits_of_decimal n fits in
-    (ap (λ (b : Bool). b && nat_le 1 (length (decimal n)) && nat_le (length (decimal n)) 19) d.0
-        ∙ ap (λ (b : Bool). b && nat_le (length (decimal n)) 19) (le-leb 1 (length (decimal n)) (decimal_nonempty n fits))
-        ∙ le-leb (length (decimal n)) 19 (length-decimal-le 19 n (omega arith) (omega arith) fits),
-     d.1)
+    let d = digits_of_decimal n fits in (
+      ap (λ (b : Bool). b && nat_le 1 (length (decimal n)) && nat_le (length (decimal n)) 19) d.0
+          ∙ ap (λ (b : Bool). b && nat_le (length (decimal n)) 19) (le-leb 1 (length (decimal n)) (decimal_nonempty n fits))
+          ∙ le-leb (length (decimal n)) 19 (length-decimal-le 19 n (omega arith) (omega arith) fits),
+      d.1,
+    )

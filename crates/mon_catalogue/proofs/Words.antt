@@ -80,13 +80,13 @@ five_words : (card name owner group count : List ℕ) → HasNoBlank card → Ha
     → words (card ++ 32 ∷ (name ++ 32 ∷ (owner ++ 32 ∷ (group ++ 32 ∷ count)))) ≡ card ∷ name ∷ owner ∷ group ∷ count ∷ []
 five_words card name owner group count a b c d e f g h i j =
     ap (filter is_nonempty)
-        (cut card (name ++ 32 ∷ (owner ++ 32 ∷ (group ++ 32 ∷ count))) a
-        ∙ ap (λ (ws : List (List ℕ)). card ∷ ws)
-            (cut name (owner ++ 32 ∷ (group ++ 32 ∷ count)) b
-            ∙ ap (λ (ws : List (List ℕ)). name ∷ ws)
-                (cut owner (group ++ 32 ∷ count) c
-                ∙ ap (λ (ws : List (List ℕ)). owner ∷ ws)
-                    (cut group count d ∙ ap (λ (ws : List (List ℕ)). group ∷ ws) (cut_last count e)))))
+    (cut card (name ++ 32 ∷ (owner ++ 32 ∷ (group ++ 32 ∷ count))) a
+    ∙ ap (λ (ws : List (List ℕ)). card ∷ ws)
+    (cut name (owner ++ 32 ∷ (group ++ 32 ∷ count)) b
+    ∙ ap (λ (ws : List (List ℕ)). name ∷ ws)
+    (cut owner (group ++ 32 ∷ count) c
+    ∙ ap (λ (ws : List (List ℕ)). owner ∷ ws)
+    (cut group count d ∙ ap (λ (ws : List (List ℕ)). group ∷ ws) (cut_last count e)))))
     ∙ kept card (name ∷ owner ∷ group ∷ count ∷ []) f
     ∙ ap (λ (ws : List (List ℕ)). card ∷ ws) (kept name (owner ∷ group ∷ count ∷ []) g)
     ∙ ap (λ (ws : List (List ℕ)). card ∷ name ∷ ws) (kept owner (group ∷ count ∷ []) h)
@@ -104,7 +104,7 @@ words_of_line name set is_name is_owner is_group few =
     let digits = digits_of_decimal (length set.records) (omega arith) in
     ap words (regrouped name set.owner set.group (decimal (length set.records)))
     ∙ five_words (codes "$SET") name set.owner set.group (decimal (length set.records))
-        refl (name_has_no_blank name is_name) (name_has_no_blank set.owner is_owner) (name_has_no_blank set.group is_group)
-        (all_pass is_digit refl (decimal (length set.records)) digits.0)
-        refl (name_is_nonempty name is_name) (name_is_nonempty set.owner is_owner) (name_is_nonempty set.group is_group)
-        (count_is_nonempty (length set.records) few)
+    refl (name_has_no_blank name is_name) (name_has_no_blank set.owner is_owner) (name_has_no_blank set.group is_group)
+    (all_pass is_digit refl (decimal (length set.records)) digits.0)
+    refl (name_is_nonempty name is_name) (name_is_nonempty set.owner is_owner) (name_is_nonempty set.group is_group)
+    (count_is_nonempty (length set.records) few)

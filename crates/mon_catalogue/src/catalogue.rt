@@ -29,9 +29,7 @@ pub struct Catalogue {
 
 impl Model for Catalogue {
     ghost use Rattle.std.specs.Prelude.{ℕ, List};
-    ghost use Rattle.mon_catalogue.specs.Reading.{catalogue_of};
-ghost use Rattle.mon_catalogue.specs.Stored.{IsStored};
-ghost use Rattle.mon_catalogue.specs.Sets.{Sets, IsCatalogue};
+    ghost use Rattle.mon_catalogue.specs.Sets.{Sets, IsCatalogue};
 
     ghost Value = { Sets };
 

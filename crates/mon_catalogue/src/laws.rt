@@ -24,11 +24,9 @@ pub fn one_more_line()
 /// What is written of a catalogue is read back as the same catalogue.
 pub fn reads_back()
     ensures { ReadsBack }
-{
-}
+{}
 
 /// Whatever text a catalogue was read from, what is written of it is read as that catalogue.
 pub fn writing_is_stable()
     ensures { WritingIsStable }
-{
-}
+{}

@@ -3,3 +3,4 @@ pub mod AccountWords
 pub mod AccountLines
 pub mod Holding
 pub mod ShownRecords
+mod Examples

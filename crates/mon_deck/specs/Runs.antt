@@ -1,6 +1,9 @@
 -- What a run answers for these bytes (own).
-use Rattle.std.specs.Prelude.{ℕ, List, length}
+use Rattle.std.specs.Prelude.{◌≡◌, ℕ, List, Ok, length}
 use Rattle.std.specs.Str.Lines.{lines}
+use Rattle.mon_catalogue.specs.Sets.{Sets}
+use Rattle.mon_catalogue.specs.Text.{catalogue_lines}
+use Rattle.mon_catalogue.specs.Reading.{catalogue_of}
 use Rattle.mon_deck.specs.declared.deck.Deck.{Deck}
 use Rattle.mon_deck.specs.declared.deck.Ending.{Ending}
 use Rattle.mon_deck.specs.declared.run.Counts.{Counts}
@@ -9,6 +12,14 @@ use Rattle.mon_deck.specs.Sections.{deck_of}
 -- how the deck of these bytes ends
 abbrev pub ending_of : List ℕ → Ending
 ending_of bytes = let deck = deck_of (lines bytes) in deck.ending
+
+-- the catalogue of the deck of these bytes
+abbrev pub catalogue_in : List ℕ → Sets
+catalogue_in bytes = let deck = deck_of (lines bytes) in deck.catalogue
+
+-- what is written of these data sets is read as these data sets
+abbrev pub ReadsBack : Sets → Type 0
+ReadsBack sets = catalogue_of (catalogue_lines sets) ≡ Ok sets
 
 -- there are no job cards yet, and each card is a command
 abbrev pub counts_of_deck : Deck → Counts

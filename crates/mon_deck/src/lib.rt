@@ -23,3 +23,6 @@ pub use memory::{MemReader, MemWriter};
 pub use reading::read_deck;
 pub use run::{Counts, Options, Slots, exit_status, put_fault, run_deck};
 pub use streams::{StdReader, StdWriter};
+
+#[cfg(test)]
+mod tests;

@@ -1,5 +1,5 @@
 //! A reader and a writer over memory, with a call that fails.
-ghost use Rattle.std.specs.Prelude.{◌≡◌, ◌<◌, [], Some, false, IfOk};
+ghost use Rattle.std.specs.Prelude.{◌≡◌, ◌<◌, ◌≤◌, [], Some, false, length, IfOk};
 
 use crate::device::{DeckReader, DeckWriter, Failed};
 use std::alloc::{AllocError, Global};
@@ -43,14 +43,15 @@ impl<'a> MemReader<'a> {
         }
     }
 
-    /// A reader whose call of this number, counted from 0, fails.
-    pub fn failing_at(bytes: &'a [u8], call: u64) -> MemReader<'a>
+    /// A reader that gives at most so many bytes a call, at least one, and fails from the call of this number on,
+    /// counted from 0.
+    pub fn failing_at(bytes: &'a [u8], most: usize, call: u64) -> MemReader<'a>
         ensures bytes { result.rest.now ≡ bytes.now }
         ensures sound { result.has_failed ≡ false }
     {
         MemReader {
             rest: bytes,
-            most: usize::MAX,
+            most: most.max(1),
             calls_to_failure: Some(call),
             has_failed: false,
         }
@@ -98,6 +99,7 @@ pub struct MemWriter {
     /// Whether a call has failed.
     pub has_failed: bool,
     ghost takes_some: { 0 < most },
+    ghost within_room: { length bytes.items ≤ room },
 }
 
 impl MemWriter {
@@ -137,19 +139,25 @@ impl MemWriter {
         })
     }
 
-    /// A writer whose call of this number, counted from 0, fails.
+    /// A writer that takes at most so many bytes a call, at least one, and fails from the call of this number on,
+    /// counted from 0.
     ///
     /// # Errors
     ///
     /// Where that room was refused.
-    pub fn failing_at(alloc: Global, room: usize, call: u64) -> Result<MemWriter, AllocError>
+    pub fn failing_at(
+        alloc: Global,
+        room: usize,
+        most: usize,
+        call: u64,
+    ) -> Result<MemWriter, AllocError>
         ensures empty { IfOk result (λ writer. writer.bytes.items ≡ []) }
         ensures sound { IfOk result (λ writer. writer.has_failed ≡ false) }
     {
         Ok(MemWriter {
             bytes: Vec::with_capacity(alloc, room)?,
             room,
-            most: usize::MAX,
+            most: most.max(1),
             calls_to_failure: Some(call),
             has_failed: false,
         })
@@ -169,7 +177,7 @@ impl DeckWriter for MemWriter {
     ghost has_failed = { λ s. s.has_failed };
 
     fn write(&mut self, piece: &[u8]) -> Result<usize, Failed> {
-        let space = self.room.saturating_sub(self.bytes.len());
+        let space = self.room - self.bytes.len();
         if is_due(&mut self.calls_to_failure) || space == 0 {
             self.has_failed = true;
             return Err(Failed);

@@ -7,7 +7,7 @@ ghost use Rattle.mon_deck.specs.declared.transfer.TheConstants.{MOST_READS};
 ghost use Rattle.mon_deck.specs.Devices.{IsAtEnd, HasAtLeast, holding};
 ghost use Rattle.mon_deck.specs.Sections.{deck_of};
 ghost use Rattle.mon_deck.specs.Printouts.{output_of, output_of_deck, closing};
-ghost use Rattle.mon_deck.specs.Runs.{ending_of, counts_of};
+ghost use Rattle.mon_deck.specs.Runs.{ending_of, catalogue_in, counts_of, ReadsBack};
 ghost use Rattle.mon_deck.specs.Faults.{status_of, fault_line};
 
 use crate::code::RunError;
@@ -91,6 +91,7 @@ pub fn run_deck<R: DeckReader, W: DeckWriter>(
     ensures stopped { OnOk result (IfSome (R.remaining reader.old) (λ bytes. ending_of bytes ≡ Stopped)) }
     ensures output { OnOk result (IfSome (R.remaining reader.old) (λ bytes.
         W.written writer.new ≡ holding (W.written writer.old) (output_of bytes))) }
+    ensures reads_back { OnOk result (IfSome (R.remaining reader.old) (λ bytes. ReadsBack (catalogue_in bytes))) }
     ensures counts { IfOk result (λ counts. IfSome (R.remaining reader.old) (λ bytes. counts ≡ counts_of bytes)) }
 
     // A refused deck is refused at its first refusal, and what came before that was written.
@@ -130,6 +131,7 @@ fn input_of<R: DeckReader>(alloc: Global, reader: &mut R) -> Result<Deck, InputE
 // Writes the output of a deck.
 fn put_output<W: DeckWriter>(alloc: Global, deck: &Deck, writer: &mut W) -> Result<(), OutputError>
     ensures written { OnOk result (W.written writer.new ≡ holding (W.written writer.old) (output_of_deck deck.now)) }
+    ensures reads_back { OnOk result (deck.now.ending ≡ Stopped → ReadsBack deck.now.catalogue) }
     ensures fault { result ≡ Err OutputError.Fault → W.has_failed writer.new ≡ true }
 {
     let mut out = Vec::new(alloc);
@@ -156,7 +158,8 @@ fn flush<W: DeckWriter>(writer: &mut W, out: &mut Vec<u8>) -> Result<(), Failed>
 
 // A deck that was not refused gives its catalogue back.
 fn put_closing(catalogue: &Catalogue, ending: Ending, out: &mut Vec<u8>) -> Result<(), AllocError>
-    ensures { OnOk result (out.new.items ≡ out.old.items ++ closing catalogue.now ending) }
+    ensures written { OnOk result (out.new.items ≡ out.old.items ++ closing catalogue.now ending) }
+    ensures reads_back { OnOk result (ending ≡ Stopped → ReadsBack catalogue.now) }
 {
     match ending {
         Ending::Refused(..) => Ok(()),

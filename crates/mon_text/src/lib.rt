@@ -10,3 +10,6 @@ pub mod name;
 pub use count::{BadNumber, put_number, read_count};
 pub use line::{Line, LineError, read_line, split_words};
 pub use name::{BadName, Name, read_name};
+
+#[cfg(test)]
+mod tests;

@@ -16,6 +16,6 @@ pub returns-clause-written : goal.returns-clause-written
 returns-clause-written g c =
     let deck = c.args.deck.now in
     let past : length deck.listings ≤ c.loop-card.card-index = omega (arith, c.loop-card-test.false, ap length c.as_slice-card-items.ensures) in
-    written_out _ _ _ _ _ _ _ _ c.loop-card.invariant c.in_ok-put_closing.ensures
+    written_out _ _ _ _ _ _ _ _ c.loop-card.invariant c.in_ok-put_closing.ensures.written
     (c.in_ok-write_all.ensures.all ∙ ap (holding (g.W.DeckWriter.written c.loop-card.writer)) c.deref.ensures.value)
     (ap (λ ys. ys ++ closing deck.catalogue deck.ending) (pieces_all (printout deck.accounts deck.catalogue) deck.listings c.loop-card.card-index past))

@@ -1,0 +1,93 @@
+-- The definitions at worked cases.
+use Rattle.std.specs.Prelude.{◌≡◌, ℕ, true, false, List, [], ◌∷◌, Some, None, codes, refl}
+use Rattle.std.specs.Fmt.{digits}
+use Rattle.mon_acl.specs.declared.entries.Entry.{Entry}
+use Rattle.mon_acl.specs.declared.entries.Tag.TheVariants.{UserObj, GroupObj, Other}
+use Rattle.mon_access.specs.declared.account.Account.{Account}
+use Rattle.mon_access.specs.AccessCheck.{decision}
+use Rattle.mon_catalogue.specs.Sets.{Sets}
+use Rattle.mon_deck.specs.declared.card.Card.TheVariants as card
+use Rattle.mon_deck.specs.declared.card.Listing.{Listing}
+use Rattle.mon_deck.specs.declared.code.Code.TheVariants.{BadName, BadCharacter, AccountTwice, UnknownCard, BadCard, OutOfPlace, Truncated}
+use Rattle.mon_deck.specs.declared.deck.Ending.TheVariants.{Stopped, Refused}
+use Rattle.mon_deck.specs.Cards.{card_of}
+use Rattle.mon_deck.specs.Sections.{line_refusal, lone_card_refusal, account_refusal, listing_refusal}
+use Rattle.mon_deck.specs.Printouts.{printout}
+use Rattle.mon_deck.specs.Runs.{ending_of}
+
+stop_card : card_of (codes "$STOP") ≡ Some card.Stop
+stop_card = refl
+
+no_small_letters : card_of (codes "$stop") ≡ None
+no_small_letters = refl
+
+no_tab_in_a_line : line_refusal 200 (codes "anna\tadmin") ≡ Some BadCharacter
+no_tab_in_a_line = refl
+
+another_card_is_out_of_place : lone_card_refusal card.Stream (codes "$STOP" ∷ codes "now" ∷ []) ≡ Some OutOfPlace
+another_card_is_out_of_place = refl
+
+no_card : lone_card_refusal card.Stream (codes "$FOO" ∷ []) ≡ Some UnknownCard
+no_card = refl
+
+a_word_too_many : lone_card_refusal card.Stop (codes "$STOP" ∷ codes "now" ∷ []) ≡ Some BadCard
+a_word_too_many = refl
+
+abbrev anna : Account
+anna = record { name = codes "anna"; primary = codes "admin"; groups = [] }
+
+too_few_words_before_a_bad_name : account_refusal [] (codes "2anna" ∷ []) ≡ Some BadCard
+too_few_words_before_a_bad_name = refl
+
+a_bad_name_before_an_account_twice : account_refusal (anna ∷ []) (codes "anna" ∷ codes "9g" ∷ []) ≡ Some BadName
+a_bad_name_before_an_account_twice = refl
+
+an_account_twice : account_refusal (anna ∷ []) (codes "anna" ∷ codes "ops" ∷ []) ≡ Some AccountTwice
+an_account_twice = refl
+
+a_card_of_two_words : listing_refusal (codes "$LIST" ∷ codes "lisa" ∷ []) ≡ Some BadCard
+a_card_of_two_words = refl
+
+the_empty_deck : ending_of [] ≡ Refused 1 Truncated
+the_empty_deck = refl
+
+the_least_deck : ending_of (codes "$ACCOUNTS\n$CATALOGUE\n\r\n$STREAM\n$STOP") ≡ Stopped
+the_least_deck = refl
+
+a_deck_without_stop : ending_of (codes "$ACCOUNTS\n$CATALOGUE\n$STREAM\n") ≡ Refused 4 Truncated
+a_deck_without_stop = refl
+
+a_card_out_of_place : ending_of (codes "$ACCOUNTS\n$STREAM\n") ≡ Refused 2 OutOfPlace
+a_card_out_of_place = refl
+
+-- user::rwx,group::---,other::---
+abbrev owner_alone : List Entry
+owner_alone =
+    record { tag = UserObj; name = None; perms = record { read = true; write = true; execute = true } }
+    ∷ record { tag = GroupObj; name = None; perms = record { read = false; write = false; execute = false } }
+    ∷ record { tag = Other; name = None; perms = record { read = false; write = false; execute = false } } ∷ []
+
+-- anna's data set of one record
+abbrev one_set : Sets
+one_set = (codes "X", record { owner = codes "anna"; group = codes "admin"; acl = owner_alone; records = codes "one" ∷ [] }) ∷ []
+
+abbrev hugo : Account
+hugo = record { name = codes "hugo"; primary = codes "ops"; groups = [] }
+
+-- what a card prints, of an account and a name
+abbrev printed : List ℕ → List ℕ → List ℕ
+printed account name = printout (anna ∷ hugo ∷ []) one_set (record { account = account; name = name })
+
+the_owner_sees_the_record : printed (codes "anna") (codes "X") ≡ codes "LIST anna X\n one\nRECORDS 1\n"
+unfolding decision digits
+the_owner_sees_the_record = refl
+
+others_are_denied : printed (codes "hugo") (codes "X") ≡ codes "LIST hugo X\nDENIED BY other::\n"
+unfolding decision
+others_are_denied = refl
+
+a_missing_set : printed (codes "anna") (codes "GONE") ≡ codes "LIST anna GONE\nDENIED NO DATA SET\n"
+a_missing_set = refl
+
+an_unknown_account : printed (codes "lisa") (codes "X") ≡ codes "LIST lisa X\nREFUSED M2 NO ACCOUNT\n"
+an_unknown_account = refl
