@@ -341,17 +341,41 @@ fn accounts_are_refused(rt: HostRuntime) -> Result<(), Fail> {
 /// Under `rt try --test --fail-alloc N` the Nth growth is refused: that is told, and nothing else differs.
 #[test]
 fn a_refused_growth_changes_nothing(rt: HostRuntime) -> Result<(), Fail> {
-    let names: [&[u8]; 5] = [b"anna", b"hugo", b"lisa", b"tim", b"zoe"];
+    let names: [&[u8]; 9] = [
+        b"anna", b"hugo", b"lisa", b"tim", b"zoe", b"ada", b"sue", b"otto", b"eva",
+    ];
     let mut accounts = Accounts::new(rt.alloc());
-    for name in &names {
+    for (count, name) in names.iter().enumerate() {
         if let Err(refusal) = accounts.add(account(rt.alloc(), name, b"staff", &[])?) {
             assert_eq!(rt; refusal, AccountError::Memory);
-            assert!(rt; accounts.find(&read_name(name)?).is_none());
+            for (place, other) in names.iter().enumerate() {
+                let is_there = accounts.find(&read_name(other)?).is_some();
+                assert_eq!(rt; is_there, place < count);
+            }
             accounts.add(account(rt.alloc(), name, b"staff", &[])?)?;
         }
     }
     for name in &names {
         assert!(rt; accounts.find(&read_name(name)?).is_some());
+    }
+    Ok(())
+}
+
+/// The same, of the groups of an account.
+#[test]
+fn a_refused_growth_adds_no_group(rt: HostRuntime) -> Result<(), Fail> {
+    let names: [&[u8]; 9] = [
+        b"ops", b"staff", b"admin", b"guests", b"a", b"b", b"c", b"d", b"e",
+    ];
+    let mut groups = Groups::new(rt.alloc());
+    for (count, name) in names.iter().enumerate() {
+        if groups.push(read_name(name)?).is_err() {
+            assert_eq!(rt; groups.len(), count);
+            assert!(rt; !groups.contains(&read_name(name)?));
+            groups.push(read_name(name)?)?;
+        }
+        assert_eq!(rt; groups.len(), count + 1);
+        assert!(rt; groups.contains(&read_name(name)?));
     }
     Ok(())
 }
