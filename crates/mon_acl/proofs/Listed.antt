@@ -13,9 +13,9 @@ use Rattle.mon_acl.specs.declared.entries.Entry.{Entry}
 use Rattle.mon_acl.specs.declared.refusals.AclError.{AclError}
 use Rattle.mon_acl.specs.declared.refusals.AclError.TheVariants.{Twice, TooMany, Missing, NoMask}
 use Rattle.mon_acl.specs.Entries.{has_tag, is_named, is_for, IsValidAcl, IsCanonical, IsAcl, compared}
-use Rattle.mon_acl.specs.Texts.{pieces, SpellsEntry, IsShortText}
+use Rattle.mon_acl.specs.Texts.{SpellsEntry, SpellList}
 use Rattle.mon_acl.specs.Refusals.{◌>>=◌, joined, lacking, entry_of, entries_on}
-use Rattle.mon_acl.specs.Reading.{whole, arranged, read_short}
+use Rattle.mon_acl.specs.Reading.{whole, arranged, read_pieces}
 use Rattle.mon_acl.proofs.Order.{order, count_moved, arranged_moves}
 use Rattle.mon_acl.proofs.Spelled.{bind_ok, read_spells, spelled_read}
 use Rattle.mon_acl.proofs.Valid.{count_some, IsApart, apart_rest, apart_moved, arranged_sorted, counted, count_less, some_of_count, joined_ok, readable, read_acl, valid_moved}
@@ -40,11 +40,11 @@ append_none : (xs : List Entry) → xs ++ [] ≡ xs
 append_none [] = refl
 append_none (x ∷ xs) = ap (λ (ys : List Entry). x ∷ ys) (append_none xs)
 
-pub read_is_text : (text : List ℕ) (es : List Entry) → read_short text ≡ Ok es → IsShortText text es
-read_is_text text es h =
-    let r = readable text es h in
-    let w = read_spelled 1 [] (pieces text) r.all r.read in (
-      read_acl text es h,
+pub read_is_list : (texts : List (List ℕ)) (es : List Entry) → read_pieces texts ≡ Ok es → SpellList texts es
+read_is_list texts es h =
+    let r = readable texts es h in
+    let w = read_spelled 1 [] texts r.all r.read in (
+      read_acl texts es h,
       w.0,
       w.1,
       IsPermutation-trans w.0 r.all es (subst (λ (xs : List Entry). IsPermutation xs r.all) (append_none w.0) w.2)
@@ -179,14 +179,14 @@ in_moved xs ys m z h =
 pub one_order : (xs ys : List Entry) → IsCanonical xs → IsCanonical ys → IsPermutation xs ys → xs ≡ ys
 one_order xs ys s t m = same_order xs ys s t (in_moved ys xs (IsPermutation-sym xs ys m)) (in_moved xs ys m)
 
-pub text_is_read : (text : List ℕ) (es : List Entry) → IsShortText text es → read_short text ≡ Ok es
-text_is_read text es h =
+pub list_is_read : (texts : List (List ℕ)) (es : List Entry) → SpellList texts es → read_pieces texts ≡ Ok es
+list_is_read texts es h =
     let written = h.1 in
     let back : IsPermutation es written = IsPermutation-sym written es h.3 in
     let valid = valid_moved es written back h.0.valid in
     let apart : IsApart (written ++ []) = subst IsApart (sym (append_none written)) (valid_apart written valid) in
     let few : count_by is_named (written ++ []) ≤ 100 = subst (λ (xs : List Entry). count_by is_named xs ≤ 100) (sym (append_none written)) valid.few in
-    let r = spelled_entries 1 [] (pieces text) written h.2 apart few in
+    let r = spelled_entries 1 [] texts written h.2 apart few in
     let moved : IsPermutation written r.0 = subst (λ (xs : List Entry). IsPermutation xs r.0) (append_none written) r.2 in
     let valid_all = valid_moved written r.0 moved valid in
     let same : arranged r.0 ≡ es =
@@ -197,9 +197,9 @@ text_is_read text es h =
     ∙ ap (λ (o : Option AclError). whole o (arranged r.0)) (valid_lacks r.0 valid_all)
     ∙ ap (λ (xs : List Entry). Ok xs) same
 
--- a text spells one list at the most
-pub one_list : (text : List ℕ) (es fs : List Entry) → IsShortText text es → IsShortText text fs → es ≡ fs
-one_list text es fs h k = let e : Ok es ≡ Ok fs = sym (text_is_read text es h) ∙ text_is_read text fs k in cc
+-- texts spell one list at the most
+pub one_list : (texts : List (List ℕ)) (es fs : List Entry) → SpellList texts es → SpellList texts fs → es ≡ fs
+one_list texts es fs h k = let e : Ok es ≡ Ok fs = sym (list_is_read texts es h) ∙ list_is_read texts fs k in cc
 
 -- each valid list has a canonical order
 pub canonical_order : (es : List Entry) → IsValidAcl es → (cs : List Entry) × IsPermutation es cs × IsAcl cs

@@ -1,7 +1,7 @@
 -- Cutting a text at its first separator.
 use Rattle.std.proofs.Common.{◌≡◌, ◌∙◌, ap, sym, subst, ℕ, ◌+◌, ◌-◌, ◌<◌, ◌≤◌, Bool, true, false, cond, List, [], ◌∷◌, length, take, drop, Option, Some, None, arith, length-drop, refl, map, option_copied, Bor}
 use Rattle.mon_acl.specs.declared.entries.Tag.{Tag}
-use Rattle.mon_acl.specs.Texts.{is_colon, trimmed}
+use Rattle.mon_acl.specs.Texts.{is_colon, trimmed, is_hash, without_comment}
 use Rattle.mon_acl.specs.Reading.{parts_behind}
 use Rattle.mon_acl.specs.Refusals.{parts_of}
 use Rattle.std.specs.Prelude.{nat_lt}
@@ -11,11 +11,6 @@ use Rattle.std.proofs.lemmas.List.Sums.{fails_before_first}
 use Rattle.std.proofs.lemmas.List.{take_all}
 use Rattle.std.proofs.lemmas.Option.{cond_some}
 use Rattle.std.proofs.lemmas.Bool.{ltb-true, ltb-false}
-
--- how many parts there may still be
-abbrev pub left : Option (List ℕ) → ℕ
-left (Some rest) = length rest + 1
-left None = 0
 
 pub cut_some : (p : ℕ → Bool) (xs : List ℕ) (i : ℕ) → position p xs ≡ Some i →
     slice_split p xs ≡ take i xs ∷ slice_split p (take (length xs - (i + 1)) (drop (i + 1) xs))
@@ -41,6 +36,20 @@ split_some p (x ∷ xs) = at (p x) (split_some p xs)
         (y : List ℕ) × (ys : List (List ℕ)) × (cond b ([] ∷ slice_split p xs) (onto_first x (slice_split p xs)) ≡ y ∷ ys)
     at true (y, ys, e) = ([], slice_split p xs, refl)
     at false (y, ys, e) = (x ∷ y, ys, ap (λ (l : List (List ℕ)). onto_first x l) e)
+
+-- what stands before the first `#` is the line without its comment
+pub first_part : (line first : List ℕ) (rest : List (List ℕ)) → slice_split is_hash line ≡ first ∷ rest → first ≡ without_comment line
+first_part [] first rest h = let k : [] ∷ [] ≡ first ∷ rest = h in cc
+first_part (c ∷ cs) first rest h = at (is_hash c) (split_some is_hash cs) (first_part cs) h
+  where
+    at : (b : Bool) → (y : List ℕ) × (ys : List (List ℕ)) × (slice_split is_hash cs ≡ y ∷ ys) →
+        ((y : List ℕ) (ys : List (List ℕ)) → slice_split is_hash cs ≡ y ∷ ys → y ≡ without_comment cs) →
+        cond b ([] ∷ slice_split is_hash cs) (onto_first c (slice_split is_hash cs)) ≡ first ∷ rest → first ≡ cond b [] (c ∷ without_comment cs)
+    at true s more k = let e : [] ∷ slice_split is_hash cs ≡ first ∷ rest = k in cc
+    at false (y, ys, s) more k =
+        let e : (c ∷ y) ∷ ys ≡ first ∷ rest = sym (ap (onto_first c) s) ∙ k in
+        let same : c ∷ y ≡ first = cc in
+        sym same ∙ ap (λ (t : List ℕ). c ∷ t) (more y ys s)
 
 -- four fields are too many
 pub four_fields : (tag : Tag) (f : Option (Bor (List ℕ))) (a : Bor (List ℕ)) (second : List ℕ) (f2 : Option (Bor (List ℕ))) (b : Bor (List ℕ)) (third : List ℕ) (f3 : Option (Bor (List ℕ))) (r : Bor (List ℕ)) →

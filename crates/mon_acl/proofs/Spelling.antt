@@ -1,7 +1,7 @@
 -- What is printed spells the list: the parts of a printed entry and of a printed list.
 use Rattle.std.proofs.Common.{◌≡◌, ◌∙◌, ap, sym, subst, refl, ℕ, Bool, true, false, cond, List, [], ◌∷◌, ◌++◌, map, reverse, Option, Some, None, inl, append_assoc, arith}
 use Rattle.std.specs.Prelude.{All, IsPermutation, IsTrue, ◌==◌, ◌&&◌, ◌||◌}
-use Rattle.std.specs.List.{list_all, slice_split, AllZip, AllByRecursion}
+use Rattle.std.specs.List.{list_all, slice_split, AllZip}
 use Rattle.std.proofs.lemmas.Bool.{ne_eqb}
 use Rattle.std.proofs.lemmas.List.Elements.{All-nil, All-cons, All-head, All-tail, All-append, All-from_recursion}
 use Rattle.std.proofs.lemmas.List.Sorted.{All-permutation, IsPermutation-reverse, IsPermutation-sym}
@@ -14,7 +14,7 @@ use Rattle.mon_acl.specs.declared.entries.Tag.{Tag}
 use Rattle.mon_acl.specs.declared.entries.Tag.TheVariants.{UserObj, User, GroupObj, Group, Mask, Other}
 use Rattle.mon_acl.specs.declared.entries.Entry.{Entry}
 use Rattle.mon_acl.specs.Entries.{is_qualified, bytes_of, qualifier, IsEntry, IsValidAcl, IsAcl}
-use Rattle.mon_acl.specs.Texts.{is_gap, is_comma, is_colon, without_leading_gaps, trimmed, pieces, fields, tag_word, SpellsPerms, SpellsFields, SpellsEntry, IsShortText}
+use Rattle.mon_acl.specs.Texts.{is_gap, is_comma, is_colon, is_hash, is_line_feed, without_leading_gaps, trimmed, pieces, fields, tag_word, SpellsPerms, SpellsFields, SpellsEntry, IsShortText}
 use Rattle.mon_acl.specs.Printing.{letter, perms_text, entry_head, entry_text, short_form}
 use Rattle.mon_acl.proofs.Spelled.{both}
 use Rattle.mon_acl.proofs.Valid.{valid_moved}
@@ -23,11 +23,9 @@ use Rattle.mon_acl.proofs.Valid.{valid_moved}
 abbrev pub Lacks : (ℕ → Bool) → List ℕ → Type 0
 Lacks p text = All (λ c. p c ≡ false) text
 
--- a test that no printed field passes
-record Foreign (p : ℕ → Bool) : Type 0 where
-  names : (c : ℕ) → is_name_character c ≡ true → p c ≡ false
-  words : (t : Tag) → Lacks p (tag_word t)
-  perms : (q : Perms) → Lacks p (perms_text q)
+-- a test that no character of a name passes; then nothing of a word or of permissions passes it
+abbrev pub Foreign : (ℕ → Bool) → Type 0
+Foreign p = (c : ℕ) → is_name_character c ≡ true → p c ≡ false
 
 not_in_names : (c k : ℕ) → is_name_character c ≡ true → is_name_character k ≡ false → (c == k) ≡ false
 not_in_names c k h n = ne_eqb c k (λ e. let t : true ≡ false = sym h ∙ ap is_name_character e ∙ n in cc)
@@ -35,83 +33,40 @@ not_in_names c k h n = ne_eqb c k (λ e. let t : true ≡ false = sym h ∙ ap i
 neither : (a b : Bool) → a ≡ false → b ≡ false → (a || b) ≡ false
 neither a b h k = ap (λ t. t || b) h ∙ k
 
--- the words and the letters, by a test that computes
-word_lacks : (p : ℕ → Bool) → ((t : Tag) → AllByRecursion (λ c. p c ≡ false) (tag_word t)) → (t : Tag) → Lacks p (tag_word t)
-word_lacks p h t = All-from_recursion (λ c. p c ≡ false) (tag_word t) (h t)
+pub commas : Foreign is_comma
+commas = λ c h. not_in_names c 44 h refl
 
-letter_lacks : (p : ℕ → Bool) (held : Bool) (c : ℕ) → p c ≡ false → p 45 ≡ false → p (letter held c) ≡ false
-letter_lacks p true c h k = h
-letter_lacks p false c h k = k
+pub colons : Foreign is_colon
+colons = λ c h. not_in_names c 58 h refl
 
-perms_lack : (p : ℕ → Bool) → p 114 ≡ false → p 119 ≡ false → p 120 ≡ false → p 45 ≡ false → (q : Perms) → Lacks p (perms_text q)
-perms_lack p r w x none q =
-    All-from_recursion (λ c. p c ≡ false) (perms_text q)
-    (letter_lacks p q.read 114 r none, (letter_lacks p q.write 119 w none, (letter_lacks p q.execute 120 x none, tt)))
+pub hashes : Foreign is_hash
+hashes = λ c h. not_in_names c 35 h refl
 
-comma_words : (t : Tag) → AllByRecursion (λ c. is_comma c ≡ false) (tag_word t)
-comma_words UserObj = (refl, (refl, (refl, (refl, tt))))
-comma_words User = (refl, (refl, (refl, (refl, tt))))
-comma_words GroupObj = (refl, (refl, (refl, (refl, (refl, tt)))))
-comma_words Group = (refl, (refl, (refl, (refl, (refl, tt)))))
-comma_words Mask = (refl, (refl, (refl, (refl, tt))))
-comma_words Other = (refl, (refl, (refl, (refl, (refl, tt)))))
+pub line_feeds : Foreign is_line_feed
+line_feeds = λ c h. not_in_names c 10 h refl
 
-colon_words : (t : Tag) → AllByRecursion (λ c. is_colon c ≡ false) (tag_word t)
-colon_words UserObj = (refl, (refl, (refl, (refl, tt))))
-colon_words User = (refl, (refl, (refl, (refl, tt))))
-colon_words GroupObj = (refl, (refl, (refl, (refl, (refl, tt)))))
-colon_words Group = (refl, (refl, (refl, (refl, (refl, tt)))))
-colon_words Mask = (refl, (refl, (refl, (refl, tt))))
-colon_words Other = (refl, (refl, (refl, (refl, (refl, tt)))))
-
-gap_words : (t : Tag) → AllByRecursion (λ c. is_gap c ≡ false) (tag_word t)
-gap_words UserObj = (refl, (refl, (refl, (refl, tt))))
-gap_words User = (refl, (refl, (refl, (refl, tt))))
-gap_words GroupObj = (refl, (refl, (refl, (refl, (refl, tt)))))
-gap_words Group = (refl, (refl, (refl, (refl, (refl, tt)))))
-gap_words Mask = (refl, (refl, (refl, (refl, tt))))
-gap_words Other = (refl, (refl, (refl, (refl, (refl, tt)))))
-
-commas : Foreign is_comma
-commas = record {
-  names = λ c h. not_in_names c 44 h refl;
-  words = word_lacks is_comma comma_words;
-  perms = perms_lack is_comma refl refl refl refl;
-}
-
-colons : Foreign is_colon
-colons = record {
-  names = λ c h. not_in_names c 58 h refl;
-  words = word_lacks is_colon colon_words;
-  perms = perms_lack is_colon refl refl refl refl;
-}
-
-gaps : Foreign is_gap
-gaps = record {
-  names = λ c h. neither (c == 32) (c == 9) (not_in_names c 32 h refl) (not_in_names c 9 h refl);
-  words = word_lacks is_gap gap_words;
-  perms = perms_lack is_gap refl refl refl refl;
-}
+pub gaps : Foreign is_gap
+gaps = λ c h. neither (c == 32) (c == 9) (not_in_names c 32 h refl) (not_in_names c 9 h refl)
 
 -- ---- names
 
 letter_of_name : (c : ℕ) → is_letter c ≡ true → is_name_character c ≡ true
 letter_of_name c h = ap (λ (b : Bool). b || is_digit c || c == 46 || c == 95 || c == 45) h
 
-name_characters : (p : ℕ → Bool) → ((c : ℕ) → is_name_character c ≡ true → p c ≡ false) → (cs : List ℕ) → list_all is_name_character cs ≡ true → Lacks p cs
+name_characters : (p : ℕ → Bool) → Foreign p → (cs : List ℕ) → list_all is_name_character cs ≡ true → Lacks p cs
 name_characters p f [] h = All-nil (λ c. p c ≡ false)
 name_characters p f (c ∷ cs) h =
     let b = both (is_name_character c) (list_all is_name_character cs) h in
     All-cons (λ c. p c ≡ false) c cs (f c b.0) (name_characters p f cs b.1)
 
-name_lacks : (p : ℕ → Bool) → ((c : ℕ) → is_name_character c ≡ true → p c ≡ false) → (name : List ℕ) → is_name name ≡ true → Lacks p name
+name_lacks : (p : ℕ → Bool) → Foreign p → (name : List ℕ) → is_name name ≡ true → Lacks p name
 name_lacks p f [] h = All-nil (λ c. p c ≡ false)
 name_lacks p f (c ∷ cs) h =
     let a = both (is_letter c && list_all is_name_character cs) _ h in
     let b = both (is_letter c) (list_all is_name_character cs) a.0 in
     All-cons (λ c. p c ≡ false) c cs (f c (letter_of_name c b.0)) (name_characters p f cs b.1)
 
-qualifier_lacks : (p : ℕ → Bool) → ((c : ℕ) → is_name_character c ≡ true → p c ≡ false) → (t : Tag) (o : Option (List ℕ)) → IsTrue (is_qualified t o) → Lacks p (bytes_of o)
+qualifier_lacks : (p : ℕ → Bool) → Foreign p → (t : Tag) (o : Option (List ℕ)) → IsTrue (is_qualified t o) → Lacks p (bytes_of o)
 qualifier_lacks p f t None h = All-nil (λ c. p c ≡ false)
 qualifier_lacks p f User (Some name) h = name_lacks p f name h
 qualifier_lacks p f Group (Some name) h = name_lacks p f name h
@@ -119,6 +74,33 @@ qualifier_lacks p f UserObj (Some name) h = absurd (let k : false ≡ true = h i
 qualifier_lacks p f GroupObj (Some name) h = absurd (let k : false ≡ true = h in cc)
 qualifier_lacks p f Mask (Some name) h = absurd (let k : false ≡ true = h in cc)
 qualifier_lacks p f Other (Some name) h = absurd (let k : false ≡ true = h in cc)
+
+words_lack : (p : ℕ → Bool) → Foreign p → (t : Tag) → Lacks p (tag_word t)
+words_lack p f UserObj = name_lacks p f (tag_word UserObj) refl
+words_lack p f User = name_lacks p f (tag_word User) refl
+words_lack p f GroupObj = name_lacks p f (tag_word GroupObj) refl
+words_lack p f Group = name_lacks p f (tag_word Group) refl
+words_lack p f Mask = name_lacks p f (tag_word Mask) refl
+words_lack p f Other = name_lacks p f (tag_word Other) refl
+
+letter_lacks : (p : ℕ → Bool) → Foreign p → (held : Bool) (c : ℕ) → is_name_character c ≡ true → p (letter held c) ≡ false
+letter_lacks p f true c h = f c h
+letter_lacks p f false c h = f 45 refl
+
+pub perms_lack : (p : ℕ → Bool) → Foreign p → (q : Perms) → Lacks p (perms_text q)
+perms_lack p f q =
+    All-from_recursion (λ c. p c ≡ false) (perms_text q)
+    (letter_lacks p f q.read 114 refl, (letter_lacks p f q.write 119 refl, (letter_lacks p f q.execute 120 refl, tt)))
+
+pub entry_lacks : (p : ℕ → Bool) → Foreign p → p 58 ≡ false → (e : Entry) → IsEntry e → Lacks p (entry_text e)
+entry_lacks p f colon e v =
+    let P : ℕ → Type 0 = λ c. p c ≡ false in
+    All-append P (entry_head e) (perms_text e.perms)
+    (All-append P (tag_word e.tag ++ 58 ∷ qualifier e) (58 ∷ [])
+    (All-append P (tag_word e.tag) (58 ∷ qualifier e) (words_lack p f e.tag)
+    (All-cons P 58 (qualifier e) colon (qualifier_lacks p f e.tag e.name v)))
+    (All-cons P 58 [] colon (All-nil P)))
+    (perms_lack p f e.perms)
 
 -- ---- a field that has no gap is as it was
 
@@ -134,7 +116,7 @@ stays text h =
 
 -- ---- an entry
 
-in_fields : (e : Entry) → entry_text e ≡ tag_word e.tag ++ 58 ∷ (qualifier e ++ 58 ∷ perms_text e.perms)
+pub in_fields : (e : Entry) → entry_text e ≡ tag_word e.tag ++ 58 ∷ (qualifier e ++ 58 ∷ perms_text e.perms)
 in_fields e =
     append_assoc (tag_word e.tag ++ 58 ∷ qualifier e) (58 ∷ []) (perms_text e.perms)
     ∙ append_assoc (tag_word e.tag) (58 ∷ qualifier e) (58 ∷ perms_text e.perms)
@@ -142,17 +124,17 @@ in_fields e =
 printed_parts : (e : Entry) → IsEntry e → slice_split is_colon (entry_text e) ≡ tag_word e.tag ∷ qualifier e ∷ perms_text e.perms ∷ []
 printed_parts e v =
     ap (slice_split is_colon) (in_fields e)
-    ∙ slice_split_at is_colon (tag_word e.tag) 58 (qualifier e ++ 58 ∷ perms_text e.perms) (colons.words e.tag) refl
+    ∙ slice_split_at is_colon (tag_word e.tag) 58 (qualifier e ++ 58 ∷ perms_text e.perms) (words_lack is_colon colons e.tag) refl
     ∙ ap (λ (l : List (List ℕ)). tag_word e.tag ∷ l)
-    (slice_split_at is_colon (qualifier e) 58 (perms_text e.perms) (qualifier_lacks is_colon colons.names e.tag e.name v) refl
-    ∙ ap (λ (l : List (List ℕ)). qualifier e ∷ l) (slice_split_none is_colon (perms_text e.perms) (colons.perms e.perms)))
+    (slice_split_at is_colon (qualifier e) 58 (perms_text e.perms) (qualifier_lacks is_colon colons e.tag e.name v) refl
+    ∙ ap (λ (l : List (List ℕ)). qualifier e ∷ l) (slice_split_none is_colon (perms_text e.perms) (perms_lack is_colon colons e.perms)))
 
 printed_fields : (e : Entry) → IsEntry e → fields (entry_text e) ≡ tag_word e.tag ∷ qualifier e ∷ perms_text e.perms ∷ []
 printed_fields e v =
     ap (map trimmed) (printed_parts e v)
-    ∙ ap (λ (w : List ℕ). w ∷ trimmed (qualifier e) ∷ trimmed (perms_text e.perms) ∷ []) (stays (tag_word e.tag) (gaps.words e.tag))
-    ∙ ap (λ (w : List ℕ). tag_word e.tag ∷ w ∷ trimmed (perms_text e.perms) ∷ []) (stays (qualifier e) (qualifier_lacks is_gap gaps.names e.tag e.name v))
-    ∙ ap (λ (w : List ℕ). tag_word e.tag ∷ qualifier e ∷ w ∷ []) (stays (perms_text e.perms) (gaps.perms e.perms))
+    ∙ ap (λ (w : List ℕ). w ∷ trimmed (qualifier e) ∷ trimmed (perms_text e.perms) ∷ []) (stays (tag_word e.tag) (words_lack is_gap gaps e.tag))
+    ∙ ap (λ (w : List ℕ). tag_word e.tag ∷ w ∷ trimmed (perms_text e.perms) ∷ []) (stays (qualifier e) (qualifier_lacks is_gap gaps e.tag e.name v))
+    ∙ ap (λ (w : List ℕ). tag_word e.tag ∷ qualifier e ∷ w ∷ []) (stays (perms_text e.perms) (perms_lack is_gap gaps e.perms))
 
 places_spell : (r w x : Bool) → SpellsPerms (letter r 114 ∷ letter w 119 ∷ letter x 120 ∷ []) (record { read = r; write = w; execute = x })
 places_spell true true true = (refl, refl, refl, refl)
@@ -170,20 +152,10 @@ printed_entry e v =
 
 -- ---- a list
 
-lacks_commas : (e : Entry) → IsEntry e → Lacks is_comma (entry_text e)
-lacks_commas e v =
-    let P : ℕ → Type 0 = λ c. is_comma c ≡ false in
-    All-append P (entry_head e) (perms_text e.perms)
-    (All-append P (tag_word e.tag ++ 58 ∷ qualifier e) (58 ∷ [])
-    (All-append P (tag_word e.tag) (58 ∷ qualifier e) (commas.words e.tag)
-    (All-cons P 58 (qualifier e) refl (qualifier_lacks is_comma commas.names e.tag e.name v)))
-    (All-cons P 58 [] refl (All-nil P)))
-    (commas.perms e.perms)
-
 pub printed_pieces : (e : Entry) (es : List Entry) → All IsEntry (e ∷ es) → pieces (short_form (e ∷ es)) ≡ map entry_text (e ∷ es)
-printed_pieces e [] v = slice_split_none is_comma (entry_text e) (lacks_commas e (All-head IsEntry e [] v))
+printed_pieces e [] v = slice_split_none is_comma (entry_text e) (entry_lacks is_comma commas refl e (All-head IsEntry e [] v))
 printed_pieces e (d ∷ es) v =
-    slice_split_at is_comma (entry_text e) 44 (short_form (d ∷ es)) (lacks_commas e (All-head IsEntry e (d ∷ es) v)) refl
+    slice_split_at is_comma (entry_text e) 44 (short_form (d ∷ es)) (entry_lacks is_comma commas refl e (All-head IsEntry e (d ∷ es) v)) refl
     ∙ ap (λ (l : List (List ℕ)). entry_text e ∷ l) (printed_pieces d es (All-tail IsEntry e (d ∷ es) v))
 
 each_printed : (es : List Entry) → All IsEntry es → AllZip SpellsEntry (map entry_text es) es

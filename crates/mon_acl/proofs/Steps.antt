@@ -1,5 +1,5 @@
 -- Reading with the entries kept in canonical order: what the loop does, piece by piece.
-use Rattle.std.proofs.Common.{◌≡◌, ◌∙◌, ap, sym, subst, refl, ℕ, ◌+◌, Bool, true, false, cond, List, [], ◌∷◌, Option, Some, None}
+use Rattle.std.proofs.Common.{◌≡◌, ◌∙◌, ap, sym, subst, refl, ℕ, ◌+◌, Bool, true, false, cond, List, [], ◌∷◌, Option}
 use Rattle.std.specs.Prelude.{Result, Ok, Err, count_by, ◌==◌, ◌&&◌}
 use Rattle.std.specs.List.{list_any}
 use Rattle.mon_acl.specs.declared.entries.Entry.{Entry}
@@ -8,12 +8,7 @@ use Rattle.mon_acl.specs.declared.refusals.AclError.{AclError}
 use Rattle.mon_acl.specs.declared.refusals.AclError.TheVariants.{BadTag, BadQualifier, BadPerms, Missing, Twice, NoMask, TooMany, Memory}
 use Rattle.mon_acl.specs.Entries.{is_for, qualifier, is_named, has_tag, IsCanonical}
 use Rattle.mon_acl.specs.Refusals.{◌>>=◌, entry_of, joined, entries_on, entries_of, lacking}
-use Rattle.mon_acl.specs.Reading.{Refuses, Gives, added, piece_added, put_in, arranged, canonical_entries_of, read_short, whole}
-use Rattle.std.specs.List.{slice_split}
-use Rattle.std.specs.Prelude.{option_copied}
-use Rattle.std.proofs.Common.{Bor}
-use Rattle.mon_acl.specs.Texts.{is_comma, pieces}
-use Rattle.mon_acl.specs.Reading.{parts_behind}
+use Rattle.mon_acl.specs.Reading.{Refuses, Gives, added, piece_added, put_in, arranged, canonical_entries_of, read_pieces, whole}
 use Rattle.mon_acl.proofs.Order.{any_arranged, count_arranged, put_sorted}
 
 abbrev pub sorted_on : ℕ → List Entry → List (List ℕ) → Result (List Entry) AclError
@@ -94,21 +89,9 @@ piece_sorted n p es more s h = at (entry_of n p) h
 pub exit : {X B : Type 0} (seen : X → B) (r : Result X AclError) (e : AclError) (read : Result B AclError) → r ≡ Err e → Refuses e read → Gives seen r read
 exit {X = X} seen r e read is h = subst (λ (s : Result X AclError). Gives seen s read) (sym is) h
 
--- the loop's next piece
-pub at_piece : (read : Result (List Entry) AclError) (n : ℕ) (es : List Entry) (rest : Option (Bor (List ℕ))) (text : Bor (List ℕ)) (piece : List ℕ) (after : Option (Bor (List ℕ))) →
-    read ≡ sorted_on n es (parts_behind is_comma (option_copied rest)) → rest ≡ Some text →
-    slice_split is_comma text.now ≡ piece ∷ parts_behind is_comma (option_copied after) →
-    read ≡ (piece_added n piece es >>= λ more. sorted_on (n + 1) more (parts_behind is_comma (option_copied after)))
-at_piece read n es rest text piece after h is parts =
-    h ∙ ap (λ (o : Option (Bor (List ℕ))). sorted_on n es (parts_behind is_comma (option_copied o))) is ∙ ap (sorted_on n es) parts
-
-pub at_end : (read : Result (List Entry) AclError) (n : ℕ) (es : List Entry) (rest : Option (Bor (List ℕ))) →
-    read ≡ sorted_on n es (parts_behind is_comma (option_copied rest)) → rest ≡ None → read ≡ Ok es
-at_end read n es rest h is = h ∙ ap (λ (o : Option (Bor (List ℕ))). sorted_on n es (parts_behind is_comma (option_copied o))) is
-
 -- the list of the loop's entries is the list that is read, where it lacks nothing
-pub read_whole : (text : List ℕ) (es : List Entry) (lacks : Option AclError) → canonical_entries_of text ≡ Ok es → lacks ≡ lacking es → read_short text ≡ whole lacks es
-read_whole text es lacks h k = at (entries_of text) h
+pub read_whole : (texts : List (List ℕ)) (es : List Entry) (lacks : Option AclError) → canonical_entries_of texts ≡ Ok es → lacks ≡ lacking es → read_pieces texts ≡ whole lacks es
+read_whole texts es lacks h k = at (entries_of texts) h
   where
     at : (r : Result (List Entry) AclError) → (r >>= λ all. Ok (arranged all)) ≡ Ok es → (r >>= λ all. whole (lacking all) (arranged all)) ≡ whole lacks es
     at (Ok all) h =
@@ -117,8 +100,8 @@ read_whole text es lacks h k = at (entries_of text) h
     at (Err e) h = absurd (let t : Err e ≡ Ok es = h in cc)
 
 -- what the entries are refused for, the list is
-pub read_refused : (text : List ℕ) (e : AclError) → Refuses e (canonical_entries_of text) → Refuses e (read_short text)
-read_refused text e h = at (entries_of text) e h
+pub read_refused : (texts : List (List ℕ)) (e : AclError) → Refuses e (canonical_entries_of texts) → Refuses e (read_pieces texts)
+read_refused texts e h = at (entries_of texts) e h
   where
     at : (r : Result (List Entry) AclError) (e : AclError) → Refuses e (r >>= λ all. Ok (arranged all)) → Refuses e (r >>= λ all. whole (lacking all) (arranged all))
     at (Err d) (BadTag n) h = h
@@ -139,9 +122,9 @@ read_refused text e h = at (entries_of text) e h
     at (Ok all) Memory h = tt
 
 -- a piece that is refused refuses the text
-pub piece_refused : (text : List ℕ) (n : ℕ) (es : List Entry) (piece : List ℕ) (ps : List (List ℕ)) (e : AclError) →
-    sorted_on 1 [] (pieces text) ≡ (piece_added n piece es >>= λ more. sorted_on (n + 1) more ps) →
-    Refuses e (piece_added n piece es) → Refuses e (canonical_entries_of text)
-piece_refused text n es piece ps e reads h =
-    subst (λ (r : Result (List Entry) AclError). Refuses e r) (sym reads ∙ sorted_as_read 1 [] (pieces text))
+pub piece_refused : (texts : List (List ℕ)) (n : ℕ) (es : List Entry) (piece : List ℕ) (ps : List (List ℕ)) (e : AclError) →
+    sorted_on 1 [] texts ≡ (piece_added n piece es >>= λ more. sorted_on (n + 1) more ps) →
+    Refuses e (piece_added n piece es) → Refuses e (canonical_entries_of texts)
+piece_refused texts n es piece ps e reads h =
+    subst (λ (r : Result (List Entry) AclError). Refuses e r) (sym reads ∙ sorted_as_read 1 [] texts)
     (refuse_then e (piece_added n piece es) (λ more. sorted_on (n + 1) more ps) h)

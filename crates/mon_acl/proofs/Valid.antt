@@ -15,8 +15,7 @@ use Rattle.mon_acl.specs.declared.refusals.AclError.{AclError}
 use Rattle.mon_acl.specs.declared.refusals.AclError.TheVariants.{Twice, TooMany, Missing, NoMask}
 use Rattle.mon_acl.specs.Entries.{rank, place, is_tag, has_tag, is_named, is_for, qualifier, is_qualified, bytes_of, IsEntry, IsValidAcl, IsCanonical, IsAcl}
 use Rattle.mon_acl.specs.Refusals.{◌>>=◌, joined, lacking, entry_of, entries_on, entries_of}
-use Rattle.mon_acl.specs.Reading.{whole, arranged, read_short}
-use Rattle.mon_acl.specs.Texts.{pieces}
+use Rattle.mon_acl.specs.Reading.{whole, arranged, read_pieces}
 use Rattle.mon_acl.proofs.Order.{put_sorted, none_sorted, any_arranged, count_moved, arranged_moves}
 use Rattle.mon_acl.proofs.Spelled.{bind_ok, read_spells}
 
@@ -225,23 +224,23 @@ whole_ok (Some e) es all h = absurd (let k : Err e ≡ Ok all = h in cc)
 whole_ok None es all h = (refl, let k : Ok es ≡ Ok all = h in cc)
 
 -- what a reading that succeeds went through
-pub record Readable (text : List ℕ) (es : List Entry) : Type 0 where
+pub record Readable (texts : List (List ℕ)) (es : List Entry) : Type 0 where
   pub all : List Entry
-  pub read : entries_of text ≡ Ok all
+  pub read : entries_of texts ≡ Ok all
   pub lacks : lacking all ≡ None
   pub is : arranged all ≡ es
 
-pub readable : (text : List ℕ) (es : List Entry) → read_short text ≡ Ok es → Readable text es
-readable text es h =
-    let a = bind_ok (entries_of text) (λ all. whole (lacking all) (arranged all)) es h in
+pub readable : (texts : List (List ℕ)) (es : List Entry) → read_pieces texts ≡ Ok es → Readable texts es
+readable texts es h =
+    let a = bind_ok (entries_of texts) (λ all. whole (lacking all) (arranged all)) es h in
     let w = whole_ok (lacking a.0) (arranged a.0) es a.2 in
     record { all = a.0; read = a.1; lacks = w.0; is = w.1 }
 
 -- what is read is a permission list
-pub read_acl : (text : List ℕ) (es : List Entry) → read_short text ≡ Ok es → IsAcl es
-read_acl text es h =
-    let r = readable text es h in
-    let s = so_far_read 1 [] (pieces text) r.all nothing_so_far r.read in
+pub read_acl : (texts : List (List ℕ)) (es : List Entry) → read_pieces texts ≡ Ok es → IsAcl es
+read_acl texts es h =
+    let r = readable texts es h in
+    let s = so_far_read 1 [] texts r.all nothing_so_far r.read in
     subst IsAcl r.is (record {
       valid = valid_moved r.all (arranged r.all) (arranged_moves r.all) (valid_of r.all s (lacks_nothing r.all r.lacks));
       canonical = arranged_sorted r.all s.apart;

@@ -1,27 +1,28 @@
--- The laws, and what they say of a call that reads.
+-- The laws, and what they say of a call that reads. What holds of the texts of entries holds of both forms.
 use Rattle.std.proofs.Common.{◌≡◌, ◌∙◌, ap, sym, subst, refl, ℕ, List, Option, Some, None}
-use Rattle.std.specs.Prelude.{Result, Ok, Err, IfOk, IfErr}
+use Rattle.std.specs.Prelude.{◌↔◌, Result, Ok, Err, IfOk, IfErr}
 use Rattle.std.proofs.lemmas.List.Sorted.{IsPermutation-refl, IsPermutation-sym, IsPermutation-trans}
 use Rattle.mon_acl.specs.declared.entries.Entry.{Entry}
 use Rattle.mon_acl.specs.declared.refusals.AclError.{AclError}
 use Rattle.mon_acl.specs.declared.refusals.AclError.TheVariants.{BadTag, BadQualifier, BadPerms, Missing, Twice, NoMask, TooMany, Memory}
-use Rattle.mon_acl.specs.Texts.{IsShortText}
-use Rattle.mon_acl.specs.Refusals.{◌>>=◌, entries_of, lacking, refusal_in, acl_refusal}
-use Rattle.mon_acl.specs.Reading.{Gives, IsRefusal, whole, arranged, read_short}
-use Rattle.mon_acl.specs.Printing.{short_form}
-use Rattle.mon_acl.specs.Laws.{ReadingSpells, OneList, RefusedOrSpells, ReadsBack, OneForm, OneOrder, AnyOrder}
+use Rattle.mon_acl.specs.Texts.{pieces, long_pieces, SpellList}
+use Rattle.mon_acl.specs.Refusals.{◌>>=◌, entries_of, lacking, refusal_in, first_refusal}
+use Rattle.mon_acl.specs.Reading.{Gives, IsRefusal, whole, arranged, read_pieces, read_short, read_long}
+use Rattle.mon_acl.specs.Printing.{short_form, mask_of, long_form}
+use Rattle.mon_acl.specs.Laws.{ReadingSpells, OneList, RefusedOrSpells, ReadsBack, OneForm, OneOrder, AnyOrder, LongReadingSpells, OneLongList, LongRefusedOrSpells, LongReadsBack, OneLongForm, AnyLineOrder, CommentsSayNothing}
 use Rattle.mon_acl.proofs.Listed as listed
 use Rattle.mon_acl.proofs.Spelling.{reordered}
+use Rattle.mon_acl.proofs.Lines.{reordered_lines}
+use Rattle.mon_acl.proofs.Comments as comments
 
-pub reading_spells : ReadingSpells
-reading_spells text es = (listed.text_is_read text es, listed.read_is_text text es)
+-- ---- the texts of entries, in either form
 
-pub one_list : OneList
-one_list = listed.one_list
+read_or_spelled : (texts : List (List ℕ)) (es : List Entry) → SpellList texts es ↔ (read_pieces texts ≡ Ok es)
+read_or_spelled texts es = (listed.list_is_read texts es, listed.read_is_list texts es)
 
 -- what is refused, and what is not
-refusal_of_err : (text : List ℕ) (e : AclError) → read_short text ≡ Err e → acl_refusal text ≡ Some e
-refusal_of_err text e h = at (entries_of text) h
+refusal_of_err : (texts : List (List ℕ)) (e : AclError) → read_pieces texts ≡ Err e → first_refusal texts ≡ Some e
+refusal_of_err texts e h = at (entries_of texts) h
   where
     lacks : (all : List Entry) (o : Option AclError) → whole o (arranged all) ≡ Err e → o ≡ Some e
     lacks all (Some d) h = let k : Err d ≡ Err e = h in cc
@@ -31,8 +32,8 @@ refusal_of_err text e h = at (entries_of text) h
     at (Ok all) h = lacks all (lacking all) h
     at (Err d) h = let k : Err d ≡ Err e = h in cc
 
-refusal_of_ok : (text : List ℕ) (es : List Entry) → read_short text ≡ Ok es → acl_refusal text ≡ None
-refusal_of_ok text es h = at (entries_of text) h
+refusal_of_ok : (texts : List (List ℕ)) (es : List Entry) → read_pieces texts ≡ Ok es → first_refusal texts ≡ None
+refusal_of_ok texts es h = at (entries_of texts) h
   where
     lacks : (all : List Entry) (o : Option AclError) → whole o (arranged all) ≡ Ok es → o ≡ None
     lacks all (Some d) h = absurd (let k : Err d ≡ Ok es = h in cc)
@@ -42,24 +43,61 @@ refusal_of_ok text es h = at (entries_of text) h
     at (Ok all) h = lacks all (lacking all) h
     at (Err d) h = absurd (let k : Err d ≡ Ok es = h in cc)
 
-spells : (text : List ℕ) → acl_refusal text ≡ None → (es : List Entry) × IsShortText text es
-spells text h = at (read_short text) refl
+spells : (texts : List (List ℕ)) → first_refusal texts ≡ None → (es : List Entry) × SpellList texts es
+spells texts h = at (read_pieces texts) refl
   where
-    at : (r : Result (List Entry) AclError) → read_short text ≡ r → (es : List Entry) × IsShortText text es
-    at (Ok es) e = (es, listed.read_is_text text es e)
-    at (Err d) e = absurd (let k : None ≡ Some d = sym h ∙ refusal_of_err text d e in cc)
+    at : (r : Result (List Entry) AclError) → read_pieces texts ≡ r → (es : List Entry) × SpellList texts es
+    at (Ok es) e = (es, listed.read_is_list texts es e)
+    at (Err d) e = absurd (let k : None ≡ Some d = sym h ∙ refusal_of_err texts d e in cc)
+
+refused_or_spelled : (texts : List (List ℕ)) → (first_refusal texts ≡ None) ↔ ((es : List Entry) × SpellList texts es)
+refused_or_spelled texts = (spells texts, λ s. refusal_of_ok texts s.0 (listed.list_is_read texts s.0 s.1))
+
+-- ---- the short form
+
+pub reading_spells : ReadingSpells
+reading_spells text = read_or_spelled (pieces text)
+
+pub one_list : OneList
+one_list text = listed.one_list (pieces text)
 
 pub refused_or_spells : RefusedOrSpells
-refused_or_spells text = (spells text, λ s. refusal_of_ok text s.0 (listed.text_is_read text s.0 s.1))
+refused_or_spells text = refused_or_spelled (pieces text)
 
 pub any_order : AnyOrder
 any_order = reordered
 
 pub reads_back : ReadsBack
-reads_back es acl = listed.text_is_read (short_form es) es (reordered es es acl (IsPermutation-refl es))
+reads_back es acl = listed.list_is_read (pieces (short_form es)) es (reordered es es acl (IsPermutation-refl es))
 
 pub one_form : OneForm
 one_form es fs acl bcl same = let e : Ok es ≡ Ok fs = sym (reads_back es acl) ∙ ap read_short same ∙ reads_back fs bcl in cc
+
+-- ---- the long form
+
+pub long_reading_spells : LongReadingSpells
+long_reading_spells text = read_or_spelled (long_pieces text)
+
+pub one_long_list : OneLongList
+one_long_list text = listed.one_list (long_pieces text)
+
+pub long_refused_or_spells : LongRefusedOrSpells
+long_refused_or_spells text = refused_or_spelled (long_pieces text)
+
+pub any_line_order : AnyLineOrder
+any_line_order = reordered_lines
+
+pub long_reads_back : LongReadsBack
+long_reads_back es acl = listed.list_is_read (long_pieces (long_form es)) es (reordered_lines (mask_of es) es es acl (IsPermutation-refl es))
+
+pub one_long_form : OneLongForm
+one_long_form es fs acl bcl same =
+    let e : Ok es ≡ Ok fs = sym (long_reads_back es acl) ∙ ap read_long same ∙ long_reads_back fs bcl in cc
+
+pub comments_say_nothing : CommentsSayNothing
+comments_say_nothing = comments.say_nothing
+
+-- ---- one order
 
 pub one_order : OneOrder
 one_order es v =
@@ -68,21 +106,21 @@ one_order es v =
 
 -- ---- a call that reads
 
-pub gives_text : (text : List ℕ) (r : Result (List Entry) AclError) → Gives (λ es. es) r (read_short text) → IfOk r (λ es. IsShortText text es)
-gives_text text (Ok es) h = listed.read_is_text text es h
-gives_text text (Err e) h = tt
+pub gives_list : (texts : List (List ℕ)) (r : Result (List Entry) AclError) → Gives (λ es. es) r (read_pieces texts) → IfOk r (λ es. SpellList texts es)
+gives_list texts (Ok es) h = listed.read_is_list texts es h
+gives_list texts (Err e) h = tt
 
-pub gives_only : (text : List ℕ) (r : Result (List Entry) AclError) → Gives (λ es. es) r (read_short text) →
-    (es : List Entry) → IsShortText text es → Gives (λ es. es) r (Ok es)
-gives_only text r h es s = subst (λ (read : Result (List Entry) AclError). Gives (λ es. es) r read) (listed.text_is_read text es s) h
+pub gives_only : (texts : List (List ℕ)) (r : Result (List Entry) AclError) → Gives (λ es. es) r (read_pieces texts) →
+    (es : List Entry) → SpellList texts es → Gives (λ es. es) r (Ok es)
+gives_only texts r h es s = subst (λ (read : Result (List Entry) AclError). Gives (λ es. es) r read) (listed.list_is_read texts es s) h
 
-pub gives_refusal : (text : List ℕ) (r : Result (List Entry) AclError) → Gives (λ es. es) r (read_short text) → IfErr r (λ e. IsRefusal e (acl_refusal text))
-gives_refusal text (Ok es) h = tt
-gives_refusal text (Err (BadTag n)) h = refusal_of_err text (BadTag n) h
-gives_refusal text (Err (BadQualifier n)) h = refusal_of_err text (BadQualifier n) h
-gives_refusal text (Err (BadPerms n)) h = refusal_of_err text (BadPerms n) h
-gives_refusal text (Err (Missing t)) h = refusal_of_err text (Missing t) h
-gives_refusal text (Err (Twice n)) h = refusal_of_err text (Twice n) h
-gives_refusal text (Err NoMask) h = refusal_of_err text NoMask h
-gives_refusal text (Err (TooMany n)) h = refusal_of_err text (TooMany n) h
-gives_refusal text (Err Memory) h = tt
+pub gives_refusal : (texts : List (List ℕ)) (r : Result (List Entry) AclError) → Gives (λ es. es) r (read_pieces texts) → IfErr r (λ e. IsRefusal e (first_refusal texts))
+gives_refusal texts (Ok es) h = tt
+gives_refusal texts (Err (BadTag n)) h = refusal_of_err texts (BadTag n) h
+gives_refusal texts (Err (BadQualifier n)) h = refusal_of_err texts (BadQualifier n) h
+gives_refusal texts (Err (BadPerms n)) h = refusal_of_err texts (BadPerms n) h
+gives_refusal texts (Err (Missing t)) h = refusal_of_err texts (Missing t) h
+gives_refusal texts (Err (Twice n)) h = refusal_of_err texts (Twice n) h
+gives_refusal texts (Err NoMask) h = refusal_of_err texts NoMask h
+gives_refusal texts (Err (TooMany n)) h = refusal_of_err texts (TooMany n) h
+gives_refusal texts (Err Memory) h = tt

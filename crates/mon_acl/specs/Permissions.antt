@@ -6,3 +6,7 @@ use Rattle.mon_acl.specs.declared.entries.Perms.{Perms}
 abbrev pub holds : Perms → Perms → Bool
 holds held request =
     (not request.read || held.read) && (not request.write || held.write) && (not request.execute || held.execute)
+
+-- the permissions that both hold
+abbrev pub common : Perms → Perms → Perms
+common p q = record { read = p.read && q.read; write = p.write && q.write; execute = p.execute && q.execute }

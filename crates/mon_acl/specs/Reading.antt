@@ -1,11 +1,14 @@
--- Reading a short text in one go, as the code does: the list in canonical order, or the first refusal.
-use Rattle.std.specs.Prelude.{◌≡◌, ℕ, if◌then◌else◌, List, [], ◌∷◌, Option, Some, None, Result, Ok, Err, Bool}
+-- Reading a text in one go, as the code does: the list in canonical order, or the first refusal.
+use Rattle.std.specs.Prelude.{◌≡◌, ℕ, ◌+◌, if◌then◌else◌, List, [], ◌∷◌, length, Option, Some, None, Result, Ok, Err, Bool}
 use Rattle.std.specs.List.{slice_split}
 use Rattle.std.specs.Ordering.{is_lt}
 use Rattle.mon_acl.specs.declared.entries.Entry.{Entry}
+use Rattle.mon_acl.specs.declared.pieces.Form.{Form}
+use Rattle.mon_acl.specs.declared.pieces.Form.TheVariants.{Short, Long}
 use Rattle.mon_acl.specs.declared.refusals.AclError.{AclError}
 use Rattle.mon_acl.specs.declared.refusals.AclError.TheVariants.{Memory}
 use Rattle.mon_acl.specs.Entries.{compared}
+use Rattle.mon_acl.specs.Texts.{pieces, long_pieces}
 use Rattle.mon_acl.specs.Refusals.{◌>>=◌, entry_of, joined, entries_of, lacking}
 
 -- an error of a call is the reading's, unless memory ran out
@@ -27,6 +30,21 @@ IsRefusal e refusal = refusal ≡ Some e
 abbrev pub parts_behind : (ℕ → Bool) → Option (List ℕ) → List (List ℕ)
 parts_behind is_separator (Some rest) = slice_split is_separator rest
 parts_behind is_separator None = []
+
+-- the texts of the entries, by the form of the text
+abbrev pub pieces_in : Form → List ℕ → List (List ℕ)
+pieces_in Short text = pieces text
+pieces_in Long text = long_pieces text
+
+-- those of what is left of a text, where anything is
+abbrev pub pieces_left : Form → Option (List ℕ) → List (List ℕ)
+pieces_left form (Some rest) = pieces_in form rest
+pieces_left form None = []
+
+-- how many there may still be
+abbrev pub left : Option (List ℕ) → ℕ
+left (Some rest) = length rest + 1
+left None = 0
 
 -- an entry put behind those that stand before it in canonical order
 abbrev pub put_in : Entry → List Entry → List Entry
@@ -51,10 +69,18 @@ abbrev pub whole : Option AclError → List Entry → Result (List Entry) AclErr
 whole (Some refusal) es = Err refusal
 whole None es = Ok es
 
--- the entries of a text in canonical order
-abbrev pub canonical_entries_of : List ℕ → Result (List Entry) AclError
-canonical_entries_of text = entries_of text >>= λ es. Ok (arranged es)
+-- the entries of these texts in canonical order
+abbrev pub canonical_entries_of : List (List ℕ) → Result (List Entry) AclError
+canonical_entries_of texts = entries_of texts >>= λ es. Ok (arranged es)
+
+-- the list that the texts of entries spell, or their first refusal
+abbrev pub read_pieces : List (List ℕ) → Result (List Entry) AclError
+read_pieces texts = entries_of texts >>= λ es. whole (lacking es) (arranged es)
 
 -- the list that a short text spells, or its first refusal
 abbrev pub read_short : List ℕ → Result (List Entry) AclError
-read_short text = entries_of text >>= λ es. whole (lacking es) (arranged es)
+read_short text = read_pieces (pieces text)
+
+-- the list that a long text spells, or its first refusal
+abbrev pub read_long : List ℕ → Result (List Entry) AclError
+read_long text = read_pieces (long_pieces text)

@@ -1,4 +1,4 @@
--- The refusals of a short text (the order in which they are tried is own).
+-- The refusals of a text (the order in which they are tried is own).
 use Rattle.std.specs.Prelude.{ℕ, ◌+◌, ◌==◌, Bool, not, ◌&&◌, ◌||◌, nat_le, nat_eq, if◌then◌else◌, List, [], ◌∷◌, count_by, codes, Option, Some, None, option_map, ok_or, Result, Ok, Err}
 use Rattle.std.specs.List.{list_all, list_any}
 use Rattle.std.specs.Cmp.Lexicographic.{pointwise}
@@ -10,7 +10,7 @@ use Rattle.mon_acl.specs.declared.entries.Entry.{Entry}
 use Rattle.mon_acl.specs.declared.refusals.AclError.{AclError}
 use Rattle.mon_acl.specs.declared.refusals.AclError.TheVariants.{BadTag, BadQualifier, BadPerms, Missing, Twice, NoMask, TooMany}
 use Rattle.mon_acl.specs.Entries.{has_tag, is_named, is_for, qualifier}
-use Rattle.mon_acl.specs.Texts.{fields, pieces, is_permission, times, may_leave_out}
+use Rattle.mon_acl.specs.Texts.{fields, pieces, long_pieces, is_permission, times, may_leave_out}
 
 -- what is tried first refuses first
 infixl 10 ◌>>=◌
@@ -84,9 +84,9 @@ abbrev pub entries_on : ℕ → List Entry → List (List ℕ) → Result (List 
 entries_on n es [] = Ok es
 entries_on n es (p ∷ ps) = entry_of n p >>= λ e. joined n e es >>= λ more. entries_on (n + 1) more ps
 
--- the entries of a text, each tried in order, or the first refusal
-abbrev pub entries_of : List ℕ → Result (List Entry) AclError
-entries_of text = entries_on 1 [] (pieces text)
+-- the entries of these texts, each tried in order, or the first refusal
+abbrev pub entries_of : List (List ℕ) → Result (List Entry) AclError
+entries_of texts = entries_on 1 [] texts
 
 -- what the whole list lacks first
 abbrev pub lacking : List Entry → Option AclError
@@ -102,6 +102,14 @@ abbrev pub refusal_in : Result (List Entry) AclError → Option AclError
 refusal_in (Ok es) = lacking es
 refusal_in (Err e) = Some e
 
--- the first refusal of a text; none where it spells a list
+-- the first refusal of the texts of entries; none where they spell a list
+abbrev pub first_refusal : List (List ℕ) → Option AclError
+first_refusal texts = refusal_in (entries_of texts)
+
+-- the first refusal of a short text
 abbrev pub acl_refusal : List ℕ → Option AclError
-acl_refusal text = refusal_in (entries_of text)
+acl_refusal text = first_refusal (pieces text)
+
+-- the first refusal of a long text
+abbrev pub long_refusal : List ℕ → Option AclError
+long_refusal text = first_refusal (long_pieces text)

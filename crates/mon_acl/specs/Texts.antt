@@ -1,6 +1,6 @@
--- Which text spells which entry, and which short text spells which permission list (acl(5) "ACL TEXT FORMS").
-use Rattle.std.specs.Prelude.{◌≡◌, ℕ, ◌==◌, Bool, ◌||◌, if◌then◌else◌, List, [], ◌∷◌, map, reverse, count_by, ◌⊎◌, IsPermutation, IsTrue, codes}
-use Rattle.std.specs.List.{list_all, slice_split, AllZip}
+-- Which text spells which entry, and which short or long text spells which permission list (acl(5) "ACL TEXT FORMS").
+use Rattle.std.specs.Prelude.{◌≡◌, ℕ, ◌==◌, Bool, ◌||◌, not, if◌then◌else◌, List, [], ◌∷◌, map, reverse, count_by, ◌⊎◌, IsPermutation, IsTrue, codes}
+use Rattle.std.specs.List.{list_all, filter, slice_split, AllZip}
 use Rattle.mon_acl.specs.declared.entries.Perms.{Perms}
 use Rattle.mon_acl.specs.declared.entries.Tag.{Tag}
 use Rattle.mon_acl.specs.declared.entries.Tag.TheVariants.{UserObj, User, GroupObj, Group, Mask, Other}
@@ -28,9 +28,30 @@ is_comma c = c == 44
 abbrev pub is_colon : ℕ → Bool
 is_colon c = c == 58
 
--- what stands between commas: the texts of the entries
+-- what stands between commas: the texts of the entries in the short form
 abbrev pub pieces : List ℕ → List (List ℕ)
 pieces text = slice_split is_comma text
+
+-- LF
+abbrev pub is_line_feed : ℕ → Bool
+is_line_feed c = c == 10
+
+-- `#`
+abbrev pub is_hash : ℕ → Bool
+is_hash c = c == 35
+
+-- a line up to its comment, which is the first `#` and all behind it
+abbrev pub without_comment : List ℕ → List ℕ
+without_comment [] = []
+without_comment (c ∷ cs) = if is_hash c then [] else c ∷ without_comment cs
+
+-- not blanks alone
+abbrev pub is_filled : List ℕ → Bool
+is_filled line = not (list_all is_gap line)
+
+-- what stands on the lines before their comments, where that is not blank: the texts of the entries in the long form
+abbrev pub long_pieces : List ℕ → List (List ℕ)
+long_pieces text = filter is_filled (map without_comment (slice_split is_line_feed text))
 
 -- what stands between colons, without the blanks round it: the fields of an entry's text
 abbrev pub fields : List ℕ → List (List ℕ)
@@ -90,6 +111,14 @@ SpellsFields _ e = ⊥
 abbrev pub SpellsEntry : List ℕ → Entry → Type 0
 SpellsEntry text e = IsEntry e × SpellsFields (fields text) e
 
--- a text and the permission list that it spells: its pieces spell the entries, in any order
+-- the texts of entries, and the permission list that they spell, in any order
+abbrev pub SpellList : List (List ℕ) → List Entry → Type 0
+SpellList texts es = IsAcl es × (written : List Entry) × AllZip SpellsEntry texts written × IsPermutation written es
+
+-- a text in the short form and the permission list that it spells
 abbrev pub IsShortText : List ℕ → List Entry → Type 0
-IsShortText text es = IsAcl es × (written : List Entry) × AllZip SpellsEntry (pieces text) written × IsPermutation written es
+IsShortText text es = SpellList (pieces text) es
+
+-- a text in the long form and the permission list that it spells
+abbrev pub IsLongText : List ℕ → List Entry → Type 0
+IsLongText text es = SpellList (long_pieces text) es

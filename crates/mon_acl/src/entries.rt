@@ -1,9 +1,9 @@
 //! The entries of a permission list: a type, a qualifier and permissions.
-ghost use Rattle.std.specs.Prelude.{◌≡◌, ◌++◌, OnOk};
-ghost use Rattle.mon_acl.specs.Permissions.{holds};
+ghost use Rattle.std.specs.Prelude.{◌≡◌, ◌++◌, Some, OnOk};
+ghost use Rattle.mon_acl.specs.Permissions.{holds, common};
 ghost use Rattle.mon_acl.specs.Entries.{rank, qualifier, compared, is_named};
 ghost use Rattle.mon_acl.specs.Texts.{tag_word};
-ghost use Rattle.mon_acl.specs.Printing.{entry_head, entry_text, letter, perms_text};
+ghost use Rattle.mon_acl.specs.Printing.{entry_head, entry_text, letter, perms_text, is_masked, effective, effective_text, long_line};
 
 use mon_text::Name;
 use std::alloc::AllocError;
@@ -65,6 +65,17 @@ impl Perms {
             && (!request.execute || self.execute)
     }
 
+    /// The permissions that both hold.
+    fn common(self, other: Perms) -> Perms
+        ensures { result ≡ common self other }
+    {
+        Perms {
+            read: self.read && other.read,
+            write: self.write && other.write,
+            execute: self.execute && other.execute,
+        }
+    }
+
     /// Appends the three places `rwx`, with `-` for what is not held.
     fn put(self, out: &mut Vec<u8>) -> Result<(), AllocError>
         ensures { OnOk result (out.new.items ≡ out.old.items ++ perms_text self) }
@@ -107,6 +118,8 @@ impl Tag {
 }
 
 impl fmt::Display for Tag {
+    ghost output = { λ tag. Some (tag_word tag) };
+
     fn fmt<W: fmt::Write>(&self, f: &mut fmt::Formatter<W>) -> fmt::Result {
         f.write_str(match self {
             Tag::UserObj | Tag::User => "user",
@@ -166,6 +179,40 @@ impl Entry {
         self.perms.put(out)
     }
 
+    /// Appends the line of the entry under a mask, as `user:lisa:rw-`, with a tab and `#effective:r--` behind it
+    /// where the mask takes a permission away. The line is ended by LF.
+    ///
+    /// # Errors
+    ///
+    /// Where a growth was refused; `out` may then hold a part of the line.
+    pub fn put_line(&self, mask: Option<Perms>, out: &mut Vec<u8>) -> Result<(), AllocError>
+        ensures { OnOk result (out.new.items ≡ out.old.items ++ long_line mask self.now) }
+    {
+        self.put(out)?;
+        put_effective(self.effective(mask), out)?;
+        out.push(b'\n')?;
+        Ok(())
+    }
+
+    /// What a mask leaves of the permissions, where it takes any away.
+    fn effective(&self, mask: Option<Perms>) -> Option<Perms>
+        ensures { result ≡ effective mask self.now }
+    {
+        let mask = mask?;
+        if self.is_masked() && !mask.contains(self.perms) {
+            Some(self.perms.common(mask))
+        } else {
+            None
+        }
+    }
+
+    /// Whether the mask limits the entry.
+    fn is_masked(&self) -> bool
+        ensures { result ≡ is_masked self.now }
+    {
+        matches!(self.tag, Tag::User | Tag::GroupObj | Tag::Group)
+    }
+
     /// Whether the entry is for one user or group by name.
     pub(crate) fn is_named(&self) -> bool
         ensures { result ≡ is_named self.now }
@@ -179,5 +226,18 @@ impl Entry {
     {
         let by_type = self.tag.rank().cmp(&other.tag.rank());
         by_type.then(self.qualifier().cmp(other.qualifier()))
+    }
+}
+
+/// Appends the comment that tells what the mask leaves, where it takes any away.
+fn put_effective(effective: Option<Perms>, out: &mut Vec<u8>) -> Result<(), AllocError>
+    ensures { OnOk result (out.new.items ≡ out.old.items ++ effective_text effective) }
+{
+    match effective {
+        Some(perms) => {
+            out.extend_from_slice(b"\t#effective:")?;
+            perms.put(out)
+        }
+        None => Ok(()),
     }
 }

@@ -5,7 +5,7 @@ ghost use Rattle.mon_acl.specs.Texts.{is_gap, without_leading_gaps, trimmed};
 ghost use Rattle.mon_acl.specs.Reading.{parts_behind};
 
 /// Whether a byte is a space or a tab.
-fn is_gap(byte: u8) -> bool
+pub(crate) fn is_gap(byte: u8) -> bool
     ensures { result ≡ is_gap byte }
 {
     byte == b' ' || byte == b'\t'

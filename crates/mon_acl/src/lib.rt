@@ -1,4 +1,4 @@
-//! Permission lists after acl(5): their entries, which lists are valid, and the short text form.
+//! Permission lists after acl(5): their entries, which lists are valid, and their two text forms.
 //!
 //! A contract sees an `Acl` as the list of its entries in canonical order.
 #![tactic(auto)]
@@ -8,6 +8,7 @@ pub mod entries;
 mod fields;
 pub mod laws;
 pub mod list;
+mod pieces;
 mod reading;
 pub mod refusals;
 #[cfg(test)]

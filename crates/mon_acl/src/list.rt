@@ -1,15 +1,15 @@
-//! Permission lists, and their short text form.
+//! Permission lists, and their text forms.
 ghost use Rattle.std.specs.Prelude.{◌≡◌, ◌++◌, List, length, flat_map, IfOk, IfErr, OnOk, slice_get, option_copied};
-ghost use Rattle.mon_acl.specs.Printing.{short_form, next_text};
+ghost use Rattle.mon_acl.specs.Printing.{short_form, next_text, mask_of, long_line, long_form};
 ghost use Rattle.mon_acl.specs.declared.entries.Entry.{Entry};
-ghost use Rattle.mon_acl.specs.Texts.{IsShortText};
-ghost use Rattle.mon_acl.specs.Refusals.{acl_refusal};
+ghost use Rattle.mon_acl.specs.Texts.{IsShortText, IsLongText};
+ghost use Rattle.mon_acl.specs.Refusals.{acl_refusal, long_refusal};
 ghost use Rattle.mon_acl.specs.Entries.{IsAcl, IsCanonical};
-ghost use Rattle.mon_acl.specs.Reading.{Gives, IsRefusal, piece_added, canonical_entries_of, read_short};
+ghost use Rattle.mon_acl.specs.Reading.{Gives, IsRefusal, pieces_in, piece_added, canonical_entries_of, read_pieces, read_short, read_long};
 
 use crate::arranging::{ENTRIES_INLINE, add, lacking};
-use crate::entries::Entry;
-use crate::fields::cut;
+use crate::entries::{Entry, Perms, Tag};
+use crate::pieces::Form;
 use crate::reading::entry_of;
 use crate::refusals::AclError;
 use smallvec::SmallVec;
@@ -49,7 +49,23 @@ impl Acl {
         ensures refused { IfErr result (λ error. IsRefusal error (acl_refusal text.now)) }
         ensures computed { Gives (λ acl. acl) result (read_short text.now) }
     {
-        read_list(alloc, text)
+        read_list(alloc, Form::Short, text)
+    }
+
+    /// Reads the long text form: an entry a line, in any order. A `#` begins a comment, which ends with its line.
+    /// Lines that are blank without their comment are skipped. The last line may end without LF.
+    ///
+    /// # Errors
+    ///
+    /// The first refusal of the text: entry by entry, and then what the whole list lacks. Lines without an entry are
+    /// not counted. `Memory` where a growth was refused.
+    pub fn parse_long(alloc: Global, text: &[u8]) -> Result<Acl, AclError>
+        ensures spelled { IfOk result (λ acl. IsLongText text.now acl) }
+        ensures only { (es : List Entry) → IsLongText text.now es → Gives (λ acl. acl) result (Ok es) }
+        ensures refused { IfErr result (λ error. IsRefusal error (long_refusal text.now)) }
+        ensures computed { Gives (λ acl. acl) result (read_long text.now) }
+    {
+        read_list(alloc, Form::Long, text)
     }
 
     /// Appends the short text form, in canonical order, with full words and three places for permissions.
@@ -67,6 +83,27 @@ impl Acl {
                 put_others(others, out)
             }
         }
+    }
+
+    /// Appends the long text form: a line an entry, in canonical order, each ended by LF. An entry of a named user, the
+    /// owning group or a named group from which the mask takes permissions away is followed by a tab, `#effective:` and
+    /// what the mask leaves.
+    ///
+    /// # Errors
+    ///
+    /// Where a growth was refused; `out` may then hold a part of the text.
+    pub fn put_long(&self, out: &mut Vec<u8>) -> Result<(), AllocError>
+        ensures { OnOk result (out.new.items ≡ out.old.items ++ long_form self.now) }
+    {
+        put_lines(self.entries(), self.mask(), out)
+    }
+
+    /// The permissions of the mask, where there is one.
+    pub fn mask(&self) -> Option<Perms>
+        ensures { result ≡ mask_of self.now }
+    {
+        let mask = self.entries().iter().find(|entry| entry.tag == Tag::Mask)?;
+        Some(mask.perms)
     }
 
     /// The entries in canonical order.
@@ -110,10 +147,10 @@ impl Acl {
 }
 
 /// The list that a text spells.
-fn read_list(alloc: Global, text: &[u8]) -> Result<Acl, AclError>
-    ensures { Gives (λ acl. acl) result (read_short text.now) }
+fn read_list(alloc: Global, form: Form, text: &[u8]) -> Result<Acl, AclError>
+    ensures { Gives (λ acl. acl) result (read_pieces (pieces_in form text.now)) }
 {
-    let entries = read_entries(alloc, text)?;
+    let entries = read_entries(alloc, form, text)?;
     match lacking(entries.as_slice()) {
         Some(refusal) => Err(refusal),
         None => Ok(Acl { entries }),
@@ -121,14 +158,17 @@ fn read_list(alloc: Global, text: &[u8]) -> Result<Acl, AclError>
 }
 
 /// The entries of a text, in canonical order.
-fn read_entries(alloc: Global, text: &[u8]) -> Result<SmallVec<Entry, ENTRIES_INLINE>, AclError>
-    ensures { Gives (λ entries. entries.items) result (canonical_entries_of text.now) }
+fn read_entries(
+    alloc: Global,
+    form: Form,
+    text: &[u8],
+) -> Result<SmallVec<Entry, ENTRIES_INLINE>, AclError>
+    ensures { Gives (λ entries. entries.items) result (canonical_entries_of (pieces_in form text.now)) }
 {
     let mut entries = SmallVec::new(alloc);
     let mut n = 1;
     let mut rest = Some(text);
-    while let Some(pieces) = rest {
-        let (piece, after) = cut(pieces, b',');
+    while let Some((piece, after)) = form.next(rest) {
         read_piece(&mut entries, n, piece)?;
         n += 1;
         rest = after;
@@ -156,6 +196,16 @@ fn put_others(others: &[Entry], out: &mut Vec<u8>) -> Result<(), AllocError>
     for other in others {
         out.push(b',')?;
         other.put(out)?;
+    }
+    Ok(())
+}
+
+/// Appends the lines of entries under a mask.
+fn put_lines(entries: &[Entry], mask: Option<Perms>, out: &mut Vec<u8>) -> Result<(), AllocError>
+    ensures { OnOk result (out.new.items ≡ out.old.items ++ flat_map (long_line mask) entries.now) }
+{
+    for entry in entries {
+        entry.put_line(mask, out)?;
     }
     Ok(())
 }

@@ -1,4 +1,4 @@
-//! Reading one entry of the short text form.
+//! Reading one entry of a text.
 ghost use Rattle.std.specs.Prelude.{◌≡◌, map, option_map, option_copied};
 ghost use Rattle.std.specs.List.{list_all};
 ghost use Rattle.mon_acl.specs.Texts.{is_permission, times, trimmed, is_colon};

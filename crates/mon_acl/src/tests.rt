@@ -1,4 +1,5 @@
-//! The short text form on texts whose answers are known, and the calls that allocate on their happy path.
+//! The text forms on texts whose answers are known, and the calls that allocate on their happy path.
+use crate::pieces::Form;
 use crate::{Acl, AclError, Perms, Tag};
 use std::alloc::{AllocError, Global};
 use std::process::Abort;
@@ -104,10 +105,37 @@ const TEXTS: &str = "\
     o::x,m::w,g:b:r,g:a:r,g::,u:b:r,u:a:r,u::|user::---,user:a:r--,user:b:r--,group::---,group:a:r--,group:b:r--,mask::-w-,other::--x|canonical order\n\
     u:b:,u:B:,u:a1:,u:a-:,u:a.:,u:a_:,u:aa:,u:a:,u::,g::,m::,o::|user::---,user:B:---,user:a:---,user:a-:---,user:a.:---,user:a1:---,user:a_:---,user:aa:---,user:b:---,group::---,mask::---,other::---|named users by bytes: capitals, hyphen, dot, digits, underline, small letters; a shorter one first";
 
+/// The same for long texts; `$` stands for LF.
+const LONG_TEXTS: &str = "\
+    # file: x$user::rw-$user:lisa:rw-\t#effective:r--$group::r--$mask::r--$other::---$|user::rw-,user:lisa:rw-,group::r--,mask::r--,other::---|comments and a tab before #effective:\n\
+    # new list$user::rw-$user:hugo:r--  # ops$group::---$mask::r$other::---$|user::rw-,user:hugo:r--,group::---,mask::r--,other::---|a comment after blanks; permissions need not be padded\n\
+    u::r$g::r$o::$|user::r--,group::r--,other::---|an entry a line\n\
+    u::r$g::r$o::|user::r--,group::r--,other::---|a last line without its line end\n\
+    $$  u::r$\t$ g::r $#$o::$$|user::r--,group::r--,other::---|blank lines are skipped\n\
+    |Missing(UserObj)|no line at all: no entry\n\
+    # nothing$$|Missing(UserObj)|comments alone: no entry\n\
+    u::r#w$g::r# r$o::#$|user::r--,group::r--,other::---|`#` starts a comment wherever it stands\n\
+    #u::r$u::w$g::r$o::$|user::-w-,group::r--,other::---|a line that is a comment is skipped\n\
+    u::#r$g#::r$o::$|BadPerms(2)|the comment cuts the entry: one field is left\n\
+    u::r$$# c$g::zz$o::$|BadPerms(2)|blank lines and comments are not counted as entries\n\
+    u::r,g::r,o::$|BadPerms(1)|no commas in the long form: seven fields\n\
+    u::r,$g::r$o::$|BadPerms(1)|a comma belongs to the permissions\n\
+    ,$u::r$|BadTag(1)|a comma is no tag\n\
+    u::r$q::r$|BadTag(2)|BadTag in the long form\n\
+    u::r$u:1a:r$|BadQualifier(2)|BadQualifier in the long form\n\
+    u::r$m:a:r$|BadQualifier(2)|BadQualifier for mask in the long form\n\
+    u::r$g:r$|BadPerms(2)|BadPerms for two fields in the long form\n\
+    u::r$$#$u::r$|Twice(2)|Twice in the long form, entries counted\n\
+    u::r$u:lisa:r$g::r$o::$|NoMask|NoMask in the long form\n\
+    u::r$g::r$|Missing(Other)|Missing in the long form\n\
+    m:rw$ u : lisa : rwx \t#effective:rw-$u::$g:ops:x\t\t#effective:---$g::$o:x$|user::---,user:lisa:rwx,group::---,group:ops:--x,mask::rw-,other::--x|effective comments are not read";
+
 /// A text before some named entries, how many users and groups they are, a text behind them, and the answer.
-const MANY_NAMED: [(&str, u8, u8, &str, &str); 8] = [
+const MANY_NAMED: [(&str, u8, u8, &str, &str); 9] = [
     // the 101st named entry
     ("", 101, 0, "", "TooMany(101)"),
+    // the 101st named entry before what the whole list lacks
+    ("u::rwx,", 101, 0, "", "TooMany(102)"),
     // users and groups count together
     ("u::,g::,o::,m::,", 60, 41, "", "TooMany(105)"),
     // the type before the count
@@ -128,9 +156,25 @@ const MANY_NAMED: [(&str, u8, u8, &str, &str); 8] = [
 const HUNDRED_USERS: &str =
     "user::---,user:n1:r--,user:n10:r--,user:n100:r--,user:n11:r--,user:n12:r--,user:n13:r--,user:n14:r--,user:n15:r--,user:n16:r--,user:n17:r--,user:n18:r--,user:n19:r--,user:n2:r--,user:n20:r--,user:n21:r--,user:n22:r--,user:n23:r--,user:n24:r--,user:n25:r--,user:n26:r--,user:n27:r--,user:n28:r--,user:n29:r--,user:n3:r--,user:n30:r--,user:n31:r--,user:n32:r--,user:n33:r--,user:n34:r--,user:n35:r--,user:n36:r--,user:n37:r--,user:n38:r--,user:n39:r--,user:n4:r--,user:n40:r--,user:n41:r--,user:n42:r--,user:n43:r--,user:n44:r--,user:n45:r--,user:n46:r--,user:n47:r--,user:n48:r--,user:n49:r--,user:n5:r--,user:n50:r--,user:n51:r--,user:n52:r--,user:n53:r--,user:n54:r--,user:n55:r--,user:n56:r--,user:n57:r--,user:n58:r--,user:n59:r--,user:n6:r--,user:n60:r--,user:n61:r--,user:n62:r--,user:n63:r--,user:n64:r--,user:n65:r--,user:n66:r--,user:n67:r--,user:n68:r--,user:n69:r--,user:n7:r--,user:n70:r--,user:n71:r--,user:n72:r--,user:n73:r--,user:n74:r--,user:n75:r--,user:n76:r--,user:n77:r--,user:n78:r--,user:n79:r--,user:n8:r--,user:n80:r--,user:n81:r--,user:n82:r--,user:n83:r--,user:n84:r--,user:n85:r--,user:n86:r--,user:n87:r--,user:n88:r--,user:n89:r--,user:n9:r--,user:n90:r--,user:n91:r--,user:n92:r--,user:n93:r--,user:n94:r--,user:n95:r--,user:n96:r--,user:n97:r--,user:n98:r--,user:n99:r--,group::---,mask::r--,other::---";
 
+/// Permissions, each of the eight.
+const PERMS: [&str; 8] = ["", "r", "w", "x", "rw", "rx", "wx", "rwx"];
+
+/// A list under whose mask some entries keep all permissions, some a part and some none.
+const MASKED: &[u8] = b"u::rwx,u:hugo:rwx,u:lisa:r,g::w,g:ops:rw,g:staff:,g:temp:x,m::r,o::rwx";
+
+const MASKED_SHORT: &[u8] =
+    b"user::rwx,user:hugo:rwx,user:lisa:r--,group::-w-,group:ops:rw-,group:staff:---,group:temp:--x,mask::r--,other::rwx";
+
+const MASKED_LONG: &[u8] =
+    b"user::rwx\nuser:hugo:rwx\t#effective:r--\nuser:lisa:r--\ngroup::-w-\t#effective:---\ngroup:ops:rw-\t#effective:r--\ngroup:staff:---\ngroup:temp:--x\t#effective:---\nmask::r--\nother::rwx\n";
+
 /// The list that a text spells, as it is printed, or its refusal.
-fn answer(alloc: Global, text: &[u8]) -> Result<Vec<u8>, AllocError> {
-    match Acl::parse_short(alloc, text) {
+fn answer(alloc: Global, form: Form, text: &[u8]) -> Result<Vec<u8>, AllocError> {
+    let read = match form {
+        Form::Short => Acl::parse_short(alloc, text),
+        Form::Long => Acl::parse_long(alloc, text),
+    };
+    match read {
         Ok(acl) => printed(alloc, &acl),
         Err(AclError::Memory) => Err(AllocError),
         Err(refusal) => Ok(format!(in alloc; "{refusal:?}")?.into_bytes()),
@@ -140,6 +184,25 @@ fn answer(alloc: Global, text: &[u8]) -> Result<Vec<u8>, AllocError> {
 fn printed(alloc: Global, acl: &Acl) -> Result<Vec<u8>, AllocError> {
     let mut out = Vec::new(alloc);
     acl.put_short(&mut out)?;
+    Ok(out)
+}
+
+fn printed_long(alloc: Global, acl: &Acl) -> Result<Vec<u8>, AllocError> {
+    let mut out = Vec::new(alloc);
+    acl.put_long(&mut out)?;
+    Ok(out)
+}
+
+/// A text with another in the place of each sign.
+fn replaced(alloc: Global, text: &[u8], sign: u8, other: &[u8]) -> Result<Vec<u8>, AllocError> {
+    let mut out = Vec::new(alloc);
+    for byte in text {
+        if *byte == sign {
+            out.extend_from_slice(other)?;
+        } else {
+            out.push(*byte)?;
+        }
+    }
     Ok(out)
 }
 
@@ -170,15 +233,17 @@ fn named_between(
 }
 
 /// Compares each text of a table with its answer.
-fn compare(rt: &impl Abort, alloc: Global, table: &str) -> Result<(), Fail> {
+fn compare(rt: &impl Abort, alloc: Global, form: Form, table: &str) -> Result<(), Fail> {
     for line in table.lines() {
         let (text, rest) = line.split_once('|').ok_or("no answer")?;
         let (expected, why) = rest.split_once('|').ok_or("no reason")?;
-        let answer = answer(alloc, text.as_bytes())?;
+        let text = replaced(alloc, text.as_bytes(), b'$', b"\n")?;
+        let answer = answer(alloc, form, &text)?;
         assert_eq!(rt;
             answer.as_slice(),
             expected.as_bytes(),
-            "at {text:?}: {why}"
+            "at {:?}: {why}",
+            text.as_slice()
         );
     }
     Ok(())
@@ -186,16 +251,28 @@ fn compare(rt: &impl Abort, alloc: Global, table: &str) -> Result<(), Fail> {
 
 #[test]
 fn short_texts(rt: HostRuntime) -> Result<(), Fail> {
-    compare(&rt, rt.alloc(), TEXTS)
+    compare(&rt, rt.alloc(), Form::Short, TEXTS)
+}
+
+#[test]
+fn long_texts(rt: HostRuntime) -> Result<(), Fail> {
+    compare(&rt, rt.alloc(), Form::Long, LONG_TEXTS)
 }
 
 #[test]
 fn many_named(rt: HostRuntime) -> Result<(), Fail> {
     for (before, users, groups, behind, expected) in MANY_NAMED {
         let text = named_between(rt.alloc(), before, users, groups, behind)?;
-        let answer = answer(rt.alloc(), text.as_bytes())?;
+        let short = answer(rt.alloc(), Form::Short, text.as_bytes())?;
         assert_eq!(rt;
-            answer.as_slice(),
+            short.as_slice(),
+            expected.as_bytes(),
+            "at {users} and {behind:?}"
+        );
+        let lines = replaced(rt.alloc(), text.as_bytes(), b',', b"\n# c\n")?;
+        let long = answer(rt.alloc(), Form::Long, &lines)?;
+        assert_eq!(rt;
+            long.as_slice(),
             expected.as_bytes(),
             "at {users} and {behind:?}"
         );
@@ -211,7 +288,7 @@ fn hundred_users(rt: HostRuntime) -> Result<(), Fail> {
     assert_eq!(rt; copy.len(), 104);
     let copied = printed(rt.alloc(), &copy)?;
     assert_eq!(rt; copied.as_slice(), HUNDRED_USERS.as_bytes());
-    let again = answer(rt.alloc(), HUNDRED_USERS.as_bytes())?;
+    let again = answer(rt.alloc(), Form::Short, HUNDRED_USERS.as_bytes())?;
     assert_eq!(rt; again.as_slice(), HUNDRED_USERS.as_bytes());
     Ok(())
 }
@@ -249,5 +326,101 @@ fn entries_in_order(rt: HostRuntime) -> Result<(), Fail> {
     assert_eq!(rt; lisa.perms, Perms::new(true, true, false));
     assert!(rt; lisa.perms.contains(Perms::new(false, true, false)));
     assert!(rt; !lisa.perms.contains(Perms::new(true, false, true)));
+    Ok(())
+}
+
+#[test]
+fn effective_comments(rt: HostRuntime) -> Result<(), Fail> {
+    let acl = Acl::parse_short(rt.alloc(), MASKED)?;
+    let mut out = Vec::from_slice(rt.alloc(), b"before")?;
+    acl.put_long(&mut out)?;
+    assert_eq!(rt; &out[..6], b"before".as_slice());
+    assert_eq!(rt; &out[6..], MASKED_LONG);
+    let unmasked = Acl::parse_short(rt.alloc(), b"u::x,g::rwx,o::r")?;
+    let lines = printed_long(rt.alloc(), &unmasked)?;
+    assert_eq!(rt;
+        lines.as_slice(),
+        b"user::--x\ngroup::rwx\nother::r--\n".as_slice()
+    );
+    Ok(())
+}
+
+/// A list with so many named users and groups, whose permissions go through the eight.
+fn list_of(alloc: Global, users: u8, groups: u8, mask: &str) -> Result<String, AllocError> {
+    let mut text = String::from_str(alloc, "o::x,g::rw,u::w")?;
+    for i in 0..users {
+        let perms = PERMS[(usize::from(i) + usize::from(groups)) % 8];
+        text.push_str(format!(in alloc; ",u:n{i}:{perms}")?.as_str())?;
+    }
+    for i in 0..groups {
+        let perms = PERMS[(usize::from(i) + usize::from(users)) % 8];
+        text.push_str(format!(in alloc; ",g:n{i}:{perms}")?.as_str())?;
+    }
+    text.push_str(mask)?;
+    Ok(text)
+}
+
+/// 50 lists: none to four named users, none to four named groups, two masks, and none where none is needed.
+#[test]
+fn long_forms_read_back(rt: HostRuntime) -> Result<(), Fail> {
+    for i in 0..50u8 {
+        let (users, groups) = (i % 5, i / 5 % 5);
+        let mask = match i {
+            0 => "",
+            1..25 => ",m::rx",
+            _ => ",m::w",
+        };
+        let text = list_of(rt.alloc(), users, groups, mask)?;
+        let acl = Acl::parse_short(rt.alloc(), text.as_bytes())?;
+        let lines = printed_long(rt.alloc(), &acl)?;
+        let again = Acl::parse_long(rt.alloc(), &lines)?;
+        let short = printed(rt.alloc(), &acl)?;
+        let short_again = printed(rt.alloc(), &again)?;
+        assert_eq!(rt; short_again.as_slice(), short.as_slice(), "at {text}");
+    }
+    Ok(())
+}
+
+/// Whether a text of a list is the whole text, or where memory was refused a beginning of it.
+fn is_told(put: Result<(), AllocError>, out: &[u8], text: &[u8]) -> bool {
+    match put {
+        Ok(()) => out == text,
+        Err(AllocError) => text.starts_with(out),
+    }
+}
+
+/// Whether two lists have the same entries.
+fn are_same(one: &Acl, other: &Acl) -> bool {
+    let same = one.entries().iter().zip(other.entries()).all(|(a, b)| {
+        a.tag == b.tag && a.qualifier() == b.qualifier() && a.perms == b.perms
+    });
+    same && one.len() == other.len()
+}
+
+/// Under `rt try --test --fail-alloc N` the Nth growth is refused: that is told, and nothing else differs. Asked once
+/// more, a call answers as ever, since one growth is refused at the most.
+#[test]
+fn a_refused_growth_is_told(rt: HostRuntime) -> Result<(), Fail> {
+    let acl = match Acl::parse_short(rt.alloc(), MASKED) {
+        Err(AclError::Memory) => Acl::parse_short(rt.alloc(), MASKED)?,
+        answer => answer?,
+    };
+    let copy = match acl.copy(rt.alloc()) {
+        Err(AllocError) => acl.copy(rt.alloc())?,
+        Ok(copy) => copy,
+    };
+    assert!(rt; are_same(&acl, &copy));
+    let mut short = Vec::new(rt.alloc());
+    let put = acl.put_short(&mut short);
+    assert!(rt; is_told(put, &short, MASKED_SHORT));
+    let mut lines = Vec::new(rt.alloc());
+    let put = acl.put_long(&mut lines);
+    assert!(rt; is_told(put, &lines, MASKED_LONG));
+    let again = match Acl::parse_long(rt.alloc(), MASKED_LONG) {
+        Err(AclError::Memory) => Acl::parse_long(rt.alloc(), MASKED_LONG)?,
+        answer => answer?,
+    };
+    assert!(rt; are_same(&acl, &again));
+    assert!(rt; are_same(&acl, &copy));
     Ok(())
 }

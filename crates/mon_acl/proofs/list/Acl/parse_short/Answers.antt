@@ -1,11 +1,12 @@
-use Rattle.mon_acl.proofs.Whole.{gives_text, gives_only, gives_refusal}
+use Rattle.mon_acl.specs.Texts.{pieces}
+use Rattle.mon_acl.proofs.Whole.{gives_list, gives_only, gives_refusal}
 use Rattle.mon_acl.proofs.list.Acl.parse_short.Goals as goal
 
 pub returns-clause-spelled : goal.returns-clause-spelled
-returns-clause-spelled c = gives_text c.args.text.now c.read_list.result c.read_list.ensures
+returns-clause-spelled c = gives_list (pieces c.args.text.now) c.read_list.result c.read_list.ensures
 
 pub returns-clause-only : goal.returns-clause-only
-returns-clause-only c = gives_only c.args.text.now c.read_list.result c.read_list.ensures
+returns-clause-only c = gives_only (pieces c.args.text.now) c.read_list.result c.read_list.ensures
 
 pub returns-clause-refused : goal.returns-clause-refused
-returns-clause-refused c = gives_refusal c.args.text.now c.read_list.result c.read_list.ensures
+returns-clause-refused c = gives_refusal (pieces c.args.text.now) c.read_list.result c.read_list.ensures

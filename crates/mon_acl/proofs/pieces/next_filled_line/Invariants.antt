@@ -1,0 +1,13 @@
+use Rattle.std.proofs.Common.{◌≡◌, ◌≤◌, option_copied}
+use Rattle.mon_acl.specs.Reading.{pieces_left, left}
+use Rattle.mon_acl.specs.declared.pieces.Form.TheVariants.{Long}
+use Rattle.mon_acl.proofs.pieces.next_filled_line.Given as goal
+
+abbrev pub invariant-loop-rest : goal.invariant-loop-rest
+invariant-loop-rest l = record {
+  reads : pieces_left Long (option_copied l.fn.lines) ≡ pieces_left Long (option_copied l.rest);
+  within : left (option_copied l.rest) ≤ left (option_copied l.fn.lines);
+}
+
+abbrev pub decreases-loop-rest : goal.decreases-loop-rest
+decreases-loop-rest l = left (option_copied l.rest)
