@@ -1,17 +1,20 @@
 -- What was written is read back.
-use Rattle.std.proofs.Common.{◌≡◌, ℕ, List, [], ◌∷◌, Ok, length, refl}
+use Rattle.std.proofs.Common.{◌≡◌, ℕ, List, [], ◌∷◌, Ok, length, refl, ap, ◌∙◌}
 use Rattle.std.specs.Prelude.{decimal}
 use Rattle.std.specs.List.{AllByRecursion}
 use Rattle.mon_acl.specs.Printing.{short_form}
 use Rattle.mon_catalogue.proofs.Acls.{reading_spells, reads_back}
 use Rattle.mon_catalogue.specs.declared.data_set.DataSet.{DataSet}
 use Rattle.mon_catalogue.specs.Sets.{Sets}
-use Rattle.mon_catalogue.specs.Stored.{IsStored, IsStoredSet}
-use Rattle.mon_catalogue.specs.Text.{set_line, catalogue_lines}
+use Rattle.std.specs.Str.Lines.{lines}
+use Rattle.mon_catalogue.specs.Stored.{IsStored, IsStoredSet, ArePrintable}
+use Rattle.mon_catalogue.specs.Text.{set_line, catalogue_lines, catalogue_text}
 use Rattle.mon_catalogue.specs.Reading.{catalogue_of}
 use Rattle.mon_catalogue.specs.Spelling.{SpellsHead, SpellsSets, IsCatalogueText}
+use Rattle.mon_catalogue.proofs.Bytes.{lines_of_text}
 use Rattle.mon_catalogue.proofs.Complete.{text_read}
 use Rattle.mon_catalogue.proofs.Counts.{count_of_decimal}
+use Rattle.mon_catalogue.proofs.Printable.{catalogue_lines_show}
 use Rattle.mon_catalogue.proofs.Words.{words_of_line}
 
 head_spelled : (named : List ℕ × DataSet) → IsStoredSet named → SpellsHead (set_line named.0 named.1) named.0 named.1
@@ -43,6 +46,13 @@ lines_spell sets (is, stored) = (sets_spelled sets stored, is)
 -- and are read as it
 pub catalogue_reads_back : (sets : Sets) → IsStored sets → catalogue_of (catalogue_lines sets) ≡ Ok sets
 catalogue_reads_back sets stored = text_read (catalogue_lines sets) sets (lines_spell sets stored)
+
+-- the bytes that are written, cut at each LF, are these lines
+pub lines_of_bytes : (sets : Sets) → IsStored sets → ArePrintable sets → lines (catalogue_text sets) ≡ catalogue_lines sets
+lines_of_bytes sets (is, stored) printable = lines_of_text (catalogue_lines sets) (catalogue_lines_show sets stored printable)
+
+pub bytes_read_back : (sets : Sets) → IsStored sets → ArePrintable sets → catalogue_of (lines (catalogue_text sets)) ≡ Ok sets
+bytes_read_back sets stored printable = ap catalogue_of (lines_of_bytes sets stored printable) ∙ catalogue_reads_back sets stored
 
 all_stored : (sets : Sets) (lines : List (List ℕ)) → SpellsSets lines sets → AllByRecursion IsStoredSet sets
 all_stored [] lines spells = tt

@@ -5,10 +5,14 @@ pub mod Readings
 pub mod Acls
 pub mod Blanks
 pub mod Names
+pub mod Changing
+pub mod Changed
 pub mod Complete
 pub mod Sound
 pub mod Whole
 pub mod Counts
 pub mod Words
+pub mod Bytes
+pub mod Printable
 pub mod Back
 pub mod Examples

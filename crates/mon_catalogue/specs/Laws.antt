@@ -1,11 +1,17 @@
 -- What holds of texts and catalogues whatever they are: each is the contract of a function in `laws`.
-use Rattle.std.specs.Prelude.{◌≡◌, ℕ, List, [], ◌∷◌, ◌++◌, Ok, ◌↔◌}
-use Rattle.mon_catalogue.specs.Sets.{Sets}
+use Rattle.std.specs.Prelude.{◌≡◌, ◌≢◌, ℕ, nat_eq, not, List, [], ◌∷◌, ◌++◌, filter, None, option_map, Ok, ◌↔◌}
+use Rattle.std.specs.Cmp.Lexicographic.{pointwise}
+use Rattle.std.specs.Map.{keys_of}
+use Rattle.mon_acl.specs.declared.entries.Entry.{Entry}
+use Rattle.mon_catalogue.specs.declared.data_set.DataSet.{DataSet}
+use Rattle.mon_catalogue.specs.Sets.{Sets, find_set, NamesDiffer}
+use Rattle.mon_catalogue.specs.Changes.{without_set, with_set, with_acl, listed}
 use Rattle.mon_catalogue.specs.Progress.{step, loaded, finished}
 use Rattle.mon_catalogue.specs.Reading.{catalogue_of}
 use Rattle.mon_catalogue.specs.Spelling.{IsCatalogueText}
-use Rattle.mon_catalogue.specs.Stored.{IsStored}
-use Rattle.mon_catalogue.specs.Text.{catalogue_lines}
+use Rattle.std.specs.Str.Lines.{lines}
+use Rattle.mon_catalogue.specs.Stored.{IsStored, ArePrintable}
+use Rattle.mon_catalogue.specs.Text.{catalogue_lines, catalogue_text}
 
 -- reading gives the catalogue that the text is of, and every text of a catalogue is read
 abbrev pub ReadingSpells : Type 0
@@ -27,6 +33,31 @@ OneMoreLine = (lines : List (List ℕ)) (line : List ℕ) → loaded (lines ++ l
 abbrev pub ReadsBack : Type 0
 ReadsBack = (sets : Sets) → IsStored sets → catalogue_of (catalogue_lines sets) ≡ Ok sets
 
+-- so are the bytes that are written, cut into lines at each LF
+abbrev pub BytesReadBack : Type 0
+BytesReadBack = (sets : Sets) → IsStored sets → ArePrintable sets → catalogue_of (lines (catalogue_text sets)) ≡ Ok sets
+
 -- writing is stable: whatever text a catalogue was read from, what is written of it is read as that catalogue
 abbrev pub WritingIsStable : Type 0
 WritingIsStable = (lines : List (List ℕ)) (sets : Sets) → IsCatalogueText lines sets → catalogue_of (catalogue_lines sets) ≡ Ok sets
+
+-- a change of one set leaves all others: each is found as before
+abbrev pub OtherSetsStay : Type 0
+OtherSetsStay = (name other : List ℕ) (sets : Sets) (set : DataSet) (acl : List Entry) → other ≢ name
+    → (find_set other (without_set name sets) ≡ find_set other sets)
+    × (find_set other (with_set name set sets) ≡ find_set other sets)
+    × (find_set other (with_acl name acl sets) ≡ find_set other sets)
+
+-- and the set itself is gone, or is that one, or has that list and is else what it was
+abbrev pub NamedSetChanges : Type 0
+NamedSetChanges = (name : List ℕ) (sets : Sets) (set : DataSet) (acl : List Entry) → NamesDiffer sets
+    → (find_set name (without_set name sets) ≡ None)
+    × (find_set name (with_set name set sets) ≡ option_map (λ _. set) (find_set name sets))
+    × (find_set name (with_acl name acl sets) ≡ option_map (listed acl) (find_set name sets))
+
+-- the names stay in their order, but for one that is taken out
+abbrev pub OrderStays : Type 0
+OrderStays = (name : List ℕ) (sets : Sets) (set : DataSet) (acl : List Entry) → NamesDiffer sets
+    → (keys_of (without_set name sets) ≡ filter (λ other. not (pointwise nat_eq name other)) (keys_of sets))
+    × (keys_of (with_set name set sets) ≡ keys_of sets)
+    × (keys_of (with_acl name acl sets) ≡ keys_of sets)

@@ -1,5 +1,7 @@
 pub mod Records
 pub mod Sets
+pub mod Changes
+pub mod Lending
 pub mod Text
 pub mod Head
 pub mod Progress

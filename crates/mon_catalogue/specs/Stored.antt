@@ -2,6 +2,7 @@
 use Rattle.std.specs.Prelude.{ℕ, List}
 use Rattle.std.specs.List.{AllByRecursion}
 use Rattle.mon_text.specs.Names.{IsName}
+use Rattle.mon_text.specs.Lines.{IsLine}
 use Rattle.mon_acl.specs.Entries.{IsAcl}
 use Rattle.mon_catalogue.specs.declared.data_set.DataSet.{DataSet}
 use Rattle.mon_catalogue.specs.Records.{AreRecords}
@@ -13,3 +14,10 @@ IsStoredSet named = IsName named.0 × IsName named.1.owner × IsName named.1.gro
 
 abbrev pub IsStored : Sets → Type 0
 IsStored sets = IsCatalogue sets × AllByRecursion IsStoredSet sets
+
+-- and its records are printable lines
+abbrev pub HasPrintableRecords : List ℕ × DataSet → Type 0
+HasPrintableRecords named = AllByRecursion IsLine named.1.records
+
+abbrev pub ArePrintable : Sets → Type 0
+ArePrintable sets = AllByRecursion HasPrintableRecords sets

@@ -1,10 +1,15 @@
 //! The catalogue: data sets in the order of their creation, found by name.
-ghost use Rattle.std.specs.Prelude.{◌≡◌, ◌==◌, ◌<◌, [], ◌∷◌, ◌++◌, length, slice_get, Ok, OnOk, OnErr, None};
-ghost use Rattle.std.specs.Option.{option_copied, option_map};
+ghost use Rattle.std.specs.Prelude.{◌≡◌, ◌==◌, ◌<◌, ◌↔◌, [], ◌∷◌, ◌++◌, length, slice_get, Ok, OnOk, OnErr, IsOk, IsSome, None};
+ghost use Rattle.std.specs.Borrow.{sem};
+ghost use Rattle.std.specs.Option.{option_copied, option_copied_mut, option_map};
+ghost use Rattle.std.specs.Result.{result_ok};
 ghost use Rattle.std.specs.Map.Iter.{deref_pair};
+ghost use Rattle.std.specs.Str.Lines.{lines};
 ghost use Rattle.mon_catalogue.specs.Reading.{catalogue_of};
-ghost use Rattle.mon_catalogue.specs.Stored.{IsStored};
+ghost use Rattle.mon_catalogue.specs.Stored.{IsStored, ArePrintable};
 ghost use Rattle.mon_catalogue.specs.Sets.{find_set, empty_set, create_refusal, refused_as, IsCatalogue};
+ghost use Rattle.mon_catalogue.specs.Changes.{without_set, with_acl};
+ghost use Rattle.mon_catalogue.specs.Lending.{LendsSet};
 ghost use Rattle.mon_catalogue.specs.Text.{catalogue_text, catalogue_lines};
 
 use crate::data_set::{DataSet, Records};
@@ -14,6 +19,7 @@ use mon_acl::Acl;
 use mon_text::Name;
 use std::alloc::{AllocError, Global};
 use std::marker::Model;
+use std::mem;
 use thiserror::Error;
 
 /// How many data sets a catalogue has at the most.
@@ -51,6 +57,11 @@ pub enum CreateError {
     #[error("out of memory")]
     Memory,
 }
+
+/// The catalogue has no set of the name.
+#[derive(Clone, Copy, Debug, PartialEq, Eq, Error)]
+#[error("K2 NO SET")]
+pub struct NoSet;
 
 impl Catalogue {
     /// A catalogue with no set.
@@ -127,6 +138,50 @@ impl Catalogue {
         }
     }
 
+    /// The set of a name, to be changed. All others stay as they are, and so do the names and their order. It takes no
+    /// memory, and the time does not grow with the catalogue.
+    #[tactic(auto, using(crate::proofs::Changing::with_value_there))]
+    pub fn find_mut(&mut self, name: &Name) -> Option<&mut DataSet>
+        ensures* lends { sem 𝓛 (LendsSet self.entry name.now result) }
+        ensures found { option_copied_mut result ≡ find_set name.now self.old }
+    {
+        let place = self.sets.get_index_of(name)?;
+        self.sets.get_index_mut(place)
+    }
+
+    /// Takes the set of a name out. The others keep their order. It takes no memory.
+    ///
+    /// # Errors
+    ///
+    /// Where there is no set of this name; the catalogue is then unchanged.
+    pub fn remove(&mut self, name: &Name) -> Result<(), NoSet>
+        ensures removed { self.new ≡ without_set name.now self.old }
+        ensures found { IsOk result ↔ IsSome (find_set name.now self.old) }
+        ensures unchanged { OnErr result (self.new ≡ self.old) }
+    {
+        match self.sets.shift_remove(name) {
+            Some(_) => Ok(()),
+            None => Err(NoSet),
+        }
+    }
+
+    /// Gives the set of a name another permission list, and answers the list that it had. It takes no memory.
+    ///
+    /// # Errors
+    ///
+    /// Where there is no set of this name; the catalogue is then unchanged.
+    #[tactic(auto, using(crate::proofs::Changing::changes))]
+    pub fn set_acl(&mut self, name: &Name, acl: Acl) -> Result<Acl, NoSet>
+        ensures set { self.new ≡ with_acl name.now acl self.old }
+        ensures old { result_ok result ≡ option_map (λ set. set.acl) (find_set name.now self.old) }
+        ensures unchanged { OnErr result (self.new ≡ self.old) }
+    {
+        match self.find_mut(name) {
+            Some(set) => Ok(mem::replace(&mut set.acl, acl)),
+            None => Err(NoSet),
+        }
+    }
+
     /// Appends the catalogue's text: for each set a line `$SET name owner group count`, its permission list in short
     /// form, and its records as they are. Each line is ended by LF.
     ///
@@ -137,7 +192,9 @@ impl Catalogue {
     pub fn put_text(&self, out: &mut Vec<u8>) -> Result<(), AllocError>
         ensures written { OnOk result (out.new.items ≡ out.old.items ++ catalogue_text self.now) }
         ensures stored { OnOk result (IsStored self.now) }
+        ensures printable { OnOk result (ArePrintable self.now) }
         ensures reads_back { OnOk result (catalogue_of (catalogue_lines self.now) ≡ Ok self.now) }
+        ensures bytes_read_back { OnOk result (catalogue_of (lines (catalogue_text self.now)) ≡ Ok self.now) }
     {
         for (name, set) in &self.sets {
             put_set(name, set, out)?;

@@ -13,6 +13,6 @@ pub mod loading;
 mod tests;
 pub mod text;
 
-pub use catalogue::{Catalogue, CreateError, MOST_SETS};
+pub use catalogue::{Catalogue, CreateError, MOST_SETS, NoSet};
 pub use data_set::{DataSet, MOST_RECORD_CHARACTERS, MOST_RECORDS, Records};
 pub use loading::{CatalogueError, Loading, read_text};

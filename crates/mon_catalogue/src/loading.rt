@@ -59,15 +59,11 @@ pub struct Loading {
 }
 
 impl Model for Loading {
-    ghost use Rattle.std.specs.Prelude.{◌≤◌, ◌^◌, ℕ};
+    ghost use Rattle.std.specs.Prelude.{◌≤◌, ◌^◌};
     ghost use Rattle.mon_catalogue.specs.Progress.{Progress};
+    ghost use Rattle.mon_catalogue.specs.Stages.{progress_of, IsSound};
 
     ghost Value = { Progress };
-
-    ghost use Rattle.mon_catalogue.specs.Reading.{catalogue_of, catalogue_refusal, Gives, Refuses};
-    ghost use Rattle.mon_catalogue.specs.Sets.{Sets};
-    ghost use Rattle.mon_catalogue.specs.Spelling.{IsCatalogueText};
-    ghost use Rattle.mon_catalogue.specs.Stages.{progress_of, IsSound};
 
     ghost view = { λ l. progress_of l.lines_taken l.catalogue l.stage };
 

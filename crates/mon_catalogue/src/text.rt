@@ -1,8 +1,10 @@
 //! Writing a catalogue's text.
 ghost use Rattle.std.specs.Prelude.{◌≡◌, [], ◌∷◌, ◌++◌, OnOk};
+ghost use Rattle.std.specs.List.{AllByRecursion};
+ghost use Rattle.mon_text.specs.Lines.{IsLine};
 ghost use Rattle.mon_text.specs.Names.{IsName};
 ghost use Rattle.mon_catalogue.specs.Records.{AreRecords};
-ghost use Rattle.mon_catalogue.specs.Stored.{IsStoredSet};
+ghost use Rattle.mon_catalogue.specs.Stored.{IsStoredSet, HasPrintableRecords};
 ghost use Rattle.mon_catalogue.specs.Text.{set_line, set_lines, text_of};
 
 use crate::data_set::{DataSet, Records};
@@ -13,6 +15,7 @@ use std::alloc::AllocError;
 pub(crate) fn put_set(name: &Name, set: &DataSet, out: &mut Vec<u8>) -> Result<(), AllocError>
     ensures written { OnOk result (out.new.items ≡ out.old.items ++ text_of (set_lines (name.now, set.now))) }
     ensures stored { OnOk result (IsStoredSet (name.now, set.now)) }
+    ensures printable { OnOk result (HasPrintableRecords (name.now, set.now)) }
 {
     put_head(name, set, out)?;
     // Said of every list: it is valid, and so is read back.
@@ -41,7 +44,8 @@ fn put_head(name: &Name, set: &DataSet, out: &mut Vec<u8>) -> Result<(), AllocEr
 }
 
 fn put_records(records: &Records, out: &mut Vec<u8>) -> Result<(), AllocError>
-    ensures { OnOk result (out.new.items ≡ out.old.items ++ text_of records.now) }
+    ensures written { OnOk result (out.new.items ≡ out.old.items ++ text_of records.now) }
+    ensures printable { OnOk result (AllByRecursion IsLine records.now) }
 {
     for line in records.as_slice() {
         put_line(line, out)?;
@@ -50,7 +54,8 @@ fn put_records(records: &Records, out: &mut Vec<u8>) -> Result<(), AllocError>
 }
 
 fn put_line(line: &Line, out: &mut Vec<u8>) -> Result<(), AllocError>
-    ensures { OnOk result (out.new.items ≡ out.old.items ++ (line.now ++ 10 ∷ [])) }
+    ensures written { OnOk result (out.new.items ≡ out.old.items ++ (line.now ++ 10 ∷ [])) }
+    ensures printable { OnOk result (IsLine line.now) }
 {
     out.extend_from_slice(line.as_bytes())?;
     out.push(b'\n')?;
