@@ -1,0 +1,4 @@
+pub mod Reasons
+pub mod Deciding
+pub mod Owning
+pub mod Laws

@@ -1,0 +1,104 @@
+//! What the guard decides, why it denies, and what it answers.
+ghost use Rattle.std.specs.Prelude.{◌≡◌};
+ghost use Rattle.std.specs.Option.{option_copied};
+ghost use Rattle.mon_guard.specs.Reasons.{reason_at, reason_of, answer_of};
+
+use mon_access::{Decider, Decision};
+use mon_acl::{Acl, Entry, Tag};
+use mon_text::{Line, Name};
+
+/// What is decided of a request on a data set.
+#[derive(Clone, Copy, Debug, PartialEq, Eq)]
+pub enum Decided {
+    /// The whole request is granted.
+    Granted,
+    /// The request is denied, by the entry that decided.
+    Denied(Decider),
+    /// There is no data set of the name.
+    NoSet,
+}
+
+/// Why something was denied (own).
+#[derive(Debug, PartialEq, Eq, Drop)]
+pub enum Reason {
+    /// By the entry of the data set's permission list that has this type and this qualifier.
+    By(Tag, Option<Name>),
+    /// There is no data set of the name.
+    NoSet,
+    /// The account does not own the data set.
+    NotOwner,
+    /// The unit is not tied to anything.
+    NoUnit,
+    /// The unit is the deck's data, which can only be read.
+    InStream,
+    /// The unit is the spool, which can only be written.
+    SpoolUnit,
+}
+
+/// What the guard answers to a request.
+#[derive(Debug, PartialEq, Eq, Drop)]
+pub enum GuardAnswer {
+    /// It is done.
+    Done,
+    /// The record that was read.
+    Got(Line),
+    /// There is no further record.
+    EndOfFile,
+    /// It is denied, and nothing has changed.
+    Denied(Reason),
+    /// The data set has no room for a further record, and nothing has changed.
+    Full,
+}
+
+impl Reason {
+    /// What a denial names of its decider: the type and the qualifier of the entry that decided.
+    pub fn of(decider: Decider, acl: &Acl) -> Reason
+        ensures { result ≡ reason_of acl.now decider }
+    {
+        match decider {
+            Decider::UserObj => Reason::By(Tag::UserObj, None),
+            Decider::User(place) => reason_at(Tag::User, acl.entry(place)),
+            Decider::Group(place) => reason_at(Tag::GroupObj, acl.entry(place)),
+            Decider::Mask => Reason::By(Tag::Mask, None),
+            Decider::Other => Reason::By(Tag::Other, None),
+        }
+    }
+
+    /// The same reason once more.
+    pub fn copy(&self) -> Reason
+        ensures { result ≡ self.now }
+    {
+        match self {
+            Reason::By(tag, Some(name)) => Reason::By(*tag, Some(name.copy())),
+            Reason::By(tag, None) => Reason::By(*tag, None),
+            Reason::NoSet => Reason::NoSet,
+            Reason::NotOwner => Reason::NotOwner,
+            Reason::NoUnit => Reason::NoUnit,
+            Reason::InStream => Reason::InStream,
+            Reason::SpoolUnit => Reason::SpoolUnit,
+        }
+    }
+}
+
+// What is named of an entry; where there is none, the type alone.
+fn reason_at(tag: Tag, entry: Option<&Entry>) -> Reason
+    ensures { result ≡ reason_at tag (option_copied entry.entry) }
+{
+    match entry {
+        Some(entry) => {
+            let entry = entry.copy();
+            Reason::By(entry.tag, entry.name)
+        }
+        None => Reason::By(tag, None),
+    }
+}
+
+// What an access check is answered with.
+pub(crate) fn answer_of(decision: Decision, acl: &Acl) -> GuardAnswer
+    ensures { result ≡ answer_of acl.now decision }
+{
+    match decision {
+        Decision::Granted => GuardAnswer::Done,
+        Decision::Denied(decider) => GuardAnswer::Denied(Reason::of(decider, acl)),
+    }
+}

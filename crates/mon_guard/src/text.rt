@@ -1,0 +1,59 @@
+//! The text of a permission list that is to be set.
+ghost use Rattle.std.specs.Prelude.{◌≡◌};
+ghost use Rattle.mon_acl.specs.Reading.{Gives};
+ghost use Rattle.mon_guard.specs.Owning.{list_of_text};
+
+use mon_acl::{Acl, AclError};
+use std::alloc::Global;
+use std::marker::Model;
+
+/// Bytes of any kind. A contract sees them as a list.
+#[derive(Debug, Drop)]
+pub struct Bytes {
+    bytes: Vec<u8>,
+}
+
+impl Model for Bytes {
+    ghost use Rattle.std.specs.Prelude.{ℕ, List};
+
+    ghost Value = { List ℕ };
+
+    ghost view = { λ b. b.bytes.items };
+}
+
+/// The text of a permission list, in one of the two forms of acl(5), "ACL TEXT FORMS".
+#[derive(Debug, Drop)]
+pub enum AclText {
+    /// Entries with commas between them.
+    Short(Bytes),
+    /// An entry a line, with comments.
+    Long(Bytes),
+}
+
+impl Bytes {
+    /// These bytes.
+    pub fn new(bytes: Vec<u8>) -> Bytes
+        ensures { result ≡ bytes.items }
+    {
+        Bytes { bytes }
+    }
+
+    /// The bytes in order.
+    pub fn as_slice(&self) -> &[u8]
+        ensures { result.now ≡ self.now }
+    {
+        &self.bytes
+    }
+}
+
+impl AclText {
+    // The list that the text spells.
+    pub(crate) fn read(&self, alloc: Global) -> Result<Acl, AclError>
+        ensures { Gives (λ acl. acl) result (list_of_text self.now) }
+    {
+        match self {
+            AclText::Short(text) => Acl::parse_short(alloc, text.as_slice()),
+            AclText::Long(text) => Acl::parse_long(alloc, text.as_slice()),
+        }
+    }
+}
