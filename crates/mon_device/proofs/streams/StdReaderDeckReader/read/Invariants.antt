@@ -1,0 +1,6 @@
+-- An interrupted read is no failure.
+use Rattle.std.proofs.Common.{◌≡◌}
+use Rattle.mon_device.proofs.streams.StdReaderDeckReader.read.Given as goal
+
+abbrev pub invariant-loop-attempt : goal.invariant-loop-attempt
+invariant-loop-attempt g l = l.self.has_failed ≡ l.fn.self.has_failed

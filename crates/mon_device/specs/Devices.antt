@@ -1,0 +1,21 @@
+-- What a reader or a writer tells of its bytes (own): some of them, or nothing at all.
+use Rattle.std.specs.Prelude.{◌≡◌, ℕ, ◌≤◌, List, [], ◌++◌, length, Option, Some, None, IfSome}
+use Rattle.std.specs.Option.{option_map}
+
+-- a reader that had the first bytes left gave these, and has the last ones left now
+abbrev pub Gives : Option (List ℕ) → List ℕ → Option (List ℕ) → Type 0
+Gives None given after = Unit {0}
+Gives (Some before) given None = ⊥
+Gives (Some before) given (Some after) = before ≡ given ++ after
+
+-- no bytes are left, as far as the reader tells
+abbrev pub IsAtEnd : Option (List ℕ) → Type 0
+IsAtEnd told = IfSome told (λ left. left ≡ [])
+
+-- what a writer holds after these bytes more, where it tells
+abbrev pub holding : Option (List ℕ) → List ℕ → Option (List ℕ)
+holding told bytes = option_map (λ held. held ++ bytes) told
+
+-- at least so many bytes are left, as far as the reader tells
+abbrev pub HasAtLeast : ℕ → Option (List ℕ) → Type 0
+HasAtLeast count told = IfSome told (λ left. count ≤ length left)

@@ -1,0 +1,16 @@
+//! What a deck is read from and an output is written to: readers and writers that tell their bytes to contracts, over
+//! memory and over std's streams, and the moving of all bytes from and to one.
+#![tactic(auto)]
+
+pub mod device;
+pub mod memory;
+pub mod streams;
+pub mod transfer;
+
+pub use device::{DeckReader, DeckWriter, Failed};
+pub use memory::{MemReader, MemWriter};
+pub use streams::{StdReader, StdWriter};
+pub use transfer::{InputError, MOST_READS, OutputError, READ_SIZE, read_all, write_all};
+
+#[cfg(test)]
+mod tests;
