@@ -1,0 +1,21 @@
+//! The monitor: owner commands over an account table and a catalogue, each answered by a printout.
+//!
+//! `Monitor::command` serves one command exactly as `commanded` in specs/ says; `laws` says what holds of every such
+//! answer.
+#![tactic(auto)]
+
+pub mod command;
+pub mod laws;
+pub mod monitor;
+pub mod outcome;
+mod printing;
+pub mod printout;
+mod serving;
+
+pub use command::Command;
+pub use monitor::Monitor;
+pub use outcome::Outcome;
+pub use printout::Printout;
+
+#[cfg(test)]
+mod tests;
