@@ -1,17 +1,15 @@
 -- A line of the account table that gives no account: where the deck is refused, and what stands.
-use Rattle.std.proofs.Common.{◌≡◌, ℕ, ◌+◌, Bool, true, false, not, nat_lt, List, [], ◌∷◌, length, drop, Option, Some, None, is_some, refl, sym, ap, ◌∙◌, subst, if◌then◌else◌}
-use Rattle.std.specs.List.{list_all}
-use Rattle.mon_text.specs.Names.{is_name}
+use Rattle.std.proofs.Common.{◌≡◌, ℕ, ◌+◌, Bool, true, false, List, ◌∷◌, Option, Some, None, refl, sym, ap, ◌∙◌, subst, if◌then◌else◌}
 use Rattle.mon_text.specs.Lines.{is_blank_line, words}
 use Rattle.mon_access.specs.declared.account.Account.{Account}
-use Rattle.mon_access.specs.Accounts.{find_account}
 use Rattle.mon_deck.specs.declared.card.Card.TheVariants.{Catalogue}
 use Rattle.mon_deck.specs.declared.code.Code.{Code}
 use Rattle.mon_deck.specs.declared.code.Code.TheVariants.{BadName, BadCard, AccountTwice, TooManyGroups}
 use Rattle.mon_deck.specs.declared.code.Stop.{Stop}
 use Rattle.mon_deck.specs.declared.code.Stop.TheVariants.{Refused, Memory}
 use Rattle.mon_deck.specs.declared.deck.Deck.{Deck}
-use Rattle.mon_deck.specs.Sections.{or_else, unless, line_refusal, lone_card_refusal, account_refusal, accounts_refusal, accounts_section, is_dollar_line, refused, goes_on}
+use Rattle.mon_deck.specs.Refusing.{or_else, unless, line_refusal, lone_card_refusal, is_dollar_line}
+use Rattle.mon_deck.specs.Sections.{account_refusal, accounts_refusal, accounts_section, refused, goes_on}
 use Rattle.mon_deck.specs.Stops.{IfRefused, place_of}
 
 -- such a refusal names the line that was taken last

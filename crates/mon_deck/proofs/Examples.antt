@@ -7,12 +7,17 @@ use Rattle.mon_access.specs.declared.account.Account.{Account}
 use Rattle.mon_access.specs.AccessCheck.{decision}
 use Rattle.mon_catalogue.specs.Sets.{Sets}
 use Rattle.mon_deck.specs.declared.card.Card.TheVariants as card
-use Rattle.mon_deck.specs.declared.card.Listing.{Listing}
 use Rattle.mon_deck.specs.declared.code.Code.TheVariants.{BadName, BadCharacter, AccountTwice, UnknownCard, BadCard, OutOfPlace, Truncated}
 use Rattle.mon_deck.specs.declared.deck.Ending.TheVariants.{Stopped, Refused}
 use Rattle.mon_deck.specs.Cards.{card_of}
-use Rattle.mon_deck.specs.Sections.{line_refusal, lone_card_refusal, account_refusal, listing_refusal}
-use Rattle.mon_deck.specs.Printouts.{printout}
+use Rattle.mon_deck.specs.Refusing.{line_refusal, lone_card_refusal}
+use Rattle.mon_deck.specs.Sections.{account_refusal, deck_of}
+use Rattle.mon_deck.specs.Requests.{two_names_refusal, request_on}
+use Rattle.mon_deck.specs.Laws.{printout}
+use Rattle.mon_guard.specs.declared.text.AclText.TheVariants.{Short, Long}
+use Rattle.mon_monitor.specs.declared.command.Command.TheVariants as command
+use Rattle.mon_deck.specs.declared.request.Request.TheVariants.{Asks, Opens}
+use Rattle.std.specs.Str.Lines.{lines}
 use Rattle.mon_deck.specs.Runs.{ending_of}
 
 stop_card : card_of (codes "$STOP") ≡ Some card.Stop
@@ -45,7 +50,7 @@ a_bad_name_before_an_account_twice = refl
 an_account_twice : account_refusal (anna ∷ []) (codes "anna" ∷ codes "ops" ∷ []) ≡ Some AccountTwice
 an_account_twice = refl
 
-a_card_of_two_words : listing_refusal (codes "$LIST" ∷ codes "lisa" ∷ []) ≡ Some BadCard
+a_card_of_two_words : two_names_refusal (codes "$LIST" ∷ codes "lisa" ∷ []) ≡ Some BadCard
 a_card_of_two_words = refl
 
 the_empty_deck : ending_of [] ≡ Refused 1 Truncated
@@ -59,6 +64,18 @@ a_deck_without_stop = refl
 
 a_card_out_of_place : ending_of (codes "$ACCOUNTS\n$STREAM\n") ≡ Refused 2 OutOfPlace
 a_card_out_of_place = refl
+
+the_text_of_a_list : request_on (codes "$SETACL anna  X u::r, g::,o:: ") ≡ Asks (command.SetAcl (codes "anna") (codes "X") (Short (codes " u::r, g::,o:: ")))
+the_text_of_a_list = refl
+
+the_lines_of_a_list_follow : request_on (codes "$SETACL anna X ") ≡ Opens (codes "anna") (codes "X")
+the_lines_of_a_list_follow = refl
+
+a_list_in_lines : (let deck = deck_of (lines (codes "$ACCOUNTS\n$CATALOGUE\n$STREAM\n$SETACL anna X\n\tu::r\n\n$ENDACL\n$STOP")) in deck.commands) ≡ command.SetAcl (codes "anna") (codes "X") (Long (codes "\tu::r\n\n")) ∷ []
+a_list_in_lines = refl
+
+a_card_within_a_list : ending_of (codes "$ACCOUNTS\n$CATALOGUE\n$STREAM\n$SETACL anna X\n$LIST anna X\n") ≡ Refused 5 OutOfPlace
+a_card_within_a_list = refl
 
 -- user::rwx,group::---,other::---
 abbrev owner_alone : List Entry
@@ -76,7 +93,7 @@ hugo = record { name = codes "hugo"; primary = codes "ops"; groups = [] }
 
 -- what a card prints, of an account and a name
 abbrev printed : List ℕ → List ℕ → List ℕ
-printed account name = printout (anna ∷ hugo ∷ []) one_set (record { account = account; name = name })
+printed account name = printout (anna ∷ hugo ∷ []) one_set (command.List account name)
 
 the_owner_sees_the_record : printed (codes "anna") (codes "X") ≡ codes "LIST anna X\n one\nRECORDS 1\n"
 unfolding decision digits

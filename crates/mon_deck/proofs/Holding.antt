@@ -1,49 +1,33 @@
 -- What a writer holds after some bytes and some more.
-use Rattle.std.proofs.Common.{◌≡◌, ℕ, ◌+◌, ◌<◌, ◌≤◌, List, [], ◌∷◌, ◌++◌, length, take, get_or, Option, Some, None, IfSome, refl, sym, ap, ◌∙◌, append_assoc, append-nil}
-use Rattle.std.specs.List.{flat_map}
-use Rattle.std.proofs.lemmas.List.{take_more, take_all}
-use Rattle.std.proofs.lemmas.List.Concat.{flat_map-append}
+use Rattle.std.proofs.Common.{◌≡◌, ℕ, Bool, List, [], ◌++◌, Option, Some, None, IfSome, sym, ap, ◌∙◌, append_assoc, append-nil}
 use Rattle.std.specs.Str.Lines.{lines}
+use Rattle.mon_device.specs.Devices.{holding}
+use Rattle.mon_device.proofs.Holding.{holding-append}
 use Rattle.mon_deck.specs.declared.deck.Deck.{Deck}
-use Rattle.mon_deck.specs.Devices.{holding}
 use Rattle.mon_deck.specs.Sections.{deck_of}
-use Rattle.mon_deck.specs.Printouts.{output_of, output_of_deck}
+use Rattle.mon_deck.specs.Printouts.{output_of, answer_to}
 
-pub holding-append : (told : Option (List ℕ)) (a b : List ℕ) → holding (holding told a) b ≡ holding told (a ++ b)
-holding-append None a b = refl
-holding-append (Some held) a b = ap Some (append_assoc held a b)
+-- the answer to the deck that was understood is that to the bytes that were read
+pub output_of_read : (check : Bool) (told : Option (List ℕ)) (deck : Deck) (before after : Option (List ℕ))
+    → IfSome told (λ bytes. deck ≡ deck_of (lines bytes)) → after ≡ holding before (answer_to check deck) → IfSome told (λ bytes. after ≡ holding before (output_of check bytes))
+output_of_read check None deck before after read written = tt
+output_of_read check (Some bytes) deck before after read written = written ∙ ap (λ (d : Deck). holding before (answer_to check d)) read
 
-pub holding-nothing : (told : Option (List ℕ)) → holding told [] ≡ told
-holding-nothing None = refl
-holding-nothing (Some held) = ap Some (append-nil held)
+-- one printout more was gathered, and what was gathered was written or not; `rest` is still to come
+pub gathered : (now later : Option (List ℕ)) (out more next kept rest : List ℕ)
+    → next ≡ out ++ more → holding later kept ≡ holding now next → holding later (kept ++ rest) ≡ holding now (out ++ (more ++ rest))
+gathered now later out more next kept rest put same =
+    sym (holding-append later kept rest)
+    ∙ ap (λ t. holding t rest) (same ∙ ap (holding now) put)
+    ∙ holding-append now (out ++ more) rest
+    ∙ ap (holding now) (append_assoc out more rest)
 
-pub ruleset holds = (holding-append, holding-nothing)
-
--- the output of the deck that was understood is the output of the bytes that were read
-pub output_of_read : (told : Option (List ℕ)) (deck : Deck) (before after : Option (List ℕ))
-    → IfSome told (λ bytes. deck ≡ deck_of (lines bytes)) → after ≡ holding before (output_of_deck deck) → IfSome told (λ bytes. after ≡ holding before (output_of bytes))
-output_of_read None deck before after read written = tt
-output_of_read (Some bytes) deck before after read written = written ∙ ap (λ (d : Deck). holding before (output_of_deck d)) read
-
--- some more was gathered, and perhaps written
-pub gathered : (start now later : Option (List ℕ)) (done out next rest more all : List ℕ)
-    → holding now out ≡ holding start done → next ≡ out ++ more → holding later rest ≡ holding now next → all ≡ done ++ more → holding later rest ≡ holding start all
-gathered start now later done out next rest more all so_far put kept whole =
-    kept ∙ ap (holding now) put ∙ sym (holding-append now out more) ∙ ap (λ t. holding t more) so_far ∙ holding-append start done more ∙ sym (ap (holding start) whole)
-
--- the same, where all that was gathered was written
-pub written_out : (start now later : Option (List ℕ)) (done out next more all : List ℕ)
-    → holding now out ≡ holding start done → next ≡ out ++ more → later ≡ holding now next → all ≡ done ++ more → later ≡ holding start all
-written_out start now later done out next more all so_far put written whole =
-    written ∙ ap (holding now) put ∙ sym (holding-append now out more) ∙ ap (λ t. holding t more) so_far ∙ holding-append start done more ∙ sym (ap (holding start) whole)
-
--- the pieces of one element more
-pub pieces_more : {X : Type 0} (f : X → List ℕ) (xs : List X) (i : ℕ) (x : X) → i < length xs → x ≡ get_or xs i x → flat_map f (take (i + 1) xs) ≡ flat_map f (take i xs) ++ f x
-pieces_more f xs i x inside here =
-    ap (flat_map f) (take_more xs i x inside ∙ ap (λ y. take i xs ++ y ∷ []) (sym here))
-    ∙ flat_map-append f (take i xs) (x ∷ [])
-    ∙ ap (λ ys. flat_map f (take i xs) ++ ys) (append-nil (f x))
-
--- the pieces of all elements
-pub pieces_all : {X : Type 0} (f : X → List ℕ) (xs : List X) (i : ℕ) → length xs ≤ i → flat_map f xs ≡ flat_map f (take i xs)
-pieces_all f xs i past = ap (flat_map f) (sym (take_all i xs past))
+-- all printouts were gathered, and then the closing, and all of it was written
+pub written_out : (start now later : Option (List ℕ)) (out rest all last next : List ℕ)
+    → holding now (out ++ rest) ≡ holding start all → rest ≡ [] → next ≡ out ++ last → later ≡ holding now next → later ≡ holding start (all ++ last)
+written_out start now later out rest all last next so_far none put written =
+    written
+    ∙ ap (holding now) put
+    ∙ sym (holding-append now out last)
+    ∙ ap (λ t. holding t last) (ap (holding now) (sym (append-nil out) ∙ ap (λ t. out ++ t) (sym none)) ∙ so_far)
+    ∙ holding-append start all last

@@ -2,10 +2,10 @@
 use Rattle.std.specs.Prelude.{ℕ, List, ◌++◌, Result, Ok, Err, codes, decimal}
 use Rattle.mon_deck.specs.declared.code.RunError.{RunError}
 use Rattle.mon_deck.specs.declared.code.RunError.TheVariants.{DeckRefused, ReadFault, WriteFault, Memory}
-use Rattle.mon_deck.specs.declared.transfer.InputError.{InputError}
-use Rattle.mon_deck.specs.declared.transfer.InputError.TheVariants as input
-use Rattle.mon_deck.specs.declared.transfer.OutputError.{OutputError}
-use Rattle.mon_deck.specs.declared.transfer.OutputError.TheVariants as output
+use Rattle.mon_device.specs.declared.transfer.InputError.{InputError}
+use Rattle.mon_device.specs.declared.transfer.InputError.TheVariants as input
+use Rattle.mon_device.specs.declared.transfer.OutputError.{OutputError}
+use Rattle.mon_device.specs.declared.transfer.OutputError.TheVariants as output
 use Rattle.mon_deck.specs.declared.run.Counts.{Counts}
 use Rattle.mon_deck.specs.Codes.{code_text}
 

@@ -1,8 +1,9 @@
 pub mod Cards
 pub mod Codes
-pub mod Devices
 pub mod Faults
 pub mod Lines
+pub mod Refusing
+pub mod Requests
 pub mod Sections
 pub mod Stops
 pub mod Readings

@@ -2,28 +2,29 @@
 use Rattle.std.specs.Prelude.{◌≡◌, ℕ, List, Ok, length}
 use Rattle.std.specs.Str.Lines.{lines}
 use Rattle.mon_catalogue.specs.Sets.{Sets}
-use Rattle.mon_catalogue.specs.Text.{catalogue_lines}
+use Rattle.mon_catalogue.specs.Text.{catalogue_text}
 use Rattle.mon_catalogue.specs.Reading.{catalogue_of}
 use Rattle.mon_deck.specs.declared.deck.Deck.{Deck}
 use Rattle.mon_deck.specs.declared.deck.Ending.{Ending}
 use Rattle.mon_deck.specs.declared.run.Counts.{Counts}
 use Rattle.mon_deck.specs.Sections.{deck_of}
+use Rattle.mon_deck.specs.Printouts.{sets_after}
 
 -- how the deck of these bytes ends
 abbrev pub ending_of : List ℕ → Ending
 ending_of bytes = let deck = deck_of (lines bytes) in deck.ending
 
--- the catalogue of the deck of these bytes
-abbrev pub catalogue_in : List ℕ → Sets
-catalogue_in bytes = let deck = deck_of (lines bytes) in deck.catalogue
+-- the catalogue after the commands of these bytes
+abbrev pub catalogue_after : List ℕ → Sets
+catalogue_after bytes = sets_after (deck_of (lines bytes))
 
--- what is written of these data sets is read as these data sets
+-- the bytes that are written of these data sets, cut into lines, are read as these data sets
 abbrev pub ReadsBack : Sets → Type 0
-ReadsBack sets = catalogue_of (catalogue_lines sets) ≡ Ok sets
+ReadsBack sets = catalogue_of (lines (catalogue_text sets)) ≡ Ok sets
 
--- there are no job cards yet, and each card is a command
+-- there are no job cards yet
 abbrev pub counts_of_deck : Deck → Counts
-counts_of_deck deck = record { jobs = 0; commands = length deck.listings }
+counts_of_deck deck = record { jobs = 0; commands = length deck.commands }
 
 abbrev pub counts_of : List ℕ → Counts
 counts_of bytes = counts_of_deck (deck_of (lines bytes))

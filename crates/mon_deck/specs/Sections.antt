@@ -1,8 +1,8 @@
 -- What a deck is (own): its lines, section by section, each line either refused or adding to what stands.
-use Rattle.std.specs.Prelude.{ℕ, ◌+◌, ◌-◌, ◌==◌, ◌&&◌, Bool, true, false, not, nat_lt, List, [], ◌∷◌, ◌++◌, length, drop, Option, Some, None, is_some, if◌then◌else◌}
+use Rattle.std.specs.Prelude.{ℕ, ◌+◌, ◌&&◌, Bool, not, nat_lt, List, [], ◌∷◌, ◌++◌, length, drop, Option, Some, None, is_some, if◌then◌else◌}
 use Rattle.std.specs.List.{list_all}
 use Rattle.mon_text.specs.Names.{is_name}
-use Rattle.mon_text.specs.Lines.{is_line, is_blank_line, words}
+use Rattle.mon_text.specs.Lines.{is_blank_line, words}
 use Rattle.mon_access.specs.declared.account.Account.{Account}
 use Rattle.mon_access.specs.Accounts.{find_account}
 use Rattle.mon_catalogue.specs.declared.loading.CatalogueError.{CatalogueError}
@@ -10,35 +10,17 @@ use Rattle.mon_catalogue.specs.declared.loading.CatalogueError.TheVariants as ca
 use Rattle.mon_catalogue.specs.Sets.{Sets}
 use Rattle.mon_catalogue.specs.Progress as progress
 use Rattle.mon_catalogue.specs.Progress.{Progress, step, is_due}
-use Rattle.mon_deck.specs.declared.card.Card.{Card}
 use Rattle.mon_deck.specs.declared.card.Card.TheVariants as card
-use Rattle.mon_deck.specs.declared.card.Listing.{Listing}
 use Rattle.mon_deck.specs.declared.code.Code.{Code}
-use Rattle.mon_deck.specs.declared.code.Code.TheVariants.{BadName, BadCharacter, LineTooLong, AccountTwice, TooManyGroups, NameTaken, SetFull, CatalogueFull, BadText, UnknownCard, BadCard, OutOfPlace, Truncated}
+use Rattle.mon_deck.specs.declared.code.Code.TheVariants.{BadName, AccountTwice, TooManyGroups, NameTaken, SetFull, CatalogueFull, BadText, BadCard, Truncated}
 use Rattle.mon_deck.specs.declared.deck.Deck.{Deck}
 use Rattle.mon_deck.specs.declared.deck.Ending.TheVariants.{Stopped, Refused}
+use Rattle.mon_deck.specs.declared.request.Request.{Request}
+use Rattle.mon_deck.specs.declared.request.Request.TheVariants.{Nothing, Asks, Opens, Stops}
+use Rattle.mon_monitor.specs.declared.command.Command.{Command}
+use Rattle.mon_deck.specs.Refusing.{or_else, unless, line_refusal, lone_card_refusal, is_dollar_line}
+use Rattle.mon_deck.specs.Requests.{OpenList, opened, with_line, set_acl_of, stream_refusal, request_on, list_line_refusal}
 use Rattle.mon_deck.specs.Cards.{card_among, is_card, word_at}
-
--- the first refusal of two
-abbrev pub or_else : Option Code → Option Code → Option Code
-or_else (Some code) later = Some code
-or_else None later = later
-
--- refused where the test fails
-abbrev pub unless : Bool → Code → Option Code
-unless true code = None
-unless false code = Some code
-
--- what is tried on each line before anything else: its length, and then its characters
-abbrev pub line_refusal : ℕ → List ℕ → Option Code
-line_refusal limit line = if nat_lt limit (length line) then Some LineTooLong else unless (is_line line) BadCharacter
-
--- the words of a line that has to be this card, with no further word: another card, known or not, is refused first
-abbrev pub lone_card_refusal : Card → List (List ℕ) → Option Code
-lone_card_refusal due ws =
-    or_else (unless (is_some (card_among ws)) UnknownCard)
-    (or_else (unless (is_card due (card_among ws)) OutOfPlace)
-    (unless (length ws == 1) BadCard))
 
 -- before the account table: blank lines, and its card
 abbrev pub opening_refusal : List ℕ → Option Code
@@ -60,11 +42,6 @@ table_refusal accounts account =
 
 abbrev pub account_refusal : List Account → List (List ℕ) → Option Code
 account_refusal accounts ws = or_else (words_refusal ws) (table_refusal accounts (account_on ws))
-
--- a line that begins with a dollar sign
-abbrev pub is_dollar_line : List ℕ → Bool
-is_dollar_line [] = false
-is_dollar_line (c ∷ cs) = c == 36
 
 -- in the account table: an account, a blank line, or the catalogue's card
 abbrev pub accounts_refusal : List Account → List ℕ → Option Code
@@ -97,20 +74,6 @@ ends_catalogue p line = is_due p && not (is_blank_line line) && not (is_card car
 abbrev pub catalogue_refusal : Progress → List ℕ → Option Code
 catalogue_refusal p line = if ends_catalogue p line then lone_card_refusal card.Stream (words line) else text_refusal (step p line)
 
--- a `$LIST` card: an account and a data set
-abbrev pub listing_on : List (List ℕ) → Listing
-listing_on ws = record { account = word_at 1 ws; name = word_at 2 ws }
-
-abbrev pub listing_refusal : List (List ℕ) → Option Code
-listing_refusal ws =
-    or_else (unless (length ws == 3) BadCard) (unless (is_name (word_at 1 ws) && is_name (word_at 2 ws)) BadName)
-
--- in the stream: a blank line, a `$LIST` card, or `$STOP`
-abbrev pub stream_refusal : List ℕ → Option Code
-stream_refusal line =
-    if is_blank_line line then None
-    else (if is_card card.List (card_among (words line)) then listing_refusal (words line) else lone_card_refusal card.Stop (words line))
-
 -- the deck is refused at line n
 abbrev pub refused : ℕ → Code → Deck → Deck
 refused n code deck = record deck { ending = Refused n code }
@@ -123,24 +86,34 @@ goes_on (Some code) n deck rest = refused n code deck
 abbrev pub with_account : Deck → List ℕ → Deck
 with_account deck line = record deck { accounts = deck.accounts ++ account_on (words line) ∷ [] }
 
-abbrev pub with_listing : Deck → List ℕ → Deck
-with_listing deck line = record deck { listings = deck.listings ++ listing_on (words line) ∷ [] }
+abbrev pub with_command : Deck → Command → Deck
+with_command deck command = record deck { commands = deck.commands ++ command ∷ [] }
+
+-- what a line of the stream asks for, the lines behind it being a deck by `rest`
+abbrev pub requested : Request → Deck → (Deck → Option OpenList → Deck) → Deck
+requested Nothing deck rest = rest deck None
+requested (Asks command) deck rest = rest (with_command deck command) None
+requested (Opens account name) deck rest = rest deck (Some (opened account name))
+requested Stops deck rest = record deck { ending = Stopped }
 
 -- Each section: the deck whose lines from number n on are these, what stands so far being `deck`.
 
-abbrev pub stream_section : ℕ → Deck → List (List ℕ) → Deck
-stream_section n deck [] = refused n Truncated deck
-stream_section n deck (line ∷ lines) =
+-- in the stream a permission list may be open
+abbrev pub stream_section : ℕ → Deck → Option OpenList → List (List ℕ) → Deck
+stream_section n deck pending [] = refused n Truncated deck
+stream_section n deck None (line ∷ lines) =
     goes_on (or_else (line_refusal 200 line) (stream_refusal line)) n deck
-    (if is_blank_line line then stream_section (n + 1) deck lines
-    else (if is_card card.List (card_among (words line)) then stream_section (n + 1) (with_listing deck line) lines
-    else record deck { ending = Stopped }))
+    (requested (request_on line) deck (λ after pending. stream_section (n + 1) after pending lines))
+stream_section n deck (Some list) (line ∷ lines) =
+    goes_on (list_line_refusal line) n deck
+    (if is_dollar_line line then stream_section (n + 1) (with_command deck (set_acl_of list)) None lines
+    else stream_section (n + 1) deck (Some (with_line list line)) lines)
 
 abbrev pub catalogue_section : ℕ → Deck → Progress → List (List ℕ) → Deck
 catalogue_section n deck p [] = refused n Truncated deck
 catalogue_section n deck p (line ∷ lines) =
     goes_on (or_else (line_refusal 5000 line) (catalogue_refusal p line)) n deck
-    (if ends_catalogue p line then stream_section (n + 1) (record deck { catalogue = sets_of p }) lines
+    (if ends_catalogue p line then stream_section (n + 1) (record deck { catalogue = sets_of p }) None lines
     else catalogue_section (n + 1) deck (step p line) lines)
 
 abbrev pub accounts_section : ℕ → Deck → List (List ℕ) → Deck
@@ -159,7 +132,7 @@ opening_section n deck (line ∷ lines) =
 
 -- before the first line nothing stands
 abbrev pub nothing : Deck
-nothing = record { accounts = []; catalogue = []; listings = []; ending = Stopped }
+nothing = record { accounts = []; catalogue = []; commands = []; ending = Stopped }
 
 -- the deck that these lines are
 abbrev pub deck_of : List (List ℕ) → Deck

@@ -10,7 +10,7 @@ use Rattle.mon_deck.specs.declared.code.Stop.{Stop}
 use Rattle.mon_deck.specs.declared.code.Stop.TheVariants.{Refused, Memory}
 use Rattle.mon_deck.specs.declared.code.Code.{Code}
 use Rattle.mon_deck.specs.declared.code.Code.TheVariants as code
-use Rattle.mon_deck.specs.Sections.{line_refusal}
+use Rattle.mon_deck.specs.Refusing.{line_refusal}
 
 abbrev pub stop_of_line : LineError → Stop
 stop_of_line line.LineTooLong = Refused code.LineTooLong
@@ -43,6 +43,10 @@ next_refusal limit (line ∷ lines) = line_refusal limit line
 abbrev pub place_of : ℕ → Code → ℕ
 place_of taken code.Truncated = taken + 1
 place_of taken _ = taken
+
+-- a refusal of the line that was taken last
+abbrev pub IsHere : Code → Type 0
+IsHere c = (taken : ℕ) → place_of taken c ≡ taken
 
 -- what was answered is what this refusal says, unless memory ran out
 abbrev pub Answers : {T : Type 0} → Option Code → Result T Stop → Type 0

@@ -1,10 +1,10 @@
 //! A deck as it is understood: its account table, its catalogue, its cards, and how it ends.
-ghost use Rattle.std.specs.Prelude.{◌≡◌, [], ◌∷◌, ◌++◌, OnOk, OnErr};
+ghost use Rattle.std.specs.Prelude.{◌≡◌, ◌==◌, [], ◌∷◌, ◌++◌, length, OnOk, OnErr};
 
-use crate::card::Listing;
 use crate::code::Code;
 use mon_access::Accounts;
 use mon_catalogue::Catalogue;
+use mon_monitor::Command;
 use std::alloc::{AllocError, Global};
 use std::marker::Model;
 
@@ -22,52 +22,66 @@ pub enum Ending {
 pub struct Deck {
     pub accounts: Accounts,
     pub catalogue: Catalogue,
-    pub listings: Listings,
+    pub commands: Commands,
     pub ending: Ending,
 }
 
-/// The `$LIST` cards of a deck, in order.
+/// The commands of a deck, in order.
 #[derive(Drop)]
-pub struct Listings {
-    cards: Vec<Listing>,
+pub struct Commands {
+    commands: Vec<Command>,
 }
 
-impl Model for Listings {
+impl Model for Commands {
     ghost use Rattle.std.specs.Prelude.{List};
-    ghost use Rattle.mon_deck.specs.declared.card.Listing.{Listing};
+    ghost use Rattle.mon_monitor.specs.declared.command.Command.{Command};
 
-    ghost Value = { List Listing };
+    ghost Value = { List Command };
 
-    ghost view = { λ l. l.cards.items };
+    ghost view = { λ c. c.commands.items };
 }
 
-impl Listings {
-    /// No card.
-    pub fn new(alloc: Global) -> Listings
+impl Commands {
+    /// No command.
+    pub fn new(alloc: Global) -> Commands
         ensures { result ≡ [] }
     {
-        Listings {
-            cards: Vec::new(alloc),
+        Commands {
+            commands: Vec::new(alloc),
         }
     }
 
-    /// Puts a card last.
+    /// Puts a command last.
     ///
     /// # Errors
     ///
-    /// Where a growth was refused; the cards stay as they were.
-    pub fn push(&mut self, card: Listing) -> Result<(), AllocError>
-        ensures added { OnOk result (self.new ≡ self.old ++ card ∷ []) }
+    /// Where a growth was refused; the commands stay as they were.
+    pub fn push(&mut self, command: Command) -> Result<(), AllocError>
+        ensures added { OnOk result (self.new ≡ self.old ++ command ∷ []) }
         ensures unchanged { OnErr result (self.new ≡ self.old) }
     {
-        self.cards.push(card)?;
+        self.commands.push(command)?;
         Ok(())
     }
 
-    /// The cards in order.
-    pub fn as_slice(&self) -> &[Listing]
-        ensures { result.now ≡ self.now }
+    /// How many there are.
+    pub fn len(&self) -> usize
+        ensures { result ≡ length self.now }
     {
-        self.cards.as_slice()
+        self.commands.len()
+    }
+
+    /// Whether there is none.
+    pub fn is_empty(&self) -> bool
+        ensures { result ≡ (length self.now == 0) }
+    {
+        self.commands.is_empty()
+    }
+
+    /// The commands in order.
+    pub fn into_vec(self) -> Vec<Command>
+        ensures { result.items ≡ self }
+    {
+        self.commands
     }
 }

@@ -1,9 +1,9 @@
 //! The lines of a deck, one after another, with their numbers.
-ghost use Rattle.std.specs.Prelude.{◌≡◌, ◌<◌, ◌≤◌, ◌+◌, ◌^◌, ◌∷◌, [], length, None, Some, IfNone, IfSome, IfOk, IfErr, OnOk, position};
-ghost use Rattle.std.specs.List.{position_or_len};
+ghost use Rattle.std.specs.Prelude.{◌≡◌, ◌<◌, ◌≤◌, ◌+◌, ◌^◌, ◌∷◌, [], length, None, Some, IfNone, IfSome, IfOk, IfErr, OnOk, OnErr, position};
 ghost use Rattle.std.specs.Str.Lines.{lines, strip_carriage_return};
 ghost use Rattle.mon_deck.specs.Lines.{is_line_feed};
-ghost use Rattle.mon_deck.specs.Sections.{line_refusal};
+ghost use Rattle.mon_deck.specs.Refusing.{line_refusal};
+ghost use Rattle.mon_deck.specs.declared.code.Code.TheVariants.{Truncated};
 ghost use Rattle.mon_deck.specs.Stops.{IfRefused, next_refusal, place_of};
 
 use crate::code::{Code, Stop};
@@ -13,6 +13,7 @@ use std::alloc::Global;
 /// The first line of these bytes and what comes after it, or none where no byte is there.
 ///
 /// A line ends with LF, and one CR before it belongs to the line end. A last line without LF counts.
+#[tactic(auto, using(crate::proofs::Splitting::splits))]
 pub(crate) fn split_line(bytes: &[u8]) -> Option<(&[u8], &[u8])>
     ensures none { IfNone result (bytes.now ≡ []) }
     ensures line { IfSome result (λ split. lines bytes.now ≡ split.0.now ∷ lines split.1.now) }
@@ -21,21 +22,13 @@ pub(crate) fn split_line(bytes: &[u8]) -> Option<(&[u8], &[u8])>
     if bytes.is_empty() {
         return None;
     }
-    let end = line_end(bytes);
-    if end == bytes.len() {
-        return Some((bytes, &[]));
+    match first_line_feed(bytes) {
+        None => Some((bytes, &[])),
+        Some(end) => Some((without_carriage_return(&bytes[..end]), &bytes[end + 1..])),
     }
-    Some((without_carriage_return(&bytes[..end]), &bytes[end + 1..]))
 }
 
-// Where the first LF stands, or the number of bytes where none does.
-fn line_end(bytes: &[u8]) -> usize
-    ensures place { result ≡ position_or_len is_line_feed bytes.now }
-    ensures within { result ≤ length bytes.now }
-{
-    first_line_feed(bytes).unwrap_or(bytes.len())
-}
-
+// Where the first LF stands, if one does.
 fn first_line_feed(bytes: &[u8]) -> Option<usize>
     ensures place { result ≡ position is_line_feed bytes.now }
     ensures within { IfSome result (λ place. place < length bytes.now) }
@@ -94,6 +87,28 @@ impl<'a> Lines<'a> {
                     Ok(line) => Ok(line),
                     Err(error) => Err(Stop::from(error)),
                 }
+            }
+        }
+    }
+
+    /// The next line, whatever stands in it.
+    ///
+    /// # Errors
+    ///
+    /// `Truncated` where no line is left.
+    pub(crate) fn next_text(&mut self) -> Result<&'a [u8], Stop>
+        ensures line { IfOk result (λ text. lines self.old.rest.now ≡ text.now ∷ lines self.new.rest.now) }
+        ensures shorter { OnOk result (length self.new.rest.now < length self.old.rest.now) }
+        ensures counted { OnOk result (self.new.taken ≡ self.old.taken + 1) }
+        ensures refused { IfErr result (IfRefused (λ code. (code ≡ Truncated) × (lines self.old.rest.now ≡ []))) }
+        ensures placed { OnErr result (self.new.taken ≡ self.old.taken) }
+    {
+        match split_line(self.rest) {
+            None => Err(Stop::Refused(Code::Truncated)),
+            Some((text, rest)) => {
+                self.rest = rest;
+                self.taken += 1;
+                Ok(text)
             }
         }
     }

@@ -4,31 +4,28 @@ ghost use Rattle.std.specs.List.{list_all};
 ghost use Rattle.std.specs.Str.Lines.{lines};
 ghost use Rattle.mon_text.specs.Names.{is_name};
 ghost use Rattle.mon_text.specs.Lines.{words};
-ghost use Rattle.mon_deck.specs.Sections.{is_dollar_line, account_on, listing_on, words_refusal, listing_refusal, lone_card_refusal, table_refusal, account_refusal, unless, deck_of};
-ghost use Rattle.mon_deck.specs.Stops.{Answers, IfRefused, place_of};
 ghost use Rattle.mon_deck.specs.declared.code.Code.TheVariants.{BadName};
+ghost use Rattle.mon_deck.specs.Refusing.{unless, lone_card_refusal};
+ghost use Rattle.mon_deck.specs.Sections.{account_on, words_refusal, table_refusal, account_refusal, deck_of};
+ghost use Rattle.mon_deck.specs.Stops.{Answers, IfRefused};
 
-use crate::card::{Card, Listing};
+use crate::card::Card;
 use crate::code::{Code, Stop};
-use crate::deck::{Deck, Ending, Listings};
+use crate::deck::{Commands, Deck, Ending};
 use crate::lines::Lines;
+use crate::request::{
+    MOST_LINE_CHARACTERS, Request, begins_with_dollar, ends_list, name_of, read_request,
+};
 use crate::words::Words;
 use mon_access::{Account, Accounts, Groups};
 use mon_catalogue::{Catalogue, Loading};
-use mon_text::{Line, Name, read_name};
+use mon_guard::{AclText, Bytes};
+use mon_monitor::Command;
+use mon_text::Name;
 use std::alloc::{AllocError, Global};
-
-/// How many characters a line has at the most outside the catalogue.
-pub const MOST_LINE_CHARACTERS: usize = 200;
 
 /// How many characters a line of the catalogue has at the most.
 pub const MOST_CATALOGUE_LINE_CHARACTERS: usize = 5_000;
-
-fn begins_with_dollar(line: &Line) -> bool
-    ensures { result ≡ is_dollar_line line.now }
-{
-    line.as_bytes().first() == Some(&b'$')
-}
 
 // A line that has to be this card, alone.
 fn expect_card(words: &Words<'_>, due: Card) -> Result<(), Stop>
@@ -39,17 +36,6 @@ fn expect_card(words: &Words<'_>, due: Card) -> Result<(), Stop>
         Some(card) if card != due => Err(Stop::Refused(Code::OutOfPlace)),
         Some(_) if words.len() != 1 => Err(Stop::Refused(Code::BadCard)),
         Some(_) => Ok(()),
-    }
-}
-
-// A word that has to be a name.
-fn name_of(word: &[u8]) -> Result<Name, Stop>
-    ensures answers { Answers (unless (is_name word.now) BadName) result }
-    ensures value { IfOk result (λ name. name ≡ word.now) }
-{
-    match read_name(word) {
-        Ok(name) => Ok(name),
-        Err(error) => Err(Stop::from(error)),
     }
 }
 
@@ -108,20 +94,6 @@ fn add_account(alloc: Global, accounts: &mut Accounts, words: &Words<'_>) -> Res
     }
 }
 
-// The card that these words of a `$LIST` line give.
-fn read_listing(words: &Words<'_>) -> Result<Listing, Stop>
-    ensures answers { Answers (listing_refusal words.now) result }
-    ensures value { IfOk result (λ card. card ≡ listing_on words.now) }
-{
-    if words.len() != 3 {
-        return Err(Stop::Refused(Code::BadCard));
-    }
-    Ok(Listing {
-        account: name_of(words.at(1))?,
-        name: name_of(words.at(2))?,
-    })
-}
-
 /// Understands the deck that these bytes are.
 ///
 /// # Errors
@@ -134,7 +106,7 @@ pub fn read_deck(alloc: Global, bytes: &[u8]) -> Result<Deck, AllocError>
         deck: Deck {
             accounts: Accounts::new(alloc),
             catalogue: Catalogue::new(alloc),
-            listings: Listings::new(alloc),
+            commands: Commands::new(alloc),
             ending: Ending::Stopped,
         },
         lines: Lines::new(bytes),
@@ -157,8 +129,9 @@ struct Reading<'a> {
 }
 
 impl Reading<'_> {
-    ghost use Rattle.mon_deck.specs.Readings.{opening, accounts, catalogue, stream, stopped, refused_at};
+    ghost use Rattle.mon_deck.specs.Readings.{opening, accounts, catalogue, stream, within_list, stopped, refused_at};
     ghost use Rattle.mon_catalogue.specs.Progress.{SetDue};
+    ghost use Rattle.mon_deck.specs.Requests.{opened};
 
     fn sections(&mut self, alloc: Global) -> Result<(), Stop>
         ensures ok { OnOk result (opening self.old ≡ stopped self.new) }
@@ -191,7 +164,7 @@ impl Reading<'_> {
         'lines: loop {
             let line = self.lines.next(alloc, MOST_LINE_CHARACTERS)?;
             let words = Words::of(alloc, &line)?;
-            if begins_with_dollar(&line) {
+            if begins_with_dollar(line.as_bytes()) {
                 return expect_card(&words, Card::Catalogue);
             }
             if !line.is_blank() {
@@ -220,21 +193,42 @@ impl Reading<'_> {
         }
     }
 
-    // The `$LIST` cards, up to `$STOP`.
+    // The commands, up to `$STOP`.
     fn stream(&mut self, alloc: Global) -> Result<(), Stop>
         ensures ok { OnOk result (stream self.old ≡ stopped self.new) }
         ensures refused { IfErr result (IfRefused (λ code. stream self.old ≡ refused_at self.new code)) }
     {
         'lines: loop {
             let line = self.lines.next(alloc, MOST_LINE_CHARACTERS)?;
-            if !line.is_blank() {
-                let words = Words::of(alloc, &line)?;
-                if words.card() != Some(Card::List) {
-                    return expect_card(&words, Card::Stop);
-                }
-                let card = read_listing(&words)?;
-                self.deck.listings.push(card)?;
+            match read_request(alloc, &line)? {
+                Request::Nothing => {}
+                Request::Asks(command) => self.deck.commands.push(command)?,
+                Request::Opens(account, name) => self.long_list(alloc, account, name)?,
+                Request::Stops => return Ok(()),
             }
+        }
+    }
+
+    // The lines of a permission list, up to `$ENDACL`.
+    fn long_list(&mut self, alloc: Global, account: Name, name: Name) -> Result<(), Stop>
+        ensures ok { OnOk result (within_list (opened account name) self.old ≡ stream self.new) }
+        ensures shorter { OnOk result (length self.new.lines.rest.now ≤ length self.old.lines.rest.now) }
+        ensures refused { IfErr result (IfRefused (λ code. within_list (opened account name) self.old ≡ refused_at self.new code)) }
+    {
+        let mut text = Vec::new(alloc);
+        'lines: loop {
+            let line = self.lines.next_text()?;
+            if ends_list(alloc, line)? {
+                let text = AclText::Long(Bytes::new(text));
+                self.deck.commands.push(Command::SetAcl {
+                    account,
+                    name,
+                    text,
+                })?;
+                return Ok(());
+            }
+            text.extend_from_slice(line)?;
+            text.extend_from_slice(b"\n")?;
         }
     }
 }

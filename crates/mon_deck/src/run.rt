@@ -3,22 +3,24 @@ ghost use Rattle.std.specs.Prelude.{◌≡◌, ◌++◌, ◌≤◌, ◌↔◌, �
 ghost use Rattle.std.specs.Str.Lines.{lines};
 ghost use Rattle.mon_deck.specs.declared.code.Code.{Code};
 ghost use Rattle.mon_deck.specs.declared.deck.Ending.TheVariants.{Stopped, Refused};
-ghost use Rattle.mon_deck.specs.declared.transfer.TheConstants.{MOST_READS};
-ghost use Rattle.mon_deck.specs.Devices.{IsAtEnd, HasAtLeast, holding};
+ghost use Rattle.mon_device.specs.declared.transfer.TheConstants.{MOST_READS};
+ghost use Rattle.mon_device.specs.Devices.{IsAtEnd, HasAtLeast, holding};
 ghost use Rattle.mon_deck.specs.Sections.{deck_of};
-ghost use Rattle.mon_deck.specs.Printouts.{output_of, output_of_deck, closing};
-ghost use Rattle.mon_deck.specs.Runs.{ending_of, catalogue_in, counts_of, ReadsBack};
+ghost use Rattle.mon_deck.specs.Printouts.{output_of, answer_to, output_of_deck, verdict, closing, sets_after};
+ghost use Rattle.mon_deck.specs.Runs.{ending_of, catalogue_after, counts_of, ReadsBack};
 ghost use Rattle.mon_deck.specs.Faults.{status_of, fault_line};
 
 use crate::code::RunError;
 use crate::deck::{Deck, Ending};
-use crate::device::{DeckReader, DeckWriter, Failed};
-use crate::printing::put_listing;
 use crate::reading::read_deck;
-use crate::transfer::{InputError, OutputError, read_all, write_all};
 use mon_catalogue::Catalogue;
+use mon_device::{DeckReader, DeckWriter, Failed, InputError, OutputError, read_all, write_all};
+use mon_monitor::Monitor;
 use mon_text::put_number;
 use std::alloc::{AllocError, Global};
+
+/// How many bytes of output are gathered before they are written.
+const WRITE_SIZE: usize = 65_536;
 
 /// How many slots for jobs there are: 1 to 8.
 #[derive(Clone, Copy, Debug, PartialEq, Eq)]
@@ -46,7 +48,7 @@ impl Slots {
 pub struct Options {
     /// How many slots there are. There are no jobs yet, so that it has no effect.
     pub slots: Slots,
-    /// Whether the deck is only read. It has no effect yet.
+    /// Whether the deck is only read, and not run.
     pub check: bool,
 }
 
@@ -70,13 +72,14 @@ pub struct Counts {
     pub commands: u64,
 }
 
-/// Runs a deck: reads all of it, and writes the printout of each card and then the catalogue.
+/// Runs a deck: reads all of it, serves its commands in order, and writes the printout of each and then the catalogue as
+/// it stands. Where the deck is only to be checked, no command is served, and `DECK OK` is written in place of all that.
 ///
 /// # Errors
 ///
-/// `DeckRefused` at the first line that is refused: the printouts of the cards before it were written, and no
-/// catalogue. `ReadFault` where the reader failed, or gave more than 4,294,967,295 pieces; `WriteFault` where the
-/// writer failed; `Memory` where a growth was refused.
+/// `DeckRefused` at the first line that is refused: the printouts of the commands before it were written, unless the
+/// deck was only to be checked, and no catalogue. `ReadFault` where the reader failed, or gave more than 4,294,967,295
+/// pieces; `WriteFault` where the writer failed; `Memory` where a growth was refused.
 pub fn run_deck<R: DeckReader, W: DeckWriter>(
     alloc: Global,
     reader: &mut R,
@@ -90,30 +93,29 @@ pub fn run_deck<R: DeckReader, W: DeckWriter>(
     ensures at_end { OnOk result (IsAtEnd (R.remaining reader.new)) }
     ensures stopped { OnOk result (IfSome (R.remaining reader.old) (λ bytes. ending_of bytes ≡ Stopped)) }
     ensures output { OnOk result (IfSome (R.remaining reader.old) (λ bytes.
-        W.written writer.new ≡ holding (W.written writer.old) (output_of bytes))) }
-    ensures reads_back { OnOk result (IfSome (R.remaining reader.old) (λ bytes. ReadsBack (catalogue_in bytes))) }
+        W.written writer.new ≡ holding (W.written writer.old) (output_of options.check bytes))) }
+    ensures reads_back { OnOk result (options.check ≡ false → IfSome (R.remaining reader.old) (λ bytes. ReadsBack (catalogue_after bytes))) }
     ensures counts { IfOk result (λ counts. IfSome (R.remaining reader.old) (λ bytes. counts ≡ counts_of bytes)) }
+    ensures sound { OnOk result ((R.has_failed reader.new ≡ false) × (W.has_failed writer.new ≡ false)) }
 
     // A refused deck is refused at its first refusal, and what came before that was written.
     ensures refused { (line : ℕ) (code : Code) → result ≡ Err (RunError.DeckRefused line code) →
         IfSome (R.remaining reader.old) (λ bytes. ending_of bytes ≡ Refused line code) }
     ensures refused_output { (line : ℕ) (code : Code) → result ≡ Err (RunError.DeckRefused line code) →
-        IfSome (R.remaining reader.old) (λ bytes. W.written writer.new ≡ holding (W.written writer.old) (output_of bytes)) }
+        IfSome (R.remaining reader.old) (λ bytes. W.written writer.new ≡ holding (W.written writer.old) (output_of options.check bytes)) }
 
     // Faults are told only where a device failed.
     ensures read_fault { result ≡ Err RunError.ReadFault →
         (R.has_failed reader.new ≡ true) ⊎ HasAtLeast MOST_READS (R.remaining reader.old) }
     ensures write_fault { result ≡ Err RunError.WriteFault → W.has_failed writer.new ≡ true }
 {
-    let _ = options;
     let deck = input_of(alloc, reader)?;
-    put_output(alloc, &deck, writer)?;
-    match deck.ending {
+    let ending = deck.ending;
+    let commands = deck.commands.len() as u64;
+    put_answer(alloc, deck, options, writer)?;
+    match ending {
         Ending::Refused(line, code) => Err(RunError::DeckRefused(line, code)),
-        Ending::Stopped => Ok(Counts {
-            jobs: 0,
-            commands: deck.listings.as_slice().len() as u64,
-        }),
+        Ending::Stopped => Ok(Counts { jobs: 0, commands }),
     }
 }
 
@@ -121,6 +123,7 @@ pub fn run_deck<R: DeckReader, W: DeckWriter>(
 fn input_of<R: DeckReader>(alloc: Global, reader: &mut R) -> Result<Deck, InputError>
     ensures at_end { OnOk result (IsAtEnd (R.remaining reader.new)) }
     ensures deck { IfOk result (λ deck. IfSome (R.remaining reader.old) (λ bytes. deck ≡ deck_of (lines bytes))) }
+    ensures sound { OnOk result (R.has_failed reader.new ≡ R.has_failed reader.old) }
     ensures fault { result ≡ Err InputError.Fault →
         (R.has_failed reader.new ≡ true) ⊎ HasAtLeast MOST_READS (R.remaining reader.old) }
 {
@@ -128,23 +131,64 @@ fn input_of<R: DeckReader>(alloc: Global, reader: &mut R) -> Result<Deck, InputE
     Ok(read_deck(alloc, &bytes)?)
 }
 
-// Writes the output of a deck.
-fn put_output<W: DeckWriter>(alloc: Global, deck: &Deck, writer: &mut W) -> Result<(), OutputError>
-    ensures written { OnOk result (W.written writer.new ≡ holding (W.written writer.old) (output_of_deck deck.now)) }
-    ensures reads_back { OnOk result (deck.now.ending ≡ Stopped → ReadsBack deck.now.catalogue) }
+// Writes what a deck is answered.
+fn put_answer<W: DeckWriter>(
+    alloc: Global,
+    deck: Deck,
+    options: Options,
+    writer: &mut W,
+) -> Result<(), OutputError>
+    ensures written { OnOk result (W.written writer.new ≡ holding (W.written writer.old) (answer_to options.check deck)) }
+    ensures reads_back { OnOk result (options.check ≡ false → deck.ending ≡ Stopped → ReadsBack (sets_after deck)) }
+    ensures sound { OnOk result (W.has_failed writer.new ≡ W.has_failed writer.old) }
     ensures fault { result ≡ Err OutputError.Fault → W.has_failed writer.new ≡ true }
 {
+    if options.check {
+        put_verdict(deck.ending, writer)
+    } else {
+        put_output(alloc, deck, options.slots, writer)
+    }
+}
+
+// Writes whether a deck is refused.
+#[tactic(auto, using(mon_device::proofs::Holding::holds))]
+fn put_verdict<W: DeckWriter>(ending: Ending, writer: &mut W) -> Result<(), OutputError>
+    ensures written { OnOk result (W.written writer.new ≡ holding (W.written writer.old) (verdict ending)) }
+    ensures sound { OnOk result (W.has_failed writer.new ≡ W.has_failed writer.old) }
+    ensures fault { result ≡ Err OutputError.Fault → W.has_failed writer.new ≡ true }
+{
+    match ending {
+        Ending::Stopped => Ok(write_all(writer, b"DECK OK\n")?),
+        Ending::Refused(_line, _code) => Ok(()),
+    }
+}
+
+// Serves the commands of a deck, and writes its output.
+fn put_output<W: DeckWriter>(
+    alloc: Global,
+    deck: Deck,
+    slots: Slots,
+    writer: &mut W,
+) -> Result<(), OutputError>
+    ensures written { OnOk result (W.written writer.new ≡ holding (W.written writer.old) (output_of_deck deck)) }
+    ensures reads_back { OnOk result (deck.ending ≡ Stopped → ReadsBack (sets_after deck)) }
+    ensures sound { OnOk result (W.has_failed writer.new ≡ W.has_failed writer.old) }
+    ensures fault { result ≡ Err OutputError.Fault → W.has_failed writer.new ≡ true }
+{
+    let ending = deck.ending;
+    let mut monitor = Monitor::new(deck.accounts, deck.catalogue, slots.number);
     let mut out = Vec::new(alloc);
-    for card in deck.listings.as_slice() {
-        put_listing(&deck.accounts, &deck.catalogue, card, &mut out)?;
+    for command in deck.commands.into_vec() {
+        let printout = monitor.command(alloc, command)?;
+        out.extend_from_slice(printout.as_slice())?;
         flush(writer, &mut out)?;
     }
-    put_closing(&deck.catalogue, deck.ending, &mut out)?;
+    put_closing(monitor.catalogue(), ending, &mut out)?;
     Ok(write_all(writer, &out)?)
 }
 
 // Writes what is gathered, where it is much.
-#[tactic(auto, using(crate::proofs::Holding::holds))]
+#[tactic(auto, using(mon_device::proofs::Holding::holds))]
 fn flush<W: DeckWriter>(writer: &mut W, out: &mut Vec<u8>) -> Result<(), Failed>
     ensures kept { OnOk result (holding (W.written writer.new) out.new.items ≡ holding (W.written writer.old) out.old.items) }
     ensures failed { W.has_failed writer.new ≡ (W.has_failed writer.old || is_err result) }
@@ -170,9 +214,6 @@ fn put_closing(catalogue: &Catalogue, ending: Ending, out: &mut Vec<u8>) -> Resu
         }
     }
 }
-
-/// How many bytes of output are gathered before they are written.
-const WRITE_SIZE: usize = 65_536;
 
 /// The exit status of the program: 0, 1 where the deck is refused, 3 where something failed.
 pub fn exit_status(outcome: &Result<Counts, RunError>) -> u8

@@ -41,6 +41,92 @@ const OUTPUT: &[u8] = b"LIST lisa PAYROLL\n\
     BOB 200\n\
     \n";
 
+/// A deck with each command: a list in lines is stored and used, a set is made, and what is another's stays.
+const OWNERS_DECK: &[u8] = b"$ACCOUNTS\n\
+    anna admin\n\
+    lisa staff\n\
+    $CATALOGUE\n\
+    $SET PAY anna admin 1\n\
+    user::rwx,group::---,other::---\n\
+    ADA\n\
+    $STREAM\n\
+    $SETACL anna PAY\n\
+    # who may read\n\
+    user::rwx\n\
+    user:lisa:rw-\t#effective:r--\n\
+    group::---\n\
+    \n\
+    mask::r--\n\
+    other::---\n\
+    $ENDACL\n\
+    $LIST lisa PAY\n\
+    $SHOWACL anna PAY\n\
+    $CREATE lisa NOTE\n\
+    $CATALOG lisa\n\
+    $DELETE lisa PAY\n\
+    $SETACL lisa NOTE u::r, g::, o::\n\
+    $STOP\n";
+
+/// What it prints, worked by hand.
+const OWNERS_OUTPUT: &[u8] = b"SETACL anna PAY\n\
+    DONE\n\
+    LIST lisa PAY\n\
+    \x20ADA\n\
+    RECORDS 1\n\
+    SHOWACL anna PAY\n\
+    OWNER anna GROUP admin\n\
+    \x20user::rwx\n\
+    \x20user:lisa:rw-\t#effective:r--\n\
+    \x20group::---\n\
+    \x20mask::r--\n\
+    \x20other::---\n\
+    ENTRIES 5\n\
+    CREATE lisa NOTE\n\
+    DONE\n\
+    CATALOG lisa\n\
+    \x20NOTE lisa staff 0\n\
+    NAMES 1\n\
+    DELETE lisa PAY\n\
+    DENIED NOT OWNER\n\
+    SETACL lisa NOTE\n\
+    DONE\n\
+    $CATALOGUE\n\
+    $SET PAY anna admin 1\n\
+    user::rwx,user:lisa:rw-,group::---,mask::r--,other::---\n\
+    ADA\n\
+    $SET NOTE lisa staff 0\n\
+    user::r--,group::---,other::---\n";
+
+/// A deck, what it prints, and how many commands it has.
+struct Worked {
+    deck: &'static [u8],
+    output: &'static [u8],
+    commands: u64,
+}
+
+static WORKED: [Worked; 2] = [
+    Worked {
+        deck: DECK,
+        output: OUTPUT,
+        commands: 3,
+    },
+    Worked {
+        deck: OWNERS_DECK,
+        output: OWNERS_OUTPUT,
+        commands: 7,
+    },
+];
+
+impl Worked {
+    // What a good run of it answers.
+    fn done(&self) -> Result<Counts, RunError> {
+        Ok(Counts {
+            jobs: 0,
+            commands: self.commands,
+        })
+    }
+}
+
 /// What a good run of the worked deck answers.
 const DONE: Result<Counts, RunError> = Ok(Counts {
     jobs: 0,
@@ -52,23 +138,55 @@ const ROOM: usize = 1_000;
 
 // What a run of this deck answers, and what it wrote.
 fn run_of(alloc: Global, deck: &[u8]) -> Result<(Result<Counts, RunError>, MemWriter), AllocError> {
+    run_with(alloc, deck, Options::new())
+}
+
+fn run_with(
+    alloc: Global,
+    deck: &[u8],
+    options: Options,
+) -> Result<(Result<Counts, RunError>, MemWriter), AllocError> {
     let mut reader = MemReader::new(deck);
     let mut writer = MemWriter::new(alloc, ROOM)?;
-    let outcome = run_deck(alloc, &mut reader, &mut writer, Options::new());
+    let outcome = run_deck(alloc, &mut reader, &mut writer, options);
     Ok((outcome, writer))
+}
+
+// The deck is only read.
+fn checked() -> Options {
+    let mut options = Options::new();
+    options.check = true;
+    options
 }
 
 #[test]
 fn pieces_of_any_size_give_the_same_output(rt: HostRuntime) -> Result<(), Fail> {
-    for read in [1, 2, 3, 7, 64, 224, 225, ROOM] {
-        for written in [1, 5, 227, ROOM] {
-            let mut reader = MemReader::in_pieces(DECK, read);
-            let mut writer = MemWriter::in_pieces(rt.alloc(), ROOM, written)?;
-            let outcome = run_deck(rt.alloc(), &mut reader, &mut writer, Options::new());
-            assert_eq!(rt; outcome, DONE, "pieces of {read} and {written}");
-            assert_eq!(rt; writer.as_bytes(), OUTPUT, "pieces of {read} and {written}");
-            assert_eq!(rt; exit_status(&outcome), 0);
+    for worked in &WORKED {
+        for read in [1, 2, 3, 7, 64, 224, 225, ROOM] {
+            for written in [1, 5, 227, ROOM] {
+                let mut reader = MemReader::in_pieces(worked.deck, read);
+                let mut writer = MemWriter::in_pieces(rt.alloc(), ROOM, written)?;
+                let outcome = run_deck(rt.alloc(), &mut reader, &mut writer, Options::new());
+                assert_eq!(rt; outcome, worked.done(), "pieces of {read} and {written}");
+                assert_eq!(rt;
+                    writer.as_bytes(),
+                    worked.output,
+                    "pieces of {read} and {written}"
+                );
+                assert_eq!(rt; exit_status(&outcome), 0);
+            }
         }
+    }
+    Ok(())
+}
+
+// No command is served, and nothing but the verdict is written.
+#[test]
+fn a_checked_deck_is_only_read(rt: HostRuntime) -> Result<(), Fail> {
+    for worked in &WORKED {
+        let (outcome, writer) = run_with(rt.alloc(), worked.deck, checked())?;
+        assert_eq!(rt; outcome, worked.done());
+        assert_eq!(rt; writer.as_bytes(), b"DECK OK\n".as_slice());
     }
     Ok(())
 }
@@ -107,28 +225,30 @@ fn every_write_that_fails_is_told(rt: HostRuntime) -> Result<(), Fail> {
 // may leave another good line there, or one that is refused.
 #[test]
 fn a_deck_cut_anywhere_is_refused(rt: HostRuntime) -> Result<(), Fail> {
-    for end in 0..DECK.len() - 1 {
-        let cut = &DECK[..end];
-        let (outcome, writer) = run_of(rt.alloc(), cut)?;
-        let (line, code) = match outcome {
-            Err(RunError::DeckRefused(line, code)) => (line, code),
-            _ => (0, Code::BadNumber),
-        };
-        let last = cut.split(|byte| *byte == b'\n').count() as u64;
-        if cut.is_empty() || cut.ends_with(b"\n") {
-            assert_eq!(rt; code, Code::Truncated, "cut after {end} bytes");
-            assert_eq!(rt; line, last, "cut after {end} bytes");
-            assert!(rt;
-                OUTPUT.starts_with(writer.as_bytes()),
-                "cut after {end} bytes"
-            );
-        } else if code == Code::Truncated {
-            assert_eq!(rt; line, last.saturating_add(1), "cut after {end} bytes");
-        } else {
-            assert_eq!(rt; line, last, "cut after {end} bytes");
+    for worked in &WORKED {
+        for end in 0..worked.deck.len() - 1 {
+            let cut = &worked.deck[..end];
+            let (outcome, writer) = run_of(rt.alloc(), cut)?;
+            let (line, code) = match outcome {
+                Err(RunError::DeckRefused(line, code)) => (line, code),
+                _ => (0, Code::BadNumber),
+            };
+            let last = cut.split(|byte| *byte == b'\n').count() as u64;
+            if cut.is_empty() || cut.ends_with(b"\n") {
+                assert_eq!(rt; code, Code::Truncated, "cut after {end} bytes");
+                assert_eq!(rt; line, last, "cut after {end} bytes");
+                assert!(rt;
+                    worked.output.starts_with(writer.as_bytes()),
+                    "cut after {end} bytes"
+                );
+            } else if code == Code::Truncated {
+                assert_eq!(rt; line, last.saturating_add(1), "cut after {end} bytes");
+            } else {
+                assert_eq!(rt; line, last, "cut after {end} bytes");
+            }
+            assert!(rt; !writer.as_bytes().contains(&b'$'), "cut after {end} bytes");
+            assert_eq!(rt; exit_status(&outcome), 1);
         }
-        assert!(rt; !writer.as_bytes().contains(&b'$'), "cut after {end} bytes");
-        assert_eq!(rt; exit_status(&outcome), 1);
     }
     Ok(())
 }
@@ -161,7 +281,7 @@ struct Refusal {
 }
 
 /// Codes with the places that the rules give, section by section.
-static REFUSALS: [Refusal; 26] = [
+static REFUSALS: [Refusal; 36] = [
     // Before the account table.
     Refusal {
         deck: b"",
@@ -317,6 +437,66 @@ static REFUSALS: [Refusal; 26] = [
         printed: b"LIST lisa X\nREFUSED M2 NO ACCOUNT\n",
     },
     Refusal {
+        deck: b"$ACCOUNTS\n$CATALOGUE\n$STREAM\n$FOO\n",
+        line: 4,
+        code: Code::UnknownCard,
+        printed: b"",
+    },
+    Refusal {
+        deck: b"$ACCOUNTS\n$CATALOGUE\n$STREAM\n$ENDACL\n",
+        line: 4,
+        code: Code::OutOfPlace,
+        printed: b"",
+    },
+    Refusal {
+        deck: b"$ACCOUNTS\n$CATALOGUE\n$STREAM\n$CREATE lisa X SEQ\n",
+        line: 4,
+        code: Code::BadCard,
+        printed: b"",
+    },
+    Refusal {
+        deck: b"$ACCOUNTS\n$CATALOGUE\n$STREAM\n$CATALOG lisa X\n",
+        line: 4,
+        code: Code::BadCard,
+        printed: b"",
+    },
+    Refusal {
+        deck: b"$ACCOUNTS\n$CATALOGUE\n$STREAM\n$CATALOG 9\n",
+        line: 4,
+        code: Code::BadName,
+        printed: b"",
+    },
+    Refusal {
+        deck: b"$ACCOUNTS\n$CATALOGUE\n$STREAM\n$SETACL lisa\n",
+        line: 4,
+        code: Code::BadCard,
+        printed: b"",
+    },
+    Refusal {
+        deck: b"$ACCOUNTS\n$CATALOGUE\n$STREAM\n$SETACL lisa X u::r,\tg::r,o::r\n",
+        line: 4,
+        code: Code::BadCharacter,
+        printed: b"",
+    },
+    Refusal {
+        deck: b"$ACCOUNTS\n$CATALOGUE\n$STREAM\n$SETACL lisa X\nu::r\n$LIST lisa X\n",
+        line: 6,
+        code: Code::OutOfPlace,
+        printed: b"",
+    },
+    Refusal {
+        deck: b"$ACCOUNTS\n$CATALOGUE\n$STREAM\n$SETACL lisa X\nu::r\n$ENDACL x\n",
+        line: 6,
+        code: Code::BadCard,
+        printed: b"",
+    },
+    Refusal {
+        deck: b"$ACCOUNTS\n$CATALOGUE\n$STREAM\n$SETACL lisa X\n\tu::r\n$ENDACL\t\n",
+        line: 6,
+        code: Code::BadCharacter,
+        printed: b"",
+    },
+    Refusal {
         deck: b"$ACCOUNTS\n$CATALOGUE\n$STREAM\n$LIST lisa X\n",
         line: 5,
         code: Code::Truncated,
@@ -332,6 +512,9 @@ fn decks_are_refused_at_their_lines(rt: HostRuntime) -> Result<(), Fail> {
         let deck = refusal.deck;
         assert_eq!(rt; outcome, wanted, "{deck:?}");
         assert_eq!(rt; writer.as_bytes(), refusal.printed, "{deck:?}");
+        let (outcome, writer) = run_with(rt.alloc(), refusal.deck, checked())?;
+        assert_eq!(rt; outcome, wanted, "{deck:?}");
+        assert!(rt; writer.as_bytes().is_empty(), "{deck:?}");
     }
     Ok(())
 }
@@ -400,15 +583,17 @@ fn faults_have_a_line_and_a_status(rt: HostRuntime) -> Result<(), Fail> {
 /// Under `rt try --test --fail-alloc N` the Nth growth is refused: that is told, and nothing else differs.
 #[test]
 fn a_refused_growth_is_told(rt: HostRuntime) -> Result<(), Fail> {
-    let Ok((outcome, writer)) = run_of(rt.alloc(), DECK) else {
-        return Ok(());
-    };
-    if outcome == Err(RunError::Memory) {
-        assert!(rt; OUTPUT.starts_with(writer.as_bytes()));
-        assert_eq!(rt; exit_status(&outcome), 3);
-    } else {
-        assert_eq!(rt; outcome, DONE);
-        assert_eq!(rt; writer.as_bytes(), OUTPUT);
+    for worked in &WORKED {
+        let Ok((outcome, writer)) = run_of(rt.alloc(), worked.deck) else {
+            return Ok(());
+        };
+        if outcome == Err(RunError::Memory) {
+            assert!(rt; worked.output.starts_with(writer.as_bytes()));
+            assert_eq!(rt; exit_status(&outcome), 3);
+        } else {
+            assert_eq!(rt; outcome, worked.done());
+            assert_eq!(rt; writer.as_bytes(), worked.output);
+        }
     }
     Ok(())
 }

@@ -1,7 +1,9 @@
-//! A worked deck, and what a run of it has to show.
+//! A worked deck, the words that it is run with, and what a run of it has to show.
+ghost use Rattle.std.specs.Prelude.{◌≡◌, ◌≢◌, ℕ, Bool, IfSome, None};
+ghost use Rattle.rows.specs.Words.{words_for};
 
 use crate::difference::{Difference, first_difference};
-use anyhow::{Context, Result};
+use anyhow::{Context, Result, bail};
 use mon_deck::{MemReader, MemWriter, Options, exit_status, put_fault, run_deck};
 use std::alloc::{AllocError, Global};
 use std::fs;
@@ -23,14 +25,16 @@ pub struct Outcome {
 
 #[derive(Drop)]
 pub struct Case {
+    options: Options,
     deck: Vec<u8>,
     wanted: Outcome,
 }
 
 impl Case {
-    /// Reads the files of a case: `deck`, `stdout`, `stderr` and `status`, in its own folder of `cases/`.
+    /// Reads the files of a case: `args`, `deck`, `stdout`, `stderr` and `status`, in its own folder of `cases/`.
     pub fn read<R: Files + AllocGlobal>(rt: &R, name: &str) -> Result<Case> {
         Ok(Case {
+            options: read_args(rt, name)?,
             deck: read_part(rt, name, "deck")?,
             wanted: Outcome {
                 stdout: read_part(rt, name, "stdout")?,
@@ -61,7 +65,7 @@ impl Case {
     ) -> Result<Outcome, AllocError> {
         let mut reader = MemReader::in_pieces(self.deck.as_slice(), most_read);
         let mut writer = MemWriter::in_pieces(alloc, ROOM, most_written)?;
-        let counts = run_deck(alloc, &mut reader, &mut writer, Options::new());
+        let counts = run_deck(alloc, &mut reader, &mut writer, self.options);
         let mut stderr = Vec::new(alloc);
         if let Err(fault) = &counts {
             put_fault(fault, &mut stderr)?;
@@ -85,4 +89,27 @@ fn read_status<R: Files + AllocGlobal>(rt: &R, name: &str) -> Result<u8> {
     text.trim()
         .parse::<u8>()
         .context(format_args!("reading {path}"))
+}
+
+fn read_args<R: Files + AllocGlobal>(rt: &R, name: &str) -> Result<Options> {
+    let path = format!(in rt.alloc(); "cases/{name}/args")?;
+    let words = fs::read_to_string(rt, path.as_str()).context(format_args!("reading {path}"))?;
+    match options_of(words.as_str()) {
+        Some(options) => Ok(options),
+        None => bail!("{path} gives no options"),
+    }
+}
+
+/// The options that the words of a case give: `--check` on a line of its own, or no word.
+fn options_of(words: &str) -> Option<Options>
+    ensures given { IfSome result (λ options. (options.slots.number ≡ 4) × (words.now ≡ words_for options.check)) }
+    ensures refused { result ≡ None → (check : Bool) → words.now ≢ words_for check }
+{
+    let mut options = Options::new();
+    options.check = match words {
+        "" => false,
+        "--check\n" => true,
+        _ => return None,
+    };
+    Some(options)
 }

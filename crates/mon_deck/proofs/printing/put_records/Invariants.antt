@@ -1,8 +1,0 @@
--- The lines of the records so far were appended.
-use Rattle.std.proofs.Common.{◌≡◌, ◌++◌, take}
-use Rattle.std.specs.List.{flat_map}
-use Rattle.mon_deck.specs.Printouts.{record_line}
-use Rattle.mon_deck.proofs.printing.put_records.Given as goal
-
-abbrev pub invariant-loop-record : goal.invariant-loop-record
-invariant-loop-record l = l.out.items ≡ l.fn.out.items ++ flat_map record_line (take l.record-index l.records)

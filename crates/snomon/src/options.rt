@@ -1,0 +1,56 @@
+//! The words of the command line, and the options that they give.
+ghost use Rattle.std.specs.Prelude.{◌≡◌, ◌⊎◌, map, IfOk, IfErr};
+ghost use Rattle.clap.specs.Words.{app_of, kind_of};
+ghost use Rattle.mon_deck.specs.declared.run.Options.{Options};
+ghost use Rattle.snomon.specs.CommandLine.{Gives, snomon};
+
+use clap::error::ErrorKind;
+use clap::{Arg, ArgAction, Command, Error};
+use mon_deck::Options;
+use std::alloc::{AllocError, Global};
+use std::convert::AsStr;
+
+#[cfg(test)]
+mod tests;
+
+/// What the words of a command line ask for. The first word is the program's name.
+///
+/// # Errors
+///
+/// Where the words give no options: an unknown one, one that is given twice, a word that is none, or a call for help.
+/// The text of the error, which is that of the help too, is `clap`'s. Its kind is `OutOfMemory` where a growth was
+/// refused, and words that give options are refused for that alone.
+pub fn read_options<S: AsStr>(alloc: Global, words: &[S]) -> Result<Options, Error>
+    ensures given { IfOk result (λ options. Gives (map S.text words.now) options) }
+    ensures refused { IfErr result (λ error. (kind_of error ≡ ErrorKind.OutOfMemory)
+        ⊎ ((options : Options) → Gives (map S.text words.now) options → ⊥)) }
+{
+    let matches = command(alloc)?.try_get_matches_from(words)?;
+    let mut options = Options::new();
+    options.check = matches.get_flag("check");
+    Ok(options)
+}
+
+/// The error for a word that is no text, and so no option.
+///
+/// # Errors
+///
+/// Where a growth was refused.
+pub fn no_text(alloc: Global) -> Result<Error, AllocError>
+    ensures { IfOk result (λ error. kind_of error ≡ ErrorKind.UnknownArgument) }
+{
+    command(alloc)?.error(ErrorKind::UnknownArgument, "a word is no text in UTF-8")
+}
+
+// The program's options, as `clap` knows them. Help is among them without being named.
+fn command<'a>(alloc: Global) -> Result<Command<'a>, AllocError>
+    ensures { IfOk result (λ command. app_of command ≡ snomon) }
+{
+    let check = Arg::new(alloc, "check")
+        .long("check")
+        .action(ArgAction::SetTrue)
+        .help("Only reads the deck, and tells whether it is good");
+    Command::new(alloc, "snomon")
+        .about("Runs the deck on standard input, and writes its output to standard output")
+        .arg(check)
+}
