@@ -1,0 +1,7 @@
+pub mod Placing
+pub mod Finding
+pub mod Pieces
+pub mod Programs
+pub mod Cuts
+mod Examples
+pub mod TruePlaces

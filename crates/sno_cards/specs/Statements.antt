@@ -1,0 +1,146 @@
+-- The statements, the END line and the data of a program (after "The SNOBOL4 Programming Language"; where the book leaves
+-- a choice, own). All of it is said of the whole list of cards.
+use Rattle.std.specs.Prelude.{ℕ, ◌+◌, Bool, false, ◌||◌, ◌==◌, not, List, [], ◌∷◌, ◌++◌, length, filter, Option, Some, None, Result, Ok, Err, if◌then◌else◌}
+use Rattle.std.specs.List.{flat_map, find, list_all, onto_first, position_or_len, before_first}
+use Rattle.mon_text.specs.Characters.{is_blank}
+use Rattle.sno_cards.specs.declared.card.CardKind.{CardKind}
+use Rattle.sno_cards.specs.declared.card.CardKind.TheVariants.{UnknownControl, Continuation}
+use Rattle.sno_cards.specs.declared.refusal.Refusal.{Refusal}
+use Rattle.sno_cards.specs.declared.refusal.SyntaxCode.{SyntaxCode}
+use Rattle.sno_cards.specs.declared.refusal.SyntaxCode.TheVariants.{NoEndLine, NothingToContinue, UnknownControlCard}
+use Rattle.sno_cards.specs.declared.text.Placed.{Placed}
+use Rattle.sno_cards.specs.Cards.{kind_of, is_start, is_continuation, is_end_line, is_semicolon, rest_of_end_line}
+use Rattle.sno_cards.specs.Programs.{ProgramText}
+
+-- CARDS AND THEIR CHARACTERS
+
+-- a line of the program with its number
+pub record Card : Type 0 where
+  pub number : ℕ
+  pub text : List ℕ
+
+-- the cards that these lines are, the first having this number
+abbrev pub numbered : ℕ → List (List ℕ) → List Card
+numbered n [] = []
+numbered n (line ∷ lines) = record { number = n; text = line } ∷ numbered (n + 1) lines
+
+-- characters that stand on a card from a column on
+abbrev pub placed_on : ℕ → ℕ → List ℕ → List Placed
+placed_on card column [] = []
+placed_on card column (c ∷ cs) = record { code = c; place = record { card = card; column = column } } ∷ placed_on card (column + 1) cs
+
+-- the mark of a continuation is read as a blank
+abbrev pub without_mark : List ℕ → List ℕ
+without_mark [] = []
+without_mark (mark ∷ cs) = 32 ∷ cs
+
+abbrev pub is_start_card : Card → Bool
+is_start_card card = is_start (kind_of card.text)
+
+abbrev pub is_continuation_card : Card → Bool
+is_continuation_card card = is_continuation (kind_of card.text)
+
+-- not a comment and not a control card
+abbrev pub is_statement_card : Card → Bool
+is_statement_card card = is_start_card card || is_continuation_card card
+
+-- LINES
+
+-- what continues a line: the cards up to the next start
+abbrev pub continued : List Card → List Placed
+continued [] = []
+continued (card ∷ cards) =
+    if is_continuation_card card then placed_on card.number 1 (without_mark card.text) ++ continued cards else []
+
+-- each start, joined with what continues it
+abbrev pub joined : List Card → List (List Placed)
+joined [] = []
+joined (card ∷ cards) =
+    if is_continuation_card card then joined cards
+    else (placed_on card.number 1 card.text ++ continued cards) ∷ joined cards
+
+-- STATEMENTS
+
+abbrev pub is_quote : ℕ → Bool
+is_quote c = c == 39 || c == 34
+
+-- which quote has begun a literal that is still open after a character
+abbrev pub literal_after : Option ℕ → ℕ → Option ℕ
+literal_after None c = if is_quote c then Some c else None
+literal_after (Some quote) c = if c == quote then None else Some quote
+
+-- a `;` outside literals ends a statement
+abbrev pub ends_statement : Option ℕ → ℕ → Bool
+ends_statement None c = is_semicolon c
+ends_statement (Some quote) c = false
+
+-- a line, or the rest of one within which a literal may be open, cut at each `;` outside literals
+abbrev pub pieces : Option ℕ → List Placed → List (List Placed)
+pieces literal [] = [] ∷ []
+pieces literal (c ∷ cs) =
+    if ends_statement literal c.code then [] ∷ pieces (literal_after literal c.code) cs
+    else onto_first c (pieces (literal_after literal c.code) cs)
+
+abbrev pub is_blank_text : List Placed → Bool
+is_blank_text cs = list_all (λ c. is_blank c.code) cs
+
+abbrev pub is_statement : List Placed → Bool
+is_statement piece = not (is_blank_text piece)
+
+-- the statements of a line
+abbrev pub statements_in : List Placed → List (List Placed)
+statements_in line = filter is_statement (pieces None line)
+
+-- the statements of the cards before the END line
+abbrev pub statements_on : List Card → List (List Placed)
+statements_on cards = flat_map statements_in (joined (filter is_statement_card cards))
+
+-- REFUSALS
+
+-- why a card is refused, where a line of statements was begun before it or not
+abbrev pub card_refusal : Bool → CardKind → Option SyntaxCode
+card_refusal begun UnknownControl = Some UnknownControlCard
+card_refusal false Continuation = Some NothingToContinue
+card_refusal begun kind = None
+
+abbrev pub refused_card : ℕ → SyntaxCode → Refusal
+refused_card number code = record { code = code; place = record { card = number; column = 1 } }
+
+-- the first of two refusals
+abbrev pub refused_first : ℕ → Option SyntaxCode → Option Refusal → Option Refusal
+refused_first number (Some code) later = Some (refused_card number code)
+refused_first number None later = later
+
+-- the first refusal of a card before the END line
+abbrev pub first_refusal : Bool → List Card → Option Refusal
+first_refusal begun [] = None
+first_refusal begun (card ∷ cards) =
+    refused_first card.number (card_refusal begun (kind_of card.text)) (first_refusal (begun || is_start_card card) cards)
+
+-- THE PROGRAM
+
+-- how many lines stand before the first END line
+abbrev pub end_index : List (List ℕ) → ℕ
+end_index lines = position_or_len is_end_line lines
+
+-- a program whose END line is this one
+abbrev pub program_ended_by : List ℕ → List (List ℕ) → ProgramText
+program_ended_by end_line lines = record {
+  statements = statements_on (numbered 1 (before_first is_end_line lines));
+  end_rest = placed_on (end_index lines + 1) 4 (rest_of_end_line end_line);
+  data_from = end_index lines + 1;
+}
+
+-- without an END line, the program is refused at the card after the last
+abbrev pub program_with : Option (List ℕ) → List (List ℕ) → Result ProgramText Refusal
+program_with None lines = Err (refused_card (length lines + 1) NoEndLine)
+program_with (Some end_line) lines = Ok (program_ended_by end_line lines)
+
+abbrev pub unless_refused : Option Refusal → Result ProgramText Refusal → Result ProgramText Refusal
+unless_refused None program = program
+unless_refused (Some refusal) program = Err refusal
+
+-- the program that these lines are, or its first refusal
+abbrev pub statements_of : List (List ℕ) → Result ProgramText Refusal
+statements_of lines =
+    unless_refused (first_refusal false (numbered 1 (before_first is_end_line lines))) (program_with (find is_end_line lines) lines)

@@ -1,0 +1,22 @@
+//! Cards: from the lines of a program to the texts of its statements, the END line and the data.
+//!
+//! Each character of a statement's text knows the card and the column that it stands on, so that whatever reads a
+//! statement can say where it refuses it.
+#![tactic(auto)]
+
+pub mod card;
+pub mod cutting;
+pub mod joining;
+pub mod laws;
+pub mod program;
+pub mod reading;
+pub mod refusal;
+pub mod text;
+
+pub use program::ProgramCards;
+pub use reading::statements;
+pub use refusal::{Place, Refusal, SyntaxCode, SyntaxError};
+pub use text::{Placed, StatementText};
+
+#[cfg(test)]
+mod tests;
