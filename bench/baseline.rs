@@ -1,7 +1,7 @@
 //! The work of `snomon` in plain Rust, for comparison: std alone, no contract and no proof.
 //!
-//! Reads a whole deck from standard input, writes the listings and the catalogue, and tells of the first refusal as
-//! `snomon` does. `docs/DECK.md` has the rules that both follow.
+//! Reads a whole deck from standard input, writes the printouts and the catalogue, and tells of the first refusal as
+//! `snomon` does; it takes no options. `docs/REFERENCE.md` has the rules that both follow.
 
 use std::collections::HashMap;
 use std::fmt;
@@ -18,14 +18,23 @@ const SETS: usize = 1_000;
 const NAMED_ENTRIES: usize = 100;
 const FURTHER_GROUPS: usize = 16;
 
-const CARDS: [&[u8]; 6] = [
+const CARDS: [&[u8]; 12] = [
     b"$ACCOUNTS",
     b"$CATALOGUE",
     b"$SET",
     b"$STREAM",
+    b"$CREATE",
+    b"$DELETE",
+    b"$SETACL",
+    b"$ENDACL",
+    b"$SHOWACL",
     b"$LIST",
+    b"$CATALOG",
     b"$STOP",
 ];
+
+/// The list of a data set that `$CREATE` makes.
+const NEW_LIST: &[u8] = b"user::rwx,group::---,other::---";
 
 #[derive(Clone, Copy)]
 enum Code {
@@ -73,6 +82,15 @@ struct Lines<'a> {
 impl<'a> Lines<'a> {
     /// The next line, of at most `limit` characters. At the end of the deck the number is that of the line missed.
     fn next(&mut self, limit: usize) -> Result<&'a [u8], Code> {
+        self.next_with(limit, |_| false)
+    }
+
+    /// The next line, in which tabs are good where `has_tabs` says so of it.
+    fn next_with(
+        &mut self,
+        limit: usize,
+        has_tabs: impl FnOnce(&[u8]) -> bool,
+    ) -> Result<&'a [u8], Code> {
         self.number += 1;
         if self.rest.is_empty() {
             return Err(Code::Truncated);
@@ -86,11 +104,15 @@ impl<'a> Lines<'a> {
             None => std::mem::take(&mut self.rest),
         };
         if line.len() > limit {
-            Err(Code::LineTooLong)
-        } else if !line.iter().all(|byte| (b' '..=b'~').contains(byte)) {
-            Err(Code::BadCharacter)
-        } else {
+            return Err(Code::LineTooLong);
+        }
+        let is_printable = |byte: &u8| (b' '..=b'~').contains(byte);
+        if line.iter().all(is_printable)
+            || has_tabs(line) && line.iter().all(|byte| *byte == b'\t' || is_printable(byte))
+        {
             Ok(line)
+        } else {
+            Err(Code::BadCharacter)
         }
     }
 
@@ -142,7 +164,35 @@ enum Tag {
 }
 
 const READ: u8 = 4;
+const WRITE: u8 = 2;
+const EXECUTE: u8 = 1;
 
+/// Why a text is no permission list; the numbers are those of entries, from 1.
+enum ListFault {
+    BadTag(usize),
+    BadQualifier(usize),
+    BadPerms(usize),
+    Missing(&'static str),
+    Twice(usize),
+    NoMask,
+    TooMany(usize),
+}
+
+impl fmt::Display for ListFault {
+    fn fmt(&self, f: &mut fmt::Formatter<'_>) -> fmt::Result {
+        match self {
+            ListFault::BadTag(n) => write!(f, "A1 BAD TAG ENTRY {n}"),
+            ListFault::BadQualifier(n) => write!(f, "A2 BAD QUALIFIER ENTRY {n}"),
+            ListFault::BadPerms(n) => write!(f, "A3 BAD PERMS ENTRY {n}"),
+            ListFault::Missing(entry) => write!(f, "A4 MISSING {entry}"),
+            ListFault::Twice(n) => write!(f, "A5 TWICE ENTRY {n}"),
+            ListFault::NoMask => write!(f, "A6 NO MASK"),
+            ListFault::TooMany(n) => write!(f, "A7 TOO MANY ENTRY {n}"),
+        }
+    }
+}
+
+#[derive(Clone, Copy)]
 struct Entry<'a> {
     tag: Tag,
     /// Empty where the entry has no qualifier.
@@ -151,37 +201,58 @@ struct Entry<'a> {
 }
 
 impl<'a> Entry<'a> {
-    fn parse(text: &'a [u8]) -> Option<Entry<'a>> {
-        let fields: Vec<&[u8]> = text
-            .split(|&byte| byte == b':')
-            .map(<[u8]>::trim_ascii)
-            .collect();
-        let (tag, qualifier, perms) = match *fields {
-            [tag, qualifier, perms] => (tag, qualifier, perms),
-            [tag @ (b"mask" | b"m" | b"other" | b"o"), perms] => (tag, &b""[..], perms),
-            _ => return None,
-        };
-        let tag = match (tag, qualifier) {
-            (b"user" | b"u", b"") => Tag::UserObj,
-            (b"user" | b"u", _) => Tag::User,
-            (b"group" | b"g", b"") => Tag::GroupObj,
-            (b"group" | b"g", _) => Tag::Group,
-            (b"mask" | b"m", b"") => Tag::Mask,
-            (b"other" | b"o", b"") => Tag::Other,
-            _ => return None,
-        };
-        if !qualifier.is_empty() {
-            name(qualifier).ok()?;
+    /// Reads one entry, the `number`th of its list.
+    fn parse(text: &'a [u8], number: usize) -> Result<Entry<'a>, ListFault> {
+        let mut fields = text.split(|&byte| byte == b':').map(<[u8]>::trim_ascii);
+        let word = fields.next().unwrap_or_default();
+        if ![
+            &b"user"[..],
+            b"u",
+            b"group",
+            b"g",
+            b"mask",
+            b"m",
+            b"other",
+            b"o",
+        ]
+        .contains(&word)
+        {
+            return Err(ListFault::BadTag(number));
         }
-        Some(Entry {
+        let is_lone = matches!(word, b"mask" | b"m" | b"other" | b"o");
+        let (qualifier, perms) = match (fields.next(), fields.next(), fields.next()) {
+            (Some(qualifier), Some(perms), None) => (qualifier, perms),
+            (Some(perms), None, _) if is_lone => (&b""[..], perms),
+            _ => return Err(ListFault::BadPerms(number)),
+        };
+        if !qualifier.is_empty() && (is_lone || name(qualifier).is_err()) {
+            return Err(ListFault::BadQualifier(number));
+        }
+        let tag = match (word[0], qualifier.is_empty()) {
+            (b'u', true) => Tag::UserObj,
+            (b'u', false) => Tag::User,
+            (b'g', true) => Tag::GroupObj,
+            (b'g', false) => Tag::Group,
+            (b'm', _) => Tag::Mask,
+            _ => Tag::Other,
+        };
+        Ok(Entry {
             tag,
             name: qualifier,
-            perms: perms_of(perms)?,
+            perms: perms_of(perms).ok_or(ListFault::BadPerms(number))?,
         })
     }
 
-    fn may_read(&self) -> bool {
-        self.perms & READ != 0
+    fn key(&self) -> (Tag, &'a [u8]) {
+        (self.tag, self.name)
+    }
+
+    fn is_named(&self) -> bool {
+        !self.name.is_empty()
+    }
+
+    fn holds(&self, request: u8) -> bool {
+        self.perms & request == request
     }
 
     /// Writes the entry but for its permissions.
@@ -195,6 +266,11 @@ impl<'a> Entry<'a> {
         out.write_all(self.name)?;
         out.write_all(b":")
     }
+
+    fn write(&self, out: &mut impl Write) -> io::Result<()> {
+        self.write_head(out)?;
+        write_perms(self.perms, out)
+    }
 }
 
 fn perms_of(text: &[u8]) -> Option<u8> {
@@ -202,8 +278,8 @@ fn perms_of(text: &[u8]) -> Option<u8> {
     for byte in text {
         let bit = match byte {
             b'r' => READ,
-            b'w' => 2,
-            b'x' => 1,
+            b'w' => WRITE,
+            b'x' => EXECUTE,
             b'-' => continue,
             _ => return None,
         };
@@ -215,87 +291,163 @@ fn perms_of(text: &[u8]) -> Option<u8> {
     Some(perms)
 }
 
-/// The entries of a valid list, in the order in which it is printed.
-fn acl_of(text: &[u8]) -> Option<Vec<Entry<'_>>> {
-    let mut entries = text
-        .split(|&byte| byte == b',')
-        .map(Entry::parse)
-        .collect::<Option<Vec<_>>>()?;
-    entries.sort_by_key(|entry| (entry.tag, entry.name));
-    let twice = entries
-        .windows(2)
-        .any(|pair| (pair[0].tag, pair[0].name) == (pair[1].tag, pair[1].name));
-    let has = |tag| entries.iter().any(|entry| entry.tag == tag);
-    let named = entries
-        .iter()
-        .filter(|entry| !entry.name.is_empty())
-        .count();
-    let valid = !twice
-        && has(Tag::UserObj)
-        && has(Tag::GroupObj)
-        && has(Tag::Other)
-        && (named == 0 || has(Tag::Mask))
-        && named <= NAMED_ENTRIES;
-    valid.then_some(entries)
+fn write_perms(perms: u8, out: &mut impl Write) -> io::Result<()> {
+    for (bit, letter) in [(READ, b'r'), (WRITE, b'w'), (EXECUTE, b'x')] {
+        out.write_all(&[if perms & bit != 0 { letter } else { b'-' }])?;
+    }
+    Ok(())
+}
+
+/// A permission list: valid, and in the order in which it is printed.
+struct Acl<'a> {
+    entries: Vec<Entry<'a>>,
+}
+
+impl<'a> Acl<'a> {
+    fn parse_short(text: &'a [u8]) -> Result<Acl<'a>, ListFault> {
+        Acl::of_pieces(text.split(|&byte| byte == b','))
+    }
+
+    fn parse_long(lines: &[&'a [u8]]) -> Result<Acl<'a>, ListFault> {
+        let without_comment =
+            |line: &&'a [u8]| line.split(|&byte| byte == b'#').next().unwrap_or_default();
+        let is_filled = |line: &&[u8]| !line.trim_ascii().is_empty();
+        Acl::of_pieces(lines.iter().map(without_comment).filter(is_filled))
+    }
+
+    fn of_pieces(pieces: impl Iterator<Item = &'a [u8]>) -> Result<Acl<'a>, ListFault> {
+        let mut given = Vec::new();
+        for piece in pieces {
+            match Entry::parse(piece, given.len() + 1) {
+                Ok(entry) => given.push(entry),
+                // An entry before this one may be one too many, which is then told first.
+                Err(fault) => return Err(first_surplus(&given).unwrap_or(fault)),
+            }
+        }
+        let mut entries = given.clone();
+        entries.sort_unstable_by_key(Entry::key);
+        let is_twice = |pair: &[Entry<'_>]| pair[0].key() == pair[1].key();
+        let named = entries.iter().filter(|entry| entry.is_named()).count();
+        if named > NAMED_ENTRIES || entries.windows(2).any(is_twice) {
+            return Err(first_surplus(&given).expect("an entry is one too many"));
+        }
+        let acl = Acl { entries };
+        let needed = [
+            (Tag::UserObj, "user::"),
+            (Tag::GroupObj, "group::"),
+            (Tag::Other, "other::"),
+        ];
+        match needed.iter().find(|(tag, _)| acl.find(*tag).is_none()) {
+            Some((_, text)) => Err(ListFault::Missing(text)),
+            None if named > 0 && acl.find(Tag::Mask).is_none() => Err(ListFault::NoMask),
+            None => Ok(acl),
+        }
+    }
+
+    /// The entry of a type that has no names.
+    fn find(&self, tag: Tag) -> Option<&Entry<'a>> {
+        self.entries
+            .iter()
+            .find(|entry| entry.tag == tag && !entry.is_named())
+    }
+
+    fn write_short(&self, out: &mut impl Write) -> io::Result<()> {
+        for (i, entry) in self.entries.iter().enumerate() {
+            if i > 0 {
+                out.write_all(b",")?;
+            }
+            entry.write(out)?;
+        }
+        Ok(())
+    }
+
+    /// Writes an entry a line, each after a blank, with what the mask leaves of those that it limits.
+    fn write_long(&self, out: &mut impl Write) -> io::Result<()> {
+        let mask = self
+            .find(Tag::Mask)
+            .map_or(READ | WRITE | EXECUTE, |mask| mask.perms);
+        for entry in &self.entries {
+            out.write_all(b" ")?;
+            entry.write(out)?;
+            let is_limited = matches!(entry.tag, Tag::User | Tag::GroupObj | Tag::Group);
+            if is_limited && entry.perms & !mask != 0 {
+                out.write_all(b"\t#effective:")?;
+                write_perms(entry.perms & mask, out)?;
+            }
+            out.write_all(b"\n")?;
+        }
+        Ok(())
+    }
+}
+
+/// The first entry that stands twice, or is the 101st named one.
+fn first_surplus(entries: &[Entry<'_>]) -> Option<ListFault> {
+    let mut named = 0;
+    entries.iter().enumerate().find_map(|(i, entry)| {
+        named += usize::from(entry.is_named());
+        if entries[..i].iter().any(|other| other.key() == entry.key()) {
+            Some(ListFault::Twice(i + 1))
+        } else if named > NAMED_ENTRIES {
+            Some(ListFault::TooMany(i + 1))
+        } else {
+            None
+        }
+    })
 }
 
 struct DataSet<'a> {
     name: &'a [u8],
     owner: &'a [u8],
     group: &'a [u8],
-    acl: Vec<Entry<'a>>,
+    acl: Acl<'a>,
     records: Vec<&'a [u8]>,
 }
 
 impl DataSet<'_> {
-    /// The entry that denies reading to an account of these groups; none where it may read.
-    fn denied_by(&self, account: &[u8], groups: &[&[u8]]) -> Option<&Entry<'_>> {
-        let find = |tag, name: &[u8]| {
-            self.acl
-                .iter()
-                .find(|entry| entry.tag == tag && entry.name == name)
-        };
-        let unless_readable = |entry: Option<&'_ Entry<'_>>| entry.is_none_or(Entry::may_read);
-        let mask = find(Tag::Mask, b"");
-        let first_denying = |entry| if unless_readable(entry) { None } else { entry };
+    /// The entry that denies a request to an account of these groups; none where it is granted.
+    fn denied_by(&self, account: &[u8], groups: &[&[u8]], request: u8) -> Option<&Entry<'_>> {
+        let lacking =
+            |entry: Option<&'_ Entry<'_>>| entry.is_some_and(|entry| !entry.holds(request));
+        let if_lacking = |tag| self.acl.find(tag).filter(|entry| lacking(Some(entry)));
 
         if account == self.owner {
-            return first_denying(find(Tag::UserObj, b""));
+            return if_lacking(Tag::UserObj);
         }
-        if let Some(named) = find(Tag::User, account) {
-            return if named.may_read() {
-                first_denying(mask)
+        let named = |entry: &&Entry<'_>| entry.tag == Tag::User && entry.name == account;
+        if let Some(entry) = self.acl.entries.iter().find(named) {
+            return if lacking(Some(entry)) {
+                Some(entry)
             } else {
-                Some(named)
+                if_lacking(Tag::Mask)
             };
         }
-        let mut matching = self.acl.iter().filter(|entry| match entry.tag {
+        let mut matching = self.acl.entries.iter().filter(|entry| match entry.tag {
             Tag::GroupObj => groups.contains(&self.group),
             Tag::Group => groups.contains(&entry.name),
             _ => false,
         });
         match matching.next() {
-            None => first_denying(find(Tag::Other, b"")),
-            Some(first) if first.may_read() || matching.any(Entry::may_read) => first_denying(mask),
+            None => if_lacking(Tag::Other),
+            Some(first) if first.holds(request) || matching.any(|entry| entry.holds(request)) => {
+                if_lacking(Tag::Mask)
+            }
             Some(first) => Some(first),
         }
     }
 
-    fn write(&self, out: &mut impl Write) -> io::Result<()> {
-        for word in [&b"$SET"[..], self.name, self.owner, self.group] {
+    /// Writes the name, the owner, the group and the number of records.
+    fn write_head(&self, out: &mut impl Write) -> io::Result<()> {
+        for word in [self.name, self.owner, self.group] {
             out.write_all(word)?;
             out.write_all(b" ")?;
         }
-        writeln!(out, "{}", self.records.len())?;
-        for (i, entry) in self.acl.iter().enumerate() {
-            if i > 0 {
-                out.write_all(b",")?;
-            }
-            entry.write_head(out)?;
-            for (bit, letter) in [(READ, b'r'), (2, b'w'), (1, b'x')] {
-                out.write_all(&[if entry.perms & bit != 0 { letter } else { b'-' }])?;
-            }
-        }
+        writeln!(out, "{}", self.records.len())
+    }
+
+    fn write(&self, out: &mut impl Write) -> io::Result<()> {
+        out.write_all(b"$SET ")?;
+        self.write_head(out)?;
+        self.acl.write_short(out)?;
         out.write_all(b"\n")?;
         for record in &self.records {
             out.write_all(record)?;
@@ -305,14 +457,86 @@ impl DataSet<'_> {
     }
 }
 
+/// The data sets in order, found by their names.
+#[derive(Default)]
+struct Catalogue<'a> {
+    sets: Vec<DataSet<'a>>,
+    places: HashMap<&'a [u8], usize>,
+}
+
+impl<'a> Catalogue<'a> {
+    fn find(&mut self, name: &[u8]) -> Option<&mut DataSet<'a>> {
+        self.places.get(name).map(|&place| &mut self.sets[place])
+    }
+
+    /// Whether a set of this name can be put last.
+    fn room_for(&self, name: &[u8]) -> Result<(), Code> {
+        if self.places.contains_key(name) {
+            Err(Code::NameTaken)
+        } else if self.sets.len() == SETS {
+            Err(Code::CatalogueFull)
+        } else {
+            Ok(())
+        }
+    }
+
+    fn push(&mut self, set: DataSet<'a>) {
+        self.places.insert(set.name, self.sets.len());
+        self.sets.push(set);
+    }
+
+    /// Takes a set out; the others keep their order.
+    fn remove(&mut self, name: &[u8]) {
+        if let Some(removed) = self.places.remove(name) {
+            self.sets.remove(removed);
+            for place in self.places.values_mut() {
+                *place -= usize::from(*place > removed);
+            }
+        }
+    }
+}
+
+/// A list as a `$SETACL` card gives it: on the card, or in the lines after it.
+enum AclText<'a> {
+    Short(&'a [u8]),
+    Long(Vec<&'a [u8]>),
+}
+
+impl<'a> AclText<'a> {
+    fn parse(&self) -> Result<Acl<'a>, ListFault> {
+        match self {
+            AclText::Short(text) => Acl::parse_short(text),
+            AclText::Long(lines) => Acl::parse_long(lines),
+        }
+    }
+}
+
+/// What a command asks of the data set that it names.
+enum Act<'a> {
+    Create,
+    Delete,
+    SetAcl(AclText<'a>),
+    ShowAcl,
+    List,
+}
+
+enum Request<'a> {
+    /// A command that names a data set.
+    Of(Act<'a>, &'a [u8]),
+    Catalog,
+}
+
+struct Command<'a> {
+    account: &'a [u8],
+    request: Request<'a>,
+}
+
 #[derive(Default)]
 struct Deck<'a> {
     /// The groups of each account, the primary one first.
     accounts: HashMap<&'a [u8], Vec<&'a [u8]>>,
-    sets: Vec<DataSet<'a>>,
-    set_by_name: HashMap<&'a [u8], usize>,
-    /// The account and the set name of each `$LIST` card.
-    listings: Vec<(&'a [u8], &'a [u8])>,
+    catalogue: Catalogue<'a>,
+    commands: Vec<Command<'a>>,
 }
 
 impl<'a> Deck<'a> {
@@ -337,11 +561,10 @@ impl<'a> Deck<'a> {
         }
         loop {
             let line = lines.next_filled(LINE)?;
-            if words(line).next() != Some(b"$LIST") {
-                return section_card(line, b"$STOP");
+            match command(line, lines)? {
+                Some(command) => self.commands.push(command),
+                None => return section_card(line, b"$STOP"),
             }
-            let [_, account, set] = words_of(line).ok_or(Code::BadCard)?;
-            self.listings.push((name(account)?, name(set)?));
         }
     }
 
@@ -370,13 +593,8 @@ impl<'a> Deck<'a> {
         if records > RECORDS {
             return Err(Code::SetFull);
         }
-        if self.set_by_name.contains_key(set) {
-            return Err(Code::NameTaken);
-        }
-        if self.sets.len() == SETS {
-            return Err(Code::CatalogueFull);
-        }
-        let acl = acl_of(lines.next(CATALOGUE_LINE)?).ok_or(Code::BadText)?;
+        self.catalogue.room_for(set)?;
+        let acl = Acl::parse_short(lines.next(CATALOGUE_LINE)?).map_err(|_| Code::BadText)?;
         let mut taken = Vec::with_capacity(records);
         for _ in 0..records {
             let record = lines.next(CATALOGUE_LINE)?;
@@ -385,8 +603,7 @@ impl<'a> Deck<'a> {
             }
             taken.push(record);
         }
-        self.set_by_name.insert(set, self.sets.len());
-        self.sets.push(DataSet {
+        self.catalogue.push(DataSet {
             name: set,
             owner,
             group,
@@ -395,30 +612,190 @@ impl<'a> Deck<'a> {
         });
         Ok(())
     }
+}
 
-    fn write_listing(&self, account: &[u8], set: &[u8], out: &mut impl Write) -> io::Result<()> {
-        for word in [&b"LIST "[..], account, b" ", set, b"\n"] {
-            out.write_all(word)?;
+/// The command of a line, with the lines that belong to it; none where the line is another card.
+fn command<'a>(line: &'a [u8], lines: &mut Lines<'a>) -> Result<Option<Command<'a>>, Code> {
+    let mut rest = words(line);
+    let act = match rest.next() {
+        Some(b"$CREATE") => Act::Create,
+        Some(b"$DELETE") => Act::Delete,
+        Some(b"$SHOWACL") => Act::ShowAcl,
+        Some(b"$LIST") => Act::List,
+        Some(b"$SETACL") => return set_acl_command(line, lines).map(Some),
+        Some(b"$CATALOG") => {
+            let [_, account] = words_of(line).ok_or(Code::BadCard)?;
+            let account = name(account)?;
+            return Ok(Some(Command {
+                account,
+                request: Request::Catalog,
+            }));
         }
-        let Some(groups) = self.accounts.get(account) else {
-            return writeln!(out, "REFUSED M2 NO ACCOUNT");
+        _ => return Ok(None),
+    };
+    let [_, account, set] = words_of(line).ok_or(Code::BadCard)?;
+    Ok(Some(Command {
+        account: name(account)?,
+        request: Request::Of(act, name(set)?),
+    }))
+}
+
+fn set_acl_command<'a>(line: &'a [u8], lines: &mut Lines<'a>) -> Result<Command<'a>, Code> {
+    let mut after_card = words(line).skip(1);
+    let (Some(account), Some(set)) = (after_card.next(), after_card.next()) else {
+        return Err(Code::BadCard);
+    };
+    let (account, set) = (name(account)?, name(set)?);
+    let text = match after_card.next() {
+        // The rest of the line, from the fourth word on.
+        Some(word) => AclText::Short(&line[word.as_ptr() as usize - line.as_ptr() as usize..]),
+        None => AclText::Long(long_list(lines)?),
+    };
+    Ok(Command {
+        account,
+        request: Request::Of(Act::SetAcl(text), set),
+    })
+}
+
+/// The lines up to `$ENDACL`.
+fn long_list<'a>(lines: &mut Lines<'a>) -> Result<Vec<&'a [u8]>, Code> {
+    let mut taken = Vec::new();
+    loop {
+        let line = lines.next_with(LINE, |line| !line.starts_with(b"$"))?;
+        if !line.starts_with(b"$") {
+            taken.push(line);
+            continue;
+        }
+        let mut words = words(line);
+        return if words.next() != Some(b"$ENDACL") {
+            Err(Code::OutOfPlace)
+        } else if words.next().is_some() {
+            Err(Code::BadCard)
+        } else {
+            Ok(taken)
         };
-        let Some(&at) = self.set_by_name.get(set) else {
-            return writeln!(out, "DENIED NO DATA SET");
-        };
-        let set = &self.sets[at];
-        if let Some(entry) = set.denied_by(account, groups) {
-            out.write_all(b"DENIED BY ")?;
-            entry.write_head(out)?;
-            return writeln!(out);
-        }
-        for record in &set.records {
-            out.write_all(b" ")?;
-            out.write_all(record)?;
-            out.write_all(b"\n")?;
-        }
-        writeln!(out, "RECORDS {}", set.records.len())
     }
+}
+
+impl<'a> Catalogue<'a> {
+    /// Does what a known account asks, and writes what comes of it.
+    fn serve(
+        &mut self,
+        command: &Command<'a>,
+        groups: &[&'a [u8]],
+        out: &mut impl Write,
+    ) -> io::Result<()> {
+        let account = command.account;
+        match &command.request {
+            Request::Catalog => self.write_names(account, groups, out),
+            Request::Of(Act::Create, name) => match self.room_for(name) {
+                Err(code) => writeln!(out, "REFUSED {code}"),
+                Ok(()) => {
+                    let Ok(acl) = Acl::parse_short(NEW_LIST) else {
+                        unreachable!("it is a list")
+                    };
+                    self.push(DataSet {
+                        name,
+                        owner: account,
+                        group: groups[0],
+                        acl,
+                        records: Vec::new(),
+                    });
+                    writeln!(out, "DONE")
+                }
+            },
+            Request::Of(act, name) => {
+                let Some(set) = self.find(name) else {
+                    return writeln!(out, "DENIED NO DATA SET");
+                };
+                let is_owner = account == set.owner;
+                match act {
+                    Act::Create => unreachable!("it is served above"),
+                    Act::Delete | Act::SetAcl(_) if !is_owner => writeln!(out, "DENIED NOT OWNER"),
+                    Act::Delete => {
+                        self.remove(name);
+                        writeln!(out, "DONE")
+                    }
+                    Act::SetAcl(text) => match text.parse() {
+                        Err(fault) => writeln!(out, "REFUSED {fault}"),
+                        Ok(acl) => {
+                            set.acl = acl;
+                            writeln!(out, "DONE")
+                        }
+                    },
+                    Act::ShowAcl if is_owner => write_list(set, out),
+                    Act::ShowAcl => match set.denied_by(account, groups, EXECUTE) {
+                        Some(entry) => write_denial(entry, out),
+                        None => write_list(set, out),
+                    },
+                    Act::List => match set.denied_by(account, groups, READ) {
+                        Some(entry) => write_denial(entry, out),
+                        None => write_records(set, out),
+                    },
+                }
+            }
+        }
+    }
+
+    fn write_names(
+        &self,
+        account: &[u8],
+        groups: &[&[u8]],
+        out: &mut impl Write,
+    ) -> io::Result<()> {
+        let mut names = 0;
+        for set in &self.sets {
+            if set.denied_by(account, groups, EXECUTE).is_none() {
+                out.write_all(b" ")?;
+                set.write_head(out)?;
+                names += 1;
+            }
+        }
+        writeln!(out, "NAMES {names}")
+    }
+}
+
+fn write_denial(entry: &Entry<'_>, out: &mut impl Write) -> io::Result<()> {
+    out.write_all(b"DENIED BY ")?;
+    entry.write_head(out)?;
+    writeln!(out)
+}
+
+fn write_list(set: &DataSet<'_>, out: &mut impl Write) -> io::Result<()> {
+    for part in [&b"OWNER "[..], set.owner, b" GROUP ", set.group, b"\n"] {
+        out.write_all(part)?;
+    }
+    set.acl.write_long(out)?;
+    writeln!(out, "ENTRIES {}", set.acl.entries.len())
+}
+
+fn write_records(set: &DataSet<'_>, out: &mut impl Write) -> io::Result<()> {
+    for record in &set.records {
+        out.write_all(b" ")?;
+        out.write_all(record)?;
+        out.write_all(b"\n")?;
+    }
+    writeln!(out, "RECORDS {}", set.records.len())
+}
+
+/// Writes the first line of a command's printout.
+fn write_command(command: &Command<'_>, out: &mut impl Write) -> io::Result<()> {
+    let (card, set) = match &command.request {
+        Request::Catalog => ("CATALOG", None),
+        Request::Of(Act::Create, set) => ("CREATE", Some(set)),
+        Request::Of(Act::Delete, set) => ("DELETE", Some(set)),
+        Request::Of(Act::SetAcl(_), set) => ("SETACL", Some(set)),
+        Request::Of(Act::ShowAcl, set) => ("SHOWACL", Some(set)),
+        Request::Of(Act::List, set) => ("LIST", Some(set)),
+    };
+    out.write_all(card.as_bytes())?;
+    out.write_all(b" ")?;
+    out.write_all(command.account)?;
+    if let Some(set) = set {
+        out.write_all(b" ")?;
+        out.write_all(set)?;
+    }
+    out.write_all(b"\n")
 }
 
 /// Tells whether a line is the card that is due, alone on its line.
@@ -434,7 +811,12 @@ fn section_card(line: &[u8], due: &[u8]) -> Result<(), Code> {
 
 /// The words of a line, where there are `N`.
 fn words_of<const N: usize>(line: &[u8]) -> Option<[&[u8]; N]> {
-    words(line).collect::<Vec<_>>().try_into().ok()
+    let mut words = words(line);
+    let mut taken = [&b""[..]; N];
+    for word in &mut taken {
+        *word = words.next()?;
+    }
+    words.next().is_none().then_some(taken)
 }
 
 fn main() -> io::Result<ExitCode> {
@@ -448,8 +830,12 @@ fn main() -> io::Result<ExitCode> {
     let refused = deck.read(&mut lines).err();
 
     let mut out = BufWriter::new(io::stdout().lock());
-    for (account, set) in &deck.listings {
-        deck.write_listing(account, set, &mut out)?;
+    for command in &deck.commands {
+        write_command(command, &mut out)?;
+        match deck.accounts.get(command.account) {
+            Some(groups) => deck.catalogue.serve(command, groups, &mut out)?,
+            None => writeln!(out, "REFUSED M2 NO ACCOUNT")?,
+        }
     }
     if let Some(code) = refused {
         out.flush()?;
@@ -457,7 +843,7 @@ fn main() -> io::Result<ExitCode> {
         return Ok(ExitCode::from(1));
     }
     writeln!(out, "$CATALOGUE")?;
-    for set in &deck.sets {
+    for set in &deck.catalogue.sets {
         set.write(&mut out)?;
     }
     out.flush()?;

@@ -6,6 +6,11 @@ The cases, at their whole size (HALVES is 2, and 1 gives half of it):
   cards      1,000 sets with 100 named entries each, and 20,000 $LIST cards of a few records each
   records    one set of 100,000 records of 80 characters, listed 20 times
   catalogue  1,000 sets with 100 named entries each and 1,000,000 records of 40 characters in all, and no card
+  commands   1,000 sets with 100 named entries each, and 20,000 commands of all kinds; at each size 100 of them are
+             $CATALOG and 100 $DELETE, which look at every set
+  names      1,000 sets with 100 named entries each, and 400 $CATALOG cards, as many at half the size
+
+decks.py sets SETS COMMANDS: so many sets as in `commands`, and so many commands but $CATALOG and $DELETE.
 """
 
 import sys
@@ -29,28 +34,37 @@ def account_lines():
         yield " ".join([account(i), *(group(i + 7 * k) for k in range(4))])
 
 
-def permission_list(i):
+def entries(i):
     """A list of 50 named users and 50 named groups, which differ from one data set to the next."""
-    entries = ["user::rw-", "group::%s" % PERMS[i % 7], "mask::%s" % ("rwx" if i % 5 else "-w-"), "other::%s" % PERMS[i % 3]]
-    entries += ["user:%s:%s" % (account(i + 3 * k), PERMS[(i + k) % 7]) for k in range(50)]
-    entries += ["group:%s:%s" % (group(i + k), PERMS[(i + 2 * k) % 7]) for k in range(50)]
-    return ",".join(entries)
+    yield "user::rw-"
+    yield "group::%s" % PERMS[i % 7]
+    yield "mask::%s" % ("rwx" if i % 5 else "-w-")
+    yield "other::%s" % PERMS[i % 3]
+    for k in range(50):
+        yield "user:%s:%s" % (account(i + 3 * k), PERMS[(i + k) % 7])
+    for k in range(50):
+        yield "group:%s:%s" % (group(i + k), PERMS[(i + 2 * k) % 7])
 
 
 def data_set(i, records, length):
     yield "$SET S%d %s %s %d" % (i, account(i), group(i), records)
-    yield permission_list(i)
+    yield ",".join(entries(i))
     for k in range(records):
         yield ("RECORD %d OF S%d " % (k, i)).ljust(length, "*")
 
 
-def many_sets(sets, records, cards, length):
+def head(sets, records, length):
+    """A deck up to its commands."""
     yield "$ACCOUNTS"
     yield from account_lines()
     yield "$CATALOGUE"
     for i in range(sets):
         yield from data_set(i, records, length)
     yield "$STREAM"
+
+
+def many_sets(sets, records, cards, length):
+    yield from head(sets, records, length)
     for i in range(cards):
         # Neighbouring cards name sets far apart; 37 and 1,000 have no common factor.
         yield "$LIST %s S%d" % (account(i * 11 + i // 1000), i * 37 % sets)
@@ -70,18 +84,91 @@ def one_set(records, cards, length):
     yield "$STOP"
 
 
+def command(i, sets):
+    """One of 20 kinds, by turns. The sets of the last tenth get short lists, all others keep their 100 named entries."""
+    # So each kind meets each set: 741 has no common factor with the numbers of sets.
+    s = (i * 37 + i // 20) % sets
+    owner, other = account(s), account(i * 11 + i // 20)
+    kind = i % 20
+    if kind < 6:
+        yield "$LIST %s S%d" % (other, s)
+    elif kind < 9:
+        yield "$SHOWACL %s S%d" % (owner, s)
+    elif kind < 11:
+        yield "$SHOWACL %s S%d" % (other, s)
+    elif kind < 14:
+        yield "$SETACL %s S%d" % (owner, s)
+        yield "# list %d" % i
+        yield from entries(s + i)
+        yield "$ENDACL"
+    elif kind == 14:
+        small = sets * 9 // 10 + i // 20 % (sets // 10)
+        yield "$SETACL %s S%d u::rwx, u:%s:rw, g::r, g:%s:x, m::rx, o::" % (account(small), small, other, group(i))
+    elif kind == 15:
+        yield "$SETACL %s S%d u::rwx, g::r, o::" % (account(s + 1), s)
+    elif kind == 16:
+        yield "$SETACL %s S%d u::rwx, u:%s:rw, g::r, o::" % (owner, s, other)
+    elif kind == 17:
+        yield "$CREATE %s S%d" % (other, s)
+    elif kind == 18:
+        yield "$LIST %s GONE%d" % (other, s)
+    else:
+        yield "$SHOWACL nobody S%d" % s
+
+
+def mixed(sets, commands):
+    """All kinds of command: those above, and at equal distances 100 times names, a deletion and a creation."""
+    yield from head(sets, records=5, length=40)
+    distance = commands // 100
+    for i in range(commands):
+        turn, place = divmod(i, distance)
+        small = sets - 1 - turn % (sets // 10)
+        if place == 0:
+            yield "$CATALOG %s" % account(i * 7)
+        elif place == 1:
+            yield "$DELETE %s S%d" % (account(small), small)
+        elif place == 2:
+            yield "$CREATE %s S%d" % (account(small), small)
+        else:
+            yield from command(i, sets)
+    yield "$STOP"
+
+
+def names(sets, cards):
+    yield from head(sets, records=5, length=40)
+    yield from ("$CATALOG %s" % account(i * 7) for i in range(cards))
+    yield "$STOP"
+
+
+def some_sets(sets, commands):
+    yield from head(sets, records=5, length=40)
+    for i in range(commands):
+        yield from command(i, sets)
+    yield "$STOP"
+
+
 CASES = {
     "cards": lambda halves: many_sets(sets=500 * halves, records=5, cards=10_000 * halves, length=40),
     "records": lambda halves: one_set(records=50_000 * halves, cards=20, length=80),
     "catalogue": lambda halves: many_sets(sets=500 * halves, records=1_000, cards=0, length=40),
+    "commands": lambda halves: mixed(sets=500 * halves, commands=10_000 * halves),
+    "names": lambda halves: names(sets=500 * halves, cards=400),
 }
 
 
 def write_deck(case, halves, file):
-    file.writelines(line + "\n" for line in CASES[case](halves))
+    write_lines(CASES[case](halves), file)
+
+
+def write_lines(lines, file):
+    file.writelines(line + "\n" for line in lines)
 
 
 if __name__ == "__main__":
-    if len(sys.argv) not in (2, 3) or sys.argv[1] not in CASES:
+    words = sys.argv[1:]
+    if len(words) == 3 and words[0] == "sets":
+        write_lines(some_sets(int(words[1]), int(words[2])), sys.stdout)
+    elif len(words) in (1, 2) and words[0] in CASES:
+        write_deck(words[0], int(words[1]) if len(words) == 2 else 2, sys.stdout)
+    else:
         sys.exit(__doc__)
-    write_deck(sys.argv[1], int(sys.argv[2]) if len(sys.argv) == 3 else 2, sys.stdout)
