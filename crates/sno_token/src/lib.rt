@@ -1,0 +1,80 @@
+//! The tokens of a statement, as the token stage gives them and the grammar takes them.
+//!
+//! Blanks have a meaning in SNOBOL4: they tell a binary operator from a unary one, and alone they concatenate. So a token
+//! knows whether a blank stands before it, and where it matters also whether a blank follows it.
+#![tactic(auto)]
+
+use mon_text::Line;
+
+/// What an operator is written with.
+#[derive(Clone, Copy, Debug, PartialEq, Eq)]
+pub enum Mark {
+    /// `**`
+    Power,
+    /// `*`
+    Star,
+    /// `/`
+    Slash,
+    /// `+`
+    Plus,
+    /// `-`
+    Minus,
+    /// `|`
+    Bar,
+    /// `.`
+    Dot,
+    /// `$`
+    Dollar,
+    /// `@`
+    At,
+    /// `~`
+    Tilde,
+    /// `?`
+    Question,
+    /// `&`
+    Ampersand,
+}
+
+/// How a statement may end, as its goto names it: `S` or `F`.
+#[derive(Clone, Copy, Debug, PartialEq, Eq)]
+pub enum Outcome {
+    Success,
+    Failure,
+}
+
+/// A value that is written out.
+#[derive(Debug, Drop)]
+pub enum Constant {
+    /// What stands between the quotes.
+    Literal(Line),
+    Integer(i64),
+}
+
+/// What may stand in a statement and in no expression.
+#[derive(Debug, Drop)]
+pub enum Part {
+    /// `=`
+    Equals,
+    /// `:`
+    Colon,
+    /// The `S` or `F` of a goto.
+    On(Outcome),
+    /// The label of a goto's target.
+    Label(Line),
+}
+
+/// A token. Its first `bool` tells whether a blank stands before it, and the second, where there is one, whether a blank or
+/// the end of the statement follows it.
+#[derive(Debug, Drop)]
+pub enum Token {
+    /// An identifier.
+    Name(bool, Line),
+    Constant(bool, Constant),
+    Mark(bool, bool, Mark),
+    /// `(`
+    Open(bool),
+    /// `)`
+    Close(bool),
+    Comma(bool),
+    Part(bool, bool, Part),
+}
