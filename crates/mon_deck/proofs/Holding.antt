@@ -14,11 +14,11 @@ output_of_read check None deck before after read written = tt
 output_of_read check (Some bytes) deck before after read written = written ∙ ap (λ (d : Deck). holding before (answer_to check d)) read
 
 -- one printout more was gathered, and what was gathered was written or not; `rest` is still to come
-pub gathered : (now later : Option (List ℕ)) (out more next kept rest : List ℕ)
-    → next ≡ out ++ more → holding later kept ≡ holding now next → holding later (kept ++ rest) ≡ holding now (out ++ (more ++ rest))
-gathered now later out more next kept rest put same =
+pub gathered : (now later : Option (List ℕ)) (out more kept rest : List ℕ)
+    → holding later kept ≡ holding now (out ++ more) → holding later (kept ++ rest) ≡ holding now (out ++ (more ++ rest))
+gathered now later out more kept rest put =
     sym (holding-append later kept rest)
-    ∙ ap (λ t. holding t rest) (same ∙ ap (holding now) put)
+    ∙ ap (λ t. holding t rest) put
     ∙ holding-append now (out ++ more) rest
     ∙ ap (holding now) (append_assoc out more rest)
 

@@ -14,15 +14,15 @@ after_command before command = record before { sets = (commanded before.accounts
 
 module _ (before after : World) (items rest : List Command) (command : Command) (are : items ≡ command ∷ rest) (served : after ≡ after_command before command) where
   -- the commands that are left print what is missing
-  pub printed_more : (start now later : Option (List ℕ)) (out next kept more total : List ℕ)
+  pub printed_more : (start now later : Option (List ℕ)) (out kept more total : List ℕ)
       → holding now (out ++ (all_commanded before.accounts before.sets items).printout) ≡ holding start total
-      → more ≡ (commanded before.accounts before.sets command).printout → next ≡ out ++ more → holding later kept ≡ holding now next
+      → more ≡ (commanded before.accounts before.sets command).printout → holding later kept ≡ holding now (out ++ more)
       → holding later (kept ++ (all_commanded after.accounts after.sets rest).printout) ≡ holding start total
-  printed_more start now later out next kept more total so_far is put same =
+  printed_more start now later out kept more total so_far is put =
       let first = commanded before.accounts before.sets command in
       let others = all_commanded before.accounts first.sets rest in
       ap (λ (w : World). holding later (kept ++ (all_commanded w.accounts w.sets rest).printout)) served
-      ∙ gathered now later out more next kept others.printout put same
+      ∙ gathered now later out more kept others.printout put
       ∙ ap (λ m. holding now (out ++ (m ++ others.printout))) is
       ∙ ap (λ cs. holding now (out ++ (all_commanded before.accounts before.sets cs).printout)) (sym are)
       ∙ so_far

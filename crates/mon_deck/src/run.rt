@@ -180,24 +180,38 @@ fn put_output<W: DeckWriter>(
     let mut out = Vec::new(alloc);
     for command in deck.commands.into_vec() {
         let printout = monitor.command(alloc, command)?;
-        out.extend_from_slice(printout.as_slice())?;
-        flush(writer, &mut out)?;
+        put_printout(printout.as_slice(), &mut out, writer)?;
     }
     put_closing(monitor.catalogue(), ending, &mut out)?;
     Ok(write_all(writer, &out)?)
 }
 
-// Writes what is gathered, where it is much.
+// Gathers a printout with those before it. A large one is written where it stands, after them: it isn't copied.
+fn put_printout<W: DeckWriter>(
+    printout: &[u8],
+    out: &mut Vec<u8>,
+    writer: &mut W,
+) -> Result<(), OutputError>
+    ensures put { OnOk result (holding (W.written writer.new) out.new.items ≡ holding (W.written writer.old) (out.old.items ++ printout.now)) }
+    ensures sound { OnOk result (W.has_failed writer.new ≡ W.has_failed writer.old) }
+    ensures fault { result ≡ Err OutputError.Fault → W.has_failed writer.new ≡ true }
+{
+    if out.len().saturating_add(printout.len()) >= WRITE_SIZE {
+        Ok(flush(printout, out, writer)?)
+    } else {
+        Ok(out.extend_from_slice(printout)?)
+    }
+}
+
+// Writes what is gathered, and then a printout.
 #[tactic(auto, using(mon_device::proofs::Holding::holds))]
-fn flush<W: DeckWriter>(writer: &mut W, out: &mut Vec<u8>) -> Result<(), Failed>
-    ensures kept { OnOk result (holding (W.written writer.new) out.new.items ≡ holding (W.written writer.old) out.old.items) }
+fn flush<W: DeckWriter>(printout: &[u8], out: &mut Vec<u8>, writer: &mut W) -> Result<(), Failed>
+    ensures put { OnOk result (holding (W.written writer.new) out.new.items ≡ holding (W.written writer.old) (out.old.items ++ printout.now)) }
     ensures failed { W.has_failed writer.new ≡ (W.has_failed writer.old || is_err result) }
 {
-    if out.len() >= WRITE_SIZE {
-        write_all(writer, out)?;
-        out.clear();
-    }
-    Ok(())
+    write_all(writer, out)?;
+    out.clear();
+    write_all(writer, printout)
 }
 
 // A deck that was not refused gives its catalogue back.

@@ -14,8 +14,8 @@ loop-command-preserved g c =
     let are = c.in-Some.ensures.steps.0 in
     record {
       printed =
-          printed_more c.loop-command.monitor _ _ _ c.in-Some.command are c.in_ok-printout.ensures.sets _ _ _ _ _ _ _ _
-          c.loop-command.invariant.printed (c.as_slice.ensures ∙ c.in_ok-printout.ensures.printout) c.in_ok-extend_from_slice.ensures.items c.in_ok-flush.ensures.kept;
+          printed_more c.loop-command.monitor _ _ _ c.in-Some.command are c.in_ok-printout.ensures.sets _ _ _ _ _ _ _
+          c.loop-command.invariant.printed (c.as_slice.ensures ∙ c.in_ok-printout.ensures.printout) c.in_ok-put_printout.ensures.put;
       sets = sets_more c.loop-command.monitor _ _ _ c.in-Some.command are c.in_ok-printout.ensures.sets _ c.loop-command.invariant.sets;
       counted = omega (arith, c.in-Some.ensures.steps.1, c.loop-command.invariant.counted, ap length are);
       sound = search rules;
