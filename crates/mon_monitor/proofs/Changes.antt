@@ -14,7 +14,7 @@ use Rattle.mon_guard.specs.Owning.{owner_denial, list_of_text, acl_set, acl_set_
 use Rattle.mon_monitor.specs.declared.command.Command.{Command}
 use Rattle.mon_monitor.specs.declared.outcome.Outcome.{Outcome}
 use Rattle.mon_monitor.specs.declared.outcome.Outcome.TheVariants.{Done, Denied, BadList}
-use Rattle.mon_monitor.specs.Commanded.{Served, Told, told, stored, unless_denied, list_stored, printed}
+use Rattle.mon_monitor.specs.Commanded.{Served, told, stored, unless_denied, list_stored, printed}
 use Rattle.mon_monitor.specs.Serving.{denial_of}
 
 -- a printout and data sets are those of what was served, where that is known

@@ -1,10 +1,9 @@
 -- Every denial says why.
-use Rattle.std.proofs.Common.{◌≡◌, ◌≢◌, ◌⊎◌, ◌++◌, ◌∷◌, [], ℕ, Bool, true, false, List, length, nat_le, if◌then◌else◌, is_some, Option, Some, None, Result, Ok, Err, refl, sym, ap, ◌∙◌, inl, inr}
+use Rattle.std.proofs.Common.{◌≡◌, ◌≢◌, ◌⊎◌, ℕ, Bool, true, false, List, length, nat_le, if◌then◌else◌, Option, Some, None, Result, Ok, Err, refl, sym, ap, ◌∙◌, inl, inr}
 use Rattle.mon_acl.specs.declared.entries.Entry.{Entry}
 use Rattle.mon_acl.specs.declared.entries.Perms.{Perms}
 use Rattle.mon_acl.specs.declared.refusals.AclError.{AclError}
 use Rattle.mon_access.specs.declared.account.Account.{Account}
-use Rattle.mon_access.specs.declared.access.Decider.{Decider}
 use Rattle.mon_access.specs.declared.access.Decision.{Decision}
 use Rattle.mon_access.specs.declared.access.Decision.TheVariants.{Granted, Denied as DeniedBy}
 use Rattle.mon_access.specs.Matches.{is_owner}
@@ -20,7 +19,7 @@ use Rattle.mon_monitor.specs.declared.command.Command.{Command}
 use Rattle.mon_monitor.specs.declared.command.Command.TheVariants.{Create, Delete, SetAcl, ShowAcl, List as Listing, Catalog}
 use Rattle.mon_monitor.specs.declared.outcome.Outcome.TheVariants.{Done, Denied, NameTaken, CatalogueFull, BadList}
 use Rattle.mon_monitor.specs.Commanded.{Answer, Told, Records, Shown, Names, Served, done, unless_denied, stored, by_decision, records_shown, list_shown, served}
-use Rattle.mon_monitor.specs.Laws.{IsThere, Owns, DecidedBy, LacksSet, LacksOwner, IsWhy, DenialsSayWhy}
+use Rattle.mon_monitor.specs.Laws.{IsThere, Owns, DecidedBy, LacksSet, IsWhy, DenialsSayWhy}
 use Rattle.mon_monitor.proofs.Known.{answered_known, is_owner_false, owns_not, lacks_from_some, some_from_lacks}
 use Rattle.mon_monitor.proofs.Exactly.{created_as}
 

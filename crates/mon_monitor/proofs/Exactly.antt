@@ -1,5 +1,5 @@
 -- The data sets change exactly where a change is asked and granted.
-use Rattle.std.proofs.Common.{◌≡◌, ◌≢◌, ◌⊎◌, ◌<◌, ◌≤◌, ◌++◌, ◌∷◌, [], ℕ, Bool, true, false, List, length, nat_le, if◌then◌else◌, is_some, Option, Some, None, Result, Ok, Err, refl, sym, ap, ◌∙◌, subst, arith}
+use Rattle.std.proofs.Common.{◌≡◌, ◌≢◌, ◌<◌, ◌++◌, ◌∷◌, [], ℕ, Bool, true, false, List, length, nat_le, if◌then◌else◌, is_some, Option, Some, None, Result, Ok, Err, refl, sym, ap, ◌∙◌, subst, arith}
 use Rattle.std.proofs.lemmas.Bool.Decides.{nat_tests}
 use Rattle.mon_acl.specs.declared.entries.Entry.{Entry}
 use Rattle.mon_acl.specs.declared.refusals.AclError.{AclError}
@@ -13,17 +13,15 @@ use Rattle.mon_catalogue.specs.Sets.{Sets, find_set}
 use Rattle.mon_catalogue.specs.Changes.{without_set, with_acl}
 use Rattle.mon_guard.specs.declared.answer.Reason.{Reason}
 use Rattle.mon_guard.specs.declared.answer.Reason.TheVariants.{NoSet}
-use Rattle.mon_guard.specs.declared.text.AclText.{AclText}
 use Rattle.mon_guard.specs.Owning.{owner_denial, list_of_text}
 use Rattle.mon_guard.specs.Deciding.{to_read, to_execute, decision_on, sets_shown}
 use Rattle.mon_guard.specs.Reasons.{reason_of}
 use Rattle.mon_monitor.specs.declared.command.Command.{Command}
 use Rattle.mon_monitor.specs.declared.command.Command.TheVariants.{Create, Delete, SetAcl, ShowAcl, List as Listing, Catalog}
-use Rattle.mon_monitor.specs.declared.outcome.Outcome.{Outcome}
-use Rattle.mon_monitor.specs.declared.outcome.Outcome.TheVariants.{Done, NoAccount, Denied, NameTaken, CatalogueFull, BadList}
+use Rattle.mon_monitor.specs.declared.outcome.Outcome.TheVariants.{Done, Denied, NameTaken, CatalogueFull, BadList}
 use Rattle.mon_monitor.specs.Commands.{account_of}
 use Rattle.mon_monitor.specs.Commanded.{Answer, Told, Records, Shown, Names, Served, told, done, new_set, unless_denied, stored, by_decision, records_shown, list_shown, served, served_if_known, answered}
-use Rattle.mon_monitor.specs.Laws.{IsKnown, IsThere, Owns, Changes, ChangesExactly, ChangesWhereGranted}
+use Rattle.mon_monitor.specs.Laws.{IsKnown, Changes, ChangesExactly, ChangesWhereGranted}
 use Rattle.mon_monitor.proofs.Known.{answered_known, owner_allowed, owner_from_none}
 
 module _ (account : Account) (sets : Sets) where

@@ -1,5 +1,5 @@
 -- The parts of the laws: owners, missing data sets, and what a known account is answered.
-use Rattle.std.proofs.Common.{◌≡◌, ◌≢◌, ◌⊎◌, ◌<◌, ◌≤◌, ◌++◌, ◌∷◌, [], ℕ, Bool, true, false, List, length, nat_le, if◌then◌else◌, is_some, Option, Some, None, Result, Ok, Err, refl, sym, ap, ◌∙◌, inl, inr}
+use Rattle.std.proofs.Common.{◌≡◌, ℕ, Bool, true, false, List, if◌then◌else◌, Option, Some, None, refl, sym, ap, ◌∙◌, inl, inr}
 use Rattle.std.proofs.lemmas.Slice.Eq.{bytes_eq-Decides}
 use Rattle.mon_access.specs.declared.account.Account.{Account}
 use Rattle.mon_access.specs.Matches.{is_owner}
@@ -9,7 +9,7 @@ use Rattle.mon_guard.specs.declared.answer.Reason.{Reason}
 use Rattle.mon_guard.specs.declared.answer.Reason.TheVariants.{NoSet, NotOwner}
 use Rattle.mon_guard.specs.Owning.{owner_denial, owner_denial_of}
 use Rattle.mon_monitor.specs.declared.command.Command.{Command}
-use Rattle.mon_monitor.specs.Commanded.{Served, answered, served, served_if_known}
+use Rattle.mon_monitor.specs.Commanded.{answered, served, served_if_known}
 use Rattle.mon_monitor.specs.Laws.{IsKnown, IsThere, Owns, LacksOwner}
 
 pub answered_known : (accounts : List Account) (sets : Sets) (command : Command) (account : Account) → IsKnown accounts command account

@@ -1,9 +1,7 @@
 -- Records, lists and names are shown exactly where they may be.
-use Rattle.std.proofs.Common.{◌≡◌, ◌≢◌, ◌⊎◌, ◌++◌, ◌∷◌, [], ℕ, Bool, true, false, cond, List, if◌then◌else◌, Option, Some, None, refl, sym, ap, ◌∙◌, subst, inl, inr}
-use Rattle.std.specs.List.{filter, Contains}
+use Rattle.std.proofs.Common.{◌≡◌, ◌≢◌, ◌⊎◌, ◌++◌, ◌∷◌, ℕ, Bool, true, false, cond, List, if◌then◌else◌, Option, Some, None, refl, sym, ap, ◌∙◌, subst, inl, inr}
+use Rattle.std.specs.List.{Contains}
 use Rattle.std.proofs.lemmas.List.Elements.{filter-append}
-use Rattle.mon_acl.specs.declared.entries.Entry.{Entry}
-use Rattle.mon_acl.specs.declared.entries.Perms.{Perms}
 use Rattle.mon_access.specs.declared.account.Account.{Account}
 use Rattle.mon_access.specs.declared.access.Decision.{Decision}
 use Rattle.mon_access.specs.declared.access.Decision.TheVariants.{Granted, Denied as DeniedBy}
@@ -11,17 +9,16 @@ use Rattle.mon_access.specs.Accounts.{find_account}
 use Rattle.mon_access.specs.Matches.{is_owner}
 use Rattle.mon_catalogue.specs.declared.data_set.DataSet.{DataSet}
 use Rattle.mon_catalogue.specs.Sets.{Sets, find_set}
-use Rattle.mon_guard.specs.declared.answer.Reason.{Reason}
 use Rattle.mon_guard.specs.declared.answer.Reason.TheVariants.{NoSet}
 use Rattle.mon_guard.specs.Deciding.{to_read, to_execute, decision_on, is_granted, may_be_shown, sets_shown}
 use Rattle.mon_guard.specs.Reasons.{reason_of}
 use Rattle.mon_monitor.specs.declared.command.Command.{Command}
 use Rattle.mon_monitor.specs.declared.command.Command.TheVariants.{ShowAcl, List as Listing, Catalog}
 use Rattle.mon_monitor.specs.declared.outcome.Outcome.TheVariants.{Denied}
-use Rattle.mon_monitor.specs.Commanded.{Answer, Told, Records, Shown, Names, Served, by_decision, records_shown, list_shown, served, served_if_known, answered, printed, printed_as, commanded, Commanded}
-use Rattle.mon_monitor.specs.Laws.{IsThere, Owns, IsGranted, ShowsExactly, ShowsWhereGranted, HidesTheRest, HiddenSetsHaveNoEffect}
+use Rattle.mon_monitor.specs.Commanded.{Told, Records, Shown, Names, by_decision, records_shown, list_shown, served, served_if_known, printed, printed_as, commanded}
+use Rattle.mon_monitor.specs.Laws.{IsThere, Owns, IsGranted, ShowsWhereGranted, HiddenSetsHaveNoEffect}
 use Rattle.mon_monitor.proofs.Kept.{keeps, kept_only}
-use Rattle.mon_monitor.proofs.Known.{answered_known, is_owner_true, owns_from}
+use Rattle.mon_monitor.proofs.Known.{is_owner_true, owns_from}
 
 -- the test says what is decided
 granted_from : (d : Decision) → is_granted d ≡ true → d ≡ Granted

@@ -1,5 +1,5 @@
 -- What a command is told in one line (own).
-use Rattle.std.specs.Prelude.{ℕ, List, [], ◌++◌, codes}
+use Rattle.std.specs.Prelude.{ℕ, List, ◌++◌, codes}
 use Rattle.mon_guard.specs.declared.answer.Reason.{Reason}
 use Rattle.mon_guard.specs.declared.answer.Reason.TheVariants as reason
 use Rattle.mon_monitor.specs.declared.outcome.Outcome.{Outcome}

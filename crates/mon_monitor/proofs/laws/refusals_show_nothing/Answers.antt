@@ -1,4 +1,4 @@
-use Rattle.std.proofs.Common.{ap, ◌++◌}
+use Rattle.std.proofs.Common.{ap}
 use Rattle.mon_monitor.specs.Commanded.{printed}
 use Rattle.mon_monitor.proofs.laws.refusals_show_nothing.Goals as goal
 
