@@ -1,0 +1,4 @@
+mod Runs
+mod Loop
+mod Places
+mod Examples

@@ -1,0 +1,83 @@
+//! The characters that tokens are made of, and runs of them.
+ghost use Rattle.std.specs.Prelude.{◌≡◌, ◌==◌, ◌≤◌, length, position, IfSome, ◌||◌};
+ghost use Rattle.std.specs.List.{before_first, position_or_len};
+ghost use Rattle.mon_text.specs.Characters.{is_letter, is_digit, is_printable};
+ghost use Rattle.mon_text.specs.Lines.{is_line};
+ghost use Rattle.sno_lexer.specs.Kinds.{ends, is_quote, run_in};
+
+/// Characters that belong together.
+#[derive(Clone, Copy)]
+pub(crate) enum Run {
+    /// An identifier.
+    Word,
+    /// An integer.
+    Digits,
+    /// The label of a goto's target.
+    Target,
+    /// What stands in a literal, up to its second quote.
+    Quoted(u8),
+}
+
+pub(crate) fn is_letter(code: u8) -> bool
+    ensures { result ≡ is_letter code }
+{
+    code.is_ascii_alphabetic()
+}
+
+pub(crate) fn is_digit(code: u8) -> bool
+    ensures { result ≡ is_digit code }
+{
+    code.is_ascii_digit()
+}
+
+pub(crate) fn is_quote(code: u8) -> bool
+    ensures { result ≡ is_quote code }
+{
+    code == b'\'' || code == b'"'
+}
+
+fn is_printable(code: u8) -> bool
+    ensures { result ≡ is_printable code }
+{
+    (b' '..=b'~').contains(&code)
+}
+
+pub(crate) fn is_line(text: &[u8]) -> bool
+    ensures { result ≡ is_line text.now }
+{
+    text.iter().all(|code| is_printable(*code))
+}
+
+// Whether a run can't go on with a character.
+fn ends(run: Run, code: u8) -> bool
+    ensures { result ≡ ends run code }
+{
+    match run {
+        Run::Word => !(is_letter(code) || is_digit(code) || code == b'.' || code == b'_'),
+        Run::Digits => !is_digit(code),
+        Run::Target => code == b' ' || code == b')',
+        Run::Quoted(quote) => code == quote,
+    }
+}
+
+fn end_of(run: Run, text: &[u8]) -> Option<usize>
+    ensures place { result ≡ position (ends run) text.now }
+    ensures within { IfSome result (λ index. index ≤ length text.now) }
+{
+    text.iter().position(|code| ends(run, *code))
+}
+
+fn length_of(run: Run, text: &[u8]) -> usize
+    ensures place { result ≡ position_or_len (ends run) text.now }
+    ensures within { result ≤ length text.now }
+{
+    end_of(run, text).unwrap_or(text.len())
+}
+
+/// The run that begins a text.
+pub(crate) fn run_in(run: Run, text: &[u8]) -> &[u8]
+    ensures value { result.now ≡ run_in run text.now }
+    ensures within { length result.now ≤ length text.now }
+{
+    &text[..length_of(run, text)]
+}

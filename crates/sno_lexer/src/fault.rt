@@ -1,0 +1,20 @@
+//! Why a text has no tokens.
+
+/// A fault of the token stage. Where a token has two of them, the one that stands first here counts.
+#[derive(Clone, Copy, Debug, PartialEq, Eq)]
+pub enum FaultKind {
+    /// A literal that is not closed, or an integer above 9,223,372,036,854,775,807.
+    BadConstant,
+    /// A character that begins no token, or a literal or label with a character outside ASCII 32 to 126.
+    Foreign,
+    /// The 101st open parenthesis, or the 1,001st token.
+    TooMany,
+}
+
+/// The first fault of a text, and the index of the character where the token begins that has it.
+#[derive(Clone, Copy, Debug, PartialEq, Eq)]
+pub struct LexFault {
+    /// Counted from 0, from the beginning of the text.
+    pub at: usize,
+    pub kind: FaultKind,
+}
