@@ -1,0 +1,9 @@
+pub mod Levels
+pub mod Feeding
+pub mod Steps
+pub mod Lone
+pub mod Sound
+pub mod Variables
+pub mod Grammar
+pub mod Loop
+mod Examples

@@ -1,0 +1,5 @@
+use Rattle.sno_expression.proofs.Grammar.{reads_exactly}
+use Rattle.sno_expression.proofs.laws.reads_exactly.Goals as goal
+
+pub returns : goal.returns
+returns c = reads_exactly

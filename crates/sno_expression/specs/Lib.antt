@@ -1,0 +1,7 @@
+pub mod Marks
+pub mod Trees
+pub mod Spelling
+pub mod Walking
+pub mod Reading
+pub mod Laws
+pub mod Told

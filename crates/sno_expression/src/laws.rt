@@ -1,0 +1,22 @@
+//! Laws of expressions: each function's contract is one, and its body is empty.
+ghost use Rattle.sno_expression.specs.Laws.{OneTree, ReadsExactly, WalksExactly, CountsExactly};
+
+/// Tokens spell at most one tree.
+pub fn one_tree()
+    ensures { OneTree }
+{}
+
+/// An expression is read exactly where its tree is spelled, and an element alone exactly where it is.
+pub fn reads_exactly()
+    ensures { ReadsExactly }
+{}
+
+/// The walk takes the tokens to the end exactly where a tree spells them.
+pub fn walks_exactly()
+    ensures { WalksExactly }
+{}
+
+/// The walk finds no misfit exactly where the tree has a variable in each place that wants one.
+pub fn counts_exactly()
+    ensures { CountsExactly }
+{}

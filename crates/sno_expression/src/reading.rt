@@ -1,0 +1,550 @@
+//! The walk with the trees that it makes.
+
+ghost use Rattle.std.specs.Prelude.{◌≡◌, ◌≤◌, IfOk, length, drop, Some, None};
+ghost use Rattle.sno_expression.specs.Marks.{operator_of, prefix_of};
+ghost use Rattle.sno_expression.specs.Walking.{inner_of};
+ghost use Rattle.sno_expression.specs.Trees as trees;
+ghost use Rattle.sno_expression.specs.Reading.{fill, prefixed, joined, begin, close, comma, first, go_on, closed, after, due, wording, named, read, ended, result as result_of, parens, Read, reading};
+ghost use Rattle.sno_expression.specs.Reading as states;
+ghost use Rattle.sno_expression.specs.Told.{tree_of, args_of, trees_of, hole_of, stack_of, state_of, stepped, step_of, Next, End};
+
+use crate::tree::{
+    Args, Operator, Prefix, Sign, Tree, Word, copy_constant, give, operator_of, prefix_of, push,
+    skip, worded,
+};
+use crate::walking::{Paren, blank_before, opens_call, shape_of, stops};
+use mon_text::Line;
+use sno_token::{Constant, Mark, Token};
+use std::alloc::{AllocError, Global};
+
+/// What waits for an operand.
+#[derive(Drop)]
+pub(crate) enum Hole {
+    Begin,
+    After(Tree, Operator),
+    Signed(Sign, Box<Hole>),
+}
+
+/// The open parentheses, the innermost outside, each with what waits for it.
+#[derive(Drop)]
+pub(crate) enum Stack {
+    Bottom,
+    InGroup(Hole, Box<Stack>),
+    InCall(Line, Args, Hole, Box<Stack>),
+}
+
+/// What stands innermost.
+#[derive(Drop)]
+pub(crate) enum Spot {
+    /// An operand is due.
+    Due(Hole),
+    /// The identifier of a keyword or of an unevaluated expression is due.
+    Wording(Hole, Word),
+    /// An identifier, which may yet open a call.
+    Named(Hole, Line),
+    /// A whole operand.
+    Whole(Tree),
+}
+
+/// How far an expression has been read.
+#[derive(Drop)]
+pub(crate) struct State {
+    stack: Stack,
+    spot: Spot,
+}
+
+/// What one more token leads to.
+#[derive(Drop)]
+pub(crate) enum Step {
+    Next(State),
+    /// It is not taken: the tree, where one is complete.
+    End(Option<Tree>),
+}
+
+/// An expression that was read.
+#[derive(Drop)]
+pub struct Found {
+    /// The tree, where one was complete.
+    pub tree: Option<Tree>,
+    /// The index of the first token that was not taken, or of the end.
+    pub next: usize,
+}
+
+fn fill(alloc: Global, hole: Hole, operand: Tree) -> Result<Tree, AllocError>
+    ensures { IfOk result (λ t. tree_of t ≡ fill (hole_of hole) (tree_of operand)) }
+{
+    match hole {
+        Hole::Begin => Ok(operand),
+        Hole::After(tree, operator) => push(alloc, operator, operand, tree),
+        Hole::Signed(sign, rest) => {
+            let operand = Box::new(alloc, operand)?;
+            fill(alloc, Box::into_inner(rest), Tree::Unary(sign, operand))
+        }
+    }
+}
+
+// A whole operand, in its place.
+fn whole(alloc: Global, stack: Stack, hole: Hole, operand: Tree) -> Result<Step, AllocError>
+    ensures { IfOk result (λ s. step_of s ≡ Next (states.At (stack_of stack) (states.Whole (fill (hole_of hole) (tree_of operand))))) }
+{
+    let tree = fill(alloc, hole, operand)?;
+    Ok(Step::Next(State {
+        stack,
+        spot: Spot::Whole(tree),
+    }))
+}
+
+// The tree, where one is complete.
+fn complete(stack: Stack, tree: Tree) -> Option<Tree>
+    ensures { trees_of result ≡ ended (stack_of stack) (tree_of tree) }
+{
+    match stack {
+        Stack::Bottom => Some(tree),
+        Stack::InGroup(_, _) => None,
+        Stack::InCall(_, _, _, _) => None,
+    }
+}
+
+fn name_begins(alloc: Global, stack: Stack, hole: Hole, name: &Line) -> Result<Step, AllocError>
+    ensures { IfOk result (λ s. step_of s ≡ Next (states.At (stack_of stack) (states.Named (hole_of hole) name.now))) }
+{
+    let name = name.copy(alloc)?;
+    Ok(Step::Next(State {
+        stack,
+        spot: Spot::Named(hole, name),
+    }))
+}
+
+fn constant_begins(
+    alloc: Global,
+    stack: Stack,
+    hole: Hole,
+    constant: &Constant,
+) -> Result<Step, AllocError>
+    ensures { IfOk result (λ s. step_of s ≡ Next (states.At (stack_of stack) (states.Whole (fill (hole_of hole) (trees.Constant constant.now))))) }
+{
+    let constant = copy_constant(alloc, constant)?;
+    whole(alloc, stack, hole, Tree::Constant(constant))
+}
+
+fn group_begins(alloc: Global, stack: Stack, hole: Hole) -> Result<Step, AllocError>
+    ensures { IfOk result (λ s. step_of s ≡ Next (states.At (states.InGroup (hole_of hole) (stack_of stack)) (states.Due states.Begin))) }
+{
+    let stack = Box::new(alloc, stack)?;
+    Ok(Step::Next(State {
+        stack: Stack::InGroup(hole, stack),
+        spot: Spot::Due(Hole::Begin),
+    }))
+}
+
+fn prefix_begins(
+    alloc: Global,
+    stack: Stack,
+    hole: Hole,
+    prefix: Prefix,
+) -> Result<Step, AllocError>
+    ensures { IfOk result (λ s. step_of s ≡ stepped (prefixed (stack_of stack) (hole_of hole) (Some prefix)) None) }
+{
+    match prefix {
+        Prefix::Signs(sign) => {
+            let hole = Box::new(alloc, hole)?;
+            Ok(Step::Next(State {
+                stack,
+                spot: Spot::Due(Hole::Signed(sign, hole)),
+            }))
+        }
+        Prefix::Words(word) => Ok(Step::Next(State {
+            stack,
+            spot: Spot::Wording(hole, word),
+        })),
+    }
+}
+
+fn mark_begins(alloc: Global, stack: Stack, hole: Hole, mark: Mark) -> Result<Step, AllocError>
+    ensures { IfOk result (λ s. step_of s ≡ stepped (prefixed (stack_of stack) (hole_of hole) (prefix_of mark)) None) }
+{
+    match prefix_of(mark) {
+        Some(prefix) => prefix_begins(alloc, stack, hole, prefix),
+        None => Ok(Step::End(None)),
+    }
+}
+
+// An operand begins, where one is due.
+fn begin(alloc: Global, stack: Stack, hole: Hole, token: &Token) -> Result<Step, AllocError>
+    ensures { IfOk result (λ s. step_of s ≡ stepped (begin (stack_of stack) (hole_of hole) token.now) None) }
+{
+    match token {
+        Token::Name(_, name) => name_begins(alloc, stack, hole, name),
+        Token::Constant(_, constant) => constant_begins(alloc, stack, hole, constant),
+        Token::Mark(_, false, mark) => mark_begins(alloc, stack, hole, *mark),
+        Token::Open(_) => group_begins(alloc, stack, hole),
+        Token::Mark(_, true, _) | Token::Close(_) | Token::Comma(_) | Token::Part(_, _, _) => Ok(
+            Step::End(None),
+        ),
+    }
+}
+
+fn close(alloc: Global, stack: Stack, tree: Tree) -> Result<Step, AllocError>
+    ensures { IfOk result (λ s. step_of s ≡ stepped (close (stack_of stack) (tree_of tree)) (ended (stack_of stack) (tree_of tree))) }
+{
+    match stack {
+        Stack::Bottom => Ok(Step::End(Some(tree))),
+        Stack::InGroup(hole, below) => {
+            let tree = Box::new(alloc, tree)?;
+            whole(alloc, Box::into_inner(below), hole, Tree::Group(tree))
+        }
+        Stack::InCall(name, args, hole, below) => {
+            let args = give(alloc, args, tree)?;
+            let args = Box::new(alloc, args)?;
+            whole(alloc, Box::into_inner(below), hole, Tree::Call(name, args))
+        }
+    }
+}
+
+fn comma(alloc: Global, stack: Stack, tree: Tree) -> Result<Step, AllocError>
+    ensures { IfOk result (λ s. step_of s ≡ stepped (comma (stack_of stack) (tree_of tree)) (ended (stack_of stack) (tree_of tree))) }
+{
+    match stack {
+        Stack::Bottom => Ok(Step::End(Some(tree))),
+        Stack::InGroup(_, _) => Ok(Step::End(None)),
+        Stack::InCall(name, args, hole, below) => {
+            let args = give(alloc, args, tree)?;
+            Ok(Step::Next(State {
+                stack: Stack::InCall(name, args, hole, below),
+                spot: Spot::Due(Hole::Begin),
+            }))
+        }
+    }
+}
+
+fn empty_before_comma(
+    alloc: Global,
+    name: Line,
+    args: Args,
+    hole: Hole,
+    below: Box<Stack>,
+) -> Result<Step, AllocError>
+    ensures { IfOk result (λ s. step_of s ≡ Next (states.At (states.InCall name (trees.Skip (args_of args)) (hole_of hole) (stack_of below.value)) (states.Due states.Begin))) }
+{
+    let args = skip(alloc, args)?;
+    Ok(Step::Next(State {
+        stack: Stack::InCall(name, args, hole, below),
+        spot: Spot::Due(Hole::Begin),
+    }))
+}
+
+fn empty_at_end(
+    alloc: Global,
+    name: Line,
+    args: Args,
+    hole: Hole,
+    below: Stack,
+) -> Result<Step, AllocError>
+    ensures { IfOk result (λ s. step_of s ≡ Next (states.At (stack_of below) (states.Whole (fill (hole_of hole) (trees.Call name (trees.Skip (args_of args))))))) }
+{
+    let args = skip(alloc, args)?;
+    let args = Box::new(alloc, args)?;
+    whole(alloc, below, hole, Tree::Call(name, args))
+}
+
+// An argument begins, or is empty.
+fn first_of_call(
+    alloc: Global,
+    name: Line,
+    args: Args,
+    hole: Hole,
+    below: Box<Stack>,
+    token: &Token,
+) -> Result<Step, AllocError>
+    ensures { IfOk result (λ s. step_of s ≡ stepped (first (states.InCall name (args_of args) (hole_of hole) (stack_of below.value)) token.now) None) }
+{
+    match token {
+        Token::Comma(_) => empty_before_comma(alloc, name, args, hole, below),
+        Token::Close(_) => empty_at_end(alloc, name, args, hole, Box::into_inner(below)),
+        Token::Name(_, _)
+        | Token::Constant(_, _)
+        | Token::Mark(_, _, _)
+        | Token::Open(_)
+        | Token::Part(_, _, _) => begin(
+            alloc,
+            Stack::InCall(name, args, hole, below),
+            Hole::Begin,
+            token,
+        ),
+    }
+}
+
+// An expression or an argument begins.
+fn first(alloc: Global, stack: Stack, token: &Token) -> Result<Step, AllocError>
+    ensures { IfOk result (λ s. step_of s ≡ stepped (first (stack_of stack) token.now) None) }
+{
+    match stack {
+        Stack::Bottom => begin(alloc, Stack::Bottom, Hole::Begin, token),
+        Stack::InGroup(hole, below) => begin(
+            alloc,
+            Stack::InGroup(hole, below),
+            Hole::Begin,
+            token,
+        ),
+        Stack::InCall(name, args, hole, below) => first_of_call(
+            alloc, name, args, hole, below, token,
+        ),
+    }
+}
+
+fn operator_follows(stack: Stack, tree: Tree, mark: Mark) -> Step
+    ensures { step_of result ≡ stepped (joined (stack_of stack) (tree_of tree) (operator_of mark)) (ended (stack_of stack) (tree_of tree)) }
+{
+    match operator_of(mark) {
+        Some(operator) => Step::Next(State {
+            stack,
+            spot: Spot::Due(Hole::After(tree, operator)),
+        }),
+        None => Step::End(complete(stack, tree)),
+    }
+}
+
+fn prefix_follows(alloc: Global, stack: Stack, tree: Tree, mark: Mark) -> Result<Step, AllocError>
+    ensures { IfOk result (λ s. step_of s ≡ stepped (prefixed (stack_of stack) (states.After (tree_of tree) Operator.Concatenation) (prefix_of mark)) (ended (stack_of stack) (tree_of tree))) }
+{
+    match prefix_of(mark) {
+        Some(Prefix::Signs(sign)) => prefix_begins(
+            alloc,
+            stack,
+            Hole::After(tree, Operator::Concatenation),
+            Prefix::Signs(sign),
+        ),
+        Some(Prefix::Words(word)) => prefix_begins(
+            alloc,
+            stack,
+            Hole::After(tree, Operator::Concatenation),
+            Prefix::Words(word),
+        ),
+        None => Ok(Step::End(complete(stack, tree))),
+    }
+}
+
+// After an operand.
+fn go_on(alloc: Global, stack: Stack, tree: Tree, token: &Token) -> Result<Step, AllocError>
+    ensures { IfOk result (λ s. step_of s ≡ stepped (go_on (stack_of stack) (tree_of tree) token.now) (ended (stack_of stack) (tree_of tree))) }
+{
+    match token {
+        Token::Mark(true, true, mark) => Ok(operator_follows(stack, tree, *mark)),
+        Token::Mark(true, false, mark) => prefix_follows(alloc, stack, tree, *mark),
+        Token::Name(true, name) => name_begins(
+            alloc,
+            stack,
+            Hole::After(tree, Operator::Concatenation),
+            name,
+        ),
+        Token::Constant(true, constant) => {
+            constant_begins(
+                alloc,
+                stack,
+                Hole::After(tree, Operator::Concatenation),
+                constant,
+            )
+        }
+        Token::Open(true) => group_begins(alloc, stack, Hole::After(tree, Operator::Concatenation)),
+        Token::Close(_) => close(alloc, stack, tree),
+        Token::Comma(_) => comma(alloc, stack, tree),
+        Token::Mark(false, _, _)
+        | Token::Name(false, _)
+        | Token::Constant(false, _)
+        | Token::Open(false)
+        | Token::Part(_, _, _) => Ok(Step::End(complete(stack, tree))),
+    }
+}
+
+fn inner(stack: &Stack) -> Option<Paren>
+    ensures { result ≡ inner_of (parens (stack_of stack.now)) }
+{
+    match stack {
+        Stack::Bottom => None,
+        Stack::InGroup(_, _) => Some(Paren::OfGroup),
+        Stack::InCall(_, _, _, _) => Some(Paren::OfCall),
+    }
+}
+
+// Whether nothing is taken after an operand there.
+fn closed(alone: bool, stack: &Stack) -> bool
+    ensures { result ≡ closed alone (stack_of stack.now) }
+{
+    stops(alone, inner(stack))
+}
+
+fn after(
+    alloc: Global,
+    alone: bool,
+    stack: Stack,
+    tree: Tree,
+    token: &Token,
+) -> Result<Step, AllocError>
+    ensures { IfOk result (λ s. step_of s ≡ stepped (after alone (stack_of stack) (tree_of tree) token.now) (ended (stack_of stack) (tree_of tree))) }
+{
+    if closed(alone, &stack) {
+        Ok(Step::End(complete(stack, tree)))
+    } else {
+        go_on(alloc, stack, tree, token)
+    }
+}
+
+fn due(alloc: Global, stack: Stack, hole: Hole, token: &Token) -> Result<Step, AllocError>
+    ensures { IfOk result (λ s. step_of s ≡ stepped (due (stack_of stack) (hole_of hole) token.now) None) }
+{
+    match hole {
+        Hole::Begin => first(alloc, stack, token),
+        Hole::After(tree, operator) => {
+            if blank_before(shape_of(token)) {
+                begin(alloc, stack, Hole::After(tree, operator), token)
+            } else {
+                Ok(Step::End(None))
+            }
+        }
+        Hole::Signed(sign, rest) => {
+            if blank_before(shape_of(token)) {
+                Ok(Step::End(None))
+            } else {
+                begin(alloc, stack, Hole::Signed(sign, rest), token)
+            }
+        }
+    }
+}
+
+fn word_ends(
+    alloc: Global,
+    stack: Stack,
+    hole: Hole,
+    word: Word,
+    name: &Line,
+) -> Result<Step, AllocError>
+    ensures { IfOk result (λ s. step_of s ≡ Next (states.At (stack_of stack) (states.Whole (fill (hole_of hole) (states.worded word name.now))))) }
+{
+    let name = name.copy(alloc)?;
+    whole(alloc, stack, hole, worded(word, name))
+}
+
+fn wording(
+    alloc: Global,
+    stack: Stack,
+    hole: Hole,
+    word: Word,
+    token: &Token,
+) -> Result<Step, AllocError>
+    ensures { IfOk result (λ s. step_of s ≡ stepped (wording (stack_of stack) (hole_of hole) word token.now) None) }
+{
+    match token {
+        Token::Name(false, name) => word_ends(alloc, stack, hole, word, name),
+        Token::Name(true, _)
+        | Token::Constant(_, _)
+        | Token::Mark(_, _, _)
+        | Token::Open(_)
+        | Token::Close(_)
+        | Token::Comma(_)
+        | Token::Part(_, _, _) => Ok(Step::End(None)),
+    }
+}
+
+fn call_begins(alloc: Global, stack: Stack, hole: Hole, name: Line) -> Result<Step, AllocError>
+    ensures { IfOk result (λ s. step_of s ≡ Next (states.At (states.InCall name trees.NoArgs (hole_of hole) (stack_of stack)) (states.Due states.Begin))) }
+{
+    let stack = Box::new(alloc, stack)?;
+    Ok(Step::Next(State {
+        stack: Stack::InCall(name, Args::NoArgs, hole, stack),
+        spot: Spot::Due(Hole::Begin),
+    }))
+}
+
+fn name_ends(
+    alloc: Global,
+    alone: bool,
+    stack: Stack,
+    hole: Hole,
+    name: Line,
+    token: &Token,
+) -> Result<Step, AllocError>
+    ensures { IfOk result (λ s. step_of s ≡ stepped (after alone (stack_of stack) (fill (hole_of hole) (trees.Identifier name)) token.now) (ended (stack_of stack) (fill (hole_of hole) (trees.Identifier name)))) }
+{
+    let tree = fill(alloc, hole, Tree::Identifier(name))?;
+    after(alloc, alone, stack, tree, token)
+}
+
+fn named(
+    alloc: Global,
+    alone: bool,
+    stack: Stack,
+    hole: Hole,
+    name: Line,
+    token: &Token,
+) -> Result<Step, AllocError>
+    ensures { IfOk result (λ s. step_of s ≡ stepped (named alone (stack_of stack) (hole_of hole) name token.now) (ended (stack_of stack) (fill (hole_of hole) (trees.Identifier name)))) }
+{
+    if opens_call(shape_of(token)) {
+        call_begins(alloc, stack, hole, name)
+    } else {
+        name_ends(alloc, alone, stack, hole, name, token)
+    }
+}
+
+// One more token.
+fn read(alloc: Global, alone: bool, state: State, token: &Token) -> Result<Step, AllocError>
+    ensures { IfOk result (λ s. step_of s ≡ stepped (read alone (state_of state) token.now) (result_of (state_of state))) }
+{
+    let State { stack, spot } = state;
+    match spot {
+        Spot::Due(hole) => due(alloc, stack, hole, token),
+        Spot::Wording(hole, word) => wording(alloc, stack, hole, word, token),
+        Spot::Named(hole, name) => named(alloc, alone, stack, hole, name, token),
+        Spot::Whole(tree) => after(alloc, alone, stack, tree, token),
+    }
+}
+
+// The tree at the end of the tokens, where one is complete.
+fn finish(alloc: Global, state: State) -> Result<Option<Tree>, AllocError>
+    ensures { IfOk result (λ t. trees_of t ≡ result_of (state_of state)) }
+{
+    let State { stack, spot } = state;
+    match spot {
+        Spot::Due(_) => Ok(None),
+        Spot::Wording(_, _) => Ok(None),
+        Spot::Named(hole, name) => {
+            let tree = fill(alloc, hole, Tree::Identifier(name))?;
+            Ok(complete(stack, tree))
+        }
+        Spot::Whole(tree) => Ok(complete(stack, tree)),
+    }
+}
+
+/// Reads one expression from the tokens, from the one at `from` on, or where it stands `alone` one element.
+///
+/// It ends before the first token that is not taken, or at the end of the tokens.
+///
+/// # Errors
+///
+/// Where a growth was refused.
+pub fn read_expression(
+    alloc: Global,
+    alone: bool,
+    tokens: &[Token],
+    from: usize,
+) -> Result<Found, AllocError>
+    ensures reads { IfOk result (λ found. Read (trees_of found.tree) (drop found.next tokens.now) ≡ reading alone (drop from tokens.now)) }
+    ensures within { IfOk result (λ found. found.next ≤ length tokens.now) }
+    ensures onward { IfOk result (λ found. from ≤ length tokens.now → from ≤ found.next) }
+{
+    let mut state = State {
+        stack: Stack::Bottom,
+        spot: Spot::Due(Hole::Begin),
+    };
+    for i in from..tokens.len() {
+        match read(alloc, alone, state, &tokens[i])? {
+            Step::Next(next) => state = next,
+            Step::End(tree) => return Ok(Found { tree, next: i }),
+        }
+    }
+    let tree = finish(alloc, state)?;
+    Ok(Found {
+        tree,
+        next: tokens.len(),
+    })
+}
