@@ -7,7 +7,7 @@ mod tree;
 mod walking;
 
 pub use reading::{Found, read_expression};
-pub use tree::{Args, Operator, Sign, Tree};
+pub use tree::{Args, Operator, Prefix, Sign, Tree, Word};
 pub use walking::{
     Move, Paren, PartShape, Place, Shape, blank_before, ends, is_misfit, place_of, shape_of, step,
     with_blanks,

@@ -54,7 +54,7 @@ pub enum Sign {
 
 /// What stands directly before an identifier alone.
 #[derive(Clone, Copy)]
-pub(crate) enum Word {
+pub enum Word {
     /// `&`
     Keyword,
     /// `*`
@@ -63,7 +63,7 @@ pub(crate) enum Word {
 
 /// What a mark directly before an operand is.
 #[derive(Clone, Copy)]
-pub(crate) enum Prefix {
+pub enum Prefix {
     Signs(Sign),
     Words(Word),
 }
