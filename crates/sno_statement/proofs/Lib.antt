@@ -1,0 +1,9 @@
+mod Examples
+pub mod Roles
+pub mod Completing
+pub mod Sound
+pub mod Counts
+pub mod Strides
+pub mod Passing
+pub mod Grammar
+pub mod Loop

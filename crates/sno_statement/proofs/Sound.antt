@@ -1,0 +1,198 @@
+-- What the tokens are read as has levels and spells them.
+use Rattle.std.proofs.Common.{◌≡◌, ℕ, List, [], ◌∷◌, refl, ap, subst, inl, inr}
+use Rattle.std.specs.Prelude.{Bool, true, false, Option, Some, None}
+use Rattle.sno_token.specs.declared.Mark.TheVariants.{Dollar}
+use Rattle.sno_token.specs.declared.Outcome.{Outcome}
+use Rattle.sno_token.specs.declared.Outcome.TheVariants.{Success, Failure}
+use Rattle.sno_token.specs.declared.Part.TheVariants.{Equals, Colon, On, Label}
+use Rattle.sno_token.specs.declared.Token.{Token}
+use Rattle.sno_token.specs.declared.Token.TheVariants as token
+use Rattle.sno_expression.specs.declared.tree.Sign.TheVariants.{Indirect}
+use Rattle.sno_expression.specs.Trees.{Tree, Unary, HasLevels, IsOperand}
+use Rattle.sno_expression.specs.Spelling.{SpellsTo}
+use Rattle.sno_expression.specs.Walking.{shape_of}
+use Rattle.sno_expression.specs.Reading.{Reading, Read, reading}
+use Rattle.sno_statement.specs.declared.walking.Role.{Role}
+use Rattle.sno_statement.specs.declared.walking.Role.TheVariants.{Assigns, Goes, Follows, Touches}
+use Rattle.sno_statement.specs.Statements.{Target, To, Computed, Goto, NoGoto, Always, OnSuccess, OnFailure, OnBoth, NoObject, NullObject, Gives, Body, NoBody, Does, Statement, Says, TargetHasLevels, GotoHasLevels, PatternHasLevels, BodyHasLevels, StatementHasLevels}
+use Rattle.sno_statement.specs.Spelling.{TargetTo, OutcomeTo, LeadsTo, GotoTo, PatternTo, BodyTo, Spells}
+use Rattle.sno_statement.specs.Walking.{role}
+use Rattle.sno_statement.specs.Reading.{Aim, Missed, Aimed, closing, computed, inside, target_in, at_last, always, both, next, chosen, goto_in, going, ends_by, ending, giving, by_object, object_in, by_pattern, pattern_then, matching, by_subject, subject_then, acting, by_first, statement_in}
+use Rattle.sno_expression.proofs.Sound.{IsRead, sound}
+use Rattle.sno_statement.proofs.Roles.{goes, assigns, blank_spells}
+
+abbrev AimRight : Aim → List Token → Type 0
+AimRight Missed ts = Unit {0}
+AimRight (Aimed t rest) ts = TargetHasLevels t × TargetTo t ts rest
+
+label_right : (b c d : Bool) (l : List ℕ) (ts : List Token) → AimRight (closing (To l) ts) (token.Open b ∷ token.Part c d (Label l) ∷ ts)
+label_right b c d l [] = tt
+label_right b c d l (token.Close e ∷ ts) = (tt, (b, c, d, e, refl))
+label_right b c d l _ = tt
+
+computed_right : (b : Bool) (t : Tree) (ts rest : List Token) → IsRead true (Unary Indirect t) ts rest → AimRight (closing (Computed t) rest) (token.Open b ∷ ts)
+computed_right b t ts [] r = tt
+computed_right b t ts (token.Close e ∷ rest) r = (r.levels, (ts, b, r.blank, e, refl, r.spells))
+computed_right b t ts _ r = tt
+
+reading_right : (b : Bool) (ts : List Token) (x : Reading) → reading true ts ≡ x → AimRight (computed x) (token.Open b ∷ ts)
+reading_right b ts (Read (Some (Unary Indirect t)) rest) e = computed_right b t ts rest (sound true ts rest (Unary Indirect t) e)
+reading_right b ts _ e = tt
+
+inside_right : (b : Bool) (ts : List Token) → AimRight (inside ts) (token.Open b ∷ ts)
+inside_right b [] = tt
+inside_right b (token.Part c d (Label l) ∷ ts) = label_right b c d l ts
+inside_right b (token.Mark c d Dollar ∷ ts) = reading_right b (token.Mark c d Dollar ∷ ts) (reading true (token.Mark c d Dollar ∷ ts)) refl
+inside_right b _ = tt
+
+target_right : (ts : List Token) → AimRight (target_in ts) ts
+target_right [] = tt
+target_right (token.Open b ∷ ts) = inside_right b ts
+target_right _ = tt
+
+abbrev GotoRight : Option Goto → List Token → Type 0
+GotoRight None ts = Unit {0}
+GotoRight (Some g) ts = GotoHasLevels g × LeadsTo g ts
+
+last_right : (g : Goto) (rest ts : List Token) → GotoHasLevels g → (rest ≡ [] → LeadsTo g ts) → GotoRight (at_last g rest) ts
+last_right g [] ts v l = (v, l refl)
+last_right g _ ts v l = tt
+
+always_right : (a : Aim) (ts : List Token) → AimRight a ts → GotoRight (always a) ts
+always_right Missed ts r = tt
+always_right (Aimed t rest) ts r = last_right (Always t) rest ts r.0 (λ e. subst (λ (x : List Token). TargetTo t ts x) e r.1)
+
+success_both : (s : Target) (a : Aim) (ts m k : List Token) (b c : Bool) → TargetHasLevels s → OutcomeTo Success s ts m → m ≡ token.Part b c (On Failure) ∷ k → AimRight a k → GotoRight (both Success s a) ts
+success_both s Missed ts m k b c v q e r = tt
+success_both s (Aimed f rest) ts m k b c v q e r =
+    last_right (OnBoth s f) rest ts (v, r.0) (λ d. inl (m, q, (k, b, c, e, subst (λ (x : List Token). TargetTo f k x) d r.1)))
+
+failure_both : (f : Target) (a : Aim) (ts m k : List Token) (b c : Bool) → TargetHasLevels f → OutcomeTo Failure f ts m → m ≡ token.Part b c (On Success) ∷ k → AimRight a k → GotoRight (both Failure f a) ts
+failure_both f Missed ts m k b c v q e r = tt
+failure_both f (Aimed s rest) ts m k b c v q e r =
+    last_right (OnBoth s f) rest ts (r.0, v) (λ d. inr (m, q, (k, b, c, e, subst (λ (x : List Token). TargetTo s k x) d r.1)))
+
+next_right : (o : Outcome) (t : Target) (rest ts : List Token) → TargetHasLevels t → OutcomeTo o t ts rest → GotoRight (next o t rest) ts
+next_right Success t [] ts v q = (v, q)
+next_right Failure t [] ts v q = (v, q)
+next_right Success t (token.Part b c (On Failure) ∷ k) ts v q = success_both t (target_in k) ts (token.Part b c (On Failure) ∷ k) k b c v q refl (target_right k)
+next_right Failure t (token.Part b c (On Success) ∷ k) ts v q = failure_both t (target_in k) ts (token.Part b c (On Success) ∷ k) k b c v q refl (target_right k)
+next_right o t _ ts v q = tt
+
+chosen_right : (o : Outcome) (b c : Bool) (a : Aim) (ts : List Token) → AimRight a ts → GotoRight (chosen o a) (token.Part b c (On o) ∷ ts)
+chosen_right o b c Missed ts r = tt
+chosen_right o b c (Aimed t rest) ts r = next_right o t rest (token.Part b c (On o) ∷ ts) r.0 (ts, b, c, refl, r.1)
+
+goto_right : (ts : List Token) → GotoRight (goto_in ts) ts
+goto_right [] = tt
+goto_right (token.Open b ∷ ts) = always_right (inside ts) (token.Open b ∷ ts) (inside_right b ts)
+goto_right (token.Part b c (On o) ∷ ts) = chosen_right o b c (target_in ts) ts (target_right ts)
+goto_right _ = tt
+
+with_colon : (g : Goto) (c : Bool) (ts k : List Token) → LeadsTo g ts → k ≡ token.Part true c Colon ∷ ts → GotoTo g k
+with_colon NoGoto c ts k l e = absurd l
+with_colon (Always t) c ts k l e = (ts, c, e, l)
+with_colon (OnSuccess t) c ts k l e = (ts, c, e, l)
+with_colon (OnFailure t) c ts k l e = (ts, c, e, l)
+with_colon (OnBoth s f) c ts k l e = (ts, c, e, l)
+
+abbrev pub Right : Option Statement → List Token → Type 0
+Right None ts = Unit {0}
+Right (Some s) ts = StatementHasLevels s × Spells s ts
+
+stop_right : (b : Body) (ts : List Token) → BodyHasLevels b → BodyTo b ts [] → Right (Some (Says b NoGoto)) ts
+stop_right b ts v q = ((v, tt), ([], q, refl))
+
+going_right : (b : Body) (o : Option Goto) (ts k m : List Token) (c : Bool) → BodyHasLevels b → BodyTo b ts k → k ≡ token.Part true c Colon ∷ m → GotoRight o m → Right (going b o) ts
+going_right b None ts k m c v q e r = tt
+going_right b (Some g) ts k m c v q e r = ((v, r.0), (k, q, with_colon g c m k r.1 e))
+
+goes_right : (b : Body) (t : Token) (ts m : List Token) → BodyHasLevels b → BodyTo b ts (t ∷ m) → role (shape_of t) ≡ Goes → Right (going b (goto_in m)) ts
+goes_right b t ts m v q e =
+    let g = goes t e in
+    going_right b (goto_in m) ts (t ∷ m) m g.0 v q (ap (λ (x : Token). x ∷ m) g.1) (goto_right m)
+
+ending_right : (b : Body) (ts m : List Token) → BodyHasLevels b → BodyTo b ts m → Right (ending b m) ts
+ending_right b ts [] v q = stop_right b ts v q
+ending_right b ts (t ∷ m) v q = at (role (shape_of t)) refl
+  where
+    at : (r : Role) → role (shape_of t) ≡ r → Right (ends_by r b m) ts
+    at Goes e = goes_right b t ts m v q e
+    at _ e = tt
+
+-- the subject and the pattern up to `=`
+abbrev Assigned : Tree → Option Tree → List Token → List Token → Type 0
+Assigned s p ts n = (m : List Token) × (b : Bool) × IsOperand s × HasLevels s × PatternHasLevels p × SpellsTo b s ts m × PatternTo p m (token.Part true true Equals ∷ n)
+
+giving_right : (s : Tree) (p : Option Tree) (ts m : List Token) (t : Token) (k : List Token) (x : Reading)
+    → Assigned s p ts (t ∷ k) → role (shape_of t) ≡ Follows → reading false (t ∷ k) ≡ x → Right (giving s p x) ts
+giving_right s p ts m t k (Read None rest) a r e = tt
+giving_right s p ts m t k (Read (Some o) rest) a r e =
+    let i = sound false (t ∷ k) rest o e in
+    ending_right (Does s p (Gives o)) ts rest (a.2, a.3, a.4, i.levels)
+    (a.0, token.Part true true Equals ∷ t ∷ k, a.1, a.5, a.6, (t ∷ k, refl, blank_spells o i.blank t k rest i.spells r))
+
+object_right : (s : Tree) (p : Option Tree) (ts n : List Token) → Assigned s p ts n → Right (object_in s p n) ts
+object_right s p ts [] a = stop_right (Does s p NullObject) ts (a.2, a.3, a.4, tt) (a.0, token.Part true true Equals ∷ [], a.1, a.5, a.6, refl)
+object_right s p ts (t ∷ k) a = at (role (shape_of t)) refl
+  where
+    at : (r : Role) → role (shape_of t) ≡ r → Right (by_object r s p t k) ts
+    at Assigns e = tt
+    at Goes e = goes_right (Does s p NullObject) t ts k (a.2, a.3, a.4, tt) (a.0, token.Part true true Equals ∷ t ∷ k, a.1, a.5, a.6, refl) e
+    at Follows e = giving_right s p ts [] t k (reading false (t ∷ k)) a e refl
+    at Touches e = tt
+
+-- what stands behind the subject and the pattern is the rest
+abbrev Subjected : Tree → Option Tree → List Token → List Token → Type 0
+Subjected s p ts n = (m : List Token) × (b : Bool) × IsOperand s × HasLevels s × PatternHasLevels p × SpellsTo b s ts m × PatternTo p m n
+
+bare : (s : Tree) (p : Option Tree) (ts n : List Token) → Subjected s p ts n → BodyTo (Does s p NoObject) ts n
+bare s p ts n a = (a.0, n, a.1, a.5, a.6, refl)
+
+assigned : (s : Tree) (p : Option Tree) (t : Token) (ts n : List Token) → Subjected s p ts (t ∷ n) → role (shape_of t) ≡ Assigns → Assigned s p ts n
+assigned s p t ts n a e = (a.0, a.1, a.2, a.3, a.4, a.5, subst (λ (x : Token). PatternTo p a.0 (x ∷ n)) (assigns t e) a.6)
+
+pattern_right : (s p : Tree) (ts n : List Token) → Subjected s (Some p) ts n → Right (pattern_then s p n) ts
+pattern_right s p ts [] a = stop_right (Does s (Some p) NoObject) ts (a.2, a.3, a.4, tt) (bare s (Some p) ts [] a)
+pattern_right s p ts (t ∷ k) a = at (role (shape_of t)) refl
+  where
+    at : (r : Role) → role (shape_of t) ≡ r → Right (by_pattern r s p k) ts
+    at Assigns e = object_right s (Some p) ts k (assigned s (Some p) t ts k a e)
+    at Goes e = goes_right (Does s (Some p) NoObject) t ts k (a.2, a.3, a.4, tt) (bare s (Some p) ts (t ∷ k) a) e
+    at _ e = tt
+
+matching_right : (s : Tree) (ts : List Token) (t : Token) (k : List Token) (x : Reading) → Subjected s None ts (t ∷ k) → role (shape_of t) ≡ Follows → reading false (t ∷ k) ≡ x → Right (matching s x) ts
+matching_right s ts t k (Read None rest) a r e = tt
+matching_right s ts t k (Read (Some p) rest) a r e =
+    let i = sound false (t ∷ k) rest p e in
+    pattern_right s p ts rest (t ∷ k, a.1, a.2, a.3, i.levels, subst (λ (x : List Token). SpellsTo a.1 s ts x) a.6 a.5, blank_spells p i.blank t k rest i.spells r)
+
+subject_right : (s : Tree) (ts n : List Token) → Subjected s None ts n → Right (subject_then s n) ts
+subject_right s ts [] a = stop_right (Does s None NoObject) ts (a.2, a.3, a.4, tt) (bare s None ts [] a)
+subject_right s ts (t ∷ k) a = at (role (shape_of t)) refl
+  where
+    at : (r : Role) → role (shape_of t) ≡ r → Right (by_subject r s t k) ts
+    at Assigns e = object_right s None ts k (assigned s None t ts k a e)
+    at Goes e = goes_right (Does s None NoObject) t ts k (a.2, a.3, a.4, tt) (bare s None ts (t ∷ k) a) e
+    at Follows e = matching_right s ts t k (reading false (t ∷ k)) a e refl
+    at Touches e = tt
+
+acting_right : (ts : List Token) (x : Reading) → reading true ts ≡ x → Right (acting x) ts
+acting_right ts (Read None rest) e = tt
+acting_right ts (Read (Some s) rest) e =
+    let i = sound true ts rest s e in
+    subject_right s ts rest (rest, i.blank, i.suits, i.levels, tt, i.spells, refl)
+
+right : (ts : List Token) → Right (statement_in ts) ts
+right [] = stop_right NoBody [] tt refl
+right (t ∷ ts) = at (role (shape_of t)) refl
+  where
+    at : (r : Role) → role (shape_of t) ≡ r → Right (by_first r t ts) (t ∷ ts)
+    at Assigns e = tt
+    at Goes e = goes_right NoBody t (t ∷ ts) ts tt refl e
+    at Follows e = acting_right (t ∷ ts) (reading true (t ∷ ts)) refl
+    at Touches e = acting_right (t ∷ ts) (reading true (t ∷ ts)) refl
+
+-- what is read has levels and spells the tokens
+pub statement_sound : (ts : List Token) (s : Statement) → statement_in ts ≡ Some s → StatementHasLevels s × Spells s ts
+statement_sound ts s e = subst (λ (o : Option Statement). Right o ts) e (right ts)

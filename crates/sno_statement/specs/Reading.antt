@@ -1,0 +1,150 @@
+-- A statement read part by part, each part as far as it goes.
+use Rattle.std.specs.Prelude.{true, false, List, [], ◌∷◌, Option, Some, None}
+use Rattle.sno_token.specs.declared.Mark.TheVariants.{Dollar}
+use Rattle.sno_token.specs.declared.Outcome.{Outcome}
+use Rattle.sno_token.specs.declared.Outcome.TheVariants.{Success, Failure}
+use Rattle.sno_token.specs.declared.Part.TheVariants.{On, Label}
+use Rattle.sno_token.specs.declared.Token.{Token}
+use Rattle.sno_token.specs.declared.Token.TheVariants as token
+use Rattle.sno_expression.specs.declared.tree.Sign.TheVariants.{Indirect}
+use Rattle.sno_expression.specs.Trees.{Tree, Unary}
+use Rattle.sno_expression.specs.Walking.{shape_of}
+use Rattle.sno_expression.specs.Reading.{Reading, Read, reading}
+use Rattle.sno_statement.specs.declared.walking.Role.{Role}
+use Rattle.sno_statement.specs.declared.walking.Role.TheVariants.{Assigns, Goes, Follows, Touches}
+use Rattle.sno_statement.specs.Statements.{Target, To, Computed, Goto, NoGoto, Always, OnSuccess, OnFailure, OnBoth, NoObject, NullObject, Gives, Body, NoBody, Does, Statement, Says}
+use Rattle.sno_statement.specs.Walking.{role}
+
+-- a target and the tokens behind it, if one is there
+pub data Aim : Type 0 where
+  Missed : Aim
+  Aimed : Target → List Token → Aim
+
+abbrev pub closing : Target → List Token → Aim
+closing t (token.Close b ∷ ts) = Aimed t ts
+closing t _ = Missed
+
+abbrev pub indirect : Option Tree → List Token → Aim
+indirect (Some (Unary Indirect t)) ts = closing (Computed t) ts
+indirect _ ts = Missed
+
+abbrev pub computed : Reading → Aim
+computed (Read t rest) = indirect t rest
+
+-- behind the parenthesis of a target
+abbrev pub inside : List Token → Aim
+inside (token.Part b c (Label l) ∷ ts) = closing (To l) ts
+inside (token.Mark b c Dollar ∷ ts) = computed (reading true (token.Mark b c Dollar ∷ ts))
+inside _ = Missed
+
+abbrev pub target_in : List Token → Aim
+target_in (token.Open b ∷ ts) = inside ts
+target_in _ = Missed
+
+-- behind the last target
+abbrev pub at_last : Goto → List Token → Option Goto
+at_last g [] = Some g
+at_last g _ = None
+
+abbrev pub always : Aim → Option Goto
+always Missed = None
+always (Aimed t ts) = at_last (Always t) ts
+
+abbrev pub both : Outcome → Target → Aim → Option Goto
+both o t Missed = None
+both Success t (Aimed u ts) = at_last (OnBoth t u) ts
+both Failure t (Aimed u ts) = at_last (OnBoth u t) ts
+
+-- the second outcome is not the first
+abbrev pub second : Outcome → Outcome → Target → List Token → Option Goto
+second Success Failure t ts = both Success t (target_in ts)
+second Failure Success t ts = both Failure t (target_in ts)
+second o p t ts = None
+
+abbrev pub on_one : Outcome → Target → Goto
+on_one Success t = OnSuccess t
+on_one Failure t = OnFailure t
+
+-- behind the target of the first outcome
+abbrev pub next : Outcome → Target → List Token → Option Goto
+next o t [] = Some (on_one o t)
+next o t (token.Part b c (On p) ∷ ts) = second o p t ts
+next o t _ = None
+
+abbrev pub chosen : Outcome → Aim → Option Goto
+chosen o Missed = None
+chosen o (Aimed t ts) = next o t ts
+
+-- behind `:`
+abbrev pub goto_in : List Token → Option Goto
+goto_in (token.Open b ∷ ts) = always (inside ts)
+goto_in (token.Part b c (On o) ∷ ts) = chosen o (target_in ts)
+goto_in _ = None
+
+abbrev pub going : Body → Option Goto → Option Statement
+going b None = None
+going b (Some g) = Some (Says b g)
+
+abbrev pub ends_by : Role → Body → List Token → Option Statement
+ends_by Goes b ts = going b (goto_in ts)
+ends_by _ b ts = None
+
+-- behind the object
+abbrev pub ending : Body → List Token → Option Statement
+ending b [] = Some (Says b NoGoto)
+ending b (t ∷ ts) = ends_by (role (shape_of t)) b ts
+
+abbrev pub giving : Tree → Option Tree → Reading → Option Statement
+giving s p (Read None rest) = None
+giving s p (Read (Some o) rest) = ending (Does s p (Gives o)) rest
+
+abbrev pub by_object : Role → Tree → Option Tree → Token → List Token → Option Statement
+by_object Assigns s p t ts = None
+by_object Goes s p t ts = going (Does s p NullObject) (goto_in ts)
+by_object Follows s p t ts = giving s p (reading false (t ∷ ts))
+by_object Touches s p t ts = None
+
+-- behind `=`
+abbrev pub object_in : Tree → Option Tree → List Token → Option Statement
+object_in s p [] = Some (Says (Does s p NullObject) NoGoto)
+object_in s p (t ∷ ts) = by_object (role (shape_of t)) s p t ts
+
+abbrev pub by_pattern : Role → Tree → Tree → List Token → Option Statement
+by_pattern Assigns s p ts = object_in s (Some p) ts
+by_pattern Goes s p ts = going (Does s (Some p) NoObject) (goto_in ts)
+by_pattern _ s p ts = None
+
+-- behind the pattern
+abbrev pub pattern_then : Tree → Tree → List Token → Option Statement
+pattern_then s p [] = Some (Says (Does s (Some p) NoObject) NoGoto)
+pattern_then s p (t ∷ ts) = by_pattern (role (shape_of t)) s p ts
+
+abbrev pub matching : Tree → Reading → Option Statement
+matching s (Read None rest) = None
+matching s (Read (Some p) rest) = pattern_then s p rest
+
+abbrev pub by_subject : Role → Tree → Token → List Token → Option Statement
+by_subject Assigns s t ts = object_in s None ts
+by_subject Goes s t ts = going (Does s None NoObject) (goto_in ts)
+by_subject Follows s t ts = matching s (reading false (t ∷ ts))
+by_subject Touches s t ts = None
+
+-- behind the subject
+abbrev pub subject_then : Tree → List Token → Option Statement
+subject_then s [] = Some (Says (Does s None NoObject) NoGoto)
+subject_then s (t ∷ ts) = by_subject (role (shape_of t)) s t ts
+
+abbrev pub acting : Reading → Option Statement
+acting (Read None rest) = None
+acting (Read (Some s) rest) = subject_then s rest
+
+abbrev pub by_first : Role → Token → List Token → Option Statement
+by_first Assigns t ts = None
+by_first Goes t ts = going NoBody (goto_in ts)
+by_first Follows t ts = acting (reading true (t ∷ ts))
+by_first Touches t ts = acting (reading true (t ∷ ts))
+
+-- the statement that the tokens are read as, if they are one
+abbrev pub statement_in : List Token → Option Statement
+statement_in [] = Some (Says NoBody NoGoto)
+statement_in (t ∷ ts) = by_first (role (shape_of t)) t ts

@@ -1,0 +1,60 @@
+-- The tokens of a statement behind its label (own; after the SNOBOL4 book, chapter 1), part by part: each time the tokens of
+-- a part, and then the rest.
+use Rattle.std.specs.Prelude.{◌≡◌, Bool, true, List, [], ◌∷◌, Option, Some, None, ◌⊎◌}
+use Rattle.sno_token.specs.declared.Outcome.{Outcome}
+use Rattle.sno_token.specs.declared.Outcome.TheVariants.{Success, Failure}
+use Rattle.sno_token.specs.declared.Part.TheVariants.{Equals, Colon, On, Label}
+use Rattle.sno_token.specs.declared.Token.{Token}
+use Rattle.sno_token.specs.declared.Token.TheVariants as token
+use Rattle.sno_expression.specs.declared.tree.Sign.TheVariants.{Indirect}
+use Rattle.sno_expression.specs.Trees.{Tree, Unary}
+use Rattle.sno_expression.specs.Spelling.{SpellsTo}
+use Rattle.sno_statement.specs.Statements.{Target, To, Computed, Goto, NoGoto, Always, OnSuccess, OnFailure, OnBoth, Object, NoObject, NullObject, Gives, Body, NoBody, Does, Statement, Says}
+
+-- a target stands in parentheses
+abbrev pub TargetTo : Target → List Token → List Token → Type 0
+TargetTo (To l) ts rest = (b : Bool) × (c : Bool) × (d : Bool) × (e : Bool) × (ts ≡ token.Open b ∷ token.Part c d (Label l) ∷ token.Close e ∷ rest)
+TargetTo (Computed t) ts rest = (m : List Token) × (b : Bool) × (c : Bool) × (e : Bool) × (ts ≡ token.Open b ∷ m) × SpellsTo c (Unary Indirect t) m (token.Close e ∷ rest)
+
+abbrev pub OutcomeTo : Outcome → Target → List Token → List Token → Type 0
+OutcomeTo o t ts rest = (m : List Token) × (b : Bool) × (c : Bool) × (ts ≡ token.Part b c (On o) ∷ m) × TargetTo t m rest
+
+-- behind `:` one target, or one for each outcome in either order, or one of those
+abbrev pub LeadsTo : Goto → List Token → Type 0
+LeadsTo NoGoto ts = ⊥
+LeadsTo (Always t) ts = TargetTo t ts []
+LeadsTo (OnSuccess t) ts = OutcomeTo Success t ts []
+LeadsTo (OnFailure t) ts = OutcomeTo Failure t ts []
+LeadsTo (OnBoth s f) ts =
+    ((m : List Token) × OutcomeTo Success s ts m × OutcomeTo Failure f m [])
+    ⊎ ((m : List Token) × OutcomeTo Failure f ts m × OutcomeTo Success s m [])
+
+abbrev pub ColonTo : Goto → List Token → Type 0
+ColonTo g ts = (m : List Token) × (c : Bool) × (ts ≡ token.Part true c Colon ∷ m) × LeadsTo g m
+
+-- a goto begins with `:` after a blank
+abbrev pub GotoTo : Goto → List Token → Type 0
+GotoTo NoGoto ts = ts ≡ []
+GotoTo (Always t) ts = ColonTo (Always t) ts
+GotoTo (OnSuccess t) ts = ColonTo (OnSuccess t) ts
+GotoTo (OnFailure t) ts = ColonTo (OnFailure t) ts
+GotoTo (OnBoth s f) ts = ColonTo (OnBoth s f) ts
+
+-- a blank stands before a pattern
+abbrev pub PatternTo : Option Tree → List Token → List Token → Type 0
+PatternTo None ts rest = ts ≡ rest
+PatternTo (Some p) ts rest = SpellsTo true p ts rest
+
+-- `=` has a blank before it, and a blank or the end after it
+abbrev pub ObjectTo : Object → List Token → List Token → Type 0
+ObjectTo NoObject ts rest = ts ≡ rest
+ObjectTo NullObject ts rest = ts ≡ token.Part true true Equals ∷ rest
+ObjectTo (Gives t) ts rest = (m : List Token) × (ts ≡ token.Part true true Equals ∷ m) × SpellsTo true t m rest
+
+abbrev pub BodyTo : Body → List Token → List Token → Type 0
+BodyTo NoBody ts rest = ts ≡ rest
+BodyTo (Does s p o) ts rest = (m : List Token) × (n : List Token) × (b : Bool) × SpellsTo b s ts m × PatternTo p m n × ObjectTo o n rest
+
+-- the tokens are those of the statement
+abbrev pub Spells : Statement → List Token → Type 0
+Spells (Says b g) ts = (m : List Token) × BodyTo b ts m × GotoTo g m

@@ -1,0 +1,108 @@
+-- Statements without their labels, and the statements that the grammar allows (the SNOBOL4 book, Griswold, Poage and
+-- Polonsky, 2nd ed., chapter 1).
+use Rattle.std.specs.Prelude.{◌≡◌, ℕ, Bool, true, false, List, Option, Some, None, if◌then◌else◌}
+use Rattle.sno_expression.specs.declared.tree.Sign.TheVariants.{Indirect}
+use Rattle.sno_expression.specs.Trees.{Tree, Identifier, Keyword, Unary, HasLevels, IsOperand, HasVariables}
+use Rattle.sno_statement.specs.declared.walking.SubjectKind.{SubjectKind}
+use Rattle.sno_statement.specs.declared.walking.SubjectKind.TheVariants as kind
+
+-- where a goto leads: to a label, or by `$` and an element to the label that is its value
+pub data Target : Type 0 where
+  To : List ℕ → Target
+  Computed : Tree → Target
+
+pub data Goto : Type 0 where
+  NoGoto : Goto
+  Always : Target → Goto
+  OnSuccess : Target → Goto
+  OnFailure : Target → Goto
+  OnBoth : Target → Target → Goto  -- on success, on failure
+
+pub data Object : Type 0 where
+  NoObject : Object  -- no `=`
+  NullObject : Object  -- nothing after `=`
+  Gives : Tree → Object
+
+pub data Body : Type 0 where
+  NoBody : Body
+  Does : Tree → Option Tree → Object → Body  -- subject, pattern, object
+
+pub data Statement : Type 0 where
+  Says : Body → Goto → Statement
+
+abbrev pub TargetHasLevels : Target → Type 0
+TargetHasLevels (To l) = Unit {0}
+TargetHasLevels (Computed t) = HasLevels (Unary Indirect t)
+
+abbrev pub GotoHasLevels : Goto → Type 0
+GotoHasLevels NoGoto = Unit {0}
+GotoHasLevels (Always t) = TargetHasLevels t
+GotoHasLevels (OnSuccess t) = TargetHasLevels t
+GotoHasLevels (OnFailure t) = TargetHasLevels t
+GotoHasLevels (OnBoth s f) = TargetHasLevels s × TargetHasLevels f
+
+abbrev pub PatternHasLevels : Option Tree → Type 0
+PatternHasLevels None = Unit {0}
+PatternHasLevels (Some p) = HasLevels p
+
+abbrev pub ObjectHasLevels : Object → Type 0
+ObjectHasLevels NoObject = Unit {0}
+ObjectHasLevels NullObject = Unit {0}
+ObjectHasLevels (Gives t) = HasLevels t
+
+-- the subject is one element
+abbrev pub BodyHasLevels : Body → Type 0
+BodyHasLevels NoBody = Unit {0}
+BodyHasLevels (Does s p o) = IsOperand s × HasLevels s × PatternHasLevels p × ObjectHasLevels o
+
+abbrev pub StatementHasLevels : Statement → Type 0
+StatementHasLevels (Says b g) = BodyHasLevels b × GotoHasLevels g
+
+-- what a subject is to an assignment
+abbrev pub kind_of : Tree → SubjectKind
+kind_of (Identifier n) = kind.Variable
+kind_of (Unary Indirect t) = kind.Variable
+kind_of (Keyword n) = kind.Keyword
+kind_of _ = kind.Other
+
+-- may it be assigned to; is there a pattern
+abbrev pub can_be_set : SubjectKind → Bool → Bool
+can_be_set kind.Variable p = true
+can_be_set kind.Keyword p = if p then false else true
+can_be_set kind.Other p = false
+
+abbrev pub is_pattern : Option Tree → Bool
+is_pattern None = false
+is_pattern (Some p) = true
+
+abbrev pub CanBeSet : SubjectKind → Bool → Object → Type 0
+CanBeSet k p NoObject = Unit {0}
+CanBeSet k p _ = can_be_set k p ≡ true
+
+abbrev pub TargetHasVariables : Target → Type 0
+TargetHasVariables (To l) = Unit {0}
+TargetHasVariables (Computed t) = HasVariables (Unary Indirect t)
+
+abbrev pub GotoHasVariables : Goto → Type 0
+GotoHasVariables NoGoto = Unit {0}
+GotoHasVariables (Always t) = TargetHasVariables t
+GotoHasVariables (OnSuccess t) = TargetHasVariables t
+GotoHasVariables (OnFailure t) = TargetHasVariables t
+GotoHasVariables (OnBoth s f) = TargetHasVariables s × TargetHasVariables f
+
+abbrev pub PatternHasVariables : Option Tree → Type 0
+PatternHasVariables None = Unit {0}
+PatternHasVariables (Some p) = HasVariables p
+
+abbrev pub ObjectHasVariables : Object → Type 0
+ObjectHasVariables NoObject = Unit {0}
+ObjectHasVariables NullObject = Unit {0}
+ObjectHasVariables (Gives t) = HasVariables t
+
+-- where `=` stands the subject is a variable or, without pattern, a keyword
+abbrev pub BodyHasVariables : Body → Type 0
+BodyHasVariables NoBody = Unit {0}
+BodyHasVariables (Does s p o) = HasVariables s × PatternHasVariables p × ObjectHasVariables o × CanBeSet (kind_of s) (is_pattern p) o
+
+abbrev pub StatementHasVariables : Statement → Type 0
+StatementHasVariables (Says b g) = BodyHasVariables b × GotoHasVariables g

@@ -1,0 +1,188 @@
+//! The leftmost fault of a statement's tokens, found without a tree.
+
+ghost use Rattle.std.specs.Prelude.{◌≡◌, ◌<◌, IfOk, Some, length};
+ghost use Rattle.sno_expression.specs.Walking as shapes;
+ghost use Rattle.sno_statement.specs.Faults.{opens, kind_by, subject_kind, is_unset, note, least, noted_at, earlier, fault};
+ghost use Rattle.sno_statement.specs.Statements.{can_be_set};
+
+use crate::fault::{Fault, FaultKind};
+use crate::walking::{Field, Parens, Role, Stage, SubjectKind, Walk, may_end, role_of, walk_on};
+use sno_expression::{Shape, is_misfit, place_of, shape_of};
+use sno_token::{Mark, Token};
+use std::alloc::{AllocError, Global};
+
+fn opens_call(shape: Shape) -> bool
+    ensures { result ≡ shapes.opens_call shape }
+{
+    match shape {
+        Shape::Open(before) => !before,
+        Shape::Name(_)
+        | Shape::Constant(_)
+        | Shape::Mark(_, _, _)
+        | Shape::Close(_)
+        | Shape::Comma(_)
+        | Shape::Part(_, _, _) => false,
+    }
+}
+
+// Whether a parenthesis comes first that touches what stands before it.
+fn opens(tokens: &[Token]) -> bool
+    ensures { result ≡ opens tokens.now }
+{
+    match tokens.split_first() {
+        None => false,
+        Some((token, _)) => opens_call(shape_of(token)),
+    }
+}
+
+fn kind_by_mark(before: bool, after: bool, mark: Mark, call: bool) -> SubjectKind
+    ensures { result ≡ kind_by (Shape.Mark before after mark) call }
+{
+    match mark {
+        Mark::Dollar => SubjectKind::Variable,
+        Mark::Ampersand => SubjectKind::Keyword,
+        _ => SubjectKind::Other,
+    }
+}
+
+fn kind_by(shape: Shape, call: bool) -> SubjectKind
+    ensures { result ≡ kind_by shape call }
+{
+    match shape {
+        Shape::Name(_) => {
+            if call {
+                SubjectKind::Other
+            } else {
+                SubjectKind::Variable
+            }
+        }
+        Shape::Mark(before, after, mark) => kind_by_mark(before, after, mark, call),
+        Shape::Constant(_)
+        | Shape::Open(_)
+        | Shape::Close(_)
+        | Shape::Comma(_)
+        | Shape::Part(_, _, _) => { SubjectKind::Other }
+    }
+}
+
+fn subject_kind(tokens: &[Token]) -> SubjectKind
+    ensures { result ≡ subject_kind tokens.now }
+{
+    match tokens.split_first() {
+        None => SubjectKind::Other,
+        Some((token, rest)) => kind_by(shape_of(token), opens(rest)),
+    }
+}
+
+fn can_be_set(kind: SubjectKind, pattern: bool) -> bool
+    ensures { result ≡ can_be_set kind pattern }
+{
+    match kind {
+        SubjectKind::Variable => true,
+        SubjectKind::Keyword => !pattern,
+        SubjectKind::Other => false,
+    }
+}
+
+fn is_unset(kind: SubjectKind, field: Field, role: Role) -> bool
+    ensures { result ≡ is_unset kind field role }
+{
+    match role {
+        Role::Assigns => match field {
+            Field::Subject => !can_be_set(kind, false),
+            Field::Pattern => !can_be_set(kind, true),
+            Field::Object => false,
+            Field::Target(_) => false,
+        },
+        Role::Goes => false,
+        Role::Follows => false,
+        Role::Touches => false,
+    }
+}
+
+fn note(found: bool, at: usize) -> Option<usize>
+    ensures { result ≡ note found at }
+{
+    if found { Some(at) } else { None }
+}
+
+fn least(first: Option<usize>, second: Option<usize>) -> Option<usize>
+    ensures { result ≡ least first second }
+{
+    match first {
+        None => second,
+        Some(i) => match second {
+            None => Some(i),
+            Some(j) => { if i <= j { Some(i) } else { Some(j) } }
+        },
+    }
+}
+
+fn noted_at(kind: SubjectKind, i: usize, stage: Stage, shape: Shape) -> Option<usize>
+    ensures { result ≡ noted_at kind i stage shape }
+{
+    match stage {
+        Stage::In(field, place) => {
+            let element = note(is_misfit(place, shape), place_of(i, place));
+            let subject = note(is_unset(kind, field, role_of(shape)), 0);
+            least(element, subject)
+        }
+        Stage::First => None,
+        Stage::AfterEquals => None,
+        Stage::AfterColon => None,
+        Stage::AfterOutcome(_) => None,
+        Stage::InTarget(_) => None,
+        Stage::AfterLabel(_) => None,
+        Stage::AfterTarget(_) => None,
+    }
+}
+
+fn earlier(noted: Option<usize>, refusal: Option<Fault>) -> Option<Fault>
+    ensures { result ≡ earlier noted refusal }
+{
+    match noted {
+        Some(at) => Some(Fault {
+            at,
+            kind: FaultKind::NoVariable,
+        }),
+        None => refusal,
+    }
+}
+
+/// The leftmost fault of a statement's tokens, those behind its label, or `None` where they have none.
+///
+/// # Errors
+///
+/// Where a growth was refused.
+pub fn find_fault(alloc: Global, tokens: &[Token]) -> Result<Option<Fault>, AllocError>
+    ensures { IfOk result (λ f. f ≡ fault tokens.now) }
+{
+    let kind = subject_kind(tokens);
+    let mut walk = Walk {
+        parens: Parens::Bottom,
+        stage: Stage::First,
+    };
+    let mut noted: Option<usize> = None;
+    for i in 0..tokens.len() {
+        let shape = shape_of(&tokens[i]);
+        let here = noted_at(kind, i, walk.stage, shape);
+        match walk_on(alloc, walk, shape)? {
+            Ok(next) => {
+                walk = next;
+                noted = least(noted, here);
+            }
+            Err(why) => return Ok(earlier(noted, Some(Fault { at: i, kind: why }))),
+        }
+    }
+    if may_end(&walk) {
+        Ok(earlier(noted, None))
+    } else {
+        Ok(earlier(
+            noted,
+            Some(Fault {
+                at: tokens.len(),
+                kind: FaultKind::Unfit,
+            }),
+        ))
+    }
+}

@@ -1,0 +1,14 @@
+//! Laws of the grammar; nothing runs here.
+
+ghost use Rattle.sno_statement.specs.Laws.{OneStatement, Taken};
+
+/// A list of tokens spells at most one statement.
+pub fn one_statement()
+    ensures { OneStatement }
+{}
+
+/// The walk that finds faults takes the tokens to the end exactly where a statement spells them, whether or not there is a
+/// variable in each place that wants one.
+pub fn taken()
+    ensures { Taken }
+{}

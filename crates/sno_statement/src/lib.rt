@@ -1,0 +1,17 @@
+//! Statements of SNOBOL4 behind their labels: their trees, which tokens spell them, and how they are read.
+#![tactic(auto)]
+
+mod fault;
+mod finding;
+pub mod laws;
+mod parsing;
+mod reading;
+mod statement;
+mod walking;
+
+pub use fault::{Fault, FaultKind};
+pub use parsing::parse_statement;
+pub use statement::{Body, Goto, Object, Statement, Target};
+
+#[cfg(test)]
+mod tests;
