@@ -1,0 +1,116 @@
+-- The first refusal of a program (own; after Griswold, Poage and Polonsky, "The SNOBOL4 Programming Language", 2nd edition,
+-- chapter 1).
+use Rattle.std.specs.Prelude.{ℕ, ◌+◌, nat_lt, not, bytes_eq, List, [], ◌∷◌, length, get_or, Option, Some, None, Result, Ok, Err, if◌then◌else◌}
+use Rattle.std.specs.List.{position_or_len}
+use Rattle.indexmap.specs.IndexMap.{insert_entry}
+use Rattle.mon_text.specs.Characters.{is_blank}
+use Rattle.mon_text.specs.Lines.{words}
+use Rattle.sno_cards.specs.declared.refusal.Place.{Place}
+use Rattle.sno_cards.specs.declared.refusal.Refusal.{Refusal}
+use Rattle.sno_cards.specs.declared.refusal.SyntaxCode.{SyntaxCode}
+use Rattle.sno_cards.specs.declared.refusal.SyntaxCode.TheVariants.{BadConstant, BlankMissing, Unexpected, VariableNeeded, StatementTooLarge, BadEnd}
+use Rattle.sno_cards.specs.declared.text.Placed.{Placed}
+use Rattle.sno_cards.specs.Programs.{ProgramText}
+use Rattle.sno_cards.specs.Texts.{text_of}
+use Rattle.sno_lexer.specs.declared.fault.FaultKind.{FaultKind as LexKind}
+use Rattle.sno_lexer.specs.declared.fault.FaultKind.TheVariants as lex
+use Rattle.sno_lexer.specs.declared.fault.LexFault.{LexFault}
+use Rattle.sno_lexer.specs.Listed.{TokenList}
+use Rattle.sno_lexer.specs.Stage.{lexed}
+use Rattle.sno_statement.specs.declared.fault.FaultKind.{FaultKind}
+use Rattle.sno_statement.specs.declared.fault.FaultKind.TheVariants.{MissingBlank, Unfit, NoVariable}
+use Rattle.sno_statement.specs.declared.fault.Fault.{Fault}
+use Rattle.sno_statement.specs.Faults.{fault}
+use Rattle.sno_syntax.specs.declared.start.Start.{Start}
+use Rattle.sno_syntax.specs.Labels.{LabelList, label_in, label_fault}
+use Rattle.sno_syntax.specs.Places.{place_at, end_of, refused}
+use Rattle.sno_syntax.specs.Starts.{start_of}
+
+-- A STATEMENT
+
+abbrev pub code_of_lex : LexKind → SyntaxCode
+code_of_lex lex.BadConstant = BadConstant
+code_of_lex lex.Foreign = Unexpected
+code_of_lex lex.TooMany = StatementTooLarge
+
+abbrev pub code_of_fault : FaultKind → SyntaxCode
+code_of_fault MissingBlank = BlankMissing
+code_of_fault Unfit = Unexpected
+code_of_fault NoVariable = VariableNeeded
+
+-- where a token stands, or the end where there is none
+abbrev pub token_place : List Placed → List ℕ → ℕ → Place
+token_place text places i = if nat_lt i (length places) then place_at text (get_or places i 0) else end_of text
+
+abbrev pub lex_refusal : List Placed → LexFault → Refusal
+lex_refusal text f = refused (code_of_lex f.kind) (place_at text f.at)
+
+abbrev pub fault_refusal : List Placed → List ℕ → Fault → Refusal
+fault_refusal text places f = refused (code_of_fault f.kind) (token_place text places f.at)
+
+abbrev pub grammar_refusal : List Placed → List ℕ → Option Fault → Option Refusal
+grammar_refusal text places None = None
+grammar_refusal text places (Some f) = Some (fault_refusal text places f)
+
+-- the token stage, and then the grammar
+abbrev pub stage_refusal : List Placed → Result TokenList LexFault → Option Refusal
+stage_refusal text (Err f) = Some (lex_refusal text f)
+stage_refusal text (Ok list) = grammar_refusal text list.places (fault list.tokens)
+
+-- the tokens of a statement are those behind its label
+abbrev pub tokens_of : List Placed → Result TokenList LexFault
+tokens_of text = lexed (text_of text) (length (label_in (text_of text)))
+
+abbrev pub label_of : List Placed → List ℕ
+label_of text = label_in (text_of text)
+
+-- of the label, else what comes later; a label is refused where it begins
+abbrev pub label_first : List Placed → Option SyntaxCode → Option Refusal → Option Refusal
+label_first text (Some code) later = Some (refused code (place_at text 0))
+label_first text None later = later
+
+-- of a statement, where these labels are defined before it
+abbrev pub statement_refusal : LabelList → List Placed → Option Refusal
+statement_refusal labels text = label_first text (label_fault labels (label_of text)) (stage_refusal text (tokens_of text))
+
+-- ALL STATEMENTS
+
+abbrev pub with_label : LabelList → List ℕ → ℕ → LabelList
+with_label labels [] index = labels
+with_label labels (c ∷ cs) index = insert_entry bytes_eq labels (c ∷ cs) index
+
+abbrev pub either : Option Refusal → Option Refusal → Option Refusal
+either (Some refusal) later = Some refusal
+either None later = later
+
+-- of the statements from an index on
+abbrev pub statements_refusal : LabelList → ℕ → List (List Placed) → Option Refusal
+statements_refusal labels index [] = None
+statements_refusal labels index (text ∷ texts) =
+    either (statement_refusal labels text) (statements_refusal (with_label labels (label_of text) index) (index + 1) texts)
+
+-- the labels of the statements from an index on, and those before
+abbrev pub labels_from : LabelList → ℕ → List (List Placed) → LabelList
+labels_from labels index [] = labels
+labels_from labels index (text ∷ texts) = labels_from (with_label labels (label_of text) index) (index + 1) texts
+
+abbrev pub labels_in : List (List Placed) → LabelList
+labels_in texts = labels_from [] 0 texts
+
+-- THE PROGRAM
+
+-- where a text begins that is not blank
+abbrev pub begin_of : List Placed → Place
+begin_of text = place_at text (position_or_len (λ c. not (is_blank c)) (text_of text))
+
+abbrev pub end_refusal : List Placed → Option Start → Option Refusal
+end_refusal rest (Some start) = None
+end_refusal rest None = Some (refused BadEnd (begin_of rest))
+
+-- where the run begins, if the END line says it
+abbrev pub start_in : ProgramText → Option Start
+start_in program = start_of (length program.statements) (labels_in program.statements) (words (text_of program.end_rest))
+
+-- statement by statement, and then the END line
+abbrev pub syntax_refusal : ProgramText → Option Refusal
+syntax_refusal program = either (statements_refusal [] 0 program.statements) (end_refusal program.end_rest (start_in program))

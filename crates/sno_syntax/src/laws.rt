@@ -1,0 +1,12 @@
+//! What holds of programs and the cards that spell them, each the contract of a function that does nothing.
+ghost use Rattle.sno_syntax.specs.Laws.{OneProgram, NotRefused};
+
+/// Cards spell at most one program: precedence, the sides of operators and blanks leave no choice.
+pub fn one_program()
+    ensures { OneProgram }
+{}
+
+/// No program of the language is refused: where cards spell a program, they have no refusal.
+pub fn not_refused()
+    ensures { NotRefused }
+{}

@@ -1,0 +1,62 @@
+//! Where a run of a program begins.
+ghost use Rattle.std.specs.Prelude.{◌≡◌, map, IfOk};
+ghost use Rattle.mon_text.specs.Lines.{words};
+ghost use Rattle.sno_syntax.specs.Starts.{first_start, start_named, start_of};
+
+use crate::label::{Label, Labels, is_end};
+use std::alloc::{AllocError, Global};
+
+/// Where a run begins.
+#[derive(Clone, Copy, Debug, PartialEq, Eq)]
+pub enum Start {
+    /// At the statement of this index, counted from 0.
+    Statement(usize),
+    /// At the END line: the run ends at once.
+    End,
+}
+
+fn first_start(count: usize) -> Start
+    ensures { result ≡ first_start count }
+{
+    if count == 0 {
+        Start::End
+    } else {
+        Start::Statement(0)
+    }
+}
+
+fn start_named(alloc: Global, labels: &Labels, label: &[u8]) -> Result<Option<Start>, AllocError>
+    ensures { IfOk result (λ start. start ≡ start_named labels.now label.now) }
+{
+    if is_end(label) {
+        return Ok(Some(Start::End));
+    }
+    let label = Label::from_slice(alloc, label)?;
+    Ok(labels.find(&label).map(Start::Statement))
+}
+
+fn words(alloc: Global, text: &[u8]) -> Result<Vec<&[u8]>, AllocError>
+    ensures { IfOk result (λ found. map (λ word. word.now) found.items ≡ words text.now) }
+{
+    text.split(|byte| *byte == b' ')
+        .filter(|word| !word.is_empty())
+        .collect(alloc)
+}
+
+/// What the rest of an END line says, where there are so many statements with these labels: where the run begins, or
+/// nothing where it isn't one label.
+pub(crate) fn start_of(
+    alloc: Global,
+    count: usize,
+    labels: &Labels,
+    rest: &[u8],
+) -> Result<Option<Start>, AllocError>
+    ensures { IfOk result (λ start. start ≡ start_of count labels.now (words rest.now)) }
+{
+    let words = words(alloc, rest)?;
+    match words.as_slice() {
+        [] => Ok(Some(first_start(count))),
+        [word] => start_named(alloc, labels, word),
+        _ => Ok(None),
+    }
+}
