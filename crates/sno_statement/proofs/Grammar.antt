@@ -11,12 +11,13 @@ use Rattle.sno_statement.specs.declared.statement.Statement.{Statement as AState
 use Rattle.sno_statement.specs.declared.walking.Stage.{Stage}
 use Rattle.sno_statement.specs.declared.walking.Stage.TheVariants.{In}
 use Rattle.sno_statement.specs.declared.walking.SubjectKind.{SubjectKind}
-use Rattle.sno_statement.specs.Statements.{Statement}
+use Rattle.sno_statement.specs.Statements.{Statement, StatementHasLevels, StatementHasVariables}
+use Rattle.sno_statement.specs.Spelling.{Spells}
 use Rattle.sno_statement.specs.Walking.{Walk, At, take, begins, may_end, role}
 use Rattle.sno_statement.specs.Faults.{FaultAt, refused_as, then_on, refusal_from, refusal, subject_kind, is_unset, note, least, noted_at, noted_here, then_note, noted_from, noted, earlier, fault}
 use Rattle.sno_statement.specs.Reading.{statement_in}
 use Rattle.sno_statement.specs.Told.{statement_of, Parsed}
-use Rattle.sno_statement.specs.Laws.{OneStatement, Taken}
+use Rattle.sno_statement.specs.Laws.{NotesExactly, OneStatement, Taken}
 use Rattle.sno_statement.proofs.Completing.{statement_read}
 use Rattle.sno_statement.proofs.Sound.{statement_sound}
 use Rattle.sno_statement.proofs.Counts.{bad_statement, statement_good, statement_variables, count_at, count, plus, on_walk, walked, bads}
@@ -168,6 +169,16 @@ uncounted k (t ∷ ts) w i n e d = at (take w (shape_of t)) e d (λ v c b. uncou
         on v (plus_some (count k w (shape_of t)) n (walked k v ts) e (uncounted_here k i w (shape_of t) (none_least (noted_here k i w (shape_of t)) (noted_from k (i + 1) v ts) d)))
         (none_later (noted_here k i w (shape_of t)) (noted_from k (i + 1) v ts) d)
 
+all_seen : (ts : List Token) (s : Statement) → StatementHasLevels s → Spells s ts → walked (subject_kind ts) begins ts ≡ Some (bad_statement s)
+all_seen ts s v p = statement_walks ts ∙ ap bads (statement_read s ts v p)
+
+no_variable_noted : (ts : List Token) (s : Statement) → StatementHasLevels s → Spells s ts → StatementHasVariables s → noted ts ≡ None
+no_variable_noted ts s v p h = unnoted (subject_kind ts) ts begins 0 (all_seen ts s v p ∙ ap Some (statement_good s h))
+
+pub notes_exactly : NotesExactly
+notes_exactly ts s v p =
+    (λ a. statement_variables s (uncounted (subject_kind ts) ts begins 0 (bad_statement s) (all_seen ts s v p) a), no_variable_noted ts s v p)
+
 not_noted : (o : Option ℕ) (f : Option Fault) → earlier o f ≡ None → o ≡ None
 not_noted None f e = refl
 not_noted (Some i) f e = cc
@@ -181,9 +192,7 @@ pub parsed_err : (ts : List Token) (f : Fault) → fault ts ≡ Some f → Parse
 parsed_err ts f e = (
   e,
   λ s v h p.
-      let r = statement_read s ts v p in
-      let z : walked (subject_kind ts) begins ts ≡ Some 0 = statement_walks ts ∙ (ap bads r ∙ ap Some (statement_good s h)) in
-      let a : noted ts ≡ None = unnoted (subject_kind ts) ts begins 0 z in
+      let a : noted ts ≡ None = no_variable_noted ts s v p h in
       let b : refusal ts ≡ None = (taken ts).1 s v p in
       let d : fault ts ≡ None = ap (λ (o : Option ℕ). earlier o (refusal ts)) a ∙ b in
       cc,
@@ -193,9 +202,8 @@ parsed_err ts f e = (
 pub parsed_ok : (ts : List Token) (s : AStatement) → fault ts ≡ None → statement_in ts ≡ Some (statement_of s) → Parsed ts (Ok s)
 parsed_ok ts s e r =
     let q = statement_sound ts (statement_of s) r in
-    let a : noted ts ≡ None = not_noted (noted ts) (refusal ts) e in
-    let n = uncounted (subject_kind ts) ts begins 0 (bad_statement (statement_of s)) (statement_walks ts ∙ ap bads r) a in
-    (q.0, statement_variables (statement_of s) n, q.1, λ u v p. let k = statement_read u ts v p in cc)
+    let h = (notes_exactly ts (statement_of s) q.0 q.1).0 (not_noted (noted ts) (refusal ts) e) in
+    (q.0, h, q.1, λ u v p. let k = statement_read u ts v p in cc)
 
 -- and one is read
 pub one_read : (ts : List Token) → fault ts ≡ None → statement_in ts ≡ None → ⊥

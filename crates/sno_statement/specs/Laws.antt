@@ -1,9 +1,9 @@
 -- What holds of statements, tokens and walks.
 use Rattle.std.specs.Prelude.{◌≡◌, List, None}
 use Rattle.sno_token.specs.declared.Token.{Token}
-use Rattle.sno_statement.specs.Statements.{Statement, StatementHasLevels}
+use Rattle.sno_statement.specs.Statements.{Statement, StatementHasLevels, StatementHasVariables}
 use Rattle.sno_statement.specs.Spelling.{Spells}
-use Rattle.sno_statement.specs.Faults.{refusal}
+use Rattle.sno_statement.specs.Faults.{refusal, noted}
 
 -- a list of tokens spells at most one statement
 abbrev pub OneStatement : Type 0
@@ -14,3 +14,7 @@ abbrev pub Taken : Type 0
 Taken = (ts : List Token) →
     (refusal ts ≡ None → (s : Statement) × StatementHasLevels s × Spells s ts)
     × ((s : Statement) → StatementHasLevels s → Spells s ts → refusal ts ≡ None)
+
+-- nothing is noted exactly where the statement has a variable in each place that wants one
+abbrev pub NotesExactly : Type 0
+NotesExactly = (ts : List Token) (s : Statement) → StatementHasLevels s → Spells s ts → (noted ts ≡ None → StatementHasVariables s) × (StatementHasVariables s → noted ts ≡ None)

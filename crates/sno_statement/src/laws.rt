@@ -1,6 +1,6 @@
 //! Laws of the grammar; nothing runs here.
 
-ghost use Rattle.sno_statement.specs.Laws.{OneStatement, Taken};
+ghost use Rattle.sno_statement.specs.Laws.{NotesExactly, OneStatement, Taken};
 
 /// A list of tokens spells at most one statement.
 pub fn one_statement()
@@ -11,4 +11,9 @@ pub fn one_statement()
 /// variable in each place that wants one.
 pub fn taken()
     ensures { Taken }
+{}
+
+/// The walk notes no place that wants a variable and has none exactly where the statement that the tokens spell has none.
+pub fn notes_exactly()
+    ensures { NotesExactly }
 {}
