@@ -1,3 +1,4 @@
 pub mod Listed
 pub mod Kinds
 pub mod Stage
+pub mod Laws

@@ -6,6 +6,7 @@
 pub mod begin;
 pub mod character;
 pub mod fault;
+pub mod laws;
 pub mod list;
 pub mod make;
 pub mod stage;
