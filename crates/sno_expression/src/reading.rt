@@ -75,7 +75,10 @@ fn fill(alloc: Global, hole: Hole, operand: Tree) -> Result<Tree, AllocError>
 {
     match hole {
         Hole::Begin => Ok(operand),
-        Hole::After(tree, operator) => push(alloc, operator, operand, tree),
+        Hole::After(mut tree, operator) => {
+            push(alloc, operator, operand, &mut tree)?;
+            Ok(tree)
+        }
         Hole::Signed(sign, rest) => {
             let operand = Box::new(alloc, operand)?;
             fill(alloc, Box::into_inner(rest), Tree::Unary(sign, operand))

@@ -1,5 +1,5 @@
 //! Trees of expressions, and how one more operand joins one.
-ghost use Rattle.std.specs.Prelude.{◌≡◌, IfOk};
+ghost use Rattle.std.specs.Prelude.{◌≡◌, IfOk, OnOk};
 ghost use Rattle.sno_expression.specs.Marks.{operator_of, prefix_of, wants, wants_sign};
 ghost use Rattle.sno_expression.specs.Trees.{level, from_right, goes_right};
 ghost use Rattle.sno_expression.specs.Trees as trees;
@@ -9,6 +9,7 @@ ghost use Rattle.sno_expression.specs.Told.{tree_of, args_of};
 use mon_text::Line;
 use sno_token::{Constant, Mark};
 use std::alloc::{AllocError, Global};
+use std::mem;
 
 /// What joins two operands.
 #[derive(Clone, Copy)]
@@ -202,32 +203,45 @@ fn join(alloc: Global, operator: Operator, left: Tree, right: Tree) -> Result<Tr
     Ok(Tree::Binary(operator, left, right))
 }
 
-// One more operand at the right end, as deep as the operator's level puts it.
+// One more operand on the right of a whole tree.
+fn place(
+    alloc: Global,
+    operator: Operator,
+    operand: Tree,
+    tree: &mut Tree,
+) -> Result<(), AllocError>
+    ensures { OnOk result (tree_of tree.new ≡ trees.Binary operator (tree_of tree.old) (tree_of operand)) }
+{
+    let left = mem::replace(tree, Tree::Constant(Constant::Integer(0)));
+    *tree = join(alloc, operator, left, operand)?;
+    Ok(())
+}
+
+// One more operand at the right end, as deep as the operator's level puts it. Where a growth was refused, the tree is of
+// no more use.
 pub(crate) fn push(
     alloc: Global,
     operator: Operator,
     operand: Tree,
-    tree: Tree,
-) -> Result<Tree, AllocError>
-    ensures { IfOk result (λ t. tree_of t ≡ push operator (tree_of operand) (tree_of tree)) }
+    tree: &mut Tree,
+) -> Result<(), AllocError>
+    ensures { OnOk result (tree_of tree.new ≡ push operator (tree_of operand) (tree_of tree.old)) }
 {
     match tree {
-        Tree::Binary(outer, left, right) => {
-            if goes_right(operator, outer) {
-                let deeper = push(alloc, operator, operand, Box::into_inner(right))?;
-                let deeper = Box::new(alloc, deeper)?;
-                Ok(Tree::Binary(outer, left, deeper))
+        Tree::Binary(outer, _, right) => {
+            if goes_right(operator, *outer) {
+                push(alloc, operator, operand, right)
             } else {
-                join(alloc, operator, Tree::Binary(outer, left, right), operand)
+                place(alloc, operator, operand, tree)
             }
         }
-        Tree::Identifier(name) => join(alloc, operator, Tree::Identifier(name), operand),
-        Tree::Constant(value) => join(alloc, operator, Tree::Constant(value), operand),
-        Tree::Keyword(name) => join(alloc, operator, Tree::Keyword(name), operand),
-        Tree::Unevaluated(name) => join(alloc, operator, Tree::Unevaluated(name), operand),
-        Tree::Group(inner) => join(alloc, operator, Tree::Group(inner), operand),
-        Tree::Call(name, args) => join(alloc, operator, Tree::Call(name, args), operand),
-        Tree::Unary(sign, inner) => join(alloc, operator, Tree::Unary(sign, inner), operand),
+        Tree::Identifier(_)
+        | Tree::Constant(_)
+        | Tree::Keyword(_)
+        | Tree::Unevaluated(_)
+        | Tree::Group(_)
+        | Tree::Call(_, _)
+        | Tree::Unary(_, _) => place(alloc, operator, operand, tree),
     }
 }
 
