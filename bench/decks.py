@@ -11,6 +11,7 @@ The cases, at their whole size (HALVES is 2, and 1 gives half of it):
   names      1,000 sets with 100 named entries each, and 400 $CATALOG cards, as many at half the size
 
 decks.py sets SETS COMMANDS: so many sets as in `commands`, and so many commands but $CATALOG and $DELETE.
+decks.py programs STATEMENTS: no deck, but the cards of a SNOBOL4 program: so many statements of 1,000 tokens each.
 """
 
 import sys
@@ -147,6 +148,31 @@ def some_sets(sets, commands):
     yield "$STOP"
 
 
+PHRASE = "F(A,'B') + 1 * (C D)"  # 13 tokens
+
+
+def cards_of(words, on_a_card):
+    """Continuations with so many of the words on each."""
+    for first in range(0, len(words), on_a_card):
+        yield "+ " + " ".join(words[first : first + on_a_card])
+
+
+def statement(i, statements):
+    """A statement of 1,000 tokens, the most that there may be: 2, then 989, and the 9 of its goto.
+
+    The first of two has some of everything; the second is one concatenation, the deepest tree that there may be.
+    """
+    yield "L%d X =" % i
+    yield from cards_of(["V"] * 989, 90) if i % 2 else cards_of([PHRASE] * 76 + ["1"], 8)
+    yield "+ :S(L%d)F(L%d)" % (i * 37 % statements, (i + 1) % statements)
+
+
+def program(statements):
+    for i in range(statements):
+        yield from statement(i, statements)
+    yield "END L0"
+
+
 CASES = {
     "cards": lambda halves: many_sets(sets=500 * halves, records=5, cards=10_000 * halves, length=40),
     "records": lambda halves: one_set(records=50_000 * halves, cards=20, length=80),
@@ -168,6 +194,8 @@ if __name__ == "__main__":
     words = sys.argv[1:]
     if len(words) == 3 and words[0] == "sets":
         write_lines(some_sets(int(words[1]), int(words[2])), sys.stdout)
+    elif len(words) == 2 and words[0] == "programs":
+        write_lines(program(int(words[1])), sys.stdout)
     elif len(words) in (1, 2) and words[0] in CASES:
         write_deck(words[0], int(words[1]) if len(words) == 2 else 2, sys.stdout)
     else:
