@@ -6,10 +6,9 @@
 pub mod count;
 pub mod line;
 pub mod name;
+pub mod stop;
 
 pub use count::{BadNumber, put_number, read_count};
 pub use line::{Line, LineError, read_line, split_words};
 pub use name::{BadName, Name, read_name};
-
-#[cfg(test)]
-mod tests;
+pub use stop::Stop;

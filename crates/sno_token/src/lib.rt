@@ -1,7 +1,7 @@
 //! The tokens of a statement, as the token stage gives them and the grammar takes them.
 //!
 //! Blanks have a meaning in SNOBOL4: they tell a binary operator from a unary one, and alone they concatenate. So a token
-//! knows whether a blank stands before it, and where it matters also whether a blank follows it.
+//! knows whether a blank stands before it, and whether a blank or the end of the statement follows it.
 #![tactic(auto)]
 
 use mon_text::Line;
@@ -63,18 +63,26 @@ pub enum Part {
     Label(Line),
 }
 
-/// A token. Its first `bool` tells whether a blank stands before it, and the second, where there is one, whether a blank or
-/// the end of the statement follows it.
+/// What a token is, whatever blanks stand round it.
 #[derive(Debug, Drop)]
-pub enum Token {
-    /// An identifier.
-    Name(bool, Line),
-    Constant(bool, Constant),
-    Mark(bool, bool, Mark),
+pub enum TokenKind {
+    Identifier(Line),
+    Constant(Constant),
+    Mark(Mark),
     /// `(`
-    Open(bool),
+    Open,
     /// `)`
-    Close(bool),
-    Comma(bool),
-    Part(bool, bool, Part),
+    Close,
+    Comma,
+    Part(Part),
+}
+
+/// A token, and whether blanks stand round it.
+#[derive(Debug, Drop)]
+pub struct Token {
+    /// Does a blank stand before it? At the beginning of a statement's body there is one.
+    pub blank_before: bool,
+    /// Does a blank, or the end of the statement, follow it?
+    pub blank_after: bool,
+    pub kind: TokenKind,
 }

@@ -1,0 +1,2 @@
+//! Tests of the crates of the monitor, above them all, so that none of these is proved again for its tests.
+#![tactic(auto)]
