@@ -12,6 +12,3 @@ pub mod table;
 pub use access::{Decider, Decision, check};
 pub use account::{Account, Groups};
 pub use table::{AccountError, Accounts, MOST_GROUPS};
-
-#[cfg(test)]
-mod tests;

@@ -5,7 +5,7 @@ ghost use Rattle.mon_access.specs.Accounts.{find_account, HaveDifferentNames};
 
 use crate::account::Account;
 use indexmap::IndexMap;
-use mon_text::Name;
+use mon_text::{Name, Stop};
 use std::alloc::Global;
 use std::marker::Model;
 use thiserror::Error;
@@ -43,9 +43,6 @@ pub enum AccountError {
     /// The account has more than 16 groups beside its primary one.
     #[error("C2 TOO MANY GROUPS")]
     TooManyGroups,
-    /// A growth was refused.
-    #[error("out of memory")]
-    Memory,
 }
 
 impl Accounts {
@@ -63,25 +60,25 @@ impl Accounts {
     /// # Errors
     ///
     /// `AccountTwice` where the table has an account of that name; else `TooManyGroups` where the account has more than
-    /// 16 groups; else `Memory` where a growth was refused. The table is then unchanged.
-    pub fn add(&mut self, account: Account) -> Result<(), AccountError>
+    /// 16 groups; `Memory` where a growth was refused. The table is then unchanged.
+    pub fn add(&mut self, account: Account) -> Result<(), Stop<AccountError>>
         ensures added { OnOk result (self.new ≡ self.old ++ account ∷ []) }
         ensures unchanged { OnErr result (self.new ≡ self.old) }
 
         // A name that is there is told before too many groups.
-        ensures twice { IsErrOf result AccountError.AccountTwice ↔ IsSome (find_account self.old account.name) }
-        ensures too_many { IsErrOf result AccountError.TooManyGroups
+        ensures twice { IsErrOf result (Stop.Refused AccountError.AccountTwice) ↔ IsSome (find_account self.old account.name) }
+        ensures too_many { IsErrOf result (Stop.Refused AccountError.TooManyGroups)
             ↔ ((find_account self.old account.name ≡ None) × (MOST_GROUPS < length account.groups)) }
     {
         if self.find(&account.name).is_some() {
-            return Err(AccountError::AccountTwice);
+            return Err(Stop::Refused(AccountError::AccountTwice));
         }
         if account.groups.len() > MOST_GROUPS {
-            return Err(AccountError::TooManyGroups);
+            return Err(Stop::Refused(AccountError::TooManyGroups));
         }
         self.by_name
             .insert(account.name.copy(), account)
-            .map_err(|_| AccountError::Memory)?;
+            .map_err(|_| Stop::Memory)?;
         Ok(())
     }
 
