@@ -2,39 +2,38 @@
 use Rattle.std.proofs.Common.{◌≡◌, ◌∙◌, ap, sym, subst, refl, ℕ, ◌+◌, Bool, true, false, cond, List, [], ◌∷◌, Option}
 use Rattle.std.specs.Prelude.{Result, Ok, Err, count_by, ◌==◌, ◌&&◌}
 use Rattle.std.specs.List.{list_any}
+use Rattle.mon_text.specs.declared.stop.Stop.{Stop}
+use Rattle.mon_text.specs.declared.stop.Stop.TheVariants.{Refused, Memory}
+use Rattle.mon_text.specs.Stops.{Gives}
 use Rattle.mon_acl.specs.declared.entries.Entry.{Entry}
 use Rattle.mon_acl.specs.declared.entries.Tag.TheVariants.{UserObj, GroupObj, Mask, Other}
 use Rattle.mon_acl.specs.declared.refusals.AclError.{AclError}
-use Rattle.mon_acl.specs.declared.refusals.AclError.TheVariants.{BadTag, BadQualifier, BadPerms, Missing, Twice, NoMask, TooMany, Memory}
+use Rattle.mon_acl.specs.declared.refusals.AclError.TheVariants.{Twice, TooMany}
 use Rattle.mon_acl.specs.Entries.{is_for, qualifier, is_named, has_tag, IsCanonical}
 use Rattle.mon_acl.specs.Refusals.{◌>>=◌, entry_of, joined, entries_on, entries_of, lacking}
-use Rattle.mon_acl.specs.Reading.{Refuses, Gives, added, piece_added, put_in, arranged, canonical_entries_of, read_pieces, whole}
+use Rattle.mon_acl.specs.Reading.{added, piece_added, put_in, arranged, canonical_entries_of, read_pieces, whole}
 use Rattle.mon_acl.proofs.Order.{any_arranged, count_arranged, put_sorted}
 
 abbrev pub sorted_on : ℕ → List Entry → List (List ℕ) → Result (List Entry) AclError
 sorted_on n es [] = Ok es
 sorted_on n es (p ∷ ps) = piece_added n p es >>= λ more. sorted_on (n + 1) more ps
 
--- a refusal is not Memory, and stays where more would follow
-pub refuse : {A : Type 0} (e : AclError) (read : Result A AclError) → read ≡ Err e → Refuses e read
-refuse (BadTag n) read h = h
-refuse (BadQualifier n) read h = h
-refuse (BadPerms n) read h = h
-refuse (Missing t) read h = h
-refuse (Twice n) read h = h
-refuse NoMask read h = h
-refuse (TooMany n) read h = h
-refuse Memory read h = tt
+-- a call that stops tells of what is read where it stops, and of what follows
+abbrev pub Stops : {A : Type 0} → Stop AclError → Result A AclError → Type 0
+Stops (Refused e) read = read ≡ Err e
+Stops Memory read = Unit {0}
 
-pub refuse_then : {A B : Type 0} (e : AclError) (read : Result A AclError) (f : A → Result B AclError) → Refuses e read → Refuses e (read >>= f)
-refuse_then (BadTag n) read f h = ap (λ r. r >>= f) h
-refuse_then (BadQualifier n) read f h = ap (λ r. r >>= f) h
-refuse_then (BadPerms n) read f h = ap (λ r. r >>= f) h
-refuse_then (Missing t) read f h = ap (λ r. r >>= f) h
-refuse_then (Twice n) read f h = ap (λ r. r >>= f) h
-refuse_then NoMask read f h = ap (λ r. r >>= f) h
-refuse_then (TooMany n) read f h = ap (λ r. r >>= f) h
-refuse_then Memory read f h = tt
+pub stops_then : {A B : Type 0} (s : Stop AclError) (read : Result A AclError) (f : A → Result B AclError) → Stops s read → Stops s (read >>= f)
+stops_then (Refused e) read f h = ap (λ r. r >>= f) h
+stops_then Memory read f h = tt
+
+pub stops_of_gives : {X B : Type 0} (seen : X → B) (s : Stop AclError) (read : Result B AclError) → Gives seen (Err s) read → Stops s read
+stops_of_gives seen (Refused e) read h = h
+stops_of_gives seen Memory read h = tt
+
+pub exit : {X B : Type 0} (seen : X → B) (r : Result X (Stop AclError)) (s : Stop AclError) (read : Result B AclError) → r ≡ Err s → Stops s read → Gives seen r read
+exit {X = X} seen r (Refused e) read is h = subst (λ (t : Result X (Stop AclError)). Gives seen t read) (sym is) h
+exit {X = X} seen r Memory read is h = subst (λ (t : Result X (Stop AclError)). Gives seen t read) (sym is) tt
 
 -- one more entry, among those in any order and among those in canonical order
 added_arranged : (n : ℕ) (e : Entry) (es : List Entry) → added n e (arranged es) ≡ (joined n e es >>= λ more. Ok (arranged more))
@@ -86,9 +85,6 @@ piece_sorted n p es more s h = at (entry_of n p) h
     at (Ok e) h = added_sorted n e es more s h
     at (Err refusal) h = absurd (let k : Err refusal ≡ Ok more = h in cc)
 
-pub exit : {X B : Type 0} (seen : X → B) (r : Result X AclError) (e : AclError) (read : Result B AclError) → r ≡ Err e → Refuses e read → Gives seen r read
-exit {X = X} seen r e read is h = subst (λ (s : Result X AclError). Gives seen s read) (sym is) h
-
 -- the list of the loop's entries is the list that is read, where it lacks nothing
 pub read_whole : (texts : List (List ℕ)) (es : List Entry) (lacks : Option AclError) → canonical_entries_of texts ≡ Ok es → lacks ≡ lacking es → read_pieces texts ≡ whole lacks es
 read_whole texts es lacks h k = at (entries_of texts) h
@@ -99,32 +95,10 @@ read_whole texts es lacks h k = at (entries_of texts) h
         ap (λ (o : Option AclError). whole o (arranged all)) (sym (lacking_arranged all) ∙ ap lacking same ∙ sym k) ∙ ap (whole lacks) same
     at (Err e) h = absurd (let t : Err e ≡ Ok es = h in cc)
 
--- what the entries are refused for, the list is
-pub read_refused : (texts : List (List ℕ)) (e : AclError) → Refuses e (canonical_entries_of texts) → Refuses e (read_pieces texts)
-read_refused texts e h = at (entries_of texts) e h
-  where
-    at : (r : Result (List Entry) AclError) (e : AclError) → Refuses e (r >>= λ all. Ok (arranged all)) → Refuses e (r >>= λ all. whole (lacking all) (arranged all))
-    at (Err d) (BadTag n) h = h
-    at (Err d) (BadQualifier n) h = h
-    at (Err d) (BadPerms n) h = h
-    at (Err d) (Missing t) h = h
-    at (Err d) (Twice n) h = h
-    at (Err d) NoMask h = h
-    at (Err d) (TooMany n) h = h
-    at (Err d) Memory h = tt
-    at (Ok all) (BadTag n) h = absurd (let t : Ok (arranged all) ≡ Err (BadTag n) = h in cc)
-    at (Ok all) (BadQualifier n) h = absurd (let t : Ok (arranged all) ≡ Err (BadQualifier n) = h in cc)
-    at (Ok all) (BadPerms n) h = absurd (let t : Ok (arranged all) ≡ Err (BadPerms n) = h in cc)
-    at (Ok all) (Missing g) h = absurd (let t : Ok (arranged all) ≡ Err (Missing g) = h in cc)
-    at (Ok all) (Twice n) h = absurd (let t : Ok (arranged all) ≡ Err (Twice n) = h in cc)
-    at (Ok all) NoMask h = absurd (let t : Ok (arranged all) ≡ Err NoMask = h in cc)
-    at (Ok all) (TooMany n) h = absurd (let t : Ok (arranged all) ≡ Err (TooMany n) = h in cc)
-    at (Ok all) Memory h = tt
-
--- a piece that is refused refuses the text
-pub piece_refused : (texts : List (List ℕ)) (n : ℕ) (es : List Entry) (piece : List ℕ) (ps : List (List ℕ)) (e : AclError) →
+-- a piece at which the reading stops stops that of the text
+pub piece_stops : (texts : List (List ℕ)) (n : ℕ) (es : List Entry) (piece : List ℕ) (ps : List (List ℕ)) (s : Stop AclError) →
     sorted_on 1 [] texts ≡ (piece_added n piece es >>= λ more. sorted_on (n + 1) more ps) →
-    Refuses e (piece_added n piece es) → Refuses e (canonical_entries_of texts)
-piece_refused texts n es piece ps e reads h =
-    subst (λ (r : Result (List Entry) AclError). Refuses e r) (sym reads ∙ sorted_as_read 1 [] texts)
-    (refuse_then e (piece_added n piece es) (λ more. sorted_on (n + 1) more ps) h)
+    Stops s (piece_added n piece es) → Stops s (canonical_entries_of texts)
+piece_stops texts n es piece ps s reads h =
+    subst (λ (r : Result (List Entry) AclError). Stops s r) (sym reads ∙ sorted_as_read 1 [] texts)
+    (stops_then s (piece_added n piece es) (λ more. sorted_on (n + 1) more ps) h)

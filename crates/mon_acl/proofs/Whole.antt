@@ -1,13 +1,15 @@
 -- The laws, and what they say of a call that reads. What holds of the texts of entries holds of both forms.
 use Rattle.std.proofs.Common.{◌≡◌, ◌∙◌, ap, sym, subst, refl, ℕ, List, Option, Some, None}
-use Rattle.std.specs.Prelude.{◌↔◌, Result, Ok, Err, IfOk, IfErr}
+use Rattle.std.specs.Prelude.{◌↔◌, Result, Ok, Err, IfOk, IsErrOf}
 use Rattle.std.proofs.lemmas.List.Sorted.{IsPermutation-refl, IsPermutation-sym, IsPermutation-trans}
+use Rattle.mon_text.specs.declared.stop.Stop.{Stop}
+use Rattle.mon_text.specs.declared.stop.Stop.TheVariants.{Refused}
+use Rattle.mon_text.specs.Stops.{Gives}
 use Rattle.mon_acl.specs.declared.entries.Entry.{Entry}
 use Rattle.mon_acl.specs.declared.refusals.AclError.{AclError}
-use Rattle.mon_acl.specs.declared.refusals.AclError.TheVariants.{BadTag, BadQualifier, BadPerms, Missing, Twice, NoMask, TooMany, Memory}
 use Rattle.mon_acl.specs.Texts.{pieces, long_pieces, SpellList}
 use Rattle.mon_acl.specs.Refusals.{◌>>=◌, entries_of, lacking, refusal_in, first_refusal}
-use Rattle.mon_acl.specs.Reading.{Gives, IsRefusal, whole, arranged, read_pieces, read_short, read_long}
+use Rattle.mon_acl.specs.Reading.{whole, arranged, read_pieces, read_short, read_long}
 use Rattle.mon_acl.specs.Printing.{short_form, mask_of, long_form}
 use Rattle.mon_acl.specs.Laws.{ReadingSpells, OneList, RefusedOrSpells, ReadsBack, OneForm, OneOrder, AnyOrder, LongReadingSpells, OneLongList, LongRefusedOrSpells, LongReadsBack, OneLongForm, AnyLineOrder, CommentsSayNothing}
 use Rattle.mon_acl.proofs.Listed as listed
@@ -106,21 +108,15 @@ one_order es v =
 
 -- ---- a call that reads
 
-pub gives_list : (texts : List (List ℕ)) (r : Result (List Entry) AclError) → Gives (λ es. es) r (read_pieces texts) → IfOk r (λ es. SpellList texts es)
+pub gives_list : (texts : List (List ℕ)) (r : Result (List Entry) (Stop AclError)) → Gives (λ es. es) r (read_pieces texts) → IfOk r (λ es. SpellList texts es)
 gives_list texts (Ok es) h = listed.read_is_list texts es h
-gives_list texts (Err e) h = tt
+gives_list texts (Err s) h = tt
 
-pub gives_only : (texts : List (List ℕ)) (r : Result (List Entry) AclError) → Gives (λ es. es) r (read_pieces texts) →
+pub gives_only : (texts : List (List ℕ)) (r : Result (List Entry) (Stop AclError)) → Gives (λ es. es) r (read_pieces texts) →
     (es : List Entry) → SpellList texts es → Gives (λ es. es) r (Ok es)
 gives_only texts r h es s = subst (λ (read : Result (List Entry) AclError). Gives (λ es. es) r read) (listed.list_is_read texts es s) h
 
-pub gives_refusal : (texts : List (List ℕ)) (r : Result (List Entry) AclError) → Gives (λ es. es) r (read_pieces texts) → IfErr r (λ e. IsRefusal e (first_refusal texts))
-gives_refusal texts (Ok es) h = tt
-gives_refusal texts (Err (BadTag n)) h = refusal_of_err texts (BadTag n) h
-gives_refusal texts (Err (BadQualifier n)) h = refusal_of_err texts (BadQualifier n) h
-gives_refusal texts (Err (BadPerms n)) h = refusal_of_err texts (BadPerms n) h
-gives_refusal texts (Err (Missing t)) h = refusal_of_err texts (Missing t) h
-gives_refusal texts (Err (Twice n)) h = refusal_of_err texts (Twice n) h
-gives_refusal texts (Err NoMask) h = refusal_of_err texts NoMask h
-gives_refusal texts (Err (TooMany n)) h = refusal_of_err texts (TooMany n) h
-gives_refusal texts (Err Memory) h = tt
+pub gives_refusal : (texts : List (List ℕ)) (r : Result (List Entry) (Stop AclError)) → Gives (λ es. es) r (read_pieces texts) →
+    (refusal : AclError) → IsErrOf r (Refused refusal) → first_refusal texts ≡ Some refusal
+gives_refusal texts r h refusal is =
+    refusal_of_err texts refusal (subst (λ (s : Result (List Entry) (Stop AclError)). Gives (λ es. es) s (read_pieces texts)) is h)

@@ -1,30 +1,14 @@
 -- Reading a text in one go, as the code does: the list in canonical order, or the first refusal.
-use Rattle.std.specs.Prelude.{◌≡◌, ℕ, ◌+◌, if◌then◌else◌, List, [], ◌∷◌, length, Option, Some, None, Result, Ok, Err, Bool}
+use Rattle.std.specs.Prelude.{ℕ, ◌+◌, if◌then◌else◌, List, [], ◌∷◌, length, Option, Some, None, Result, Ok, Err, Bool}
 use Rattle.std.specs.List.{slice_split}
 use Rattle.std.specs.Ordering.{is_lt}
 use Rattle.mon_acl.specs.declared.entries.Entry.{Entry}
 use Rattle.mon_acl.specs.declared.pieces.Form.{Form}
 use Rattle.mon_acl.specs.declared.pieces.Form.TheVariants.{Short, Long}
 use Rattle.mon_acl.specs.declared.refusals.AclError.{AclError}
-use Rattle.mon_acl.specs.declared.refusals.AclError.TheVariants.{Memory}
 use Rattle.mon_acl.specs.Entries.{compared}
 use Rattle.mon_acl.specs.Texts.{pieces, long_pieces}
 use Rattle.mon_acl.specs.Refusals.{◌>>=◌, entry_of, joined, entries_of, lacking}
-
--- an error of a call is the reading's, unless memory ran out
-abbrev pub Refuses : {A : Type 0} → AclError → Result A AclError → Type 0
-Refuses Memory read = Unit {0}
-Refuses e read = read ≡ Err e
-
--- what a call answers gives the reading, seen through its model
-abbrev pub Gives : {A B : Type 0} → (A → B) → Result A AclError → Result B AclError → Type 0
-Gives seen (Ok x) read = read ≡ Ok (seen x)
-Gives seen (Err e) read = Refuses e read
-
--- which refusal an error is
-abbrev pub IsRefusal : AclError → Option AclError → Type 0
-IsRefusal Memory refusal = Unit {0}
-IsRefusal e refusal = refusal ≡ Some e
 
 -- the parts of what stands behind a separator, where there is one
 abbrev pub parts_behind : (ℕ → Bool) → Option (List ℕ) → List (List ℕ)

@@ -1,12 +1,14 @@
 //! The entries of a list while it is read: kept in canonical order.
 ghost use Rattle.std.specs.Prelude.{◌≡◌, ◌==◌, ◌≤◌, ◌&&◌, true, false, count_by, insert, length, IfSome, MatchOption};
 ghost use Rattle.std.specs.List.{list_any};
+ghost use Rattle.mon_text.specs.Stops.{Gives};
 ghost use Rattle.mon_acl.specs.Entries.{has_tag, is_named, is_for, qualifier, IsCanonical};
 ghost use Rattle.mon_acl.specs.Refusals.{lacking};
-ghost use Rattle.mon_acl.specs.Reading.{Gives, added, put_in};
+ghost use Rattle.mon_acl.specs.Reading.{added, put_in};
 
 use crate::entries::{Entry, Tag};
 use crate::refusals::AclError;
+use mon_text::Stop;
 use smallvec::SmallVec;
 
 /// How many entries for a name a list has at the most.
@@ -20,19 +22,19 @@ pub(crate) fn add(
     entries: &mut SmallVec<Entry, ENTRIES_INLINE>,
     entry: Entry,
     n: u64,
-) -> Result<(), AclError>
+) -> Result<(), Stop<AclError>>
     requires { IsCanonical entries.old.items }
     ensures { Gives (λ _. entries.new.items) result (added n entry entries.old.items) }
 {
     let Some(place) = free_place(entries.as_slice(), &entry) else {
-        return Err(AclError::Twice(n));
+        return Err(Stop::Refused(AclError::Twice(n)));
     };
     if is_one_too_many(entries.as_slice(), &entry) {
-        return Err(AclError::TooMany(n));
+        return Err(Stop::Refused(AclError::TooMany(n)));
     }
     match entries.insert(place, entry) {
         Ok(()) => Ok(()),
-        Err(_) => Err(AclError::Memory),
+        Err(_) => Err(Stop::Memory),
     }
 }
 

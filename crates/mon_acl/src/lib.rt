@@ -11,8 +11,6 @@ pub mod list;
 mod pieces;
 mod reading;
 pub mod refusals;
-#[cfg(test)]
-mod tests;
 
 pub use entries::{Entry, Perms, Tag};
 pub use list::Acl;

@@ -1,17 +1,20 @@
 //! Permission lists, and their text forms.
-ghost use Rattle.std.specs.Prelude.{◌≡◌, ◌++◌, List, length, flat_map, IfOk, IfErr, OnOk, slice_get, option_copied};
+ghost use Rattle.std.specs.Prelude.{◌≡◌, ◌++◌, List, length, flat_map, Some, IfOk, IsErrOf, OnOk, slice_get, option_copied};
+ghost use Rattle.mon_text.specs.Stops.{Gives};
 ghost use Rattle.mon_acl.specs.Printing.{short_form, next_text, mask_of, long_line, long_form};
 ghost use Rattle.mon_acl.specs.declared.entries.Entry.{Entry};
+ghost use Rattle.mon_acl.specs.declared.refusals.AclError.{AclError};
 ghost use Rattle.mon_acl.specs.Texts.{IsShortText, IsLongText};
 ghost use Rattle.mon_acl.specs.Refusals.{acl_refusal, long_refusal};
 ghost use Rattle.mon_acl.specs.Entries.{IsAcl, IsCanonical};
-ghost use Rattle.mon_acl.specs.Reading.{Gives, IsRefusal, pieces_in, piece_added, canonical_entries_of, read_pieces, read_short, read_long};
+ghost use Rattle.mon_acl.specs.Reading.{pieces_in, piece_added, canonical_entries_of, read_pieces, read_short, read_long};
 
 use crate::arranging::{ENTRIES_INLINE, add, lacking};
 use crate::entries::{Entry, Perms, Tag};
 use crate::pieces::Form;
 use crate::reading::entry_of;
 use crate::refusals::AclError;
+use mon_text::Stop;
 use smallvec::SmallVec;
 use std::alloc::{AllocError, Global};
 use std::marker::Model;
@@ -43,10 +46,10 @@ impl Acl {
     ///
     /// The first refusal of the text: entry by entry, and then what the whole list lacks.
     /// `Memory` where a growth was refused.
-    pub fn parse_short(alloc: Global, text: &[u8]) -> Result<Acl, AclError>
+    pub fn parse_short(alloc: Global, text: &[u8]) -> Result<Acl, Stop<AclError>>
         ensures spelled { IfOk result (λ acl. IsShortText text.now acl) }
         ensures only { (es : List Entry) → IsShortText text.now es → Gives (λ acl. acl) result (Ok es) }
-        ensures refused { IfErr result (λ error. IsRefusal error (acl_refusal text.now)) }
+        ensures refused { (refusal : AclError) → IsErrOf result (Stop.Refused refusal) → acl_refusal text.now ≡ Some refusal }
         ensures computed { Gives (λ acl. acl) result (read_short text.now) }
     {
         read_list(alloc, Form::Short, text)
@@ -59,10 +62,10 @@ impl Acl {
     ///
     /// The first refusal of the text: entry by entry, and then what the whole list lacks. Lines without an entry are
     /// not counted. `Memory` where a growth was refused.
-    pub fn parse_long(alloc: Global, text: &[u8]) -> Result<Acl, AclError>
+    pub fn parse_long(alloc: Global, text: &[u8]) -> Result<Acl, Stop<AclError>>
         ensures spelled { IfOk result (λ acl. IsLongText text.now acl) }
         ensures only { (es : List Entry) → IsLongText text.now es → Gives (λ acl. acl) result (Ok es) }
-        ensures refused { IfErr result (λ error. IsRefusal error (long_refusal text.now)) }
+        ensures refused { (refusal : AclError) → IsErrOf result (Stop.Refused refusal) → long_refusal text.now ≡ Some refusal }
         ensures computed { Gives (λ acl. acl) result (read_long text.now) }
     {
         read_list(alloc, Form::Long, text)
@@ -147,12 +150,12 @@ impl Acl {
 }
 
 /// The list that a text spells.
-fn read_list(alloc: Global, form: Form, text: &[u8]) -> Result<Acl, AclError>
+fn read_list(alloc: Global, form: Form, text: &[u8]) -> Result<Acl, Stop<AclError>>
     ensures { Gives (λ acl. acl) result (read_pieces (pieces_in form text.now)) }
 {
     let entries = read_entries(alloc, form, text)?;
     match lacking(entries.as_slice()) {
-        Some(refusal) => Err(refusal),
+        Some(refusal) => Err(Stop::Refused(refusal)),
         None => Ok(Acl { entries }),
     }
 }
@@ -162,7 +165,7 @@ fn read_entries(
     alloc: Global,
     form: Form,
     text: &[u8],
-) -> Result<SmallVec<Entry, ENTRIES_INLINE>, AclError>
+) -> Result<SmallVec<Entry, ENTRIES_INLINE>, Stop<AclError>>
     ensures { Gives (λ entries. entries.items) result (canonical_entries_of (pieces_in form text.now)) }
 {
     let mut entries = SmallVec::new(alloc);
@@ -181,12 +184,14 @@ fn read_piece(
     entries: &mut SmallVec<Entry, ENTRIES_INLINE>,
     n: u64,
     piece: &[u8],
-) -> Result<(), AclError>
+) -> Result<(), Stop<AclError>>
     requires { IsCanonical entries.old.items }
     ensures { Gives (λ _. entries.new.items) result (piece_added n piece.now entries.old.items) }
 {
-    let entry = entry_of(n, piece)?;
-    add(entries, entry, n)
+    match entry_of(n, piece) {
+        Ok(entry) => add(entries, entry, n),
+        Err(refusal) => Err(Stop::Refused(refusal)),
+    }
 }
 
 /// Appends entries, a comma before each.

@@ -26,7 +26,4 @@ pub enum AclError {
     /// It is the 101st named entry.
     #[error("A7 TOO MANY ENTRY {0}")]
     TooMany(u64),
-    /// A growth was refused.
-    #[error("out of memory")]
-    Memory,
 }

@@ -2,3 +2,4 @@ pub mod Characters
 pub mod Names
 pub mod Lines
 pub mod Counts
+pub mod Stops

@@ -2,9 +2,9 @@ use Rattle.std.proofs.Common.{rules, ◌∙◌, ◌+◌, ap, sym, subst, [], ari
 use Rattle.std.proofs.lemmas.Result.{err_from_is_err_and}
 use Rattle.mon_acl.specs.Entries.{IsCanonical}
 use Rattle.mon_acl.specs.Refusals.{◌>>=◌}
-use Rattle.mon_acl.specs.Reading.{Refuses, pieces_in, pieces_left, canonical_entries_of}
+use Rattle.mon_acl.specs.Reading.{pieces_in, pieces_left, canonical_entries_of}
 use Rattle.mon_acl.proofs.Order.{none_sorted}
-use Rattle.mon_acl.proofs.Steps.{sorted_on, exit, piece_refused, piece_sorted, sorted_as_read}
+use Rattle.mon_acl.proofs.Steps.{Stops, sorted_on, exit, stops_of_gives, piece_stops, piece_sorted, sorted_as_read}
 use Rattle.mon_acl.proofs.list.read_entries.Goals as goal
 
 pub loop-piece-init : goal.loop-piece-init
@@ -19,10 +19,10 @@ returns-in_err-read_piece c =
     let p = err_from_is_err_and c.from_residual.result c.from_residual.ensures.1 in
     let texts = pieces_in c.args.form c.args.text.now in
     exit _ c.from_residual.result p.0 (canonical_entries_of texts) p.1
-    (subst (λ e. Refuses e (canonical_entries_of texts)) (sym p.2)
-    (piece_refused texts c.loop-piece.n c.loop-piece.entries.items c.in-Some.piece.now (pieces_left c.args.form (option_copied c.in-Some.after)) c.in_err-read_piece.field-0.0
+    (subst (λ s. Stops s (canonical_entries_of texts)) (sym p.2)
+    (piece_stops texts c.loop-piece.n c.loop-piece.entries.items c.in-Some.piece.now (pieces_left c.args.form (option_copied c.in-Some.after)) c.in_err-read_piece.field-0.0
     (c.loop-piece.invariant.reads ∙ ap (sorted_on c.loop-piece.n c.loop-piece.entries.items) c.in-Some.ensures.next)
-    c.in_err-read_piece.ensures))
+    (stops_of_gives {X = Unit {0}} (λ _. c.read_piece.new.entries.items) c.in_err-read_piece.field-0.0 _ c.in_err-read_piece.ensures)))
 
 pub loop-piece-preserved : goal.loop-piece-preserved
 loop-piece-preserved c = record {

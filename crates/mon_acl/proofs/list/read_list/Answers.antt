@@ -1,14 +1,13 @@
 use Rattle.std.proofs.Common.{Some, None, ◌∙◌, ap, sym}
 use Rattle.mon_acl.specs.Refusals.{lacking}
 use Rattle.mon_acl.specs.Reading.{pieces_in}
-use Rattle.mon_acl.proofs.Steps.{refuse, read_whole}
+use Rattle.mon_acl.proofs.Steps.{read_whole}
 use Rattle.mon_acl.proofs.Valid.{read_acl}
 use Rattle.mon_acl.proofs.list.read_list.Goals as goal
 
 pub returns-in-Some : goal.returns-in-Some
 returns-in-Some c =
-    refuse c.in-Some.refusal _
-    (read_whole (pieces_in c.args.form c.args.text.now) c.in_ok-entries.entries.items (Some c.in-Some.refusal) c.in_ok-entries.ensures (sym c.in-Some.is ∙ c.lacking.ensures ∙ ap lacking c.as_slice.ensures))
+    read_whole (pieces_in c.args.form c.args.text.now) c.in_ok-entries.entries.items (Some c.in-Some.refusal) c.in_ok-entries.ensures (sym c.in-Some.is ∙ c.lacking.ensures ∙ ap lacking c.as_slice.ensures)
 
 pub returns-in-None : goal.returns-in-None
 returns-in-None c =
