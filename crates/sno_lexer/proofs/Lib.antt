@@ -1,6 +1,5 @@
 mod Runs
 mod Loop
 mod Places
-mod Examples
 mod Words
 mod Telling

@@ -3,25 +3,25 @@ use Rattle.std.proofs.Common.{arith, ◌≡◌, ℕ, ◌+◌, ◌≤◌, ◌<◌
 use Rattle.std.specs.Prelude.{Result, Ok, Err}
 use Rattle.std.proofs.lemmas.List.Elements.{All-nil, All-cons}
 use Rattle.sno_token.specs.declared.Token.{Token}
-use Rattle.sno_lexer.specs.declared.begin.Spot.{Spot}
-use Rattle.sno_lexer.specs.declared.stage.Move.{Move}
-use Rattle.sno_lexer.specs.declared.stage.Move.TheVariants.{Pass, Take, Refuse}
+use Rattle.sno_lexer.specs.declared.begin.Context.{Context}
+use Rattle.sno_lexer.specs.declared.lexing.Action.{Action}
+use Rattle.sno_lexer.specs.declared.lexing.Action.TheVariants.{Pass, Take, Refuse}
 use Rattle.sno_lexer.specs.declared.fault.LexFault.{LexFault}
 use Rattle.sno_lexer.specs.Listed.{TokenList}
-use Rattle.sno_lexer.specs.Stage.{StandsBefore, after, lexed, on_move, stage, start, step, with_first}
-use Rattle.sno_lexer.specs.Kinds.{token_of}
+use Rattle.sno_lexer.specs.inner.Lexing.{StandsBefore, after, lexed, on_action, stage, start, step, with_first}
+use Rattle.sno_lexer.specs.inner.Classes.{token_of}
 
 with_first_stands : (token : Token) (at end : ℕ) (r : Result TokenList LexFault) → at < end → StandsBefore end r → StandsBefore end (with_first token at r)
-with_first_stands token at end (Ok list) lt h = All-cons (λ (x : ℕ). x < end) at list.places lt h
+with_first_stands token at end (Ok list) lt h = All-cons (λ (x : ℕ). x < end) at list.offsets lt h
 with_first_stands token at end (Err fault) lt h = h
 
-on_move_stands : (s : Spot) (at end : ℕ) (text : List ℕ) (move : Move) (rest : Spot → Result TokenList LexFault) → at < end
-    → ((next : Spot) → StandsBefore end (rest next)) → StandsBefore end (on_move s at text move rest)
+on_move_stands : (s : Context) (at end : ℕ) (text : List ℕ) (action : Action) (rest : Context → Result TokenList LexFault) → at < end
+    → ((next : Context) → StandsBefore end (rest next)) → StandsBefore end (on_action s at text action rest)
 on_move_stands s at end text (Pass next) rest lt h = h next
-on_move_stands s at end text (Take kind) rest lt h = with_first_stands (token_of s kind text) at end (rest (after s kind text)) lt (h (after s kind text))
-on_move_stands s at end text (Refuse kind) rest lt h = lt
+on_move_stands s at end text (Take class) rest lt h = with_first_stands (token_of s class text) at end (rest (after s class text)) lt (h (after s class text))
+on_move_stands s at end text (Refuse class) rest lt h = lt
 
-stage_stands : (text : List ℕ) (s : Spot) (at end : ℕ) → (0 < length text → at + length text ≤ end) → StandsBefore end (stage s at text)
+stage_stands : (text : List ℕ) (s : Context) (at end : ℕ) → (0 < length text → at + length text ≤ end) → StandsBefore end (stage s at text)
 stage_stands [] s at end h = All-nil (λ (x : ℕ). x < end)
 stage_stands (c ∷ cs) s at end h =
     let here : at + length (c ∷ cs) ≤ end = h (omega arith) in

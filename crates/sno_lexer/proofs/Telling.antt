@@ -8,32 +8,32 @@ use Rattle.std.proofs.lemmas.Bool.Decides.{nat_tests}
 use Rattle.mon_text.specs.Characters.{is_blank}
 use Rattle.mon_text.specs.Lines.{is_line}
 use Rattle.sno_token.specs.declared.Token.{Token}
-use Rattle.sno_lexer.specs.declared.begin.Kind.{Kind}
-use Rattle.sno_lexer.specs.declared.begin.Kind.TheVariants.{Name, Label, Integer, Literal, Operator, Open, Close, Comma, Equals, Colon, On}
-use Rattle.sno_lexer.specs.declared.begin.Spot.{Spot}
-use Rattle.sno_lexer.specs.declared.stage.Move.TheVariants.{Pass}
+use Rattle.sno_lexer.specs.declared.begin.Class.{Class}
+use Rattle.sno_lexer.specs.declared.begin.Class.TheVariants.{Identifier, Label, Integer, Literal, Operator, Open, Close, Comma, Equals, Colon, On}
+use Rattle.sno_lexer.specs.declared.begin.Context.{Context}
+use Rattle.sno_lexer.specs.declared.lexing.Action.TheVariants.{Pass}
 use Rattle.sno_lexer.specs.declared.fault.FaultKind.{FaultKind}
 use Rattle.sno_lexer.specs.declared.fault.FaultKind.TheVariants.{Foreign, TooMany}
 use Rattle.sno_lexer.specs.declared.fault.LexFault.{LexFault}
-use Rattle.sno_lexer.specs.Kinds.{text_of, further, kind_of, let_in_if_good, is_one_too_many, found, token_with, token_of, blank_follows, is_blank_or_end}
+use Rattle.sno_lexer.specs.inner.Classes.{text_of, further, class_of, let_in_if_good, is_one_too_many, found, token_of, blank_follows, is_blank_or_end}
 use Rattle.sno_lexer.specs.Listed.{TokenList}
-use Rattle.sno_lexer.specs.Stage.{after, taken, on_move, with_first, no_tokens, stage, start}
-use Rattle.sno_lexer.specs.Laws.{SaysAfter, Tells, TokensTellTheText, begins_blank, says_before}
+use Rattle.sno_lexer.specs.inner.Lexing.{after, taken, on_action, with_first, no_tokens, stage, start}
+use Rattle.sno_lexer.specs.Laws.{Tells, TokensTellTheText, begins_blank}
 use Rattle.sno_lexer.proofs.Words.{Whole, kind_whole}
 
 -- ONE TOKEN
 
-let_in_kind : (k kind : Kind) (a b : Bool) → (if a then Err Foreign else if b then Err TooMany else Ok k) ≡ Ok kind → k ≡ kind
-let_in_kind k kind true b e = cc
-let_in_kind k kind false true e = cc
-let_in_kind k kind false false e = cc
+let_in_kind : (k class : Class) (a b : Bool) → (if a then Err Foreign else if b then Err TooMany else Ok k) ≡ Ok class → k ≡ class
+let_in_kind k class true b e = cc
+let_in_kind k class false true e = cc
+let_in_kind k class false false e = cc
 
-found_at : (s : Spot) (text : List ℕ) (kind : Kind) (r : Result Kind FaultKind) → let_in_if_good s text r ≡ Ok kind → r ≡ Ok kind
-found_at s text kind (Ok k) e = ap Ok (let_in_kind k kind (not (is_line (text_of k text))) (is_one_too_many s k) e)
-found_at s text kind (Err fault) e = cc
+found_at : (s : Context) (text : List ℕ) (class : Class) (r : Result Class FaultKind) → let_in_if_good s text r ≡ Ok class → r ≡ Ok class
+found_at s text class (Ok k) e = ap Ok (let_in_kind k class (not (is_line (text_of k text))) (is_one_too_many s k) e)
+found_at s text class (Err fault) e = cc
 
-found_whole : (s : Spot) (c : ℕ) (cs : List ℕ) (kind : Kind) → found s (c ∷ cs) ≡ Ok kind → Whole s kind c cs
-found_whole s c cs kind e = kind_whole s c cs kind (found_at s (c ∷ cs) kind (kind_of s (c ∷ cs)) e)
+found_whole : (s : Context) (c : ℕ) (cs : List ℕ) (class : Class) → found s (c ∷ cs) ≡ Ok class → Whole s class c cs
+found_whole s c cs class e = kind_whole s c cs class (found_at s (c ∷ cs) class (class_of s (c ∷ cs)) e)
 
 or_false : (b : Bool) → b ≡ (b || false)
 or_false true = refl
@@ -43,44 +43,18 @@ or_true : (b : Bool) → true ≡ (b || true)
 or_true true = refl
 or_true false = refl
 
-before_of : (before behind : Bool) (kind : Kind) (text : List ℕ) → says_before (token_with before behind kind text) ≡ before
-before_of before behind Name text = refl
-before_of before behind Label text = refl
-before_of before behind (Integer value) text = refl
-before_of before behind Literal text = refl
-before_of before behind (Operator mark) text = refl
-before_of before behind Open text = refl
-before_of before behind Close text = refl
-before_of before behind Comma text = refl
-before_of before behind Equals text = refl
-before_of before behind Colon text = refl
-before_of before behind (On outcome) text = refl
-
-after_of : (before behind follows : Bool) (kind : Kind) (text : List ℕ) → behind ≡ follows → SaysAfter (token_with before behind kind text) follows
-after_of before behind follows Name text e = tt
-after_of before behind follows Label text e = e
-after_of before behind follows (Integer value) text e = tt
-after_of before behind follows Literal text e = tt
-after_of before behind follows (Operator mark) text e = e
-after_of before behind follows Open text e = tt
-after_of before behind follows Close text e = tt
-after_of before behind follows Comma text e = tt
-after_of before behind follows Equals text e = e
-after_of before behind follows Colon text e = e
-after_of before behind follows (On outcome) text e = e
-
 behind_is : (cs : List ℕ) (n : ℕ) → is_blank_or_end (slice_get cs n) ≡ begins_blank (drop n cs)
 behind_is [] n = rw (drop-nil n) refl
 behind_is (c ∷ cs) zero = refl
 behind_is (c ∷ cs) (suc n) = behind_is cs n
 
 -- a token and what follows it
-with_token : (s : Spot) (at c : ℕ) (cs : List ℕ) (kind : Kind) (tokens : List Token) (places : List ℕ) → Whole s kind c cs
-    → Tells (at + 1 + further kind (c ∷ cs)) false tokens places (drop (further kind (c ∷ cs)) cs)
-    → Tells at s.after_blank (token_of s kind (c ∷ cs) ∷ tokens) (at ∷ places) (c ∷ cs)
-with_token s at c cs kind tokens places w h =
-    let f = further kind (c ∷ cs) in
-    let behind = blank_follows kind (c ∷ cs) in
+with_token : (s : Context) (at c : ℕ) (cs : List ℕ) (class : Class) (tokens : List Token) (offsets : List ℕ) → Whole s class c cs
+    → Tells (at + 1 + further class (c ∷ cs)) false tokens offsets (drop (further class (c ∷ cs)) cs)
+    → Tells at s.after_blank (token_of s class (c ∷ cs) ∷ tokens) (at ∷ offsets) (c ∷ cs)
+with_token s at c cs class tokens offsets w h =
+    let f = further class (c ∷ cs) in
+    let behind = blank_follows class (c ∷ cs) in
     let l = length-take-le f cs w.0 in
     let p : at + 1 + f ≡ at + length (c ∷ take f cs) = omega (arith, l) in
     let t : c ∷ cs ≡ c ∷ (take f cs ++ drop f cs) = ap (λ (x : List ℕ). c ∷ x) (sym (take-append-drop f cs)) in
@@ -92,18 +66,18 @@ with_token s at c cs kind tokens places w h =
       refl,
       z,
       w.1,
-      before_of s.after_blank behind kind (text_of kind (c ∷ cs)) ∙ or_false s.after_blank,
-      after_of s.after_blank behind (begins_blank (drop f cs)) kind (text_of kind (c ∷ cs)) (behind_is cs f),
-      subst (λ (x : ℕ). Tells x false tokens places (drop f cs)) p h,
+      or_false s.after_blank,
+      behind_is cs f,
+      subst (λ (x : ℕ). Tells x false tokens offsets (drop f cs)) p h,
     )
 
 -- a blank before what is told
-with_blank : (at c : ℕ) (cs : List ℕ) (blank : Bool) (tokens : List Token) (places : List ℕ) → is_blank c ≡ true
-    → Tells (at + 1) true tokens places cs → Tells at blank tokens places (c ∷ cs)
+with_blank : (at c : ℕ) (cs : List ℕ) (blank : Bool) (tokens : List Token) (offsets : List ℕ) → is_blank c ≡ true
+    → Tells (at + 1) true tokens offsets cs → Tells at blank tokens offsets (c ∷ cs)
 with_blank at c cs blank [] [] e h = rw (e, h) refl
-with_blank at c cs blank (t ∷ ts) (p ∷ ps) e (blanks, word, rest, whole, are, place, written, before, behind, later) =
+with_blank at c cs blank (t ∷ ts) (p ∷ ps) e (blanks, word, rest, whole, are, offset, written, before, behind, later) =
     let a : list_all is_blank (c ∷ blanks) ≡ true = rw (e, are) refl in
-    let q : p ≡ at + length (c ∷ blanks) = omega (arith, place) in
+    let q : p ≡ at + length (c ∷ blanks) = omega (arith, offset) in
     (c ∷ blanks, word, rest, ap (λ (x : List ℕ). c ∷ x) whole, a, q, written, before ∙ or_true blank, behind, later)
 with_blank at c cs blank [] (p ∷ ps) e h = h
 with_blank at c cs blank (t ∷ ts) [] e h = h
@@ -114,60 +88,60 @@ drop_less : (n c : ℕ) (cs : List ℕ) → 0 < n → drop (n - 1) cs ≡ drop n
 drop_less zero c cs h = absurd (omega arith)
 drop_less (suc n) c cs h = let e : suc n - 1 ≡ n = omega arith in ap (λ (k : ℕ). drop k cs) e
 
-from_zero : (n at : ℕ) (blank : Bool) (tokens : List Token) (places text : List ℕ) → n ≡ 0
-    → Tells at blank tokens places text → Tells (at + n) blank tokens places (drop n text)
-from_zero n at blank tokens places text z h =
+from_zero : (n at : ℕ) (blank : Bool) (tokens : List Token) (offsets text : List ℕ) → n ≡ 0
+    → Tells at blank tokens offsets text → Tells (at + n) blank tokens offsets (drop n text)
+from_zero n at blank tokens offsets text z h =
     let e : at ≡ at + 0 = omega arith in
-    subst (λ (k : ℕ). Tells (at + k) blank tokens places (drop k text)) (sym z) (subst (λ (a : ℕ). Tells a blank tokens places text) e h)
+    subst (λ (k : ℕ). Tells (at + k) blank tokens offsets (drop k text)) (sym z) (subst (λ (a : ℕ). Tells a blank tokens offsets text) e h)
 
-to_zero : (n at : ℕ) (blank : Bool) (tokens : List Token) (places text : List ℕ) → n ≡ 0
-    → Tells (at + n) blank tokens places (drop n text) → Tells at blank tokens places text
-to_zero n at blank tokens places text z h =
+to_zero : (n at : ℕ) (blank : Bool) (tokens : List Token) (offsets text : List ℕ) → n ≡ 0
+    → Tells (at + n) blank tokens offsets (drop n text) → Tells at blank tokens offsets text
+to_zero n at blank tokens offsets text z h =
     let e : at + 0 ≡ at = omega arith in
-    subst (λ (a : ℕ). Tells a blank tokens places text) e (subst (λ (k : ℕ). Tells (at + k) blank tokens places (drop k text)) z h)
+    subst (λ (a : ℕ). Tells a blank tokens offsets text) e (subst (λ (k : ℕ). Tells (at + k) blank tokens offsets (drop k text)) z h)
 
 first_of : (token : Token) (at : ℕ) (r : Result TokenList LexFault) (list : TokenList) → with_first token at r ≡ Ok list
-    → (later : TokenList) × (r ≡ Ok later) × (record { tokens = token ∷ later.tokens; places = at ∷ later.places } ≡ list)
+    → (later : TokenList) × (r ≡ Ok later) × (record { tokens = token ∷ later.tokens; offsets = at ∷ later.offsets } ≡ list)
 first_of token at (Ok later) list e = (later, refl, cc)
 first_of token at (Err fault) list e = cc
 
 -- what is known of the rest, wherever the stage goes on
 abbrev Later : ℕ → List ℕ → Type 0
-Later at cs = (v : Spot) (l : TokenList) → stage v (at + 1) cs ≡ Ok l → v.skip ≤ length cs → Tells (at + 1 + v.skip) v.after_blank l.tokens l.places (drop v.skip cs)
+Later at cs = (v : Context) (l : TokenList) → stage v (at + 1) cs ≡ Ok l → v.skip ≤ length cs → Tells (at + 1 + v.skip) v.after_blank l.tokens l.offsets (drop v.skip cs)
 
-turn : (s : Spot) (at c : ℕ) (cs : List ℕ) (list : TokenList) (b d : Bool) (r : Result Kind FaultKind)
+turn : (s : Context) (at c : ℕ) (cs : List ℕ) (list : TokenList) (b d : Bool) (r : Result Class FaultKind)
     → nat_lt 0 s.skip ≡ b → (c == 32) ≡ d → found s (c ∷ cs) ≡ r
-    → on_move s at (c ∷ cs) (if b then Pass (record s { skip = s.skip - 1 }) else if d then Pass (record s { after_blank = true }) else taken r)
+    → on_action s at (c ∷ cs) (if b then Pass (record s { skip = s.skip - 1 }) else if d then Pass (record s { after_blank = true }) else taken r)
     (λ v. stage v (at + 1) cs) ≡ Ok list
-    → s.skip ≤ length (c ∷ cs) → Later at cs → Tells (at + s.skip) s.after_blank list.tokens list.places (drop s.skip (c ∷ cs))
+    → s.skip ≤ length (c ∷ cs) → Later at cs → Tells (at + s.skip) s.after_blank list.tokens list.offsets (drop s.skip (c ∷ cs))
 turn s at c cs list true d r e1 e2 e3 e h later =
     let some : 0 < s.skip = grind (arith, nat_tests, e1) in
     let k = later (record s { skip = s.skip - 1 }) list e (omega arith) in
     let p : at + 1 + (s.skip - 1) ≡ at + s.skip = omega arith in
-    subst (λ (x : List ℕ). Tells (at + s.skip) s.after_blank list.tokens list.places x) (drop_less s.skip c cs some)
-    (subst (λ (x : ℕ). Tells x s.after_blank list.tokens list.places (drop (s.skip - 1) cs)) p k)
+    subst (λ (x : List ℕ). Tells (at + s.skip) s.after_blank list.tokens list.offsets x) (drop_less s.skip c cs some)
+    (subst (λ (x : ℕ). Tells x s.after_blank list.tokens list.offsets (drop (s.skip - 1) cs)) p k)
 turn s at c cs list false true r e1 e2 e3 e h later =
     let none : s.skip ≡ 0 = grind (arith, nat_tests, e1) in
     let k = later (record s { after_blank = true }) list e (omega arith) in
-    from_zero s.skip at s.after_blank list.tokens list.places (c ∷ cs) none
-    (with_blank at c cs s.after_blank list.tokens list.places e2 (to_zero s.skip (at + 1) true list.tokens list.places cs none k))
+    from_zero s.skip at s.after_blank list.tokens list.offsets (c ∷ cs) none
+    (with_blank at c cs s.after_blank list.tokens list.offsets e2 (to_zero s.skip (at + 1) true list.tokens list.offsets cs none k))
 turn s at c cs list false false (Err fault) e1 e2 e3 e h later = cc
-turn s at c cs list false false (Ok kind) e1 e2 e3 e h later =
+turn s at c cs list false false (Ok class) e1 e2 e3 e h later =
     let none : s.skip ≡ 0 = grind (arith, nat_tests, e1) in
-    let w = found_whole s c cs kind e3 in
-    let f = first_of (token_of s kind (c ∷ cs)) at (stage (after s kind (c ∷ cs)) (at + 1) cs) list e in
-    let k = later (after s kind (c ∷ cs)) f.0 f.1 w.0 in
-    from_zero s.skip at s.after_blank list.tokens list.places (c ∷ cs) none
-    (subst (λ (l : TokenList). Tells at s.after_blank l.tokens l.places (c ∷ cs)) f.2 (with_token s at c cs kind f.0.tokens f.0.places w k))
+    let w = found_whole s c cs class e3 in
+    let f = first_of (token_of s class (c ∷ cs)) at (stage (after s class (c ∷ cs)) (at + 1) cs) list e in
+    let k = later (after s class (c ∷ cs)) f.0 f.1 w.0 in
+    from_zero s.skip at s.after_blank list.tokens list.offsets (c ∷ cs) none
+    (subst (λ (l : TokenList). Tells at s.after_blank l.tokens l.offsets (c ∷ cs)) f.2 (with_token s at c cs class f.0.tokens f.0.offsets w k))
 
-tells : (text : List ℕ) (s : Spot) (at : ℕ) (list : TokenList) → stage s at text ≡ Ok list → s.skip ≤ length text
-    → Tells (at + s.skip) s.after_blank list.tokens list.places (drop s.skip text)
+tells : (text : List ℕ) (s : Context) (at : ℕ) (list : TokenList) → stage s at text ≡ Ok list → s.skip ≤ length text
+    → Tells (at + s.skip) s.after_blank list.tokens list.offsets (drop s.skip text)
 tells [] s at list e h =
     let d : no_tokens ≡ list = cc in
-    subst (λ (l : TokenList). Tells (at + s.skip) s.after_blank l.tokens l.places (drop s.skip [])) d (rw (drop-nil s.skip) refl)
+    subst (λ (l : TokenList). Tells (at + s.skip) s.after_blank l.tokens l.offsets (drop s.skip [])) d (rw (drop-nil s.skip) refl)
 tells (c ∷ cs) s at list e h =
     turn s at c cs list (nat_lt 0 s.skip) (c == 32) (found s (c ∷ cs)) refl refl refl e h (λ v l k g. tells cs v (at + 1) l k g)
 
 pub tokens_tell_the_text : TokensTellTheText
 tokens_tell_the_text text from list e =
-    to_zero 0 from true list.tokens list.places (drop from text) refl (tells (drop from text) start from list e (omega arith))
+    to_zero 0 from true list.tokens list.offsets (drop from text) refl (tells (drop from text) start from list e (omega arith))

@@ -1,4 +1,4 @@
--- Each kind of token, as it is written.
+-- Each class of token, as it is written.
 use Rattle.std.proofs.Common.{arith, ◌≡◌, ℕ, suc, ◌+◌, ◌-◌, ◌≤◌, List, [], ◌∷◌, ◌++◌, length, take, refl, sym, ap, ◌∙◌, subst}
 use Rattle.std.specs.Prelude.{Bool, true, false, not, ◌&&◌, ◌||◌, ◌==◌, ◌^◌, cond, pos, ℤ, Option, Some, None, Result, Ok, Err, nat_lt, if◌then◌else◌}
 use Rattle.std.specs.List.{list_all, list_any, position_or_len}
@@ -11,13 +11,13 @@ use Rattle.sno_token.specs.declared.Mark.TheVariants.{Power, Star, Slash, Plus, 
 use Rattle.sno_token.specs.declared.Outcome.{Outcome}
 use Rattle.sno_token.specs.declared.Outcome.TheVariants.{Success, Failure}
 use Rattle.sno_lexer.specs.declared.character.Run.{Run}
-use Rattle.sno_lexer.specs.declared.character.Run.TheVariants.{Word, Digits, Target, Quoted}
-use Rattle.sno_lexer.specs.declared.begin.Kind.{Kind}
-use Rattle.sno_lexer.specs.declared.begin.Kind.TheVariants.{Name, Label, Integer, Literal, Operator, Open, Close, Comma, Equals, Colon, On}
-use Rattle.sno_lexer.specs.declared.begin.Spot.{Spot}
+use Rattle.sno_lexer.specs.declared.character.Run.TheVariants.{InIdentifier, InInteger, InLabel, InLiteral}
+use Rattle.sno_lexer.specs.declared.begin.Class.{Class}
+use Rattle.sno_lexer.specs.declared.begin.Class.TheVariants.{Identifier, Label, Integer, Literal, Operator, Open, Close, Comma, Equals, Colon, On}
+use Rattle.sno_lexer.specs.declared.begin.Context.{Context}
 use Rattle.sno_lexer.specs.declared.fault.FaultKind.{FaultKind}
 use Rattle.sno_lexer.specs.declared.fault.FaultKind.TheVariants.{BadConstant, Foreign}
-use Rattle.sno_lexer.specs.Kinds.{ends, run_in, further, outcome_of, name_or, kind_of_word, kind_of_value, kind_of_quote, kind_of_sign, kind_of, begins_with, is_quote, token_of, star}
+use Rattle.sno_lexer.specs.inner.Classes.{ends, run_in, further, outcome_of, name_or, class_of_word, class_of_value, class_of_quote, class_of_sign, class_of, begins_with, is_quote, kind_of, text_of, star}
 use Rattle.sno_lexer.specs.Laws.{IsWritten, IsIdentifier}
 
 -- RUNS
@@ -67,26 +67,26 @@ run_word run c cs e =
 -- ONE TOKEN
 
 -- the characters that follow the first are there, and with it they are the token written out
-abbrev pub Whole : Spot → Kind → ℕ → List ℕ → Type 0
-Whole s kind c cs = (further kind (c ∷ cs) ≤ length cs) × IsWritten (token_of s kind (c ∷ cs)) (c ∷ take (further kind (c ∷ cs)) cs)
+abbrev pub Whole : Context → Class → ℕ → List ℕ → Type 0
+Whole s class c cs = (further class (c ∷ cs) ≤ length cs) × IsWritten (kind_of class (text_of class (c ∷ cs))) (c ∷ take (further class (c ∷ cs)) cs)
 
-label_goes_on : (c : ℕ) → (is_letter c || is_digit c) ≡ true → ends Target c ≡ false
+label_goes_on : (c : ℕ) → (is_letter c || is_digit c) ≡ true → ends InLabel c ≡ false
 label_goes_on c e = grind (arith, nat_tests, e)
 
-word_goes_on : (c : ℕ) → is_letter c ≡ true → ends Word c ≡ false
+word_goes_on : (c : ℕ) → is_letter c ≡ true → ends InIdentifier c ≡ false
 word_goes_on c e = rw e refl
 
-digits_go_on : (c : ℕ) → is_digit c ≡ true → ends Digits c ≡ false
+digits_go_on : (c : ℕ) → is_digit c ≡ true → ends InInteger c ≡ false
 digits_go_on c e = rw e refl
 
-label_whole : (s : Spot) (c : ℕ) (cs : List ℕ) → (is_letter c || is_digit c) ≡ true → Whole s Label c cs
-label_whole s c cs e = run_word Target c cs (label_goes_on c e)
+label_whole : (s : Context) (c : ℕ) (cs : List ℕ) → (is_letter c || is_digit c) ≡ true → Whole s Label c cs
+label_whole s c cs e = run_word InLabel c cs (label_goes_on c e)
 
-identifier : (c : ℕ) (cs : List ℕ) → is_letter c ≡ true → IsIdentifier (run_in Word (c ∷ cs))
-identifier c cs e = subst IsIdentifier (sym (run_on Word c cs (word_goes_on c e))) (e, all_of_run Word cs)
+identifier : (c : ℕ) (cs : List ℕ) → is_letter c ≡ true → IsIdentifier (run_in InIdentifier (c ∷ cs))
+identifier c cs e = subst IsIdentifier (sym (run_on InIdentifier c cs (word_goes_on c e))) (e, all_of_run InIdentifier cs)
 
-name_whole : (s : Spot) (c : ℕ) (cs : List ℕ) → is_letter c ≡ true → Whole s Name c cs
-name_whole s c cs e = let w = run_word Word c cs (word_goes_on c e) in (w.0, (w.1, identifier c cs e))
+name_whole : (s : Context) (c : ℕ) (cs : List ℕ) → is_letter c ≡ true → Whole s Identifier c cs
+name_whole s c cs e = let w = run_word InIdentifier c cs (word_goes_on c e) in (w.0, (w.1, identifier c cs e))
 
 twice_not : (p : ℕ → Bool) (xs : List ℕ) → list_all (λ c. not (not (p c))) xs ≡ list_all p xs
 twice_not p [] = refl
@@ -96,36 +96,36 @@ twice_not p (c ∷ cs) = at (p c) (twice_not p cs)
     at true h = h
     at false h = refl
 
-integer_whole : (s : Spot) (c : ℕ) (cs : List ℕ) (value : ℤ) → is_digit c ≡ true → value ≡ pos (value_of (run_in Digits (c ∷ cs))) → Whole s (Integer value) c cs
+integer_whole : (s : Context) (c : ℕ) (cs : List ℕ) (value : ℤ) → is_digit c ≡ true → value ≡ pos (value_of (run_in InInteger (c ∷ cs))) → Whole s (Integer value) c cs
 integer_whole s c cs value e v =
-    let w = run_word Digits c cs (digits_go_on c e) in
-    let all = sym (twice_not is_digit (run_in Digits (c ∷ cs))) ∙ all_of_run Digits (c ∷ cs) in
+    let w = run_word InInteger c cs (digits_go_on c e) in
+    let all = sym (twice_not is_digit (run_in InInteger (c ∷ cs))) ∙ all_of_run InInteger (c ∷ cs) in
     (w.0, (ap (list_all is_digit) w.1 ∙ all, v ∙ ap (λ (t : List ℕ). pos (value_of t)) (sym w.1)))
 
-value_at : (n : ℕ) (b : Bool) (kind : Kind) (s : Spot) (c : ℕ) (cs : List ℕ) → is_digit c ≡ true → n ≡ value_of (run_in Digits (c ∷ cs))
-    → (if b then Ok (Integer (pos n)) else Err BadConstant) ≡ Ok kind → Whole s kind c cs
-value_at n true kind s c cs d v e =
-    let h : Integer (pos n) ≡ kind = cc in
-    subst (λ (k : Kind). Whole s k c cs) h (integer_whole s c cs (pos n) d (ap pos v))
-value_at n false kind s c cs d v e = cc
+value_at : (n : ℕ) (b : Bool) (class : Class) (s : Context) (c : ℕ) (cs : List ℕ) → is_digit c ≡ true → n ≡ value_of (run_in InInteger (c ∷ cs))
+    → (if b then Ok (Integer (pos n)) else Err BadConstant) ≡ Ok class → Whole s class c cs
+value_at n true class s c cs d v e =
+    let h : Integer (pos n) ≡ class = cc in
+    subst (λ (k : Class). Whole s k c cs) h (integer_whole s c cs (pos n) d (ap pos v))
+value_at n false class s c cs d v e = cc
 
 -- what is quoted, and its second quote
 quoted : (q : ℕ) (cs : List ℕ) → list_any (λ c. c == q) cs ≡ true
-    → (length (run_in (Quoted q) cs) + 1 ≤ length cs) × (take (length (run_in (Quoted q) cs) + 1) cs ≡ run_in (Quoted q) cs ++ q ∷ [])
+    → (length (run_in (InLiteral q) cs) + 1 ≤ length cs) × (take (length (run_in (InLiteral q) cs) + 1) cs ≡ run_in (InLiteral q) cs ++ q ∷ [])
 quoted q [] e = cc
 quoted q (c ∷ cs) e = at (c == q) refl e (λ h. quoted q cs h)
   where
     at : (b : Bool) → (c == q) ≡ b → (b || list_any (λ d. d == q) cs) ≡ true
-        → (list_any (λ d. d == q) cs ≡ true → (length (run_in (Quoted q) cs) + 1 ≤ length cs) × (take (length (run_in (Quoted q) cs) + 1) cs ≡ run_in (Quoted q) cs ++ q ∷ []))
-        → (length (take (cond (not b) (1 + position_or_len (ends (Quoted q)) cs) 0) (c ∷ cs)) + 1 ≤ length (c ∷ cs))
-        × (take (length (take (cond (not b) (1 + position_or_len (ends (Quoted q)) cs) 0) (c ∷ cs)) + 1) (c ∷ cs)
-        ≡ take (cond (not b) (1 + position_or_len (ends (Quoted q)) cs) 0) (c ∷ cs) ++ q ∷ [])
+        → (list_any (λ d. d == q) cs ≡ true → (length (run_in (InLiteral q) cs) + 1 ≤ length cs) × (take (length (run_in (InLiteral q) cs) + 1) cs ≡ run_in (InLiteral q) cs ++ q ∷ []))
+        → (length (take (cond (not b) (1 + position_or_len (ends (InLiteral q)) cs) 0) (c ∷ cs)) + 1 ≤ length (c ∷ cs))
+        × (take (length (take (cond (not b) (1 + position_or_len (ends (InLiteral q)) cs) 0) (c ∷ cs)) + 1) (c ∷ cs)
+        ≡ take (cond (not b) (1 + position_or_len (ends (InLiteral q)) cs) 0) (c ∷ cs) ++ q ∷ [])
     at true d h on = let k : c ≡ q = grind (arith, nat_tests, d) in (omega arith, ap (λ (x : ℕ). x ∷ []) k)
     at false d h on =
         let i = on h in
-        let m = one_more (position_or_len (ends (Quoted q)) cs) in
-        let l : length (run_in (Quoted q) cs) + 1 ≡ suc (length (run_in (Quoted q) cs)) = omega arith in
-        let r : suc (length (run_in (Quoted q) cs)) + 1 ≡ suc (length (run_in (Quoted q) cs) + 1) = omega arith in
+        let m = one_more (position_or_len (ends (InLiteral q)) cs) in
+        let l : length (run_in (InLiteral q) cs) + 1 ≡ suc (length (run_in (InLiteral q) cs)) = omega arith in
+        let r : suc (length (run_in (InLiteral q) cs)) + 1 ≡ suc (length (run_in (InLiteral q) cs) + 1) = omega arith in
         rw m (omega (arith, i.0), ap (λ (k : ℕ). take k (c ∷ cs)) r ∙ ap (λ (t : List ℕ). c ∷ t) i.1)
 
 none_of : (q : ℕ) (xs : List ℕ) → list_all (λ c. not (c == q)) xs ≡ true → list_any (λ c. c == q) xs ≡ false
@@ -137,15 +137,15 @@ none_of q (c ∷ cs) h = at (c == q) h (λ k. none_of q cs k)
     at true h on = cc
     at false h on = on h
 
-literal_whole : (s : Spot) (c : ℕ) (cs : List ℕ) → is_quote c ≡ true → list_any (λ d. d == c) cs ≡ true → Whole s Literal c cs
+literal_whole : (s : Context) (c : ℕ) (cs : List ℕ) → is_quote c ≡ true → list_any (λ d. d == c) cs ≡ true → Whole s Literal c cs
 literal_whole s c cs e h =
     let q = quoted c cs h in
-    (q.0, (c, e, none_of c (run_in (Quoted c) cs) (all_of_run (Quoted c) cs), ap (λ (t : List ℕ). c ∷ t) q.1))
+    (q.0, (c, e, none_of c (run_in (InLiteral c) cs) (all_of_run (InLiteral c) cs), ap (λ (t : List ℕ). c ∷ t) q.1))
 
-quote_at : (s : Spot) (c : ℕ) (cs : List ℕ) (kind : Kind) (b : Bool) → is_quote c ≡ true → list_any (λ d. d == c) cs ≡ b
-    → (if b then Ok Literal else Err BadConstant) ≡ Ok kind → Whole s kind c cs
-quote_at s c cs kind true q h e = let k : Literal ≡ kind = cc in subst (λ (x : Kind). Whole s x c cs) k (literal_whole s c cs q h)
-quote_at s c cs kind false q h e = cc
+quote_at : (s : Context) (c : ℕ) (cs : List ℕ) (class : Class) (b : Bool) → is_quote c ≡ true → list_any (λ d. d == c) cs ≡ b
+    → (if b then Ok Literal else Err BadConstant) ≡ Ok class → Whole s class c cs
+quote_at s c cs class true q h e = let k : Literal ≡ class = cc in subst (λ (x : Class). Whole s x c cs) k (literal_whole s c cs q h)
+quote_at s c cs class false q h e = cc
 
 -- SIGNS
 
@@ -155,82 +155,82 @@ same c k e = grind (arith, nat_tests, e)
 alone : (c k : ℕ) → (c == k) ≡ true → c ∷ [] ≡ k ∷ []
 alone c k e = ap (λ (x : ℕ). x ∷ []) (same c k e)
 
-pick : (b : Bool) (x kind : Kind) (rest : Result Kind FaultKind) (P : Kind → Type 0)
-    → (b ≡ true → P x) → (rest ≡ Ok kind → P kind) → (if b then Ok x else rest) ≡ Ok kind → P kind
-pick true x kind rest P here later e = let h : x ≡ kind = cc in subst P h (here refl)
-pick false x kind rest P here later e = later e
+pick : (b : Bool) (x class : Class) (rest : Result Class FaultKind) (P : Class → Type 0)
+    → (b ≡ true → P x) → (rest ≡ Ok class → P class) → (if b then Ok x else rest) ≡ Ok class → P class
+pick true x class rest P here later e = let h : x ≡ class = cc in subst P h (here refl)
+pick false x class rest P here later e = later e
 
-star_whole : (s : Spot) (c : ℕ) (cs : List ℕ) (b : Bool) → begins_with 42 cs ≡ b → (c == 42) ≡ true → Whole s (Operator (if b then Power else Star)) c cs
+star_whole : (s : Context) (c : ℕ) (cs : List ℕ) (b : Bool) → begins_with 42 cs ≡ b → (c == 42) ≡ true → Whole s (Operator (if b then Power else Star)) c cs
 star_whole s c [] true h e = cc
 star_whole s c (d ∷ ds) true h e =
     (omega arith, ap (λ (x : ℕ). x ∷ d ∷ []) (same c 42 e) ∙ ap (λ (x : ℕ). 42 ∷ x ∷ []) (same d 42 h))
 star_whole s c cs false h e = (omega arith, alone c 42 e)
 
-sign_whole : (s : Spot) (c : ℕ) (cs : List ℕ) (kind : Kind) → kind_of_sign c cs ≡ Ok kind → Whole s kind c cs
-sign_whole s c cs kind =
-    let P : Kind → Type 0 = λ k. Whole s k c cs in
-    pick (c == 40) Open kind _ P (λ h. (omega arith, alone c 40 h))
-    (pick (c == 41) Close kind _ P (λ h. (omega arith, alone c 41 h))
-    (pick (c == 44) Comma kind _ P (λ h. (omega arith, alone c 44 h))
-    (pick (c == 61) Equals kind _ P (λ h. (omega arith, alone c 61 h))
-    (pick (c == 58) Colon kind _ P (λ h. (omega arith, alone c 58 h))
-    (pick (c == 42) (Operator (star cs)) kind _ P (λ h. star_whole s c cs (begins_with 42 cs) refl h)
-    (pick (c == 47) (Operator Slash) kind _ P (λ h. (omega arith, alone c 47 h))
-    (pick (c == 43) (Operator Plus) kind _ P (λ h. (omega arith, alone c 43 h))
-    (pick (c == 45) (Operator Minus) kind _ P (λ h. (omega arith, alone c 45 h))
-    (pick (c == 124) (Operator Bar) kind _ P (λ h. (omega arith, alone c 124 h))
-    (pick (c == 46) (Operator Dot) kind _ P (λ h. (omega arith, alone c 46 h))
-    (pick (c == 36) (Operator Dollar) kind _ P (λ h. (omega arith, alone c 36 h))
-    (pick (c == 64) (Operator At) kind _ P (λ h. (omega arith, alone c 64 h))
-    (pick (c == 126) (Operator Tilde) kind _ P (λ h. (omega arith, alone c 126 h))
-    (pick (c == 63) (Operator Question) kind _ P (λ h. (omega arith, alone c 63 h))
-    (pick (c == 38) (Operator Ampersand) kind (Err Foreign) P (λ h. (omega arith, alone c 38 h))
+sign_whole : (s : Context) (c : ℕ) (cs : List ℕ) (class : Class) → class_of_sign c cs ≡ Ok class → Whole s class c cs
+sign_whole s c cs class =
+    let P : Class → Type 0 = λ k. Whole s k c cs in
+    pick (c == 40) Open class _ P (λ h. (omega arith, alone c 40 h))
+    (pick (c == 41) Close class _ P (λ h. (omega arith, alone c 41 h))
+    (pick (c == 44) Comma class _ P (λ h. (omega arith, alone c 44 h))
+    (pick (c == 61) Equals class _ P (λ h. (omega arith, alone c 61 h))
+    (pick (c == 58) Colon class _ P (λ h. (omega arith, alone c 58 h))
+    (pick (c == 42) (Operator (star cs)) class _ P (λ h. star_whole s c cs (begins_with 42 cs) refl h)
+    (pick (c == 47) (Operator Slash) class _ P (λ h. (omega arith, alone c 47 h))
+    (pick (c == 43) (Operator Plus) class _ P (λ h. (omega arith, alone c 43 h))
+    (pick (c == 45) (Operator Minus) class _ P (λ h. (omega arith, alone c 45 h))
+    (pick (c == 124) (Operator Bar) class _ P (λ h. (omega arith, alone c 124 h))
+    (pick (c == 46) (Operator Dot) class _ P (λ h. (omega arith, alone c 46 h))
+    (pick (c == 36) (Operator Dollar) class _ P (λ h. (omega arith, alone c 36 h))
+    (pick (c == 64) (Operator At) class _ P (λ h. (omega arith, alone c 64 h))
+    (pick (c == 126) (Operator Tilde) class _ P (λ h. (omega arith, alone c 126 h))
+    (pick (c == 63) (Operator Question) class _ P (λ h. (omega arith, alone c 63 h))
+    (pick (c == 38) (Operator Ampersand) class (Err Foreign) P (λ h. (omega arith, alone c 38 h))
     (λ e. cc))))))))))))))))
 
 -- ALL KINDS
 
 outcome_at : (c : ℕ) (cs : List ℕ) (outcome : Outcome) (b d : Bool) → (c == 83) ≡ b → (c == 70) ≡ d
-    → (if b then Some Success else if d then Some Failure else None) ≡ Some outcome → (s : Spot) → Whole s (On outcome) c cs
+    → (if b then Some Success else if d then Some Failure else None) ≡ Some outcome → (s : Context) → Whole s (On outcome) c cs
 outcome_at c cs outcome true d h k e s = let o : Success ≡ outcome = cc in subst (λ (x : Outcome). Whole s (On x) c cs) o (omega arith, alone c 83 h)
 outcome_at c cs outcome false true h k e s = let o : Failure ≡ outcome = cc in subst (λ (x : Outcome). Whole s (On x) c cs) o (omega arith, alone c 70 k)
 outcome_at c cs outcome false false h k e s = cc
 
-outcome_in : (s : Spot) (c : ℕ) (cs word : List ℕ) (outcome : Outcome) → outcome_of (c ∷ word) ≡ Some outcome → Whole s (On outcome) c cs
+outcome_in : (s : Context) (c : ℕ) (cs word : List ℕ) (outcome : Outcome) → outcome_of (c ∷ word) ≡ Some outcome → Whole s (On outcome) c cs
 outcome_in s c cs [] outcome e = outcome_at c cs outcome (c == 83) (c == 70) refl refl e s
 outcome_in s c cs (d ∷ word) outcome e = cc
 
-word_at : (s : Spot) (c : ℕ) (cs : List ℕ) (o : Option Outcome) → is_letter c ≡ true → outcome_of (run_in Word (c ∷ cs)) ≡ o → Whole s (name_or o) c cs
+word_at : (s : Context) (c : ℕ) (cs : List ℕ) (o : Option Outcome) → is_letter c ≡ true → outcome_of (run_in InIdentifier (c ∷ cs)) ≡ o → Whole s (name_or o) c cs
 word_at s c cs None l e = name_whole s c cs l
-word_at s c cs (Some outcome) l e = outcome_in s c cs (run_in Word cs) outcome (ap outcome_of (sym (run_on Word c cs (word_goes_on c l))) ∙ e)
+word_at s c cs (Some outcome) l e = outcome_in s c cs (run_in InIdentifier cs) outcome (ap outcome_of (sym (run_on InIdentifier c cs (word_goes_on c l))) ∙ e)
 
-word_whole : (s : Spot) (c : ℕ) (cs : List ℕ) (b : Bool) → is_letter c ≡ true
-    → Whole s (if b then name_or (outcome_of (run_in Word (c ∷ cs))) else Name) c cs
-word_whole s c cs true l = word_at s c cs (outcome_of (run_in Word (c ∷ cs))) l refl
+word_whole : (s : Context) (c : ℕ) (cs : List ℕ) (b : Bool) → is_letter c ≡ true
+    → Whole s (if b then name_or (outcome_of (run_in InIdentifier (c ∷ cs))) else Identifier) c cs
+word_whole s c cs true l = word_at s c cs (outcome_of (run_in InIdentifier (c ∷ cs))) l refl
 word_whole s c cs false l = name_whole s c cs l
 
 second : (a b : Bool) → true ≡ (a && b) → b ≡ true
 second true b e = sym e
 second false b e = cc
 
-kind_at : (s : Spot) (c : ℕ) (cs : List ℕ) (kind : Kind) (target letter digit quote : Bool) → target ≡ (s.at_target && (is_letter c || is_digit c))
+kind_at : (s : Context) (c : ℕ) (cs : List ℕ) (class : Class) (target letter digit quote : Bool) → target ≡ (s.at_target && (is_letter c || is_digit c))
     → is_letter c ≡ letter → is_digit c ≡ digit → is_quote c ≡ quote
     → (if target then Ok Label
-    else if letter then Ok (kind_of_word s (run_in Word (c ∷ cs)))
-    else if digit then kind_of_value (value_of (run_in Digits (c ∷ cs)))
-    else if quote then kind_of_quote c cs
-    else kind_of_sign c cs) ≡ Ok kind
-    → Whole s kind c cs
-kind_at s c cs kind true letter digit quote t l d q e =
-    let k : Label ≡ kind = cc in
-    subst (λ (x : Kind). Whole s x c cs) k (label_whole s c cs (second s.at_target (is_letter c || is_digit c) t))
-kind_at s c cs kind false true digit quote t l d q e =
-    let k : kind_of_word s (run_in Word (c ∷ cs)) ≡ kind = cc in
-    subst (λ (x : Kind). Whole s x c cs) k (word_whole s c cs (s.in_goto && s.inside == 0) l)
-kind_at s c cs kind false false true quote t l d q e =
-    value_at (value_of (run_in Digits (c ∷ cs))) (nat_lt (value_of (run_in Digits (c ∷ cs))) (2 ^ 63)) kind s c cs d refl e
-kind_at s c cs kind false false false true t l d q e = quote_at s c cs kind (list_any (λ d. d == c) cs) q refl e
-kind_at s c cs kind false false false false t l d q e = sign_whole s c cs kind e
+    else if letter then Ok (class_of_word s (run_in InIdentifier (c ∷ cs)))
+    else if digit then class_of_value (value_of (run_in InInteger (c ∷ cs)))
+    else if quote then class_of_quote c cs
+    else class_of_sign c cs) ≡ Ok class
+    → Whole s class c cs
+kind_at s c cs class true letter digit quote t l d q e =
+    let k : Label ≡ class = cc in
+    subst (λ (x : Class). Whole s x c cs) k (label_whole s c cs (second s.at_target (is_letter c || is_digit c) t))
+kind_at s c cs class false true digit quote t l d q e =
+    let k : class_of_word s (run_in InIdentifier (c ∷ cs)) ≡ class = cc in
+    subst (λ (x : Class). Whole s x c cs) k (word_whole s c cs (s.in_goto && s.inside == 0) l)
+kind_at s c cs class false false true quote t l d q e =
+    value_at (value_of (run_in InInteger (c ∷ cs))) (nat_lt (value_of (run_in InInteger (c ∷ cs))) (2 ^ 63)) class s c cs d refl e
+kind_at s c cs class false false false true t l d q e = quote_at s c cs class (list_any (λ d. d == c) cs) q refl e
+kind_at s c cs class false false false false t l d q e = sign_whole s c cs class e
 
-pub kind_whole : (s : Spot) (c : ℕ) (cs : List ℕ) (kind : Kind) → kind_of s (c ∷ cs) ≡ Ok kind → Whole s kind c cs
-kind_whole s c cs kind e =
-    kind_at s c cs kind (s.at_target && (is_letter c || is_digit c)) (is_letter c) (is_digit c) (is_quote c) refl refl refl refl e
+pub kind_whole : (s : Context) (c : ℕ) (cs : List ℕ) (class : Class) → class_of s (c ∷ cs) ≡ Ok class → Whole s class c cs
+kind_whole s c cs class e =
+    kind_at s c cs class (s.at_target && (is_letter c || is_digit c)) (is_letter c) (is_digit c) (is_quote c) refl refl refl refl e

@@ -1,4 +1,3 @@
 pub mod Listed
-pub mod Kinds
-pub mod Stage
+pub mod inner
 pub mod Laws

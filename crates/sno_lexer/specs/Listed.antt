@@ -4,4 +4,4 @@ use Rattle.sno_token.specs.declared.Token.{Token}
 
 pub record TokenList : Type 0 where
   pub tokens : List Token
-  pub places : List ℕ
+  pub offsets : List ℕ

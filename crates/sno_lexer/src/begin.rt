@@ -2,7 +2,7 @@
 ghost use Rattle.std.specs.Prelude.{◌≡◌, ◌==◌, ◌≤◌, ◌<◌, ◌^◌, length, pos, Some, None, nat_lt, if◌then◌else◌};
 ghost use Rattle.std.specs.List.{list_any};
 ghost use Rattle.mon_text.specs.Counts.{value_of};
-ghost use Rattle.sno_lexer.specs.Kinds.{quoted_in, begins_with, outcome_of, name_or, kind_of_word, kind_of_value, kind_of_quote, star, kind_of_sign, kind_of, text_of, further, is_opening, is_one_too_many, let_in, found, run_in, is_blank_or_end, blank_follows};
+ghost use Rattle.sno_lexer.specs.inner.Classes.{quoted_in, begins_with, outcome_of, name_or, class_of_word, class_of_value, class_of_quote, star, class_of_sign, class_of, text_of, further, is_opening, is_one_too_many, let_in, found, run_in, is_blank_or_end, blank_follows};
 
 use crate::character::{Run, is_digit, is_letter, is_line, is_quote, run_in};
 use crate::fault::FaultKind;
@@ -16,8 +16,8 @@ pub(crate) const MOST_OPEN: usize = 100;
 
 /// What a token is, without its text.
 #[derive(Clone, Copy)]
-pub(crate) enum Kind {
-    Name,
+pub(crate) enum Class {
+    Identifier,
     Label,
     Integer(i64),
     Literal,
@@ -30,9 +30,9 @@ pub(crate) enum Kind {
     On(Outcome),
 }
 
-/// What has to be known of the characters before a place.
+/// What has to be known of the characters before an offset.
 #[derive(Clone, Copy)]
-pub(crate) struct Spot {
+pub(crate) struct Context {
     /// How many characters from here on belong to the token before.
     pub skip: usize,
     /// Whether a blank stands right before.
@@ -56,7 +56,7 @@ fn quoted_in(text: &[u8]) -> &[u8]
 {
     match text {
         [] => &[],
-        [quote, others @ ..] => run_in(Run::Quoted(*quote), others),
+        [quote, others @ ..] => run_in(Run::InLiteral(*quote), others),
     }
 }
 
@@ -79,16 +79,16 @@ fn outcome_of(word: &[u8]) -> Option<Outcome>
     }
 }
 
-fn kind_of_word(spot: Spot, word: &[u8]) -> Kind
-    ensures { result ≡ kind_of_word spot word.now }
+fn class_of_word(context: Context, word: &[u8]) -> Class
+    ensures { result ≡ class_of_word context word.now }
 {
-    if spot.in_goto && spot.inside == 0 {
+    if context.in_goto && context.inside == 0 {
         match outcome_of(word) {
-            None => Kind::Name,
-            Some(outcome) => Kind::On(outcome),
+            None => Class::Identifier,
+            Some(outcome) => Class::On(outcome),
         }
     } else {
-        Kind::Name
+        Class::Identifier
     }
 }
 
@@ -106,11 +106,11 @@ fn value_of(digits: &[u8]) -> Option<i64>
     Some(value as i64)
 }
 
-fn kind_of_digits(digits: &[u8]) -> Result<Kind, FaultKind>
-    ensures { result ≡ kind_of_value (value_of digits.now) }
+fn class_of_digits(digits: &[u8]) -> Result<Class, FaultKind>
+    ensures { result ≡ class_of_value (value_of digits.now) }
 {
     match value_of(digits) {
-        Some(value) => Ok(Kind::Integer(value)),
+        Some(value) => Ok(Class::Integer(value)),
         None => Err(FaultKind::BadConstant),
     }
 }
@@ -121,11 +121,11 @@ fn contains(code: u8, text: &[u8]) -> bool
     text.iter().any(|other| *other == code)
 }
 
-fn kind_of_quote(quote: u8, text: &[u8]) -> Result<Kind, FaultKind>
-    ensures { result ≡ kind_of_quote quote text.now }
+fn class_of_quote(quote: u8, text: &[u8]) -> Result<Class, FaultKind>
+    ensures { result ≡ class_of_quote quote text.now }
 {
     if contains(quote, text) {
-        Ok(Kind::Literal)
+        Ok(Class::Literal)
     } else {
         Err(FaultKind::BadConstant)
     }
@@ -141,126 +141,126 @@ fn star(text: &[u8]) -> Mark
     }
 }
 
-fn kind_of_sign(code: u8, text: &[u8]) -> Result<Kind, FaultKind>
-    ensures { result ≡ kind_of_sign code text.now }
+fn class_of_sign(code: u8, text: &[u8]) -> Result<Class, FaultKind>
+    ensures { result ≡ class_of_sign code text.now }
 {
     match code {
-        b'(' => Ok(Kind::Open),
-        b')' => Ok(Kind::Close),
-        b',' => Ok(Kind::Comma),
-        b'=' => Ok(Kind::Equals),
-        b':' => Ok(Kind::Colon),
-        b'*' => Ok(Kind::Operator(star(text))),
-        b'/' => Ok(Kind::Operator(Mark::Slash)),
-        b'+' => Ok(Kind::Operator(Mark::Plus)),
-        b'-' => Ok(Kind::Operator(Mark::Minus)),
-        b'|' => Ok(Kind::Operator(Mark::Bar)),
-        b'.' => Ok(Kind::Operator(Mark::Dot)),
-        b'$' => Ok(Kind::Operator(Mark::Dollar)),
-        b'@' => Ok(Kind::Operator(Mark::At)),
-        b'~' => Ok(Kind::Operator(Mark::Tilde)),
-        b'?' => Ok(Kind::Operator(Mark::Question)),
-        b'&' => Ok(Kind::Operator(Mark::Ampersand)),
+        b'(' => Ok(Class::Open),
+        b')' => Ok(Class::Close),
+        b',' => Ok(Class::Comma),
+        b'=' => Ok(Class::Equals),
+        b':' => Ok(Class::Colon),
+        b'*' => Ok(Class::Operator(star(text))),
+        b'/' => Ok(Class::Operator(Mark::Slash)),
+        b'+' => Ok(Class::Operator(Mark::Plus)),
+        b'-' => Ok(Class::Operator(Mark::Minus)),
+        b'|' => Ok(Class::Operator(Mark::Bar)),
+        b'.' => Ok(Class::Operator(Mark::Dot)),
+        b'$' => Ok(Class::Operator(Mark::Dollar)),
+        b'@' => Ok(Class::Operator(Mark::At)),
+        b'~' => Ok(Class::Operator(Mark::Tilde)),
+        b'?' => Ok(Class::Operator(Mark::Question)),
+        b'&' => Ok(Class::Operator(Mark::Ampersand)),
         _ => Err(FaultKind::Foreign),
     }
 }
 
-fn kind_of(spot: Spot, text: &[u8]) -> Result<Kind, FaultKind>
-    ensures { result ≡ kind_of spot text.now }
+fn class_of(context: Context, text: &[u8]) -> Result<Class, FaultKind>
+    ensures { result ≡ class_of context text.now }
 {
     match text {
         [] => Err(FaultKind::Foreign),
         [first, others @ ..] => {
-            if spot.at_target && (is_letter(*first) || is_digit(*first)) {
-                Ok(Kind::Label)
+            if context.at_target && (is_letter(*first) || is_digit(*first)) {
+                Ok(Class::Label)
             } else if is_letter(*first) {
-                Ok(kind_of_word(spot, run_in(Run::Word, text)))
+                Ok(class_of_word(context, run_in(Run::InIdentifier, text)))
             } else if is_digit(*first) {
-                kind_of_digits(run_in(Run::Digits, text))
+                class_of_digits(run_in(Run::InInteger, text))
             } else if is_quote(*first) {
-                kind_of_quote(*first, others)
+                class_of_quote(*first, others)
             } else {
-                kind_of_sign(*first, others)
+                class_of_sign(*first, others)
             }
         }
     }
 }
 
-pub(crate) fn text_of(kind: Kind, text: &[u8]) -> &[u8]
-    ensures value { result.now ≡ text_of kind text.now }
+pub(crate) fn text_of(class: Class, text: &[u8]) -> &[u8]
+    ensures value { result.now ≡ text_of class text.now }
     ensures within { length result.now ≤ length text.now }
 {
-    match kind {
-        Kind::Name => run_in(Run::Word, text),
-        Kind::Label => run_in(Run::Target, text),
-        Kind::Integer(_) => run_in(Run::Digits, text),
-        Kind::Literal => quoted_in(text),
+    match class {
+        Class::Identifier => run_in(Run::InIdentifier, text),
+        Class::Label => run_in(Run::InLabel, text),
+        Class::Integer(_) => run_in(Run::InInteger, text),
+        Class::Literal => quoted_in(text),
         _ => &[],
     }
 }
 
 // How many characters of a literal follow its first.
 fn further_in_literal(text: &[u8]) -> usize
-    ensures { result ≡ further Kind.Literal text.now }
+    ensures { result ≡ further Class.Literal text.now }
 {
     match text {
         [] => 1,
-        [quote, others @ ..] => run_in(Run::Quoted(*quote), others).len() + 1,
+        [quote, others @ ..] => run_in(Run::InLiteral(*quote), others).len() + 1,
     }
 }
 
 /// How many characters of a token follow its first.
-pub(crate) fn further(kind: Kind, text: &[u8]) -> usize
-    ensures { result ≡ further kind text.now }
+pub(crate) fn further(class: Class, text: &[u8]) -> usize
+    ensures { result ≡ further class text.now }
 {
-    match kind {
-        Kind::Literal => further_in_literal(text),
-        Kind::Operator(Mark::Power) => 1,
-        _ => text_of(kind, text).len().saturating_sub(1),
+    match class {
+        Class::Literal => further_in_literal(text),
+        Class::Operator(Mark::Power) => 1,
+        _ => text_of(class, text).len().saturating_sub(1),
     }
 }
 
-pub(crate) fn is_opening(kind: Kind) -> bool
-    ensures { result ≡ is_opening kind }
+pub(crate) fn is_opening(class: Class) -> bool
+    ensures { result ≡ is_opening class }
 {
-    matches!(kind, Kind::Open)
+    matches!(class, Class::Open)
 }
 
-fn is_one_too_many(spot: Spot, kind: Kind) -> bool
-    ensures { result ≡ is_one_too_many spot kind }
+fn is_one_too_many(context: Context, class: Class) -> bool
+    ensures { result ≡ is_one_too_many context class }
 {
-    spot.tokens >= MOST_TOKENS || is_opening(kind) && spot.depth >= MOST_OPEN
+    context.tokens >= MOST_TOKENS || is_opening(class) && context.depth >= MOST_OPEN
 }
 
-fn let_in(spot: Spot, text: &[u8], kind: Kind) -> Result<Kind, FaultKind>
-    ensures { result ≡ let_in spot text.now kind }
+fn let_in(context: Context, text: &[u8], class: Class) -> Result<Class, FaultKind>
+    ensures { result ≡ let_in context text.now class }
 {
-    if !is_line(text_of(kind, text)) {
+    if !is_line(text_of(class, text)) {
         Err(FaultKind::Foreign)
-    } else if is_one_too_many(spot, kind) {
+    } else if is_one_too_many(context, class) {
         Err(FaultKind::TooMany)
     } else {
-        Ok(kind)
+        Ok(class)
     }
 }
 
 /// The token that begins a text which does not begin with a blank, or its fault.
-pub(crate) fn found(spot: Spot, text: &[u8]) -> Result<Kind, FaultKind>
-    ensures { result ≡ found spot text.now }
+pub(crate) fn found(context: Context, text: &[u8]) -> Result<Class, FaultKind>
+    ensures { result ≡ found context text.now }
 {
-    match kind_of(spot, text) {
-        Ok(kind) => let_in(spot, text, kind),
+    match class_of(context, text) {
+        Ok(class) => let_in(context, text, class),
         Err(fault) => Err(fault),
     }
 }
 
 /// Whether a blank, or the end of the text, follows the token that begins it.
-pub(crate) fn blank_follows(kind: Kind, text: &[u8]) -> bool
-    ensures { result ≡ blank_follows kind text.now }
+pub(crate) fn blank_follows(class: Class, text: &[u8]) -> bool
+    ensures { result ≡ blank_follows class text.now }
 {
     match text {
         [] => true,
-        [_, others @ ..] => match others.get(further(kind, text)) {
+        [_, others @ ..] => match others.get(further(class, text)) {
             None => true,
             Some(code) => *code == b' ',
         },

@@ -3,19 +3,19 @@ ghost use Rattle.std.specs.Prelude.{◌≡◌, ◌==◌, ◌≤◌, length, posi
 ghost use Rattle.std.specs.List.{before_first, position_or_len};
 ghost use Rattle.mon_text.specs.Characters.{is_letter, is_digit, is_printable};
 ghost use Rattle.mon_text.specs.Lines.{is_line};
-ghost use Rattle.sno_lexer.specs.Kinds.{ends, is_quote, run_in};
+ghost use Rattle.sno_lexer.specs.inner.Classes.{ends, is_quote, run_in};
 
 /// Characters that belong together.
 #[derive(Clone, Copy)]
 pub(crate) enum Run {
     /// An identifier.
-    Word,
+    InIdentifier,
     /// An integer.
-    Digits,
+    InInteger,
     /// The label of a goto's target.
-    Target,
+    InLabel,
     /// What stands in a literal, up to its second quote.
-    Quoted(u8),
+    InLiteral(u8),
 }
 
 pub(crate) fn is_letter(code: u8) -> bool
@@ -53,22 +53,22 @@ fn ends(run: Run, code: u8) -> bool
     ensures { result ≡ ends run code }
 {
     match run {
-        Run::Word => !(is_letter(code) || is_digit(code) || code == b'.' || code == b'_'),
-        Run::Digits => !is_digit(code),
-        Run::Target => code == b' ' || code == b')',
-        Run::Quoted(quote) => code == quote,
+        Run::InIdentifier => !(is_letter(code) || is_digit(code) || code == b'.' || code == b'_'),
+        Run::InInteger => !is_digit(code),
+        Run::InLabel => code == b' ' || code == b')',
+        Run::InLiteral(quote) => code == quote,
     }
 }
 
 fn end_of(run: Run, text: &[u8]) -> Option<usize>
-    ensures place { result ≡ position (ends run) text.now }
+    ensures offset { result ≡ position (ends run) text.now }
     ensures within { IfSome result (λ index. index ≤ length text.now) }
 {
     text.iter().position(|code| ends(run, *code))
 }
 
 fn length_of(run: Run, text: &[u8]) -> usize
-    ensures place { result ≡ position_or_len (ends run) text.now }
+    ensures offset { result ≡ position_or_len (ends run) text.now }
     ensures within { result ≤ length text.now }
 {
     end_of(run, text).unwrap_or(text.len())

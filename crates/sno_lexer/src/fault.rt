@@ -11,10 +11,10 @@ pub enum FaultKind {
     TooMany,
 }
 
-/// The first fault of a text, and the index of the character where the token begins that has it.
+/// The first fault of a text, and the offset of the character where the token begins that has it.
 #[derive(Clone, Copy, Debug, PartialEq, Eq)]
 pub struct LexFault {
     /// Counted from 0, from the beginning of the text.
-    pub at: usize,
+    pub offset: usize,
     pub kind: FaultKind,
 }

@@ -1,4 +1,4 @@
-//! Tokens with their places.
+//! Tokens with their offsets.
 ghost use Rattle.std.specs.Prelude.{◌≡◌, length};
 
 use sno_token::Token;
@@ -10,7 +10,7 @@ use std::marker::Model;
 #[derive(Debug, Drop)]
 pub struct Tokens {
     tokens: Vec<Token>,
-    places: Vec<usize>,
+    offsets: Vec<usize>,
 }
 
 impl Model for Tokens {
@@ -19,32 +19,32 @@ impl Model for Tokens {
 
     ghost Value = { TokenList };
 
-    ghost view = { λ t. record { tokens = t.tokens.items; places = t.places.items } };
+    ghost view = { λ t. record { tokens = t.tokens.items; offsets = t.offsets.items } };
 
-    ghost invariant = { λ t. length t.tokens.items ≡ length t.places.items };
+    ghost invariant = { λ t. length t.tokens.items ≡ length t.offsets.items };
 }
 
 impl Tokens {
-    pub(crate) fn new(tokens: Vec<Token>, places: Vec<usize>) -> Tokens
-        requires { length tokens.items ≡ length places.items }
-        ensures { result ≡ record { tokens = tokens.items; places = places.items } }
+    pub(crate) fn new(tokens: Vec<Token>, offsets: Vec<usize>) -> Tokens
+        requires { length tokens.items ≡ length offsets.items }
+        ensures { result ≡ record { tokens = tokens.items; offsets = offsets.items } }
     {
-        Tokens { tokens, places }
+        Tokens { tokens, offsets }
     }
 
     /// The tokens, in order.
     pub fn tokens(&self) -> &[Token]
         ensures value { result.now ≡ self.now.tokens }
-        ensures as_many { length self.now.tokens ≡ length self.now.places }
+        ensures as_many { length self.now.tokens ≡ length self.now.offsets }
     {
         &self.tokens
     }
 
     /// The index of each token's first character, counted from 0, from the beginning of the text.
-    pub fn places(&self) -> &[usize]
-        ensures value { result.now ≡ self.now.places }
-        ensures as_many { length self.now.tokens ≡ length self.now.places }
+    pub fn offsets(&self) -> &[usize]
+        ensures value { result.now ≡ self.now.offsets }
+        ensures as_many { length self.now.tokens ≡ length self.now.offsets }
     {
-        &self.places
+        &self.offsets
     }
 }

@@ -1,10 +1,10 @@
 //! Tokens, made of what begins a text.
 ghost use Rattle.std.specs.Prelude.{◌≡◌, IfOk};
-ghost use Rattle.sno_lexer.specs.Kinds.{text_of, token_with, token_of};
+ghost use Rattle.sno_lexer.specs.inner.Classes.{text_of, kind_of, token_of};
 
-use crate::begin::{Kind, Spot, blank_follows, text_of};
+use crate::begin::{Class, Context, blank_follows, text_of};
 use mon_text::{Line, read_line};
-use sno_token::{Constant, Part, Token};
+use sno_token::{Constant, Part, Token, TokenKind};
 use std::alloc::{AllocError, Global};
 
 // The line that a text is; whoever calls this knows that it is one.
@@ -17,48 +17,40 @@ fn line_of(alloc: Global, text: &[u8]) -> Result<Line, AllocError>
     }
 }
 
-fn token_with(
-    alloc: Global,
-    before: bool,
-    after: bool,
-    kind: Kind,
-    text: &[u8],
-) -> Result<Token, AllocError>
-    ensures { IfOk result (λ token. token ≡ token_with before after kind text.now) }
+fn kind_of(alloc: Global, class: Class, text: &[u8]) -> Result<TokenKind, AllocError>
+    ensures { IfOk result (λ kind. kind ≡ kind_of class text.now) }
 {
-    match kind {
-        Kind::Name => Ok(Token::Name(before, line_of(alloc, text)?)),
-        Kind::Label => Ok(Token::Part(before, after, Part::Label(line_of(alloc, text)?))),
-        Kind::Integer(value) => Ok(Token::Constant(before, Constant::Integer(value))),
-        Kind::Literal => Ok(Token::Constant(before, Constant::Literal(line_of(alloc, text)?))),
-        Kind::Operator(mark) => Ok(Token::Mark(before, after, mark)),
-        Kind::Open => Ok(Token::Open(before)),
-        Kind::Close => Ok(Token::Close(before)),
-        Kind::Comma => Ok(Token::Comma(before)),
-        Kind::Equals => Ok(Token::Part(before, after, Part::Equals)),
-        Kind::Colon => Ok(Token::Part(before, after, Part::Colon)),
-        Kind::On(outcome) => Ok(Token::Part(before, after, Part::On(outcome))),
+    match class {
+        Class::Identifier => Ok(TokenKind::Identifier(line_of(alloc, text)?)),
+        Class::Label => Ok(TokenKind::Part(Part::Label(line_of(alloc, text)?))),
+        Class::Integer(value) => Ok(TokenKind::Constant(Constant::Integer(value))),
+        Class::Literal => Ok(TokenKind::Constant(Constant::Literal(line_of(alloc, text)?))),
+        Class::Operator(mark) => Ok(TokenKind::Mark(mark)),
+        Class::Open => Ok(TokenKind::Open),
+        Class::Close => Ok(TokenKind::Close),
+        Class::Comma => Ok(TokenKind::Comma),
+        Class::Equals => Ok(TokenKind::Part(Part::Equals)),
+        Class::Colon => Ok(TokenKind::Part(Part::Colon)),
+        Class::On(outcome) => Ok(TokenKind::Part(Part::On(outcome))),
     }
 }
 
-/// The token of this kind that begins a text.
+/// The token of this class that begins a text.
 ///
 /// # Errors
 ///
 /// Where a growth was refused.
 pub(crate) fn token_of(
     alloc: Global,
-    spot: Spot,
-    kind: Kind,
+    context: Context,
+    class: Class,
     text: &[u8],
 ) -> Result<Token, AllocError>
-    ensures { IfOk result (λ token. token ≡ token_of spot kind text.now) }
+    ensures { IfOk result (λ token. token ≡ token_of context class text.now) }
 {
-    token_with(
-        alloc,
-        spot.after_blank,
-        blank_follows(kind, text),
-        kind,
-        text_of(kind, text),
-    )
+    Ok(Token {
+        blank_before: context.after_blank,
+        blank_after: blank_follows(class, text),
+        kind: kind_of(alloc, class, text_of(class, text))?,
+    })
 }

@@ -1,11 +1,11 @@
 use Rattle.std.proofs.Common.{◌∙◌, ap, length}
 use Rattle.std.specs.Option.{unwrap_or}
 use Rattle.std.specs.Prelude.{Option, ℕ}
-use Rattle.sno_lexer.specs.Kinds.{ends}
+use Rattle.sno_lexer.specs.inner.Classes.{ends}
 use Rattle.sno_lexer.proofs.Runs.{or_length}
 use Rattle.sno_lexer.proofs.character.length_of.Goals as goal
 
-pub returns-clause-place : goal.returns-clause-place
-returns-clause-place c =
+pub returns-clause-offset : goal.returns-clause-offset
+returns-clause-offset c =
     c.unwrap_or.ensures
-    ∙ (ap (λ (o : Option ℕ). unwrap_or o (length c.args.text.now)) c.end_of.ensures.place ∙ or_length (ends c.args.run) c.args.text.now)
+    ∙ (ap (λ (o : Option ℕ). unwrap_or o (length c.args.text.now)) c.end_of.ensures.offset ∙ or_length (ends c.args.run) c.args.text.now)

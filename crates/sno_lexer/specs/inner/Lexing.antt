@@ -2,54 +2,54 @@
 use Rattle.std.specs.Prelude.{ℕ, ◌+◌, ◌-◌, ◌<◌, Bool, true, false, ◌&&◌, ◌||◌, ◌==◌, nat_lt, List, [], ◌∷◌, drop, Result, Ok, Err, if◌then◌else◌}
 use Rattle.std.specs.List.{All}
 use Rattle.sno_token.specs.declared.Token.{Token}
-use Rattle.sno_lexer.specs.declared.begin.Kind.{Kind}
-use Rattle.sno_lexer.specs.declared.begin.Kind.TheVariants.{Open, Close, Colon}
-use Rattle.sno_lexer.specs.declared.begin.Spot.{Spot}
-use Rattle.sno_lexer.specs.declared.stage.Move.{Move}
-use Rattle.sno_lexer.specs.declared.stage.Move.TheVariants.{Pass, Take, Refuse}
+use Rattle.sno_lexer.specs.declared.begin.Class.{Class}
+use Rattle.sno_lexer.specs.declared.begin.Class.TheVariants.{Open, Close, Colon}
+use Rattle.sno_lexer.specs.declared.begin.Context.{Context}
+use Rattle.sno_lexer.specs.declared.lexing.Action.{Action}
+use Rattle.sno_lexer.specs.declared.lexing.Action.TheVariants.{Pass, Take, Refuse}
 use Rattle.sno_lexer.specs.declared.fault.FaultKind.{FaultKind}
 use Rattle.sno_lexer.specs.declared.fault.LexFault.{LexFault}
-use Rattle.sno_lexer.specs.Kinds.{begins_with, further, found, is_opening, token_of}
+use Rattle.sno_lexer.specs.inner.Classes.{begins_with, further, found, is_opening, token_of}
 use Rattle.sno_lexer.specs.Listed.{TokenList}
 
 -- WHERE THE STAGE STANDS
 
 -- before the first character that is read; the beginning counts as a blank
-abbrev pub start : Spot
+abbrev pub start : Context
 start = record { skip = 0; after_blank = true; tokens = 0; depth = 0; in_goto = false; inside = 0; at_target = false }
 
-abbrev pub is_colon : Kind → Bool
+abbrev pub is_colon : Class → Bool
 is_colon Colon = true
-is_colon kind = false
+is_colon class = false
 
 -- how many parentheses are open after a token; one that closes none takes nothing away
-abbrev pub depth_after : ℕ → Kind → ℕ
+abbrev pub depth_after : ℕ → Class → ℕ
 depth_after n Open = n + 1
 depth_after n Close = n - 1
-depth_after n kind = n
+depth_after n class = n
 
 -- After the first character of a token. The goto begins with the first `:` of the text, wherever that stands; `inside`
 -- counts the open parentheses that were opened in the goto, and no others; and a label is due after a `(` that stands in
 -- none of these.
-abbrev pub after : Spot → Kind → List ℕ → Spot
-after s kind text = record {
-  skip = further kind text;
+abbrev pub after : Context → Class → List ℕ → Context
+after s class text = record {
+  skip = further class text;
   after_blank = false;
   tokens = s.tokens + 1;
-  depth = depth_after s.depth kind;
-  in_goto = s.in_goto || is_colon kind;
-  inside = if s.in_goto then depth_after s.inside kind else 0;
-  at_target = s.in_goto && s.inside == 0 && is_opening kind;
+  depth = depth_after s.depth class;
+  in_goto = s.in_goto || is_colon class;
+  inside = if s.in_goto then depth_after s.inside class else 0;
+  at_target = s.in_goto && s.inside == 0 && is_opening class;
 }
 
 -- ONE CHARACTER
 
-abbrev pub taken : Result Kind FaultKind → Move
-taken (Ok kind) = Take kind
+abbrev pub taken : Result Class FaultKind → Action
+taken (Ok class) = Take class
 taken (Err fault) = Refuse fault
 
 -- what is done at the first character of a text: one that belongs to the token before it, and a blank, are passed over
-abbrev pub step : Spot → List ℕ → Move
+abbrev pub step : Context → List ℕ → Action
 step s text =
     if nat_lt 0 s.skip then Pass (record s { skip = s.skip - 1 })
     else if begins_with 32 text then Pass (record s { after_blank = true })
@@ -58,21 +58,21 @@ step s text =
 -- THE WHOLE TEXT
 
 abbrev pub no_tokens : TokenList
-no_tokens = record { tokens = []; places = [] }
+no_tokens = record { tokens = []; offsets = [] }
 
 abbrev pub with_first : Token → ℕ → Result TokenList LexFault → Result TokenList LexFault
-with_first token at (Ok list) = Ok (record { tokens = token ∷ list.tokens; places = at ∷ list.places })
+with_first token at (Ok list) = Ok (record { tokens = token ∷ list.tokens; offsets = at ∷ list.offsets })
 with_first token at (Err fault) = Err fault
 
-abbrev pub on_move : Spot → ℕ → List ℕ → Move → (Spot → Result TokenList LexFault) → Result TokenList LexFault
-on_move s at text (Pass next) rest = rest next
-on_move s at text (Take kind) rest = with_first (token_of s kind text) at (rest (after s kind text))
-on_move s at text (Refuse kind) rest = Err (record { at = at; kind = kind })
+abbrev pub on_action : Context → ℕ → List ℕ → Action → (Context → Result TokenList LexFault) → Result TokenList LexFault
+on_action s at text (Pass next) rest = rest next
+on_action s at text (Take class) rest = with_first (token_of s class text) at (rest (after s class text))
+on_action s at text (Refuse kind) rest = Err (record { offset = at; kind = kind })
 
 -- the tokens of what stands from an index on, or its first fault
-abbrev pub stage : Spot → ℕ → List ℕ → Result TokenList LexFault
+abbrev pub stage : Context → ℕ → List ℕ → Result TokenList LexFault
 stage s at [] = Ok no_tokens
-stage s at (c ∷ cs) = on_move s at (c ∷ cs) (step s (c ∷ cs)) (λ next. stage next (at + 1) cs)
+stage s at (c ∷ cs) = on_action s at (c ∷ cs) (step s (c ∷ cs)) (λ next. stage next (at + 1) cs)
 
 -- those of a text that is read from an index on
 abbrev pub lexed : List ℕ → ℕ → Result TokenList LexFault
@@ -80,7 +80,7 @@ lexed text from = stage start from (drop from text)
 
 -- WHERE TOKENS AND FAULTS STAND
 
--- all places stand before an index
+-- all offsets stand before an index
 abbrev pub StandsBefore : ℕ → Result TokenList LexFault → Type 0
-StandsBefore end (Ok list) = All (λ at. at < end) list.places
-StandsBefore end (Err fault) = fault.at < end
+StandsBefore end (Ok list) = All (λ at. at < end) list.offsets
+StandsBefore end (Err fault) = fault.offset < end

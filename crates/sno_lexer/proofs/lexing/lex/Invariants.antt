@@ -1,0 +1,12 @@
+-- What has been found, and what is found from here on, is what the text has; and no limit has been passed.
+use Rattle.std.proofs.Common.{◌≡◌, drop, length}
+use Rattle.sno_lexer.specs.inner.Lexing.{stage, lexed}
+use Rattle.sno_lexer.proofs.Loop.{IsWithin, joined}
+use Rattle.sno_lexer.proofs.lexing.lex.Given as goal
+
+abbrev pub invariant-loop-offset : goal.invariant-loop-offset
+invariant-loop-offset l = record {
+  all : joined l.tokens.items l.offsets.items (stage l.context l.offset (drop l.offset l.text)) ≡ lexed l.text l.from;
+  as_many : length l.tokens.items ≡ length l.offsets.items;
+  within : IsWithin l.context;
+}
