@@ -1,5 +1,5 @@
 -- What a reader or a writer tells of its bytes (own): some of them, or nothing at all.
-use Rattle.std.specs.Prelude.{◌≡◌, ℕ, ◌≤◌, List, [], ◌++◌, length, Option, Some, None, IfSome}
+use Rattle.std.specs.Prelude.{◌≡◌, ℕ, ◌+◌, List, [], ◌++◌, min, Option, Some, None, IfSome}
 use Rattle.std.specs.Option.{option_map}
 
 -- a reader that had the first bytes left gave these, and has the last ones left now
@@ -16,6 +16,6 @@ IsAtEnd told = IfSome told (λ left. left ≡ [])
 abbrev pub holding : Option (List ℕ) → List ℕ → Option (List ℕ)
 holding told bytes = option_map (λ held. held ++ bytes) told
 
--- at least so many bytes are left, as far as the reader tells
-abbrev pub HasAtLeast : ℕ → Option (List ℕ) → Type 0
-HasAtLeast count told = IfSome told (λ left. count ≤ length left)
+-- a count of reads after one read more: it stays where the numbers of 64 bits end
+abbrev pub one_more : ℕ → ℕ
+one_more reads = min (reads + 1) 18446744073709551615

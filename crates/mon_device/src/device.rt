@@ -1,6 +1,6 @@
 //! What a deck is read from and an output is written to.
 ghost use Rattle.std.specs.Prelude.{◌≡◌, ◌≤◌, ◌<◌, ◌||◌, ℕ, List, [], Option, Bool, length, take, is_err, IfOk, OnErr};
-ghost use Rattle.mon_device.specs.Devices.{Gives, IsAtEnd, holding};
+ghost use Rattle.mon_device.specs.Devices.{Gives, IsAtEnd, one_more, holding};
 
 use thiserror::Error;
 
@@ -17,6 +17,9 @@ pub trait DeckReader {
     // Whether a call has failed.
     ghost has_failed: { Self → Bool };
 
+    // How many reads were made.
+    ghost reads: { Self → ℕ };
+
     /// Reads bytes into the front of the buffer, and answers how many: 0 at the end alone.
     ///
     /// # Errors
@@ -28,7 +31,8 @@ pub trait DeckReader {
         ensures given { IfOk result (λ count. Gives (remaining self.old) (take count buffer.new) (remaining self.new)) }
         ensures end { IfOk result (λ count. count ≡ 0 → IsAtEnd (remaining self.new)) }
         ensures err { OnErr result (remaining self.new ≡ remaining self.old) }
-        ensures failed { has_failed self.new ≡ (has_failed self.old || is_err result) };
+        ensures failed { has_failed self.new ≡ (has_failed self.old || is_err result) }
+        ensures counted { reads self.new ≡ one_more (reads self.old) };
 }
 
 /// What an output is written to.

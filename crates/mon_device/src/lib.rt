@@ -11,6 +11,3 @@ pub use device::{DeckReader, DeckWriter, Failed};
 pub use memory::{MemReader, MemWriter};
 pub use streams::{StdReader, StdWriter};
 pub use transfer::{InputError, MOST_READS, OutputError, READ_SIZE, read_all, write_all};
-
-#[cfg(test)]
-mod tests;

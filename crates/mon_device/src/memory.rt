@@ -1,6 +1,6 @@
 //! A reader and a writer over memory: what each call moves and which call fails is said exactly.
 ghost use Rattle.std.specs.Prelude.{◌≡◌, ◌<◌, ◌≤◌, ◌-◌, ◌||◌, [], Some, None, false, length, take, drop, max, nat_le, is_err, vec_capacity, IfOk, OnErr};
-ghost use Rattle.mon_device.specs.Devices.{Gives, IsAtEnd, holding};
+ghost use Rattle.mon_device.specs.Devices.{Gives, IsAtEnd, one_more, holding};
 ghost use Rattle.mon_device.specs.Memory.{fails_next, counted_down, moved};
 
 use crate::device::{DeckReader, DeckWriter, Failed};
@@ -17,6 +17,8 @@ pub struct MemReader<'a> {
     pub calls_to_failure: Option<u64>,
     /// Whether a call has failed.
     pub has_failed: bool,
+    /// How many reads were made.
+    pub reads: u64,
     ghost gives_some: { 0 < most },
 }
 
@@ -27,12 +29,14 @@ impl<'a> MemReader<'a> {
         ensures most { result.most ≡ usize.MAX }
         ensures succeeds { result.calls_to_failure ≡ None }
         ensures sound { result.has_failed ≡ false }
+        ensures fresh { result.reads ≡ 0 }
     {
         MemReader {
             rest: bytes,
             most: usize::MAX,
             calls_to_failure: None,
             has_failed: false,
+            reads: 0,
         }
     }
 
@@ -42,12 +46,14 @@ impl<'a> MemReader<'a> {
         ensures most { result.most ≡ max most 1 }
         ensures succeeds { result.calls_to_failure ≡ None }
         ensures sound { result.has_failed ≡ false }
+        ensures fresh { result.reads ≡ 0 }
     {
         MemReader {
             rest: bytes,
             most: at_least_one(most),
             calls_to_failure: None,
             has_failed: false,
+            reads: 0,
         }
     }
 
@@ -58,12 +64,14 @@ impl<'a> MemReader<'a> {
         ensures most { result.most ≡ max most 1 }
         ensures fails { result.calls_to_failure ≡ Some call }
         ensures sound { result.has_failed ≡ false }
+        ensures fresh { result.reads ≡ 0 }
     {
         MemReader {
             rest: bytes,
             most: at_least_one(most),
             calls_to_failure: Some(call),
             has_failed: false,
+            reads: 0,
         }
     }
 }
@@ -80,6 +88,8 @@ impl DeckReader for MemReader<'_> {
 
     ghost has_failed = { λ s. s.has_failed };
 
+    ghost reads = { λ s. s.reads };
+
     fn read(&mut self, buffer: &mut [u8]) -> Result<usize, Failed>
         requires { 0 < length buffer.old }
 
@@ -89,15 +99,17 @@ impl DeckReader for MemReader<'_> {
         ensures end { IfOk result (λ count. count ≡ 0 → IsAtEnd (Some self.new.rest.now)) }
         ensures err { OnErr result (Some self.new.rest.now ≡ Some self.old.rest.now) }
         ensures failed { self.new.has_failed ≡ (self.old.has_failed || is_err result) }
+        ensures counted { self.new.reads ≡ one_more self.old.reads }
 
         // Which call fails, how many bytes the others give, and that nothing else changes.
         ensures fails { is_err result ≡ fails_next self.old.calls_to_failure }
         ensures count { IfOk result (λ count. count ≡ moved (length self.old.rest.now) (length buffer.old) self.old.most) }
         ensures beyond { IfOk result (λ count. drop count buffer.new ≡ drop count buffer.old) }
         ensures untouched { OnErr result (buffer.new ≡ buffer.old) }
-        ensures counted { self.new.calls_to_failure ≡ counted_down self.old.calls_to_failure }
+        ensures countdown { self.new.calls_to_failure ≡ counted_down self.old.calls_to_failure }
         ensures most { self.new.most ≡ self.old.most }
     {
+        self.reads = self.reads.saturating_add(1);
         if is_due(&mut self.calls_to_failure) {
             self.has_failed = true;
             return Err(Failed);

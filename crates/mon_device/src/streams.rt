@@ -13,16 +13,20 @@ pub struct StdReader<R: Read + Drop> {
     inner: R,
     /// Whether a call has failed.
     pub has_failed: bool,
+    /// How many reads were made.
+    pub reads: u64,
 }
 
 impl<R: Read + Drop> StdReader<R> {
-    /// A reader of which no call has failed.
+    /// A reader of which nothing was read.
     pub fn new(inner: R) -> StdReader<R>
-        ensures { result.has_failed ≡ false }
+        ensures sound { result.has_failed ≡ false }
+        ensures fresh { result.reads ≡ 0 }
     {
         StdReader {
             inner,
             has_failed: false,
+            reads: 0,
         }
     }
 }
@@ -32,7 +36,10 @@ impl<R: Read + Drop> DeckReader for StdReader<R> {
 
     ghost has_failed = { λ s. s.has_failed };
 
+    ghost reads = { λ s. s.reads };
+
     fn read(&mut self, buffer: &mut [u8]) -> Result<usize, Failed> {
+        self.reads = self.reads.saturating_add(1);
         for _attempt in 0..MOST_ATTEMPTS {
             match self.inner.read(buffer) {
                 Ok(count) => return Ok(count),

@@ -1,6 +1,6 @@
 //! All of a reader's bytes, and bytes to a writer.
-ghost use Rattle.std.specs.Prelude.{◌≡◌, ◌⊎◌, ◌||◌, ℕ, true, false, Some, IfOk, IfSome, OnOk, OnErr, is_err, vec_len};
-ghost use Rattle.mon_device.specs.Devices.{Gives, IsAtEnd, HasAtLeast, holding};
+ghost use Rattle.std.specs.Prelude.{◌≡◌, ◌⊎◌, ◌||◌, ◌≤◌, ℕ, true, false, Some, IfOk, IfSome, OnOk, OnErr, is_err, vec_len};
+ghost use Rattle.mon_device.specs.Devices.{Gives, IsAtEnd, holding};
 ghost use Rattle.mon_device.specs.declared.transfer.TheConstants.{MOST_READS};
 
 use crate::device::{DeckReader, DeckWriter, Failed};
@@ -71,7 +71,7 @@ pub fn read_all<R: DeckReader>(alloc: Global, reader: &mut R) -> Result<Vec<u8>,
     ensures all { IfOk result (λ bytes. Gives (R.remaining reader.old) bytes.items (R.remaining reader.new)) }
     ensures end { OnOk result (IsAtEnd (R.remaining reader.new)) }
     ensures sound { OnOk result (R.has_failed reader.new ≡ R.has_failed reader.old) }
-    ensures fault { result ≡ Err InputError.Fault → (R.has_failed reader.new ≡ true) ⊎ HasAtLeast MOST_READS (R.remaining reader.old) }
+    ensures fault { result ≡ Err InputError.Fault → (R.has_failed reader.new ≡ true) ⊎ (MOST_READS ≤ R.reads reader.new) }
 {
     let mut bytes = Vec::new(alloc);
     let mut buffer = buffer_of(alloc, READ_SIZE)?;

@@ -1,2 +1,7 @@
 //! Tests of the crates of the monitor, above them all, so that none of these is proved again for its tests.
 #![tactic(auto)]
+
+#[cfg(test)]
+mod access;
+#[cfg(test)]
+mod device;

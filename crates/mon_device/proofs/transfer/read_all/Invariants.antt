@@ -1,4 +1,4 @@
--- What has been read so far is what the reader has given; nothing has failed so far, and each read gave a byte at least.
+-- What has been read so far is what the reader has given; nothing has failed so far, and each read was counted.
 use Rattle.std.proofs.Common.{◌≡◌, ◌≤◌, vec_len}
 use Rattle.mon_device.specs.Devices.{Gives}
 use Rattle.mon_device.proofs.transfer.read_all.Given as goal
@@ -8,5 +8,5 @@ invariant-loop-read g l = record {
   buffer : vec_len l.buffer ≡ 65536;
   given : Gives (g.R.DeckReader.remaining l.fn.reader) l.bytes.items (g.R.DeckReader.remaining l.reader);
   sound : g.R.DeckReader.has_failed l.reader ≡ g.R.DeckReader.has_failed l.fn.reader;
-  many : l._read ≤ vec_len l.bytes;
+  counted : l._read ≤ g.R.DeckReader.reads l.reader;
 }
