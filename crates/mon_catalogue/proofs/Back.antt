@@ -12,7 +12,7 @@ use Rattle.mon_catalogue.specs.Text.{set_line, catalogue_lines, catalogue_text}
 use Rattle.mon_catalogue.specs.Reading.{catalogue_of}
 use Rattle.mon_catalogue.specs.Spelling.{SpellsHead, SpellsSets, IsCatalogueText}
 use Rattle.mon_catalogue.proofs.Bytes.{lines_of_text}
-use Rattle.mon_catalogue.proofs.Complete.{text_read}
+use Rattle.mon_catalogue.proofs.Whole.{text_read}
 use Rattle.mon_catalogue.proofs.Counts.{count_of_decimal}
 use Rattle.mon_catalogue.proofs.Printable.{catalogue_lines_show}
 use Rattle.mon_catalogue.proofs.Words.{words_of_line}

@@ -5,7 +5,7 @@ use Rattle.std.proofs.lemmas.List.{append-nil}
 use Rattle.mon_text.specs.Characters.{is_blank}
 use Rattle.mon_text.specs.Lines.{is_blank_line, is_nonempty, words}
 use Rattle.mon_catalogue.specs.Sets.{Sets}
-use Rattle.mon_catalogue.specs.Reading.{◌>>=◌, head_at, acl_at, records_at, set_of, sets_at}
+use Rattle.mon_catalogue.proofs.AtOnce.{◌>>=◌, head_at, acl_at, records_at, set_of, sets_at}
 use Rattle.mon_catalogue.specs.Spelling.{AreBlank}
 
 -- two tests that both hold

@@ -8,6 +8,8 @@ use Rattle.std.proofs.lemmas.List.{append_assoc, append-nil, map-append}
 use Rattle.std.proofs.Math.Seq.{drop-append_seam}
 use borrow.Author.Tests.{le-ltb, lt-leb}
 use Rattle.mon_text.specs.Counts.{value_of}
+use Rattle.mon_text.specs.declared.stop.Stop.{Stop}
+use Rattle.mon_text.specs.declared.stop.Stop.TheVariants as stop
 use Rattle.mon_text.specs.Lines.{is_blank_line, words}
 use Rattle.mon_acl.specs.declared.entries.Entry.{Entry}
 use Rattle.mon_acl.specs.declared.refusals.AclError.{AclError}
@@ -20,7 +22,7 @@ use Rattle.mon_catalogue.specs.declared.loading.CatalogueError.TheVariants.{Name
 use Rattle.mon_catalogue.specs.Records.{is_record, AreRecords}
 use Rattle.mon_catalogue.specs.Sets.{Sets, find_set, NamesDiffer}
 use Rattle.mon_catalogue.specs.Head.{head_of, head_refusal}
-use Rattle.mon_catalogue.specs.Reading.{◌>>=◌, unless, checked_head, head_at, acl_from, acl_at, records_at, set_of, sets_at, catalogue_of}
+use Rattle.mon_catalogue.proofs.AtOnce.{◌>>=◌, unless, checked_head, head_at, acl_from, acl_at, records_at, set_of, sets_at, all_at_once}
 use Rattle.mon_catalogue.specs.Spelling.{SpellsHead, SpellsSets, IsCatalogueText}
 use Rattle.mon_catalogue.proofs.Readings.{skipped}
 use Rattle.mon_catalogue.proofs.Blanks.{both, no_words, after_blanks, only_blanks}
@@ -35,8 +37,8 @@ records_taken : (n : ℕ) (records rest : List (List ℕ)) → IsTrue (list_all 
 records_taken n [] rest all = refl
 records_taken n (line ∷ records) rest all =
     let parts = both (is_record line) (list_all is_record records) all in
-    ap (λ (b : Bool). if b then (records_at (n + 1) (length records) (records ++ rest) >>= λ rs. Ok (line ∷ rs)) else Err (BadText n)) parts.0
-    ∙ ap (λ (r : Result (List (List ℕ)) CatalogueError). r >>= λ rs. Ok (line ∷ rs)) (records_taken (n + 1) records rest parts.1)
+    ap (λ (b : Bool). if b then (records_at (n + 1) (length records) (records ++ rest) >>= λ rs. Ok (line ∷ rs)) else Err (stop.Refused (BadText n))) parts.0
+    ∙ ap (λ (r : Result (List (List ℕ)) (Stop CatalogueError)). r >>= λ rs. Ok (line ∷ rs)) (records_taken (n + 1) records rest parts.1)
 
 -- a line with words is not blank
 with_words : (line word : List ℕ) (others : List (List ℕ)) → words line ≡ word ∷ others → is_blank_line line ≡ false
@@ -81,24 +83,24 @@ set_taken : (n : ℕ) (sets : Sets) (named : List ℕ × DataSet) (head list : L
     → sets_at n sets 0 (head ∷ list ∷ named.1.records ++ rest) ≡ sets_at (n + 1 + (1 + length named.1.records)) (sets ++ named ∷ []) 0 rest
 set_taken n sets named head list rest spells reads are absent few =
     ap (λ (b : Bool). if b then sets_at (n + 1) sets 0 (list ∷ named.1.records ++ rest) else (head_at n sets head >>= with_head)) (with_words head _ _ spells.1)
-    ∙ ap (λ (r : Result Head CatalogueError). r >>= with_head) (head_taken n sets head named spells are.0 absent few)
+    ∙ ap (λ (r : Result Head (Stop CatalogueError)). r >>= with_head) (head_taken n sets head named spells are.0 absent few)
     ∙ ap (λ (r : Result (List Entry) AclError). acl_from (n + 1) r >>= with_acl) reads
-    ∙ ap (λ (r : Result (List (List ℕ)) CatalogueError). r >>= with_records) (records_taken (n + 2) named.1.records rest are.1)
+    ∙ ap (λ (r : Result (List (List ℕ)) (Stop CatalogueError)). r >>= with_records) (records_taken (n + 2) named.1.records rest are.1)
     ∙ skipped (1 + length named.1.records) (n + 1) (sets ++ named ∷ []) (list ∷ named.1.records ++ rest)
     ∙ ap (λ (lines : List (List ℕ)). sets_at (n + 1 + (1 + length named.1.records)) (sets ++ named ∷ []) 0 lines) (behind list named.1.records rest)
   where
-    with_head : Head → Result Sets CatalogueError
+    with_head : Head → Result Sets (Stop CatalogueError)
     with_head h =
         acl_at (n + 1) (list ∷ named.1.records ++ rest) >>= λ acl.
         records_at (n + 2) h.count (named.1.records ++ rest) >>= λ rs.
         sets_at (n + 1) (sets ++ (h.name, set_of h acl rs) ∷ []) (1 + h.count) (list ∷ named.1.records ++ rest)
 
-    with_acl : List Entry → Result Sets CatalogueError
+    with_acl : List Entry → Result Sets (Stop CatalogueError)
     with_acl acl =
         records_at (n + 2) (length named.1.records) (named.1.records ++ rest) >>= λ rs.
         sets_at (n + 1) (sets ++ (named.0, set_of (head_for named) acl rs) ∷ []) (1 + length named.1.records) (list ∷ named.1.records ++ rest)
 
-    with_records : List (List ℕ) → Result Sets CatalogueError
+    with_records : List (List ℕ) → Result Sets (Stop CatalogueError)
     with_records rs = sets_at (n + 1) (sets ++ (named.0, set_of (head_for named) named.1.acl rs) ∷ []) (1 + length named.1.records) (list ∷ named.1.records ++ rest)
 
 complete : (sets before : Sets) (n : ℕ) (lines : List (List ℕ)) → SpellsSets lines sets → NamesDiffer (before ++ sets) → length (before ++ sets) ≤ 1000
@@ -114,5 +116,5 @@ complete (named ∷ sets) before n lines (rest, s, others) differ few =
     ∙ complete sets (before ++ named ∷ []) _ rest others (subst NamesDiffer (sym assoc) differ) (subst (λ (all : Sets). length all ≤ 1000) (sym assoc) few)
     ∙ ap Ok assoc
 
-pub text_read : (lines : List (List ℕ)) (sets : Sets) → IsCatalogueText lines sets → catalogue_of lines ≡ Ok sets
+pub text_read : (lines : List (List ℕ)) (sets : Sets) → IsCatalogueText lines sets → all_at_once lines ≡ Ok sets
 text_read lines sets (spells, is) = complete sets [] 1 lines spells is.0 is.1

@@ -1,6 +1,7 @@
 pub mod Heads
 pub mod Steps
 pub mod Texts
+pub mod AtOnce
 pub mod Readings
 pub mod Acls
 pub mod Blanks

@@ -2,6 +2,8 @@
 use Rattle.std.proofs.Common.{◌≡◌, ℕ, zero, suc, ◌+◌, ◌-◌, ◌≤◌, Bool, true, false, if◌then◌else◌, List, [], ◌∷◌, ◌++◌, Option, None, Some, Result, Ok, Err, length, drop, ◌≢◌, refl, sym, ap, ◌∙◌, arith, add-zero}
 use Rattle.std.proofs.lemmas.List.{append_assoc, append-nil, drop-drop, length-drop}
 use borrow.Author.Tests.{ne_eqb}
+use Rattle.mon_text.specs.declared.stop.Stop.{Stop}
+use Rattle.mon_text.specs.declared.stop.Stop.TheVariants as stop
 use Rattle.mon_text.specs.Lines.{is_blank_line, words}
 use Rattle.mon_acl.specs.declared.entries.Entry.{Entry}
 use Rattle.mon_acl.specs.declared.refusals.AclError.{AclError}
@@ -13,30 +15,31 @@ use Rattle.mon_catalogue.specs.declared.loading.CatalogueError.TheVariants.{BadT
 use Rattle.mon_catalogue.specs.Records.{is_record}
 use Rattle.mon_catalogue.specs.Sets.{Sets, empty_set}
 use Rattle.mon_catalogue.specs.Head.{head_of, head_refusal}
-use Rattle.mon_catalogue.specs.Progress.{Progress, SetDue, ListDue, RecordsDue, Refused, after_lines, loaded, finished, with_due, with_record, after_acl, after_head, after_words}
-use Rattle.mon_catalogue.specs.Reading.{◌>>=◌, unless, checked_head, head_at, acl_from, acl_at, records_at, set_of, sets_at, catalogue_of}
+use Rattle.mon_catalogue.specs.Progress.{Progress, SetDue, ListDue, RecordsDue, Refused, after_lines, finished, with_due, with_record, after_acl, after_head, after_words}
+use Rattle.mon_catalogue.specs.Reading.{catalogue_of}
+use Rattle.mon_catalogue.proofs.AtOnce.{◌>>=◌, unless, checked_head, head_at, acl_from, acl_at, records_at, set_of, sets_at, all_at_once}
 use Rattle.mon_catalogue.proofs.Steps.{refused_stays}
 
-abbrev said : Progress → List (List ℕ) → Result Sets CatalogueError
+abbrev said : Progress → List (List ℕ) → Result Sets (Stop CatalogueError)
 said p lines = finished (after_lines p lines)
 
-said_refused : (e : CatalogueError) (lines : List (List ℕ)) → said (Refused e) lines ≡ Err e
+said_refused : (e : CatalogueError) (lines : List (List ℕ)) → said (Refused e) lines ≡ Err (stop.Refused e)
 said_refused e lines = ap finished (refused_stays e lines)
 
 -- a set with more records
 abbrev more : DataSet → List (List ℕ) → DataSet
 more set records = record set { records = set.records ++ records }
 
-bind_assoc : {A B C : Type 0} (r : Result A CatalogueError) (f : A → Result B CatalogueError) (g : B → Result C CatalogueError)
+bind_assoc : {A B C : Type 0} (r : Result A (Stop CatalogueError)) (f : A → Result B (Stop CatalogueError)) (g : B → Result C (Stop CatalogueError))
     → ((r >>= f) >>= g) ≡ (r >>= λ x. f x >>= g)
 bind_assoc (Ok x) f g = refl
 bind_assoc (Err e) f g = refl
 
-bind_same : {A B : Type 0} (r : Result A CatalogueError) (f g : A → Result B CatalogueError) → ((x : A) → f x ≡ g x) → (r >>= f) ≡ (r >>= g)
+bind_same : {A B : Type 0} (r : Result A (Stop CatalogueError)) (f g : A → Result B (Stop CatalogueError)) → ((x : A) → f x ≡ g x) → (r >>= f) ≡ (r >>= g)
 bind_same (Ok x) f g same = same x
 bind_same (Err e) f g same = refl
 
-abbrev rest_of_records : ℕ → Sets → List ℕ → DataSet → ℕ → List (List ℕ) → List (List ℕ) → Result Sets CatalogueError
+abbrev rest_of_records : ℕ → Sets → List ℕ → DataSet → ℕ → List (List ℕ) → List (List ℕ) → Result Sets (Stop CatalogueError)
 rest_of_records n sets name set left lines records = said (SetDue (n + left) (sets ++ (name, more set records) ∷ [])) (drop left lines)
 
 -- more records are to come
@@ -62,7 +65,7 @@ records_said (suc left) n sets name set (line ∷ lines) =
 
     at : (short : Bool) → said (with_due (n + 1) sets name (with_record set line) left) lines ≡ (records_at (n + 1 + 1) left lines >>= rest_of_records (n + 1) sets name (with_record set line) left lines)
         → said (if short then with_due (n + 1) sets name (with_record set line) (suc left - 1) else Refused (BadText (n + 1))) lines
-        ≡ ((if short then (records_at (n + 1 + 1) left lines >>= λ records. Ok (line ∷ records)) else Err (BadText (n + 1))) >>= rest_of_records n sets name set (suc left) (line ∷ lines))
+        ≡ ((if short then (records_at (n + 1 + 1) left lines >>= λ records. Ok (line ∷ records)) else Err (stop.Refused (BadText (n + 1)))) >>= rest_of_records n sets name set (suc left) (line ∷ lines))
     at false again = said_refused (BadText (n + 1)) lines
     at true again =
         ap (λ (k : ℕ). said (with_due (n + 1) sets name (with_record set line) k) lines) (omega arith)
@@ -88,7 +91,7 @@ skipped (suc within) n sets [] = refl
 skipped (suc within) n sets (line ∷ lines) = skipped within (n + 1) sets lines ∙ ap (λ (m : ℕ). sets_at m sets 0 (drop within lines)) (omega arith)
 
 -- the rest of a set, where its `$SET` line was the n-th
-abbrev rest_of_set : ℕ → Sets → List (List ℕ) → Head → Result Sets CatalogueError
+abbrev rest_of_set : ℕ → Sets → List (List ℕ) → Head → Result Sets (Stop CatalogueError)
 rest_of_set n sets lines head =
     acl_at (n + 1) lines >>= λ acl.
     records_at (n + 2) head.count (drop 1 lines) >>= λ records.
@@ -139,5 +142,5 @@ text_said (suc bound) n sets (line ∷ lines) short = by_blank (is_blank_line li
     by_blank false shorter = by_head shorter (head_of (words line))
 
 -- line by line a text says what it says over all of its lines
-pub reads_all : (lines : List (List ℕ)) → finished (loaded lines) ≡ catalogue_of lines
+pub reads_all : (lines : List (List ℕ)) → catalogue_of lines ≡ all_at_once lines
 reads_all lines = text_said (length lines) 0 [] lines (omega arith)

@@ -10,6 +10,8 @@ use Rattle.std.proofs.lemmas.Slice.Eq.{bytes_eq-Decides}
 use borrow.Author.Tests.{ltb-false, leb-false}
 use Rattle.mon_text.specs.Names.{is_name, IsName}
 use Rattle.mon_text.specs.Counts.{is_count, IsCount, value_of}
+use Rattle.mon_text.specs.declared.stop.Stop.{Stop}
+use Rattle.mon_text.specs.declared.stop.Stop.TheVariants as stop
 use Rattle.mon_text.specs.Lines.{is_blank_line, words}
 use Rattle.mon_acl.specs.declared.entries.Entry.{Entry}
 use Rattle.mon_acl.specs.declared.refusals.AclError.{AclError}
@@ -23,14 +25,14 @@ use Rattle.mon_catalogue.specs.declared.loading.CatalogueError.TheVariants.{Name
 use Rattle.mon_catalogue.specs.Records.{is_record, AreRecords}
 use Rattle.mon_catalogue.specs.Sets.{Sets, find_set, NamesDiffer}
 use Rattle.mon_catalogue.specs.Head.{head_of, are_head_words, head_refusal}
-use Rattle.mon_catalogue.specs.Reading.{◌>>=◌, unless, checked_head, head_at, acl_from, acl_at, records_at, set_of, sets_at, catalogue_of}
+use Rattle.mon_catalogue.proofs.AtOnce.{◌>>=◌, unless, checked_head, head_at, acl_from, acl_at, records_at, set_of, sets_at, all_at_once}
 use Rattle.mon_catalogue.specs.Spelling.{SpellsHead, SpellsSets, IsCatalogueText}
 use Rattle.mon_catalogue.proofs.Readings.{skipped}
 use Rattle.mon_catalogue.proofs.Blanks.{both}
 use Rattle.mon_catalogue.proofs.Names.{any_name}
 use Rattle.mon_catalogue.proofs.Complete.{behind}
 
-bind_ok : {A B : Type 0} (r : Result A CatalogueError) (f : A → Result B CatalogueError) (y : B) → (r >>= f) ≡ Ok y → (x : A) × (r ≡ Ok x) × (f x ≡ Ok y)
+bind_ok : {A B : Type 0} (r : Result A (Stop CatalogueError)) (f : A → Result B (Stop CatalogueError)) (y : B) → (r >>= f) ≡ Ok y → (x : A) × (r ≡ Ok x) × (f x ≡ Ok y)
 bind_ok (Ok x) f y h = (x, refl, h)
 bind_ok (Err e) f y h = cc
 
@@ -38,7 +40,7 @@ unless_ok : {A : Type 0} (o : Option CatalogueError) (x y : A) → unless o x �
 unless_ok None x y h = (refl, cc)
 unless_ok (Some e) x y h = cc
 
-if_ok : {A : Type 0} (b : Bool) (x : Result A CatalogueError) (e : CatalogueError) (y : A) → (if b then x else Err e) ≡ Ok y → (b ≡ true) × (x ≡ Ok y)
+if_ok : {A : Type 0} (b : Bool) (x : Result A (Stop CatalogueError)) (e : Stop CatalogueError) (y : A) → (if b then x else Err e) ≡ Ok y → (b ≡ true) × (x ≡ Ok y)
 if_ok true x e y h = (refl, h)
 if_ok false x e y h = cc
 
@@ -59,7 +61,7 @@ records_read : (count n : ℕ) (lines records : List (List ℕ)) → records_at 
 records_read zero n lines records h = let none : [] ≡ records = cc in subst (λ (rs : List (List ℕ)). AreFirst rs 0 lines) none (lines, refl, refl, refl)
 records_read (suc count) n [] records h = cc
 records_read (suc count) n (line ∷ lines) records h =
-    let short = if_ok (is_record line) (records_at (n + 1) count lines >>= λ rs. Ok (line ∷ rs)) (BadText n) records h in
+    let short = if_ok (is_record line) (records_at (n + 1) count lines >>= λ rs. Ok (line ∷ rs)) (stop.Refused (BadText n)) records h in
     let (others, read, is) = bind_ok (records_at (n + 1) count lines) (λ rs. Ok (line ∷ rs)) records short.1 in
     let (rest, are, many, all) = records_read count (n + 1) lines others read in
     let all' : line ∷ others ≡ records = cc in
@@ -153,7 +155,7 @@ pub record SetRead (line : List ℕ) (lines : List (List ℕ)) (n : ℕ) (before
   few : length before < 1000
   goes_on : sets_at (n + 1 + (1 + length named.1.records)) (before ++ named ∷ []) 0 rest ≡ Ok all
 
-abbrev rest_of_set : ℕ → Sets → List (List ℕ) → Head → Result Sets CatalogueError
+abbrev rest_of_set : ℕ → Sets → List (List ℕ) → Head → Result Sets (Stop CatalogueError)
 rest_of_set n sets lines head =
     acl_at (n + 1) lines >>= λ acl.
     records_at (n + 2) head.count (drop 1 lines) >>= λ records.
@@ -269,7 +271,7 @@ no_names : NamesDiffer []
 unfolding IsDistinct
 no_names = tt
 
-pub text_spells : (lines : List (List ℕ)) (sets : Sets) → catalogue_of lines ≡ Ok sets → IsCatalogueText lines sets
+pub text_spells : (lines : List (List ℕ)) (sets : Sets) → all_at_once lines ≡ Ok sets → IsCatalogueText lines sets
 text_spells lines all h =
     let (sets, are, spells, names, many) = sound (length lines) 1 [] lines all (omega arith) h no_names (omega arith) in
     (subst (SpellsSets lines) (sym are) spells, (names, many))

@@ -6,7 +6,7 @@ use Rattle.mon_acl.specs.declared.entries.Entry.{Entry}
 use Rattle.mon_catalogue.specs.declared.data_set.DataSet.{DataSet}
 use Rattle.mon_catalogue.specs.Sets.{Sets, find_set, NamesDiffer}
 use Rattle.mon_catalogue.specs.Changes.{without_set, with_set, with_acl, listed}
-use Rattle.mon_catalogue.specs.Progress.{step, loaded, finished}
+use Rattle.mon_catalogue.specs.Progress.{step, loaded}
 use Rattle.mon_catalogue.specs.Reading.{catalogue_of}
 use Rattle.mon_catalogue.specs.Spelling.{IsCatalogueText}
 use Rattle.std.specs.Str.Lines.{lines}
@@ -20,10 +20,6 @@ ReadingSpells = (lines : List (List ℕ)) (sets : Sets) → IsCatalogueText line
 -- a text is of one catalogue at the most
 abbrev pub OneCatalogue : Type 0
 OneCatalogue = (lines : List (List ℕ)) (sets others : Sets) → IsCatalogueText lines sets → IsCatalogueText lines others → sets ≡ others
-
--- line by line a text says what it says as a whole
-abbrev pub LineByLine : Type 0
-LineByLine = (lines : List (List ℕ)) → finished (loaded lines) ≡ catalogue_of lines
 
 -- one line more is one step more
 abbrev pub OneMoreLine : Type 0

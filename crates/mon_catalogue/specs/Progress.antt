@@ -1,5 +1,7 @@
 -- Where the reading of a catalogue's text stands, line by line, and what one more line makes of it.
-use Rattle.std.specs.Prelude.{◌≡◌, ℕ, ◌+◌, ◌-◌, ◌==◌, Bool, true, false, List, [], ◌∷◌, ◌++◌, Option, None, Some, Result, Ok, Err, if◌then◌else◌}
+use Rattle.std.specs.Prelude.{◌≡◌, ℕ, ◌+◌, ◌-◌, ◌==◌, Bool, true, false, not, List, [], ◌∷◌, ◌++◌, Option, None, Some, Result, Ok, Err, if◌then◌else◌}
+use Rattle.mon_text.specs.declared.stop.Stop.{Stop}
+use Rattle.mon_text.specs.declared.stop.Stop.TheVariants as stop
 use Rattle.mon_text.specs.Lines.{is_blank_line, words}
 use Rattle.mon_acl.specs.declared.entries.Entry.{Entry}
 use Rattle.mon_acl.specs.Reading.{read_short}
@@ -7,7 +9,7 @@ use Rattle.mon_acl.specs.declared.refusals.AclError.{AclError}
 use Rattle.mon_catalogue.specs.declared.data_set.DataSet.{DataSet}
 use Rattle.mon_catalogue.specs.declared.head.Head.{Head}
 use Rattle.mon_catalogue.specs.declared.loading.CatalogueError.{CatalogueError}
-use Rattle.mon_catalogue.specs.declared.loading.CatalogueError.TheVariants.{BadText, Memory}
+use Rattle.mon_catalogue.specs.declared.loading.CatalogueError.TheVariants.{BadText}
 use Rattle.mon_catalogue.specs.Records.{is_record}
 use Rattle.mon_catalogue.specs.Sets.{Sets, empty_set}
 use Rattle.mon_catalogue.specs.Head.{head_of, head_refusal}
@@ -21,13 +23,15 @@ pub data Progress : Type 0 where
   RecordsDue : ℕ → Sets → List ℕ → DataSet → ℕ → Progress
   -- the text is refused, however it goes on
   Refused : CatalogueError → Progress
+  -- memory was short, and no line is taken any more
+  OutOfMemory : Progress
 
--- how many lines were taken; after a refusal they aren't counted
+-- how many lines were taken; once the reading has stopped they aren't counted
 abbrev pub lines_taken : Progress → ℕ
 lines_taken (SetDue n _) = n
 lines_taken (ListDue n _ _) = n
 lines_taken (RecordsDue n _ _ _ _) = n
-lines_taken (Refused _) = 0
+lines_taken _ = 0
 
 -- whether a `$SET` line is due
 abbrev pub is_due : Progress → Bool
@@ -66,13 +70,15 @@ step (SetDue n sets) line = after_set_due (n + 1) sets line
 step (ListDue n sets head) line = after_acl (n + 1) sets head (read_short line)
 step (RecordsDue n sets name set left) line = after_record (n + 1) sets name set left line
 step (Refused e) line = Refused e
+step OutOfMemory line = OutOfMemory
 
 -- what the text says if it ends here: a set that isn't whole is refused at the line after the last
-abbrev pub finished : Progress → Result Sets CatalogueError
+abbrev pub finished : Progress → Result Sets (Stop CatalogueError)
 finished (SetDue n sets) = Ok sets
-finished (ListDue n _ _) = Err (BadText (n + 1))
-finished (RecordsDue n _ _ _ _) = Err (BadText (n + 1))
-finished (Refused e) = Err e
+finished (ListDue n _ _) = Err (stop.Refused (BadText (n + 1)))
+finished (RecordsDue n _ _ _ _) = Err (stop.Refused (BadText (n + 1)))
+finished (Refused e) = Err (stop.Refused e)
+finished OutOfMemory = Err stop.Memory
 
 -- where it stands after these lines
 abbrev pub after_lines : Progress → List (List ℕ) → Progress
@@ -83,12 +89,22 @@ after_lines p (line ∷ lines) = after_lines (step p line) lines
 abbrev pub loaded : List (List ℕ) → Progress
 loaded lines = after_lines (SetDue 0 []) lines
 
-abbrev pub refusal_of : Progress → Option CatalogueError
-refusal_of (Refused e) = Some e
-refusal_of _ = None
+-- why the reading has stopped, if it has
+abbrev pub stopped : Progress → Option (Stop CatalogueError)
+stopped (Refused e) = Some (stop.Refused e)
+stopped OutOfMemory = Some stop.Memory
+stopped _ = None
 
--- after a line the reading stands at p, which refuses with e where the answer is e; where memory was short it refuses for that
-abbrev pub Answers : {A : Type 0} → Result A CatalogueError → Progress → Progress → Type 0
-Answers (Ok _) new p = (new ≡ p) × (refusal_of p ≡ None)
-Answers (Err Memory) new p = new ≡ Refused Memory
-Answers (Err e) new p = (new ≡ Refused e) × (p ≡ Refused e)
+-- whether one more line may take memory: blank lines between sets and lines that are too long for a record take none
+abbrev pub may_grow : Progress → List ℕ → Bool
+may_grow (SetDue _ _) line = not (is_blank_line line)
+may_grow (ListDue _ _ _) line = true
+may_grow (RecordsDue _ _ _ _ _) line = is_record line
+may_grow (Refused _) line = false
+may_grow OutOfMemory line = true
+
+-- after a line the reading stands at p, and has stopped where the answer is an error: for a refusal of p, or as memory was short
+abbrev pub Answers : {A : Type 0} → Result A (Stop CatalogueError) → Progress → Progress → Type 0
+Answers (Ok _) new p = (new ≡ p) × (stopped p ≡ None)
+Answers (Err (stop.Refused e)) new p = (new ≡ Refused e) × (p ≡ Refused e)
+Answers (Err stop.Memory) new p = new ≡ OutOfMemory

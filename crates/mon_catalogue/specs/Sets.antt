@@ -1,12 +1,12 @@
 -- A catalogue: its named data sets, in the order of their creation (own).
-use Rattle.std.specs.Prelude.{ℕ, ◌≤◌, nat_le, nat_eq, List, [], length, Option, None, Some, Result, Ok, Err, is_some, if◌then◌else◌}
+use Rattle.std.specs.Prelude.{ℕ, ◌≤◌, nat_le, nat_eq, List, [], length, Option, None, Some, is_some, if◌then◌else◌}
 use Rattle.std.specs.List.{IsDistinct}
 use Rattle.std.specs.Map.{lookup, keys_of}
 use Rattle.std.specs.Cmp.Lexicographic.{pointwise}
 use Rattle.mon_acl.specs.declared.entries.Entry.{Entry}
 use Rattle.mon_catalogue.specs.declared.data_set.DataSet.{DataSet}
 use Rattle.mon_catalogue.specs.declared.catalogue.CreateError.{CreateError}
-use Rattle.mon_catalogue.specs.declared.catalogue.CreateError.TheVariants.{NameTaken, CatalogueFull, Memory}
+use Rattle.mon_catalogue.specs.declared.catalogue.CreateError.TheVariants.{NameTaken, CatalogueFull}
 
 abbrev pub Sets : Type 0
 Sets = List (List ℕ × DataSet)
@@ -30,10 +30,3 @@ empty_set owner group acl = record { owner = owner; group = group; acl = acl; re
 -- why a set can't be created: its name is taken, or else there are 1,000 sets
 abbrev pub create_refusal : List ℕ → Sets → Option CreateError
 create_refusal name sets = if is_some (find_set name sets) then Some NameTaken else if nat_le 1000 (length sets) then Some CatalogueFull else None
-
--- what an answer refuses for; that memory is short is no refusal of the set
-abbrev pub refused_as : {A : Type 0} → Result A CreateError → Option CreateError
-refused_as (Ok _) = None
-refused_as (Err NameTaken) = Some NameTaken
-refused_as (Err CatalogueFull) = Some CatalogueFull
-refused_as (Err Memory) = None

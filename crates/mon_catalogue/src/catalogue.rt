@@ -5,9 +5,10 @@ ghost use Rattle.std.specs.Option.{option_copied, option_copied_mut, option_map}
 ghost use Rattle.std.specs.Result.{result_ok};
 ghost use Rattle.std.specs.Map.Iter.{deref_pair};
 ghost use Rattle.std.specs.Str.Lines.{lines};
+ghost use Rattle.mon_text.specs.Stops.{refused_as};
 ghost use Rattle.mon_catalogue.specs.Reading.{catalogue_of};
 ghost use Rattle.mon_catalogue.specs.Stored.{IsStored, ArePrintable};
-ghost use Rattle.mon_catalogue.specs.Sets.{find_set, empty_set, create_refusal, refused_as, IsCatalogue};
+ghost use Rattle.mon_catalogue.specs.Sets.{find_set, empty_set, create_refusal, IsCatalogue};
 ghost use Rattle.mon_catalogue.specs.Changes.{without_set, with_acl};
 ghost use Rattle.mon_catalogue.specs.Lending.{LendsSet};
 ghost use Rattle.mon_catalogue.specs.Text.{catalogue_text, catalogue_lines};
@@ -16,7 +17,7 @@ use crate::data_set::{DataSet, Records};
 use crate::text::put_set;
 use indexmap::IndexMap;
 use mon_acl::Acl;
-use mon_text::Name;
+use mon_text::{Name, Stop};
 use std::alloc::{AllocError, Global};
 use std::marker::Model;
 use std::mem;
@@ -53,9 +54,6 @@ pub enum CreateError {
     /// The catalogue has 1,000 sets.
     #[error("K4 CATALOGUE FULL")]
     CatalogueFull,
-    /// A growth was refused.
-    #[error("out of memory")]
-    Memory,
 }
 
 /// The catalogue has no set of the name.
@@ -114,16 +112,16 @@ impl Catalogue {
         owner: Name,
         group: Name,
         acl: Acl,
-    ) -> Result<(), CreateError>
+    ) -> Result<(), Stop<CreateError>>
         ensures created { OnOk result (self.new ≡ self.old ++ (name, empty_set owner group acl) ∷ []) }
         ensures refused { refused_as result ≡ create_refusal name self.old }
         ensures unchanged { OnErr result (self.new ≡ self.old) }
     {
         if self.sets.contains_key(&name) {
-            return Err(CreateError::NameTaken);
+            return Err(Stop::Refused(CreateError::NameTaken));
         }
         if self.len() >= MOST_SETS {
-            return Err(CreateError::CatalogueFull);
+            return Err(Stop::Refused(CreateError::CatalogueFull));
         }
         let records = Records::new(self.allocator());
         let set = DataSet {
@@ -134,7 +132,7 @@ impl Catalogue {
         };
         match self.add(name, set) {
             Ok(()) => Ok(()),
-            Err(_) => Err(CreateError::Memory),
+            Err(_) => Err(Stop::Memory),
         }
     }
 

@@ -1,5 +1,5 @@
 //! Laws over texts and catalogues: each function's contract is one, and its body is empty.
-ghost use Rattle.mon_catalogue.specs.Laws.{ReadingSpells, OneCatalogue, LineByLine, OneMoreLine, ReadsBack, BytesReadBack, WritingIsStable, OtherSetsStay, NamedSetChanges, OrderStays};
+ghost use Rattle.mon_catalogue.specs.Laws.{ReadingSpells, OneCatalogue, OneMoreLine, ReadsBack, BytesReadBack, WritingIsStable, OtherSetsStay, NamedSetChanges, OrderStays};
 
 /// Reading gives the catalogue that the text is of, and every text of a catalogue is read.
 pub fn reading_spells()
@@ -9,11 +9,6 @@ pub fn reading_spells()
 /// A text is of one catalogue at the most.
 pub fn one_catalogue()
     ensures { OneCatalogue }
-{}
-
-/// Line by line a text says what it says as a whole.
-pub fn line_by_line()
-    ensures { LineByLine }
 {}
 
 /// One line more is one step more.

@@ -9,8 +9,6 @@ pub mod data_set;
 pub mod head;
 pub mod laws;
 pub mod loading;
-#[cfg(test)]
-mod tests;
 pub mod text;
 
 pub use catalogue::{Catalogue, CreateError, MOST_SETS, NoSet};

@@ -1,10 +1,13 @@
 //! Reading a catalogue's text.
-ghost use Rattle.std.specs.Prelude.{◌≡◌, ℕ, ◌<◌, ◌≤◌, ◌+◌, ◌-◌, ◌^◌, List, [], length, Ok, Err, IfOk, IfErr, OnOk};
+ghost use Rattle.std.specs.Prelude.{◌≡◌, ℕ, ◌<◌, ◌≤◌, ◌+◌, ◌-◌, ◌^◌, List, [], length, true, not, Some, Ok, Err, IfOk, OnOk, IsErrOf, IsTrue};
+ghost use Rattle.mon_text.specs.Lines.{is_blank_line};
+ghost use Rattle.mon_text.specs.declared.stop.Stop.{Stop};
 ghost use Rattle.mon_acl.specs.Reading.{read_short};
 ghost use Rattle.mon_catalogue.specs.declared.loading.CatalogueError.{CatalogueError};
 ghost use Rattle.mon_catalogue.specs.Head.{head_refusal};
-ghost use Rattle.mon_catalogue.specs.Progress.{Refused, Answers, SetDue, step, finished, is_due, lines_taken, with_due, after_head, after_set_due, after_acl, after_record};
-ghost use Rattle.mon_catalogue.specs.Reading.{catalogue_of, catalogue_refusal, Gives, Refuses};
+ghost use Rattle.mon_catalogue.specs.Progress.{Answers, SetDue, stopped, may_grow, step, finished, is_due, lines_taken, with_due, after_head, after_set_due, after_acl, after_record};
+ghost use Rattle.mon_catalogue.specs.Reading.{catalogue_of, catalogue_refusal, Gives};
+ghost use Rattle.mon_catalogue.specs.Records.{is_record};
 ghost use Rattle.mon_catalogue.specs.Sets.{Sets};
 ghost use Rattle.mon_catalogue.specs.Spelling.{IsCatalogueText};
 ghost use Rattle.mon_catalogue.specs.Stages.{Reaches, Arrives, Pushes, IsSound, IsAwaited, progress_of};
@@ -12,8 +15,8 @@ ghost use Rattle.mon_catalogue.specs.Stages.{Reaches, Arrives, Pushes, IsSound, 
 use crate::catalogue::{Catalogue, MOST_SETS};
 use crate::data_set::{DataSet, MOST_RECORD_CHARACTERS, MOST_RECORDS, Records};
 use crate::head::{Head, read_head};
-use mon_acl::{Acl, AclError};
-use mon_text::{Line, Name};
+use mon_acl::Acl;
+use mon_text::{Line, Name, Stop};
 use std::alloc::Global;
 use std::marker::Model;
 use std::mem;
@@ -34,9 +37,6 @@ pub enum CatalogueError {
     /// The line is not what must stand there, or the text ends within a set.
     #[error("K5 BAD TEXT")]
     BadText(u64),
-    /// A growth was refused.
-    #[error("out of memory")]
-    Memory,
 }
 
 // What is due next.
@@ -45,7 +45,7 @@ pub(crate) enum Stage {
     SetDue,
     ListDue(Head),
     RecordsDue(Name, DataSet, u64),
-    Refused(CatalogueError),
+    Stopped(Stop<CatalogueError>),
 }
 
 /// A catalogue's text on its way in, line by line.
@@ -97,14 +97,15 @@ impl Loading {
     ///
     /// `BadText` where the line is not what is due; for a `$SET` line then `SetFull`, `NameTaken` and `CatalogueFull`, in this order;
     /// `Memory` where a growth was refused. After an error each further call answers the same error.
-    pub fn line(&mut self, line: Line) -> Result<(), CatalogueError>
+    pub fn line(&mut self, line: Line) -> Result<(), Stop<CatalogueError>>
         requires { lines_taken self.old < 2 ^ 63 }
         ensures step { Answers result self.new (step self.old line) }
-        ensures again { (e : CatalogueError) → self.old ≡ Refused e → (result ≡ Err e) × (self.new ≡ Refused e) }
+        ensures again { (stop : Stop CatalogueError) → stopped self.old ≡ Some stop → (result ≡ Err stop) × (self.new ≡ self.old) }
+        ensures memory { IsErrOf result Stop.Memory → IsTrue (may_grow self.old line) }
         ensures counted { lines_taken self.new ≤ lines_taken self.old + 1 }
     {
-        if let Stage::Refused(error) = &self.stage {
-            return Err(*error);
+        if let Stage::Stopped(stop) = &self.stage {
+            return Err(*stop);
         }
         let answer = advance(&mut self.catalogue, &mut self.stage, self.lines_taken, line);
         self.lines_taken += 1;
@@ -116,7 +117,7 @@ impl Loading {
     /// # Errors
     ///
     /// The error that `line` answered, if any, else `BadText` at the line after the last where a set is not whole.
-    pub fn finish(self) -> Result<Catalogue, CatalogueError>
+    pub fn finish(self) -> Result<Catalogue, Stop<CatalogueError>>
         ensures { result ≡ finished self }
     {
         let Loading {
@@ -126,25 +127,26 @@ impl Loading {
         } = self;
         match stage {
             Stage::SetDue => Ok(catalogue),
-            Stage::ListDue(_) | Stage::RecordsDue(..) => Err(CatalogueError::BadText(
+            Stage::ListDue(_) | Stage::RecordsDue(..) => Err(Stop::Refused(CatalogueError::BadText(
                 lines_taken + 1,
-            )),
-            Stage::Refused(error) => Err(error),
+            ))),
+            Stage::Stopped(stop) => Err(stop),
         }
     }
 }
 
-// Goes on by one more line. Where it is refused, the stage is that refusal from then on.
+// Goes on by one more line. Where that is an error, the stage is that error from then on.
 fn advance(
     catalogue: &mut Catalogue,
     stage: &mut Stage,
     lines_taken: u64,
     line: Line,
-) -> Result<(), CatalogueError>
+) -> Result<(), Stop<CatalogueError>>
     requires few { lines_taken < 2 ^ 63 }
     requires sound { IsSound catalogue.old stage.old }
     ensures step { Answers result (progress_of (lines_taken + 1) catalogue.new stage.new) (step (progress_of lines_taken catalogue.old stage.old) line) }
     ensures sound { IsSound catalogue.new stage.new }
+    ensures memory { IsErrOf result Stop.Memory → IsTrue (may_grow (progress_of lines_taken catalogue.old stage.old) line) }
 {
     let answer = match stage {
         Stage::RecordsDue(_, set, left) if *left > 1 => push_record(
@@ -155,8 +157,8 @@ fn advance(
         ),
         _ => turn(catalogue, stage, lines_taken, line),
     };
-    if let Err(error) = answer {
-        *stage = Stage::Refused(error);
+    if let Err(stop) = answer {
+        *stage = Stage::Stopped(stop);
     }
     answer
 }
@@ -167,20 +169,20 @@ fn push_record(
     left: &mut u64,
     number: u64,
     line: Line,
-) -> Result<(), CatalogueError>
+) -> Result<(), Stop<CatalogueError>>
     requires more { 1 < left.old }
     requires room { length set.old.records + left.old ≤ MOST_RECORDS }
     ensures pushed { Pushes number set.old left.old line set.new left.new result }
 {
     if line.len() > MOST_RECORD_CHARACTERS {
-        return Err(CatalogueError::BadText(number));
+        return Err(Stop::Refused(CatalogueError::BadText(number)));
     }
     match set.records.push(line) {
         Ok(()) => {
             *left -= 1;
             Ok(())
         }
-        Err(_) => Err(CatalogueError::Memory),
+        Err(_) => Err(Stop::Memory),
     }
 }
 
@@ -190,10 +192,10 @@ fn turn(
     stage: &mut Stage,
     lines_taken: u64,
     line: Line,
-) -> Result<(), CatalogueError>
+) -> Result<(), Stop<CatalogueError>>
     requires few { lines_taken < 2 ^ 63 }
     requires sound { IsSound catalogue.old stage.old }
-    ensures step { Arrives (lines_taken + 1) catalogue.new stage.new result (step (progress_of lines_taken catalogue.old stage.old) line) }
+    ensures step { Arrives (lines_taken + 1) catalogue.new stage.new (may_grow (progress_of lines_taken catalogue.old stage.old) line) result (step (progress_of lines_taken catalogue.old stage.old) line) }
     ensures sound { OnOk result (IsSound catalogue.new stage.new) }
 {
     let due = mem::replace(stage, Stage::SetDue);
@@ -207,10 +209,10 @@ fn after(
     lines_taken: u64,
     stage: Stage,
     line: Line,
-) -> Result<Stage, CatalogueError>
+) -> Result<Stage, Stop<CatalogueError>>
     requires few { lines_taken < 2 ^ 63 }
     requires sound { IsSound catalogue.old stage }
-    ensures step { Reaches (lines_taken + 1) catalogue.new result (step (progress_of lines_taken catalogue.old stage) line) }
+    ensures step { Reaches (lines_taken + 1) catalogue.new (may_grow (progress_of lines_taken catalogue.old stage) line) result (step (progress_of lines_taken catalogue.old stage) line) }
     ensures sound { IfOk result (IsSound catalogue.new) }
 {
     let number = lines_taken + 1;
@@ -220,36 +222,40 @@ fn after(
         Stage::RecordsDue(name, set, left) => after_record(
             catalogue, number, name, set, left, line,
         ),
-        Stage::Refused(error) => Err(error),
+        Stage::Stopped(stop) => Err(stop),
     }
 }
 
-fn after_set_due(catalogue: &Catalogue, number: u64, line: &Line) -> Result<Stage, CatalogueError>
-    ensures step { Reaches number catalogue.now result (after_set_due number catalogue.now line.now) }
+fn after_set_due(
+    catalogue: &Catalogue,
+    number: u64,
+    line: &Line,
+) -> Result<Stage, Stop<CatalogueError>>
+    ensures step { Reaches number catalogue.now (not (is_blank_line line.now)) result (after_set_due number catalogue.now line.now) }
     ensures sound { IfOk result (IsSound catalogue.now) }
 {
     if line.is_blank() {
         return Ok(Stage::SetDue);
     }
     match read_head(catalogue.allocator(), line) {
-        Err(_) => Err(CatalogueError::Memory),
-        Ok(None) => Err(CatalogueError::BadText(number)),
+        Err(_) => Err(Stop::Memory),
+        Ok(None) => Err(Stop::Refused(CatalogueError::BadText(number))),
         Ok(Some(head)) => after_head(catalogue, number, head),
     }
 }
 
-fn after_head(catalogue: &Catalogue, number: u64, head: Head) -> Result<Stage, CatalogueError>
-    ensures step { Reaches number catalogue.now result (after_head number catalogue.now head (head_refusal number catalogue.now head)) }
+fn after_head(catalogue: &Catalogue, number: u64, head: Head) -> Result<Stage, Stop<CatalogueError>>
+    ensures step { Reaches number catalogue.now true result (after_head number catalogue.now head (head_refusal number catalogue.now head)) }
     ensures sound { IfOk result (IsSound catalogue.now) }
 {
     if head.count > MOST_RECORDS {
-        return Err(CatalogueError::SetFull(number));
+        return Err(Stop::Refused(CatalogueError::SetFull(number)));
     }
     if catalogue.find(&head.name).is_some() {
-        return Err(CatalogueError::NameTaken(number));
+        return Err(Stop::Refused(CatalogueError::NameTaken(number)));
     }
     if catalogue.len() >= MOST_SETS {
-        return Err(CatalogueError::CatalogueFull(number));
+        return Err(Stop::Refused(CatalogueError::CatalogueFull(number)));
     }
     Ok(Stage::ListDue(head))
 }
@@ -259,9 +265,9 @@ fn after_list(
     number: u64,
     head: Head,
     line: &Line,
-) -> Result<Stage, CatalogueError>
+) -> Result<Stage, Stop<CatalogueError>>
     requires sound { IsAwaited catalogue.old head.name head.count }
-    ensures step { Reaches number catalogue.new result (after_acl number catalogue.old head (read_short line.now)) }
+    ensures step { Reaches number catalogue.new true result (after_acl number catalogue.old head (read_short line.now)) }
     ensures sound { IfOk result (IsSound catalogue.new) }
 {
     match Acl::parse_short(catalogue.allocator(), line.as_bytes()) {
@@ -275,8 +281,8 @@ fn after_list(
             };
             with_due(catalogue, number, head.name, set, head.count)
         }
-        Err(AclError::Memory) => Err(CatalogueError::Memory),
-        Err(_) => Err(CatalogueError::BadText(number)),
+        Err(Stop::Refused(_)) => Err(Stop::Refused(CatalogueError::BadText(number))),
+        Err(Stop::Memory) => Err(Stop::Memory),
     }
 }
 
@@ -287,17 +293,17 @@ fn after_record(
     mut set: DataSet,
     left: u64,
     line: Line,
-) -> Result<Stage, CatalogueError>
+) -> Result<Stage, Stop<CatalogueError>>
     requires sound { IsSound catalogue.old (Stage.RecordsDue name set left) }
-    ensures step { Reaches number catalogue.new result (after_record number catalogue.old name set left line) }
+    ensures step { Reaches number catalogue.new (is_record line) result (after_record number catalogue.old name set left line) }
     ensures sound { IfOk result (IsSound catalogue.new) }
 {
     if line.len() > MOST_RECORD_CHARACTERS {
-        return Err(CatalogueError::BadText(number));
+        return Err(Stop::Refused(CatalogueError::BadText(number)));
     }
     match set.records.push(line) {
         Ok(()) => with_due(catalogue, number, name, set, left - 1),
-        Err(_) => Err(CatalogueError::Memory),
+        Err(_) => Err(Stop::Memory),
     }
 }
 
@@ -308,9 +314,9 @@ fn with_due(
     name: Name,
     set: DataSet,
     left: u64,
-) -> Result<Stage, CatalogueError>
+) -> Result<Stage, Stop<CatalogueError>>
     requires sound { IsAwaited catalogue.old name (length set.records + left) }
-    ensures step { Reaches number catalogue.new result (with_due number catalogue.old name set left) }
+    ensures step { Reaches number catalogue.new true result (with_due number catalogue.old name set left) }
     ensures sound { IfOk result (IsSound catalogue.new) }
 {
     if left > 0 {
@@ -318,7 +324,7 @@ fn with_due(
     }
     match catalogue.add(name, set) {
         Ok(()) => Ok(Stage::SetDue),
-        Err(_) => Err(CatalogueError::Memory),
+        Err(_) => Err(Stop::Memory),
     }
 }
 
@@ -327,18 +333,18 @@ fn with_due(
 /// # Errors
 ///
 /// As `Loading::line` at the first line that is refused, else as `Loading::finish`.
-pub fn read_text(alloc: Global, lines: &[Line]) -> Result<Catalogue, CatalogueError>
+pub fn read_text(alloc: Global, lines: &[Line]) -> Result<Catalogue, Stop<CatalogueError>>
     requires { length lines.now < 2 ^ 63 }
     ensures spelled { IfOk result (λ catalogue. IsCatalogueText lines.now catalogue) }
     ensures only { (sets : Sets) → IsCatalogueText lines.now sets → Gives result (Ok sets) }
-    ensures refused { IfErr result (λ e. Refuses e (catalogue_refusal lines.now)) }
+    ensures refused { (refusal : CatalogueError) → IsErrOf result (Stop.Refused refusal) → catalogue_refusal lines.now ≡ Some refusal }
     ensures computed { Gives result (catalogue_of lines.now) }
 {
     let mut loading = Loading::new(alloc);
     for line in lines {
         match line.copy(alloc) {
             Ok(line) => loading.line(line)?,
-            Err(_) => return Err(CatalogueError::Memory),
+            Err(_) => return Err(Stop::Memory),
         }
     }
     loading.finish()

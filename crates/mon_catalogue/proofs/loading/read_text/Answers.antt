@@ -1,7 +1,7 @@
 -- The error of a line is the answer, whatever lines follow; else it is what the text says at its end.
 use Rattle.std.proofs.Common.{rules, ◌≡◌, get_or, Err, ap, ◌∙◌}
 use Rattle.std.proofs.lemmas.Result.{err_from_is_err_and}
-use Rattle.mon_catalogue.specs.declared.loading.CatalogueError.TheVariants.{Memory}
+use Rattle.mon_text.specs.declared.stop.Stop.TheVariants.{Memory}
 use Rattle.mon_catalogue.proofs.Steps.{reads_refusal, reads_end}
 use Rattle.mon_catalogue.proofs.Whole.{told}
 use Rattle.mon_catalogue.proofs.loading.read_text.Goals as goal
