@@ -4,11 +4,11 @@ use Rattle.std.specs.Prelude.{true, false, Some, None}
 use Rattle.sno_token.specs.declared.Mark.TheVariants as mark
 use Rattle.sno_token.specs.declared.Part.TheVariants.{Equals}
 use Rattle.sno_token.specs.declared.Token.TheVariants as token
-use Rattle.sno_expression.specs.declared.tree.Operator.TheVariants as operator
-use Rattle.sno_expression.specs.declared.tree.Sign.TheVariants as sign
-use Rattle.sno_expression.specs.declared.walking.Place.TheVariants.{AfterName, AfterMark}
+use Rattle.sno_expression.specs.declared.tree.BinaryOperator.TheVariants as operator
+use Rattle.sno_expression.specs.declared.tree.UnaryOperator.TheVariants as unary
+use Rattle.sno_expression.specs.declared.walking.Position.TheVariants.{AfterIdentifier, AfterBinary}
 use Rattle.sno_expression.specs.declared.walking.Shape.TheVariants as shape
-use Rattle.sno_expression.specs.Trees.{Identifier, Keyword, Unevaluated, Group, Call, Unary, Binary, NoArgs, Skip, Give, bad}
+use Rattle.sno_expression.specs.Expressions.{Identifier, Keyword, Unevaluated, Group, Call, Unary, Binary, NoArguments, Omitted, Argument, bad}
 use Rattle.sno_expression.specs.Walking.{take, begins, misfit}
 use Rattle.sno_expression.specs.Walking as walking
 use Rattle.sno_expression.specs.Reading.{reading, Read}
@@ -40,15 +40,15 @@ pattern = refl
 
 -- -A ** B is the power of -A
 negative : reading false (token.Mark true false mark.Minus ∷ token.Name false A ∷ token.Mark true true mark.Power ∷ token.Name true B ∷ [])
-    ≡ Read (Some (Binary operator.Power (Unary sign.Minus (Identifier A)) (Identifier B))) []
+    ≡ Read (Some (Binary operator.Power (Unary unary.Minus (Identifier A)) (Identifier B))) []
 negative = refl
 
 -- A(B,,C), and A()
 call : reading false (token.Name true A ∷ token.Open false ∷ token.Name false B ∷ token.Comma false ∷ token.Comma false ∷ token.Name false C ∷ token.Close false ∷ [])
-    ≡ Read (Some (Call A (Give (Skip (Give NoArgs (Identifier B))) (Identifier C)))) []
+    ≡ Read (Some (Call A (Argument (Omitted (Argument NoArguments (Identifier B))) (Identifier C)))) []
 call = refl
 
-empty : reading false (token.Name true A ∷ token.Open false ∷ token.Close false ∷ []) ≡ Read (Some (Call A (Skip NoArgs))) []
+empty : reading false (token.Name true A ∷ token.Open false ∷ token.Close false ∷ []) ≡ Read (Some (Call A (Omitted NoArguments))) []
 empty = refl
 
 -- &A *B
@@ -62,7 +62,7 @@ alone : reading true (token.Name true A ∷ token.Open true ∷ token.Name false
 alone = refl
 
 alone_call : reading true (token.Name true A ∷ token.Open false ∷ token.Name false B ∷ token.Close false ∷ token.Name true C ∷ [])
-    ≡ Read (Some (Call A (Give NoArgs (Identifier B)))) (token.Name true C ∷ [])
+    ≡ Read (Some (Call A (Argument NoArguments (Identifier B)))) (token.Name true C ∷ [])
 alone_call = refl
 
 -- A = B stops before the sign
@@ -90,12 +90,12 @@ apart = refl
 group : bad (Binary operator.Conditional (Identifier A) (Group (Identifier B))) ≡ 1
 group = refl
 
-indirect : bad (Binary operator.Conditional (Identifier A) (Unary sign.Indirect (Group (Identifier B)))) ≡ 0
+indirect : bad (Binary operator.Conditional (Identifier A) (Unary unary.Indirect (Group (Identifier B)))) ≡ 0
 indirect = refl
 
 -- it is seen at the parenthesis, and for A . B(C) where the name opens the call
-at_group : misfit (walking.At [] (AfterMark true)) (shape.Open true) ≡ 1
+at_group : misfit (walking.At [] (AfterBinary true)) (shape.Open true) ≡ 1
 at_group = refl
 
-at_call : misfit (walking.At [] (AfterName true)) (shape.Open false) ≡ 1
+at_call : misfit (walking.At [] (AfterIdentifier true)) (shape.Open false) ≡ 1
 at_call = refl

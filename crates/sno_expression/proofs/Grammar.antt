@@ -2,19 +2,19 @@
 use Rattle.std.proofs.Common.{◌≡◌, ◌+◌, List, [], ◌∷◌, refl, sym, ap, ◌∙◌, subst, arith}
 use Rattle.std.specs.Prelude.{Bool, true, false, Option, Some, None}
 use Rattle.sno_token.specs.declared.Token.{Token}
-use Rattle.sno_expression.specs.Trees.{Tree, HasLevels, bad}
+use Rattle.sno_expression.specs.Expressions.{Expression, HasLevels, bad}
 use Rattle.sno_expression.specs.Spelling.{Spells}
 use Rattle.sno_expression.specs.Walking.{Walk, shape_of, take, begins, misfit}
 use Rattle.sno_expression.specs.Reading.{State, read, result, Reading, Read, and_then, answer, start, reading, walk}
-use Rattle.sno_expression.specs.Laws.{OneTree, ReadsExactly, WalksExactly, CountsExactly, then_takes, takes_all, then_count, misfits}
+use Rattle.sno_expression.specs.Laws.{OneExpression, ReadsExactly, WalksExactly, CountsExactly, then_takes, takes_all, then_count, misfits}
 use Rattle.sno_expression.proofs.Feeding.{complete}
 use Rattle.sno_expression.proofs.Sound.{sound}
 use Rattle.sno_expression.proofs.Steps.{walk_of, read_walks, is_some, end_walks}
 use Rattle.sno_expression.proofs.Variables.{bad_state, read_counts, end_counts, no_bad, all_variables}
 
 -- two trees with levels that spell the same tokens are one
-pub one_tree : OneTree
-one_tree t u ts v s w r =
+pub one_expression : OneExpression
+one_expression t u ts v s w r =
     let a = complete false t s.0 ts [] v tt s.1 tt in
     let b = complete false u r.0 ts [] w tt r.1 tt in
     cc
@@ -39,7 +39,7 @@ takes_read (t ∷ ts) alone s = at (read alone s t) (take alone (walk s) (shape_
     at None w e on = sym (ap (λ (w : Option Walk). then_takes w (λ v. takes_all alone v ts)) e)
     at (Some v) w e on = sym (ap (λ (w : Option Walk). then_takes w (λ v. takes_all alone v ts)) e) ∙ on v
 
-spelled : (a : Reading) (ts : List Token) → reading false ts ≡ a → is_whole a ≡ true → (t : Tree) × HasLevels t × Spells t ts
+spelled : (a : Reading) (ts : List Token) → reading false ts ≡ a → is_whole a ≡ true → (t : Expression) × HasLevels t × Spells t ts
 spelled (Read (Some t) []) ts e h = let r = sound false ts [] t e in (t, r.levels, (r.blank, r.spells))
 spelled (Read None []) ts e h = cc
 spelled (Read o (u ∷ m)) ts e h = cc
@@ -51,10 +51,10 @@ walks_exactly ts = (
   λ h. takes_read ts false start ∙ ap is_whole (complete false h.0 h.2.0 ts [] h.1 tt h.2.1 tt),
 )
 
-tree_in : (o : Option Tree) (m rest : List Token) (u : Tree) → Read o m ≡ Read (Some u) rest → o ≡ Some u
+tree_in : (o : Option Expression) (m rest : List Token) (u : Expression) → Read o m ≡ Read (Some u) rest → o ≡ Some u
 tree_in o m rest u e = cc
 
-pub count_all : (ts : List Token) (alone : Bool) (s : State) (rest : List Token) (u : Tree) → answer alone s ts ≡ Read (Some u) rest → bad u ≡ bad_state s + misfits alone (walk s) ts
+pub count_all : (ts : List Token) (alone : Bool) (s : State) (rest : List Token) (u : Expression) → answer alone s ts ≡ Read (Some u) rest → bad u ≡ bad_state s + misfits alone (walk s) ts
 count_all [] alone s rest u e = let h = end_counts s u (tree_in (result s) [] rest u e) in omega (arith, h)
 count_all (t ∷ ts) alone s rest u e = at (read alone s t) (take alone (walk s) (shape_of t)) (read_walks alone s t) (λ v. read_counts alone s v t) e (λ v d. count_all ts alone v rest u d)
   where
@@ -71,7 +71,7 @@ count_all (t ∷ ts) alone s rest u e = at (read alone s t) (take alone (walk s)
         subst (λ (w : Option Walk). bad u ≡ bad_state s + then_count w (λ v. misfit (walk s) (shape_of t) + misfits alone v ts)) d (omega (arith, h, k))
 
 -- the misfits along a reading are those of its tree
-pub counts : (alone : Bool) (ts rest : List Token) (u : Tree) → reading alone ts ≡ Read (Some u) rest → bad u ≡ misfits alone begins ts
+pub counts : (alone : Bool) (ts rest : List Token) (u : Expression) → reading alone ts ≡ Read (Some u) rest → bad u ≡ misfits alone begins ts
 counts alone ts rest u e = let h = count_all ts alone start rest u e in omega (arith, h)
 
 pub counts_exactly : CountsExactly

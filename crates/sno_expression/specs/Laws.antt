@@ -1,18 +1,18 @@
 -- What holds of trees, tokens, walks and readings.
 use Rattle.std.specs.Prelude.{◌≡◌, ◌↔◌, ◌+◌, ℕ, Bool, true, false, List, [], ◌∷◌, Option, Some, None}
 use Rattle.sno_token.specs.declared.Token.{Token}
-use Rattle.sno_expression.specs.Trees.{Tree, HasLevels, HasVariables, Suits}
+use Rattle.sno_expression.specs.Expressions.{Expression, HasLevels, HasVariables, Suits}
 use Rattle.sno_expression.specs.Spelling.{SpellsTo, Spells}
 use Rattle.sno_expression.specs.Walking.{Walk, shape_of, take, begins, may_end, misfit}
 use Rattle.sno_expression.specs.Reading.{Read, reading, Stops}
 
 -- tokens spell at most one tree
-abbrev pub OneTree : Type 0
-OneTree = (t u : Tree) (ts : List Token) → HasLevels t → Spells t ts → HasLevels u → Spells u ts → t ≡ u
+abbrev pub OneExpression : Type 0
+OneExpression = (t u : Expression) (ts : List Token) → HasLevels t → Spells t ts → HasLevels u → Spells u ts → t ≡ u
 
 -- an expression, or one element, is read exactly where it is spelled
 abbrev pub ReadsExactly : Type 0
-ReadsExactly = (alone : Bool) (ts rest : List Token) (t : Tree) → Stops alone rest →
+ReadsExactly = (alone : Bool) (ts rest : List Token) (t : Expression) → Stops alone rest →
     (reading alone ts ≡ Read (Some t) rest) ↔ (HasLevels t × Suits alone t × ((b : Bool) × SpellsTo b t ts rest))
 
 -- does the walk take all tokens, and may it end behind them
@@ -26,7 +26,7 @@ takes_all alone w (t ∷ ts) = then_takes (take alone w (shape_of t)) (λ v. tak
 
 -- it does exactly where some tree with levels spells them
 abbrev pub WalksExactly : Type 0
-WalksExactly = (ts : List Token) → (takes_all false begins ts ≡ true) ↔ ((t : Tree) × HasLevels t × Spells t ts)
+WalksExactly = (ts : List Token) → (takes_all false begins ts ≡ true) ↔ ((t : Expression) × HasLevels t × Spells t ts)
 
 -- the misfits among the tokens that are taken
 abbrev pub then_count : Option Walk → (Walk → ℕ) → ℕ
@@ -39,4 +39,4 @@ misfits alone w (t ∷ ts) = then_count (take alone w (shape_of t)) (λ v. misfi
 
 -- there is none exactly where the tree has its variables
 abbrev pub CountsExactly : Type 0
-CountsExactly = (alone : Bool) (ts rest : List Token) (t : Tree) → reading alone ts ≡ Read (Some t) rest → (misfits alone begins ts ≡ 0) ↔ HasVariables t
+CountsExactly = (alone : Bool) (ts rest : List Token) (t : Expression) → reading alone ts ≡ Read (Some t) rest → (misfits alone begins ts ≡ 0) ↔ HasVariables t

@@ -1,5 +1,5 @@
 pub mod Marks
-pub mod Trees
+pub mod Expressions
 pub mod Spelling
 pub mod Walking
 pub mod Reading

@@ -2,16 +2,16 @@
 use Rattle.std.specs.Prelude.{Bool, true, false, Option, Some, None}
 use Rattle.sno_token.specs.declared.Mark.{Mark}
 use Rattle.sno_token.specs.declared.Mark.TheVariants as mark
-use Rattle.sno_expression.specs.declared.tree.Operator.{Operator}
-use Rattle.sno_expression.specs.declared.tree.Operator.TheVariants as operator
-use Rattle.sno_expression.specs.declared.tree.Sign.{Sign}
-use Rattle.sno_expression.specs.declared.tree.Sign.TheVariants as sign
-use Rattle.sno_expression.specs.declared.tree.Word.TheVariants as word
+use Rattle.sno_expression.specs.declared.tree.BinaryOperator.{BinaryOperator}
+use Rattle.sno_expression.specs.declared.tree.BinaryOperator.TheVariants as operator
+use Rattle.sno_expression.specs.declared.tree.UnaryOperator.{UnaryOperator}
+use Rattle.sno_expression.specs.declared.tree.UnaryOperator.TheVariants as unary
+use Rattle.sno_expression.specs.declared.tree.IdentifierPrefix.TheVariants as prefix
 use Rattle.sno_expression.specs.declared.tree.Prefix.{Prefix}
-use Rattle.sno_expression.specs.declared.tree.Prefix.TheVariants.{Signs, Words}
+use Rattle.sno_expression.specs.declared.tree.Prefix.TheVariants.{OfOperand, OfIdentifier}
 
 -- between two operands, with blanks round it
-abbrev pub operator_of : Mark → Option Operator
+abbrev pub operator_of : Mark → Option BinaryOperator
 operator_of mark.Dot = Some operator.Conditional
 operator_of mark.Dollar = Some operator.Immediate
 operator_of mark.Power = Some operator.Power
@@ -24,25 +24,25 @@ operator_of _ = None
 
 -- directly before an operand
 abbrev pub prefix_of : Mark → Option Prefix
-prefix_of mark.Plus = Some (Signs sign.Plus)
-prefix_of mark.Minus = Some (Signs sign.Minus)
-prefix_of mark.Dollar = Some (Signs sign.Indirect)
-prefix_of mark.Dot = Some (Signs sign.Name)
-prefix_of mark.At = Some (Signs sign.Cursor)
-prefix_of mark.Tilde = Some (Signs sign.Not)
-prefix_of mark.Question = Some (Signs sign.Query)
-prefix_of mark.Ampersand = Some (Words word.Keyword)
-prefix_of mark.Star = Some (Words word.Unevaluated)
+prefix_of mark.Plus = Some (OfOperand unary.Plus)
+prefix_of mark.Minus = Some (OfOperand unary.Minus)
+prefix_of mark.Dollar = Some (OfOperand unary.Indirect)
+prefix_of mark.Dot = Some (OfOperand unary.Name)
+prefix_of mark.At = Some (OfOperand unary.Cursor)
+prefix_of mark.Tilde = Some (OfOperand unary.Not)
+prefix_of mark.Question = Some (OfOperand unary.Query)
+prefix_of mark.Ampersand = Some (OfIdentifier prefix.Keyword)
+prefix_of mark.Star = Some (OfIdentifier prefix.Unevaluated)
 prefix_of _ = None
 
 -- does the operator want a variable on its right
-abbrev pub wants : Operator → Bool
-wants operator.Conditional = true
-wants operator.Immediate = true
-wants _ = false
+abbrev pub needs_variable : BinaryOperator → Bool
+needs_variable operator.Conditional = true
+needs_variable operator.Immediate = true
+needs_variable _ = false
 
 -- does the sign want a variable
-abbrev pub wants_sign : Sign → Bool
-wants_sign sign.Name = true
-wants_sign sign.Cursor = true
-wants_sign _ = false
+abbrev pub operand_is_variable : UnaryOperator → Bool
+operand_is_variable unary.Name = true
+operand_is_variable unary.Cursor = true
+operand_is_variable _ = false

@@ -6,21 +6,21 @@ use Rattle.sno_token.specs.declared.Part.{Part}
 use Rattle.sno_token.specs.declared.Part.TheVariants as part
 use Rattle.sno_token.specs.declared.Token.{Token}
 use Rattle.sno_token.specs.declared.Token.TheVariants as token
-use Rattle.sno_expression.specs.declared.tree.Operator.{Operator}
+use Rattle.sno_expression.specs.declared.tree.BinaryOperator.{BinaryOperator}
 use Rattle.sno_expression.specs.declared.tree.Prefix.{Prefix}
-use Rattle.sno_expression.specs.declared.tree.Prefix.TheVariants.{Signs, Words}
+use Rattle.sno_expression.specs.declared.tree.Prefix.TheVariants.{OfOperand, OfIdentifier}
 use Rattle.sno_expression.specs.declared.walking.PartShape.{PartShape}
 use Rattle.sno_expression.specs.declared.walking.PartShape.TheVariants as partshape
 use Rattle.sno_expression.specs.declared.walking.Shape.{Shape}
 use Rattle.sno_expression.specs.declared.walking.Shape.TheVariants.{Name, Constant, Mark as Marked, Open, Close, Comma, Part as AnyPart}
 use Rattle.sno_expression.specs.declared.walking.Paren.{Paren}
 use Rattle.sno_expression.specs.declared.walking.Paren.TheVariants.{OfGroup, OfCall}
-use Rattle.sno_expression.specs.declared.walking.Place.{Place}
-use Rattle.sno_expression.specs.declared.walking.Place.TheVariants.{AtStart, AfterMark, AfterSign, AfterWord, AfterName, AfterOperand}
+use Rattle.sno_expression.specs.declared.walking.Position.{Position}
+use Rattle.sno_expression.specs.declared.walking.Position.TheVariants.{AtStart, AfterBinary, AfterUnary, AfterPrefix, AfterIdentifier, AfterOperand}
 use Rattle.sno_expression.specs.declared.walking.Move.{Move}
 use Rattle.sno_expression.specs.declared.walking.Move.TheVariants.{Into, Within, Out}
-use Rattle.sno_expression.specs.Marks.{operator_of, prefix_of, wants, wants_sign}
-use Rattle.sno_expression.specs.Trees.{bit}
+use Rattle.sno_expression.specs.Marks.{operator_of, prefix_of, needs_variable, operand_is_variable}
+use Rattle.sno_expression.specs.Expressions.{bit}
 
 abbrev pub part_shape : Part → PartShape
 part_shape part.Equals = partshape.Equals
@@ -58,21 +58,21 @@ with_blanks b a (AnyPart _ _ p) = AnyPart b a p
 
 -- the open parentheses, the innermost first, and where among them the walk stands
 pub data Walk : Type 0 where
-  At : List Paren → Place → Walk
+  At : List Paren → Position → Walk
 
 -- an operand begins with a mark; or a mark joins two
 abbrev pub prefixed : Option Prefix → Option Move
 prefixed None = None
-prefixed (Some (Signs s)) = Some (Within (AfterSign (wants_sign s)))
-prefixed (Some (Words w)) = Some (Within AfterWord)
+prefixed (Some (OfOperand s)) = Some (Within (AfterUnary (operand_is_variable s)))
+prefixed (Some (OfIdentifier w)) = Some (Within AfterPrefix)
 
-abbrev pub joined : Option Operator → Option Move
+abbrev pub joined : Option BinaryOperator → Option Move
 joined None = None
-joined (Some o) = Some (Within (AfterMark (wants o)))
+joined (Some o) = Some (Within (AfterBinary (needs_variable o)))
 
 -- an operand begins; is a variable wanted
 abbrev pub begin : Bool → Shape → Option Move
-begin w (Name b) = Some (Within (AfterName w))
+begin w (Name b) = Some (Within (AfterIdentifier w))
 begin w (Constant b) = Some (Within AfterOperand)
 begin w (Marked b false m) = prefixed (prefix_of m)
 begin w (Open b) = Some (Into OfGroup AtStart)
@@ -113,26 +113,26 @@ abbrev pub after : Bool → Option Paren → Shape → Option Move
 after alone inner t = if stops alone inner then None else go_on inner t
 
 -- the identifier after `&` or `*`
-abbrev pub after_word : Shape → Option Move
-after_word (Name false) = Some (Within AfterOperand)
-after_word _ = None
+abbrev pub after_prefix : Shape → Option Move
+after_prefix (Name false) = Some (Within AfterOperand)
+after_prefix _ = None
 
 -- a parenthesis that touches an identifier makes it a call
 abbrev pub opens_call : Shape → Bool
 opens_call (Open false) = true
 opens_call _ = false
 
-abbrev pub after_name : Bool → Option Paren → Shape → Option Move
-after_name alone inner t = if opens_call t then Some (Into OfCall AtStart) else after alone inner t
+abbrev pub after_identifier : Bool → Option Paren → Shape → Option Move
+after_identifier alone inner t = if opens_call t then Some (Into OfCall AtStart) else after alone inner t
 
 -- what one more token does at a place within the innermost open parenthesis, unless it is not taken there;
 -- alone: is one element alone to be read
-abbrev pub step : Bool → Option Paren → Place → Shape → Option Move
+abbrev pub step : Bool → Option Paren → Position → Shape → Option Move
 step alone inner AtStart t = first inner t
-step alone inner (AfterMark w) t = if blank_before t then begin w t else None
-step alone inner (AfterSign w) t = if blank_before t then None else begin w t
-step alone inner AfterWord t = after_word t
-step alone inner (AfterName w) t = after_name alone inner t
+step alone inner (AfterBinary w) t = if blank_before t then begin w t else None
+step alone inner (AfterUnary w) t = if blank_before t then None else begin w t
+step alone inner AfterPrefix t = after_prefix t
+step alone inner (AfterIdentifier w) t = after_identifier alone inner t
 step alone inner AfterOperand t = after alone inner t
 
 abbrev pub inner_of : List Paren → Option Paren
@@ -145,25 +145,25 @@ outer_of (p ∷ ps) = ps
 
 abbrev pub moved : List Paren → Option Move → Option Walk
 moved ps None = None
-moved ps (Some (Into p place)) = Some (At (p ∷ ps) place)
-moved ps (Some (Within place)) = Some (At ps place)
-moved ps (Some (Out place)) = Some (At (outer_of ps) place)
+moved ps (Some (Into p position)) = Some (At (p ∷ ps) position)
+moved ps (Some (Within position)) = Some (At ps position)
+moved ps (Some (Out position)) = Some (At (outer_of ps) position)
 
 -- the walk after one more token, unless it does not take it
 abbrev pub take : Bool → Walk → Shape → Option Walk
-take alone (At ps place) t = moved ps (step alone (inner_of ps) place t)
+take alone (At ps position) t = moved ps (step alone (inner_of ps) position t)
 
 abbrev pub begins : Walk
 begins = At [] AtStart
 
 -- may the expression end here
-abbrev pub ends : Option Paren → Place → Bool
-ends None (AfterName w) = true
+abbrev pub ends : Option Paren → Position → Bool
+ends None (AfterIdentifier w) = true
 ends None AfterOperand = true
 ends _ _ = false
 
 abbrev pub may_end : Walk → Bool
-may_end (At ps place) = ends (inner_of ps) place
+may_end (At ps position) = ends (inner_of ps) position
 
 -- an element that stands where a variable is wanted and is none is seen where it begins, or where a name opens a call
 abbrev pub is_dollar : Mark → Bool
@@ -175,19 +175,19 @@ begins_variable (Name b) = true
 begins_variable (Marked b a m) = is_dollar m
 begins_variable _ = false
 
-abbrev pub is_misfit : Place → Shape → Bool
-is_misfit (AfterMark w) t = w && not (begins_variable t)
-is_misfit (AfterSign w) t = w && not (begins_variable t)
-is_misfit (AfterName w) t = w && opens_call t
+abbrev pub is_misfit : Position → Shape → Bool
+is_misfit (AfterBinary w) t = w && not (begins_variable t)
+is_misfit (AfterUnary w) t = w && not (begins_variable t)
+is_misfit (AfterIdentifier w) t = w && opens_call t
 is_misfit _ t = false
 
 abbrev pub misfit : Walk → Shape → ℕ
-misfit (At ps place) t = bit (is_misfit place t)
+misfit (At ps position) t = bit (is_misfit position t)
 
 -- where the element begins that is a misfit at token i
-abbrev pub place_of : ℕ → Place → ℕ
-place_of i (AfterName w) = i - 1
-place_of i _ = i
+abbrev pub misfit_index : ℕ → Position → ℕ
+misfit_index i (AfterIdentifier w) = i - 1
+misfit_index i _ = i
 
 abbrev pub where_of : ℕ → Walk → ℕ
-where_of i (At ps place) = place_of i place
+where_of i (At ps position) = misfit_index i position

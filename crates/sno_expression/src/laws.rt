@@ -1,9 +1,9 @@
 //! Laws of expressions: each function's contract is one, and its body is empty.
-ghost use Rattle.sno_expression.specs.Laws.{OneTree, ReadsExactly, WalksExactly, CountsExactly};
+ghost use Rattle.sno_expression.specs.Laws.{OneExpression, ReadsExactly, WalksExactly, CountsExactly};
 
 /// Tokens spell at most one tree.
-pub fn one_tree()
-    ensures { OneTree }
+pub fn one_expression()
+    ensures { OneExpression }
 {}
 
 /// An expression is read exactly where its tree is spelled, and an element alone exactly where it is.

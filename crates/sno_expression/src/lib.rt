@@ -7,9 +7,9 @@ mod tree;
 mod walking;
 
 pub use reading::{Found, read_expression};
-pub use tree::{Args, Operator, Prefix, Sign, Tree, Word};
+pub use tree::{Arguments, BinaryOperator, Prefix, UnaryOperator, Expression, IdentifierPrefix};
 pub use walking::{
-    Move, Paren, PartShape, Place, Shape, blank_before, ends, is_misfit, place_of, shape_of, step,
+    Move, Paren, PartShape, Position, Shape, blank_before, ends, is_misfit, misfit_index, shape_of, step,
     with_blanks,
 };
 

@@ -3,14 +3,14 @@
 ghost use Rattle.std.specs.Prelude.{◌≡◌, ◌≤◌, IfOk, length, drop, Some, None};
 ghost use Rattle.sno_expression.specs.Marks.{operator_of, prefix_of};
 ghost use Rattle.sno_expression.specs.Walking.{inner_of};
-ghost use Rattle.sno_expression.specs.Trees as trees;
-ghost use Rattle.sno_expression.specs.Reading.{fill, prefixed, joined, begin, close, comma, first, go_on, closed, after, due, wording, named, read, ended, result as result_of, parens, Read, reading};
+ghost use Rattle.sno_expression.specs.Expressions as expressions;
+ghost use Rattle.sno_expression.specs.Reading.{fill, prefixed, joined, begin, close, comma, first, go_on, closed, after, due, after_prefix, named, read, ended, result as result_of, parens, Read, reading};
 ghost use Rattle.sno_expression.specs.Reading as states;
-ghost use Rattle.sno_expression.specs.Told.{tree_of, args_of, trees_of, hole_of, stack_of, state_of, stepped, step_of, Next, End};
+ghost use Rattle.sno_expression.specs.Told.{expression_of, arguments_of, expressions_of, hole_of, stack_of, state_of, stepped, step_of, Next, End};
 
 use crate::tree::{
-    Args, Operator, Prefix, Sign, Tree, Word, copy_constant, give, operator_of, prefix_of, push,
-    skip, worded,
+    Arguments, BinaryOperator, Prefix, UnaryOperator, Expression, IdentifierPrefix, copy_constant, add_argument, operator_of, prefix_of, push,
+    omit_argument, with_prefix,
 };
 use crate::walking::{Paren, blank_before, opens_call, shape_of, stops};
 use mon_text::Line;
@@ -21,8 +21,8 @@ use std::alloc::{AllocError, Global};
 #[derive(Drop)]
 pub(crate) enum Hole {
     Begin,
-    After(Tree, Operator),
-    Signed(Sign, Box<Hole>),
+    After(Expression, BinaryOperator),
+    Under(UnaryOperator, Box<Hole>),
 }
 
 /// The open parentheses, the innermost outside, each with what waits for it.
@@ -30,7 +30,7 @@ pub(crate) enum Hole {
 pub(crate) enum Stack {
     Bottom,
     InGroup(Hole, Box<Stack>),
-    InCall(Line, Args, Hole, Box<Stack>),
+    InCall(Line, Arguments, Hole, Box<Stack>),
 }
 
 /// What stands innermost.
@@ -39,11 +39,11 @@ pub(crate) enum Spot {
     /// An operand is due.
     Due(Hole),
     /// The identifier of a keyword or of an unevaluated expression is due.
-    Wording(Hole, Word),
+    Prefixed(Hole, IdentifierPrefix),
     /// An identifier, which may yet open a call.
     Named(Hole, Line),
     /// A whole operand.
-    Whole(Tree),
+    Whole(Expression),
 }
 
 /// How far an expression has been read.
@@ -58,20 +58,20 @@ pub(crate) struct State {
 pub(crate) enum Step {
     Next(State),
     /// It is not taken: the tree, where one is complete.
-    End(Option<Tree>),
+    End(Option<Expression>),
 }
 
 /// An expression that was read.
 #[derive(Drop)]
 pub struct Found {
     /// The tree, where one was complete.
-    pub tree: Option<Tree>,
+    pub tree: Option<Expression>,
     /// The index of the first token that was not taken, or of the end.
     pub next: usize,
 }
 
-fn fill(alloc: Global, hole: Hole, operand: Tree) -> Result<Tree, AllocError>
-    ensures { IfOk result (λ t. tree_of t ≡ fill (hole_of hole) (tree_of operand)) }
+fn fill(alloc: Global, hole: Hole, operand: Expression) -> Result<Expression, AllocError>
+    ensures { IfOk result (λ t. expression_of t ≡ fill (hole_of hole) (expression_of operand)) }
 {
     match hole {
         Hole::Begin => Ok(operand),
@@ -79,16 +79,16 @@ fn fill(alloc: Global, hole: Hole, operand: Tree) -> Result<Tree, AllocError>
             push(alloc, operator, operand, &mut tree)?;
             Ok(tree)
         }
-        Hole::Signed(sign, rest) => {
+        Hole::Under(unary, rest) => {
             let operand = Box::new(alloc, operand)?;
-            fill(alloc, Box::into_inner(rest), Tree::Unary(sign, operand))
+            fill(alloc, Box::into_inner(rest), Expression::Unary(unary, operand))
         }
     }
 }
 
 // A whole operand, in its place.
-fn whole(alloc: Global, stack: Stack, hole: Hole, operand: Tree) -> Result<Step, AllocError>
-    ensures { IfOk result (λ s. step_of s ≡ Next (states.At (stack_of stack) (states.Whole (fill (hole_of hole) (tree_of operand))))) }
+fn whole(alloc: Global, stack: Stack, hole: Hole, operand: Expression) -> Result<Step, AllocError>
+    ensures { IfOk result (λ s. step_of s ≡ Next (states.At (stack_of stack) (states.Whole (fill (hole_of hole) (expression_of operand))))) }
 {
     let tree = fill(alloc, hole, operand)?;
     Ok(Step::Next(State {
@@ -98,8 +98,8 @@ fn whole(alloc: Global, stack: Stack, hole: Hole, operand: Tree) -> Result<Step,
 }
 
 // The tree, where one is complete.
-fn complete(stack: Stack, tree: Tree) -> Option<Tree>
-    ensures { trees_of result ≡ ended (stack_of stack) (tree_of tree) }
+fn complete(stack: Stack, tree: Expression) -> Option<Expression>
+    ensures { expressions_of result ≡ ended (stack_of stack) (expression_of tree) }
 {
     match stack {
         Stack::Bottom => Some(tree),
@@ -108,7 +108,7 @@ fn complete(stack: Stack, tree: Tree) -> Option<Tree>
     }
 }
 
-fn name_begins(alloc: Global, stack: Stack, hole: Hole, name: &Line) -> Result<Step, AllocError>
+fn identifier_begins(alloc: Global, stack: Stack, hole: Hole, name: &Line) -> Result<Step, AllocError>
     ensures { IfOk result (λ s. step_of s ≡ Next (states.At (stack_of stack) (states.Named (hole_of hole) name.now))) }
 {
     let name = name.copy(alloc)?;
@@ -124,10 +124,10 @@ fn constant_begins(
     hole: Hole,
     constant: &Constant,
 ) -> Result<Step, AllocError>
-    ensures { IfOk result (λ s. step_of s ≡ Next (states.At (stack_of stack) (states.Whole (fill (hole_of hole) (trees.Constant constant.now))))) }
+    ensures { IfOk result (λ s. step_of s ≡ Next (states.At (stack_of stack) (states.Whole (fill (hole_of hole) (expressions.Constant constant.now))))) }
 {
     let constant = copy_constant(alloc, constant)?;
-    whole(alloc, stack, hole, Tree::Constant(constant))
+    whole(alloc, stack, hole, Expression::Constant(constant))
 }
 
 fn group_begins(alloc: Global, stack: Stack, hole: Hole) -> Result<Step, AllocError>
@@ -149,16 +149,16 @@ fn prefix_begins(
     ensures { IfOk result (λ s. step_of s ≡ stepped (prefixed (stack_of stack) (hole_of hole) (Some prefix)) None) }
 {
     match prefix {
-        Prefix::Signs(sign) => {
+        Prefix::OfOperand(unary) => {
             let hole = Box::new(alloc, hole)?;
             Ok(Step::Next(State {
                 stack,
-                spot: Spot::Due(Hole::Signed(sign, hole)),
+                spot: Spot::Due(Hole::Under(unary, hole)),
             }))
         }
-        Prefix::Words(word) => Ok(Step::Next(State {
+        Prefix::OfIdentifier(prefix) => Ok(Step::Next(State {
             stack,
-            spot: Spot::Wording(hole, word),
+            spot: Spot::Prefixed(hole, prefix),
         })),
     }
 }
@@ -177,7 +177,7 @@ fn begin(alloc: Global, stack: Stack, hole: Hole, token: &Token) -> Result<Step,
     ensures { IfOk result (λ s. step_of s ≡ stepped (begin (stack_of stack) (hole_of hole) token.now) None) }
 {
     match token {
-        Token::Name(_, name) => name_begins(alloc, stack, hole, name),
+        Token::Name(_, name) => identifier_begins(alloc, stack, hole, name),
         Token::Constant(_, constant) => constant_begins(alloc, stack, hole, constant),
         Token::Mark(_, false, mark) => mark_begins(alloc, stack, hole, *mark),
         Token::Open(_) => group_begins(alloc, stack, hole),
@@ -187,33 +187,33 @@ fn begin(alloc: Global, stack: Stack, hole: Hole, token: &Token) -> Result<Step,
     }
 }
 
-fn close(alloc: Global, stack: Stack, tree: Tree) -> Result<Step, AllocError>
-    ensures { IfOk result (λ s. step_of s ≡ stepped (close (stack_of stack) (tree_of tree)) (ended (stack_of stack) (tree_of tree))) }
+fn close(alloc: Global, stack: Stack, tree: Expression) -> Result<Step, AllocError>
+    ensures { IfOk result (λ s. step_of s ≡ stepped (close (stack_of stack) (expression_of tree)) (ended (stack_of stack) (expression_of tree))) }
 {
     match stack {
         Stack::Bottom => Ok(Step::End(Some(tree))),
         Stack::InGroup(hole, below) => {
             let tree = Box::new(alloc, tree)?;
-            whole(alloc, Box::into_inner(below), hole, Tree::Group(tree))
+            whole(alloc, Box::into_inner(below), hole, Expression::Group(tree))
         }
-        Stack::InCall(name, args, hole, below) => {
-            let args = give(alloc, args, tree)?;
-            let args = Box::new(alloc, args)?;
-            whole(alloc, Box::into_inner(below), hole, Tree::Call(name, args))
+        Stack::InCall(name, arguments, hole, below) => {
+            let arguments = add_argument(alloc, arguments, tree)?;
+            let arguments = Box::new(alloc, arguments)?;
+            whole(alloc, Box::into_inner(below), hole, Expression::Call(name, arguments))
         }
     }
 }
 
-fn comma(alloc: Global, stack: Stack, tree: Tree) -> Result<Step, AllocError>
-    ensures { IfOk result (λ s. step_of s ≡ stepped (comma (stack_of stack) (tree_of tree)) (ended (stack_of stack) (tree_of tree))) }
+fn comma(alloc: Global, stack: Stack, tree: Expression) -> Result<Step, AllocError>
+    ensures { IfOk result (λ s. step_of s ≡ stepped (comma (stack_of stack) (expression_of tree)) (ended (stack_of stack) (expression_of tree))) }
 {
     match stack {
         Stack::Bottom => Ok(Step::End(Some(tree))),
         Stack::InGroup(_, _) => Ok(Step::End(None)),
-        Stack::InCall(name, args, hole, below) => {
-            let args = give(alloc, args, tree)?;
+        Stack::InCall(name, arguments, hole, below) => {
+            let arguments = add_argument(alloc, arguments, tree)?;
             Ok(Step::Next(State {
-                stack: Stack::InCall(name, args, hole, below),
+                stack: Stack::InCall(name, arguments, hole, below),
                 spot: Spot::Due(Hole::Begin),
             }))
         }
@@ -223,15 +223,15 @@ fn comma(alloc: Global, stack: Stack, tree: Tree) -> Result<Step, AllocError>
 fn empty_before_comma(
     alloc: Global,
     name: Line,
-    args: Args,
+    arguments: Arguments,
     hole: Hole,
     below: Box<Stack>,
 ) -> Result<Step, AllocError>
-    ensures { IfOk result (λ s. step_of s ≡ Next (states.At (states.InCall name (trees.Skip (args_of args)) (hole_of hole) (stack_of below.value)) (states.Due states.Begin))) }
+    ensures { IfOk result (λ s. step_of s ≡ Next (states.At (states.InCall name (expressions.Omitted (arguments_of arguments)) (hole_of hole) (stack_of below.value)) (states.Due states.Begin))) }
 {
-    let args = skip(alloc, args)?;
+    let arguments = omit_argument(alloc, arguments)?;
     Ok(Step::Next(State {
-        stack: Stack::InCall(name, args, hole, below),
+        stack: Stack::InCall(name, arguments, hole, below),
         spot: Spot::Due(Hole::Begin),
     }))
 }
@@ -239,38 +239,38 @@ fn empty_before_comma(
 fn empty_at_end(
     alloc: Global,
     name: Line,
-    args: Args,
+    arguments: Arguments,
     hole: Hole,
     below: Stack,
 ) -> Result<Step, AllocError>
-    ensures { IfOk result (λ s. step_of s ≡ Next (states.At (stack_of below) (states.Whole (fill (hole_of hole) (trees.Call name (trees.Skip (args_of args))))))) }
+    ensures { IfOk result (λ s. step_of s ≡ Next (states.At (stack_of below) (states.Whole (fill (hole_of hole) (expressions.Call name (expressions.Omitted (arguments_of arguments))))))) }
 {
-    let args = skip(alloc, args)?;
-    let args = Box::new(alloc, args)?;
-    whole(alloc, below, hole, Tree::Call(name, args))
+    let arguments = omit_argument(alloc, arguments)?;
+    let arguments = Box::new(alloc, arguments)?;
+    whole(alloc, below, hole, Expression::Call(name, arguments))
 }
 
 // An argument begins, or is empty.
 fn first_of_call(
     alloc: Global,
     name: Line,
-    args: Args,
+    arguments: Arguments,
     hole: Hole,
     below: Box<Stack>,
     token: &Token,
 ) -> Result<Step, AllocError>
-    ensures { IfOk result (λ s. step_of s ≡ stepped (first (states.InCall name (args_of args) (hole_of hole) (stack_of below.value)) token.now) None) }
+    ensures { IfOk result (λ s. step_of s ≡ stepped (first (states.InCall name (arguments_of arguments) (hole_of hole) (stack_of below.value)) token.now) None) }
 {
     match token {
-        Token::Comma(_) => empty_before_comma(alloc, name, args, hole, below),
-        Token::Close(_) => empty_at_end(alloc, name, args, hole, Box::into_inner(below)),
+        Token::Comma(_) => empty_before_comma(alloc, name, arguments, hole, below),
+        Token::Close(_) => empty_at_end(alloc, name, arguments, hole, Box::into_inner(below)),
         Token::Name(_, _)
         | Token::Constant(_, _)
         | Token::Mark(_, _, _)
         | Token::Open(_)
         | Token::Part(_, _, _) => begin(
             alloc,
-            Stack::InCall(name, args, hole, below),
+            Stack::InCall(name, arguments, hole, below),
             Hole::Begin,
             token,
         ),
@@ -289,14 +289,14 @@ fn first(alloc: Global, stack: Stack, token: &Token) -> Result<Step, AllocError>
             Hole::Begin,
             token,
         ),
-        Stack::InCall(name, args, hole, below) => first_of_call(
-            alloc, name, args, hole, below, token,
+        Stack::InCall(name, arguments, hole, below) => first_of_call(
+            alloc, name, arguments, hole, below, token,
         ),
     }
 }
 
-fn operator_follows(stack: Stack, tree: Tree, mark: Mark) -> Step
-    ensures { step_of result ≡ stepped (joined (stack_of stack) (tree_of tree) (operator_of mark)) (ended (stack_of stack) (tree_of tree)) }
+fn operator_follows(stack: Stack, tree: Expression, mark: Mark) -> Step
+    ensures { step_of result ≡ stepped (joined (stack_of stack) (expression_of tree) (operator_of mark)) (ended (stack_of stack) (expression_of tree)) }
 {
     match operator_of(mark) {
         Some(operator) => Step::Next(State {
@@ -307,48 +307,48 @@ fn operator_follows(stack: Stack, tree: Tree, mark: Mark) -> Step
     }
 }
 
-fn prefix_follows(alloc: Global, stack: Stack, tree: Tree, mark: Mark) -> Result<Step, AllocError>
-    ensures { IfOk result (λ s. step_of s ≡ stepped (prefixed (stack_of stack) (states.After (tree_of tree) Operator.Concatenation) (prefix_of mark)) (ended (stack_of stack) (tree_of tree))) }
+fn prefix_follows(alloc: Global, stack: Stack, tree: Expression, mark: Mark) -> Result<Step, AllocError>
+    ensures { IfOk result (λ s. step_of s ≡ stepped (prefixed (stack_of stack) (states.After (expression_of tree) BinaryOperator.Concatenation) (prefix_of mark)) (ended (stack_of stack) (expression_of tree))) }
 {
     match prefix_of(mark) {
-        Some(Prefix::Signs(sign)) => prefix_begins(
+        Some(Prefix::OfOperand(unary)) => prefix_begins(
             alloc,
             stack,
-            Hole::After(tree, Operator::Concatenation),
-            Prefix::Signs(sign),
+            Hole::After(tree, BinaryOperator::Concatenation),
+            Prefix::OfOperand(unary),
         ),
-        Some(Prefix::Words(word)) => prefix_begins(
+        Some(Prefix::OfIdentifier(prefix)) => prefix_begins(
             alloc,
             stack,
-            Hole::After(tree, Operator::Concatenation),
-            Prefix::Words(word),
+            Hole::After(tree, BinaryOperator::Concatenation),
+            Prefix::OfIdentifier(prefix),
         ),
         None => Ok(Step::End(complete(stack, tree))),
     }
 }
 
 // After an operand.
-fn go_on(alloc: Global, stack: Stack, tree: Tree, token: &Token) -> Result<Step, AllocError>
-    ensures { IfOk result (λ s. step_of s ≡ stepped (go_on (stack_of stack) (tree_of tree) token.now) (ended (stack_of stack) (tree_of tree))) }
+fn go_on(alloc: Global, stack: Stack, tree: Expression, token: &Token) -> Result<Step, AllocError>
+    ensures { IfOk result (λ s. step_of s ≡ stepped (go_on (stack_of stack) (expression_of tree) token.now) (ended (stack_of stack) (expression_of tree))) }
 {
     match token {
         Token::Mark(true, true, mark) => Ok(operator_follows(stack, tree, *mark)),
         Token::Mark(true, false, mark) => prefix_follows(alloc, stack, tree, *mark),
-        Token::Name(true, name) => name_begins(
+        Token::Name(true, name) => identifier_begins(
             alloc,
             stack,
-            Hole::After(tree, Operator::Concatenation),
+            Hole::After(tree, BinaryOperator::Concatenation),
             name,
         ),
         Token::Constant(true, constant) => {
             constant_begins(
                 alloc,
                 stack,
-                Hole::After(tree, Operator::Concatenation),
+                Hole::After(tree, BinaryOperator::Concatenation),
                 constant,
             )
         }
-        Token::Open(true) => group_begins(alloc, stack, Hole::After(tree, Operator::Concatenation)),
+        Token::Open(true) => group_begins(alloc, stack, Hole::After(tree, BinaryOperator::Concatenation)),
         Token::Close(_) => close(alloc, stack, tree),
         Token::Comma(_) => comma(alloc, stack, tree),
         Token::Mark(false, _, _)
@@ -380,10 +380,10 @@ fn after(
     alloc: Global,
     alone: bool,
     stack: Stack,
-    tree: Tree,
+    tree: Expression,
     token: &Token,
 ) -> Result<Step, AllocError>
-    ensures { IfOk result (λ s. step_of s ≡ stepped (after alone (stack_of stack) (tree_of tree) token.now) (ended (stack_of stack) (tree_of tree))) }
+    ensures { IfOk result (λ s. step_of s ≡ stepped (after alone (stack_of stack) (expression_of tree) token.now) (ended (stack_of stack) (expression_of tree))) }
 {
     if closed(alone, &stack) {
         Ok(Step::End(complete(stack, tree)))
@@ -404,40 +404,40 @@ fn due(alloc: Global, stack: Stack, hole: Hole, token: &Token) -> Result<Step, A
                 Ok(Step::End(None))
             }
         }
-        Hole::Signed(sign, rest) => {
+        Hole::Under(unary, rest) => {
             if blank_before(shape_of(token)) {
                 Ok(Step::End(None))
             } else {
-                begin(alloc, stack, Hole::Signed(sign, rest), token)
+                begin(alloc, stack, Hole::Under(unary, rest), token)
             }
         }
     }
 }
 
-fn word_ends(
+fn prefix_ends(
     alloc: Global,
     stack: Stack,
     hole: Hole,
-    word: Word,
+    prefix: IdentifierPrefix,
     name: &Line,
 ) -> Result<Step, AllocError>
-    ensures { IfOk result (λ s. step_of s ≡ Next (states.At (stack_of stack) (states.Whole (fill (hole_of hole) (states.worded word name.now))))) }
+    ensures { IfOk result (λ s. step_of s ≡ Next (states.At (stack_of stack) (states.Whole (fill (hole_of hole) (states.with_prefix prefix name.now))))) }
 {
     let name = name.copy(alloc)?;
-    whole(alloc, stack, hole, worded(word, name))
+    whole(alloc, stack, hole, with_prefix(prefix, name))
 }
 
-fn wording(
+fn after_prefix(
     alloc: Global,
     stack: Stack,
     hole: Hole,
-    word: Word,
+    prefix: IdentifierPrefix,
     token: &Token,
 ) -> Result<Step, AllocError>
-    ensures { IfOk result (λ s. step_of s ≡ stepped (wording (stack_of stack) (hole_of hole) word token.now) None) }
+    ensures { IfOk result (λ s. step_of s ≡ stepped (after_prefix (stack_of stack) (hole_of hole) prefix token.now) None) }
 {
     match token {
-        Token::Name(false, name) => word_ends(alloc, stack, hole, word, name),
+        Token::Name(false, name) => prefix_ends(alloc, stack, hole, prefix, name),
         Token::Name(true, _)
         | Token::Constant(_, _)
         | Token::Mark(_, _, _)
@@ -449,16 +449,16 @@ fn wording(
 }
 
 fn call_begins(alloc: Global, stack: Stack, hole: Hole, name: Line) -> Result<Step, AllocError>
-    ensures { IfOk result (λ s. step_of s ≡ Next (states.At (states.InCall name trees.NoArgs (hole_of hole) (stack_of stack)) (states.Due states.Begin))) }
+    ensures { IfOk result (λ s. step_of s ≡ Next (states.At (states.InCall name expressions.NoArguments (hole_of hole) (stack_of stack)) (states.Due states.Begin))) }
 {
     let stack = Box::new(alloc, stack)?;
     Ok(Step::Next(State {
-        stack: Stack::InCall(name, Args::NoArgs, hole, stack),
+        stack: Stack::InCall(name, Arguments::NoArguments, hole, stack),
         spot: Spot::Due(Hole::Begin),
     }))
 }
 
-fn name_ends(
+fn identifier_ends(
     alloc: Global,
     alone: bool,
     stack: Stack,
@@ -466,9 +466,9 @@ fn name_ends(
     name: Line,
     token: &Token,
 ) -> Result<Step, AllocError>
-    ensures { IfOk result (λ s. step_of s ≡ stepped (after alone (stack_of stack) (fill (hole_of hole) (trees.Identifier name)) token.now) (ended (stack_of stack) (fill (hole_of hole) (trees.Identifier name)))) }
+    ensures { IfOk result (λ s. step_of s ≡ stepped (after alone (stack_of stack) (fill (hole_of hole) (expressions.Identifier name)) token.now) (ended (stack_of stack) (fill (hole_of hole) (expressions.Identifier name)))) }
 {
-    let tree = fill(alloc, hole, Tree::Identifier(name))?;
+    let tree = fill(alloc, hole, Expression::Identifier(name))?;
     after(alloc, alone, stack, tree, token)
 }
 
@@ -480,12 +480,12 @@ fn named(
     name: Line,
     token: &Token,
 ) -> Result<Step, AllocError>
-    ensures { IfOk result (λ s. step_of s ≡ stepped (named alone (stack_of stack) (hole_of hole) name token.now) (ended (stack_of stack) (fill (hole_of hole) (trees.Identifier name)))) }
+    ensures { IfOk result (λ s. step_of s ≡ stepped (named alone (stack_of stack) (hole_of hole) name token.now) (ended (stack_of stack) (fill (hole_of hole) (expressions.Identifier name)))) }
 {
     if opens_call(shape_of(token)) {
         call_begins(alloc, stack, hole, name)
     } else {
-        name_ends(alloc, alone, stack, hole, name, token)
+        identifier_ends(alloc, alone, stack, hole, name, token)
     }
 }
 
@@ -496,22 +496,22 @@ fn read(alloc: Global, alone: bool, state: State, token: &Token) -> Result<Step,
     let State { stack, spot } = state;
     match spot {
         Spot::Due(hole) => due(alloc, stack, hole, token),
-        Spot::Wording(hole, word) => wording(alloc, stack, hole, word, token),
+        Spot::Prefixed(hole, prefix) => after_prefix(alloc, stack, hole, prefix, token),
         Spot::Named(hole, name) => named(alloc, alone, stack, hole, name, token),
         Spot::Whole(tree) => after(alloc, alone, stack, tree, token),
     }
 }
 
 // The tree at the end of the tokens, where one is complete.
-fn finish(alloc: Global, state: State) -> Result<Option<Tree>, AllocError>
-    ensures { IfOk result (λ t. trees_of t ≡ result_of (state_of state)) }
+fn finish(alloc: Global, state: State) -> Result<Option<Expression>, AllocError>
+    ensures { IfOk result (λ t. expressions_of t ≡ result_of (state_of state)) }
 {
     let State { stack, spot } = state;
     match spot {
         Spot::Due(_) => Ok(None),
-        Spot::Wording(_, _) => Ok(None),
+        Spot::Prefixed(_, _) => Ok(None),
         Spot::Named(hole, name) => {
-            let tree = fill(alloc, hole, Tree::Identifier(name))?;
+            let tree = fill(alloc, hole, Expression::Identifier(name))?;
             Ok(complete(stack, tree))
         }
         Spot::Whole(tree) => Ok(complete(stack, tree)),
@@ -531,7 +531,7 @@ pub fn read_expression(
     tokens: &[Token],
     from: usize,
 ) -> Result<Found, AllocError>
-    ensures reads { IfOk result (λ found. Read (trees_of found.tree) (drop found.next tokens.now) ≡ reading alone (drop from tokens.now)) }
+    ensures reads { IfOk result (λ found. Read (expressions_of found.tree) (drop found.next tokens.now) ≡ reading alone (drop from tokens.now)) }
     ensures within { IfOk result (λ found. found.next ≤ length tokens.now) }
     ensures onward { IfOk result (λ found. from ≤ length tokens.now → from ≤ found.next) }
 {

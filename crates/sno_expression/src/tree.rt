@@ -1,10 +1,10 @@
 //! Trees of expressions, and how one more operand joins one.
 ghost use Rattle.std.specs.Prelude.{◌≡◌, IfOk, OnOk};
-ghost use Rattle.sno_expression.specs.Marks.{operator_of, prefix_of, wants, wants_sign};
-ghost use Rattle.sno_expression.specs.Trees.{level, from_right, goes_right};
-ghost use Rattle.sno_expression.specs.Trees as trees;
-ghost use Rattle.sno_expression.specs.Reading.{push, worded};
-ghost use Rattle.sno_expression.specs.Told.{tree_of, args_of};
+ghost use Rattle.sno_expression.specs.Marks.{operator_of, prefix_of, needs_variable, operand_is_variable};
+ghost use Rattle.sno_expression.specs.Expressions.{precedence, is_right_associative, binds_into_right};
+ghost use Rattle.sno_expression.specs.Expressions as expressions;
+ghost use Rattle.sno_expression.specs.Reading.{push, with_prefix};
+ghost use Rattle.sno_expression.specs.Told.{expression_of, arguments_of};
 
 use mon_text::Line;
 use sno_token::{Constant, Mark};
@@ -13,7 +13,7 @@ use std::mem;
 
 /// What joins two operands.
 #[derive(Clone, Copy)]
-pub enum Operator {
+pub enum BinaryOperator {
     /// A blank alone.
     Concatenation,
     /// `.`
@@ -36,7 +36,7 @@ pub enum Operator {
 
 /// What stands directly before an operand.
 #[derive(Clone, Copy)]
-pub enum Sign {
+pub enum UnaryOperator {
     /// `+`
     Plus,
     /// `-`
@@ -55,7 +55,7 @@ pub enum Sign {
 
 /// What stands directly before an identifier alone.
 #[derive(Clone, Copy)]
-pub enum Word {
+pub enum IdentifierPrefix {
     /// `&`
     Keyword,
     /// `*`
@@ -65,14 +65,14 @@ pub enum Word {
 /// What a mark directly before an operand is.
 #[derive(Clone, Copy)]
 pub enum Prefix {
-    Signs(Sign),
-    Words(Word),
+    OfOperand(UnaryOperator),
+    OfIdentifier(IdentifierPrefix),
 }
 
 /// An expression.
 #[derive(Drop)]
 #[cycle(tree)]
-pub enum Tree {
+pub enum Expression {
     Identifier(Line),
     Constant(Constant),
     /// `&` and its identifier.
@@ -80,36 +80,36 @@ pub enum Tree {
     /// `*` and its identifier.
     Unevaluated(Line),
     /// What stands in parentheses.
-    Group(Box<Tree>),
-    Call(Line, Box<Args>),
-    Unary(Sign, Box<Tree>),
-    Binary(Operator, Box<Tree>, Box<Tree>),
+    Group(Box<Expression>),
+    Call(Line, Box<Arguments>),
+    Unary(UnaryOperator, Box<Expression>),
+    Binary(BinaryOperator, Box<Expression>, Box<Expression>),
 }
 
 /// The arguments of a call from the left, some of them empty.
 #[derive(Drop)]
 #[cycle(tree)]
-pub enum Args {
-    NoArgs,
+pub enum Arguments {
+    NoArguments,
     /// One more, which is empty.
-    Skip(Box<Args>),
+    Omitted(Box<Arguments>),
     /// One more.
-    Give(Box<Args>, Box<Tree>),
+    Argument(Box<Arguments>, Box<Expression>),
 }
 
 /// The operator that a mark writes between two operands.
-pub(crate) fn operator_of(mark: Mark) -> Option<Operator>
+pub(crate) fn operator_of(mark: Mark) -> Option<BinaryOperator>
     ensures { result ≡ operator_of mark }
 {
     match mark {
-        Mark::Dot => Some(Operator::Conditional),
-        Mark::Dollar => Some(Operator::Immediate),
-        Mark::Power => Some(Operator::Power),
-        Mark::Star => Some(Operator::Times),
-        Mark::Slash => Some(Operator::Over),
-        Mark::Plus => Some(Operator::Plus),
-        Mark::Minus => Some(Operator::Minus),
-        Mark::Bar => Some(Operator::Alternation),
+        Mark::Dot => Some(BinaryOperator::Conditional),
+        Mark::Dollar => Some(BinaryOperator::Immediate),
+        Mark::Power => Some(BinaryOperator::Power),
+        Mark::Star => Some(BinaryOperator::Times),
+        Mark::Slash => Some(BinaryOperator::Over),
+        Mark::Plus => Some(BinaryOperator::Plus),
+        Mark::Minus => Some(BinaryOperator::Minus),
+        Mark::Bar => Some(BinaryOperator::Alternation),
         Mark::At | Mark::Tilde | Mark::Question | Mark::Ampersand => None,
     }
 }
@@ -119,100 +119,100 @@ pub(crate) fn prefix_of(mark: Mark) -> Option<Prefix>
     ensures { result ≡ prefix_of mark }
 {
     match mark {
-        Mark::Plus => Some(Prefix::Signs(Sign::Plus)),
-        Mark::Minus => Some(Prefix::Signs(Sign::Minus)),
-        Mark::Dollar => Some(Prefix::Signs(Sign::Indirect)),
-        Mark::Dot => Some(Prefix::Signs(Sign::Name)),
-        Mark::At => Some(Prefix::Signs(Sign::Cursor)),
-        Mark::Tilde => Some(Prefix::Signs(Sign::Not)),
-        Mark::Question => Some(Prefix::Signs(Sign::Query)),
-        Mark::Ampersand => Some(Prefix::Words(Word::Keyword)),
-        Mark::Star => Some(Prefix::Words(Word::Unevaluated)),
+        Mark::Plus => Some(Prefix::OfOperand(UnaryOperator::Plus)),
+        Mark::Minus => Some(Prefix::OfOperand(UnaryOperator::Minus)),
+        Mark::Dollar => Some(Prefix::OfOperand(UnaryOperator::Indirect)),
+        Mark::Dot => Some(Prefix::OfOperand(UnaryOperator::Name)),
+        Mark::At => Some(Prefix::OfOperand(UnaryOperator::Cursor)),
+        Mark::Tilde => Some(Prefix::OfOperand(UnaryOperator::Not)),
+        Mark::Question => Some(Prefix::OfOperand(UnaryOperator::Query)),
+        Mark::Ampersand => Some(Prefix::OfIdentifier(IdentifierPrefix::Keyword)),
+        Mark::Star => Some(Prefix::OfIdentifier(IdentifierPrefix::Unevaluated)),
         Mark::Power | Mark::Slash | Mark::Bar => None,
     }
 }
 
 /// Whether the operator wants a variable on its right.
-pub(crate) fn wants(operator: Operator) -> bool
-    ensures { result ≡ wants operator }
+pub(crate) fn needs_variable(operator: BinaryOperator) -> bool
+    ensures { result ≡ needs_variable operator }
 {
     match operator {
-        Operator::Conditional | Operator::Immediate => true,
-        Operator::Concatenation
-        | Operator::Power
-        | Operator::Times
-        | Operator::Over
-        | Operator::Plus
-        | Operator::Minus
-        | Operator::Alternation => false,
+        BinaryOperator::Conditional | BinaryOperator::Immediate => true,
+        BinaryOperator::Concatenation
+        | BinaryOperator::Power
+        | BinaryOperator::Times
+        | BinaryOperator::Over
+        | BinaryOperator::Plus
+        | BinaryOperator::Minus
+        | BinaryOperator::Alternation => false,
     }
 }
 
 /// Whether the sign wants a variable.
-pub(crate) fn wants_sign(sign: Sign) -> bool
-    ensures { result ≡ wants_sign sign }
+pub(crate) fn operand_is_variable(unary: UnaryOperator) -> bool
+    ensures { result ≡ operand_is_variable unary }
 {
-    match sign {
-        Sign::Name | Sign::Cursor => true,
-        Sign::Plus | Sign::Minus | Sign::Indirect | Sign::Not | Sign::Query => false,
+    match unary {
+        UnaryOperator::Name | UnaryOperator::Cursor => true,
+        UnaryOperator::Plus | UnaryOperator::Minus | UnaryOperator::Indirect | UnaryOperator::Not | UnaryOperator::Query => false,
     }
 }
 
 // How tightly an operator binds.
-fn level(operator: Operator) -> u8
-    ensures { result ≡ level operator }
+fn precedence(operator: BinaryOperator) -> u8
+    ensures { result ≡ precedence operator }
 {
     match operator {
-        Operator::Conditional => 7,
-        Operator::Immediate => 7,
-        Operator::Power => 6,
-        Operator::Times => 5,
-        Operator::Over => 4,
-        Operator::Plus => 3,
-        Operator::Minus => 3,
-        Operator::Concatenation => 2,
-        Operator::Alternation => 1,
+        BinaryOperator::Conditional => 7,
+        BinaryOperator::Immediate => 7,
+        BinaryOperator::Power => 6,
+        BinaryOperator::Times => 5,
+        BinaryOperator::Over => 4,
+        BinaryOperator::Plus => 3,
+        BinaryOperator::Minus => 3,
+        BinaryOperator::Concatenation => 2,
+        BinaryOperator::Alternation => 1,
     }
 }
 
-fn from_right(operator: Operator) -> bool
-    ensures { result ≡ from_right operator }
+fn is_right_associative(operator: BinaryOperator) -> bool
+    ensures { result ≡ is_right_associative operator }
 {
     match operator {
-        Operator::Power | Operator::Concatenation | Operator::Alternation => true,
-        Operator::Conditional
-        | Operator::Immediate
-        | Operator::Times
-        | Operator::Over
-        | Operator::Plus
-        | Operator::Minus => false,
+        BinaryOperator::Power | BinaryOperator::Concatenation | BinaryOperator::Alternation => true,
+        BinaryOperator::Conditional
+        | BinaryOperator::Immediate
+        | BinaryOperator::Times
+        | BinaryOperator::Over
+        | BinaryOperator::Plus
+        | BinaryOperator::Minus => false,
     }
 }
 
-fn goes_right(inner: Operator, outer: Operator) -> bool
-    ensures { result ≡ goes_right inner outer }
+fn binds_into_right(inner: BinaryOperator, outer: BinaryOperator) -> bool
+    ensures { result ≡ binds_into_right inner outer }
 {
-    level(outer) < level(inner) || level(inner) == level(outer) && from_right(outer)
+    precedence(outer) < precedence(inner) || precedence(inner) == precedence(outer) && is_right_associative(outer)
 }
 
-fn join(alloc: Global, operator: Operator, left: Tree, right: Tree) -> Result<Tree, AllocError>
-    ensures { IfOk result (λ t. tree_of t ≡ trees.Binary operator (tree_of left) (tree_of right)) }
+fn join(alloc: Global, operator: BinaryOperator, left: Expression, right: Expression) -> Result<Expression, AllocError>
+    ensures { IfOk result (λ t. expression_of t ≡ expressions.Binary operator (expression_of left) (expression_of right)) }
 {
     let left = Box::new(alloc, left)?;
     let right = Box::new(alloc, right)?;
-    Ok(Tree::Binary(operator, left, right))
+    Ok(Expression::Binary(operator, left, right))
 }
 
 // One more operand on the right of a whole tree.
 fn place(
     alloc: Global,
-    operator: Operator,
-    operand: Tree,
-    tree: &mut Tree,
+    operator: BinaryOperator,
+    operand: Expression,
+    tree: &mut Expression,
 ) -> Result<(), AllocError>
-    ensures { OnOk result (tree_of tree.new ≡ trees.Binary operator (tree_of tree.old) (tree_of operand)) }
+    ensures { OnOk result (expression_of tree.new ≡ expressions.Binary operator (expression_of tree.old) (expression_of operand)) }
 {
-    let left = mem::replace(tree, Tree::Constant(Constant::Integer(0)));
+    let left = mem::replace(tree, Expression::Constant(Constant::Integer(0)));
     *tree = join(alloc, operator, left, operand)?;
     Ok(())
 }
@@ -221,55 +221,55 @@ fn place(
 // no more use.
 pub(crate) fn push(
     alloc: Global,
-    operator: Operator,
-    operand: Tree,
-    tree: &mut Tree,
+    operator: BinaryOperator,
+    operand: Expression,
+    tree: &mut Expression,
 ) -> Result<(), AllocError>
-    ensures { OnOk result (tree_of tree.new ≡ push operator (tree_of operand) (tree_of tree.old)) }
+    ensures { OnOk result (expression_of tree.new ≡ push operator (expression_of operand) (expression_of tree.old)) }
 {
     match tree {
-        Tree::Binary(outer, _, right) => {
-            if goes_right(operator, *outer) {
+        Expression::Binary(outer, _, right) => {
+            if binds_into_right(operator, *outer) {
                 push(alloc, operator, operand, right)
             } else {
                 place(alloc, operator, operand, tree)
             }
         }
-        Tree::Identifier(_)
-        | Tree::Constant(_)
-        | Tree::Keyword(_)
-        | Tree::Unevaluated(_)
-        | Tree::Group(_)
-        | Tree::Call(_, _)
-        | Tree::Unary(_, _) => place(alloc, operator, operand, tree),
+        Expression::Identifier(_)
+        | Expression::Constant(_)
+        | Expression::Keyword(_)
+        | Expression::Unevaluated(_)
+        | Expression::Group(_)
+        | Expression::Call(_, _)
+        | Expression::Unary(_, _) => place(alloc, operator, operand, tree),
     }
 }
 
 // The tree of `&` or `*` with its identifier.
-pub(crate) fn worded(word: Word, name: Line) -> Tree
-    ensures { tree_of result ≡ worded word name }
+pub(crate) fn with_prefix(prefix: IdentifierPrefix, name: Line) -> Expression
+    ensures { expression_of result ≡ with_prefix prefix name }
 {
-    match word {
-        Word::Keyword => Tree::Keyword(name),
-        Word::Unevaluated => Tree::Unevaluated(name),
+    match prefix {
+        IdentifierPrefix::Keyword => Expression::Keyword(name),
+        IdentifierPrefix::Unevaluated => Expression::Unevaluated(name),
     }
 }
 
 // One more argument.
-pub(crate) fn give(alloc: Global, args: Args, tree: Tree) -> Result<Args, AllocError>
-    ensures { IfOk result (λ a. args_of a ≡ trees.Give (args_of args) (tree_of tree)) }
+pub(crate) fn add_argument(alloc: Global, arguments: Arguments, tree: Expression) -> Result<Arguments, AllocError>
+    ensures { IfOk result (λ a. arguments_of a ≡ expressions.Argument (arguments_of arguments) (expression_of tree)) }
 {
-    let args = Box::new(alloc, args)?;
+    let arguments = Box::new(alloc, arguments)?;
     let tree = Box::new(alloc, tree)?;
-    Ok(Args::Give(args, tree))
+    Ok(Arguments::Argument(arguments, tree))
 }
 
 // One more argument, which is empty.
-pub(crate) fn skip(alloc: Global, args: Args) -> Result<Args, AllocError>
-    ensures { IfOk result (λ a. args_of a ≡ trees.Skip (args_of args)) }
+pub(crate) fn omit_argument(alloc: Global, arguments: Arguments) -> Result<Arguments, AllocError>
+    ensures { IfOk result (λ a. arguments_of a ≡ expressions.Omitted (arguments_of arguments)) }
 {
-    let args = Box::new(alloc, args)?;
-    Ok(Args::Skip(args))
+    let arguments = Box::new(alloc, arguments)?;
+    Ok(Arguments::Omitted(arguments))
 }
 
 pub(crate) fn copy_constant(alloc: Global, constant: &Constant) -> Result<Constant, AllocError>

@@ -1,9 +1,9 @@
 //! Which tokens may come next in an expression, over data that are copied, with no tree.
 
 ghost use Rattle.std.specs.Prelude.{◌≡◌};
-ghost use Rattle.sno_expression.specs.Walking.{part_shape, shape_of, blank_before, with_blanks, prefixed, joined, begin, close, comma, first, go_on, stops, after, after_word, opens_call, after_name, step, ends, is_dollar, begins_variable, is_misfit, place_of};
+ghost use Rattle.sno_expression.specs.Walking.{part_shape, shape_of, blank_before, with_blanks, prefixed, joined, begin, close, comma, first, go_on, stops, after, after_prefix, opens_call, after_identifier, step, ends, is_dollar, begins_variable, is_misfit, misfit_index};
 
-use crate::tree::{Operator, Prefix, operator_of, prefix_of, wants, wants_sign};
+use crate::tree::{BinaryOperator, Prefix, operator_of, prefix_of, needs_variable, operand_is_variable};
 use sno_token::{Mark, Outcome, Part, Token};
 
 /// A part of a statement without its text.
@@ -36,17 +36,17 @@ pub enum Paren {
 
 /// Where a walk stands.
 #[derive(Clone, Copy)]
-pub enum Place {
+pub enum Position {
     /// At the beginning of an expression or of an argument.
     AtStart,
     /// After a binary operator; does it want a variable on its right?
-    AfterMark(bool),
+    AfterBinary(bool),
     /// After a unary operator; does it want a variable?
-    AfterSign(bool),
+    AfterUnary(bool),
     /// After `&` or `*` before an identifier.
-    AfterWord,
+    AfterPrefix,
     /// After an identifier, which may yet open a call; is a variable wanted where it stands?
-    AfterName(bool),
+    AfterIdentifier(bool),
     /// After any other operand.
     AfterOperand,
 }
@@ -55,10 +55,10 @@ pub enum Place {
 #[derive(Clone, Copy)]
 pub enum Move {
     /// It opens a parenthesis.
-    Into(Paren, Place),
-    Within(Place),
+    Into(Paren, Position),
+    Within(Position),
     /// It closes the innermost parenthesis.
-    Out(Place),
+    Out(Position),
 }
 
 fn part_shape(part: &Part) -> PartShape
@@ -122,17 +122,17 @@ fn prefixed(prefix: Option<Prefix>) -> Option<Move>
 {
     match prefix {
         None => None,
-        Some(Prefix::Signs(sign)) => Some(Move::Within(Place::AfterSign(wants_sign(sign)))),
-        Some(Prefix::Words(_)) => Some(Move::Within(Place::AfterWord)),
+        Some(Prefix::OfOperand(unary)) => Some(Move::Within(Position::AfterUnary(operand_is_variable(unary)))),
+        Some(Prefix::OfIdentifier(_)) => Some(Move::Within(Position::AfterPrefix)),
     }
 }
 
-fn joined(operator: Option<Operator>) -> Option<Move>
+fn joined(operator: Option<BinaryOperator>) -> Option<Move>
     ensures { result ≡ joined operator }
 {
     match operator {
         None => None,
-        Some(operator) => Some(Move::Within(Place::AfterMark(wants(operator)))),
+        Some(operator) => Some(Move::Within(Position::AfterBinary(needs_variable(operator)))),
     }
 }
 
@@ -141,8 +141,8 @@ fn begin(wanted: bool, shape: Shape) -> Option<Move>
     ensures { result ≡ begin wanted shape }
 {
     match shape {
-        Shape::Name(_) => Some(Move::Within(Place::AfterName(wanted))),
-        Shape::Constant(_) => Some(Move::Within(Place::AfterOperand)),
+        Shape::Name(_) => Some(Move::Within(Position::AfterIdentifier(wanted))),
+        Shape::Constant(_) => Some(Move::Within(Position::AfterOperand)),
         Shape::Mark(_, after, mark) => {
             if after {
                 None
@@ -150,7 +150,7 @@ fn begin(wanted: bool, shape: Shape) -> Option<Move>
                 prefixed(prefix_of(mark))
             }
         }
-        Shape::Open(_) => Some(Move::Into(Paren::OfGroup, Place::AtStart)),
+        Shape::Open(_) => Some(Move::Into(Paren::OfGroup, Position::AtStart)),
         Shape::Close(_) | Shape::Comma(_) | Shape::Part(_, _, _) => None,
     }
 }
@@ -160,7 +160,7 @@ fn close(inner: Option<Paren>) -> Option<Move>
 {
     match inner {
         None => None,
-        Some(_) => Some(Move::Out(Place::AfterOperand)),
+        Some(_) => Some(Move::Out(Position::AfterOperand)),
     }
 }
 
@@ -170,7 +170,7 @@ fn comma(inner: Option<Paren>) -> Option<Move>
     match inner {
         None => None,
         Some(Paren::OfGroup) => None,
-        Some(Paren::OfCall) => Some(Move::Within(Place::AtStart)),
+        Some(Paren::OfCall) => Some(Move::Within(Position::AtStart)),
     }
 }
 
@@ -238,11 +238,11 @@ fn after(alone: bool, inner: Option<Paren>, shape: Shape) -> Option<Move>
     }
 }
 
-fn after_word(shape: Shape) -> Option<Move>
-    ensures { result ≡ after_word shape }
+fn after_prefix(shape: Shape) -> Option<Move>
+    ensures { result ≡ after_prefix shape }
 {
     match shape {
-        Shape::Name(false) => Some(Move::Within(Place::AfterOperand)),
+        Shape::Name(false) => Some(Move::Within(Position::AfterOperand)),
         Shape::Name(true)
         | Shape::Constant(_)
         | Shape::Mark(_, _, _)
@@ -267,11 +267,11 @@ pub(crate) fn opens_call(shape: Shape) -> bool
     }
 }
 
-fn after_name(alone: bool, inner: Option<Paren>, shape: Shape) -> Option<Move>
-    ensures { result ≡ after_name alone inner shape }
+fn after_identifier(alone: bool, inner: Option<Paren>, shape: Shape) -> Option<Move>
+    ensures { result ≡ after_identifier alone inner shape }
 {
     if opens_call(shape) {
-        Some(Move::Into(Paren::OfCall, Place::AtStart))
+        Some(Move::Into(Paren::OfCall, Position::AtStart))
     } else {
         after(alone, inner, shape)
     }
@@ -280,43 +280,43 @@ fn after_name(alone: bool, inner: Option<Paren>, shape: Shape) -> Option<Move>
 /// What one more token does at a place within the innermost open parenthesis, or `None` where it is not taken there.
 ///
 /// `alone`: one element alone is read, so outside of parentheses nothing is taken after it.
-pub fn step(alone: bool, inner: Option<Paren>, place: Place, shape: Shape) -> Option<Move>
-    ensures { result ≡ step alone inner place shape }
+pub fn step(alone: bool, inner: Option<Paren>, position: Position, shape: Shape) -> Option<Move>
+    ensures { result ≡ step alone inner position shape }
 {
-    match place {
-        Place::AtStart => first(inner, shape),
-        Place::AfterMark(wanted) => {
+    match position {
+        Position::AtStart => first(inner, shape),
+        Position::AfterBinary(wanted) => {
             if blank_before(shape) {
                 begin(wanted, shape)
             } else {
                 None
             }
         }
-        Place::AfterSign(wanted) => {
+        Position::AfterUnary(wanted) => {
             if blank_before(shape) {
                 None
             } else {
                 begin(wanted, shape)
             }
         }
-        Place::AfterWord => after_word(shape),
-        Place::AfterName(_) => after_name(alone, inner, shape),
-        Place::AfterOperand => after(alone, inner, shape),
+        Position::AfterPrefix => after_prefix(shape),
+        Position::AfterIdentifier(_) => after_identifier(alone, inner, shape),
+        Position::AfterOperand => after(alone, inner, shape),
     }
 }
 
 /// Whether an expression may end at a place within the innermost open parenthesis.
-pub fn ends(inner: Option<Paren>, place: Place) -> bool
-    ensures { result ≡ ends inner place }
+pub fn ends(inner: Option<Paren>, position: Position) -> bool
+    ensures { result ≡ ends inner position }
 {
     match inner {
-        None => match place {
-            Place::AfterName(_) => true,
-            Place::AfterOperand => true,
-            Place::AtStart => false,
-            Place::AfterMark(_) => false,
-            Place::AfterSign(_) => false,
-            Place::AfterWord => false,
+        None => match position {
+            Position::AfterIdentifier(_) => true,
+            Position::AfterOperand => true,
+            Position::AtStart => false,
+            Position::AfterBinary(_) => false,
+            Position::AfterUnary(_) => false,
+            Position::AfterPrefix => false,
         },
         Some(_) => false,
     }
@@ -357,29 +357,29 @@ fn begins_variable(shape: Shape) -> bool
 
 /// Whether the token shows that there is no variable where one is wanted: the element begins with something else, or its
 /// name opens a call.
-pub fn is_misfit(place: Place, shape: Shape) -> bool
-    ensures { result ≡ is_misfit place shape }
+pub fn is_misfit(position: Position, shape: Shape) -> bool
+    ensures { result ≡ is_misfit position shape }
 {
-    match place {
-        Place::AfterMark(wanted) => wanted && !begins_variable(shape),
-        Place::AfterSign(wanted) => wanted && !begins_variable(shape),
-        Place::AfterName(wanted) => wanted && opens_call(shape),
-        Place::AtStart => false,
-        Place::AfterWord => false,
-        Place::AfterOperand => false,
+    match position {
+        Position::AfterBinary(wanted) => wanted && !begins_variable(shape),
+        Position::AfterUnary(wanted) => wanted && !begins_variable(shape),
+        Position::AfterIdentifier(wanted) => wanted && opens_call(shape),
+        Position::AtStart => false,
+        Position::AfterPrefix => false,
+        Position::AfterOperand => false,
     }
 }
 
 /// The index of the token where the element begins that token `i` shows to be a misfit.
-pub fn place_of(i: usize, place: Place) -> usize
-    ensures { result ≡ place_of i place }
+pub fn misfit_index(i: usize, position: Position) -> usize
+    ensures { result ≡ misfit_index i position }
 {
-    match place {
-        Place::AfterName(_) => i.saturating_sub(1),
-        Place::AtStart => i,
-        Place::AfterMark(_) => i,
-        Place::AfterSign(_) => i,
-        Place::AfterWord => i,
-        Place::AfterOperand => i,
+    match position {
+        Position::AfterIdentifier(_) => i.saturating_sub(1),
+        Position::AtStart => i,
+        Position::AfterBinary(_) => i,
+        Position::AfterUnary(_) => i,
+        Position::AfterPrefix => i,
+        Position::AfterOperand => i,
     }
 }

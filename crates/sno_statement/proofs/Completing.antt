@@ -9,12 +9,12 @@ use Rattle.sno_token.specs.declared.Outcome.TheVariants.{Success, Failure}
 use Rattle.sno_token.specs.declared.Part.TheVariants.{Equals, Colon}
 use Rattle.sno_token.specs.declared.Token.{Token}
 use Rattle.sno_token.specs.declared.Token.TheVariants as token
-use Rattle.sno_expression.specs.declared.tree.Sign.TheVariants.{Indirect}
-use Rattle.sno_expression.specs.Trees.{Tree, Unary}
+use Rattle.sno_expression.specs.declared.tree.UnaryOperator.TheVariants.{Indirect}
+use Rattle.sno_expression.specs.Expressions.{Expression, Unary}
 use Rattle.sno_expression.specs.Spelling.{SpellsTo}
 use Rattle.sno_expression.specs.Reading.{Stops, reading}
 use Rattle.sno_statement.specs.declared.walking.Role.{Role}
-use Rattle.sno_statement.specs.Statements.{Target, To, Computed, Goto, NoGoto, Always, OnSuccess, OnFailure, OnBoth, Object, NoObject, NullObject, Gives, Body, NoBody, Does, Statement, Says, TargetHasLevels, GotoHasLevels, PatternHasLevels, ObjectHasLevels, StatementHasLevels}
+use Rattle.sno_statement.specs.Statements.{Target, To, Computed, Goto, NoGoto, Always, OnSuccess, OnFailure, OnBoth, Object, NoObject, NullObject, ValueObject, Body, NoBody, Does, Statement, Says, TargetHasLevels, GotoHasLevels, PatternHasLevels, ObjectHasLevels, StatementHasLevels}
 use Rattle.sno_statement.specs.Spelling.{TargetTo, OutcomeTo, LeadsTo, ColonTo, GotoTo, PatternTo, ObjectTo, Spells}
 use Rattle.sno_statement.specs.Reading.{Aimed, computed, inside, target_in, always, both, next, chosen, goto_in, going, ending, giving, by_object, object_in, pattern_then, matching, by_subject, subject_then, acting, by_first, statement_in}
 use Rattle.sno_expression.proofs.Feeding.{complete}
@@ -86,21 +86,21 @@ goto_stops alone (OnBoth t u) ts s = colon_stops alone (OnBoth t u) ts s
 object_stops : (alone : Bool) (o : Object) (g : Goto) (ts m : List Token) → ObjectTo o ts m → GotoTo g m → Stops alone ts
 object_stops alone NoObject g ts m s e = subst (Stops alone) (sym s) (goto_stops alone g m e)
 object_stops alone NullObject g ts m s e = subst (Stops alone) (sym s) tt
-object_stops alone (Gives t) g ts m s e = subst (Stops alone) (sym s.1) tt
+object_stops alone (ValueObject t) g ts m s e = subst (Stops alone) (sym s.1) tt
 
-pattern_stops : (p : Option Tree) (o : Object) (g : Goto) (ts m n : List Token) → PatternTo p ts m → ObjectTo o m n → GotoTo g n → Stops true ts
+pattern_stops : (p : Option Expression) (o : Object) (g : Goto) (ts m n : List Token) → PatternTo p ts m → ObjectTo o m n → GotoTo g n → Stops true ts
 pattern_stops None o g ts m n s d e = subst (Stops true) (sym s) (object_stops true o g m n d e)
 pattern_stops (Some p) o g ts m n s d e = stops_blank p ts m s
 
 -- behind `=` a blank leads to the object
-giving_read : (s : Tree) (p : Option Tree) (t : Tree) (ts rest : List Token) → SpellsTo true t ts rest → object_in s p ts ≡ giving s p (reading false ts)
+giving_read : (s : Expression) (p : Option Expression) (t : Expression) (ts rest : List Token) → SpellsTo true t ts rest → object_in s p ts ≡ giving s p (reading false ts)
 giving_read s p t ts rest q =
     let h = headed t true ts rest q in
     ap (object_in s p) h.is
     ∙ (ap (λ (r : Role). by_object r s p h.head h.tail) h.role
     ∙ ap (λ (x : List Token). giving s p (reading false x)) (sym h.is))
 
-matching_read : (s : Tree) (t : Tree) (ts rest : List Token) → SpellsTo true t ts rest → subject_then s ts ≡ matching s (reading false ts)
+matching_read : (s : Expression) (t : Expression) (ts rest : List Token) → SpellsTo true t ts rest → subject_then s ts ≡ matching s (reading false ts)
 matching_read s t ts rest q =
     let h = headed t true ts rest q in
     ap (subject_then s) h.is
@@ -111,7 +111,7 @@ begun : (b : Bool) (t : Token) (ts : List Token) → by_first (stands b) t ts �
 begun true t ts = refl
 begun false t ts = refl
 
-acting_read : (t : Tree) (b : Bool) (ts rest : List Token) → SpellsTo b t ts rest → statement_in ts ≡ acting (reading true ts)
+acting_read : (t : Expression) (b : Bool) (ts rest : List Token) → SpellsTo b t ts rest → statement_in ts ≡ acting (reading true ts)
 acting_read t b ts rest q =
     let h = headed t b ts rest q in
     ap statement_in h.is
@@ -122,23 +122,23 @@ acting_read t b ts rest q =
 on_ending : (b : Body) → GoesOn (ending b) b
 on_ending b = record { ends = refl; goes = λ c ts. refl }
 
-on_object : (s : Tree) (p : Option Tree) → GoesOn (object_in s p) (Does s p NullObject)
+on_object : (s : Expression) (p : Option Expression) → GoesOn (object_in s p) (Does s p NullObject)
 on_object s p = record { ends = refl; goes = λ c ts. refl }
 
 -- behind the subject and the pattern
-object_read : (on : List Token → Option Statement) (s : Tree) (p : Option Tree) (o : Object) (g : Goto) (ts m : List Token)
+object_read : (on : List Token → Option Statement) (s : Expression) (p : Option Expression) (o : Object) (g : Goto) (ts m : List Token)
     → GoesOn on (Does s p NoObject) → ((k : List Token) → on (token.Part true true Equals ∷ k) ≡ object_in s p k)
     → ObjectHasLevels o → GotoHasLevels g → ObjectTo o ts m → GotoTo g m → on ts ≡ Some (Says (Does s p o) g)
 object_read on s p NoObject g ts m h q v w d e = ap on d ∙ last_read on (Does s p NoObject) g m h w e
 object_read on s p NullObject g ts m h q v w d e = ap on d ∙ (q m ∙ last_read (object_in s p) (Does s p NullObject) g m (on_object s p) w e)
-object_read on s p (Gives t) g ts m h q v w d e =
+object_read on s p (ValueObject t) g ts m h q v w d e =
     ap on d.1
     ∙ (q d.0
     ∙ (giving_read s p t d.0 m d.2
     ∙ (ap (giving s p) (complete false t true d.0 m v tt d.2 (goto_stops false g m e))
-    ∙ last_read (ending (Does s p (Gives t))) (Does s p (Gives t)) g m (on_ending (Does s p (Gives t))) w e)))
+    ∙ last_read (ending (Does s p (ValueObject t))) (Does s p (ValueObject t)) g m (on_ending (Does s p (ValueObject t))) w e)))
 
-pattern_read : (s : Tree) (p : Option Tree) (o : Object) (g : Goto) (ts m n : List Token)
+pattern_read : (s : Expression) (p : Option Expression) (o : Object) (g : Goto) (ts m n : List Token)
     → PatternHasLevels p → ObjectHasLevels o → GotoHasLevels g → PatternTo p ts m → ObjectTo o m n → GotoTo g n → subject_then s ts ≡ Some (Says (Does s p o) g)
 pattern_read s None o g ts m n u v w c d e =
     ap (subject_then s) c

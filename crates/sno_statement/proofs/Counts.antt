@@ -2,14 +2,14 @@
 use Rattle.std.proofs.Common.{arith, ◌≡◌, ℕ, ◌+◌, List, [], ◌∷◌, refl, ap}
 use Rattle.std.specs.Prelude.{Bool, true, false, not, Option, Some, None, if◌then◌else◌}
 use Rattle.sno_token.specs.declared.Token.{Token}
-use Rattle.sno_expression.specs.declared.tree.Sign.TheVariants.{Indirect}
+use Rattle.sno_expression.specs.declared.tree.UnaryOperator.TheVariants.{Indirect}
 use Rattle.sno_expression.specs.declared.walking.Shape.{Shape}
-use Rattle.sno_expression.specs.Trees.{Tree, Unary, bit, bad}
+use Rattle.sno_expression.specs.Expressions.{Expression, Unary, bit, bad}
 use Rattle.sno_expression.specs.Walking.{shape_of, is_misfit}
 use Rattle.sno_statement.specs.declared.walking.Stage.{Stage}
 use Rattle.sno_statement.specs.declared.walking.Stage.TheVariants.{In}
 use Rattle.sno_statement.specs.declared.walking.SubjectKind.{SubjectKind}
-use Rattle.sno_statement.specs.Statements.{Target, To, Computed, Goto, NoGoto, Always, OnSuccess, OnFailure, OnBoth, Object, NoObject, NullObject, Gives, Body, NoBody, Does, Statement, Says, kind_of, can_be_set, is_pattern, CanBeSet, TargetHasVariables, GotoHasVariables, PatternHasVariables, ObjectHasVariables, BodyHasVariables, StatementHasVariables}
+use Rattle.sno_statement.specs.Statements.{Target, To, Computed, Goto, NoGoto, Always, OnSuccess, OnFailure, OnBoth, Object, NoObject, NullObject, ValueObject, Body, NoBody, Does, Statement, Says, kind_of, can_be_set, is_pattern, CanBeSet, TargetHasVariables, GotoHasVariables, PatternHasVariables, ObjectHasVariables, BodyHasVariables, StatementHasVariables}
 use Rattle.sno_statement.specs.Walking.{Walk, At, take, may_end, role}
 use Rattle.sno_statement.specs.Faults.{is_unset}
 use Rattle.sno_expression.proofs.Variables.{no_bad, all_variables}
@@ -25,14 +25,14 @@ bad_goto (OnSuccess t) = bad_target t
 bad_goto (OnFailure t) = bad_target t
 bad_goto (OnBoth s f) = bad_target s + bad_target f
 
-abbrev pub bad_pattern : Option Tree → ℕ
+abbrev pub bad_pattern : Option Expression → ℕ
 bad_pattern None = 0
 bad_pattern (Some p) = bad p
 
 abbrev pub bad_object : Object → ℕ
 bad_object NoObject = 0
 bad_object NullObject = 0
-bad_object (Gives t) = bad t
+bad_object (ValueObject t) = bad t
 
 abbrev pub unset : SubjectKind → Bool → Object → ℕ
 unset k p NoObject = 0
@@ -56,19 +56,19 @@ goto_good (OnSuccess t) v = target_good t v
 goto_good (OnFailure t) v = target_good t v
 goto_good (OnBoth s f) v = let a = target_good s v.0 in let b = target_good f v.1 in omega (arith, a, b)
 
-pattern_good : (p : Option Tree) → PatternHasVariables p → bad_pattern p ≡ 0
+pattern_good : (p : Option Expression) → PatternHasVariables p → bad_pattern p ≡ 0
 pattern_good None v = refl
 pattern_good (Some p) v = no_bad p v
 
 object_good : (o : Object) → ObjectHasVariables o → bad_object o ≡ 0
 object_good NoObject v = refl
 object_good NullObject v = refl
-object_good (Gives t) v = no_bad t v
+object_good (ValueObject t) v = no_bad t v
 
 set_good : (k : SubjectKind) (p : Bool) (o : Object) → CanBeSet k p o → unset k p o ≡ 0
 set_good k p NoObject v = refl
 set_good k p NullObject v = ap (λ (c : Bool). bit (not c)) v
-set_good k p (Gives t) v = ap (λ (c : Bool). bit (not c)) v
+set_good k p (ValueObject t) v = ap (λ (c : Bool). bit (not c)) v
 
 body_good : (b : Body) → BodyHasVariables b → bad_body b ≡ 0
 body_good NoBody v = refl
@@ -89,14 +89,14 @@ goto_variables (OnSuccess t) e = target_variables t e
 goto_variables (OnFailure t) e = target_variables t e
 goto_variables (OnBoth s f) e = (target_variables s (omega (arith, e)), target_variables f (omega (arith, e)))
 
-pattern_variables : (p : Option Tree) → bad_pattern p ≡ 0 → PatternHasVariables p
+pattern_variables : (p : Option Expression) → bad_pattern p ≡ 0 → PatternHasVariables p
 pattern_variables None e = tt
 pattern_variables (Some p) e = all_variables p e
 
 object_variables : (o : Object) → bad_object o ≡ 0 → ObjectHasVariables o
 object_variables NoObject e = tt
 object_variables NullObject e = tt
-object_variables (Gives t) e = all_variables t e
+object_variables (ValueObject t) e = all_variables t e
 
 is_set : (b : Bool) → bit (not b) ≡ 0 → b ≡ true
 is_set true e = refl
@@ -105,7 +105,7 @@ is_set false e = absurd (omega (arith, e))
 set_variables : (k : SubjectKind) (p : Bool) (o : Object) → unset k p o ≡ 0 → CanBeSet k p o
 set_variables k p NoObject e = tt
 set_variables k p NullObject e = is_set (can_be_set k p) e
-set_variables k p (Gives t) e = is_set (can_be_set k p) e
+set_variables k p (ValueObject t) e = is_set (can_be_set k p) e
 
 body_variables : (b : Body) → bad_body b ≡ 0 → BodyHasVariables b
 body_variables NoBody e = tt
@@ -117,7 +117,7 @@ statement_variables (Says b g) e = (body_variables b (omega (arith, e)), goto_va
 
 -- what is seen at a token
 abbrev pub count_at : SubjectKind → Stage → Shape → ℕ
-count_at k (In f place) t = bit (is_misfit place t) + bit (is_unset k f (role t))
+count_at k (In f position) t = bit (is_misfit position t) + bit (is_unset k f (role t))
 count_at k _ t = 0
 
 abbrev pub count : SubjectKind → Walk → Shape → ℕ

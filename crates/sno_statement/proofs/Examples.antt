@@ -9,12 +9,12 @@ use Rattle.sno_token.specs.declared.Outcome.TheVariants.{Success, Failure}
 use Rattle.sno_token.specs.declared.Part.TheVariants.{Equals, Colon, On, Label}
 use Rattle.sno_token.specs.declared.Token.{Token}
 use Rattle.sno_token.specs.declared.Token.TheVariants as token
-use Rattle.sno_expression.specs.declared.tree.Operator.TheVariants as operator
-use Rattle.sno_expression.specs.declared.tree.Sign.TheVariants as sign
-use Rattle.sno_expression.specs.Trees.{Tree, Identifier, Constant, Keyword, Group, Call, Unary, Binary, NoArgs, Skip, Give}
+use Rattle.sno_expression.specs.declared.tree.BinaryOperator.TheVariants as operator
+use Rattle.sno_expression.specs.declared.tree.UnaryOperator.TheVariants as unary
+use Rattle.sno_expression.specs.Expressions.{Expression, Identifier, Constant, Keyword, Group, Call, Unary, Binary, NoArguments, Omitted, Argument}
 use Rattle.sno_statement.specs.declared.fault.Fault.{Fault}
 use Rattle.sno_statement.specs.declared.fault.FaultKind.TheVariants.{MissingBlank, Unfit, NoVariable}
-use Rattle.sno_statement.specs.Statements.{Target, To, Computed, NoGoto, Always, OnSuccess, OnFailure, OnBoth, NoObject, NullObject, Gives, NoBody, Does, Statement, Says}
+use Rattle.sno_statement.specs.Statements.{Target, To, Computed, NoGoto, Always, OnSuccess, OnFailure, OnBoth, NoObject, NullObject, ValueObject, NoBody, Does, Statement, Says}
 use Rattle.sno_statement.specs.Faults.{FaultAt, fault}
 use Rattle.sno_statement.specs.Reading.{statement_in}
 
@@ -40,10 +40,10 @@ label c = token.Part false false (Label (c ∷ []))
 abbrev on : Bool → Outcome → Token
 on b o = token.Part b false (On o)
 
-abbrev variable : ℕ → Tree
+abbrev variable : ℕ → Expression
 variable c = Identifier (c ∷ [])
 
-abbrev unit : Tree
+abbrev unit : Expression
 unit = Constant (constant.Literal (49 ∷ []))
 
 abbrev to : ℕ → Target
@@ -185,7 +185,7 @@ computed : answer (colon true ∷ token.Open false ∷ mark false false Dollar �
 computed = refl
 
 -- :S( $A('1') )
-computed_call : answer (colon true ∷ on false Success ∷ token.Open false ∷ mark true false Dollar ∷ name false 65 ∷ token.Open false ∷ one false ∷ token.Close false ∷ token.Close true ∷ []) ≡ (Some (Says NoBody (OnSuccess (Computed (Call (65 ∷ []) (Give NoArgs unit))))), None)
+computed_call : answer (colon true ∷ on false Success ∷ token.Open false ∷ mark true false Dollar ∷ name false 65 ∷ token.Open false ∷ one false ∷ token.Close false ∷ token.Close true ∷ []) ≡ (Some (Says NoBody (OnSuccess (Computed (Call (65 ∷ []) (Argument NoArguments unit))))), None)
 computed_call = refl
 
 -- :($A B)
@@ -277,15 +277,15 @@ keyword_with_pattern : fault (mark true false Ampersand ∷ name false 88 ∷ na
 keyword_with_pattern = refl
 
 -- &X = 1
-keyword_set : answer (mark true false Ampersand ∷ name false 88 ∷ equals true true ∷ one true ∷ []) ≡ (Some (Says (Does (Keyword (88 ∷ [])) None (Gives unit)) (NoGoto)), None)
+keyword_set : answer (mark true false Ampersand ∷ name false 88 ∷ equals true true ∷ one true ∷ []) ≡ (Some (Says (Does (Keyword (88 ∷ [])) None (ValueObject unit)) (NoGoto)), None)
 keyword_set = refl
 
 -- $X = 1
-indirect_set : answer (mark true false Dollar ∷ name false 88 ∷ equals true true ∷ one true ∷ []) ≡ (Some (Says (Does (Unary sign.Indirect (variable 88)) None (Gives unit)) (NoGoto)), None)
+indirect_set : answer (mark true false Dollar ∷ name false 88 ∷ equals true true ∷ one true ∷ []) ≡ (Some (Says (Does (Unary unary.Indirect (variable 88)) None (ValueObject unit)) (NoGoto)), None)
 indirect_set = refl
 
 -- $F() P =
-indirect_call_replaced : answer (mark true false Dollar ∷ name false 70 ∷ token.Open false ∷ token.Close false ∷ name true 80 ∷ equals true true ∷ []) ≡ (Some (Says (Does (Unary sign.Indirect (Call (70 ∷ []) (Skip NoArgs))) (Some (variable 80)) NullObject) (NoGoto)), None)
+indirect_call_replaced : answer (mark true false Dollar ∷ name false 70 ∷ token.Open false ∷ token.Close false ∷ name true 80 ∷ equals true true ∷ []) ≡ (Some (Says (Does (Unary unary.Indirect (Call (70 ∷ []) (Omitted NoArguments))) (Some (variable 80)) NullObject) (NoGoto)), None)
 indirect_call_replaced = refl
 
 -- 'A' P
@@ -357,7 +357,7 @@ closed_again : fault (name true 65 ∷ equals true true ∷ one true ∷ token.C
 closed_again = refl
 
 -- A = -1 ** 1
-sign_binds_closer : answer (name true 65 ∷ equals true true ∷ mark true false Minus ∷ one false ∷ mark true true Power ∷ one true ∷ []) ≡ (Some (Says (Does (variable 65) None (Gives (Binary operator.Power (Unary sign.Minus unit) unit))) (NoGoto)), None)
+sign_binds_closer : answer (name true 65 ∷ equals true true ∷ mark true false Minus ∷ one false ∷ mark true true Power ∷ one true ∷ []) ≡ (Some (Says (Does (variable 65) None (ValueObject (Binary operator.Power (Unary unary.Minus unit) unit))) (NoGoto)), None)
 sign_binds_closer = refl
 
 -- nothing but a label
@@ -365,5 +365,5 @@ label_alone : answer ([]) ≡ (Some (Says NoBody (NoGoto)), None)
 label_alone = refl
 
 -- X (A | B) . C = 'D' :F(L)
-replacement : answer (name true 88 ∷ token.Open true ∷ name false 65 ∷ mark true true Bar ∷ name true 66 ∷ token.Close false ∷ mark true true Dot ∷ name true 67 ∷ equals true true ∷ one true ∷ colon true ∷ on false Failure ∷ token.Open false ∷ label 76 ∷ token.Close false ∷ []) ≡ (Some (Says (Does (variable 88) (Some (Binary operator.Conditional (Group (Binary operator.Alternation (variable 65) (variable 66))) (variable 67))) (Gives unit)) (OnFailure (to 76))), None)
+replacement : answer (name true 88 ∷ token.Open true ∷ name false 65 ∷ mark true true Bar ∷ name true 66 ∷ token.Close false ∷ mark true true Dot ∷ name true 67 ∷ equals true true ∷ one true ∷ colon true ∷ on false Failure ∷ token.Open false ∷ label 76 ∷ token.Close false ∷ []) ≡ (Some (Says (Does (variable 88) (Some (Binary operator.Conditional (Group (Binary operator.Alternation (variable 65) (variable 66))) (variable 67))) (ValueObject unit)) (OnFailure (to 76))), None)
 replacement = refl

@@ -3,8 +3,8 @@ use Rattle.std.proofs.Common.{arith, ◌≡◌, ℕ, ◌+◌, List, [], ◌∷�
 use Rattle.std.specs.Prelude.{Bool, true, false, nat_le, Option, Some, None, Ok, Err, if◌then◌else◌}
 use Rattle.sno_token.specs.declared.Token.{Token}
 use Rattle.sno_expression.specs.declared.walking.Shape.{Shape}
-use Rattle.sno_expression.specs.Trees.{bit}
-use Rattle.sno_expression.specs.Walking.{shape_of, is_misfit, place_of}
+use Rattle.sno_expression.specs.Expressions.{bit}
+use Rattle.sno_expression.specs.Walking.{shape_of, is_misfit, misfit_index}
 use Rattle.sno_statement.specs.declared.fault.Fault.{Fault}
 use Rattle.sno_statement.specs.declared.fault.FaultKind.TheVariants.{Unfit}
 use Rattle.sno_statement.specs.declared.statement.Statement.{Statement as AStatement}
@@ -113,14 +113,14 @@ no_bit false i e = refl
 
 stage_unnoted : (k : SubjectKind) (i : ℕ) (s : Stage) (t : Shape) → count_at k s t ≡ 0 → noted_at k i s t ≡ None
 stage_unnoted k i (In f p) t e =
-    least_none (note (is_misfit p t) (place_of i p)) (note (is_unset k f (role t)) 0)
-    (no_note (is_misfit p t) (place_of i p) (omega (arith, e))) (no_note (is_unset k f (role t)) 0 (omega (arith, e)))
+    least_none (note (is_misfit p t) (misfit_index i p)) (note (is_unset k f (role t)) 0)
+    (no_note (is_misfit p t) (misfit_index i p) (omega (arith, e))) (no_note (is_unset k f (role t)) 0 (omega (arith, e)))
 stage_unnoted k i _ t e = refl
 
 stage_uncounted : (k : SubjectKind) (i : ℕ) (s : Stage) (t : Shape) → noted_at k i s t ≡ None → count_at k s t ≡ 0
 stage_uncounted k i (In f p) t e =
-    let a = no_bit (is_misfit p t) (place_of i p) (none_least (note (is_misfit p t) (place_of i p)) (note (is_unset k f (role t)) 0) e) in
-    let b = no_bit (is_unset k f (role t)) 0 (none_later (note (is_misfit p t) (place_of i p)) (note (is_unset k f (role t)) 0) e) in
+    let a = no_bit (is_misfit p t) (misfit_index i p) (none_least (note (is_misfit p t) (misfit_index i p)) (note (is_unset k f (role t)) 0) e) in
+    let b = no_bit (is_unset k f (role t)) 0 (none_later (note (is_misfit p t) (misfit_index i p)) (note (is_unset k f (role t)) 0) e) in
     omega (arith, a, b)
 stage_uncounted k i _ t e = refl
 

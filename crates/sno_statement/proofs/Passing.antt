@@ -7,8 +7,8 @@ use Rattle.sno_token.specs.declared.Outcome.TheVariants.{Success, Failure}
 use Rattle.sno_token.specs.declared.Part.TheVariants.{On, Label}
 use Rattle.sno_token.specs.declared.Token.{Token}
 use Rattle.sno_token.specs.declared.Token.TheVariants as token
-use Rattle.sno_expression.specs.declared.tree.Sign.TheVariants.{Indirect}
-use Rattle.sno_expression.specs.Trees.{Tree, Unary, bit, bad}
+use Rattle.sno_expression.specs.declared.tree.UnaryOperator.TheVariants.{Indirect}
+use Rattle.sno_expression.specs.Expressions.{Expression, Unary, bit, bad}
 use Rattle.sno_expression.specs.Walking.{shape_of}
 use Rattle.sno_expression.specs.Reading.{Reading, Read, reading}
 use Rattle.sno_statement.specs.declared.walking.Role.{Role}
@@ -16,7 +16,7 @@ use Rattle.sno_statement.specs.declared.walking.Role.TheVariants.{Assigns, Goes,
 use Rattle.sno_statement.specs.declared.walking.Field.TheVariants.{Subject, Pattern, Object, Target as InComputed}
 use Rattle.sno_statement.specs.declared.walking.Stage.TheVariants.{AfterEquals, AfterColon, AfterOutcome, InTarget, AfterLabel, AfterTarget}
 use Rattle.sno_statement.specs.declared.walking.SubjectKind.{SubjectKind}
-use Rattle.sno_statement.specs.Statements.{Target, To, Computed, Goto, NoGoto, Always, OnBoth, NoObject, NullObject, Gives, Body, NoBody, Does, Says, kind_of, can_be_set}
+use Rattle.sno_statement.specs.Statements.{Target, To, Computed, Goto, NoGoto, Always, OnBoth, NoObject, NullObject, ValueObject, Body, NoBody, Does, Says, kind_of, can_be_set}
 use Rattle.sno_statement.specs.Walking.{At, role, advanced, begins, other, at_first, after_subject, after_pattern, after_object, after_equals}
 use Rattle.sno_statement.specs.Faults.{is_unset, subject_kind}
 use Rattle.sno_statement.specs.Reading.{Aim, Missed, Aimed, closing, computed, inside, target_in, at_last, always, both, next, chosen, goto_in, going, ends_by, ending, giving, by_object, object_in, by_pattern, pattern_then, matching, by_subject, subject_then, acting, by_first, statement_in}
@@ -35,7 +35,7 @@ label_walks k l n [] = refl
 label_walks k l n (token.Close b ∷ ts) = refl
 label_walks k l n _ = refl
 
-element_walks : (k : SubjectKind) (l : Option Outcome) (t : Tree) (ts : List Token) → plus (bad (Unary Indirect t)) (left k (InComputed l) ts) ≡ aimed k l (closing (Computed t) ts)
+element_walks : (k : SubjectKind) (l : Option Outcome) (t : Expression) (ts : List Token) → plus (bad (Unary Indirect t)) (left k (InComputed l) ts) ≡ aimed k l (closing (Computed t) ts)
 element_walks k l t [] = refl
 element_walks k l t (token.Close b ∷ ts) = ap (plus (bad (Unary Indirect t))) (plus_zero (walked k (At [] (AfterTarget l)) ts))
 element_walks k l t _ = refl
@@ -46,7 +46,7 @@ computed_walks k l b c ts (Read None rest) e = refl
 computed_walks k l b c ts (Read (Some u) rest) e =
     let i = sound true (token.Mark b c Dollar ∷ ts) rest u e in
     let d = indirect_of u b c i.blank ts rest i.suits i.spells in
-    subst (λ (x : Tree). plus (bad x) (left k (InComputed l) rest) ≡ aimed k l (computed (Read (Some x) rest))) (sym d.1) (element_walks k l d.0 rest)
+    subst (λ (x : Expression). plus (bad x) (left k (InComputed l) rest) ≡ aimed k l (computed (Read (Some x) rest))) (sym d.1) (element_walks k l d.0 rest)
 
 inside_walks : (k : SubjectKind) (l : Option Outcome) (ts : List Token) → walked k (At [] (InTarget l)) ts ≡ aimed k l (inside ts)
 inside_walks k l [] = refl
@@ -124,13 +124,13 @@ ending_walks k n b (t ∷ ts) e = at (role (shape_of t))
     at Goes = going_walks k n b ts e
     at _ = refl
 
-giving_walks : (k : SubjectKind) (n : ℕ) (s : Tree) (p : Option Tree) (x : Reading) → n ≡ bad_body (Does s p NullObject) → plus n (after_field k Object x) ≡ bads (giving s p x)
+giving_walks : (k : SubjectKind) (n : ℕ) (s : Expression) (p : Option Expression) (x : Reading) → n ≡ bad_body (Does s p NullObject) → plus n (after_field k Object x) ≡ bads (giving s p x)
 giving_walks k n s p (Read None rest) e = refl
 giving_walks k n s p (Read (Some o) rest) e =
     plus_plus n (bad o) (n + bad o) (left k Object rest) refl
-    ∙ ending_walks k (n + bad o) (Does s p (Gives o)) rest (omega (arith, e))
+    ∙ ending_walks k (n + bad o) (Does s p (ValueObject o)) rest (omega (arith, e))
 
-object_walks : (k : SubjectKind) (n : ℕ) (s : Tree) (p : Option Tree) (ts : List Token) → n ≡ bad_body (Does s p NullObject) → plus n (walked k (At [] AfterEquals) ts) ≡ bads (object_in s p ts)
+object_walks : (k : SubjectKind) (n : ℕ) (s : Expression) (p : Option Expression) (ts : List Token) → n ≡ bad_body (Does s p NullObject) → plus n (walked k (At [] AfterEquals) ts) ≡ bads (object_in s p ts)
 object_walks k n s p [] e = stop_walks n (Does s p NullObject) e
 object_walks k n s p (t ∷ ts) e = at (role (shape_of t)) refl
   where
@@ -141,10 +141,10 @@ object_walks k n s p (t ∷ ts) e = at (role (shape_of t)) refl
     at Touches d = refl
 
 -- `=` behind the subject or the pattern
-equals_walks : (k : SubjectKind) (n m : ℕ) (s : Tree) (p : Option Tree) (ts : List Token) → n + m ≡ bad_body (Does s p NullObject) → plus n (plus m (walked k (At [] AfterEquals) ts)) ≡ bads (object_in s p ts)
+equals_walks : (k : SubjectKind) (n m : ℕ) (s : Expression) (p : Option Expression) (ts : List Token) → n + m ≡ bad_body (Does s p NullObject) → plus n (plus m (walked k (At [] AfterEquals) ts)) ≡ bads (object_in s p ts)
 equals_walks k n m s p ts e = plus_plus n m (n + m) (walked k (At [] AfterEquals) ts) refl ∙ object_walks k (n + m) s p ts e
 
-pattern_walks : (k : SubjectKind) (n : ℕ) (s p : Tree) (ts : List Token) → k ≡ kind_of s → n ≡ bad_body (Does s (Some p) NoObject) → plus n (left k Pattern ts) ≡ bads (pattern_then s p ts)
+pattern_walks : (k : SubjectKind) (n : ℕ) (s p : Expression) (ts : List Token) → k ≡ kind_of s → n ≡ bad_body (Does s (Some p) NoObject) → plus n (left k Pattern ts) ≡ bads (pattern_then s p ts)
 pattern_walks k n s p [] d e = stop_walks n (Does s (Some p) NoObject) e
 pattern_walks k n s p (t ∷ ts) d e = at (role (shape_of t))
   where
@@ -155,13 +155,13 @@ pattern_walks k n s p (t ∷ ts) d e = at (role (shape_of t))
     at Goes = going_walks k n (Does s (Some p) NoObject) ts e
     at _ = refl
 
-matching_walks : (k : SubjectKind) (n : ℕ) (s : Tree) (x : Reading) → k ≡ kind_of s → n ≡ bad_body (Does s None NoObject) → plus n (after_field k Pattern x) ≡ bads (matching s x)
+matching_walks : (k : SubjectKind) (n : ℕ) (s : Expression) (x : Reading) → k ≡ kind_of s → n ≡ bad_body (Does s None NoObject) → plus n (after_field k Pattern x) ≡ bads (matching s x)
 matching_walks k n s (Read None rest) d e = refl
 matching_walks k n s (Read (Some p) rest) d e =
     plus_plus n (bad p) (n + bad p) (left k Pattern rest) refl
     ∙ pattern_walks k (n + bad p) s p rest d (omega (arith, e))
 
-subject_walks : (k : SubjectKind) (n : ℕ) (s : Tree) (ts : List Token)
+subject_walks : (k : SubjectKind) (n : ℕ) (s : Expression) (ts : List Token)
     → ((t : Token) (m : List Token) → ts ≡ t ∷ m → (role (shape_of t) ≡ Touches → ⊥) → k ≡ kind_of s) → n ≡ bad_body (Does s None NoObject) → plus n (left k Subject ts) ≡ bads (subject_then s ts)
 subject_walks k n s [] d e = stop_walks n (Does s None NoObject) e
 subject_walks k n s (t ∷ ts) d e = at (role (shape_of t)) refl

@@ -7,14 +7,14 @@ use Rattle.sno_token.specs.declared.Outcome.TheVariants.{Success, Failure}
 use Rattle.sno_token.specs.declared.Part.TheVariants.{Equals, Colon, On, Label}
 use Rattle.sno_token.specs.declared.Token.{Token}
 use Rattle.sno_token.specs.declared.Token.TheVariants as token
-use Rattle.sno_expression.specs.declared.tree.Sign.TheVariants.{Indirect}
-use Rattle.sno_expression.specs.Trees.{Tree, Unary, HasLevels, IsOperand}
+use Rattle.sno_expression.specs.declared.tree.UnaryOperator.TheVariants.{Indirect}
+use Rattle.sno_expression.specs.Expressions.{Expression, Unary, HasLevels, IsOperand}
 use Rattle.sno_expression.specs.Spelling.{SpellsTo}
 use Rattle.sno_expression.specs.Walking.{shape_of}
 use Rattle.sno_expression.specs.Reading.{Reading, Read, reading}
 use Rattle.sno_statement.specs.declared.walking.Role.{Role}
 use Rattle.sno_statement.specs.declared.walking.Role.TheVariants.{Assigns, Goes, Follows, Touches}
-use Rattle.sno_statement.specs.Statements.{Target, To, Computed, Goto, NoGoto, Always, OnSuccess, OnFailure, OnBoth, NoObject, NullObject, Gives, Body, NoBody, Does, Statement, Says, TargetHasLevels, GotoHasLevels, PatternHasLevels, BodyHasLevels, StatementHasLevels}
+use Rattle.sno_statement.specs.Statements.{Target, To, Computed, Goto, NoGoto, Always, OnSuccess, OnFailure, OnBoth, NoObject, NullObject, ValueObject, Body, NoBody, Does, Statement, Says, TargetHasLevels, GotoHasLevels, PatternHasLevels, BodyHasLevels, StatementHasLevels}
 use Rattle.sno_statement.specs.Spelling.{TargetTo, OutcomeTo, LeadsTo, GotoTo, PatternTo, BodyTo, Spells}
 use Rattle.sno_statement.specs.Walking.{role}
 use Rattle.sno_statement.specs.Reading.{Aim, Missed, Aimed, closing, computed, inside, target_in, at_last, always, both, next, chosen, goto_in, going, ends_by, ending, giving, by_object, object_in, by_pattern, pattern_then, matching, by_subject, subject_then, acting, by_first, statement_in}
@@ -30,7 +30,7 @@ label_right b c d l [] = tt
 label_right b c d l (token.Close e ∷ ts) = (tt, (b, c, d, e, refl))
 label_right b c d l _ = tt
 
-computed_right : (b : Bool) (t : Tree) (ts rest : List Token) → IsRead true (Unary Indirect t) ts rest → AimRight (closing (Computed t) rest) (token.Open b ∷ ts)
+computed_right : (b : Bool) (t : Expression) (ts rest : List Token) → IsRead true (Unary Indirect t) ts rest → AimRight (closing (Computed t) rest) (token.Open b ∷ ts)
 computed_right b t ts [] r = tt
 computed_right b t ts (token.Close e ∷ rest) r = (r.levels, (ts, b, r.blank, e, refl, r.spells))
 computed_right b t ts _ r = tt
@@ -107,8 +107,8 @@ going_right : (b : Body) (o : Option Goto) (ts k m : List Token) (c : Bool) → 
 going_right b None ts k m c v q e r = tt
 going_right b (Some g) ts k m c v q e r = ((v, r.0), (k, q, with_colon g c m k r.1 e))
 
-goes_right : (b : Body) (t : Token) (ts m : List Token) → BodyHasLevels b → BodyTo b ts (t ∷ m) → role (shape_of t) ≡ Goes → Right (going b (goto_in m)) ts
-goes_right b t ts m v q e =
+binds_into_right : (b : Body) (t : Token) (ts m : List Token) → BodyHasLevels b → BodyTo b ts (t ∷ m) → role (shape_of t) ≡ Goes → Right (going b (goto_in m)) ts
+binds_into_right b t ts m v q e =
     let g = goes t e in
     going_right b (goto_in m) ts (t ∷ m) m g.0 v q (ap (λ (x : Token). x ∷ m) g.1) (goto_right m)
 
@@ -117,63 +117,63 @@ ending_right b ts [] v q = stop_right b ts v q
 ending_right b ts (t ∷ m) v q = at (role (shape_of t)) refl
   where
     at : (r : Role) → role (shape_of t) ≡ r → Right (ends_by r b m) ts
-    at Goes e = goes_right b t ts m v q e
+    at Goes e = binds_into_right b t ts m v q e
     at _ e = tt
 
 -- the subject and the pattern up to `=`
-abbrev Assigned : Tree → Option Tree → List Token → List Token → Type 0
+abbrev Assigned : Expression → Option Expression → List Token → List Token → Type 0
 Assigned s p ts n = (m : List Token) × (b : Bool) × IsOperand s × HasLevels s × PatternHasLevels p × SpellsTo b s ts m × PatternTo p m (token.Part true true Equals ∷ n)
 
-giving_right : (s : Tree) (p : Option Tree) (ts m : List Token) (t : Token) (k : List Token) (x : Reading)
+giving_right : (s : Expression) (p : Option Expression) (ts m : List Token) (t : Token) (k : List Token) (x : Reading)
     → Assigned s p ts (t ∷ k) → role (shape_of t) ≡ Follows → reading false (t ∷ k) ≡ x → Right (giving s p x) ts
 giving_right s p ts m t k (Read None rest) a r e = tt
 giving_right s p ts m t k (Read (Some o) rest) a r e =
     let i = sound false (t ∷ k) rest o e in
-    ending_right (Does s p (Gives o)) ts rest (a.2, a.3, a.4, i.levels)
+    ending_right (Does s p (ValueObject o)) ts rest (a.2, a.3, a.4, i.levels)
     (a.0, token.Part true true Equals ∷ t ∷ k, a.1, a.5, a.6, (t ∷ k, refl, blank_spells o i.blank t k rest i.spells r))
 
-object_right : (s : Tree) (p : Option Tree) (ts n : List Token) → Assigned s p ts n → Right (object_in s p n) ts
+object_right : (s : Expression) (p : Option Expression) (ts n : List Token) → Assigned s p ts n → Right (object_in s p n) ts
 object_right s p ts [] a = stop_right (Does s p NullObject) ts (a.2, a.3, a.4, tt) (a.0, token.Part true true Equals ∷ [], a.1, a.5, a.6, refl)
 object_right s p ts (t ∷ k) a = at (role (shape_of t)) refl
   where
     at : (r : Role) → role (shape_of t) ≡ r → Right (by_object r s p t k) ts
     at Assigns e = tt
-    at Goes e = goes_right (Does s p NullObject) t ts k (a.2, a.3, a.4, tt) (a.0, token.Part true true Equals ∷ t ∷ k, a.1, a.5, a.6, refl) e
+    at Goes e = binds_into_right (Does s p NullObject) t ts k (a.2, a.3, a.4, tt) (a.0, token.Part true true Equals ∷ t ∷ k, a.1, a.5, a.6, refl) e
     at Follows e = giving_right s p ts [] t k (reading false (t ∷ k)) a e refl
     at Touches e = tt
 
 -- what stands behind the subject and the pattern is the rest
-abbrev Subjected : Tree → Option Tree → List Token → List Token → Type 0
+abbrev Subjected : Expression → Option Expression → List Token → List Token → Type 0
 Subjected s p ts n = (m : List Token) × (b : Bool) × IsOperand s × HasLevels s × PatternHasLevels p × SpellsTo b s ts m × PatternTo p m n
 
-bare : (s : Tree) (p : Option Tree) (ts n : List Token) → Subjected s p ts n → BodyTo (Does s p NoObject) ts n
+bare : (s : Expression) (p : Option Expression) (ts n : List Token) → Subjected s p ts n → BodyTo (Does s p NoObject) ts n
 bare s p ts n a = (a.0, n, a.1, a.5, a.6, refl)
 
-assigned : (s : Tree) (p : Option Tree) (t : Token) (ts n : List Token) → Subjected s p ts (t ∷ n) → role (shape_of t) ≡ Assigns → Assigned s p ts n
+assigned : (s : Expression) (p : Option Expression) (t : Token) (ts n : List Token) → Subjected s p ts (t ∷ n) → role (shape_of t) ≡ Assigns → Assigned s p ts n
 assigned s p t ts n a e = (a.0, a.1, a.2, a.3, a.4, a.5, subst (λ (x : Token). PatternTo p a.0 (x ∷ n)) (assigns t e) a.6)
 
-pattern_right : (s p : Tree) (ts n : List Token) → Subjected s (Some p) ts n → Right (pattern_then s p n) ts
+pattern_right : (s p : Expression) (ts n : List Token) → Subjected s (Some p) ts n → Right (pattern_then s p n) ts
 pattern_right s p ts [] a = stop_right (Does s (Some p) NoObject) ts (a.2, a.3, a.4, tt) (bare s (Some p) ts [] a)
 pattern_right s p ts (t ∷ k) a = at (role (shape_of t)) refl
   where
     at : (r : Role) → role (shape_of t) ≡ r → Right (by_pattern r s p k) ts
     at Assigns e = object_right s (Some p) ts k (assigned s (Some p) t ts k a e)
-    at Goes e = goes_right (Does s (Some p) NoObject) t ts k (a.2, a.3, a.4, tt) (bare s (Some p) ts (t ∷ k) a) e
+    at Goes e = binds_into_right (Does s (Some p) NoObject) t ts k (a.2, a.3, a.4, tt) (bare s (Some p) ts (t ∷ k) a) e
     at _ e = tt
 
-matching_right : (s : Tree) (ts : List Token) (t : Token) (k : List Token) (x : Reading) → Subjected s None ts (t ∷ k) → role (shape_of t) ≡ Follows → reading false (t ∷ k) ≡ x → Right (matching s x) ts
+matching_right : (s : Expression) (ts : List Token) (t : Token) (k : List Token) (x : Reading) → Subjected s None ts (t ∷ k) → role (shape_of t) ≡ Follows → reading false (t ∷ k) ≡ x → Right (matching s x) ts
 matching_right s ts t k (Read None rest) a r e = tt
 matching_right s ts t k (Read (Some p) rest) a r e =
     let i = sound false (t ∷ k) rest p e in
     pattern_right s p ts rest (t ∷ k, a.1, a.2, a.3, i.levels, subst (λ (x : List Token). SpellsTo a.1 s ts x) a.6 a.5, blank_spells p i.blank t k rest i.spells r)
 
-subject_right : (s : Tree) (ts n : List Token) → Subjected s None ts n → Right (subject_then s n) ts
+subject_right : (s : Expression) (ts n : List Token) → Subjected s None ts n → Right (subject_then s n) ts
 subject_right s ts [] a = stop_right (Does s None NoObject) ts (a.2, a.3, a.4, tt) (bare s None ts [] a)
 subject_right s ts (t ∷ k) a = at (role (shape_of t)) refl
   where
     at : (r : Role) → role (shape_of t) ≡ r → Right (by_subject r s t k) ts
     at Assigns e = object_right s None ts k (assigned s None t ts k a e)
-    at Goes e = goes_right (Does s None NoObject) t ts k (a.2, a.3, a.4, tt) (bare s None ts (t ∷ k) a) e
+    at Goes e = binds_into_right (Does s None NoObject) t ts k (a.2, a.3, a.4, tt) (bare s None ts (t ∷ k) a) e
     at Follows e = matching_right s ts t k (reading false (t ∷ k)) a e refl
     at Touches e = tt
 
@@ -189,7 +189,7 @@ right (t ∷ ts) = at (role (shape_of t)) refl
   where
     at : (r : Role) → role (shape_of t) ≡ r → Right (by_first r t ts) (t ∷ ts)
     at Assigns e = tt
-    at Goes e = goes_right NoBody t (t ∷ ts) ts tt refl e
+    at Goes e = binds_into_right NoBody t (t ∷ ts) ts tt refl e
     at Follows e = acting_right (t ∷ ts) (reading true (t ∷ ts)) refl
     at Touches e = acting_right (t ∷ ts) (reading true (t ∷ ts)) refl
 

@@ -4,7 +4,7 @@ use Rattle.sno_token.specs.declared.Mark.TheVariants.{Dollar, Ampersand}
 use Rattle.sno_token.specs.declared.Token.{Token}
 use Rattle.sno_expression.specs.declared.walking.Shape.{Shape}
 use Rattle.sno_expression.specs.declared.walking.Shape.TheVariants as shape
-use Rattle.sno_expression.specs.Walking.{shape_of, with_blanks, opens_call, is_misfit, place_of}
+use Rattle.sno_expression.specs.Walking.{shape_of, with_blanks, opens_call, is_misfit, misfit_index}
 use Rattle.sno_statement.specs.declared.fault.FaultKind.{FaultKind}
 use Rattle.sno_statement.specs.declared.fault.FaultKind.TheVariants.{MissingBlank, Unfit, NoVariable}
 use Rattle.sno_statement.specs.declared.fault.Fault.{Fault}
@@ -79,7 +79,7 @@ least (Some i) (Some j) = if nat_le i j then Some i else Some j
 -- where, if anywhere, stands what is no variable and should be one, as token i shows: an element of an expression, or the
 -- subject, which stands first
 abbrev pub noted_at : SubjectKind → ℕ → Stage → Shape → Option ℕ
-noted_at k i (In f place) t = least (note (is_misfit place t) (place_of i place)) (note (is_unset k f (role t)) 0)
+noted_at k i (In f position) t = least (note (is_misfit position t) (misfit_index i position)) (note (is_unset k f (role t)) 0)
 noted_at k i _ t = None
 
 abbrev pub noted_here : SubjectKind → ℕ → Walk → Shape → Option ℕ

@@ -6,13 +6,13 @@ use Rattle.sno_token.specs.declared.Outcome.TheVariants.{Success, Failure}
 use Rattle.sno_token.specs.declared.Part.TheVariants.{On, Label}
 use Rattle.sno_token.specs.declared.Token.{Token}
 use Rattle.sno_token.specs.declared.Token.TheVariants as token
-use Rattle.sno_expression.specs.declared.tree.Sign.TheVariants.{Indirect}
-use Rattle.sno_expression.specs.Trees.{Tree, Unary}
+use Rattle.sno_expression.specs.declared.tree.UnaryOperator.TheVariants.{Indirect}
+use Rattle.sno_expression.specs.Expressions.{Expression, Unary}
 use Rattle.sno_expression.specs.Walking.{shape_of}
 use Rattle.sno_expression.specs.Reading.{Reading, Read, reading}
 use Rattle.sno_statement.specs.declared.walking.Role.{Role}
 use Rattle.sno_statement.specs.declared.walking.Role.TheVariants.{Assigns, Goes, Follows, Touches}
-use Rattle.sno_statement.specs.Statements.{Target, To, Computed, Goto, NoGoto, Always, OnSuccess, OnFailure, OnBoth, NoObject, NullObject, Gives, Body, NoBody, Does, Statement, Says}
+use Rattle.sno_statement.specs.Statements.{Target, To, Computed, Goto, NoGoto, Always, OnSuccess, OnFailure, OnBoth, NoObject, NullObject, ValueObject, Body, NoBody, Does, Statement, Says}
 use Rattle.sno_statement.specs.Walking.{role}
 
 -- a target and the tokens behind it, if one is there
@@ -24,7 +24,7 @@ abbrev pub closing : Target → List Token → Aim
 closing t (token.Close b ∷ ts) = Aimed t ts
 closing t _ = Missed
 
-abbrev pub indirect : Option Tree → List Token → Aim
+abbrev pub indirect : Option Expression → List Token → Aim
 indirect (Some (Unary Indirect t)) ts = closing (Computed t) ts
 indirect _ ts = Missed
 
@@ -94,43 +94,43 @@ abbrev pub ending : Body → List Token → Option Statement
 ending b [] = Some (Says b NoGoto)
 ending b (t ∷ ts) = ends_by (role (shape_of t)) b ts
 
-abbrev pub giving : Tree → Option Tree → Reading → Option Statement
+abbrev pub giving : Expression → Option Expression → Reading → Option Statement
 giving s p (Read None rest) = None
-giving s p (Read (Some o) rest) = ending (Does s p (Gives o)) rest
+giving s p (Read (Some o) rest) = ending (Does s p (ValueObject o)) rest
 
-abbrev pub by_object : Role → Tree → Option Tree → Token → List Token → Option Statement
+abbrev pub by_object : Role → Expression → Option Expression → Token → List Token → Option Statement
 by_object Assigns s p t ts = None
 by_object Goes s p t ts = going (Does s p NullObject) (goto_in ts)
 by_object Follows s p t ts = giving s p (reading false (t ∷ ts))
 by_object Touches s p t ts = None
 
 -- behind `=`
-abbrev pub object_in : Tree → Option Tree → List Token → Option Statement
+abbrev pub object_in : Expression → Option Expression → List Token → Option Statement
 object_in s p [] = Some (Says (Does s p NullObject) NoGoto)
 object_in s p (t ∷ ts) = by_object (role (shape_of t)) s p t ts
 
-abbrev pub by_pattern : Role → Tree → Tree → List Token → Option Statement
+abbrev pub by_pattern : Role → Expression → Expression → List Token → Option Statement
 by_pattern Assigns s p ts = object_in s (Some p) ts
 by_pattern Goes s p ts = going (Does s (Some p) NoObject) (goto_in ts)
 by_pattern _ s p ts = None
 
 -- behind the pattern
-abbrev pub pattern_then : Tree → Tree → List Token → Option Statement
+abbrev pub pattern_then : Expression → Expression → List Token → Option Statement
 pattern_then s p [] = Some (Says (Does s (Some p) NoObject) NoGoto)
 pattern_then s p (t ∷ ts) = by_pattern (role (shape_of t)) s p ts
 
-abbrev pub matching : Tree → Reading → Option Statement
+abbrev pub matching : Expression → Reading → Option Statement
 matching s (Read None rest) = None
 matching s (Read (Some p) rest) = pattern_then s p rest
 
-abbrev pub by_subject : Role → Tree → Token → List Token → Option Statement
+abbrev pub by_subject : Role → Expression → Token → List Token → Option Statement
 by_subject Assigns s t ts = object_in s None ts
 by_subject Goes s t ts = going (Does s None NoObject) (goto_in ts)
 by_subject Follows s t ts = matching s (reading false (t ∷ ts))
 by_subject Touches s t ts = None
 
 -- behind the subject
-abbrev pub subject_then : Tree → List Token → Option Statement
+abbrev pub subject_then : Expression → List Token → Option Statement
 subject_then s [] = Some (Says (Does s None NoObject) NoGoto)
 subject_then s (t ∷ ts) = by_subject (role (shape_of t)) s t ts
 

@@ -6,10 +6,10 @@ use Rattle.sno_token.specs.declared.Outcome.TheVariants.{Success, Failure}
 use Rattle.sno_token.specs.declared.Part.TheVariants.{Equals, Colon, On, Label}
 use Rattle.sno_token.specs.declared.Token.{Token}
 use Rattle.sno_token.specs.declared.Token.TheVariants as token
-use Rattle.sno_expression.specs.declared.tree.Sign.TheVariants.{Indirect}
-use Rattle.sno_expression.specs.Trees.{Tree, Unary}
+use Rattle.sno_expression.specs.declared.tree.UnaryOperator.TheVariants.{Indirect}
+use Rattle.sno_expression.specs.Expressions.{Expression, Unary}
 use Rattle.sno_expression.specs.Spelling.{SpellsTo}
-use Rattle.sno_statement.specs.Statements.{Target, To, Computed, Goto, NoGoto, Always, OnSuccess, OnFailure, OnBoth, Object, NoObject, NullObject, Gives, Body, NoBody, Does, Statement, Says}
+use Rattle.sno_statement.specs.Statements.{Target, To, Computed, Goto, NoGoto, Always, OnSuccess, OnFailure, OnBoth, Object, NoObject, NullObject, ValueObject, Body, NoBody, Does, Statement, Says}
 
 -- a target stands in parentheses
 abbrev pub TargetTo : Target → List Token → List Token → Type 0
@@ -41,7 +41,7 @@ GotoTo (OnFailure t) ts = ColonTo (OnFailure t) ts
 GotoTo (OnBoth s f) ts = ColonTo (OnBoth s f) ts
 
 -- a blank stands before a pattern
-abbrev pub PatternTo : Option Tree → List Token → List Token → Type 0
+abbrev pub PatternTo : Option Expression → List Token → List Token → Type 0
 PatternTo None ts rest = ts ≡ rest
 PatternTo (Some p) ts rest = SpellsTo true p ts rest
 
@@ -49,7 +49,7 @@ PatternTo (Some p) ts rest = SpellsTo true p ts rest
 abbrev pub ObjectTo : Object → List Token → List Token → Type 0
 ObjectTo NoObject ts rest = ts ≡ rest
 ObjectTo NullObject ts rest = ts ≡ token.Part true true Equals ∷ rest
-ObjectTo (Gives t) ts rest = (m : List Token) × (ts ≡ token.Part true true Equals ∷ m) × SpellsTo true t m rest
+ObjectTo (ValueObject t) ts rest = (m : List Token) × (ts ≡ token.Part true true Equals ∷ m) × SpellsTo true t m rest
 
 abbrev pub BodyTo : Body → List Token → List Token → Type 0
 BodyTo NoBody ts rest = ts ≡ rest

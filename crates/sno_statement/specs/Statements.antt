@@ -1,15 +1,15 @@
 -- Statements without their labels, and the statements that the grammar allows (the SNOBOL4 book, Griswold, Poage and
 -- Polonsky, 2nd ed., chapter 1).
 use Rattle.std.specs.Prelude.{◌≡◌, ℕ, Bool, true, false, List, Option, Some, None, if◌then◌else◌}
-use Rattle.sno_expression.specs.declared.tree.Sign.TheVariants.{Indirect}
-use Rattle.sno_expression.specs.Trees.{Tree, Identifier, Keyword, Unary, HasLevels, IsOperand, HasVariables}
+use Rattle.sno_expression.specs.declared.tree.UnaryOperator.TheVariants.{Indirect}
+use Rattle.sno_expression.specs.Expressions.{Expression, Identifier, Keyword, Unary, HasLevels, IsOperand, HasVariables}
 use Rattle.sno_statement.specs.declared.walking.SubjectKind.{SubjectKind}
 use Rattle.sno_statement.specs.declared.walking.SubjectKind.TheVariants as kind
 
 -- where a goto leads: to a label, or by `$` and an element to the label that is its value
 pub data Target : Type 0 where
   To : List ℕ → Target
-  Computed : Tree → Target
+  Computed : Expression → Target
 
 pub data Goto : Type 0 where
   NoGoto : Goto
@@ -21,11 +21,11 @@ pub data Goto : Type 0 where
 pub data Object : Type 0 where
   NoObject : Object  -- no `=`
   NullObject : Object  -- nothing after `=`
-  Gives : Tree → Object
+  ValueObject : Expression → Object
 
 pub data Body : Type 0 where
   NoBody : Body
-  Does : Tree → Option Tree → Object → Body  -- subject, pattern, object
+  Does : Expression → Option Expression → Object → Body  -- subject, pattern, object
 
 pub data Statement : Type 0 where
   Says : Body → Goto → Statement
@@ -41,14 +41,14 @@ GotoHasLevels (OnSuccess t) = TargetHasLevels t
 GotoHasLevels (OnFailure t) = TargetHasLevels t
 GotoHasLevels (OnBoth s f) = TargetHasLevels s × TargetHasLevels f
 
-abbrev pub PatternHasLevels : Option Tree → Type 0
+abbrev pub PatternHasLevels : Option Expression → Type 0
 PatternHasLevels None = Unit {0}
 PatternHasLevels (Some p) = HasLevels p
 
 abbrev pub ObjectHasLevels : Object → Type 0
 ObjectHasLevels NoObject = Unit {0}
 ObjectHasLevels NullObject = Unit {0}
-ObjectHasLevels (Gives t) = HasLevels t
+ObjectHasLevels (ValueObject t) = HasLevels t
 
 -- the subject is one element
 abbrev pub BodyHasLevels : Body → Type 0
@@ -59,7 +59,7 @@ abbrev pub StatementHasLevels : Statement → Type 0
 StatementHasLevels (Says b g) = BodyHasLevels b × GotoHasLevels g
 
 -- what a subject is to an assignment
-abbrev pub kind_of : Tree → SubjectKind
+abbrev pub kind_of : Expression → SubjectKind
 kind_of (Identifier n) = kind.Variable
 kind_of (Unary Indirect t) = kind.Variable
 kind_of (Keyword n) = kind.Keyword
@@ -71,7 +71,7 @@ can_be_set kind.Variable p = true
 can_be_set kind.Keyword p = if p then false else true
 can_be_set kind.Other p = false
 
-abbrev pub is_pattern : Option Tree → Bool
+abbrev pub is_pattern : Option Expression → Bool
 is_pattern None = false
 is_pattern (Some p) = true
 
@@ -90,14 +90,14 @@ GotoHasVariables (OnSuccess t) = TargetHasVariables t
 GotoHasVariables (OnFailure t) = TargetHasVariables t
 GotoHasVariables (OnBoth s f) = TargetHasVariables s × TargetHasVariables f
 
-abbrev pub PatternHasVariables : Option Tree → Type 0
+abbrev pub PatternHasVariables : Option Expression → Type 0
 PatternHasVariables None = Unit {0}
 PatternHasVariables (Some p) = HasVariables p
 
 abbrev pub ObjectHasVariables : Object → Type 0
 ObjectHasVariables NoObject = Unit {0}
 ObjectHasVariables NullObject = Unit {0}
-ObjectHasVariables (Gives t) = HasVariables t
+ObjectHasVariables (ValueObject t) = HasVariables t
 
 -- where `=` stands the subject is a variable or, without pattern, a keyword
 abbrev pub BodyHasVariables : Body → Type 0

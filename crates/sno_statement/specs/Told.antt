@@ -1,7 +1,7 @@
 -- The program's values by the definitions.
 use Rattle.std.specs.Prelude.{◌≡◌, List, [], ◌∷◌, Option, Some, None, Result, Ok, Err}
 use Rattle.sno_token.specs.declared.Token.{Token}
-use Rattle.sno_expression.specs.Told.{tree_of, trees_of}
+use Rattle.sno_expression.specs.Told.{expression_of, expressions_of}
 use Rattle.sno_statement.specs.declared.fault.Fault.{Fault}
 use Rattle.sno_statement.specs.declared.statement.Target.{Target as ATarget}
 use Rattle.sno_statement.specs.declared.statement.Target.TheVariants as target
@@ -20,7 +20,7 @@ use Rattle.sno_statement.specs.declared.walking.Walk.{Walk as AWalk}
 use Rattle.sno_statement.specs.declared.reading.Aim.{Aim as AnAim}
 use Rattle.sno_statement.specs.Reading.{Aim, Missed, Aimed}
 use Rattle.sno_statement.specs.Walking.{Walk, At, take}
-use Rattle.sno_statement.specs.Statements.{Target, To, Computed, Goto, NoGoto, Always, OnSuccess, OnFailure, OnBoth, Object, NoObject, NullObject, Gives, Body, NoBody, Does, Statement, Says, StatementHasLevels, StatementHasVariables}
+use Rattle.sno_statement.specs.Statements.{Target, To, Computed, Goto, NoGoto, Always, OnSuccess, OnFailure, OnBoth, Object, NoObject, NullObject, ValueObject, Body, NoBody, Does, Statement, Says, StatementHasLevels, StatementHasVariables}
 use Rattle.sno_statement.specs.Spelling.{Spells}
 use Rattle.sno_statement.specs.Faults.{refused_as, fault}
 
@@ -38,7 +38,7 @@ Stepped w t (Err k) = (take w t ≡ None) × (k ≡ refused_as w t)
 
 abbrev pub target_of : ATarget → Target
 target_of (target.Label l) = To l
-target_of (target.Computed t) = Computed (tree_of t)
+target_of (target.Computed t) = Computed (expression_of t)
 
 abbrev pub goto_of : AGoto → Goto
 goto_of goto.Next = NoGoto
@@ -50,11 +50,11 @@ goto_of (goto.OnBoth s f) = OnBoth (target_of s) (target_of f)
 abbrev pub object_of : AnObject → Object
 object_of object.Nothing = NoObject
 object_of object.Null = NullObject
-object_of (object.Value t) = Gives (tree_of t)
+object_of (object.Value t) = ValueObject (expression_of t)
 
 abbrev pub body_of : Option ABody → Body
 body_of None = NoBody
-body_of (Some b) = Does (tree_of b.subject) (trees_of b.pattern) (object_of b.object)
+body_of (Some b) = Does (expression_of b.subject) (expressions_of b.pattern) (object_of b.object)
 
 abbrev pub statement_of : AStatement → Statement
 statement_of s = Says (body_of s.body) (goto_of s.goto)

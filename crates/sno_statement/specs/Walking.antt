@@ -7,7 +7,7 @@ use Rattle.sno_expression.specs.declared.walking.PartShape.TheVariants.{Equals, 
 use Rattle.sno_expression.specs.declared.walking.Shape.{Shape}
 use Rattle.sno_expression.specs.declared.walking.Shape.TheVariants as shape
 use Rattle.sno_expression.specs.declared.walking.Paren.{Paren}
-use Rattle.sno_expression.specs.declared.walking.Place.TheVariants.{AtStart}
+use Rattle.sno_expression.specs.declared.walking.Position.TheVariants.{AtStart}
 use Rattle.sno_expression.specs.declared.walking.Move.{Move}
 use Rattle.sno_expression.specs.declared.walking.Move.TheVariants as move
 use Rattle.sno_expression.specs.Walking.{blank_before, step, ends, inner_of, outer_of}
@@ -35,9 +35,9 @@ alone Object = false
 alone (Target left) = true
 
 abbrev pub within : Field → Move → Advance
-within f (move.Into p place) = Into p (In f place)
-within f (move.Within place) = Within (In f place)
-within f (move.Out place) = Out (In f place)
+within f (move.Into p position) = Into p (In f position)
+within f (move.Within position) = Within (In f position)
+within f (move.Out position) = Out (In f position)
 
 abbrev pub continued : Field → Option Move → Option Advance
 continued f None = None
@@ -117,7 +117,7 @@ after_target left _ = None
 -- what one more token does at a stage within the innermost open parenthesis, unless it is not taken there
 abbrev pub advance : Option Paren → Stage → Shape → Option Advance
 advance inner First t = at_first (role t) t
-advance inner (In f place) t = in_field f (ends inner place) t (step (alone f) inner place t)
+advance inner (In f position) t = in_field f (ends inner position) t (step (alone f) inner position t)
 advance inner AfterEquals t = after_equals (role t) t
 advance inner AfterColon t = after_colon t
 advance inner (AfterOutcome left) t = after_outcome left t
@@ -150,7 +150,7 @@ may_close _ = true
 -- may the statement end here
 abbrev pub finishes : Option Paren → Stage → Bool
 finishes inner First = true
-finishes inner (In f place) = ends inner place && may_close f
+finishes inner (In f position) = ends inner position && may_close f
 finishes inner AfterEquals = true
 finishes inner (AfterTarget left) = true
 finishes inner _ = false

@@ -7,7 +7,7 @@ ghost use Rattle.sno_statement.specs.Statements.{can_be_set};
 
 use crate::fault::{Fault, FaultKind};
 use crate::walking::{Field, Parens, Role, Stage, SubjectKind, Walk, may_end, role_of, walk_on};
-use sno_expression::{Shape, is_misfit, place_of, shape_of};
+use sno_expression::{Shape, is_misfit, misfit_index, shape_of};
 use sno_token::{Mark, Token};
 use std::alloc::{AllocError, Global};
 
@@ -122,8 +122,8 @@ fn noted_at(kind: SubjectKind, i: usize, stage: Stage, shape: Shape) -> Option<u
     ensures { result ≡ noted_at kind i stage shape }
 {
     match stage {
-        Stage::In(field, place) => {
-            let element = note(is_misfit(place, shape), place_of(i, place));
+        Stage::In(field, position) => {
+            let element = note(is_misfit(position, shape), misfit_index(i, position));
             let subject = note(is_unset(kind, field, role_of(shape)), 0);
             least(element, subject)
         }

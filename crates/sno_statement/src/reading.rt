@@ -1,7 +1,7 @@
 //! A statement read part by part, each part as far as it goes.
 
 ghost use Rattle.std.specs.Prelude.{◌≡◌, IfOk, Some, None, true, false, []};
-ghost use Rattle.sno_expression.specs.Told.{tree_of, trees_of};
+ghost use Rattle.sno_expression.specs.Told.{expression_of, expressions_of};
 ghost use Rattle.sno_expression.specs.Reading.{Read, reading};
 ghost use Rattle.sno_statement.specs.Statements as the;
 ghost use Rattle.sno_statement.specs.Reading.{Aimed, closing, indirect, computed, inside, target_in, at_last, always, both, second, on_one, next, chosen, goto_in, going, ending, giving, object_in, pattern_then, matching, subject_then, acting, statement_in};
@@ -10,14 +10,14 @@ ghost use Rattle.sno_statement.specs.Told.{target_of, goto_of, gotos_of, body_of
 use crate::statement::{Body, Goto, Object, Statement, Target};
 use crate::walking::{Role, role_of};
 use mon_text::Line;
-use sno_expression::{Found, Sign, Tree, read_expression, shape_of};
+use sno_expression::{Found, UnaryOperator, Expression, read_expression, shape_of};
 use sno_token::{Mark, Outcome, Part, Token};
 use std::alloc::{AllocError, Global};
 
 /// What was read as an expression, and the tokens behind it.
 #[derive(Drop)]
 pub struct Piece<'a> {
-    pub tree: Option<Tree>,
+    pub tree: Option<Expression>,
     pub rest: &'a [Token],
 }
 
@@ -30,7 +30,7 @@ pub struct Aim<'a> {
 
 // An expression, or one element alone, as far as it goes.
 fn read_piece<'a>(alloc: Global, alone: bool, tokens: &'a [Token]) -> Result<Piece<'a>, AllocError>
-    ensures { IfOk result (λ p. reading alone tokens.now ≡ Read (trees_of p.tree) p.rest.now) }
+    ensures { IfOk result (λ p. reading alone tokens.now ≡ Read (expressions_of p.tree) p.rest.now) }
 {
     let Found { tree, next } = read_expression(alloc, alone, tokens, 0)?;
     Ok(Piece {
@@ -62,11 +62,11 @@ fn label_ends<'a>(
     Ok(closing(Target::Label(label), tokens))
 }
 
-fn indirect<'a>(tree: Tree, tokens: &'a [Token]) -> Option<Aim<'a>>
-    ensures { aim_of result ≡ indirect (Some (tree_of tree)) tokens.now }
+fn indirect<'a>(tree: Expression, tokens: &'a [Token]) -> Option<Aim<'a>>
+    ensures { aim_of result ≡ indirect (Some (expression_of tree)) tokens.now }
 {
     match tree {
-        Tree::Unary(Sign::Indirect, element) => closing(
+        Expression::Unary(UnaryOperator::Indirect, element) => closing(
             Target::Computed(Box::into_inner(element)),
             tokens,
         ),
@@ -253,11 +253,11 @@ fn ending(alloc: Global, body: Body, tokens: &[Token]) -> Result<Option<Statemen
 
 fn giving(
     alloc: Global,
-    subject: Tree,
-    pattern: Option<Tree>,
+    subject: Expression,
+    pattern: Option<Expression>,
     tokens: &[Token],
 ) -> Result<Option<Statement>, AllocError>
-    ensures { IfOk result (λ s. statements_of s ≡ giving (tree_of subject) (trees_of pattern) (reading false tokens.now)) }
+    ensures { IfOk result (λ s. statements_of s ≡ giving (expression_of subject) (expressions_of pattern) (reading false tokens.now)) }
 {
     let Piece { tree, rest } = read_piece(alloc, false, tokens)?;
     match tree {
@@ -277,11 +277,11 @@ fn giving(
 // Behind `=`.
 fn object_in(
     alloc: Global,
-    subject: Tree,
-    pattern: Option<Tree>,
+    subject: Expression,
+    pattern: Option<Expression>,
     tokens: &[Token],
 ) -> Result<Option<Statement>, AllocError>
-    ensures { IfOk result (λ s. statements_of s ≡ object_in (tree_of subject) (trees_of pattern) tokens.now) }
+    ensures { IfOk result (λ s. statements_of s ≡ object_in (expression_of subject) (expressions_of pattern) tokens.now) }
 {
     match tokens.split_first() {
         None => Ok(Some(Statement {
@@ -312,11 +312,11 @@ fn object_in(
 // Behind the pattern.
 fn pattern_then(
     alloc: Global,
-    subject: Tree,
-    pattern: Tree,
+    subject: Expression,
+    pattern: Expression,
     tokens: &[Token],
 ) -> Result<Option<Statement>, AllocError>
-    ensures { IfOk result (λ s. statements_of s ≡ pattern_then (tree_of subject) (tree_of pattern) tokens.now) }
+    ensures { IfOk result (λ s. statements_of s ≡ pattern_then (expression_of subject) (expression_of pattern) tokens.now) }
 {
     let pattern = Some(pattern);
     match tokens.split_first() {
@@ -345,8 +345,8 @@ fn pattern_then(
     }
 }
 
-fn matching(alloc: Global, subject: Tree, tokens: &[Token]) -> Result<Option<Statement>, AllocError>
-    ensures { IfOk result (λ s. statements_of s ≡ matching (tree_of subject) (reading false tokens.now)) }
+fn matching(alloc: Global, subject: Expression, tokens: &[Token]) -> Result<Option<Statement>, AllocError>
+    ensures { IfOk result (λ s. statements_of s ≡ matching (expression_of subject) (reading false tokens.now)) }
 {
     let Piece { tree, rest } = read_piece(alloc, false, tokens)?;
     match tree {
@@ -358,10 +358,10 @@ fn matching(alloc: Global, subject: Tree, tokens: &[Token]) -> Result<Option<Sta
 // Behind the subject.
 fn subject_then(
     alloc: Global,
-    subject: Tree,
+    subject: Expression,
     tokens: &[Token],
 ) -> Result<Option<Statement>, AllocError>
-    ensures { IfOk result (λ s. statements_of s ≡ subject_then (tree_of subject) tokens.now) }
+    ensures { IfOk result (λ s. statements_of s ≡ subject_then (expression_of subject) tokens.now) }
 {
     match tokens.split_first() {
         None => Ok(Some(Statement {

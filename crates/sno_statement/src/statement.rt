@@ -1,14 +1,14 @@
 //! Statements without their labels.
 
 use mon_text::Line;
-use sno_expression::Tree;
+use sno_expression::Expression;
 
 /// Where a goto leads.
 #[derive(Drop)]
 pub enum Target {
     Label(Line),
     /// `$` and this element: the label is its value.
-    Computed(Tree),
+    Computed(Expression),
 }
 
 /// Where a statement goes on.
@@ -30,15 +30,15 @@ pub enum Object {
     Nothing,
     /// Nothing stands behind `=`: the null string.
     Null,
-    Value(Tree),
+    Value(Expression),
 }
 
 /// What a statement does before it goes on.
 #[derive(Drop)]
 pub struct Body {
     /// One element. Where there is an object it is a variable or, without pattern, a keyword.
-    pub subject: Tree,
-    pub pattern: Option<Tree>,
+    pub subject: Expression,
+    pub pattern: Option<Expression>,
     pub object: Object,
 }
 

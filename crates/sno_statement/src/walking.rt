@@ -7,7 +7,7 @@ ghost use Rattle.sno_statement.specs.Faults.{takes, refused_as};
 ghost use Rattle.sno_statement.specs.Told.{parens_of, walk_of, Stepped};
 
 use crate::fault::FaultKind;
-use sno_expression::{Move, Paren, PartShape, Place, Shape, blank_before, ends, step, with_blanks};
+use sno_expression::{Move, Paren, PartShape, Position, Shape, blank_before, ends, step, with_blanks};
 use sno_token::{Mark, Outcome};
 use std::alloc::{AllocError, Global};
 
@@ -46,7 +46,7 @@ pub enum Field {
 #[derive(Clone, Copy)]
 pub enum Stage {
     First,
-    In(Field, Place),
+    In(Field, Position),
     AfterEquals,
     AfterColon,
     AfterOutcome(Option<Outcome>),
@@ -133,9 +133,9 @@ fn within(field: Field, taken: Move) -> Advance
     ensures { result ≡ within field taken }
 {
     match taken {
-        Move::Into(paren, place) => Advance::Into(paren, Stage::In(field, place)),
-        Move::Within(place) => Advance::Within(Stage::In(field, place)),
-        Move::Out(place) => Advance::Out(Stage::In(field, place)),
+        Move::Into(paren, position) => Advance::Into(paren, Stage::In(field, position)),
+        Move::Within(position) => Advance::Within(Stage::In(field, position)),
+        Move::Out(position) => Advance::Out(Stage::In(field, position)),
     }
 }
 
@@ -152,7 +152,7 @@ fn continued(field: Field, taken: Option<Move>) -> Option<Advance>
 fn enter(field: Field, shape: Shape) -> Option<Advance>
     ensures { result ≡ enter field shape }
 {
-    continued(field, step(alone(field), None, Place::AtStart, shape))
+    continued(field, step(alone(field), None, Position::AtStart, shape))
 }
 
 fn after_subject(shape: Shape) -> Option<Advance>
@@ -316,9 +316,9 @@ fn next_advance(inner: Option<Paren>, stage: Stage, shape: Shape) -> Option<Adva
 {
     match stage {
         Stage::First => at_first(shape),
-        Stage::In(field, place) => {
-            let taken = step(alone(field), inner, place, shape);
-            in_field(field, ends(inner, place), shape, taken)
+        Stage::In(field, position) => {
+            let taken = step(alone(field), inner, position, shape);
+            in_field(field, ends(inner, position), shape, taken)
         }
         Stage::AfterEquals => after_equals(shape),
         Stage::AfterColon => after_colon(shape),
@@ -427,7 +427,7 @@ fn finishes(inner: Option<Paren>, stage: Stage) -> bool
 {
     match stage {
         Stage::First => true,
-        Stage::In(field, place) => ends(inner, place) && may_close(field),
+        Stage::In(field, position) => ends(inner, position) && may_close(field),
         Stage::AfterEquals => true,
         Stage::AfterTarget(_) => true,
         Stage::AfterColon => false,

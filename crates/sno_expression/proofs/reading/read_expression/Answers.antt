@@ -1,6 +1,6 @@
 use Rattle.std.proofs.Common.{◌+◌, drop}
 use Rattle.sno_expression.specs.Reading.{reading}
-use Rattle.sno_expression.specs.Told.{trees_of, state_of}
+use Rattle.sno_expression.specs.Told.{expressions_of, state_of}
 use Rattle.sno_expression.proofs.Loop.{more, on_end}
 use Rattle.sno_expression.proofs.reading.read_expression.Goals as goal
 
@@ -9,5 +9,5 @@ returns-in-End-clause-reads c =
     let ts = c.args.tokens.now in
     let i = c.loop-i.i in
     let t = c.index-tokens-i.result in
-    on_end c.args.alone (state_of c.loop-i.state) (trees_of c.in-End.tree) t (drop i ts) (drop (i + 1) ts) (reading c.args.alone (drop c.args.from ts))
+    on_end c.args.alone (state_of c.loop-i.state) (expressions_of c.in-End.tree) t (drop i ts) (drop (i + 1) ts) (reading c.args.alone (drop c.args.from ts))
     (more ts i t c.loop-i-test.true c.index-tokens-i.is) (rw c.in-End.is at c.in_ok-next.ensures) c.loop-i.invariant
