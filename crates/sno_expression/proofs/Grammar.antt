@@ -4,7 +4,7 @@ use Rattle.std.specs.Prelude.{Bool, true, false, Option, Some, None}
 use Rattle.sno_token.specs.declared.Token.{Token}
 use Rattle.sno_expression.specs.Expressions.{Expression, HasLevels, bad}
 use Rattle.sno_expression.specs.Spelling.{Spells}
-use Rattle.sno_expression.specs.Walking.{Walk, shape_of, take, begins, misfit}
+use Rattle.sno_expression.specs.Walking.{Walk, take, begins, misfit}
 use Rattle.sno_expression.specs.Reading.{State, read, result, Reading, Read, and_then, answer, start, reading, walk}
 use Rattle.sno_expression.specs.Laws.{OneExpression, ReadsExactly, WalksExactly, CountsExactly, then_takes, takes_all, then_count, misfits}
 use Rattle.sno_expression.proofs.Feeding.{complete}
@@ -32,7 +32,7 @@ is_whole (Read o (t ∷ ts)) = false
 
 takes_read : (ts : List Token) (alone : Bool) (s : State) → takes_all alone (walk s) ts ≡ is_whole (answer alone s ts)
 takes_read [] alone s = sym (end_walks s)
-takes_read (t ∷ ts) alone s = at (read alone s t) (take alone (walk s) (shape_of t)) (read_walks alone s t) (λ v. takes_read ts alone v)
+takes_read (t ∷ ts) alone s = at (read alone s t) (take alone (walk s) t) (read_walks alone s t) (λ v. takes_read ts alone v)
   where
     at : (o : Option State) (w : Option Walk) → walk_of o ≡ w → ((v : State) → takes_all alone (walk v) ts ≡ is_whole (answer alone v ts))
         → then_takes w (λ v. takes_all alone v ts) ≡ is_whole (and_then o (Read (result s) (t ∷ ts)) (λ v. answer alone v ts))
@@ -56,19 +56,19 @@ tree_in o m rest u e = cc
 
 pub count_all : (ts : List Token) (alone : Bool) (s : State) (rest : List Token) (u : Expression) → answer alone s ts ≡ Read (Some u) rest → bad u ≡ bad_state s + misfits alone (walk s) ts
 count_all [] alone s rest u e = let h = end_counts s u (tree_in (result s) [] rest u e) in omega (arith, h)
-count_all (t ∷ ts) alone s rest u e = at (read alone s t) (take alone (walk s) (shape_of t)) (read_walks alone s t) (λ v. read_counts alone s v t) e (λ v d. count_all ts alone v rest u d)
+count_all (t ∷ ts) alone s rest u e = at (read alone s t) (take alone (walk s) t) (read_walks alone s t) (λ v. read_counts alone s v t) e (λ v d. count_all ts alone v rest u d)
   where
-    at : (o : Option State) (w : Option Walk) → walk_of o ≡ w → ((v : State) → o ≡ Some v → bad_state v ≡ bad_state s + misfit (walk s) (shape_of t))
+    at : (o : Option State) (w : Option Walk) → walk_of o ≡ w → ((v : State) → o ≡ Some v → bad_state v ≡ bad_state s + misfit (walk s) t)
         → and_then o (Read (result s) (t ∷ ts)) (λ v. answer alone v ts) ≡ Read (Some u) rest
         → ((v : State) → answer alone v ts ≡ Read (Some u) rest → bad u ≡ bad_state v + misfits alone (walk v) ts)
-        → bad u ≡ bad_state s + then_count w (λ v. misfit (walk s) (shape_of t) + misfits alone v ts)
+        → bad u ≡ bad_state s + then_count w (λ v. misfit (walk s) t + misfits alone v ts)
     at None w d c e on =
         let h = end_counts s u (tree_in (result s) (t ∷ ts) rest u e) in
-        subst (λ (w : Option Walk). bad u ≡ bad_state s + then_count w (λ v. misfit (walk s) (shape_of t) + misfits alone v ts)) d (omega (arith, h))
+        subst (λ (w : Option Walk). bad u ≡ bad_state s + then_count w (λ v. misfit (walk s) t + misfits alone v ts)) d (omega (arith, h))
     at (Some v) w d c e on =
         let h = on v e in
         let k = c v refl in
-        subst (λ (w : Option Walk). bad u ≡ bad_state s + then_count w (λ v. misfit (walk s) (shape_of t) + misfits alone v ts)) d (omega (arith, h, k))
+        subst (λ (w : Option Walk). bad u ≡ bad_state s + then_count w (λ v. misfit (walk s) t + misfits alone v ts)) d (omega (arith, h, k))
 
 -- the misfits along a reading are those of its tree
 pub counts : (alone : Bool) (ts rest : List Token) (u : Expression) → reading alone ts ≡ Read (Some u) rest → bad u ≡ misfits alone begins ts

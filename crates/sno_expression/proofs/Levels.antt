@@ -113,7 +113,7 @@ left_under a b c h k =
     let e = each_op (λ c. T a b c) (each_op (λ b. all0 (λ c. T a b c)) (each_op (λ a. all0 (λ b. all0 (λ c. T a b c))) refl a) b) c in
     mp (binds_into_right b c) (binds_into_right a c) (mp (binds_into_left a b) (implies (binds_into_right b c) (binds_into_right a c)) e h) k
 
--- nothing goes under an operator that wants a variable
+-- nothing goes under an operator that needs a variable
 pub none_needed : (a b : BinaryOperator) → binds_into_right a b ≡ true → needs_variable b ≡ false
 none_needed a b h =
     is_false (needs_variable b) (mp (binds_into_right a b) (no (needs_variable b)) (each_op (λ b. implies (binds_into_right a b) (no (needs_variable b))) (each_op (λ a. all0 (λ b. implies (binds_into_right a b) (no (needs_variable b)))) refl a) b) h)
@@ -154,7 +154,7 @@ descend (Constant c) o p l a h v f = descend_operand (Constant c) o p l a h tt v
 descend (Keyword n) o p l a h v f = descend_operand (Keyword n) o p l a h tt v
 descend (Unevaluated n) o p l a h v f = descend_operand (Unevaluated n) o p l a h tt v
 descend (Group t) o p l a h v f = descend_operand (Group t) o p l a h tt v
-descend (Call g arguments) o p l a h v f = descend_operand (Call g arguments) o p l a h tt v
+descend (Call g args) o p l a h v f = descend_operand (Call g args) o p l a h tt v
 descend (Unary s t) o p l a h v f = descend_operand (Unary s t) o p l a h tt v
 
 graft_operand : (r : Expression) (o : BinaryOperator) (l : Expression) → IsOperand r → HasLevels r → FitsLeft o l → settle (After l o) r ≡ Binary o l r
@@ -169,7 +169,7 @@ graft (Constant c) o l v f k = graft_operand (Constant c) o l tt v k
 graft (Keyword n) o l v f k = graft_operand (Keyword n) o l tt v k
 graft (Unevaluated n) o l v f k = graft_operand (Unevaluated n) o l tt v k
 graft (Group t) o l v f k = graft_operand (Group t) o l tt v k
-graft (Call g arguments) o l v f k = graft_operand (Call g arguments) o l tt v k
+graft (Call g args) o l v f k = graft_operand (Call g args) o l tt v k
 graft (Unary s t) o l v f k = graft_operand (Unary s t) o l tt v k
 
 pub settled : (t : Expression) → HasLevels t → settle Begin t ≡ t

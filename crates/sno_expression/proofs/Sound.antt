@@ -4,7 +4,8 @@ use Rattle.std.specs.Prelude.{Bool, true, false, Option, Some, None, if◌then�
 use Rattle.sno_token.specs.declared.Mark.{Mark}
 use Rattle.sno_token.specs.declared.Mark.TheVariants as mark
 use Rattle.sno_token.specs.declared.Token.{Token}
-use Rattle.sno_token.specs.declared.Token.TheVariants as token
+use Rattle.sno_token.specs.declared.TokenKind.{TokenKind}
+use Rattle.sno_token.specs.declared.TokenKind.TheVariants as token
 use Rattle.sno_expression.specs.declared.tree.BinaryOperator.{BinaryOperator}
 use Rattle.sno_expression.specs.declared.tree.BinaryOperator.TheVariants as operator
 use Rattle.sno_expression.specs.declared.tree.IdentifierPrefix.{IdentifierPrefix}
@@ -13,9 +14,8 @@ use Rattle.sno_expression.specs.declared.tree.Prefix.{Prefix}
 use Rattle.sno_expression.specs.declared.tree.Prefix.TheVariants.{OfOperand, OfIdentifier}
 use Rattle.sno_expression.specs.Marks.{operator_of, prefix_of}
 use Rattle.sno_expression.specs.Expressions.{Expression, Identifier, Constant, Keyword, Unevaluated, Group, Call, Unary, Binary, Omitted, Argument, binds_into_right, FitsLeft, FitsRight, IsOperand, HasLevels, HaveLevels, Suits}
-use Rattle.sno_expression.specs.Spelling.{Joins, Parts, SpellsTo, SpellTo}
-use Rattle.sno_expression.specs.Walking.{shape_of, blank_before}
-use Rattle.sno_expression.specs.Reading.{push, Hole, Begin, After, Under, fill, Stack, Bottom, InGroup, InCall, Due, Prefixed, Named, Whole, State, At, with_prefix, prefixed, joined, begin, close, comma, first, go_on, closed, after, read, result, Reading, Read, and_then, answer, start, reading}
+use Rattle.sno_expression.specs.Spelling.{spaced, Joins, Parts, SpellsTo, SpellTo}
+use Rattle.sno_expression.specs.Reading.{push, Hole, Begin, After, Under, fill, Stack, Bottom, InGroup, InCall, Due, Prefixed, Named, Whole, State, At, with_prefix, prefixed, joined, begin, close, comma, first, go_on, closed, after, after_prefix, named, read, result, Reading, Read, and_then, answer, start, reading}
 use Rattle.sno_expression.proofs.Levels.{then_left}
 use Rattle.sno_expression.proofs.Lone.{Lone, LoneNext, read_lone, SuitsSome, end_lone, start_lone}
 
@@ -67,11 +67,11 @@ written mark.Tilde e = cc
 written mark.Question e = cc
 written mark.Ampersand e = cc
 
-mark_joins : (o : BinaryOperator) (k : Mark) (m : List Token) → operator_of k ≡ Some o → Joins o (token.Mark true true k ∷ m) m
+mark_joins : (o : BinaryOperator) (k : Mark) (m : List Token) → operator_of k ≡ Some o → Joins o (spaced true true (token.Mark k) ∷ m) m
 mark_joins operator.Concatenation k m e = absurd (written k e)
 mark_joins _ k m e = (k, e, refl)
 
--- the mark of a word
+-- the mark of such a prefix
 abbrev mark_of : IdentifierPrefix → Mark
 mark_of prefix.Keyword = mark.Ampersand
 mark_of prefix.Unevaluated = mark.Star
@@ -94,7 +94,7 @@ prefix_mark mark.Question w e = cc
 abbrev pub HoleReads : Hole → Bool → List Token → List Token → Bool → Type 0
 HoleReads Begin c ts m b = (ts ≡ m) × (c ≡ b)
 HoleReads (After t o) c ts m b = (k : List Token) × HasLevels t × SpellsTo c t ts k × Joins o k m × (b ≡ true)
-HoleReads (Under s h) c ts m b = (k : List Token) × (d : Bool) × (n : Mark) × (prefix_of n ≡ Some (OfOperand s)) × HoleReads h c ts k d × (k ≡ token.Mark d false n ∷ m) × (b ≡ false)
+HoleReads (Under s h) c ts m b = (k : List Token) × (d : Bool) × (n : Mark) × (prefix_of n ≡ Some (OfOperand s)) × HoleReads h c ts k d × (k ≡ spaced d false (token.Mark n) ∷ m) × (b ≡ false)
 
 -- a tree that was read from ts to rest
 pub record Made (c : Bool) (t : Expression) (ts rest : List Token) : Type 0 where
@@ -117,10 +117,10 @@ filled (Under n k) c ts m b x rest h i v s =
 abbrev pub StackReads : Stack → List Token → List Token → Type 0
 StackReads Bottom ts m = ts ≡ m
 StackReads (InGroup h st) ts m =
-    (k : List Token) × (j : List Token) × (c : Bool) × (b : Bool) × StackReads st ts k × HoleReads h c k j b × (j ≡ token.Open b ∷ m)
-StackReads (InCall f arguments h st) ts m =
+    (k : List Token) × (j : List Token) × (c : Bool) × (b : Bool) × StackReads st ts k × HoleReads h c k j b × ((a : Bool) × (j ≡ spaced b a token.Open ∷ m))
+StackReads (InCall f args h st) ts m =
     (k : List Token) × (j : List Token) × (c : Bool) × (b : Bool) × (n : List Token) × (i : List Token)
-    × StackReads st ts k × HoleReads h c k j b × (j ≡ token.Name b f ∷ token.Open false ∷ n) × SpellTo arguments n i × Parts arguments i m × HaveLevels arguments
+    × StackReads st ts k × HoleReads h c k j b × ((a : Bool) × (d : Bool) × (j ≡ spaced b a (token.Identifier f) ∷ spaced false d token.Open ∷ n)) × SpellTo args n i × Parts args i m × HaveLevels args
 
 abbrev pub fits : Hole → Bool → Type 0
 fits Begin b = Unit {0}
@@ -129,8 +129,8 @@ fits (Under s h) b = b ≡ false
 
 abbrev pub StateReads : State → List Token → List Token → Type 0
 StateReads (At st (Due h)) ts m = (k : List Token) × StackReads st ts k × ((b : Bool) → fits h b → (c : Bool) × HoleReads h c k m b)
-StateReads (At st (Prefixed h w)) ts m = (k : List Token) × (j : List Token) × (c : Bool) × (b : Bool) × StackReads st ts k × HoleReads h c k j b × (j ≡ token.Mark b false (mark_of w) ∷ m)
-StateReads (At st (Named h n)) ts m = (k : List Token) × (j : List Token) × (c : Bool) × (b : Bool) × StackReads st ts k × HoleReads h c k j b × (j ≡ token.Name b n ∷ m)
+StateReads (At st (Prefixed h w)) ts m = (k : List Token) × (j : List Token) × (c : Bool) × (b : Bool) × StackReads st ts k × HoleReads h c k j b × (j ≡ spaced b false (token.Mark (mark_of w)) ∷ m)
+StateReads (At st (Named h n)) ts m = (k : List Token) × (j : List Token) × (c : Bool) × (b : Bool) × StackReads st ts k × HoleReads h c k j b × ((a : Bool) × (j ≡ spaced b a (token.Identifier n) ∷ m))
 StateReads (At st (Whole t)) ts m = (k : List Token) × (c : Bool) × StackReads st ts k × Made c t k m
 
 abbrev pub NextReads : Option State → List Token → List Token → Type 0
@@ -140,94 +140,98 @@ NextReads (Some s) ts m = StateReads s ts m
 whole : (st : Stack) (h : Hole) (x : Expression) (ts k j rest : List Token) (c b : Bool) → StackReads st ts k → HoleReads h c k j b → IsOperand x → HasLevels x → SpellsTo b x j rest → StateReads (At st (Whole (fill h x))) ts rest
 whole st h x ts k j rest c b r q i v s = (k, c, r, filled h c k j b x rest q i v s)
 
-prefixes : (st : Stack) (h : Hole) (n : Mark) (p : Option Prefix) (ts k j m : List Token) (c b : Bool) → prefix_of n ≡ p → StackReads st ts k → HoleReads h c k j b → j ≡ token.Mark b false n ∷ m → NextReads (prefixed st h p) ts m
+prefixes : (st : Stack) (h : Hole) (n : Mark) (p : Option Prefix) (ts k j m : List Token) (c b : Bool) → prefix_of n ≡ p → StackReads st ts k → HoleReads h c k j b → j ≡ spaced b false (token.Mark n) ∷ m → NextReads (prefixed st h p) ts m
 prefixes st h n None ts k j m c b d r q e = tt
 prefixes st h n (Some (OfOperand s)) ts k j m c b d r q e = (k, r, λ a f. (c, (j, b, n, d, q, e, f)))
-prefixes st h n (Some (OfIdentifier w)) ts k j m c b d r q e = (k, j, c, b, r, q, e ∙ ap (λ (x : Mark). token.Mark b false x ∷ m) (prefix_mark n w d))
+prefixes st h n (Some (OfIdentifier w)) ts k j m c b d r q e = (k, j, c, b, r, q, e ∙ ap (λ (x : Mark). spaced b false (token.Mark x) ∷ m) (prefix_mark n w d))
 
 -- an operand begins
-begins : (st : Stack) (h : Hole) (t : Token) (ts k j m : List Token) (c : Bool) → StackReads st ts k → HoleReads h c k j (blank_before (shape_of t)) → j ≡ t ∷ m → NextReads (begin st h t) ts m
-begins st h (token.Name b n) ts k j m c r q e = (k, j, c, b, r, q, e)
-begins st h (token.Constant b n) ts k j m c r q e = whole st h (Constant n) ts k j m c b r q tt tt e
-begins st h (token.Mark b false n) ts k j m c r q e = prefixes st h n (prefix_of n) ts k j m c b refl r q e
-begins st h (token.Open b) ts k j m c r q e = (m, (k, j, c, b, r, q, e), λ d f. (d, (refl, refl)))
-begins st h _ ts k j m c r q e = tt
+begins : (st : Stack) (h : Hole) (b a : Bool) (t : TokenKind) (ts k j m : List Token) (c : Bool) → StackReads st ts k → HoleReads h c k j b → j ≡ spaced b a t ∷ m → NextReads (begin st h a t) ts m
+begins st h b a (token.Identifier n) ts k j m c r q e = (k, j, c, b, r, q, (a, e))
+begins st h b a (token.Constant n) ts k j m c r q e = whole st h (Constant n) ts k j m c b r q tt tt (a, e)
+begins st h b false (token.Mark n) ts k j m c r q e = prefixes st h n (prefix_of n) ts k j m c b refl r q e
+begins st h b a token.Open ts k j m c r q e = (m, (k, j, c, b, r, q, (a, e)), λ d f. (d, (refl, refl)))
+begins st h b a _ ts k j m c r q e = tt
 
-closes : (st : Stack) (t : Expression) (ts k m : List Token) (c d : Bool) → StackReads st ts k → Made c t k (token.Close d ∷ m) → NextReads (close st t) ts m
-closes Bottom t ts k m c d r u = tt
-closes (InGroup h st) t ts k m c d r u =
-    whole st h (Group t) ts r.0 r.1 m r.2 r.3 r.4 r.5 tt u.levels (k, c, d, r.6, u.spells)
-closes (InCall f arguments h st) t ts k m c d r u =
-    whole st h (Call f (Argument arguments t)) ts r.0 r.1 m r.2 r.3 r.6 r.7 tt (tt, (r.11, u.levels)) (r.4, d, r.8, (r.5, k, c, r.9, r.10, u.spells))
+closes : (st : Stack) (t : Expression) (ts k m : List Token) (c d e : Bool) → StackReads st ts k → Made c t k (spaced d e token.Close ∷ m) → NextReads (close st t) ts m
+closes Bottom t ts k m c d e r u = tt
+closes (InGroup h st) t ts k m c d e r u =
+    whole st h (Group t) ts r.0 r.1 m r.2 r.3 r.4 r.5 tt u.levels (k, r.6.0, c, d, e, r.6.1, u.spells)
+closes (InCall f args h st) t ts k m c d e r u =
+    whole st h (Call f (Argument args t)) ts r.0 r.1 m r.2 r.3 r.6 r.7 tt (tt, (r.11, u.levels)) (r.4, r.8.0, r.8.1, d, e, r.8.2, (r.5, k, c, r.9, r.10, u.spells))
 
-commas : (st : Stack) (t : Expression) (ts k m : List Token) (c d : Bool) → StackReads st ts k → Made c t k (token.Comma d ∷ m) → NextReads (comma st t) ts m
-commas Bottom t ts k m c d r u = tt
-commas (InGroup h st) t ts k m c d r u = tt
-commas (InCall f arguments h st) t ts k m c d r u =
-    (m, (r.0, r.1, r.2, r.3, r.4, token.Comma d ∷ m, r.6, r.7, r.8, (r.5, k, c, r.9, r.10, u.spells), (d, refl), (r.11, u.levels)), λ e f. (e, (refl, refl)))
+commas : (st : Stack) (t : Expression) (ts k m : List Token) (c d e : Bool) → StackReads st ts k → Made c t k (spaced d e token.Comma ∷ m) → NextReads (comma st t) ts m
+commas Bottom t ts k m c d e r u = tt
+commas (InGroup h st) t ts k m c d e r u = tt
+commas (InCall f args h st) t ts k m c d e r u =
+    (m, (r.0, r.1, r.2, r.3, r.4, spaced d e token.Comma ∷ m, r.6, r.7, r.8, (r.5, k, c, r.9, r.10, u.spells), (d, e, refl), (r.11, u.levels)), λ e f. (e, (refl, refl)))
 
-firsts : (st : Stack) (t : Token) (ts k m : List Token) → StackReads st ts k → k ≡ t ∷ m → NextReads (first st t) ts m
-firsts Bottom t ts k m r e = begins Bottom Begin t ts k k m (blank_before (shape_of t)) r (refl, refl) e
-firsts (InGroup h st) t ts k m r e = begins (InGroup h st) Begin t ts k k m (blank_before (shape_of t)) r (refl, refl) e
-firsts (InCall f arguments h st) (token.Close d) ts k m r e =
-    whole st h (Call f (Omitted arguments)) ts r.0 r.1 m r.2 r.3 r.6 r.7 tt (tt, r.11) (r.4, d, r.8, (r.5, r.9, subst (λ (l : List Token). Parts arguments r.5 l) e r.10))
-firsts (InCall f arguments h st) (token.Comma d) ts k m r e =
-    (m, (r.0, r.1, r.2, r.3, r.4, token.Comma d ∷ m, r.6, r.7, r.8, (r.5, r.9, subst (λ (l : List Token). Parts arguments r.5 l) e r.10), (d, refl), r.11), λ e f. (e, (refl, refl)))
-firsts (InCall f arguments h st) t ts k m r e = begins (InCall f arguments h st) Begin t ts k k m (blank_before (shape_of t)) r (refl, refl) e
+firsts : (st : Stack) (b a : Bool) (t : TokenKind) (ts k m : List Token) → StackReads st ts k → k ≡ spaced b a t ∷ m → NextReads (first st a t) ts m
+firsts Bottom b a t ts k m r e = begins Bottom Begin b a t ts k k m b r (refl, refl) e
+firsts (InGroup h st) b a t ts k m r e = begins (InGroup h st) Begin b a t ts k k m b r (refl, refl) e
+firsts (InCall f args h st) d a token.Close ts k m r e =
+    whole st h (Call f (Omitted args)) ts r.0 r.1 m r.2 r.3 r.6 r.7 tt (tt, r.11) (r.4, r.8.0, r.8.1, d, a, r.8.2, (r.5, r.9, subst (λ (l : List Token). Parts args r.5 l) e r.10))
+firsts (InCall f args h st) d a token.Comma ts k m r e =
+    (m, (r.0, r.1, r.2, r.3, r.4, spaced d a token.Comma ∷ m, r.6, r.7, r.8, (r.5, r.9, subst (λ (l : List Token). Parts args r.5 l) e r.10), (d, a, refl), r.11), λ e f. (e, (refl, refl)))
+firsts (InCall f args h st) b a t ts k m r e = begins (InCall f args h st) Begin b a t ts k k m b r (refl, refl) e
 
 -- with a blank before it
-joins : (st : Stack) (l : Expression) (t : Token) (ts k m : List Token) (c : Bool) → blank_before (shape_of t) ≡ true → StackReads st ts k → Made c l k (t ∷ m) → NextReads (begin st (After l operator.Concatenation) t) ts m
-joins st l t ts k m c f r u = begins st (After l operator.Concatenation) t ts k (t ∷ m) m c r (t ∷ m, u.levels, u.spells, refl, f) refl
+joins : (st : Stack) (l : Expression) (a : Bool) (t : TokenKind) (ts k m : List Token) (c : Bool) → StackReads st ts k → Made c l k (spaced true a t ∷ m) → NextReads (begin st (After l operator.Concatenation) a t) ts m
+joins st l a t ts k m c r u = begins st (After l operator.Concatenation) true a t ts k (spaced true a t ∷ m) m c r (spaced true a t ∷ m, u.levels, u.spells, refl, refl) refl
 
-marks : (st : Stack) (l : Expression) (n : Mark) (o : Option BinaryOperator) (ts k m : List Token) (c : Bool) → operator_of n ≡ o → StackReads st ts k → Made c l k (token.Mark true true n ∷ m) → NextReads (joined st l o) ts m
+marks : (st : Stack) (l : Expression) (n : Mark) (o : Option BinaryOperator) (ts k m : List Token) (c : Bool) → operator_of n ≡ o → StackReads st ts k → Made c l k (spaced true true (token.Mark n) ∷ m) → NextReads (joined st l o) ts m
 marks st l n None ts k m c e r u = tt
-marks st l n (Some o) ts k m c e r u = (k, r, λ b f. (c, (token.Mark true true n ∷ m, u.levels, u.spells, mark_joins o n m e, f)))
+marks st l n (Some o) ts k m c e r u = (k, r, λ b f. (c, (spaced true true (token.Mark n) ∷ m, u.levels, u.spells, mark_joins o n m e, f)))
 
-goes_on : (st : Stack) (l : Expression) (t : Token) (ts k m : List Token) (c : Bool) → StackReads st ts k → Made c l k (t ∷ m) → NextReads (go_on st l t) ts m
-goes_on st l (token.Name true n) ts k m c r u = joins st l (token.Name true n) ts k m c refl r u
-goes_on st l (token.Constant true n) ts k m c r u = joins st l (token.Constant true n) ts k m c refl r u
-goes_on st l (token.Mark true true n) ts k m c r u = marks st l n (operator_of n) ts k m c refl r u
-goes_on st l (token.Mark true false n) ts k m c r u = joins st l (token.Mark true false n) ts k m c refl r u
-goes_on st l (token.Open true) ts k m c r u = joins st l (token.Open true) ts k m c refl r u
-goes_on st l (token.Close d) ts k m c r u = closes st l ts k m c d r u
-goes_on st l (token.Comma d) ts k m c r u = commas st l ts k m c d r u
-goes_on st l _ ts k m c r u = tt
+goes_on : (st : Stack) (l : Expression) (b a : Bool) (t : TokenKind) (ts k m : List Token) (c : Bool) → StackReads st ts k → Made c l k (spaced b a t ∷ m) → NextReads (go_on st l b a t) ts m
+goes_on st l b a token.Close ts k m c r u = closes st l ts k m c b a r u
+goes_on st l b a token.Comma ts k m c r u = commas st l ts k m c b a r u
+goes_on st l true true (token.Mark n) ts k m c r u = marks st l n (operator_of n) ts k m c refl r u
+goes_on st l true a t ts k m c r u = joins st l a t ts k m c r u
+goes_on st l false a t ts k m c r u = tt
 
-afterwards : (alone : Bool) (st : Stack) (l : Expression) (t : Token) (ts k m : List Token) (c : Bool) → StackReads st ts k → Made c l k (t ∷ m) → NextReads (after alone st l t) ts m
-afterwards alone st l t ts k m c r u = at (closed alone st)
+afterwards : (alone : Bool) (st : Stack) (l : Expression) (b a : Bool) (t : TokenKind) (ts k m : List Token) (c : Bool) → StackReads st ts k → Made c l k (spaced b a t ∷ m) → NextReads (after alone st l b a t) ts m
+afterwards alone st l b a t ts k m c r u = at (closed alone st)
   where
-    at : (b : Bool) → NextReads (if b then None else go_on st l t) ts m
+    at : (x : Bool) → NextReads (if x then None else go_on st l b a t) ts m
     at true = tt
-    at false = goes_on st l t ts k m c r u
+    at false = goes_on st l b a t ts k m c r u
 
-reads_identifier : (alone : Bool) (st : Stack) (h : Hole) (n : List ℕ) (t : Token) (ts m : List Token) → StateReads (At st (Named h n)) ts (t ∷ m) → NextReads (after alone st (fill h (Identifier n)) t) ts m
-reads_identifier alone st h n t ts m r =
-    afterwards alone st (fill h (Identifier n)) t ts r.0 m r.2 r.4 (filled h r.2 r.0 r.1 r.3 (Identifier n) (t ∷ m) r.5 tt tt r.6)
+-- an identifier with no parenthesis that touches it, or with one
+reads_identifier : (alone : Bool) (st : Stack) (h : Hole) (n : List ℕ) (b a : Bool) (t : TokenKind) (ts m : List Token) → StateReads (At st (Named h n)) ts (spaced b a t ∷ m) → NextReads (after alone st (fill h (Identifier n)) b a t) ts m
+reads_identifier alone st h n b a t ts m r =
+    afterwards alone st (fill h (Identifier n)) b a t ts r.0 m r.2 r.4 (filled h r.2 r.0 r.1 r.3 (Identifier n) (spaced b a t ∷ m) r.5 tt tt r.6)
 
-reads_prefix : (st : Stack) (h : Hole) (w : IdentifierPrefix) (n : List ℕ) (ts m : List Token) → StateReads (At st (Prefixed h w)) ts (token.Name false n ∷ m) → StateReads (At st (Whole (fill h (with_prefix w n)))) ts m
-reads_prefix st h prefix.Keyword n ts m r = whole st h (Keyword n) ts r.0 r.1 m r.2 r.3 r.4 r.5 tt tt r.6
-reads_prefix st h prefix.Unevaluated n ts m r = whole st h (Unevaluated n) ts r.0 r.1 m r.2 r.3 r.4 r.5 tt tt r.6
+reads_call : (alone : Bool) (st : Stack) (h : Hole) (n : List ℕ) (b a : Bool) (t : TokenKind) (ts m : List Token) → StateReads (At st (Named h n)) ts (spaced b a t ∷ m) → NextReads (named alone st h n b a t) ts m
+reads_call alone st h n false a token.Open ts m r = (m, (r.0, r.1, r.2, r.3, m, m, r.4, r.5, (r.6.0, a, r.6.1), refl, refl, tt), λ b f. (b, (refl, refl)))
+reads_call alone st h n true a token.Open ts m r = reads_identifier alone st h n true a token.Open ts m r
+reads_call alone st h n b a t ts m r = reads_identifier alone st h n b a t ts m r
+
+-- the tokens of `&` or `*` and its identifier
+reads_prefix : (st : Stack) (h : Hole) (w : IdentifierPrefix) (a : Bool) (n : List ℕ) (ts m : List Token) → StateReads (At st (Prefixed h w)) ts (spaced false a (token.Identifier n) ∷ m) → StateReads (At st (Whole (fill h (with_prefix w n)))) ts m
+reads_prefix st h prefix.Keyword a n ts m r = whole st h (Keyword n) ts r.0 r.1 m r.2 r.3 r.4 r.5 tt tt (a, r.6)
+reads_prefix st h prefix.Unevaluated a n ts m r = whole st h (Unevaluated n) ts r.0 r.1 m r.2 r.3 r.4 r.5 tt tt (a, r.6)
+
+reads_after_prefix : (st : Stack) (h : Hole) (w : IdentifierPrefix) (b a : Bool) (t : TokenKind) (ts m : List Token) → StateReads (At st (Prefixed h w)) ts (spaced b a t ∷ m) → NextReads (after_prefix st h w b t) ts m
+reads_after_prefix st h w false a (token.Identifier n) ts m r = reads_prefix st h w a n ts m r
+reads_after_prefix st h w b a t ts m r = tt
 
 -- a token that is taken has been read
 pub reads : (alone : Bool) (s : State) (t : Token) (ts m : List Token) → StateReads s ts (t ∷ m) → NextReads (read alone s t) ts m
-reads alone (At st (Due Begin)) t ts m r = firsts st t ts r.0 m r.1 (r.2 true tt).1.0
-reads alone (At st (Due (After l o))) t ts m r = at (blank_before (shape_of t)) refl
+reads alone (At st (Due Begin)) t ts m r = firsts st t.blank_before t.blank_after t.kind ts r.0 m r.1 (r.2 true tt).1.0
+reads alone (At st (Due (After l o))) t ts m r = at t.blank_before refl
   where
-    at : (b : Bool) → blank_before (shape_of t) ≡ b → NextReads (if b then begin st (After l o) t else None) ts m
-    at true e = let q = r.2 (blank_before (shape_of t)) e in begins st (After l o) t ts r.0 (t ∷ m) m q.0 r.1 q.1 refl
+    at : (b : Bool) → t.blank_before ≡ b → NextReads (if b then begin st (After l o) t.blank_after t.kind else None) ts m
+    at true e = let q = r.2 t.blank_before e in begins st (After l o) t.blank_before t.blank_after t.kind ts r.0 (t ∷ m) m q.0 r.1 q.1 refl
     at false e = tt
-reads alone (At st (Due (Under s h))) t ts m r = at (blank_before (shape_of t)) refl
+reads alone (At st (Due (Under s h))) t ts m r = at t.blank_before refl
   where
-    at : (b : Bool) → blank_before (shape_of t) ≡ b → NextReads (if b then None else begin st (Under s h) t) ts m
+    at : (b : Bool) → t.blank_before ≡ b → NextReads (if b then None else begin st (Under s h) t.blank_after t.kind) ts m
     at true e = tt
-    at false e = let q = r.2 (blank_before (shape_of t)) e in begins st (Under s h) t ts r.0 (t ∷ m) m q.0 r.1 q.1 refl
-reads alone (At st (Prefixed h w)) (token.Name true n) ts m r = tt
-reads alone (At st (Prefixed h w)) (token.Name false n) ts m r = reads_prefix st h w n ts m r
-reads alone (At st (Prefixed h w)) _ ts m r = tt
-reads alone (At st (Named h n)) (token.Open false) ts m r =
-    (m, (r.0, r.1, r.2, r.3, m, m, r.4, r.5, r.6, refl, refl, tt), λ b f. (b, (refl, refl)))
-reads alone (At st (Named h n)) t ts m r = reads_identifier alone st h n t ts m r
-reads alone (At st (Whole l)) t ts m r = afterwards alone st l t ts r.0 m r.1 r.2 r.3
+    at false e = let q = r.2 t.blank_before e in begins st (Under s h) t.blank_before t.blank_after t.kind ts r.0 (t ∷ m) m q.0 r.1 q.1 refl
+reads alone (At st (Prefixed h w)) t ts m r = reads_after_prefix st h w t.blank_before t.blank_after t.kind ts m r
+reads alone (At st (Named h n)) t ts m r = reads_call alone st h n t.blank_before t.blank_after t.kind ts m r
+reads alone (At st (Whole l)) t ts m r = afterwards alone st l t.blank_before t.blank_after t.kind ts r.0 m r.1 r.2 r.3
 
 -- an expression, or one element, that was read from ts to rest
 pub record IsRead (alone : Bool) (t : Expression) (ts rest : List Token) : Type 0 where
@@ -247,9 +251,9 @@ right_end : (alone : Bool) (s : State) (ts m : List Token) → StateReads s ts m
 right_end alone (At Bottom (Named h n)) ts m r i = right_whole alone (fill h (Identifier n)) r.2 ts r.0 m i r.4 (filled h r.2 r.0 r.1 r.3 (Identifier n) m r.5 tt tt r.6)
 right_end alone (At Bottom (Whole t)) ts m r i = right_whole alone t r.1 ts r.0 m i r.2 r.3
 right_end alone (At (InGroup k st) (Named h n)) ts m r i = tt
-right_end alone (At (InCall f arguments k st) (Named h n)) ts m r i = tt
+right_end alone (At (InCall f args k st) (Named h n)) ts m r i = tt
 right_end alone (At (InGroup k st) (Whole t)) ts m r i = tt
-right_end alone (At (InCall f arguments k st) (Whole t)) ts m r i = tt
+right_end alone (At (InCall f args k st) (Whole t)) ts m r i = tt
 right_end alone (At st _) ts m r i = tt
 
 right : (m : List Token) (alone : Bool) (s : State) (ts : List Token) → StateReads s ts m → Lone alone s → Right alone (answer alone s m) ts

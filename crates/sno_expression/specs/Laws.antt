@@ -3,7 +3,7 @@ use Rattle.std.specs.Prelude.{◌≡◌, ◌↔◌, ◌+◌, ℕ, Bool, true, fa
 use Rattle.sno_token.specs.declared.Token.{Token}
 use Rattle.sno_expression.specs.Expressions.{Expression, HasLevels, HasVariables, Suits}
 use Rattle.sno_expression.specs.Spelling.{SpellsTo, Spells}
-use Rattle.sno_expression.specs.Walking.{Walk, shape_of, take, begins, may_end, misfit}
+use Rattle.sno_expression.specs.Walking.{Walk, take, begins, may_end, misfit}
 use Rattle.sno_expression.specs.Reading.{Read, reading, Stops}
 
 -- tokens spell at most one tree
@@ -22,7 +22,7 @@ then_takes (Some w) on = on w
 
 abbrev pub takes_all : Bool → Walk → List Token → Bool
 takes_all alone w [] = may_end w
-takes_all alone w (t ∷ ts) = then_takes (take alone w (shape_of t)) (λ v. takes_all alone v ts)
+takes_all alone w (t ∷ ts) = then_takes (take alone w t) (λ v. takes_all alone v ts)
 
 -- it does exactly where some tree with levels spells them
 abbrev pub WalksExactly : Type 0
@@ -35,7 +35,7 @@ then_count (Some w) on = on w
 
 abbrev pub misfits : Bool → Walk → List Token → ℕ
 misfits alone w [] = 0
-misfits alone w (t ∷ ts) = then_count (take alone w (shape_of t)) (λ v. misfit w (shape_of t) + misfits alone v ts)
+misfits alone w (t ∷ ts) = then_count (take alone w t) (λ v. misfit w t + misfits alone v ts)
 
 -- there is none exactly where the tree has its variables
 abbrev pub CountsExactly : Type 0

@@ -1,4 +1,4 @@
--- What each mark writes, between operands and before one (after the SNOBOL4 book, Griswold, Poage, Polonsky, 2nd ed., chapter 1; the levels and sides are own).
+-- What each mark writes, between operands and before one (after the SNOBOL4 book, Griswold, Poage, Polonsky, 2nd ed., chapter 1; precedence and associativity are own).
 use Rattle.std.specs.Prelude.{Bool, true, false, Option, Some, None}
 use Rattle.sno_token.specs.declared.Mark.{Mark}
 use Rattle.sno_token.specs.declared.Mark.TheVariants as mark
@@ -35,13 +35,13 @@ prefix_of mark.Ampersand = Some (OfIdentifier prefix.Keyword)
 prefix_of mark.Star = Some (OfIdentifier prefix.Unevaluated)
 prefix_of _ = None
 
--- does the operator want a variable on its right
+-- does the operator need a variable on its right
 abbrev pub needs_variable : BinaryOperator → Bool
 needs_variable operator.Conditional = true
 needs_variable operator.Immediate = true
 needs_variable _ = false
 
--- does the sign want a variable
+-- has the operand of the unary operator to be a variable
 abbrev pub operand_is_variable : UnaryOperator → Bool
 operand_is_variable unary.Name = true
 operand_is_variable unary.Cursor = true

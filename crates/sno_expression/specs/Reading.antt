@@ -1,7 +1,8 @@
 -- The walk with the trees that it makes: it reads one expression and gives what is left.
 use Rattle.std.specs.Prelude.{ℕ, Bool, true, false, List, [], ◌∷◌, Option, Some, None, if◌then◌else◌}
 use Rattle.sno_token.specs.declared.Token.{Token}
-use Rattle.sno_token.specs.declared.Token.TheVariants as token
+use Rattle.sno_token.specs.declared.TokenKind.{TokenKind}
+use Rattle.sno_token.specs.declared.TokenKind.TheVariants as token
 use Rattle.sno_expression.specs.declared.tree.BinaryOperator.{BinaryOperator}
 use Rattle.sno_expression.specs.declared.tree.BinaryOperator.TheVariants as operator
 use Rattle.sno_expression.specs.declared.tree.UnaryOperator.{UnaryOperator}
@@ -15,10 +16,10 @@ use Rattle.sno_expression.specs.declared.walking.Position.{Position}
 use Rattle.sno_expression.specs.declared.walking.Position.TheVariants.{AtStart, AfterBinary, AfterUnary, AfterPrefix, AfterIdentifier, AfterOperand}
 use Rattle.sno_expression.specs.Marks.{operator_of, prefix_of, needs_variable, operand_is_variable}
 use Rattle.sno_expression.specs.Expressions.{Expression, Arguments, Identifier, Constant, Keyword, Unevaluated, Group, Call, Unary, Binary, NoArguments, Omitted, Argument, binds_into_right}
-use Rattle.sno_expression.specs.Walking.{Walk, shape_of, blank_before, opens_call, stops, inner_of}
+use Rattle.sno_expression.specs.Walking.{Walk, opens_call, stops, inner_of}
 use Rattle.sno_expression.specs.Walking as walking
 
--- one more operand at the right end, as deep as the operator's level puts it
+-- one more operand at the right end, as deep as the operator's precedence puts it
 abbrev pub push : BinaryOperator → Expression → Expression → Expression
 push op x (Binary o l r) = if binds_into_right op o then Binary o l (push op x r) else Binary op (Binary o l r) x
 push op x t = Binary op t x
@@ -62,68 +63,65 @@ abbrev pub joined : Stack → Expression → Option BinaryOperator → Option St
 joined st t None = None
 joined st t (Some o) = Some (At st (Due (After t o)))
 
-abbrev pub begin : Stack → Hole → Token → Option State
-begin st h (token.Name b n) = Some (At st (Named h n))
-begin st h (token.Constant b c) = Some (At st (Whole (fill h (Constant c))))
-begin st h (token.Mark b false m) = prefixed st h (prefix_of m)
-begin st h (token.Open b) = Some (At (InGroup h st) (Due Begin))
-begin st h _ = None
+abbrev pub begin : Stack → Hole → Bool → TokenKind → Option State
+begin st h a (token.Identifier n) = Some (At st (Named h n))
+begin st h a (token.Constant c) = Some (At st (Whole (fill h (Constant c))))
+begin st h false (token.Mark m) = prefixed st h (prefix_of m)
+begin st h a token.Open = Some (At (InGroup h st) (Due Begin))
+begin st h a _ = None
 
 abbrev pub close : Stack → Expression → Option State
 close Bottom t = None
 close (InGroup h st) t = Some (At st (Whole (fill h (Group t))))
-close (InCall f arguments h st) t = Some (At st (Whole (fill h (Call f (Argument arguments t)))))
+close (InCall f args h st) t = Some (At st (Whole (fill h (Call f (Argument args t)))))
 
 abbrev pub comma : Stack → Expression → Option State
-comma (InCall f arguments h st) t = Some (At (InCall f (Argument arguments t) h st) (Due Begin))
+comma (InCall f args h st) t = Some (At (InCall f (Argument args t) h st) (Due Begin))
 comma _ t = None
 
-abbrev pub first : Stack → Token → Option State
-first (InCall f arguments h st) (token.Comma b) = Some (At (InCall f (Omitted arguments) h st) (Due Begin))
-first (InCall f arguments h st) (token.Close b) = Some (At st (Whole (fill h (Call f (Omitted arguments)))))
-first st t = begin st Begin t
+abbrev pub first : Stack → Bool → TokenKind → Option State
+first (InCall f args h st) a token.Comma = Some (At (InCall f (Omitted args) h st) (Due Begin))
+first (InCall f args h st) a token.Close = Some (At st (Whole (fill h (Call f (Omitted args)))))
+first st a k = begin st Begin a k
 
-abbrev pub go_on : Stack → Expression → Token → Option State
-go_on st t (token.Mark true true m) = joined st t (operator_of m)
-go_on st t (token.Mark true false m) = begin st (After t operator.Concatenation) (token.Mark true false m)
-go_on st t (token.Name true n) = begin st (After t operator.Concatenation) (token.Name true n)
-go_on st t (token.Constant true c) = begin st (After t operator.Concatenation) (token.Constant true c)
-go_on st t (token.Open true) = begin st (After t operator.Concatenation) (token.Open true)
-go_on st t (token.Close b) = close st t
-go_on st t (token.Comma b) = comma st t
-go_on st t _ = None
+abbrev pub go_on : Stack → Expression → Bool → Bool → TokenKind → Option State
+go_on st t b a token.Close = close st t
+go_on st t b a token.Comma = comma st t
+go_on st t true true (token.Mark m) = joined st t (operator_of m)
+go_on st t true a k = begin st (After t operator.Concatenation) a k
+go_on st t false a k = None
 
 -- the walk of a state
 abbrev pub parens : Stack → List Paren
 parens Bottom = []
 parens (InGroup h st) = OfGroup ∷ parens st
-parens (InCall f arguments h st) = OfCall ∷ parens st
+parens (InCall f args h st) = OfCall ∷ parens st
 
 -- is nothing taken after an operand there
 abbrev pub closed : Bool → Stack → Bool
 closed alone st = stops alone (inner_of (parens st))
 
-abbrev pub after : Bool → Stack → Expression → Token → Option State
-after alone st l t = if closed alone st then None else go_on st l t
+abbrev pub after : Bool → Stack → Expression → Bool → Bool → TokenKind → Option State
+after alone st l b a k = if closed alone st then None else go_on st l b a k
 
-abbrev pub due : Stack → Hole → Token → Option State
-due st Begin t = first st t
-due st (After l o) t = if blank_before (shape_of t) then begin st (After l o) t else None
-due st (Under s h) t = if blank_before (shape_of t) then None else begin st (Under s h) t
+abbrev pub due : Stack → Hole → Bool → Bool → TokenKind → Option State
+due st Begin b a k = first st a k
+due st (After l o) b a k = if b then begin st (After l o) a k else None
+due st (Under s h) b a k = if b then None else begin st (Under s h) a k
 
-abbrev pub after_prefix : Stack → Hole → IdentifierPrefix → Token → Option State
-after_prefix st h w (token.Name false n) = Some (At st (Whole (fill h (with_prefix w n))))
-after_prefix st h w _ = None
+abbrev pub after_prefix : Stack → Hole → IdentifierPrefix → Bool → TokenKind → Option State
+after_prefix st h w false (token.Identifier n) = Some (At st (Whole (fill h (with_prefix w n))))
+after_prefix st h w b k = None
 
-abbrev pub named : Bool → Stack → Hole → List ℕ → Token → Option State
-named alone st h n t = if opens_call (shape_of t) then Some (At (InCall n NoArguments h st) (Due Begin)) else after alone st (fill h (Identifier n)) t
+abbrev pub named : Bool → Stack → Hole → List ℕ → Bool → Bool → TokenKind → Option State
+named alone st h n b a k = if opens_call b k then Some (At (InCall n NoArguments h st) (Due Begin)) else after alone st (fill h (Identifier n)) b a k
 
 -- the state after one more token, unless it is not taken
 abbrev pub read : Bool → State → Token → Option State
-read alone (At st (Due h)) t = due st h t
-read alone (At st (Prefixed h w)) t = after_prefix st h w t
-read alone (At st (Named h n)) t = named alone st h n t
-read alone (At st (Whole l)) t = after alone st l t
+read alone (At st (Due h)) t = due st h t.blank_before t.blank_after t.kind
+read alone (At st (Prefixed h w)) t = after_prefix st h w t.blank_before t.kind
+read alone (At st (Named h n)) t = named alone st h n t.blank_before t.blank_after t.kind
+read alone (At st (Whole l)) t = after alone st l t.blank_before t.blank_after t.kind
 
 -- the tree, where one is complete
 abbrev pub ended : Stack → Expression → Option Expression
@@ -156,14 +154,17 @@ abbrev pub reading : Bool → List Token → Reading
 reading alone ts = answer alone start ts
 
 -- the tokens after an expression at which its reading stops
+abbrev pub StopsAt : Bool → Bool → TokenKind → Type 0
+StopsAt alone b (token.Part p) = Unit {0}
+StopsAt alone false token.Open = ⊥
+StopsAt true b k = Unit {0}
+StopsAt false b k = ⊥
+
 abbrev pub Stops : Bool → List Token → Type 0
 Stops alone [] = Unit {0}
-Stops alone (token.Part b a p ∷ ts) = Unit {0}
-Stops alone (token.Open false ∷ ts) = ⊥
-Stops true (t ∷ ts) = Unit {0}
-Stops false (t ∷ ts) = ⊥
+Stops alone (t ∷ ts) = StopsAt alone t.blank_before t.kind
 
--- is a variable wanted there
+-- is a variable needed there
 abbrev pub variable_due : Hole → Bool
 variable_due Begin = false
 variable_due (After t o) = needs_variable o

@@ -3,7 +3,7 @@ use Rattle.std.specs.Prelude.{Option, Some, None}
 use Rattle.sno_expression.specs.declared.tree.Expression.{Expression as AnExpression}
 use Rattle.sno_expression.specs.declared.tree.Expression.TheVariants as tree
 use Rattle.sno_expression.specs.declared.tree.Arguments.{Arguments as SomeArguments}
-use Rattle.sno_expression.specs.declared.tree.Arguments.TheVariants as arguments
+use Rattle.sno_expression.specs.declared.tree.Arguments.TheVariants as args
 use Rattle.sno_expression.specs.declared.reading.Hole.{Hole as AHole}
 use Rattle.sno_expression.specs.declared.reading.Hole.TheVariants as hole
 use Rattle.sno_expression.specs.declared.reading.Stack.{Stack as AStack}
@@ -28,9 +28,9 @@ abbrev mutual
   expression_of (tree.Binary' o p l q r) = Binary o (expression_of l) (expression_of r)
 
   pub arguments_of : SomeArguments → Arguments
-  arguments_of arguments.NoArguments = NoArguments
-  arguments_of (arguments.Omitted' p a) = Omitted (arguments_of a)
-  arguments_of (arguments.Argument' p a q t) = Argument (arguments_of a) (expression_of t)
+  arguments_of args.NoArguments = NoArguments
+  arguments_of (args.Omitted' p a) = Omitted (arguments_of a)
+  arguments_of (args.Argument' p a q t) = Argument (arguments_of a) (expression_of t)
 
 abbrev pub expressions_of : Option AnExpression → Option Expression
 expressions_of None = None

@@ -16,7 +16,7 @@ pub fn walks_exactly()
     ensures { WalksExactly }
 {}
 
-/// The walk finds no misfit exactly where the tree has a variable in each place that wants one.
+/// The walk finds no misfit exactly where the tree has a variable in each place that needs one.
 pub fn counts_exactly()
     ensures { CountsExactly }
 {}

@@ -7,11 +7,5 @@ mod tree;
 mod walking;
 
 pub use reading::{Found, read_expression};
-pub use tree::{Arguments, BinaryOperator, Prefix, UnaryOperator, Expression, IdentifierPrefix};
-pub use walking::{
-    Move, Paren, PartShape, Position, Shape, blank_before, ends, is_misfit, misfit_index, shape_of, step,
-    with_blanks,
-};
-
-#[cfg(test)]
-mod tests;
+pub use tree::{Arguments, BinaryOperator, Expression, IdentifierPrefix, Prefix, UnaryOperator};
+pub use walking::{Move, Paren, Position, ends, is_misfit, misfit_index, opens_call, step};

@@ -1,6 +1,6 @@
 //! The walk with the trees that it makes.
 
-ghost use Rattle.std.specs.Prelude.{◌≡◌, ◌≤◌, IfOk, length, drop, Some, None};
+ghost use Rattle.std.specs.Prelude.{◌≡◌, ◌≤◌, IfOk, length, drop, true, false, Some, None};
 ghost use Rattle.sno_expression.specs.Marks.{operator_of, prefix_of};
 ghost use Rattle.sno_expression.specs.Walking.{inner_of};
 ghost use Rattle.sno_expression.specs.Expressions as expressions;
@@ -9,12 +9,12 @@ ghost use Rattle.sno_expression.specs.Reading as states;
 ghost use Rattle.sno_expression.specs.Told.{expression_of, arguments_of, expressions_of, hole_of, stack_of, state_of, stepped, step_of, Next, End};
 
 use crate::tree::{
-    Arguments, BinaryOperator, Prefix, UnaryOperator, Expression, IdentifierPrefix, copy_constant, add_argument, operator_of, prefix_of, push,
-    omit_argument, with_prefix,
+    Arguments, BinaryOperator, Expression, IdentifierPrefix, Prefix, UnaryOperator, add_argument,
+    copy_constant, omit_argument, operator_of, prefix_of, push, with_prefix,
 };
-use crate::walking::{Paren, blank_before, opens_call, shape_of, stops};
+use crate::walking::{Paren, opens_call, stops};
 use mon_text::Line;
-use sno_token::{Constant, Mark, Token};
+use sno_token::{Constant, Mark, Token, TokenKind};
 use std::alloc::{AllocError, Global};
 
 /// What waits for an operand.
@@ -81,7 +81,11 @@ fn fill(alloc: Global, hole: Hole, operand: Expression) -> Result<Expression, Al
         }
         Hole::Under(unary, rest) => {
             let operand = Box::new(alloc, operand)?;
-            fill(alloc, Box::into_inner(rest), Expression::Unary(unary, operand))
+            fill(
+                alloc,
+                Box::into_inner(rest),
+                Expression::Unary(unary, operand),
+            )
         }
     }
 }
@@ -108,7 +112,12 @@ fn complete(stack: Stack, tree: Expression) -> Option<Expression>
     }
 }
 
-fn identifier_begins(alloc: Global, stack: Stack, hole: Hole, name: &Line) -> Result<Step, AllocError>
+fn identifier_begins(
+    alloc: Global,
+    stack: Stack,
+    hole: Hole,
+    name: &Line,
+) -> Result<Step, AllocError>
     ensures { IfOk result (λ s. step_of s ≡ Next (states.At (stack_of stack) (states.Named (hole_of hole) name.now))) }
 {
     let name = name.copy(alloc)?;
@@ -173,17 +182,27 @@ fn mark_begins(alloc: Global, stack: Stack, hole: Hole, mark: Mark) -> Result<St
 }
 
 // An operand begins, where one is due.
-fn begin(alloc: Global, stack: Stack, hole: Hole, token: &Token) -> Result<Step, AllocError>
-    ensures { IfOk result (λ s. step_of s ≡ stepped (begin (stack_of stack) (hole_of hole) token.now) None) }
+fn begin(
+    alloc: Global,
+    stack: Stack,
+    hole: Hole,
+    after: bool,
+    kind: &TokenKind,
+) -> Result<Step, AllocError>
+    ensures { IfOk result (λ s. step_of s ≡ stepped (begin (stack_of stack) (hole_of hole) after kind.now) None) }
 {
-    match token {
-        Token::Name(_, name) => identifier_begins(alloc, stack, hole, name),
-        Token::Constant(_, constant) => constant_begins(alloc, stack, hole, constant),
-        Token::Mark(_, false, mark) => mark_begins(alloc, stack, hole, *mark),
-        Token::Open(_) => group_begins(alloc, stack, hole),
-        Token::Mark(_, true, _) | Token::Close(_) | Token::Comma(_) | Token::Part(_, _, _) => Ok(
-            Step::End(None),
-        ),
+    match kind {
+        TokenKind::Identifier(name) => identifier_begins(alloc, stack, hole, name),
+        TokenKind::Constant(constant) => constant_begins(alloc, stack, hole, constant),
+        TokenKind::Mark(mark) => {
+            if after {
+                Ok(Step::End(None))
+            } else {
+                mark_begins(alloc, stack, hole, *mark)
+            }
+        }
+        TokenKind::Open => group_begins(alloc, stack, hole),
+        TokenKind::Close | TokenKind::Comma | TokenKind::Part(_) => Ok(Step::End(None)),
     }
 }
 
@@ -199,7 +218,12 @@ fn close(alloc: Global, stack: Stack, tree: Expression) -> Result<Step, AllocErr
         Stack::InCall(name, arguments, hole, below) => {
             let arguments = add_argument(alloc, arguments, tree)?;
             let arguments = Box::new(alloc, arguments)?;
-            whole(alloc, Box::into_inner(below), hole, Expression::Call(name, arguments))
+            whole(
+                alloc,
+                Box::into_inner(below),
+                hole,
+                Expression::Call(name, arguments),
+            )
         }
     }
 }
@@ -257,40 +281,43 @@ fn first_of_call(
     arguments: Arguments,
     hole: Hole,
     below: Box<Stack>,
-    token: &Token,
+    after: bool,
+    kind: &TokenKind,
 ) -> Result<Step, AllocError>
-    ensures { IfOk result (λ s. step_of s ≡ stepped (first (states.InCall name (arguments_of arguments) (hole_of hole) (stack_of below.value)) token.now) None) }
+    ensures { IfOk result (λ s. step_of s ≡ stepped (first (states.InCall name (arguments_of arguments) (hole_of hole) (stack_of below.value)) after kind.now) None) }
 {
-    match token {
-        Token::Comma(_) => empty_before_comma(alloc, name, arguments, hole, below),
-        Token::Close(_) => empty_at_end(alloc, name, arguments, hole, Box::into_inner(below)),
-        Token::Name(_, _)
-        | Token::Constant(_, _)
-        | Token::Mark(_, _, _)
-        | Token::Open(_)
-        | Token::Part(_, _, _) => begin(
+    match kind {
+        TokenKind::Comma => empty_before_comma(alloc, name, arguments, hole, below),
+        TokenKind::Close => empty_at_end(alloc, name, arguments, hole, Box::into_inner(below)),
+        TokenKind::Identifier(_)
+        | TokenKind::Constant(_)
+        | TokenKind::Mark(_)
+        | TokenKind::Open
+        | TokenKind::Part(_) => begin(
             alloc,
             Stack::InCall(name, arguments, hole, below),
             Hole::Begin,
-            token,
+            after,
+            kind,
         ),
     }
 }
 
 // An expression or an argument begins.
-fn first(alloc: Global, stack: Stack, token: &Token) -> Result<Step, AllocError>
-    ensures { IfOk result (λ s. step_of s ≡ stepped (first (stack_of stack) token.now) None) }
+fn first(alloc: Global, stack: Stack, after: bool, kind: &TokenKind) -> Result<Step, AllocError>
+    ensures { IfOk result (λ s. step_of s ≡ stepped (first (stack_of stack) after kind.now) None) }
 {
     match stack {
-        Stack::Bottom => begin(alloc, Stack::Bottom, Hole::Begin, token),
+        Stack::Bottom => begin(alloc, Stack::Bottom, Hole::Begin, after, kind),
         Stack::InGroup(hole, below) => begin(
             alloc,
             Stack::InGroup(hole, below),
             Hole::Begin,
-            token,
+            after,
+            kind,
         ),
         Stack::InCall(name, arguments, hole, below) => first_of_call(
-            alloc, name, arguments, hole, below, token,
+            alloc, name, arguments, hole, below, after, kind,
         ),
     }
 }
@@ -307,7 +334,12 @@ fn operator_follows(stack: Stack, tree: Expression, mark: Mark) -> Step
     }
 }
 
-fn prefix_follows(alloc: Global, stack: Stack, tree: Expression, mark: Mark) -> Result<Step, AllocError>
+fn prefix_follows(
+    alloc: Global,
+    stack: Stack,
+    tree: Expression,
+    mark: Mark,
+) -> Result<Step, AllocError>
     ensures { IfOk result (λ s. step_of s ≡ stepped (prefixed (stack_of stack) (states.After (expression_of tree) BinaryOperator.Concatenation) (prefix_of mark)) (ended (stack_of stack) (expression_of tree))) }
 {
     match prefix_of(mark) {
@@ -327,20 +359,42 @@ fn prefix_follows(alloc: Global, stack: Stack, tree: Expression, mark: Mark) -> 
     }
 }
 
-// After an operand.
-fn go_on(alloc: Global, stack: Stack, tree: Expression, token: &Token) -> Result<Step, AllocError>
-    ensures { IfOk result (λ s. step_of s ≡ stepped (go_on (stack_of stack) (expression_of tree) token.now) (ended (stack_of stack) (expression_of tree))) }
+// A mark after an operand and a blank.
+fn mark_follows(
+    alloc: Global,
+    stack: Stack,
+    tree: Expression,
+    after: bool,
+    mark: Mark,
+) -> Result<Step, AllocError>
+    ensures { IfOk result (λ s. step_of s ≡ stepped (go_on (stack_of stack) (expression_of tree) true after (TokenKind.Mark mark)) (ended (stack_of stack) (expression_of tree))) }
 {
-    match token {
-        Token::Mark(true, true, mark) => Ok(operator_follows(stack, tree, *mark)),
-        Token::Mark(true, false, mark) => prefix_follows(alloc, stack, tree, *mark),
-        Token::Name(true, name) => identifier_begins(
+    if after {
+        Ok(operator_follows(stack, tree, mark))
+    } else {
+        prefix_follows(alloc, stack, tree, mark)
+    }
+}
+
+// After an operand and a blank.
+fn follow(
+    alloc: Global,
+    stack: Stack,
+    tree: Expression,
+    after: bool,
+    kind: &TokenKind,
+) -> Result<Step, AllocError>
+    ensures { IfOk result (λ s. step_of s ≡ stepped (go_on (stack_of stack) (expression_of tree) true after kind.now) (ended (stack_of stack) (expression_of tree))) }
+{
+    match kind {
+        TokenKind::Mark(mark) => mark_follows(alloc, stack, tree, after, *mark),
+        TokenKind::Identifier(name) => identifier_begins(
             alloc,
             stack,
             Hole::After(tree, BinaryOperator::Concatenation),
             name,
         ),
-        Token::Constant(true, constant) => {
+        TokenKind::Constant(constant) => {
             constant_begins(
                 alloc,
                 stack,
@@ -348,14 +402,35 @@ fn go_on(alloc: Global, stack: Stack, tree: Expression, token: &Token) -> Result
                 constant,
             )
         }
-        Token::Open(true) => group_begins(alloc, stack, Hole::After(tree, BinaryOperator::Concatenation)),
-        Token::Close(_) => close(alloc, stack, tree),
-        Token::Comma(_) => comma(alloc, stack, tree),
-        Token::Mark(false, _, _)
-        | Token::Name(false, _)
-        | Token::Constant(false, _)
-        | Token::Open(false)
-        | Token::Part(_, _, _) => Ok(Step::End(complete(stack, tree))),
+        TokenKind::Open => group_begins(
+            alloc,
+            stack,
+            Hole::After(tree, BinaryOperator::Concatenation),
+        ),
+        TokenKind::Close => close(alloc, stack, tree),
+        TokenKind::Comma => comma(alloc, stack, tree),
+        TokenKind::Part(_) => Ok(Step::End(complete(stack, tree))),
+    }
+}
+
+// After an operand, with no blank between.
+fn touch(
+    alloc: Global,
+    stack: Stack,
+    tree: Expression,
+    after: bool,
+    kind: &TokenKind,
+) -> Result<Step, AllocError>
+    ensures { IfOk result (λ s. step_of s ≡ stepped (go_on (stack_of stack) (expression_of tree) false after kind.now) (ended (stack_of stack) (expression_of tree))) }
+{
+    match kind {
+        TokenKind::Close => close(alloc, stack, tree),
+        TokenKind::Comma => comma(alloc, stack, tree),
+        TokenKind::Identifier(_)
+        | TokenKind::Constant(_)
+        | TokenKind::Mark(_)
+        | TokenKind::Open
+        | TokenKind::Part(_) => Ok(Step::End(complete(stack, tree))),
     }
 }
 
@@ -383,32 +458,41 @@ fn after(
     tree: Expression,
     token: &Token,
 ) -> Result<Step, AllocError>
-    ensures { IfOk result (λ s. step_of s ≡ stepped (after alone (stack_of stack) (expression_of tree) token.now) (ended (stack_of stack) (expression_of tree))) }
+    ensures { IfOk result (λ s. step_of s ≡ stepped (after alone (stack_of stack) (expression_of tree) token.now.blank_before token.now.blank_after token.now.kind) (ended (stack_of stack) (expression_of tree))) }
 {
     if closed(alone, &stack) {
         Ok(Step::End(complete(stack, tree)))
+    } else if token.blank_before {
+        follow(alloc, stack, tree, token.blank_after, &token.kind)
     } else {
-        go_on(alloc, stack, tree, token)
+        touch(alloc, stack, tree, token.blank_after, &token.kind)
     }
 }
 
 fn due(alloc: Global, stack: Stack, hole: Hole, token: &Token) -> Result<Step, AllocError>
-    ensures { IfOk result (λ s. step_of s ≡ stepped (due (stack_of stack) (hole_of hole) token.now) None) }
+    ensures { IfOk result (λ s. step_of s ≡ stepped (due (stack_of stack) (hole_of hole) token.now.blank_before token.now.blank_after token.now.kind) None) }
 {
+    let after = token.blank_after;
     match hole {
-        Hole::Begin => first(alloc, stack, token),
+        Hole::Begin => first(alloc, stack, after, &token.kind),
         Hole::After(tree, operator) => {
-            if blank_before(shape_of(token)) {
-                begin(alloc, stack, Hole::After(tree, operator), token)
+            if token.blank_before {
+                begin(
+                    alloc,
+                    stack,
+                    Hole::After(tree, operator),
+                    after,
+                    &token.kind,
+                )
             } else {
                 Ok(Step::End(None))
             }
         }
         Hole::Under(unary, rest) => {
-            if blank_before(shape_of(token)) {
+            if token.blank_before {
                 Ok(Step::End(None))
             } else {
-                begin(alloc, stack, Hole::Under(unary, rest), token)
+                begin(alloc, stack, Hole::Under(unary, rest), after, &token.kind)
             }
         }
     }
@@ -432,19 +516,25 @@ fn after_prefix(
     stack: Stack,
     hole: Hole,
     prefix: IdentifierPrefix,
-    token: &Token,
+    before: bool,
+    kind: &TokenKind,
 ) -> Result<Step, AllocError>
-    ensures { IfOk result (λ s. step_of s ≡ stepped (after_prefix (stack_of stack) (hole_of hole) prefix token.now) None) }
+    ensures { IfOk result (λ s. step_of s ≡ stepped (after_prefix (stack_of stack) (hole_of hole) prefix before kind.now) None) }
 {
-    match token {
-        Token::Name(false, name) => prefix_ends(alloc, stack, hole, prefix, name),
-        Token::Name(true, _)
-        | Token::Constant(_, _)
-        | Token::Mark(_, _, _)
-        | Token::Open(_)
-        | Token::Close(_)
-        | Token::Comma(_)
-        | Token::Part(_, _, _) => Ok(Step::End(None)),
+    match kind {
+        TokenKind::Identifier(name) => {
+            if before {
+                Ok(Step::End(None))
+            } else {
+                prefix_ends(alloc, stack, hole, prefix, name)
+            }
+        }
+        TokenKind::Constant(_)
+        | TokenKind::Mark(_)
+        | TokenKind::Open
+        | TokenKind::Close
+        | TokenKind::Comma
+        | TokenKind::Part(_) => Ok(Step::End(None)),
     }
 }
 
@@ -466,7 +556,7 @@ fn identifier_ends(
     name: Line,
     token: &Token,
 ) -> Result<Step, AllocError>
-    ensures { IfOk result (λ s. step_of s ≡ stepped (after alone (stack_of stack) (fill (hole_of hole) (expressions.Identifier name)) token.now) (ended (stack_of stack) (fill (hole_of hole) (expressions.Identifier name)))) }
+    ensures { IfOk result (λ s. step_of s ≡ stepped (after alone (stack_of stack) (fill (hole_of hole) (expressions.Identifier name)) token.now.blank_before token.now.blank_after token.now.kind) (ended (stack_of stack) (fill (hole_of hole) (expressions.Identifier name)))) }
 {
     let tree = fill(alloc, hole, Expression::Identifier(name))?;
     after(alloc, alone, stack, tree, token)
@@ -480,9 +570,9 @@ fn named(
     name: Line,
     token: &Token,
 ) -> Result<Step, AllocError>
-    ensures { IfOk result (λ s. step_of s ≡ stepped (named alone (stack_of stack) (hole_of hole) name token.now) (ended (stack_of stack) (fill (hole_of hole) (expressions.Identifier name)))) }
+    ensures { IfOk result (λ s. step_of s ≡ stepped (named alone (stack_of stack) (hole_of hole) name token.now.blank_before token.now.blank_after token.now.kind) (ended (stack_of stack) (fill (hole_of hole) (expressions.Identifier name)))) }
 {
-    if opens_call(shape_of(token)) {
+    if opens_call(token.blank_before, &token.kind) {
         call_begins(alloc, stack, hole, name)
     } else {
         identifier_ends(alloc, alone, stack, hole, name, token)
@@ -496,7 +586,14 @@ fn read(alloc: Global, alone: bool, state: State, token: &Token) -> Result<Step,
     let State { stack, spot } = state;
     match spot {
         Spot::Due(hole) => due(alloc, stack, hole, token),
-        Spot::Prefixed(hole, prefix) => after_prefix(alloc, stack, hole, prefix, token),
+        Spot::Prefixed(hole, prefix) => after_prefix(
+            alloc,
+            stack,
+            hole,
+            prefix,
+            token.blank_before,
+            &token.kind,
+        ),
         Spot::Named(hole, name) => named(alloc, alone, stack, hole, name, token),
         Spot::Whole(tree) => after(alloc, alone, stack, tree, token),
     }

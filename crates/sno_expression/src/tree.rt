@@ -132,7 +132,7 @@ pub(crate) fn prefix_of(mark: Mark) -> Option<Prefix>
     }
 }
 
-/// Whether the operator wants a variable on its right.
+/// Whether the operator needs a variable on its right.
 pub(crate) fn needs_variable(operator: BinaryOperator) -> bool
     ensures { result ≡ needs_variable operator }
 {
@@ -148,13 +148,17 @@ pub(crate) fn needs_variable(operator: BinaryOperator) -> bool
     }
 }
 
-/// Whether the sign wants a variable.
+/// Whether the operand of the unary operator has to be a variable.
 pub(crate) fn operand_is_variable(unary: UnaryOperator) -> bool
     ensures { result ≡ operand_is_variable unary }
 {
     match unary {
         UnaryOperator::Name | UnaryOperator::Cursor => true,
-        UnaryOperator::Plus | UnaryOperator::Minus | UnaryOperator::Indirect | UnaryOperator::Not | UnaryOperator::Query => false,
+        UnaryOperator::Plus
+        | UnaryOperator::Minus
+        | UnaryOperator::Indirect
+        | UnaryOperator::Not
+        | UnaryOperator::Query => false,
     }
 }
 
@@ -192,10 +196,16 @@ fn is_right_associative(operator: BinaryOperator) -> bool
 fn binds_into_right(inner: BinaryOperator, outer: BinaryOperator) -> bool
     ensures { result ≡ binds_into_right inner outer }
 {
-    precedence(outer) < precedence(inner) || precedence(inner) == precedence(outer) && is_right_associative(outer)
+    precedence(outer) < precedence(inner)
+        || precedence(inner) == precedence(outer) && is_right_associative(outer)
 }
 
-fn join(alloc: Global, operator: BinaryOperator, left: Expression, right: Expression) -> Result<Expression, AllocError>
+fn join(
+    alloc: Global,
+    operator: BinaryOperator,
+    left: Expression,
+    right: Expression,
+) -> Result<Expression, AllocError>
     ensures { IfOk result (λ t. expression_of t ≡ expressions.Binary operator (expression_of left) (expression_of right)) }
 {
     let left = Box::new(alloc, left)?;
@@ -217,7 +227,7 @@ fn place(
     Ok(())
 }
 
-// One more operand at the right end, as deep as the operator's level puts it. Where a growth was refused, the tree is of
+// One more operand at the right end, as deep as the operator's precedence puts it. Where a growth was refused, the tree is of
 // no more use.
 pub(crate) fn push(
     alloc: Global,
@@ -256,7 +266,11 @@ pub(crate) fn with_prefix(prefix: IdentifierPrefix, name: Line) -> Expression
 }
 
 // One more argument.
-pub(crate) fn add_argument(alloc: Global, arguments: Arguments, tree: Expression) -> Result<Arguments, AllocError>
+pub(crate) fn add_argument(
+    alloc: Global,
+    arguments: Arguments,
+    tree: Expression,
+) -> Result<Arguments, AllocError>
     ensures { IfOk result (λ a. arguments_of a ≡ expressions.Argument (arguments_of arguments) (expression_of tree)) }
 {
     let arguments = Box::new(alloc, arguments)?;

@@ -1,31 +1,12 @@
 //! Which tokens may come next in an expression, over data that are copied, with no tree.
 
 ghost use Rattle.std.specs.Prelude.{◌≡◌};
-ghost use Rattle.sno_expression.specs.Walking.{part_shape, shape_of, blank_before, with_blanks, prefixed, joined, begin, close, comma, first, go_on, stops, after, after_prefix, opens_call, after_identifier, step, ends, is_dollar, begins_variable, is_misfit, misfit_index};
+ghost use Rattle.sno_expression.specs.Walking.{prefixed, joined, begin, close, comma, first, go_on, stops, after_operand, after_prefix, opens_call, after_identifier, step, ends, begins_variable, is_misfit, misfit_index};
 
-use crate::tree::{BinaryOperator, Prefix, operator_of, prefix_of, needs_variable, operand_is_variable};
-use sno_token::{Mark, Outcome, Part, Token};
-
-/// A part of a statement without its text.
-#[derive(Clone, Copy)]
-pub enum PartShape {
-    Equals,
-    Colon,
-    On(Outcome),
-    Label,
-}
-
-/// A token without its text.
-#[derive(Clone, Copy)]
-pub enum Shape {
-    Name(bool),
-    Constant(bool),
-    Mark(bool, bool, Mark),
-    Open(bool),
-    Close(bool),
-    Comma(bool),
-    Part(bool, bool, PartShape),
-}
+use crate::tree::{
+    BinaryOperator, Prefix, needs_variable, operand_is_variable, operator_of, prefix_of,
+};
+use sno_token::{Mark, TokenKind};
 
 /// An open parenthesis.
 #[derive(Clone, Copy)]
@@ -39,13 +20,13 @@ pub enum Paren {
 pub enum Position {
     /// At the beginning of an expression or of an argument.
     AtStart,
-    /// After a binary operator; does it want a variable on its right?
+    /// After a binary operator; does it need a variable on its right?
     AfterBinary(bool),
-    /// After a unary operator; does it want a variable?
+    /// After a unary operator; does it need a variable?
     AfterUnary(bool),
     /// After `&` or `*` before an identifier.
     AfterPrefix,
-    /// After an identifier, which may yet open a call; is a variable wanted where it stands?
+    /// After an identifier, which may yet open a call; is a variable needed where it stands?
     AfterIdentifier(bool),
     /// After any other operand.
     AfterOperand,
@@ -61,68 +42,14 @@ pub enum Move {
     Out(Position),
 }
 
-fn part_shape(part: &Part) -> PartShape
-    ensures { result ≡ part_shape part.now }
-{
-    match part {
-        Part::Equals => PartShape::Equals,
-        Part::Colon => PartShape::Colon,
-        Part::On(outcome) => PartShape::On(*outcome),
-        Part::Label(_) => PartShape::Label,
-    }
-}
-
-/// The token without its text.
-pub fn shape_of(token: &Token) -> Shape
-    ensures { result ≡ shape_of token.now }
-{
-    match token {
-        Token::Name(before, _) => Shape::Name(*before),
-        Token::Constant(before, _) => Shape::Constant(*before),
-        Token::Mark(before, after, mark) => Shape::Mark(*before, *after, *mark),
-        Token::Open(before) => Shape::Open(*before),
-        Token::Close(before) => Shape::Close(*before),
-        Token::Comma(before) => Shape::Comma(*before),
-        Token::Part(before, after, part) => Shape::Part(*before, *after, part_shape(part)),
-    }
-}
-
-/// Whether a blank stands before the token.
-pub fn blank_before(shape: Shape) -> bool
-    ensures { result ≡ blank_before shape }
-{
-    match shape {
-        Shape::Name(before) => before,
-        Shape::Constant(before) => before,
-        Shape::Mark(before, _, _) => before,
-        Shape::Open(before) => before,
-        Shape::Close(before) => before,
-        Shape::Comma(before) => before,
-        Shape::Part(before, _, _) => before,
-    }
-}
-
-/// The same token with other blanks round it.
-pub fn with_blanks(before: bool, after: bool, shape: Shape) -> Shape
-    ensures { result ≡ with_blanks before after shape }
-{
-    match shape {
-        Shape::Name(_) => Shape::Name(before),
-        Shape::Constant(_) => Shape::Constant(before),
-        Shape::Mark(_, _, mark) => Shape::Mark(before, after, mark),
-        Shape::Open(_) => Shape::Open(before),
-        Shape::Close(_) => Shape::Close(before),
-        Shape::Comma(_) => Shape::Comma(before),
-        Shape::Part(_, _, part) => Shape::Part(before, after, part),
-    }
-}
-
 fn prefixed(prefix: Option<Prefix>) -> Option<Move>
     ensures { result ≡ prefixed prefix }
 {
     match prefix {
         None => None,
-        Some(Prefix::OfOperand(unary)) => Some(Move::Within(Position::AfterUnary(operand_is_variable(unary)))),
+        Some(Prefix::OfOperand(unary)) => Some(Move::Within(Position::AfterUnary(
+            operand_is_variable(unary),
+        ))),
         Some(Prefix::OfIdentifier(_)) => Some(Move::Within(Position::AfterPrefix)),
     }
 }
@@ -137,21 +64,21 @@ fn joined(operator: Option<BinaryOperator>) -> Option<Move>
 }
 
 // An operand begins.
-fn begin(wanted: bool, shape: Shape) -> Option<Move>
-    ensures { result ≡ begin wanted shape }
+fn begin(needed: bool, after: bool, kind: &TokenKind) -> Option<Move>
+    ensures { result ≡ begin needed after kind.now }
 {
-    match shape {
-        Shape::Name(_) => Some(Move::Within(Position::AfterIdentifier(wanted))),
-        Shape::Constant(_) => Some(Move::Within(Position::AfterOperand)),
-        Shape::Mark(_, after, mark) => {
+    match kind {
+        TokenKind::Identifier(_) => Some(Move::Within(Position::AfterIdentifier(needed))),
+        TokenKind::Constant(_) => Some(Move::Within(Position::AfterOperand)),
+        TokenKind::Mark(mark) => {
             if after {
                 None
             } else {
-                prefixed(prefix_of(mark))
+                prefixed(prefix_of(*mark))
             }
         }
-        Shape::Open(_) => Some(Move::Into(Paren::OfGroup, Position::AtStart)),
-        Shape::Close(_) | Shape::Comma(_) | Shape::Part(_, _, _) => None,
+        TokenKind::Open => Some(Move::Into(Paren::OfGroup, Position::AtStart)),
+        TokenKind::Close | TokenKind::Comma | TokenKind::Part(_) => None,
     }
 }
 
@@ -175,47 +102,54 @@ fn comma(inner: Option<Paren>) -> Option<Move>
 }
 
 // An argument begins, or is empty.
-fn first_of_call(shape: Shape) -> Option<Move>
-    ensures { result ≡ first (Some Paren.OfCall) shape }
+fn first_of_call(after: bool, kind: &TokenKind) -> Option<Move>
+    ensures { result ≡ first (Some Paren.OfCall) after kind.now }
 {
-    match shape {
-        Shape::Comma(_) => comma(Some(Paren::OfCall)),
-        Shape::Close(_) => close(Some(Paren::OfCall)),
-        Shape::Name(_) => begin(false, shape),
-        Shape::Constant(_) => begin(false, shape),
-        Shape::Mark(_, _, _) => begin(false, shape),
-        Shape::Open(_) => begin(false, shape),
-        Shape::Part(_, _, _) => begin(false, shape),
+    match kind {
+        TokenKind::Comma => comma(Some(Paren::OfCall)),
+        TokenKind::Close => close(Some(Paren::OfCall)),
+        TokenKind::Identifier(_)
+        | TokenKind::Constant(_)
+        | TokenKind::Mark(_)
+        | TokenKind::Open
+        | TokenKind::Part(_) => begin(false, after, kind),
     }
 }
 
-fn first(inner: Option<Paren>, shape: Shape) -> Option<Move>
-    ensures { result ≡ first inner shape }
+fn first(inner: Option<Paren>, after: bool, kind: &TokenKind) -> Option<Move>
+    ensures { result ≡ first inner after kind.now }
 {
     match inner {
-        None => begin(false, shape),
-        Some(Paren::OfGroup) => begin(false, shape),
-        Some(Paren::OfCall) => first_of_call(shape),
+        None => begin(false, after, kind),
+        Some(Paren::OfGroup) => begin(false, after, kind),
+        Some(Paren::OfCall) => first_of_call(after, kind),
     }
 }
 
 // After an operand.
-fn go_on(inner: Option<Paren>, shape: Shape) -> Option<Move>
-    ensures { result ≡ go_on inner shape }
+fn go_on(inner: Option<Paren>, before: bool, after: bool, kind: &TokenKind) -> Option<Move>
+    ensures { result ≡ go_on inner before after kind.now }
 {
-    match shape {
-        Shape::Mark(true, true, mark) => joined(operator_of(mark)),
-        Shape::Mark(true, false, _) => begin(false, shape),
-        Shape::Name(true) => begin(false, shape),
-        Shape::Constant(true) => begin(false, shape),
-        Shape::Open(true) => begin(false, shape),
-        Shape::Close(_) => close(inner),
-        Shape::Comma(_) => comma(inner),
-        Shape::Mark(false, _, _)
-        | Shape::Name(false)
-        | Shape::Constant(false)
-        | Shape::Open(false)
-        | Shape::Part(_, _, _) => None,
+    match kind {
+        TokenKind::Close => close(inner),
+        TokenKind::Comma => comma(inner),
+        TokenKind::Mark(mark) => {
+            if !before {
+                None
+            } else if after {
+                joined(operator_of(*mark))
+            } else {
+                begin(false, after, kind)
+            }
+        }
+        TokenKind::Identifier(_) | TokenKind::Constant(_) | TokenKind::Open | TokenKind::Part(_) =>
+            {
+                if before {
+                    begin(false, after, kind)
+                } else {
+                    None
+                }
+            }
     }
 }
 
@@ -228,84 +162,110 @@ pub(crate) fn stops(alone: bool, inner: Option<Paren>) -> bool
     }
 }
 
-fn after(alone: bool, inner: Option<Paren>, shape: Shape) -> Option<Move>
-    ensures { result ≡ after alone inner shape }
+fn after_operand(
+    alone: bool,
+    inner: Option<Paren>,
+    before: bool,
+    after: bool,
+    kind: &TokenKind,
+) -> Option<Move>
+    ensures { result ≡ after_operand alone inner before after kind.now }
 {
     if stops(alone, inner) {
         None
     } else {
-        go_on(inner, shape)
+        go_on(inner, before, after, kind)
     }
 }
 
-fn after_prefix(shape: Shape) -> Option<Move>
-    ensures { result ≡ after_prefix shape }
+fn after_prefix(before: bool, kind: &TokenKind) -> Option<Move>
+    ensures { result ≡ after_prefix before kind.now }
 {
-    match shape {
-        Shape::Name(false) => Some(Move::Within(Position::AfterOperand)),
-        Shape::Name(true)
-        | Shape::Constant(_)
-        | Shape::Mark(_, _, _)
-        | Shape::Open(_)
-        | Shape::Close(_)
-        | Shape::Comma(_)
-        | Shape::Part(_, _, _) => None,
+    match kind {
+        TokenKind::Identifier(_) => {
+            if before {
+                None
+            } else {
+                Some(Move::Within(Position::AfterOperand))
+            }
+        }
+        TokenKind::Constant(_)
+        | TokenKind::Mark(_)
+        | TokenKind::Open
+        | TokenKind::Close
+        | TokenKind::Comma
+        | TokenKind::Part(_) => None,
     }
 }
 
-pub(crate) fn opens_call(shape: Shape) -> bool
-    ensures { result ≡ opens_call shape }
+/// Whether the token is a parenthesis that makes a call of an identifier before it.
+pub fn opens_call(before: bool, kind: &TokenKind) -> bool
+    ensures { result ≡ opens_call before kind.now }
 {
-    match shape {
-        Shape::Open(before) => !before,
-        Shape::Name(_)
-        | Shape::Constant(_)
-        | Shape::Mark(_, _, _)
-        | Shape::Close(_)
-        | Shape::Comma(_)
-        | Shape::Part(_, _, _) => false,
+    match kind {
+        TokenKind::Open => !before,
+        TokenKind::Identifier(_)
+        | TokenKind::Constant(_)
+        | TokenKind::Mark(_)
+        | TokenKind::Close
+        | TokenKind::Comma
+        | TokenKind::Part(_) => false,
     }
 }
 
-fn after_identifier(alone: bool, inner: Option<Paren>, shape: Shape) -> Option<Move>
-    ensures { result ≡ after_identifier alone inner shape }
+fn after_identifier(
+    alone: bool,
+    inner: Option<Paren>,
+    before: bool,
+    after: bool,
+    kind: &TokenKind,
+) -> Option<Move>
+    ensures { result ≡ after_identifier alone inner before after kind.now }
 {
-    if opens_call(shape) {
+    if opens_call(before, kind) {
         Some(Move::Into(Paren::OfCall, Position::AtStart))
     } else {
-        after(alone, inner, shape)
+        after_operand(alone, inner, before, after, kind)
     }
 }
 
-/// What one more token does at a place within the innermost open parenthesis, or `None` where it is not taken there.
+/// What one more token does at a position within the innermost open parenthesis, or `None` where it is not taken there.
 ///
-/// `alone`: one element alone is read, so outside of parentheses nothing is taken after it.
-pub fn step(alone: bool, inner: Option<Paren>, position: Position, shape: Shape) -> Option<Move>
-    ensures { result ≡ step alone inner position shape }
+/// `alone`: one element alone is read, so outside of parentheses nothing is taken after it. `before` and `after`: does a
+/// blank stand before the token, does one follow it.
+pub fn step(
+    alone: bool,
+    inner: Option<Paren>,
+    position: Position,
+    before: bool,
+    after: bool,
+    kind: &TokenKind,
+) -> Option<Move>
+    ensures { result ≡ step alone inner position before after kind.now }
 {
     match position {
-        Position::AtStart => first(inner, shape),
-        Position::AfterBinary(wanted) => {
-            if blank_before(shape) {
-                begin(wanted, shape)
+        Position::AtStart => first(inner, after, kind),
+        Position::AfterBinary(needed) => {
+            if before {
+                begin(needed, after, kind)
             } else {
                 None
             }
         }
-        Position::AfterUnary(wanted) => {
-            if blank_before(shape) {
+        Position::AfterUnary(needed) => {
+            if before {
                 None
             } else {
-                begin(wanted, shape)
+                begin(needed, after, kind)
             }
         }
-        Position::AfterPrefix => after_prefix(shape),
-        Position::AfterIdentifier(_) => after_identifier(alone, inner, shape),
-        Position::AfterOperand => after(alone, inner, shape),
+        Position::AfterPrefix => after_prefix(before, kind),
+        Position::AfterIdentifier(_) => after_identifier(alone, inner, before, after, kind),
+        Position::AfterOperand => after_operand(alone, inner, before, after, kind),
     }
 }
 
-/// Whether an expression may end at a place within the innermost open parenthesis.
+/// Whether an expression may end at a position within the innermost open parenthesis.
 pub fn ends(inner: Option<Paren>, position: Position) -> bool
     ensures { result ≡ ends inner position }
 {
@@ -322,48 +282,25 @@ pub fn ends(inner: Option<Paren>, position: Position) -> bool
     }
 }
 
-fn is_dollar(mark: Mark) -> bool
-    ensures { result ≡ is_dollar mark }
+fn begins_variable(kind: &TokenKind) -> bool
+    ensures { result ≡ begins_variable kind.now }
 {
-    match mark {
-        Mark::Dollar => true,
-        Mark::Power
-        | Mark::Star
-        | Mark::Slash
-        | Mark::Plus
-        | Mark::Minus
-        | Mark::Bar
-        | Mark::Dot
-        | Mark::At
-        | Mark::Tilde
-        | Mark::Question
-        | Mark::Ampersand => false,
+    match kind {
+        TokenKind::Identifier(_) => true,
+        TokenKind::Mark(Mark::Dollar) => true,
+        _ => false,
     }
 }
 
-fn begins_variable(shape: Shape) -> bool
-    ensures { result ≡ begins_variable shape }
-{
-    match shape {
-        Shape::Name(_) => true,
-        Shape::Mark(_, _, mark) => is_dollar(mark),
-        Shape::Constant(_)
-        | Shape::Open(_)
-        | Shape::Close(_)
-        | Shape::Comma(_)
-        | Shape::Part(_, _, _) => false,
-    }
-}
-
-/// Whether the token shows that there is no variable where one is wanted: the element begins with something else, or its
+/// Whether the token shows that there is no variable where one is needed: the element begins with something else, or its
 /// name opens a call.
-pub fn is_misfit(position: Position, shape: Shape) -> bool
-    ensures { result ≡ is_misfit position shape }
+pub fn is_misfit(position: Position, before: bool, kind: &TokenKind) -> bool
+    ensures { result ≡ is_misfit position before kind.now }
 {
     match position {
-        Position::AfterBinary(wanted) => wanted && !begins_variable(shape),
-        Position::AfterUnary(wanted) => wanted && !begins_variable(shape),
-        Position::AfterIdentifier(wanted) => wanted && opens_call(shape),
+        Position::AfterBinary(needed) => needed && !begins_variable(kind),
+        Position::AfterUnary(needed) => needed && !begins_variable(kind),
+        Position::AfterIdentifier(needed) => needed && opens_call(before, kind),
         Position::AtStart => false,
         Position::AfterPrefix => false,
         Position::AfterOperand => false,

@@ -36,7 +36,7 @@ precedence operator.Minus = 3
 precedence operator.Concatenation = 2
 precedence operator.Alternation = 1
 
--- of operators of one level, do those on the right stand deeper
+-- of operators of one precedence, do those on the right stand deeper
 abbrev pub is_right_associative : BinaryOperator → Bool
 is_right_associative operator.Power = true
 is_right_associative operator.Concatenation = true
@@ -75,14 +75,14 @@ abbrev mutual
   HasLevels (Keyword n) = Unit {0}
   HasLevels (Unevaluated n) = Unit {0}
   HasLevels (Group t) = HasLevels t
-  HasLevels (Call f arguments) = AreSome arguments × HaveLevels arguments
+  HasLevels (Call f args) = AreSome args × HaveLevels args
   HasLevels (Unary s t) = IsOperand t × HasLevels t
   HasLevels (Binary o l r) = FitsLeft o l × FitsRight o r × HasLevels l × HasLevels r
 
   pub HaveLevels : Arguments → Type 0
   HaveLevels NoArguments = Unit {0}
-  HaveLevels (Omitted arguments) = HaveLevels arguments
-  HaveLevels (Argument arguments t) = HaveLevels arguments × HasLevels t
+  HaveLevels (Omitted args) = HaveLevels args
+  HaveLevels (Argument args t) = HaveLevels args × HasLevels t
 
 -- where one element alone may stand
 abbrev pub Suits : Bool → Expression → Type 0
@@ -95,7 +95,7 @@ is_variable (Identifier n) = true
 is_variable (Unary unary.Indirect t) = true
 is_variable _ = false
 
--- where a variable is wanted there is one
+-- where a variable is needed there is one
 abbrev pub Fits : Bool → Expression → Type 0
 Fits true t = is_variable t ≡ true
 Fits false t = Unit {0}
@@ -107,16 +107,16 @@ abbrev mutual
   HasVariables (Keyword n) = Unit {0}
   HasVariables (Unevaluated n) = Unit {0}
   HasVariables (Group t) = HasVariables t
-  HasVariables (Call f arguments) = HaveVariables arguments
+  HasVariables (Call f args) = HaveVariables args
   HasVariables (Unary s t) = HasVariables t × Fits (operand_is_variable s) t
   HasVariables (Binary o l r) = HasVariables l × HasVariables r × Fits (needs_variable o) r
 
   pub HaveVariables : Arguments → Type 0
   HaveVariables NoArguments = Unit {0}
-  HaveVariables (Omitted arguments) = HaveVariables arguments
-  HaveVariables (Argument arguments t) = HaveVariables arguments × HasVariables t
+  HaveVariables (Omitted args) = HaveVariables args
+  HaveVariables (Argument args t) = HaveVariables args × HasVariables t
 
--- how many places want a variable and have none
+-- how many places need a variable and have none
 abbrev pub bit : Bool → ℕ
 bit true = 1
 bit false = 0
@@ -131,11 +131,11 @@ abbrev mutual
   bad (Keyword n) = 0
   bad (Unevaluated n) = 0
   bad (Group t) = bad t
-  bad (Call f arguments) = bads arguments
+  bad (Call f args) = bads args
   bad (Unary s t) = bad t + unfit (operand_is_variable s) t
   bad (Binary o l r) = bad l + bad r + unfit (needs_variable o) r
 
   pub bads : Arguments → ℕ
   bads NoArguments = 0
-  bads (Omitted arguments) = bads arguments
-  bads (Argument arguments t) = bads arguments + bad t
+  bads (Omitted args) = bads args
+  bads (Argument args t) = bads args + bad t
