@@ -3,3 +3,4 @@ pub mod Names
 pub mod Lines
 pub mod Counts
 pub mod Stops
+pub mod inner

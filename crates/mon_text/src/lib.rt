@@ -7,6 +7,7 @@ pub mod count;
 pub mod line;
 pub mod name;
 pub mod stop;
+mod words;
 
 pub use count::{BadNumber, put_number, read_count};
 pub use line::{Line, LineError, read_line, split_words};
