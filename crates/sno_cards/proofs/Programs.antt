@@ -2,20 +2,20 @@
 use Rattle.std.proofs.Common.{◌≡◌, ℕ, ◌+◌, false, List, length, take, Option, Some, None, Ok, Err, slice_get, refl, ap, ◌∙◌}
 use Rattle.std.specs.List.{find}
 use Rattle.std.proofs.lemmas.List.Folds.{find_at}
-use Rattle.sno_cards.specs.declared.refusal.Refusal.{Refusal}
+use Rattle.sno_cards.specs.declared.refusal.SyntaxError.{SyntaxError}
 use Rattle.sno_cards.specs.declared.refusal.SyntaxCode.TheVariants.{NoEndLine}
 use Rattle.sno_cards.specs.Cards.{is_end_line}
 use Rattle.sno_cards.specs.Statements.{numbered, first_refusal, end_index, refused_card, program_ended_by, program_with, unless_refused, statements_of}
 
 -- with what is known of the cards before the END line, and of that line
-pub statements_by : (lines : List (List ℕ)) (refusal : Option Refusal) (end_line : Option (List ℕ))
+pub statements_by : (lines : List (List ℕ)) (refusal : Option SyntaxError) (end_line : Option (List ℕ))
     → first_refusal false (numbered 1 (take (end_index lines) lines)) ≡ refusal → slice_get lines (end_index lines) ≡ end_line
     → statements_of lines ≡ unless_refused refusal (program_with end_line lines)
 statements_by lines refusal end_line refused ended =
-    ap (λ (r : Option Refusal). unless_refused r (program_with (find is_end_line lines) lines)) refused
+    ap (λ (r : Option SyntaxError). unless_refused r (program_with (find is_end_line lines) lines)) refused
     ∙ ap (λ (line : Option (List ℕ)). unless_refused refusal (program_with line lines)) (find_at is_end_line lines ∙ ended)
 
-pub refused_by_card : (lines : List (List ℕ)) (refusal : Refusal)
+pub refused_by_card : (lines : List (List ℕ)) (refusal : SyntaxError)
     → first_refusal false (numbered 1 (take (end_index lines) lines)) ≡ Some refusal → statements_of lines ≡ Err refusal
 refused_by_card lines refusal refused = statements_by lines (Some refusal) (slice_get lines (end_index lines)) refused refl
 

@@ -6,8 +6,8 @@ use Rattle.std.proofs.lemmas.Bool.Decides.{nat_tests}
 use Rattle.std.proofs.lemmas.List.Elements.{All-nil, All-cons, All-head, All-tail, All-append, All-filter}
 use Rattle.std.proofs.lemmas.List.Folds.{find_at}
 use Rattle.sno_cards.specs.declared.card.CardKind.TheVariants.{Start}
-use Rattle.sno_cards.specs.declared.refusal.Refusal.{Refusal}
-use Rattle.sno_cards.specs.declared.text.Placed.{Placed}
+use Rattle.sno_cards.specs.declared.refusal.SyntaxError.{SyntaxError}
+use Rattle.sno_cards.specs.Texts.{Placed}
 use Rattle.sno_cards.specs.Cards.{kind_by_mark, is_end_line, is_semicolon, ends_label, rest_of_end_line}
 use Rattle.sno_cards.specs.Programs.{ProgramText}
 use Rattle.sno_cards.specs.Statements.{Card, numbered, placed_on, without_mark, is_continuation_card, is_statement_card, continued, joined, literal_after, ends_statement, pieces, is_statement, statements_in, statements_on, end_index, first_refusal, program_ended_by, program_with, unless_refused}
@@ -187,7 +187,7 @@ pub places_are_true : PlacesAreTrue
 places_are_true lines program answered =
     at (first_refusal false (numbered 1 (before_first is_end_line lines))) (find is_end_line lines) refl answered
   where
-    at : (refusal : Option Refusal) (end_line : Option (List ℕ)) → find is_end_line lines ≡ end_line
+    at : (refusal : Option SyntaxError) (end_line : Option (List ℕ)) → find is_end_line lines ≡ end_line
         → unless_refused refusal (program_with end_line lines) ≡ Ok program
         → Stand lines program.statements × All (StandsThere lines) program.end_rest
     at (Some refusal) end_line found h = cc

@@ -2,7 +2,7 @@
 use Rattle.std.specs.Prelude.{◌≡◌, ℕ, ◌-◌, ◌≤◌, Bool, true, not, ◌&&◌, List, [], ◌∷◌, ◌++◌, Option, Some, None, Ok, slice_get, option_and_then, if◌then◌else◌}
 use Rattle.std.specs.List.{All}
 use Rattle.sno_cards.specs.declared.refusal.Place.{Place}
-use Rattle.sno_cards.specs.declared.text.Placed.{Placed}
+use Rattle.sno_cards.specs.Texts.{Placed}
 use Rattle.sno_cards.specs.Cards.{kind_of, is_continuation, is_semicolon}
 use Rattle.sno_cards.specs.Programs.{ProgramText}
 use Rattle.sno_cards.specs.Statements.{without_mark, literal_after, ends_statement, pieces, statements_of}

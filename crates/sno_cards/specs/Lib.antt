@@ -5,3 +5,4 @@ pub mod Cards
 pub mod Statements
 pub mod Answers
 pub mod Laws
+pub mod inner

@@ -1,14 +1,14 @@
 -- The statements, the END line and the data of a program (after "The SNOBOL4 Programming Language"; where the book leaves
 -- a choice, own). All of it is said of the whole list of cards.
 use Rattle.std.specs.Prelude.{ℕ, ◌+◌, Bool, false, ◌||◌, ◌==◌, not, List, [], ◌∷◌, ◌++◌, length, filter, Option, Some, None, Result, Ok, Err, if◌then◌else◌}
-use Rattle.std.specs.List.{flat_map, find, list_all, onto_first, position_or_len, before_first}
-use Rattle.mon_text.specs.Characters.{is_blank}
+use Rattle.std.specs.List.{flat_map, find, onto_first, position_or_len, before_first}
+use Rattle.mon_text.specs.Lines.{is_blank_line}
 use Rattle.sno_cards.specs.declared.card.CardKind.{CardKind}
 use Rattle.sno_cards.specs.declared.card.CardKind.TheVariants.{UnknownControl, Continuation}
-use Rattle.sno_cards.specs.declared.refusal.Refusal.{Refusal}
+use Rattle.sno_cards.specs.declared.refusal.SyntaxError.{SyntaxError}
 use Rattle.sno_cards.specs.declared.refusal.SyntaxCode.{SyntaxCode}
 use Rattle.sno_cards.specs.declared.refusal.SyntaxCode.TheVariants.{NoEndLine, NothingToContinue, UnknownControlCard}
-use Rattle.sno_cards.specs.declared.text.Placed.{Placed}
+use Rattle.sno_cards.specs.Texts.{Placed, text_of}
 use Rattle.sno_cards.specs.Cards.{kind_of, is_start, is_continuation, is_end_line, is_semicolon, rest_of_end_line}
 use Rattle.sno_cards.specs.Programs.{ProgramText}
 
@@ -81,11 +81,9 @@ pieces literal (c ∷ cs) =
     if ends_statement literal c.code then [] ∷ pieces (literal_after literal c.code) cs
     else onto_first c (pieces (literal_after literal c.code) cs)
 
-abbrev pub is_blank_text : List Placed → Bool
-is_blank_text cs = list_all (λ c. is_blank c.code) cs
-
+-- a piece of blanks alone is no statement
 abbrev pub is_statement : List Placed → Bool
-is_statement piece = not (is_blank_text piece)
+is_statement piece = not (is_blank_line (text_of piece))
 
 -- the statements of a line
 abbrev pub statements_in : List Placed → List (List Placed)
@@ -103,16 +101,16 @@ card_refusal begun UnknownControl = Some UnknownControlCard
 card_refusal false Continuation = Some NothingToContinue
 card_refusal begun kind = None
 
-abbrev pub refused_card : ℕ → SyntaxCode → Refusal
+abbrev pub refused_card : ℕ → SyntaxCode → SyntaxError
 refused_card number code = record { code = code; place = record { card = number; column = 1 } }
 
 -- the first of two refusals
-abbrev pub refused_first : ℕ → Option SyntaxCode → Option Refusal → Option Refusal
+abbrev pub refused_first : ℕ → Option SyntaxCode → Option SyntaxError → Option SyntaxError
 refused_first number (Some code) later = Some (refused_card number code)
 refused_first number None later = later
 
 -- the first refusal of a card before the END line
-abbrev pub first_refusal : Bool → List Card → Option Refusal
+abbrev pub first_refusal : Bool → List Card → Option SyntaxError
 first_refusal begun [] = None
 first_refusal begun (card ∷ cards) =
     refused_first card.number (card_refusal begun (kind_of card.text)) (first_refusal (begun || is_start_card card) cards)
@@ -132,15 +130,15 @@ program_ended_by end_line lines = record {
 }
 
 -- without an END line, the program is refused at the card after the last
-abbrev pub program_with : Option (List ℕ) → List (List ℕ) → Result ProgramText Refusal
+abbrev pub program_with : Option (List ℕ) → List (List ℕ) → Result ProgramText SyntaxError
 program_with None lines = Err (refused_card (length lines + 1) NoEndLine)
 program_with (Some end_line) lines = Ok (program_ended_by end_line lines)
 
-abbrev pub unless_refused : Option Refusal → Result ProgramText Refusal → Result ProgramText Refusal
+abbrev pub unless_refused : Option SyntaxError → Result ProgramText SyntaxError → Result ProgramText SyntaxError
 unless_refused None program = program
 unless_refused (Some refusal) program = Err refusal
 
 -- the program that these lines are, or its first refusal
-abbrev pub statements_of : List (List ℕ) → Result ProgramText Refusal
+abbrev pub statements_of : List (List ℕ) → Result ProgramText SyntaxError
 statements_of lines =
     unless_refused (first_refusal false (numbered 1 (before_first is_end_line lines))) (program_with (find is_end_line lines) lines)

@@ -1,13 +1,11 @@
 -- Texts whose characters know where they stand (own).
-use Rattle.std.specs.Prelude.{ℕ, List, [], ◌∷◌, map}
+use Rattle.std.specs.Prelude.{ℕ, List, map}
 use Rattle.sno_cards.specs.declared.refusal.Place.{Place}
-use Rattle.sno_cards.specs.declared.text.Placed.{Placed}
 
--- characters and their places, one for each
-abbrev pub placed : List ℕ → List Place → List Placed
-placed [] places = []
-placed (c ∷ cs) [] = []
-placed (c ∷ cs) (place ∷ places) = record { code = c; place = place } ∷ placed cs places
+-- a character and where it stands
+pub record Placed : Type 0 where
+  pub code : ℕ
+  pub place : Place
 
 -- the characters alone
 abbrev pub text_of : List Placed → List ℕ

@@ -6,7 +6,7 @@ ghost use Rattle.sno_cards.specs.Cards.{is_same_word, is_control_name, control_k
 use mon_text::Line;
 
 /// What a line of a program is, by its first character.
-#[derive(Clone, Copy, Debug, PartialEq, Eq)]
+#[derive(Clone, Copy)]
 pub(crate) enum CardKind {
     Comment,
     Control,

@@ -1,9 +1,12 @@
-//! Statements: a line of them cut at each `;` outside literals.
-ghost use Rattle.std.specs.Prelude.{◌≡◌, ◌==◌, ◌||◌, ◌++◌, ◌∷◌, [], filter, OnOk};
-ghost use Rattle.sno_cards.specs.Statements.{is_quote, literal_after, ends_statement, is_blank_text, is_statement, statements_in};
+//! Statements: a line of them cut at each `;` outside literals, as its characters come.
+ghost use Rattle.std.specs.Prelude.{◌≡◌, ◌==◌, ◌||◌, ◌+◌, ◌<◌, ◌^◌, ◌++◌, ◌∷◌, [], length, filter, IfOk, OnOk};
+ghost use Rattle.mon_text.specs.Lines.{is_blank_line};
+ghost use Rattle.sno_cards.specs.Statements.{is_quote, literal_after, ends_statement, is_statement, placed_on};
+ghost use Rattle.sno_cards.specs.inner.Cuts.{cut_of, begun, ended, fed};
 
-use crate::text::{Placed, StatementText};
+use crate::text::StatementText;
 use std::alloc::{AllocError, Global};
+use std::mem;
 
 fn is_quote(code: u8) -> bool
     ensures { result ≡ is_quote code }
@@ -29,47 +32,93 @@ fn ends_statement(literal: Option<u8>, code: u8) -> bool
     literal.is_none() && code == b';'
 }
 
-fn is_blank(piece: &[Placed]) -> bool
-    ensures { result ≡ is_blank_text piece.now }
+fn is_blank_line(text: &[u8]) -> bool
+    ensures { result ≡ is_blank_line text.now }
 {
-    piece.iter().all(|character| character.code == b' ')
+    text.iter().all(|code| *code == b' ')
 }
 
 // Appends a piece of a line, unless it has nothing but blanks.
-fn keep(
-    alloc: Global,
-    piece: &[Placed],
-    statements: &mut Vec<StatementText>,
-) -> Result<(), AllocError>
-    ensures { OnOk result (statements.new.items ≡ statements.old.items ++ filter is_statement (piece.now ∷ [])) }
+fn keep(piece: StatementText, statements: &mut Vec<StatementText>) -> Result<(), AllocError>
+    ensures { OnOk result (statements.new.items ≡ statements.old.items ++ filter is_statement (piece ∷ [])) }
 {
-    if is_blank(piece) {
+    if is_blank_line(piece.as_bytes()) {
         return Ok(());
     }
-    statements.push(StatementText::from_slice(alloc, piece)?)?;
+    statements.push(piece)?;
     Ok(())
 }
 
-/// Appends the statements of a line: the pieces between each `;` outside literals that are not blank.
-///
-/// # Errors
-///
-/// Where a growth was refused; a part of them may then have been appended.
-pub(crate) fn cut(
-    alloc: Global,
-    line: &[Placed],
-    statements: &mut Vec<StatementText>,
-) -> Result<(), AllocError>
-    ensures { OnOk result (statements.new.items ≡ statements.old.items ++ statements_in line.now) }
-{
-    let mut from = 0;
-    let mut literal = None;
-    for (index, character) in line.iter().enumerate() {
-        if ends_statement(literal, character.code) {
-            keep(alloc, &line[from..index], statements)?;
-            from = index + 1;
+/// A line that is being cut: the statements so far, what has begun of the next, and which quote has begun a literal that
+/// is still open in it.
+#[derive(Drop)]
+pub(crate) struct Cutting {
+    statements: Vec<StatementText>,
+    piece: StatementText,
+    literal: Option<u8>,
+}
+
+impl Cutting {
+    /// A line begins, behind these statements.
+    pub(crate) fn new(alloc: Global, statements: Vec<StatementText>) -> Cutting
+        ensures { cut_of result ≡ begun statements.items }
+    {
+        Cutting {
+            statements,
+            piece: StatementText::new(alloc),
+            literal: None,
         }
-        literal = literal_after(literal, character.code);
     }
-    keep(alloc, &line[from..], statements)
+
+    // The piece is whole with the characters that stand on a card from a column on; the next begins.
+    fn cut(&mut self, alloc: Global, card: u64, column: u64, text: &[u8]) -> Result<(), AllocError>
+        requires { column + length text.now < 2 ^ 64 }
+        ensures { OnOk result (cut_of self.new ≡ record (cut_of self.old) {
+          statements = ended (record (cut_of self.old) { piece = self.old.piece ++ placed_on card column text.now });
+          piece = [];
+        }) }
+    {
+        self.piece.append(card, column, text)?;
+        let piece = mem::replace(&mut self.piece, StatementText::new(alloc));
+        keep(piece, &mut self.statements)
+    }
+
+    /// Goes on with characters that stand on a card from a column on.
+    ///
+    /// # Errors
+    ///
+    /// Where a growth was refused; a part of them may then have been cut.
+    pub(crate) fn feed(
+        &mut self,
+        alloc: Global,
+        card: u64,
+        column: u64,
+        text: &[u8],
+    ) -> Result<(), AllocError>
+        requires { column + length text.now < 2 ^ 64 }
+        ensures { OnOk result (cut_of self.new ≡ fed (cut_of self.old) (placed_on card column text.now)) }
+    {
+        let mut from = 0;
+        for (index, code) in text.iter().enumerate() {
+            if ends_statement(self.literal, *code) {
+                self.cut(alloc, card, column + from as u64, &text[from..index])?;
+                from = index + 1;
+            }
+            self.literal = literal_after(self.literal, *code);
+        }
+        self.piece.append(card, column + from as u64, &text[from..])
+    }
+
+    /// The statements, the last piece being whole.
+    ///
+    /// # Errors
+    ///
+    /// Where a growth was refused.
+    pub(crate) fn end(self) -> Result<Vec<StatementText>, AllocError>
+        ensures { IfOk result (λ statements. statements.items ≡ ended (cut_of self)) }
+    {
+        let mut statements = self.statements;
+        keep(self.piece, &mut statements)?;
+        Ok(statements)
+    }
 }

@@ -6,8 +6,8 @@
 
 pub mod card;
 pub mod cutting;
-pub mod joining;
 pub mod laws;
+pub mod lines;
 pub mod program;
 pub mod reading;
 pub mod refusal;
@@ -15,8 +15,5 @@ pub mod text;
 
 pub use program::ProgramCards;
 pub use reading::statements;
-pub use refusal::{Place, Refusal, SyntaxCode, SyntaxError};
-pub use text::{Placed, StatementText};
-
-#[cfg(test)]
-mod tests;
+pub use refusal::{Place, SyntaxCode, SyntaxError};
+pub use text::StatementText;

@@ -5,7 +5,7 @@ use crate::text::StatementText;
 use std::marker::Model;
 
 /// The cards of a program: the texts of its statements, the rest of its END line, and where its data begin.
-#[derive(Debug, Drop)]
+#[derive(Drop)]
 pub struct ProgramCards {
     statements: Vec<StatementText>,
     end_rest: StatementText,

@@ -6,12 +6,11 @@ ghost use Rattle.sno_cards.specs.Cards.{rest_of_end_line};
 ghost use Rattle.sno_cards.specs.Statements.{card_refusal, refused_card, first_refusal, numbered, placed_on, statements_on, end_index, program_ended_by, statements_of};
 
 use crate::card::{CardKind, end_index, is_start, kind_of, rest_of_end_line};
-use crate::cutting::cut;
-use crate::joining::{append, join};
+use crate::lines::cut_line;
 use crate::program::ProgramCards;
-use crate::refusal::{Place, Refusal, SyntaxCode, SyntaxError};
+use crate::refusal::{Place, SyntaxCode, SyntaxError};
 use crate::text::StatementText;
-use mon_text::Line;
+use mon_text::{Line, Stop};
 use std::alloc::{AllocError, Global};
 
 fn card_refusal(begun: bool, kind: CardKind) -> Option<SyntaxCode>
@@ -24,17 +23,17 @@ fn card_refusal(begun: bool, kind: CardKind) -> Option<SyntaxCode>
     }
 }
 
-fn refused_card(card: u64, code: SyntaxCode) -> Refusal
+fn refused_card(card: u64, code: SyntaxCode) -> SyntaxError
     ensures { result ≡ refused_card card code }
 {
-    Refusal {
+    SyntaxError {
         code,
         place: Place { card, column: 1 },
     }
 }
 
 // The first refusal of a card before the END line.
-fn first_refusal(lines: &[Line]) -> Option<Refusal>
+fn first_refusal(lines: &[Line]) -> Option<SyntaxError>
     ensures { result ≡ first_refusal false (numbered 1 lines.now) }
 {
     let mut begun = false;
@@ -56,8 +55,8 @@ fn statements_on(alloc: Global, lines: &[Line]) -> Result<Vec<StatementText>, Al
     for (index, line) in lines.iter().enumerate() {
         let text = line.as_bytes();
         if is_start(kind_of(text)) {
-            let joined = join(alloc, index as u64 + 1, text, &lines[index + 1..])?;
-            cut(alloc, &joined, &mut statements)?;
+            let later = &lines[index + 1..];
+            statements = cut_line(alloc, index as u64 + 1, text, later, statements)?;
         }
     }
     Ok(statements)
@@ -67,9 +66,9 @@ fn statements_on(alloc: Global, lines: &[Line]) -> Result<Vec<StatementText>, Al
 fn end_rest(alloc: Global, card: u64, text: &[u8]) -> Result<StatementText, AllocError>
     ensures { IfOk result (λ rest. rest ≡ placed_on card 4 (rest_of_end_line text.now)) }
 {
-    let mut rest = Vec::new(alloc);
-    append(&mut rest, card, 4, rest_of_end_line(text))?;
-    StatementText::from_slice(alloc, &rest)
+    let mut rest = StatementText::new(alloc);
+    rest.append(card, 4, rest_of_end_line(text))?;
+    Ok(rest)
 }
 
 fn line_at(lines: &[Line], index: usize) -> Option<&Line>
@@ -109,17 +108,17 @@ fn program(
 /// statements before it and `UnknownControlCard` for a control card other than `-LIST`, `-UNLIST` and `-EJECT`; then
 /// `NoEndLine`, at the card after the last. All stand in column 1. `Memory` where a growth was refused.
 #[tactic(auto, using(crate::proofs::Programs::programs))]
-pub fn statements(alloc: Global, lines: &[Line]) -> Result<ProgramCards, SyntaxError>
+pub fn statements(alloc: Global, lines: &[Line]) -> Result<ProgramCards, Stop<SyntaxError>>
     ensures program { IfOk result (λ program. statements_of lines.now ≡ Ok program) }
     ensures refused { IfErr result (IfRefused (λ refusal. statements_of lines.now ≡ Err refusal)) }
 {
     let end = end_index(lines);
     if let Some(refusal) = first_refusal(&lines[..end]) {
-        return Err(SyntaxError::Refused(refusal));
+        return Err(Stop::Refused(refusal));
     }
     let Some(end_line) = line_at(lines, end) else {
         let card = lines.len() as u64 + 1;
-        return Err(SyntaxError::Refused(refused_card(card, SyntaxCode::NoEndLine)));
+        return Err(Stop::Refused(refused_card(card, SyntaxCode::NoEndLine)));
     };
     Ok(program(alloc, lines, end, end_line)?)
 }

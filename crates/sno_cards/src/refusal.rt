@@ -2,19 +2,17 @@
 ghost use Rattle.std.specs.Prelude.{◌≡◌};
 ghost use Rattle.sno_cards.specs.Codes.{code_text, code_symbol};
 
-use std::alloc::AllocError;
 use std::fmt;
-use thiserror::Error;
 
 /// Where a character stands: its card and its column, both counted from 1.
-#[derive(Clone, Copy, Debug, PartialEq, Eq)]
+#[derive(Clone, Copy, PartialEq, Eq)]
 pub struct Place {
     pub card: u64,
     pub column: u64,
 }
 
 /// Why a program is refused. The codes that begin with S are those of its cards, the others those of its statements.
-#[derive(Clone, Copy, Debug, PartialEq, Eq)]
+#[derive(Clone, Copy, PartialEq, Eq)]
 pub enum SyntaxCode {
     /// S1: there is no END line.
     NoEndLine,
@@ -83,39 +81,17 @@ impl fmt::Display for SyntaxCode {
 }
 
 /// The first refusal of a program.
-#[derive(Clone, Copy, Debug, PartialEq, Eq)]
-pub struct Refusal {
+#[derive(Clone, Copy, PartialEq, Eq)]
+pub struct SyntaxError {
     pub code: SyntaxCode,
     pub place: Place,
 }
 
-impl fmt::Display for Refusal {
+impl fmt::Display for SyntaxError {
     fn fmt<W: fmt::Write>(&self, f: &mut fmt::Formatter<W>) -> fmt::Result {
         let code = self.code;
         let card = self.place.card;
         let column = self.place.column;
         write!(f, "{code} CARD {card} COLUMN {column}")
-    }
-}
-
-/// Why a program could not be read.
-#[derive(Clone, Copy, Debug, PartialEq, Eq, Error)]
-pub enum SyntaxError {
-    /// The program is refused.
-    #[error("{0}")]
-    Refused(Refusal),
-    /// A growth was refused.
-    #[error("out of memory")]
-    Memory,
-}
-
-impl From<AllocError> for SyntaxError {
-    ghost use Rattle.std.specs.Prelude.{◌≡◌};
-    ghost use Rattle.sno_cards.specs.declared.refusal.SyntaxError.TheVariants.{Memory};
-
-    ghost from_gives = { λ _ error. error ≡ Memory };
-
-    fn from(_: AllocError) -> SyntaxError {
-        SyntaxError::Memory
     }
 }

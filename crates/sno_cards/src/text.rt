@@ -1,74 +1,105 @@
 //! Texts whose characters know where they stand.
-ghost use Rattle.std.specs.Prelude.{◌≡◌, ◌==◌, ◌<◌, length, slice_get, Some, IfOk};
+ghost use Rattle.std.specs.Prelude.{◌≡◌, ◌==◌, ◌+◌, ◌<◌, ◌≤◌, ◌^◌, ◌++◌, [], length, slice_get, Some, OnOk};
+ghost use Rattle.sno_cards.specs.Statements.{placed_on};
 ghost use Rattle.sno_cards.specs.Texts.{text_of, places_of};
+ghost use Rattle.sno_cards.specs.inner.Segments.{AreAscending, nowhere, moved, place_by};
 
 use crate::refusal::Place;
 use std::alloc::{AllocError, Global};
 use std::marker::Model;
 
-/// A character and where it stands.
-#[derive(Clone, Copy, Debug, PartialEq, Eq)]
-pub struct Placed {
-    pub code: u8,
-    pub place: Place,
+/// No place at all: cards and columns are counted from 1.
+const NOWHERE: Place = Place { card: 0, column: 0 };
+
+/// Where characters stand that follow on one another: the first of them has this offset in the text, and stands at this
+/// place. Columns go up by one with the offset.
+#[derive(Clone, Copy)]
+pub(crate) struct Segment {
+    offset: usize,
+    place: Place,
+}
+
+// Where the character at an offset stands, if it belongs to this segment.
+fn moved(segment: Segment, offset: usize) -> Place
+    ensures { result ≡ moved segment offset }
+{
+    let further = offset.saturating_sub(segment.offset) as u64;
+    Place {
+        card: segment.place.card,
+        column: segment.place.column.saturating_add(further),
+    }
+}
+
+// The place that the last segment gives which begins at an offset or before it, found by halving.
+fn place_by(segments: &[Segment], offset: usize) -> Place
+    requires { AreAscending segments.now }
+    ensures { result ≡ place_by nowhere segments.now offset }
+{
+    let mut rest = segments;
+    while rest.len() > 1 {
+        let (before, behind) = rest.split_at(rest.len() / 2);
+        rest = if behind[0].offset <= offset {
+            behind
+        } else {
+            before
+        };
+    }
+    match rest {
+        [segment] if segment.offset <= offset => moved(*segment, offset),
+        _ => NOWHERE,
+    }
 }
 
 /// The text of a statement, or of the rest of the END line.
 ///
-/// A contract sees it as the list of its characters with their places.
-#[derive(Debug, Drop)]
+/// A contract sees it as the list of its characters with their places. Kept are the characters and the segments that
+/// they stand in, of which a card has one or two.
+#[derive(Drop)]
 pub struct StatementText {
     text: Vec<u8>,
-    places: Vec<Place>,
+    segments: Vec<Segment>,
 }
 
 impl Model for StatementText {
-    ghost use Rattle.std.specs.Prelude.{◌≡◌, List, length};
-    ghost use Rattle.sno_cards.specs.declared.text.Placed.{Placed};
-    ghost use Rattle.sno_cards.specs.Texts.{placed};
+    ghost use Rattle.std.specs.Prelude.{◌≡◌, List, length, true};
+    ghost use Rattle.sno_cards.specs.Texts.{Placed};
+    ghost use Rattle.sno_cards.specs.inner.Segments.{placed_by, ascend};
 
     ghost Value = { List Placed };
 
-    ghost view = { λ s. placed s.text.items s.places.items };
+    ghost view = { λ s. placed_by s.segments.items 0 s.text.items };
 
-    ghost invariant = { λ s. length s.text.items ≡ length s.places.items };
-}
-
-fn codes(alloc: Global, characters: &[Placed]) -> Result<Vec<u8>, AllocError>
-    ensures { IfOk result (λ codes. codes.items ≡ text_of characters.now) }
-{
-    characters
-        .iter()
-        .map(|character| character.code)
-        .collect(alloc)
-}
-
-fn places(alloc: Global, characters: &[Placed]) -> Result<Vec<Place>, AllocError>
-    ensures { IfOk result (λ places. places.items ≡ places_of characters.now) }
-{
-    characters
-        .iter()
-        .map(|character| character.place)
-        .collect(alloc)
+    ghost invariant = { λ s. ascend 0 s.segments.items (length s.text.items) ≡ true };
 }
 
 #[tactic(auto, using(crate::proofs::Placing::placing))]
 impl StatementText {
-    /// The text of these characters.
+    /// No character.
+    pub(crate) fn new(alloc: Global) -> StatementText
+        ensures { result ≡ [] }
+    {
+        StatementText {
+            text: Vec::new(alloc),
+            segments: Vec::new(alloc),
+        }
+    }
+
+    /// Appends characters that stand on a card from a column on.
     ///
     /// # Errors
     ///
     /// Where a growth was refused.
-    pub(crate) fn from_slice(
-        alloc: Global,
-        characters: &[Placed],
-    ) -> Result<StatementText, AllocError>
-        ensures { IfOk result (λ text. text ≡ characters.now) }
+    pub(crate) fn append(&mut self, card: u64, column: u64, text: &[u8]) -> Result<(), AllocError>
+        requires { column + length text.now < 2 ^ 64 }
+        ensures { OnOk result (self.new ≡ self.old ++ placed_on card column text.now) }
     {
-        Ok(StatementText {
-            text: codes(alloc, characters)?,
-            places: places(alloc, characters)?,
-        })
+        if text.is_empty() {
+            return Ok(());
+        }
+        let place = Place { card, column };
+        let offset = self.text.len();
+        self.segments.push(Segment { offset, place })?;
+        self.text.extend_from_slice(text)
     }
 
     /// The characters, without their places.
@@ -92,12 +123,12 @@ impl StatementText {
         self.text.is_empty()
     }
 
-    /// Where the character at an index stands, counted from 0. There must be one. It takes no memory, and the time does
-    /// not grow with the text.
+    /// Where the character at an index stands, counted from 0. There must be one. It takes no memory, and its time
+    /// grows with the logarithm of the number of cards that the text stands on.
     pub fn place(&self, index: usize) -> Place
         requires { index < length self.now }
         ensures { slice_get (places_of self.now) index ≡ Some result }
     {
-        self.places[index]
+        place_by(&self.segments, index)
     }
 }
