@@ -2,7 +2,7 @@
 use Rattle.std.proofs.Common.{◌≡◌, ◌∙◌, ap, sym, subst, ℕ, ◌+◌, ◌-◌, ◌<◌, ◌≤◌, Bool, true, false, cond, List, [], ◌∷◌, length, take, drop, Option, Some, None, arith, length-drop, refl, map, option_copied, Bor}
 use Rattle.mon_acl.specs.declared.entries.Tag.{Tag}
 use Rattle.mon_acl.specs.Texts.{is_colon, trimmed, is_hash, without_comment}
-use Rattle.mon_acl.specs.Reading.{parts_behind}
+use Rattle.mon_acl.specs.inner.Building.{parts_behind}
 use Rattle.mon_acl.specs.Refusals.{parts_of}
 use Rattle.std.specs.Prelude.{nat_lt}
 use Rattle.std.specs.List.{slice_split, onto_first, position, position_or_len}

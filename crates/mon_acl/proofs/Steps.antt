@@ -1,7 +1,9 @@
 -- Reading with the entries kept in canonical order: what the loop does, piece by piece.
-use Rattle.std.proofs.Common.{◌≡◌, ◌∙◌, ap, sym, subst, refl, ℕ, ◌+◌, Bool, true, false, cond, List, [], ◌∷◌, Option}
-use Rattle.std.specs.Prelude.{Result, Ok, Err, count_by, ◌==◌, ◌&&◌}
+use Rattle.std.proofs.Common.{◌≡◌, ◌∙◌, ap, sym, subst, refl, ℕ, ◌+◌, Bool, true, false, cond, ◌≤◌, List, [], ◌∷◌, ◌++◌, length, length-append, take, drop, arith, Option}
+use Rattle.std.specs.Prelude.{Result, Ok, Err, IsOk, count_by, ◌==◌, ◌&&◌}
+use Rattle.std.specs.Ordering.{is_lt}
 use Rattle.std.specs.List.{list_any}
+use Rattle.std.proofs.lemmas.List.{append_assoc, take-append-drop, take-append-le}
 use Rattle.mon_text.specs.declared.stop.Stop.{Stop}
 use Rattle.mon_text.specs.declared.stop.Stop.TheVariants.{Refused, Memory}
 use Rattle.mon_text.specs.Stops.{Gives}
@@ -9,9 +11,10 @@ use Rattle.mon_acl.specs.declared.entries.Entry.{Entry}
 use Rattle.mon_acl.specs.declared.entries.Tag.TheVariants.{UserObj, GroupObj, Mask, Other}
 use Rattle.mon_acl.specs.declared.refusals.AclError.{AclError}
 use Rattle.mon_acl.specs.declared.refusals.AclError.TheVariants.{Twice, TooMany}
-use Rattle.mon_acl.specs.Entries.{is_for, qualifier, is_named, has_tag, IsCanonical}
+use Rattle.mon_acl.specs.Entries.{compared, is_for, qualifier, is_named, has_tag, IsCanonical}
 use Rattle.mon_acl.specs.Refusals.{◌>>=◌, entry_of, joined, entries_on, entries_of, lacking}
-use Rattle.mon_acl.specs.Reading.{added, piece_added, put_in, arranged, canonical_entries_of, read_pieces, whole}
+use Rattle.mon_acl.specs.Reading.{MayGrow, put_in, arranged, read_pieces, whole}
+use Rattle.mon_acl.specs.inner.Building.{added, piece_added, canonical_entries_of}
 use Rattle.mon_acl.proofs.Order.{any_arranged, count_arranged, put_sorted}
 
 abbrev pub sorted_on : ℕ → List Entry → List (List ℕ) → Result (List Entry) AclError
@@ -34,6 +37,10 @@ stops_of_gives seen Memory read h = tt
 pub exit : {X B : Type 0} (seen : X → B) (r : Result X (Stop AclError)) (s : Stop AclError) (read : Result B AclError) → r ≡ Err s → Stops s read → Gives seen r read
 exit {X = X} seen r (Refused e) read is h = subst (λ (t : Result X (Stop AclError)). Gives seen t read) (sym is) h
 exit {X = X} seen r Memory read is h = subst (λ (t : Result X (Stop AclError)). Gives seen t read) (sym is) tt
+
+-- what a call stops for is what the one that it called stopped for
+pub stopped_for : {X : Type 0} (r : Result X (Stop AclError)) (s t u : Stop AclError) → r ≡ Err s → s ≡ t → r ≡ Err u → t ≡ u
+stopped_for r s t u is same h = cc
 
 -- one more entry, among those in any order and among those in canonical order
 added_arranged : (n : ℕ) (e : Entry) (es : List Entry) → added n e (arranged es) ≡ (joined n e es >>= λ more. Ok (arranged more))
@@ -95,10 +102,113 @@ read_whole texts es lacks h k = at (entries_of texts) h
         ap (λ (o : Option AclError). whole o (arranged all)) (sym (lacking_arranged all) ∙ ap lacking same ∙ sym k) ∙ ap (whole lacks) same
     at (Err e) h = absurd (let t : Err e ≡ Ok es = h in cc)
 
+-- ---- what was read so far
+
+put_longer : (e : Entry) (es : List Entry) → length (put_in e es) ≡ length es + 1
+put_longer e [] = refl
+put_longer e (x ∷ xs) = at (is_lt (compared x e)) (put_longer e xs)
+  where
+    at : (b : Bool) → length (put_in e xs) ≡ length xs + 1 → length (cond b (x ∷ put_in e xs) (e ∷ x ∷ xs)) ≡ length (x ∷ xs) + 1
+    at true h = omega (arith, h)
+    at false h = omega arith
+
+piece_longer : (n : ℕ) (p : List ℕ) (es more : List Entry) → piece_added n p es ≡ Ok more → length more ≡ length es + 1
+piece_longer n p es more h = at (entry_of n p) h
+  where
+    joined_at : (e : Entry) (j : Result (List Entry) AclError) → (j >>= λ _. Ok (put_in e es)) ≡ Ok more → length more ≡ length es + 1
+    joined_at e (Ok all) h = let k : put_in e es ≡ more = (let t : Ok (put_in e es) ≡ Ok more = h in cc) in ap length (sym k) ∙ put_longer e es
+    joined_at e (Err refusal) h = absurd (let k : Err refusal ≡ Ok more = h in cc)
+
+    at : (r : Result Entry AclError) → (r >>= λ e. added n e es) ≡ Ok more → length more ≡ length es + 1
+    at (Ok e) h = joined_at e (joined n e es) h
+    at (Err refusal) h = absurd (let k : Err refusal ≡ Ok more = h in cc)
+
+sorted_append : (n : ℕ) (es : List Entry) (xs ys : List (List ℕ)) (more : List Entry) → sorted_on n es xs ≡ Ok more → sorted_on n es (xs ++ ys) ≡ sorted_on (length xs + n) more ys
+sorted_append n es [] ys more h =
+    let same : es ≡ more = (let k : Ok es ≡ Ok more = h in cc) in
+    let counted : n ≡ 0 + n = omega arith in
+    ap (λ (all : List Entry). sorted_on n all ys) same ∙ ap (λ (k : ℕ). sorted_on k more ys) counted
+sorted_append n es (x ∷ xs) ys more h = at (λ all. sorted_append (n + 1) all xs ys more) (piece_added n x es) h
+  where
+    at : ((all : List Entry) → sorted_on (n + 1) all xs ≡ Ok more → sorted_on (n + 1) all (xs ++ ys) ≡ sorted_on (length xs + (n + 1)) more ys) →
+        (r : Result (List Entry) AclError) → (r >>= λ all. sorted_on (n + 1) all xs) ≡ Ok more →
+        (r >>= λ all. sorted_on (n + 1) all (xs ++ ys)) ≡ sorted_on (length (x ∷ xs) + n) more ys
+    at rest (Ok all) h =
+        let counted : length xs + (n + 1) ≡ length (x ∷ xs) + n = omega arith in
+        rest all h ∙ ap (λ (k : ℕ). sorted_on k more ys) counted
+    at rest (Err refusal) h = absurd (let k : Err refusal ≡ Ok more = h in cc)
+
+prefix_read : (n : ℕ) (es : List Entry) (xs ys : List (List ℕ)) → IsOk (sorted_on n es (xs ++ ys)) → IsOk (sorted_on n es xs)
+prefix_read n es [] ys h = refl
+prefix_read n es (x ∷ xs) ys h = at (λ all. prefix_read (n + 1) all xs ys) (piece_added n x es) h
+  where
+    at : ((all : List Entry) → IsOk (sorted_on (n + 1) all (xs ++ ys)) → IsOk (sorted_on (n + 1) all xs)) →
+        (r : Result (List Entry) AclError) → IsOk (r >>= λ all. sorted_on (n + 1) all (xs ++ ys)) → IsOk (r >>= λ all. sorted_on (n + 1) all xs)
+    at rest (Ok all) h = rest all h
+    at rest (Err refusal) h = h
+
+-- the texts up to the n-th are read, and these entries are theirs
+pub record IsReadTo (texts rest : List (List ℕ)) (n : ℕ) (es : List Entry) : Type 0 where
+  pub before : List (List ℕ)
+  pub parts : texts ≡ before ++ rest
+  pub numbered : length before + 1 ≡ n
+  pub many : length es ≡ length before
+  pub read : sorted_on 1 [] before ≡ Ok es
+
+pub none_read : (texts : List (List ℕ)) (es : List Entry) → es ≡ [] → IsReadTo texts texts 1 es
+none_read texts es none = record { before = []; parts = refl; numbered = refl; many = ap length none; read = ap (λ (all : List Entry). Ok all) (sym none) }
+
+sorted_rest : (texts rest : List (List ℕ)) (n : ℕ) (es : List Entry) → IsReadTo texts rest n es → sorted_on 1 [] texts ≡ sorted_on n es rest
+sorted_rest texts rest n es r =
+    ap (sorted_on 1 []) r.parts ∙ sorted_append 1 [] r.before rest es r.read ∙ ap (λ (k : ℕ). sorted_on k es rest) r.numbered
+
+one_read : (texts : List (List ℕ)) (piece : List ℕ) (rest : List (List ℕ)) (n : ℕ) (es : List Entry) (r : IsReadTo texts (piece ∷ rest) n es) →
+    sorted_on 1 [] (r.before ++ piece ∷ []) ≡ (piece_added n piece es >>= λ more. Ok more)
+one_read texts piece rest n es r = sorted_append 1 [] r.before (piece ∷ []) es r.read ∙ ap (λ (k : ℕ). sorted_on k es (piece ∷ [])) r.numbered
+
+pub more_read : (texts left : List (List ℕ)) (piece : List ℕ) (rest : List (List ℕ)) (n : ℕ) (es more : List Entry) →
+    IsReadTo texts left n es → left ≡ piece ∷ rest → piece_added n piece es ≡ Ok more → IsReadTo texts rest (n + 1) more
+more_read texts left piece rest n es more r is h =
+    let r : IsReadTo texts (piece ∷ rest) n es = subst (λ (ls : List (List ℕ)). IsReadTo texts ls n es) is r in record {
+      before = r.before ++ piece ∷ [];
+      parts = r.parts ∙ sym (append_assoc r.before (piece ∷ []) rest);
+      numbered = omega (arith, length-append r.before (piece ∷ []), r.numbered);
+      many = omega (arith, piece_longer n piece es more h, length-append r.before (piece ∷ []), r.many);
+      read = one_read texts piece rest n es r ∙ ap (λ (j : Result (List Entry) AclError). j >>= λ all. Ok all) h;
+    }
+
+pub all_read : (texts left : List (List ℕ)) (n : ℕ) (es : List Entry) → IsReadTo texts left n es → left ≡ [] → canonical_entries_of texts ≡ Ok es
+all_read texts left n es r is =
+    sym (sorted_as_read 1 [] texts) ∙ sorted_rest texts left n es r ∙ ap (sorted_on n es) is
+
 -- a piece at which the reading stops stops that of the text
-pub piece_stops : (texts : List (List ℕ)) (n : ℕ) (es : List Entry) (piece : List ℕ) (ps : List (List ℕ)) (s : Stop AclError) →
-    sorted_on 1 [] texts ≡ (piece_added n piece es >>= λ more. sorted_on (n + 1) more ps) →
-    Stops s (piece_added n piece es) → Stops s (canonical_entries_of texts)
-piece_stops texts n es piece ps s reads h =
-    subst (λ (r : Result (List Entry) AclError). Stops s r) (sym reads ∙ sorted_as_read 1 [] texts)
-    (stops_then s (piece_added n piece es) (λ more. sorted_on (n + 1) more ps) h)
+pub piece_stops : (texts left : List (List ℕ)) (piece : List ℕ) (rest : List (List ℕ)) (n : ℕ) (es : List Entry) (s : Stop AclError) →
+    IsReadTo texts left n es → left ≡ piece ∷ rest → Stops s (piece_added n piece es) → Stops s (canonical_entries_of texts)
+piece_stops texts left piece rest n es s r is h =
+    subst (λ (r : Result (List Entry) AclError). Stops s r) (sym (sorted_rest texts left n es r ∙ ap (sorted_on n es) is) ∙ sorted_as_read 1 [] texts)
+    (stops_then s (piece_added n piece es) (λ more. sorted_on (n + 1) more rest) h)
+
+-- where one more entry than four asks for memory, the first five were read
+pub piece_grows : (texts left : List (List ℕ)) (piece : List ℕ) (rest : List (List ℕ)) (n : ℕ) (es : List Entry) →
+    IsReadTo texts left n es → left ≡ piece ∷ rest → 4 ≤ length es → IsOk (piece_added n piece es) → MayGrow texts
+piece_grows texts left piece rest n es r is four h =
+    let r : IsReadTo texts (piece ∷ rest) n es = subst (λ (ls : List (List ℕ)). IsReadTo texts ls n es) is r in
+    let known : List (List ℕ) = r.before ++ piece ∷ [] in
+    let long : 5 ≤ length known = omega (arith, length-append r.before (piece ∷ []), r.many) in
+    let all : texts ≡ known ++ rest = r.parts ∙ sym (append_assoc r.before (piece ∷ []) rest) in
+    let read : IsOk (sorted_on 1 [] known) = subst (λ (j : Result (List Entry) AclError). IsOk j) (sym (one_read texts piece rest n es r)) (given (piece_added n piece es) h) in
+    let five : IsOk (sorted_on 1 [] (take 5 known)) =
+    prefix_read 1 [] (take 5 known) (drop 5 known) (subst (λ (ps : List (List ℕ)). IsOk (sorted_on 1 [] ps)) (sym (take-append-drop 5 known)) read) in
+    let same : take 5 known ≡ take 5 texts = sym (ap (take 5) all ∙ take-append-le 5 known rest long) in (
+      omega (arith, ap length all, length-append known rest),
+      subst (λ (ps : List (List ℕ)). IsOk (entries_of ps)) same
+          (of_sorted (entries_of (take 5 known)) (subst (λ (j : Result (List Entry) AclError). IsOk j) (sorted_as_read 1 [] (take 5 known)) five)),
+    )
+  where
+    given : (j : Result (List Entry) AclError) → IsOk j → IsOk (j >>= λ more. Ok more)
+    given (Ok more) h = refl
+    given (Err refusal) h = h
+
+    of_sorted : (j : Result (List Entry) AclError) → IsOk (j >>= λ all. Ok (arranged all)) → IsOk j
+    of_sorted (Ok all) h = refl
+    of_sorted (Err refusal) h = h

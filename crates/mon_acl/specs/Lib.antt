@@ -5,3 +5,4 @@ pub mod Refusals
 pub mod Reading
 pub mod Printing
 pub mod Laws
+pub mod inner

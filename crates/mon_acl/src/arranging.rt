@@ -1,10 +1,12 @@
 //! The entries of a list while it is read: kept in canonical order.
-ghost use Rattle.std.specs.Prelude.{◌≡◌, ◌==◌, ◌≤◌, ◌&&◌, true, false, count_by, insert, length, IfSome, MatchOption};
+ghost use Rattle.std.specs.Prelude.{◌≡◌, ◌==◌, ◌≤◌, ◌&&◌, true, false, count_by, insert, length, IsOk, IsErrOf, IfSome, MatchOption};
 ghost use Rattle.std.specs.List.{list_any};
+ghost use Rattle.smallvec.specs.SmallVec.{small_vec_len};
 ghost use Rattle.mon_text.specs.Stops.{Gives};
 ghost use Rattle.mon_acl.specs.Entries.{has_tag, is_named, is_for, qualifier, IsCanonical};
 ghost use Rattle.mon_acl.specs.Refusals.{lacking};
-ghost use Rattle.mon_acl.specs.Reading.{added, put_in};
+ghost use Rattle.mon_acl.specs.Reading.{put_in};
+ghost use Rattle.mon_acl.specs.inner.Building.{added};
 
 use crate::entries::{Entry, Tag};
 use crate::refusals::AclError;
@@ -24,7 +26,9 @@ pub(crate) fn add(
     n: u64,
 ) -> Result<(), Stop<AclError>>
     requires { IsCanonical entries.old.items }
-    ensures { Gives (λ _. entries.new.items) result (added n entry entries.old.items) }
+    ensures added { Gives (λ _. entries.new.items) result (added n entry entries.old.items) }
+    ensures memory { IsErrOf result Stop.Memory → IsOk (added n entry entries.old.items) × (entries.old.capacity ≤ small_vec_len entries.old) }
+    ensures capacity { entries.old.capacity ≤ entries.new.capacity }
 {
     let Some(place) = free_place(entries.as_slice(), &entry) else {
         return Err(Stop::Refused(AclError::Twice(n)));

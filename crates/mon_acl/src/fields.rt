@@ -2,7 +2,7 @@
 ghost use Rattle.std.specs.Prelude.{◌≡◌, ◌<◌, ◌==◌, ◌∷◌, length, reverse, position, IfSome, option_copied};
 ghost use Rattle.std.specs.List.{slice_split};
 ghost use Rattle.mon_acl.specs.Texts.{is_gap, without_leading_gaps, trimmed};
-ghost use Rattle.mon_acl.specs.Reading.{parts_behind};
+ghost use Rattle.mon_acl.specs.inner.Building.{parts_behind};
 
 /// Whether a byte is a space or a tab.
 pub(crate) fn is_gap(byte: u8) -> bool

@@ -1,13 +1,15 @@
 //! Permission lists, and their text forms.
-ghost use Rattle.std.specs.Prelude.{◌≡◌, ◌++◌, List, length, flat_map, Some, IfOk, IsErrOf, OnOk, slice_get, option_copied};
+ghost use Rattle.std.specs.Prelude.{◌≡◌, ◌++◌, ◌≤◌, List, length, flat_map, Some, IfOk, IsOk, IsErrOf, OnOk, slice_get, option_copied};
+ghost use Rattle.smallvec.specs.SmallVec.{small_vec_len};
 ghost use Rattle.mon_text.specs.Stops.{Gives};
 ghost use Rattle.mon_acl.specs.Printing.{short_form, next_text, mask_of, long_line, long_form};
 ghost use Rattle.mon_acl.specs.declared.entries.Entry.{Entry};
 ghost use Rattle.mon_acl.specs.declared.refusals.AclError.{AclError};
-ghost use Rattle.mon_acl.specs.Texts.{IsShortText, IsLongText};
+ghost use Rattle.mon_acl.specs.Texts.{IsShortText, IsLongText, pieces, long_pieces};
 ghost use Rattle.mon_acl.specs.Refusals.{acl_refusal, long_refusal};
 ghost use Rattle.mon_acl.specs.Entries.{IsAcl, IsCanonical};
-ghost use Rattle.mon_acl.specs.Reading.{pieces_in, piece_added, canonical_entries_of, read_pieces, read_short, read_long};
+ghost use Rattle.mon_acl.specs.Reading.{MayGrow, read_pieces, read_short, read_long};
+ghost use Rattle.mon_acl.specs.inner.Building.{pieces_in, piece_added, canonical_entries_of};
 
 use crate::arranging::{ENTRIES_INLINE, add, lacking};
 use crate::entries::{Entry, Perms, Tag};
@@ -45,12 +47,13 @@ impl Acl {
     /// # Errors
     ///
     /// The first refusal of the text: entry by entry, and then what the whole list lacks.
-    /// `Memory` where a growth was refused.
+    /// `Memory` where a growth was refused, but for a text that is refused within its first five entries or has four.
     pub fn parse_short(alloc: Global, text: &[u8]) -> Result<Acl, Stop<AclError>>
         ensures spelled { IfOk result (λ acl. IsShortText text.now acl) }
         ensures only { (es : List Entry) → IsShortText text.now es → Gives (λ acl. acl) result (Ok es) }
         ensures refused { (refusal : AclError) → IsErrOf result (Stop.Refused refusal) → acl_refusal text.now ≡ Some refusal }
         ensures computed { Gives (λ acl. acl) result (read_short text.now) }
+        ensures memory { IsErrOf result Stop.Memory → MayGrow (pieces text.now) }
     {
         read_list(alloc, Form::Short, text)
     }
@@ -67,6 +70,7 @@ impl Acl {
         ensures only { (es : List Entry) → IsLongText text.now es → Gives (λ acl. acl) result (Ok es) }
         ensures refused { (refusal : AclError) → IsErrOf result (Stop.Refused refusal) → long_refusal text.now ≡ Some refusal }
         ensures computed { Gives (λ acl. acl) result (read_long text.now) }
+        ensures memory { IsErrOf result Stop.Memory → MayGrow (long_pieces text.now) }
     {
         read_list(alloc, Form::Long, text)
     }
@@ -151,7 +155,8 @@ impl Acl {
 
 /// The list that a text spells.
 fn read_list(alloc: Global, form: Form, text: &[u8]) -> Result<Acl, Stop<AclError>>
-    ensures { Gives (λ acl. acl) result (read_pieces (pieces_in form text.now)) }
+    ensures read { Gives (λ acl. acl) result (read_pieces (pieces_in form text.now)) }
+    ensures memory { IsErrOf result Stop.Memory → MayGrow (pieces_in form text.now) }
 {
     let entries = read_entries(alloc, form, text)?;
     match lacking(entries.as_slice()) {
@@ -166,7 +171,8 @@ fn read_entries(
     form: Form,
     text: &[u8],
 ) -> Result<SmallVec<Entry, ENTRIES_INLINE>, Stop<AclError>>
-    ensures { Gives (λ entries. entries.items) result (canonical_entries_of (pieces_in form text.now)) }
+    ensures read { Gives (λ entries. entries.items) result (canonical_entries_of (pieces_in form text.now)) }
+    ensures memory { IsErrOf result Stop.Memory → MayGrow (pieces_in form text.now) }
 {
     let mut entries = SmallVec::new(alloc);
     let mut n = 1;
@@ -186,7 +192,9 @@ fn read_piece(
     piece: &[u8],
 ) -> Result<(), Stop<AclError>>
     requires { IsCanonical entries.old.items }
-    ensures { Gives (λ _. entries.new.items) result (piece_added n piece.now entries.old.items) }
+    ensures added { Gives (λ _. entries.new.items) result (piece_added n piece.now entries.old.items) }
+    ensures memory { IsErrOf result Stop.Memory → IsOk (piece_added n piece.now entries.old.items) × (entries.old.capacity ≤ small_vec_len entries.old) }
+    ensures capacity { entries.old.capacity ≤ entries.new.capacity }
 {
     match entry_of(n, piece) {
         Ok(entry) => add(entries, entry, n),

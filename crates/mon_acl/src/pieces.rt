@@ -2,7 +2,7 @@
 ghost use Rattle.std.specs.Prelude.{◌≡◌, ◌<◌, ◌∷◌, [], MatchOption, IfSome, option_copied};
 ghost use Rattle.std.specs.List.{list_all};
 ghost use Rattle.mon_acl.specs.Texts.{is_gap, without_comment};
-ghost use Rattle.mon_acl.specs.Reading.{pieces_left, left};
+ghost use Rattle.mon_acl.specs.inner.Building.{pieces_left, left};
 ghost use Rattle.mon_acl.specs.declared.pieces.Form.TheVariants as form;
 
 use crate::fields::{cut, is_gap};

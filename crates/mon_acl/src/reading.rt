@@ -2,7 +2,7 @@
 ghost use Rattle.std.specs.Prelude.{◌≡◌, map, option_map, option_copied};
 ghost use Rattle.std.specs.List.{list_all};
 ghost use Rattle.mon_acl.specs.Texts.{is_permission, times, trimmed, is_colon};
-ghost use Rattle.mon_acl.specs.Reading.{parts_behind};
+ghost use Rattle.mon_acl.specs.inner.Building.{parts_behind};
 ghost use Rattle.mon_acl.specs.Refusals.{is_either, type_of, named_type, qualified, parts_of, is_perms, perms_of, entry_of};
 
 use crate::entries::{Entry, Perms, Tag};

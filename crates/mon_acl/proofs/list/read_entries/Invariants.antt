@@ -1,14 +1,15 @@
-use Rattle.std.proofs.Common.{◌≡◌, length, ◌+◌, ◌≤◌, [], option_copied}
+use Rattle.std.proofs.Common.{length, ◌+◌, ◌≤◌, option_copied}
 use Rattle.mon_acl.specs.Entries.{IsCanonical}
-use Rattle.mon_acl.specs.Reading.{pieces_in, pieces_left, left}
-use Rattle.mon_acl.proofs.Steps.{sorted_on}
+use Rattle.mon_acl.specs.inner.Building.{pieces_in, pieces_left, left}
+use Rattle.mon_acl.proofs.Steps.{IsReadTo}
 use Rattle.mon_acl.proofs.list.read_entries.Given as goal
 
 abbrev pub invariant-loop-piece : goal.invariant-loop-piece
 invariant-loop-piece l = record {
   counted : l.n + left (option_copied l.rest) ≤ length l.text + 2;
   canonical : IsCanonical l.entries.items;
-  reads : sorted_on 1 [] (pieces_in l.form l.text) ≡ sorted_on l.n l.entries.items (pieces_left l.form (option_copied l.rest));
+  room : 4 ≤ l.entries.capacity;
+  read : IsReadTo (pieces_in l.form l.text) (pieces_left l.form (option_copied l.rest)) l.n l.entries.items;
 }
 
 abbrev pub decreases-loop-piece : goal.decreases-loop-piece

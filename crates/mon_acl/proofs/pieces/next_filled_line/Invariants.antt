@@ -1,5 +1,5 @@
 use Rattle.std.proofs.Common.{◌≡◌, ◌≤◌, option_copied}
-use Rattle.mon_acl.specs.Reading.{pieces_left, left}
+use Rattle.mon_acl.specs.inner.Building.{pieces_left, left}
 use Rattle.mon_acl.specs.declared.pieces.Form.TheVariants.{Long}
 use Rattle.mon_acl.proofs.pieces.next_filled_line.Given as goal
 

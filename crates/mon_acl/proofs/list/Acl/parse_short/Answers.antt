@@ -3,10 +3,10 @@ use Rattle.mon_acl.proofs.Whole.{gives_list, gives_only, gives_refusal}
 use Rattle.mon_acl.proofs.list.Acl.parse_short.Goals as goal
 
 pub returns-clause-spelled : goal.returns-clause-spelled
-returns-clause-spelled c = gives_list (pieces c.args.text.now) c.read_list.result c.read_list.ensures
+returns-clause-spelled c = gives_list (pieces c.args.text.now) c.read_list.result c.read_list.ensures.read
 
 pub returns-clause-only : goal.returns-clause-only
-returns-clause-only c = gives_only (pieces c.args.text.now) c.read_list.result c.read_list.ensures
+returns-clause-only c = gives_only (pieces c.args.text.now) c.read_list.result c.read_list.ensures.read
 
 pub returns-clause-refused : goal.returns-clause-refused
-returns-clause-refused c = gives_refusal (pieces c.args.text.now) c.read_list.result c.read_list.ensures
+returns-clause-refused c = gives_refusal (pieces c.args.text.now) c.read_list.result c.read_list.ensures.read
