@@ -1,6 +1,6 @@
 -- The loop over the characters of a text: one turn, and the end.
 use Rattle.std.proofs.Common.{arith, ◌≡◌, ℕ, ◌+◌, ◌-◌, ◌≤◌, ◌<◌, List, [], ◌∷◌, ◌++◌, refl, sym, ap, ◌∙◌, subst, append_assoc, append-nil, length, length-append}
-use Rattle.std.specs.Prelude.{Bool, true, false, not, nat_lt, Result, Ok, Err, if◌then◌else◌}
+use Rattle.std.specs.Prelude.{Bool, true, false, not, nat_lt, Result, Ok, Err, is_ok, if◌then◌else◌}
 use Rattle.std.proofs.lemmas.Bool.Decides.{nat_tests}
 use Rattle.mon_text.specs.Lines.{is_line}
 use Rattle.sno_token.specs.declared.Token.{Token}
@@ -14,7 +14,7 @@ use Rattle.sno_lexer.specs.declared.fault.FaultKind.TheVariants.{Foreign, TooMan
 use Rattle.sno_lexer.specs.declared.fault.LexFault.{LexFault}
 use Rattle.sno_lexer.specs.inner.Classes.{begins_with, text_of, class_of, let_in_if_good, is_one_too_many, found, token_of}
 use Rattle.sno_lexer.specs.Listed.{TokenList}
-use Rattle.sno_lexer.specs.inner.Lexing.{after, depth_after, step, taken, on_action, with_first, stage}
+use Rattle.sno_lexer.specs.inner.Lexing.{counted, after, depth_after, step, taken, on_action, with_first, stage}
 
 -- THE LIMITS
 
@@ -44,6 +44,27 @@ step_fits s v w text class false false e = found_fits s text class (class_of s t
 pub taken_fits : (s : Context) (text : List ℕ) (class : Class) → step s text ≡ Take class → is_one_too_many s class ≡ false
 taken_fits s text class e =
     step_fits s (record s { skip = s.skip - 1 }) (record s { after_blank = true }) text class (nat_lt 0 s.skip) (begins_with 32 text) e
+
+let_in_line : (s : Context) (text : List ℕ) (k class : Class) (a b : Bool) → is_line (text_of k text) ≡ a
+    → taken (if not a then Err Foreign else if b then Err TooMany else Ok k) ≡ Take class → is_line (text_of class text) ≡ true
+let_in_line s text k class false b d e = cc
+let_in_line s text k class true true d e = cc
+let_in_line s text k class true false d e = let h : k ≡ class = cc in subst (λ (x : Class). is_line (text_of x text) ≡ true) h d
+
+found_line : (s : Context) (text : List ℕ) (class : Class) (r : Result Class FaultKind) → taken (let_in_if_good s text r) ≡ Take class → is_line (text_of class text) ≡ true
+found_line s text class (Err fault) e = cc
+found_line s text class (Ok k) e = let_in_line s text k class (is_line (text_of k text)) (is_one_too_many s k) refl e
+
+step_line : (s v w : Context) (text : List ℕ) (class : Class) (a b : Bool)
+    → (if a then Pass v else if b then Pass w else taken (found s text)) ≡ Take class → is_line (text_of class text) ≡ true
+step_line s v w text class true b e = cc
+step_line s v w text class false true e = cc
+step_line s v w text class false false e = found_line s text class (class_of s text) e
+
+-- the text of a token that is taken is a line
+pub taken_line : (s : Context) (text : List ℕ) (class : Class) → step s text ≡ Take class → is_line (text_of class text) ≡ true
+taken_line s text class e =
+    step_line s (record s { skip = s.skip - 1 }) (record s { after_blank = true }) text class (nat_lt 0 s.skip) (begins_with 32 text) e
 
 pub tokens_left : (s : Context) (class : Class) → is_one_too_many s class ≡ false → s.tokens < 1000
 tokens_left s class e = grind (arith, nat_tests, e)
@@ -130,3 +151,72 @@ pub at_end : (s : Context) (at : ℕ) (text : List ℕ) (tokens : List Token) (o
     → text ≡ [] → joined tokens offsets (stage s at text) ≡ all → all ≡ Ok (record { tokens = tokens; offsets = offsets })
 at_end s at text tokens offsets all d h =
     sym h ∙ (ap (λ (x : List ℕ). joined tokens offsets (stage s at x)) d ∙ simp append-nil)
+
+-- COUNTING
+
+-- how many tokens there are, after so many
+abbrev pub counted_on : ℕ → Result TokenList LexFault → Result ℕ LexFault
+counted_on n (Ok list) = Ok (n + length list.tokens)
+counted_on n (Err fault) = Err fault
+
+counted_first : (n : ℕ) (token : Token) (at : ℕ) (r : Result TokenList LexFault) → counted_on n (with_first token at r) ≡ counted_on (n + 1) r
+counted_first n token at (Ok list) = ap Ok (omega arith)
+counted_first n token at (Err fault) = refl
+
+pub counted_from_start : (r : Result TokenList LexFault) → counted_on 0 r ≡ counted r
+counted_from_start (Ok list) = ap Ok (omega arith)
+counted_from_start (Err fault) = refl
+
+step_tokens : (s v : Context) (a b : Bool) (r : Result Class FaultKind)
+    → (if a then Pass (record s { skip = s.skip - 1 }) else if b then Pass (record s { after_blank = true }) else taken r) ≡ Pass v → v.tokens ≡ s.tokens
+step_tokens s v true b r e = let d : record s { skip = s.skip - 1 } ≡ v = cc in ap (λ (x : Context). x.tokens) (sym d)
+step_tokens s v false true r e = let d : record s { after_blank = true } ≡ v = cc in ap (λ (x : Context). x.tokens) (sym d)
+step_tokens s v false false (Ok class) e = cc
+step_tokens s v false false (Err fault) e = cc
+
+pub passed_tokens : (s v : Context) (text : List ℕ) → step s text ≡ Pass v → v.tokens ≡ s.tokens
+passed_tokens s v text e = step_tokens s v (nat_lt 0 s.skip) (begins_with 32 text) (found s text) e
+
+pub count_pass : (s v : Context) (at c : ℕ) (text rest : List ℕ) (all : Result ℕ LexFault)
+    → text ≡ c ∷ rest → step s text ≡ Pass v → counted_on s.tokens (stage s at text) ≡ all → counted_on v.tokens (stage v (at + 1) rest) ≡ all
+count_pass s v at c text rest all d e h =
+    ap (λ (n : ℕ). counted_on n (stage v (at + 1) rest)) (passed_tokens s v text e)
+    ∙ (ap (counted_on s.tokens) (sym (on_turn s at c text rest (Pass v) d e)) ∙ h)
+
+pub count_take : (s : Context) (at c n : ℕ) (text rest : List ℕ) (class : Class) (all : Result ℕ LexFault)
+    → text ≡ c ∷ rest → step s text ≡ Take class → counted_on n (stage s at text) ≡ all
+    → counted_on (n + 1) (stage (after s class text) (at + 1) rest) ≡ all
+count_take s at c n text rest class all d e h =
+    sym (counted_first n (token_of s class text) at (stage (after s class text) (at + 1) rest))
+    ∙ (ap (counted_on n) (sym (on_turn s at c text rest (Take class) d e)) ∙ h)
+
+pub count_refuse : (s : Context) (at c n : ℕ) (text rest : List ℕ) (kind : FaultKind) (all : Result ℕ LexFault)
+    → text ≡ c ∷ rest → step s text ≡ Refuse kind → counted_on n (stage s at text) ≡ all → all ≡ Err (record { offset = at; kind = kind })
+count_refuse s at c n text rest kind all d e h = sym h ∙ ap (counted_on n) (on_turn s at c text rest (Refuse kind) d e)
+
+pub count_end : (s : Context) (at n : ℕ) (text : List ℕ) (all : Result ℕ LexFault)
+    → text ≡ [] → counted_on n (stage s at text) ≡ all → all ≡ Ok n
+count_end s at n text all d h =
+    sym h ∙ (ap (λ (x : List ℕ). counted_on n (stage s at x)) d ∙ ap Ok (omega arith))
+
+-- a fault is not counted away
+pub counted_fault : (r : Result TokenList LexFault) (fault : LexFault) → counted r ≡ Err fault → Err fault ≡ r
+counted_fault (Ok list) fault e = cc
+counted_fault (Err other) fault e = cc
+
+-- ROOM
+
+-- what follows from a call that succeeded
+pub on_ok : {X : Type 0} {E : Type 0} {Y : Type 0} (r : Result X E) (x : X) (a b y : Y) → r ≡ Ok x → y ≡ (if is_ok r then a else b) → y ≡ a
+on_ok (Ok z) x a b y e h = h
+on_ok (Err z) x a b y e h = cc
+
+more_left : (n count : ℕ) (r : Result TokenList LexFault) → counted_on (n + 1) r ≡ Ok count → n < count
+more_left n count (Ok list) e = let h : n + 1 + length list.tokens ≡ count = cc in omega (arith, h)
+more_left n count (Err fault) e = cc
+
+-- where a token is taken of a text that has so many, there are fewer before it
+pub room_left : (s : Context) (at c n count : ℕ) (text rest : List ℕ) (class : Class) → text ≡ c ∷ rest → step s text ≡ Take class
+    → counted_on n (stage s at text) ≡ Ok count → n < count
+room_left s at c n count text rest class d e h =
+    more_left n count (stage (after s class text) (at + 1) rest) (count_take s at c n text rest class (Ok count) d e h)

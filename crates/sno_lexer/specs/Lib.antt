@@ -1,3 +1,5 @@
 pub mod Listed
+pub mod Written
+pub mod Following
 pub mod inner
 pub mod Laws

@@ -2,7 +2,7 @@
 ghost use Rattle.std.specs.Prelude.{◌≡◌, ◌==◌, ◌≤◌, ◌<◌, ◌^◌, length, pos, Some, None, nat_lt, if◌then◌else◌};
 ghost use Rattle.std.specs.List.{list_any};
 ghost use Rattle.mon_text.specs.Counts.{value_of};
-ghost use Rattle.sno_lexer.specs.inner.Classes.{quoted_in, begins_with, outcome_of, name_or, class_of_word, class_of_value, class_of_quote, star, class_of_sign, class_of, text_of, further, is_opening, is_one_too_many, let_in, found, run_in, is_blank_or_end, blank_follows};
+ghost use Rattle.sno_lexer.specs.inner.Classes.{at_goto, quoted_in, begins_with, outcome_of, name_or, class_of_word, class_of_value, class_of_quote, star, class_of_sign, class_of, text_of, further, is_opening, is_one_too_many, let_in, found, run_in, is_blank_or_end, blank_follows};
 
 use crate::character::{Run, is_digit, is_letter, is_line, is_quote, run_in};
 use crate::fault::FaultKind;
@@ -79,10 +79,17 @@ fn outcome_of(word: &[u8]) -> Option<Outcome>
     }
 }
 
+// In the goto, with none of its parentheses open.
+pub(crate) fn at_goto(context: Context) -> bool
+    ensures { result ≡ at_goto context }
+{
+    context.in_goto && context.inside == 0
+}
+
 fn class_of_word(context: Context, word: &[u8]) -> Class
     ensures { result ≡ class_of_word context word.now }
 {
-    if context.in_goto && context.inside == 0 {
+    if at_goto(context) {
         match outcome_of(word) {
             None => Class::Identifier,
             Some(outcome) => Class::On(outcome),
@@ -229,7 +236,7 @@ pub(crate) fn is_opening(class: Class) -> bool
 fn is_one_too_many(context: Context, class: Class) -> bool
     ensures { result ≡ is_one_too_many context class }
 {
-    context.tokens >= MOST_TOKENS || is_opening(class) && context.depth >= MOST_OPEN
+    is_opening(class) && context.depth >= MOST_OPEN || context.tokens >= MOST_TOKENS
 }
 
 fn let_in(context: Context, text: &[u8], class: Class) -> Result<Class, FaultKind>

@@ -1,9 +1,10 @@
 //! The characters that tokens are made of, and runs of them.
-ghost use Rattle.std.specs.Prelude.{◌≡◌, ◌==◌, ◌≤◌, length, position, IfSome, ◌||◌};
+ghost use Rattle.std.specs.Prelude.{not, ◌≡◌, ◌==◌, ◌≤◌, length, position, IfSome, ◌||◌};
 ghost use Rattle.std.specs.List.{before_first, position_or_len};
 ghost use Rattle.mon_text.specs.Characters.{is_letter, is_digit, is_printable};
 ghost use Rattle.mon_text.specs.Lines.{is_line};
-ghost use Rattle.sno_lexer.specs.inner.Classes.{ends, is_quote, run_in};
+ghost use Rattle.sno_lexer.specs.Written.{is_identifier_character, is_quote};
+ghost use Rattle.sno_lexer.specs.inner.Classes.{goes_on, run_in};
 
 /// Characters that belong together.
 #[derive(Clone, Copy)]
@@ -48,27 +49,33 @@ pub(crate) fn is_line(text: &[u8]) -> bool
     text.iter().all(|code| is_printable(*code))
 }
 
-// Whether a run can't go on with a character.
-fn ends(run: Run, code: u8) -> bool
-    ensures { result ≡ ends run code }
+// Whether a character goes on with an identifier after its first letter.
+fn is_identifier_character(code: u8) -> bool
+    ensures { result ≡ is_identifier_character code }
+{
+    is_letter(code) || is_digit(code) || code == b'.' || code == b'_'
+}
+
+fn goes_on(run: Run, code: u8) -> bool
+    ensures { result ≡ goes_on run code }
 {
     match run {
-        Run::InIdentifier => !(is_letter(code) || is_digit(code) || code == b'.' || code == b'_'),
-        Run::InInteger => !is_digit(code),
-        Run::InLabel => code == b' ' || code == b')',
-        Run::InLiteral(quote) => code == quote,
+        Run::InIdentifier => is_identifier_character(code),
+        Run::InInteger => is_digit(code),
+        Run::InLabel => !(code == b' ' || code == b')'),
+        Run::InLiteral(quote) => code != quote,
     }
 }
 
 fn end_of(run: Run, text: &[u8]) -> Option<usize>
-    ensures offset { result ≡ position (ends run) text.now }
+    ensures offset { result ≡ position (λ c. not (goes_on run c)) text.now }
     ensures within { IfSome result (λ index. index ≤ length text.now) }
 {
-    text.iter().position(|code| ends(run, *code))
+    text.iter().position(|code| !goes_on(run, *code))
 }
 
 fn length_of(run: Run, text: &[u8]) -> usize
-    ensures offset { result ≡ position_or_len (ends run) text.now }
+    ensures offset { result ≡ position_or_len (λ c. not (goes_on run c)) text.now }
     ensures within { result ≤ length text.now }
 {
     end_of(run, text).unwrap_or(text.len())

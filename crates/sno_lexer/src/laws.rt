@@ -1,8 +1,8 @@
-//! A law over texts: the function's contract is the law, and its body is empty.
+//! Laws over texts: a function's contract is the law, and its body is empty.
 ghost use Rattle.sno_lexer.specs.Laws.{TokensTellTheText};
 
-/// The tokens of a text tell all of what is read of it: it is these tokens written out, each where its offset says, with
-/// nothing but blanks before, between and after them; and each knows whether a blank stands before it and follows it.
+/// The tokens of a text tell it: it is these tokens written out, each as long as it can be, where its offset says, with
+/// nothing but blanks before, between and after them; or they tell it up to its fault.
 pub fn tokens_tell_the_text()
     ensures { TokensTellTheText }
 {}

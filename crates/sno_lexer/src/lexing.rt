@@ -1,8 +1,8 @@
 //! The tokens of a text.
-ghost use Rattle.std.specs.Prelude.{◌≡◌, ◌<◌, ◌≤◌, [], length, IfOk};
-ghost use Rattle.sno_lexer.specs.inner.Lexing.{is_colon, depth_after, after, step, lexed, start, StandsBefore};
+ghost use Rattle.std.specs.Prelude.{◌≡◌, ◌<◌, ◌≤◌, [], length, Ok, IfOk, IsOk, OnErr};
+ghost use Rattle.sno_lexer.specs.inner.Lexing.{is_colon, depth_after, after, step, lexed, counted, start, StandsBefore};
 
-use crate::begin::{Class, Context, begins_with, found, further, is_opening};
+use crate::begin::{Class, Context, at_goto, begins_with, found, further, is_opening};
 use crate::fault::{FaultKind, LexFault};
 use crate::list::Tokens;
 use crate::make::token_of;
@@ -71,9 +71,9 @@ fn after(context: Context, class: Class, text: &[u8]) -> Context
         after_blank: false,
         tokens: context.tokens + 1,
         depth: depth_after(context.depth, class),
-        in_goto: context.in_goto || is_colon(class),
+        in_goto: is_colon(class) || context.in_goto,
         inside: inside_after(context, class),
-        at_target: context.in_goto && context.inside == 0 && is_opening(class),
+        at_target: is_opening(class) && at_goto(context),
     }
 }
 
@@ -98,29 +98,58 @@ fn step(context: Context, text: &[u8]) -> Action
     }
 }
 
-/// Reads the tokens of what stands in a text from an index on, or its first fault.
-///
-/// # Errors
-///
-/// Where a growth was refused.
-pub fn lex(alloc: Global, text: &[u8], from: usize) -> Result<Result<Tokens, LexFault>, AllocError>
-    ensures answer { IfOk result (λ answer. answer ≡ lexed text.now from) }
-    ensures within { IfOk result (λ answer. StandsBefore (length text.now) answer) }
+// How many tokens there are from an offset on, or the first fault. It takes no memory.
+fn count_tokens(text: &[u8], from: usize) -> Result<usize, LexFault>
+    ensures { result ≡ counted (lexed text.now from) }
 {
-    let mut tokens = Vec::new(alloc);
-    let mut offsets = Vec::new(alloc);
+    let mut context = start();
+    for offset in from..text.len() {
+        let rest = &text[offset..];
+        match step(context, rest) {
+            Action::Pass(next) => context = next,
+            Action::Take(class) => context = after(context, class, rest),
+            Action::Refuse(kind) => return Err(LexFault { offset, kind }),
+        }
+    }
+    Ok(context.tokens)
+}
+
+// The tokens of a text that has this many from an offset on, and no fault.
+fn read_tokens(alloc: Global, text: &[u8], from: usize, count: usize) -> Result<Tokens, AllocError>
+    requires { counted (lexed text.now from) ≡ Ok count }
+    ensures { IfOk result (λ tokens. lexed text.now from ≡ Ok tokens) }
+{
+    let mut tokens = Vec::with_capacity(alloc, count)?;
+    let mut offsets = Vec::with_capacity(alloc, count)?;
     let mut context = start();
     for offset in from..text.len() {
         let rest = &text[offset..];
         match step(context, rest) {
             Action::Pass(next) => context = next,
             Action::Take(class) => {
-                tokens.push(token_of(alloc, context, class, rest)?)?;
-                offsets.push(offset)?;
+                let token = token_of(alloc, context, class, rest)?;
+                tokens.push(token).unwrap();
+                offsets.push(offset).unwrap();
                 context = after(context, class, rest);
             }
-            Action::Refuse(kind) => return Ok(Err(LexFault { offset, kind })),
+            Action::Refuse(_) => unreachable!(),
         }
     }
-    Ok(Ok(Tokens::new(tokens, offsets)))
+    Ok(Tokens::new(tokens, offsets))
+}
+
+/// Reads the tokens of what stands in a text from an offset on, or its first fault.
+///
+/// # Errors
+///
+/// Where a growth was refused, and only for a text without fault.
+pub fn lex(alloc: Global, text: &[u8], from: usize) -> Result<Result<Tokens, LexFault>, AllocError>
+    ensures answer { IfOk result (λ answer. answer ≡ lexed text.now from) }
+    ensures within { IfOk result (λ answer. StandsBefore (length text.now) answer) }
+    ensures memory { OnErr result (IsOk (lexed text.now from)) }
+{
+    match count_tokens(text, from) {
+        Ok(count) => Ok(Ok(read_tokens(alloc, text, from, count)?)),
+        Err(fault) => Ok(Err(fault)),
+    }
 }

@@ -1,6 +1,7 @@
 //! The token stage: the text of a statement to its tokens, each with its offset, or the first fault of the stage.
 //!
-//! What a token is, is said in `specs/Kinds.antt`; how tokens follow one another, in `specs/Stage.antt`.
+//! How tokens are written is said in `specs/Written.antt`; how they follow one another, and the faults, in
+//! `specs/Following.antt`. `laws` says that what is read of a text is that, and nothing else.
 #![tactic(auto)]
 
 pub mod begin;

@@ -1,23 +1,24 @@
 //! Tokens, made of what begins a text.
 ghost use Rattle.std.specs.Prelude.{◌≡◌, IfOk};
+ghost use Rattle.mon_text.specs.Lines.{IsLine};
 ghost use Rattle.sno_lexer.specs.inner.Classes.{text_of, kind_of, token_of};
 
 use crate::begin::{Class, Context, blank_follows, text_of};
-use mon_text::{Line, read_line};
+use mon_text::Line;
 use sno_token::{Constant, Part, Token, TokenKind};
 use std::alloc::{AllocError, Global};
 
-// The line that a text is; whoever calls this knows that it is one.
+// The line that a text is. This alone takes memory for what a token holds, and no more than its characters need.
 fn line_of(alloc: Global, text: &[u8]) -> Result<Line, AllocError>
+    requires { IsLine text.now }
     ensures { IfOk result (λ line. line ≡ text.now) }
 {
-    match read_line(alloc, text, usize::MAX) {
-        Ok(line) => Ok(line),
-        Err(_) => Err(AllocError),
-    }
+    let room = Vec::with_capacity(alloc, text.len())?;
+    Ok(Line::in_room(room, text))
 }
 
 fn kind_of(alloc: Global, class: Class, text: &[u8]) -> Result<TokenKind, AllocError>
+    requires { IsLine text.now }
     ensures { IfOk result (λ kind. kind ≡ kind_of class text.now) }
 {
     match class {
@@ -46,6 +47,7 @@ pub(crate) fn token_of(
     class: Class,
     text: &[u8],
 ) -> Result<Token, AllocError>
+    requires { IsLine (text_of class text.now) }
     ensures { IfOk result (λ token. token ≡ token_of context class text.now) }
 {
     Ok(Token {

@@ -1,6 +1,4 @@
--- What begins a token, and how far it goes (after Griswold, Poage and Polonsky, "The SNOBOL4 Programming Language", 2nd
--- edition, chapter 1; the limits, the mark `~` and what a goto's target may hold are own). All of it is said of the text
--- from the token's first character on.
+-- What begins a token, and how far it goes, all of it said of the text from the token's first character on.
 use Rattle.std.specs.Prelude.{ℕ, ◌+◌, ◌-◌, ◌^◌, pos, Bool, true, false, not, ◌&&◌, ◌||◌, ◌==◌, nat_le, nat_lt, List, [], ◌∷◌, length, Option, Some, None, Result, Ok, Err, slice_get, if◌then◌else◌}
 use Rattle.std.specs.List.{before_first, list_any}
 use Rattle.mon_text.specs.Characters.{is_letter, is_digit, is_blank}
@@ -15,6 +13,8 @@ use Rattle.sno_token.specs.declared.TokenKind.{TokenKind}
 use Rattle.sno_token.specs.declared.TokenKind.TheVariants as kind
 use Rattle.sno_token.specs.declared.Part.TheVariants as part
 use Rattle.sno_token.specs.declared.Constant.TheVariants as constant
+use Rattle.sno_lexer.specs.Written.{is_identifier_character, is_label_character, is_letter_or_digit, is_quote}
+use Rattle.sno_lexer.specs.Following.{begins}
 use Rattle.sno_lexer.specs.declared.character.Run.{Run}
 use Rattle.sno_lexer.specs.declared.character.Run.TheVariants.{InIdentifier, InInteger, InLabel, InLiteral}
 use Rattle.sno_lexer.specs.declared.begin.Class.{Class}
@@ -25,19 +25,15 @@ use Rattle.sno_lexer.specs.declared.fault.FaultKind.TheVariants.{BadConstant, Fo
 
 -- RUNS OF CHARACTERS
 
-abbrev pub is_quote : ℕ → Bool
-is_quote c = c == 39 || c == 34
-
--- what a run can't go on with: an identifier goes on with letters, digits, `.` and `_`, an integer with digits, a target's
--- label up to a blank or `)`, and what is quoted up to the same quote
-abbrev pub ends : Run → ℕ → Bool
-ends InIdentifier c = not (is_letter c || is_digit c || c == 46 || c == 95)
-ends InInteger c = not (is_digit c)
-ends InLabel c = is_blank c || c == 41
-ends (InLiteral quote) c = c == quote
+-- what a run goes on with
+abbrev pub goes_on : Run → ℕ → Bool
+goes_on InIdentifier c = is_identifier_character c
+goes_on InInteger c = is_digit c
+goes_on InLabel c = is_label_character c
+goes_on (InLiteral quote) c = not (c == quote)
 
 abbrev pub run_in : Run → List ℕ → List ℕ
-run_in run text = before_first (ends run) text
+run_in run text = before_first (λ c. not (goes_on run c)) text
 
 -- what a literal holds: the text up to the quote that it begins with
 abbrev pub quoted_in : List ℕ → List ℕ
@@ -47,8 +43,7 @@ quoted_in (quote ∷ text) = run_in (InLiteral quote) text
 -- WHAT BEGINS
 
 abbrev pub begins_with : ℕ → List ℕ → Bool
-begins_with code [] = false
-begins_with code (c ∷ cs) = c == code
+begins_with code text = begins (λ c. c == code) text
 
 -- `S` or `F`, and nothing else
 abbrev pub outcome_of : List ℕ → Option Outcome
@@ -59,9 +54,13 @@ abbrev pub name_or : Option Outcome → Class
 name_or None = Identifier
 name_or (Some outcome) = On outcome
 
+-- in the goto, with none of its parentheses open
+abbrev pub at_goto : Context → Bool
+at_goto s = s.in_goto && s.inside == 0
+
 -- an identifier; `S` and `F` alone are outcomes in a goto, where none of its parentheses is open
 abbrev pub class_of_word : Context → List ℕ → Class
-class_of_word s word = if s.in_goto && s.inside == 0 then name_or (outcome_of word) else Identifier
+class_of_word s word = if at_goto s then name_or (outcome_of word) else Identifier
 
 abbrev pub class_of_value : ℕ → Result Class FaultKind
 class_of_value value = if nat_lt value (2 ^ 63) then Ok (Integer (pos value)) else Err BadConstant
@@ -99,7 +98,7 @@ class_of_sign c text =
 abbrev pub class_of : Context → List ℕ → Result Class FaultKind
 class_of s [] = Err Foreign
 class_of s (c ∷ cs) =
-    if s.at_target && (is_letter c || is_digit c) then Ok Label
+    if s.at_target && is_letter_or_digit c then Ok Label
     else if is_letter c then Ok (class_of_word s (run_in InIdentifier (c ∷ cs)))
     else if is_digit c then class_of_value (value_of (run_in InInteger (c ∷ cs)))
     else if is_quote c then class_of_quote c cs
@@ -129,7 +128,7 @@ is_opening class = false
 
 -- the 1,001st token, or the 101st open parenthesis
 abbrev pub is_one_too_many : Context → Class → Bool
-is_one_too_many s class = nat_le 1000 s.tokens || is_opening class && nat_le 100 s.depth
+is_one_too_many s class = is_opening class && nat_le 100 s.depth || nat_le 1000 s.tokens
 
 abbrev pub let_in : Context → List ℕ → Class → Result Class FaultKind
 let_in s text class =

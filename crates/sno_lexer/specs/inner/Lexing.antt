@@ -1,5 +1,5 @@
 -- The tokens of a text, or the first fault of the token stage (own).
-use Rattle.std.specs.Prelude.{ℕ, ◌+◌, ◌-◌, ◌<◌, Bool, true, false, ◌&&◌, ◌||◌, ◌==◌, nat_lt, List, [], ◌∷◌, drop, Result, Ok, Err, if◌then◌else◌}
+use Rattle.std.specs.Prelude.{ℕ, ◌+◌, ◌-◌, ◌<◌, Bool, true, false, ◌&&◌, ◌||◌, ◌==◌, nat_lt, List, [], ◌∷◌, length, drop, Result, Ok, Err, if◌then◌else◌}
 use Rattle.std.specs.List.{All}
 use Rattle.sno_token.specs.declared.Token.{Token}
 use Rattle.sno_lexer.specs.declared.begin.Class.{Class}
@@ -9,7 +9,7 @@ use Rattle.sno_lexer.specs.declared.lexing.Action.{Action}
 use Rattle.sno_lexer.specs.declared.lexing.Action.TheVariants.{Pass, Take, Refuse}
 use Rattle.sno_lexer.specs.declared.fault.FaultKind.{FaultKind}
 use Rattle.sno_lexer.specs.declared.fault.LexFault.{LexFault}
-use Rattle.sno_lexer.specs.inner.Classes.{begins_with, further, found, is_opening, token_of}
+use Rattle.sno_lexer.specs.inner.Classes.{at_goto, begins_with, further, found, is_opening, token_of}
 use Rattle.sno_lexer.specs.Listed.{TokenList}
 
 -- WHERE THE STAGE STANDS
@@ -37,9 +37,9 @@ after s class text = record {
   after_blank = false;
   tokens = s.tokens + 1;
   depth = depth_after s.depth class;
-  in_goto = s.in_goto || is_colon class;
+  in_goto = is_colon class || s.in_goto;
   inside = if s.in_goto then depth_after s.inside class else 0;
-  at_target = s.in_goto && s.inside == 0 && is_opening class;
+  at_target = is_opening class && at_goto s;
 }
 
 -- ONE CHARACTER
@@ -77,6 +77,11 @@ stage s at (c ∷ cs) = on_action s at (c ∷ cs) (step s (c ∷ cs)) (λ next. 
 -- those of a text that is read from an index on
 abbrev pub lexed : List ℕ → ℕ → Result TokenList LexFault
 lexed text from = stage start from (drop from text)
+
+-- how many they are
+abbrev pub counted : Result TokenList LexFault → Result ℕ LexFault
+counted (Ok list) = Ok (length list.tokens)
+counted (Err fault) = Err fault
 
 -- WHERE TOKENS AND FAULTS STAND
 

@@ -1,11 +1,11 @@
 use Rattle.std.proofs.Common.{◌∙◌, ap, length}
 use Rattle.std.specs.Option.{unwrap_or}
-use Rattle.std.specs.Prelude.{Option, ℕ}
-use Rattle.sno_lexer.specs.inner.Classes.{ends}
+use Rattle.std.specs.Prelude.{Option, ℕ, not}
+use Rattle.sno_lexer.specs.inner.Classes.{goes_on}
 use Rattle.sno_lexer.proofs.Runs.{or_length}
 use Rattle.sno_lexer.proofs.character.length_of.Goals as goal
 
 pub returns-clause-offset : goal.returns-clause-offset
 returns-clause-offset c =
     c.unwrap_or.ensures
-    ∙ (ap (λ (o : Option ℕ). unwrap_or o (length c.args.text.now)) c.end_of.ensures.offset ∙ or_length (ends c.args.run) c.args.text.now)
+    ∙ (ap (λ (o : Option ℕ). unwrap_or o (length c.args.text.now)) c.end_of.ensures.offset ∙ or_length (λ d. not (goes_on c.args.run d)) c.args.text.now)
