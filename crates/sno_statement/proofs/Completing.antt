@@ -8,35 +8,36 @@ use Rattle.sno_token.specs.declared.Outcome.{Outcome}
 use Rattle.sno_token.specs.declared.Outcome.TheVariants.{Success, Failure}
 use Rattle.sno_token.specs.declared.Part.TheVariants.{Equals, Colon}
 use Rattle.sno_token.specs.declared.Token.{Token}
-use Rattle.sno_token.specs.declared.Token.TheVariants as token
+use Rattle.sno_token.specs.declared.TokenKind.TheVariants as token
 use Rattle.sno_expression.specs.declared.tree.UnaryOperator.TheVariants.{Indirect}
 use Rattle.sno_expression.specs.Expressions.{Expression, Unary}
-use Rattle.sno_expression.specs.Spelling.{SpellsTo}
+use Rattle.sno_expression.specs.Spelling.{spaced, SpellsTo}
 use Rattle.sno_expression.specs.Reading.{Stops, reading}
 use Rattle.sno_statement.specs.declared.walking.Role.{Role}
+use Rattle.sno_statement.specs.Walking.{stands}
 use Rattle.sno_statement.specs.Statements.{Target, To, Computed, Goto, NoGoto, Always, OnSuccess, OnFailure, OnBoth, Object, NoObject, NullObject, ValueObject, Body, NoBody, Does, Statement, Says, TargetHasLevels, GotoHasLevels, PatternHasLevels, ObjectHasLevels, StatementHasLevels}
 use Rattle.sno_statement.specs.Spelling.{TargetTo, OutcomeTo, LeadsTo, ColonTo, GotoTo, PatternTo, ObjectTo, Spells}
 use Rattle.sno_statement.specs.Reading.{Aimed, computed, inside, target_in, always, both, next, chosen, goto_in, going, ending, giving, by_object, object_in, pattern_then, matching, by_subject, subject_then, acting, by_first, statement_in}
 use Rattle.sno_expression.proofs.Feeding.{complete}
-use Rattle.sno_statement.proofs.Roles.{stands, headed, stops_blank, dollar}
+use Rattle.sno_statement.proofs.Roles.{headed, stops_blank, dollar}
 
-computed_inside : (ts m : List Token) (c : Bool) (k : Mark) → k ≡ Dollar → ts ≡ token.Mark c false k ∷ m → inside ts ≡ computed (reading true ts)
+computed_inside : (ts m : List Token) (c : Bool) (k : Mark) → k ≡ Dollar → ts ≡ spaced c false (token.Mark k) ∷ m → inside ts ≡ computed (reading true ts)
 computed_inside ts m c k e d =
-    let f : ts ≡ token.Mark c false Dollar ∷ m = d ∙ ap (λ (x : Mark). token.Mark c false x ∷ m) e in
+    let f : ts ≡ spaced c false (token.Mark Dollar) ∷ m = d ∙ ap (λ (x : Mark). spaced c false (token.Mark x) ∷ m) e in
     rw f
 
 target_read : (t : Target) (ts rest : List Token) → TargetHasLevels t → TargetTo t ts rest → target_in ts ≡ Aimed t rest
-target_read (To l) ts rest v s = ap target_in s.4
+target_read (To l) ts rest v s = ap target_in s.6
 target_read (Computed t) ts rest v s =
-    let p = s.5 in
-    ap target_in s.4
-    ∙ (computed_inside s.0 p.0 s.2 p.1 (dollar p.1 p.2) p.3
-    ∙ ap computed (complete true (Unary Indirect t) s.2 s.0 (token.Close s.3 ∷ rest) v tt p tt))
+    let p = s.7 in
+    ap target_in s.6
+    ∙ (computed_inside s.0 p.0 s.3 p.1 (dollar p.1 p.2) p.3
+    ∙ ap computed (complete true (Unary Indirect t) s.3 s.0 (spaced s.4 s.5 token.Close ∷ rest) v tt p tt))
 
 -- a target alone is read as one
 alone_read : (t : Target) (ts rest : List Token) → TargetTo t ts rest → goto_in ts ≡ always (target_in ts)
-alone_read (To l) ts rest s = rw s.4
-alone_read (Computed t) ts rest s = rw s.4
+alone_read (To l) ts rest s = rw s.6
+alone_read (Computed t) ts rest s = rw s.6
 
 outcome_read : (o : Outcome) (t : Target) (ts rest : List Token) → TargetHasLevels t → OutcomeTo o t ts rest → goto_in ts ≡ next o t rest
 outcome_read o t ts rest v s = ap goto_in s.3 ∙ ap (chosen o) (target_read t s.0 rest v s.4)
@@ -61,7 +62,7 @@ goto_read (OnBoth s f) ts v p = both_read s f ts v.0 v.1 p
 -- how a reading goes on that has a body so far
 pub record GoesOn (on : List Token → Option Statement) (b : Body) : Type 0 where
   pub ends : on [] ≡ Some (Says b NoGoto)
-  pub goes : (c : Bool) (ts : List Token) → on (token.Part true c Colon ∷ ts) ≡ going b (goto_in ts)
+  pub goes : (c : Bool) (ts : List Token) → on (spaced true c (token.Part Colon) ∷ ts) ≡ going b (goto_in ts)
 
 colon_read : (on : List Token → Option Statement) (b : Body) (g : Goto) (ts : List Token) → GoesOn on b → GotoHasLevels g → ColonTo g ts → on ts ≡ Some (Says b g)
 colon_read on b g ts h v s = ap on s.2 ∙ (h.goes s.1 s.0 ∙ ap (going b) (goto_read g s.0 v s.3))
@@ -127,7 +128,7 @@ on_object s p = record { ends = refl; goes = λ c ts. refl }
 
 -- behind the subject and the pattern
 object_read : (on : List Token → Option Statement) (s : Expression) (p : Option Expression) (o : Object) (g : Goto) (ts m : List Token)
-    → GoesOn on (Does s p NoObject) → ((k : List Token) → on (token.Part true true Equals ∷ k) ≡ object_in s p k)
+    → GoesOn on (Does s p NoObject) → ((k : List Token) → on (spaced true true (token.Part Equals) ∷ k) ≡ object_in s p k)
     → ObjectHasLevels o → GotoHasLevels g → ObjectTo o ts m → GotoTo g m → on ts ≡ Some (Says (Does s p o) g)
 object_read on s p NoObject g ts m h q v w d e = ap on d ∙ last_read on (Does s p NoObject) g m h w e
 object_read on s p NullObject g ts m h q v w d e = ap on d ∙ (q m ∙ last_read (object_in s p) (Does s p NullObject) g m (on_object s p) w e)

@@ -1,11 +1,10 @@
--- How many places want a variable and have none: in a statement, and seen by a walk.
+-- How many places need a variable and have none: in a statement, and seen by a walk.
 use Rattle.std.proofs.Common.{arith, ◌≡◌, ℕ, ◌+◌, List, [], ◌∷◌, refl, ap}
 use Rattle.std.specs.Prelude.{Bool, true, false, not, Option, Some, None, if◌then◌else◌}
 use Rattle.sno_token.specs.declared.Token.{Token}
 use Rattle.sno_expression.specs.declared.tree.UnaryOperator.TheVariants.{Indirect}
-use Rattle.sno_expression.specs.declared.walking.Shape.{Shape}
 use Rattle.sno_expression.specs.Expressions.{Expression, Unary, bit, bad}
-use Rattle.sno_expression.specs.Walking.{shape_of, is_misfit}
+use Rattle.sno_expression.specs.Walking.{is_misfit}
 use Rattle.sno_statement.specs.declared.walking.Stage.{Stage}
 use Rattle.sno_statement.specs.declared.walking.Stage.TheVariants.{In}
 use Rattle.sno_statement.specs.declared.walking.SubjectKind.{SubjectKind}
@@ -116,11 +115,11 @@ pub statement_variables : (s : Statement) → bad_statement s ≡ 0 → Statemen
 statement_variables (Says b g) e = (body_variables b (omega (arith, e)), goto_variables g (omega (arith, e)))
 
 -- what is seen at a token
-abbrev pub count_at : SubjectKind → Stage → Shape → ℕ
-count_at k (In f position) t = bit (is_misfit position t) + bit (is_unset k f (role t))
+abbrev pub count_at : SubjectKind → Stage → Token → ℕ
+count_at k (In f position) t = bit (is_misfit position t.blank_before t.kind) + bit (is_unset k f (role t))
 count_at k _ t = 0
 
-abbrev pub count : SubjectKind → Walk → Shape → ℕ
+abbrev pub count : SubjectKind → Walk → Token → ℕ
 count k (At ps stage) t = count_at k stage t
 
 abbrev pub plus : ℕ → Option ℕ → Option ℕ
@@ -134,7 +133,7 @@ on_walk (Some w) on = on w
 -- how many are seen, where the walk takes the tokens to the end
 abbrev pub walked : SubjectKind → Walk → List Token → Option ℕ
 walked k w [] = if may_end w then Some 0 else None
-walked k w (t ∷ ts) = on_walk (take w (shape_of t)) (λ v. plus (count k w (shape_of t)) (walked k v ts))
+walked k w (t ∷ ts) = on_walk (take w t) (λ v. plus (count k w t) (walked k v ts))
 
 abbrev pub bads : Option Statement → Option ℕ
 bads None = None

@@ -8,7 +8,8 @@ use Rattle.sno_token.specs.declared.Outcome.{Outcome}
 use Rattle.sno_token.specs.declared.Outcome.TheVariants.{Success, Failure}
 use Rattle.sno_token.specs.declared.Part.TheVariants.{Equals, Colon, On, Label}
 use Rattle.sno_token.specs.declared.Token.{Token}
-use Rattle.sno_token.specs.declared.Token.TheVariants as token
+use Rattle.sno_token.specs.declared.TokenKind.TheVariants as token
+use Rattle.sno_expression.specs.Spelling.{spaced}
 use Rattle.sno_expression.specs.declared.tree.BinaryOperator.TheVariants as operator
 use Rattle.sno_expression.specs.declared.tree.UnaryOperator.TheVariants as unary
 use Rattle.sno_expression.specs.Expressions.{Expression, Identifier, Constant, Keyword, Group, Call, Unary, Binary, NoArguments, Omitted, Argument}
@@ -18,27 +19,28 @@ use Rattle.sno_statement.specs.Statements.{Target, To, Computed, NoGoto, Always,
 use Rattle.sno_statement.specs.Faults.{FaultAt, fault}
 use Rattle.sno_statement.specs.Reading.{statement_in}
 
--- tokens, each with whether a blank stands before it, and where it matters whether one follows; every constant is the literal '1'
+-- tokens, each with whether a blank stands before it, and where it matters whether one follows; every constant is the
+-- literal '1'
 abbrev name : Bool → ℕ → Token
-name b c = token.Name b (c ∷ [])
+name b c = spaced b false (token.Identifier (c ∷ []))
 
 abbrev one : Bool → Token
-one b = token.Constant b (constant.Literal (49 ∷ []))
+one b = spaced b false (token.Constant (constant.Literal (49 ∷ [])))
 
 abbrev mark : Bool → Bool → Mark → Token
-mark b a m = token.Mark b a m
+mark b a m = spaced b a (token.Mark m)
 
 abbrev equals : Bool → Bool → Token
-equals b a = token.Part b a Equals
+equals b a = spaced b a (token.Part Equals)
 
 abbrev colon : Bool → Token
-colon b = token.Part b false Colon
+colon b = spaced b false (token.Part Colon)
 
 abbrev label : ℕ → Token
-label c = token.Part false false (Label (c ∷ []))
+label c = spaced false false (token.Part (Label (c ∷ [])))
 
 abbrev on : Bool → Outcome → Token
-on b o = token.Part b false (On o)
+on b o = spaced b false (token.Part (On o))
 
 abbrev variable : ℕ → Expression
 variable c = Identifier (c ∷ [])
@@ -85,7 +87,7 @@ no_pattern_by_power : fault (name true 88 ∷ mark true true Power ∷ one true 
 no_pattern_by_power = refl
 
 -- P . (V)
-assignment_alone : fault (name true 80 ∷ mark true true Dot ∷ token.Open true ∷ name false 86 ∷ token.Close false ∷ []) ≡ Some (FaultAt 1 MissingBlank)
+assignment_alone : fault (name true 80 ∷ mark true true Dot ∷ spaced true false token.Open ∷ name false 86 ∷ spaced false false token.Close ∷ []) ≡ Some (FaultAt 1 MissingBlank)
 assignment_alone = refl
 
 -- A = 1 +
@@ -109,55 +111,55 @@ power_before : fault (name true 65 ∷ equals true true ∷ mark true false Powe
 power_before = refl
 
 -- :S (L)
-success_apart : answer (colon true ∷ on false Success ∷ token.Open true ∷ label 76 ∷ token.Close false ∷ []) ≡ (Some (Says NoBody (OnSuccess (to 76))), None)
+success_apart : answer (colon true ∷ on false Success ∷ spaced true false token.Open ∷ label 76 ∷ spaced false false token.Close ∷ []) ≡ (Some (Says NoBody (OnSuccess (to 76))), None)
 success_apart = refl
 
 -- : S(L) F(M)
-both_apart : answer (colon true ∷ on true Success ∷ token.Open false ∷ label 76 ∷ token.Close false ∷ on true Failure ∷ token.Open false ∷ label 77 ∷ token.Close false ∷ []) ≡ (Some (Says NoBody (OnBoth (to 76) (to 77))), None)
+both_apart : answer (colon true ∷ on true Success ∷ spaced false false token.Open ∷ label 76 ∷ spaced false false token.Close ∷ on true Failure ∷ spaced false false token.Open ∷ label 77 ∷ spaced false false token.Close ∷ []) ≡ (Some (Says NoBody (OnBoth (to 76) (to 77))), None)
 both_apart = refl
 
 -- :F(M)S(L)
-failure_first : answer (colon true ∷ on false Failure ∷ token.Open false ∷ label 77 ∷ token.Close false ∷ on false Success ∷ token.Open false ∷ label 76 ∷ token.Close false ∷ []) ≡ (Some (Says NoBody (OnBoth (to 76) (to 77))), None)
+failure_first : answer (colon true ∷ on false Failure ∷ spaced false false token.Open ∷ label 77 ∷ spaced false false token.Close ∷ on false Success ∷ spaced false false token.Open ∷ label 76 ∷ spaced false false token.Close ∷ []) ≡ (Some (Says NoBody (OnBoth (to 76) (to 77))), None)
 failure_first = refl
 
 -- :(L)
-always : answer (colon true ∷ token.Open false ∷ label 76 ∷ token.Close false ∷ []) ≡ (Some (Says NoBody (Always (to 76))), None)
+always : answer (colon true ∷ spaced false false token.Open ∷ label 76 ∷ spaced false false token.Close ∷ []) ≡ (Some (Says NoBody (Always (to 76))), None)
 always = refl
 
 -- :F( L )
-failure_alone : answer (colon true ∷ on false Failure ∷ token.Open false ∷ token.Part true true (Label (76 ∷ [])) ∷ token.Close true ∷ []) ≡ (Some (Says NoBody (OnFailure (to 76))), None)
+failure_alone : answer (colon true ∷ on false Failure ∷ spaced false false token.Open ∷ spaced true true (token.Part (Label (76 ∷ []))) ∷ spaced true false token.Close ∷ []) ≡ (Some (Says NoBody (OnFailure (to 76))), None)
 failure_alone = refl
 
 -- :S(L)S(M)
-twice_success : fault (colon true ∷ on false Success ∷ token.Open false ∷ label 76 ∷ token.Close false ∷ on false Success ∷ token.Open false ∷ label 77 ∷ token.Close false ∷ []) ≡ Some (FaultAt 5 Unfit)
+twice_success : fault (colon true ∷ on false Success ∷ spaced false false token.Open ∷ label 76 ∷ spaced false false token.Close ∷ on false Success ∷ spaced false false token.Open ∷ label 77 ∷ spaced false false token.Close ∷ []) ≡ Some (FaultAt 5 Unfit)
 twice_success = refl
 
 -- :S(L)F(M)S(L)
-third_outcome : fault (colon true ∷ on false Success ∷ token.Open false ∷ label 76 ∷ token.Close false ∷ on false Failure ∷ token.Open false ∷ label 77 ∷ token.Close false ∷ on false Success ∷ []) ≡ Some (FaultAt 9 Unfit)
+third_outcome : fault (colon true ∷ on false Success ∷ spaced false false token.Open ∷ label 76 ∷ spaced false false token.Close ∷ on false Failure ∷ spaced false false token.Open ∷ label 77 ∷ spaced false false token.Close ∷ on false Success ∷ []) ≡ Some (FaultAt 9 Unfit)
 third_outcome = refl
 
 -- :(L) X
-behind_a_target : fault (colon true ∷ token.Open false ∷ label 76 ∷ token.Close false ∷ name true 88 ∷ []) ≡ Some (FaultAt 4 Unfit)
+behind_a_target : fault (colon true ∷ spaced false false token.Open ∷ label 76 ∷ spaced false false token.Close ∷ name true 88 ∷ []) ≡ Some (FaultAt 4 Unfit)
 behind_a_target = refl
 
 -- :(L)S(M)
-outcome_behind_a_target : fault (colon true ∷ token.Open false ∷ label 76 ∷ token.Close false ∷ on false Success ∷ token.Open false ∷ label 77 ∷ token.Close false ∷ []) ≡ Some (FaultAt 4 Unfit)
+outcome_behind_a_target : fault (colon true ∷ spaced false false token.Open ∷ label 76 ∷ spaced false false token.Close ∷ on false Success ∷ spaced false false token.Open ∷ label 77 ∷ spaced false false token.Close ∷ []) ≡ Some (FaultAt 4 Unfit)
 outcome_behind_a_target = refl
 
 -- :(L)(M)
-two_targets : fault (colon true ∷ token.Open false ∷ label 76 ∷ token.Close false ∷ token.Open false ∷ label 77 ∷ token.Close false ∷ []) ≡ Some (FaultAt 4 Unfit)
+two_targets : fault (colon true ∷ spaced false false token.Open ∷ label 76 ∷ spaced false false token.Close ∷ spaced false false token.Open ∷ label 77 ∷ spaced false false token.Close ∷ []) ≡ Some (FaultAt 4 Unfit)
 two_targets = refl
 
 -- :SF(L)
-both_at_once : fault (colon true ∷ name false 83 ∷ token.Open false ∷ label 76 ∷ token.Close false ∷ []) ≡ Some (FaultAt 1 Unfit)
+both_at_once : fault (colon true ∷ name false 83 ∷ spaced false false token.Open ∷ label 76 ∷ spaced false false token.Close ∷ []) ≡ Some (FaultAt 1 Unfit)
 both_at_once = refl
 
 -- :S F(L)
-outcome_twice_named : fault (colon true ∷ on false Success ∷ on true Failure ∷ token.Open false ∷ label 76 ∷ token.Close false ∷ []) ≡ Some (FaultAt 2 Unfit)
+outcome_twice_named : fault (colon true ∷ on false Success ∷ on true Failure ∷ spaced false false token.Open ∷ label 76 ∷ spaced false false token.Close ∷ []) ≡ Some (FaultAt 2 Unfit)
 outcome_twice_named = refl
 
 -- X :
-colon_alone : fault (name true 88 ∷ token.Part true true Colon ∷ []) ≡ Some (FaultAt 2 Unfit)
+colon_alone : fault (name true 88 ∷ spaced true true (token.Part Colon) ∷ []) ≡ Some (FaultAt 2 Unfit)
 colon_alone = refl
 
 -- :S
@@ -165,63 +167,63 @@ outcome_alone : fault (colon true ∷ on false Success ∷ []) ≡ Some (FaultAt
 outcome_alone = refl
 
 -- :(L
-target_open : fault (colon true ∷ token.Open false ∷ label 76 ∷ []) ≡ Some (FaultAt 3 Unfit)
+target_open : fault (colon true ∷ spaced false false token.Open ∷ label 76 ∷ []) ≡ Some (FaultAt 3 Unfit)
 target_open = refl
 
 -- X:(L)
-colon_touches : fault (name true 88 ∷ colon false ∷ token.Open false ∷ label 76 ∷ token.Close false ∷ []) ≡ Some (FaultAt 1 MissingBlank)
+colon_touches : fault (name true 88 ∷ colon false ∷ spaced false false token.Open ∷ label 76 ∷ spaced false false token.Close ∷ []) ≡ Some (FaultAt 1 MissingBlank)
 colon_touches = refl
 
 -- A = 1:(L)
-colon_touches_the_object : fault (name true 65 ∷ equals true true ∷ one true ∷ colon false ∷ token.Open false ∷ label 76 ∷ token.Close false ∷ []) ≡ Some (FaultAt 3 MissingBlank)
+colon_touches_the_object : fault (name true 65 ∷ equals true true ∷ one true ∷ colon false ∷ spaced false false token.Open ∷ label 76 ∷ spaced false false token.Close ∷ []) ≡ Some (FaultAt 3 MissingBlank)
 colon_touches_the_object = refl
 
 -- :(L) :(M)
-two_colons : fault (colon true ∷ token.Open false ∷ label 76 ∷ token.Close false ∷ colon true ∷ token.Open false ∷ label 77 ∷ token.Close false ∷ []) ≡ Some (FaultAt 4 Unfit)
+two_colons : fault (colon true ∷ spaced false false token.Open ∷ label 76 ∷ spaced false false token.Close ∷ colon true ∷ spaced false false token.Open ∷ label 77 ∷ spaced false false token.Close ∷ []) ≡ Some (FaultAt 4 Unfit)
 two_colons = refl
 
 -- :($A)
-computed : answer (colon true ∷ token.Open false ∷ mark false false Dollar ∷ name false 65 ∷ token.Close false ∷ []) ≡ (Some (Says NoBody (Always (Computed (variable 65)))), None)
+computed : answer (colon true ∷ spaced false false token.Open ∷ mark false false Dollar ∷ name false 65 ∷ spaced false false token.Close ∷ []) ≡ (Some (Says NoBody (Always (Computed (variable 65)))), None)
 computed = refl
 
 -- :S( $A('1') )
-computed_call : answer (colon true ∷ on false Success ∷ token.Open false ∷ mark true false Dollar ∷ name false 65 ∷ token.Open false ∷ one false ∷ token.Close false ∷ token.Close true ∷ []) ≡ (Some (Says NoBody (OnSuccess (Computed (Call (65 ∷ []) (Argument NoArguments unit))))), None)
+computed_call : answer (colon true ∷ on false Success ∷ spaced false false token.Open ∷ mark true false Dollar ∷ name false 65 ∷ spaced false false token.Open ∷ one false ∷ spaced false false token.Close ∷ spaced true false token.Close ∷ []) ≡ (Some (Says NoBody (OnSuccess (Computed (Call (65 ∷ []) (Argument NoArguments unit))))), None)
 computed_call = refl
 
 -- :($A B)
-computed_of_two : fault (colon true ∷ token.Open false ∷ mark false false Dollar ∷ name false 65 ∷ name true 66 ∷ token.Close false ∷ []) ≡ Some (FaultAt 4 Unfit)
+computed_of_two : fault (colon true ∷ spaced false false token.Open ∷ mark false false Dollar ∷ name false 65 ∷ name true 66 ∷ spaced false false token.Close ∷ []) ≡ Some (FaultAt 4 Unfit)
 computed_of_two = refl
 
 -- :($A'B')
-computed_that_touches : fault (colon true ∷ token.Open false ∷ mark false false Dollar ∷ name false 65 ∷ one false ∷ token.Close false ∷ []) ≡ Some (FaultAt 4 Unfit)
+computed_that_touches : fault (colon true ∷ spaced false false token.Open ∷ mark false false Dollar ∷ name false 65 ∷ one false ∷ spaced false false token.Close ∷ []) ≡ Some (FaultAt 4 Unfit)
 computed_that_touches = refl
 
 -- :($ A)
-computed_apart : fault (colon true ∷ token.Open false ∷ mark false true Dollar ∷ name true 65 ∷ token.Close false ∷ []) ≡ Some (FaultAt 2 MissingBlank)
+computed_apart : fault (colon true ∷ spaced false false token.Open ∷ mark false true Dollar ∷ name true 65 ∷ spaced false false token.Close ∷ []) ≡ Some (FaultAt 2 MissingBlank)
 computed_apart = refl
 
 -- :($A (1))
-computed_and_a_group : fault (colon true ∷ token.Open false ∷ mark false false Dollar ∷ name false 65 ∷ token.Open true ∷ one false ∷ token.Close false ∷ token.Close false ∷ []) ≡ Some (FaultAt 4 MissingBlank)
+computed_and_a_group : fault (colon true ∷ spaced false false token.Open ∷ mark false false Dollar ∷ name false 65 ∷ spaced true false token.Open ∷ one false ∷ spaced false false token.Close ∷ spaced false false token.Close ∷ []) ≡ Some (FaultAt 4 MissingBlank)
 computed_and_a_group = refl
 
 -- :(-A)
-computed_by_minus : fault (colon true ∷ token.Open false ∷ mark false false Minus ∷ name false 65 ∷ token.Close false ∷ []) ≡ Some (FaultAt 2 Unfit)
+computed_by_minus : fault (colon true ∷ spaced false false token.Open ∷ mark false false Minus ∷ name false 65 ∷ spaced false false token.Close ∷ []) ≡ Some (FaultAt 2 Unfit)
 computed_by_minus = refl
 
 -- :($A
-computed_open : fault (colon true ∷ token.Open false ∷ mark false false Dollar ∷ name false 65 ∷ []) ≡ Some (FaultAt 4 Unfit)
+computed_open : fault (colon true ∷ spaced false false token.Open ∷ mark false false Dollar ∷ name false 65 ∷ []) ≡ Some (FaultAt 4 Unfit)
 computed_open = refl
 
 -- &X(1)
-keyword_touched : fault (mark true false Ampersand ∷ name false 88 ∷ token.Open false ∷ one false ∷ token.Close false ∷ []) ≡ Some (FaultAt 2 MissingBlank)
+keyword_touched : fault (mark true false Ampersand ∷ name false 88 ∷ spaced false false token.Open ∷ one false ∷ spaced false false token.Close ∷ []) ≡ Some (FaultAt 2 MissingBlank)
 keyword_touched = refl
 
 -- A = *F(1)
-unevaluated_touched : fault (name true 65 ∷ equals true true ∷ mark true false Star ∷ name false 70 ∷ token.Open false ∷ one false ∷ token.Close false ∷ []) ≡ Some (FaultAt 4 MissingBlank)
+unevaluated_touched : fault (name true 65 ∷ equals true true ∷ mark true false Star ∷ name false 70 ∷ spaced false false token.Open ∷ one false ∷ spaced false false token.Close ∷ []) ≡ Some (FaultAt 4 MissingBlank)
 unevaluated_touched = refl
 
 -- &(X)
-keyword_of_a_group : fault (mark true false Ampersand ∷ token.Open false ∷ name false 88 ∷ token.Close false ∷ []) ≡ Some (FaultAt 1 Unfit)
+keyword_of_a_group : fault (mark true false Ampersand ∷ spaced false false token.Open ∷ name false 88 ∷ spaced false false token.Close ∷ []) ≡ Some (FaultAt 1 Unfit)
 keyword_of_a_group = refl
 
 -- A = *1
@@ -241,11 +243,11 @@ fault_before_equals : fault (one true ∷ name true 66 ∷ mark false false Plus
 fault_before_equals = refl
 
 -- F(1) = 1
-call_set : fault (name true 70 ∷ token.Open false ∷ one false ∷ token.Close false ∷ equals true true ∷ one true ∷ []) ≡ Some (FaultAt 0 NoVariable)
+call_set : fault (name true 70 ∷ spaced false false token.Open ∷ one false ∷ spaced false false token.Close ∷ equals true true ∷ one true ∷ []) ≡ Some (FaultAt 0 NoVariable)
 call_set = refl
 
 -- (X) =
-group_set : fault (token.Open true ∷ name false 88 ∷ token.Close false ∷ equals true true ∷ []) ≡ Some (FaultAt 0 NoVariable)
+group_set : fault (spaced true false token.Open ∷ name false 88 ∷ spaced false false token.Close ∷ equals true true ∷ []) ≡ Some (FaultAt 0 NoVariable)
 group_set = refl
 
 -- .X = 1
@@ -253,19 +255,19 @@ name_set : fault (mark true false Dot ∷ name false 88 ∷ equals true true ∷
 name_set = refl
 
 -- 'A' P . (V) = 1
-subject_before_pattern : fault (one true ∷ name true 80 ∷ mark true true Dot ∷ token.Open true ∷ name false 86 ∷ token.Close false ∷ equals true true ∷ one true ∷ []) ≡ Some (FaultAt 0 NoVariable)
+subject_before_pattern : fault (one true ∷ name true 80 ∷ mark true true Dot ∷ spaced true false token.Open ∷ name false 86 ∷ spaced false false token.Close ∷ equals true true ∷ one true ∷ []) ≡ Some (FaultAt 0 NoVariable)
 subject_before_pattern = refl
 
 -- X P . (V)
-assigned_group : fault (name true 88 ∷ name true 80 ∷ mark true true Dot ∷ token.Open true ∷ name false 86 ∷ token.Close false ∷ []) ≡ Some (FaultAt 3 NoVariable)
+assigned_group : fault (name true 88 ∷ name true 80 ∷ mark true true Dot ∷ spaced true false token.Open ∷ name false 86 ∷ spaced false false token.Close ∷ []) ≡ Some (FaultAt 3 NoVariable)
 assigned_group = refl
 
 -- A = P . (V)
-assigned_group_in_the_object : fault (name true 65 ∷ equals true true ∷ name true 80 ∷ mark true true Dot ∷ token.Open true ∷ name false 86 ∷ token.Close false ∷ []) ≡ Some (FaultAt 4 NoVariable)
+assigned_group_in_the_object : fault (name true 65 ∷ equals true true ∷ name true 80 ∷ mark true true Dot ∷ spaced true false token.Open ∷ name false 86 ∷ spaced false false token.Close ∷ []) ≡ Some (FaultAt 4 NoVariable)
 assigned_group_in_the_object = refl
 
 -- X P . F(V) /
-assigned_call : fault (name true 88 ∷ name true 80 ∷ mark true true Dot ∷ name true 70 ∷ token.Open false ∷ name false 86 ∷ token.Close false ∷ mark true false Slash ∷ []) ≡ Some (FaultAt 3 NoVariable)
+assigned_call : fault (name true 88 ∷ name true 80 ∷ mark true true Dot ∷ name true 70 ∷ spaced false false token.Open ∷ name false 86 ∷ spaced false false token.Close ∷ mark true false Slash ∷ []) ≡ Some (FaultAt 3 NoVariable)
 assigned_call = refl
 
 -- X @1
@@ -285,7 +287,7 @@ indirect_set : answer (mark true false Dollar ∷ name false 88 ∷ equals true 
 indirect_set = refl
 
 -- $F() P =
-indirect_call_replaced : answer (mark true false Dollar ∷ name false 70 ∷ token.Open false ∷ token.Close false ∷ name true 80 ∷ equals true true ∷ []) ≡ (Some (Says (Does (Unary unary.Indirect (Call (70 ∷ []) (Omitted NoArguments))) (Some (variable 80)) NullObject) (NoGoto)), None)
+indirect_call_replaced : answer (mark true false Dollar ∷ name false 70 ∷ spaced false false token.Open ∷ spaced false false token.Close ∷ name true 80 ∷ equals true true ∷ []) ≡ (Some (Says (Does (Unary unary.Indirect (Call (70 ∷ []) (Omitted NoArguments))) (Some (variable 80)) NullObject) (NoGoto)), None)
 indirect_call_replaced = refl
 
 -- 'A' P
@@ -309,7 +311,7 @@ equals_first : fault (equals true true ∷ one true ∷ []) ≡ Some (FaultAt 0 
 equals_first = refl
 
 -- (A = 1)
-equals_in_parentheses : fault (token.Open true ∷ name false 65 ∷ equals true true ∷ one true ∷ token.Close false ∷ []) ≡ Some (FaultAt 2 Unfit)
+equals_in_parentheses : fault (spaced true false token.Open ∷ name false 65 ∷ equals true true ∷ one true ∷ spaced false false token.Close ∷ []) ≡ Some (FaultAt 2 Unfit)
 equals_in_parentheses = refl
 
 -- A = 1 = 2
@@ -325,7 +327,7 @@ null_object : answer (name true 65 ∷ equals true true ∷ []) ≡ (Some (Says 
 null_object = refl
 
 -- A = :(L)
-null_object_and_goto : answer (name true 65 ∷ equals true true ∷ colon true ∷ token.Open false ∷ label 76 ∷ token.Close false ∷ []) ≡ (Some (Says (Does (variable 65) None NullObject) (Always (to 76))), None)
+null_object_and_goto : answer (name true 65 ∷ equals true true ∷ colon true ∷ spaced false false token.Open ∷ label 76 ∷ spaced false false token.Close ∷ []) ≡ (Some (Says (Does (variable 65) None NullObject) (Always (to 76))), None)
 null_object_and_goto = refl
 
 -- A'B'
@@ -341,19 +343,19 @@ operator_touches : fault (name true 65 ∷ equals true true ∷ name true 66 ∷
 operator_touches = refl
 
 -- A = (1 + 2
-group_open : fault (name true 65 ∷ equals true true ∷ token.Open true ∷ one false ∷ mark true true Plus ∷ one true ∷ []) ≡ Some (FaultAt 6 Unfit)
+group_open : fault (name true 65 ∷ equals true true ∷ spaced true false token.Open ∷ one false ∷ mark true true Plus ∷ one true ∷ []) ≡ Some (FaultAt 6 Unfit)
 group_open = refl
 
 -- A = ()
-group_of_nothing : fault (name true 65 ∷ equals true true ∷ token.Open true ∷ token.Close false ∷ []) ≡ Some (FaultAt 3 Unfit)
+group_of_nothing : fault (name true 65 ∷ equals true true ∷ spaced true false token.Open ∷ spaced false false token.Close ∷ []) ≡ Some (FaultAt 3 Unfit)
 group_of_nothing = refl
 
 -- A = (1,2)
-group_of_two : fault (name true 65 ∷ equals true true ∷ token.Open true ∷ one false ∷ token.Comma false ∷ one false ∷ token.Close false ∷ []) ≡ Some (FaultAt 4 Unfit)
+group_of_two : fault (name true 65 ∷ equals true true ∷ spaced true false token.Open ∷ one false ∷ spaced false false token.Comma ∷ one false ∷ spaced false false token.Close ∷ []) ≡ Some (FaultAt 4 Unfit)
 group_of_two = refl
 
 -- A = 1)
-closed_again : fault (name true 65 ∷ equals true true ∷ one true ∷ token.Close false ∷ []) ≡ Some (FaultAt 3 Unfit)
+closed_again : fault (name true 65 ∷ equals true true ∷ one true ∷ spaced false false token.Close ∷ []) ≡ Some (FaultAt 3 Unfit)
 closed_again = refl
 
 -- A = -1 ** 1
@@ -365,5 +367,5 @@ label_alone : answer ([]) ≡ (Some (Says NoBody (NoGoto)), None)
 label_alone = refl
 
 -- X (A | B) . C = 'D' :F(L)
-replacement : answer (name true 88 ∷ token.Open true ∷ name false 65 ∷ mark true true Bar ∷ name true 66 ∷ token.Close false ∷ mark true true Dot ∷ name true 67 ∷ equals true true ∷ one true ∷ colon true ∷ on false Failure ∷ token.Open false ∷ label 76 ∷ token.Close false ∷ []) ≡ (Some (Says (Does (variable 88) (Some (Binary operator.Conditional (Group (Binary operator.Alternation (variable 65) (variable 66))) (variable 67))) (ValueObject unit)) (OnFailure (to 76))), None)
+replacement : answer (name true 88 ∷ spaced true false token.Open ∷ name false 65 ∷ mark true true Bar ∷ name true 66 ∷ spaced false false token.Close ∷ mark true true Dot ∷ name true 67 ∷ equals true true ∷ one true ∷ colon true ∷ on false Failure ∷ spaced false false token.Open ∷ label 76 ∷ spaced false false token.Close ∷ []) ≡ (Some (Says (Does (variable 88) (Some (Binary operator.Conditional (Group (Binary operator.Alternation (variable 65) (variable 66))) (variable 67))) (ValueObject unit)) (OnFailure (to 76))), None)
 replacement = refl

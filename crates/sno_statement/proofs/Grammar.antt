@@ -2,9 +2,8 @@
 use Rattle.std.proofs.Common.{arith, ◌≡◌, ℕ, ◌+◌, List, [], ◌∷◌, refl, ap, ◌∙◌, subst}
 use Rattle.std.specs.Prelude.{Bool, true, false, nat_le, Option, Some, None, Ok, Err, if◌then◌else◌}
 use Rattle.sno_token.specs.declared.Token.{Token}
-use Rattle.sno_expression.specs.declared.walking.Shape.{Shape}
 use Rattle.sno_expression.specs.Expressions.{bit}
-use Rattle.sno_expression.specs.Walking.{shape_of, is_misfit, misfit_index}
+use Rattle.sno_expression.specs.Walking.{is_misfit, misfit_index}
 use Rattle.sno_statement.specs.declared.fault.Fault.{Fault}
 use Rattle.sno_statement.specs.declared.fault.FaultKind.TheVariants.{Unfit}
 use Rattle.sno_statement.specs.declared.statement.Statement.{Statement as AStatement}
@@ -45,12 +44,12 @@ plus_passes (Some f) n (Some m) p = p
 
 passes : (k : SubjectKind) (ts : List Token) (w : Walk) (i : ℕ) → Passes (refusal_from i w ts) (walked k w ts)
 passes k [] w i = end_passes (may_end w) i
-passes k (t ∷ ts) w i = at (take w (shape_of t)) (λ v. passes k ts v (i + 1))
+passes k (t ∷ ts) w i = at (take w t) (λ v. passes k ts v (i + 1))
   where
     at : (o : Option Walk) → ((v : Walk) → Passes (refusal_from (i + 1) v ts) (walked k v ts))
-        → Passes (then_on o (Some (FaultAt i (refused_as w (shape_of t)))) (λ v. refusal_from (i + 1) v ts)) (on_walk o (λ v. plus (count k w (shape_of t)) (walked k v ts)))
+        → Passes (then_on o (Some (FaultAt i (refused_as w t.kind))) (λ v. refusal_from (i + 1) v ts)) (on_walk o (λ v. plus (count k w t) (walked k v ts)))
     at None on = tt
-    at (Some v) on = plus_passes (refusal_from (i + 1) v ts) (count k w (shape_of t)) (walked k v ts) (on v)
+    at (Some v) on = plus_passes (refusal_from (i + 1) v ts) (count k w t) (walked k v ts) (on v)
 
 -- nothing is refused exactly where a statement is read
 abbrev Agrees : Option Fault → Option Statement → Type 0
@@ -111,23 +110,23 @@ no_bit : (b : Bool) (i : ℕ) → note b i ≡ None → bit b ≡ 0
 no_bit true i e = cc
 no_bit false i e = refl
 
-stage_unnoted : (k : SubjectKind) (i : ℕ) (s : Stage) (t : Shape) → count_at k s t ≡ 0 → noted_at k i s t ≡ None
+stage_unnoted : (k : SubjectKind) (i : ℕ) (s : Stage) (t : Token) → count_at k s t ≡ 0 → noted_at k i s t ≡ None
 stage_unnoted k i (In f p) t e =
-    least_none (note (is_misfit p t) (misfit_index i p)) (note (is_unset k f (role t)) 0)
-    (no_note (is_misfit p t) (misfit_index i p) (omega (arith, e))) (no_note (is_unset k f (role t)) 0 (omega (arith, e)))
+    least_none (note (is_misfit p t.blank_before t.kind) (misfit_index i p)) (note (is_unset k f (role t)) 0)
+    (no_note (is_misfit p t.blank_before t.kind) (misfit_index i p) (omega (arith, e))) (no_note (is_unset k f (role t)) 0 (omega (arith, e)))
 stage_unnoted k i _ t e = refl
 
-stage_uncounted : (k : SubjectKind) (i : ℕ) (s : Stage) (t : Shape) → noted_at k i s t ≡ None → count_at k s t ≡ 0
+stage_uncounted : (k : SubjectKind) (i : ℕ) (s : Stage) (t : Token) → noted_at k i s t ≡ None → count_at k s t ≡ 0
 stage_uncounted k i (In f p) t e =
-    let a = no_bit (is_misfit p t) (misfit_index i p) (none_least (note (is_misfit p t) (misfit_index i p)) (note (is_unset k f (role t)) 0) e) in
-    let b = no_bit (is_unset k f (role t)) 0 (none_later (note (is_misfit p t) (misfit_index i p)) (note (is_unset k f (role t)) 0) e) in
+    let a = no_bit (is_misfit p t.blank_before t.kind) (misfit_index i p) (none_least (note (is_misfit p t.blank_before t.kind) (misfit_index i p)) (note (is_unset k f (role t)) 0) e) in
+    let b = no_bit (is_unset k f (role t)) 0 (none_later (note (is_misfit p t.blank_before t.kind) (misfit_index i p)) (note (is_unset k f (role t)) 0) e) in
     omega (arith, a, b)
 stage_uncounted k i _ t e = refl
 
-unnoted_here : (k : SubjectKind) (i : ℕ) (w : Walk) (t : Shape) → count k w t ≡ 0 → noted_here k i w t ≡ None
+unnoted_here : (k : SubjectKind) (i : ℕ) (w : Walk) (t : Token) → count k w t ≡ 0 → noted_here k i w t ≡ None
 unnoted_here k i (At ps s) t e = stage_unnoted k i s t e
 
-uncounted_here : (k : SubjectKind) (i : ℕ) (w : Walk) (t : Shape) → noted_here k i w t ≡ None → count k w t ≡ 0
+uncounted_here : (k : SubjectKind) (i : ℕ) (w : Walk) (t : Token) → noted_here k i w t ≡ None → count k w t ≡ 0
 uncounted_here k i (At ps s) t e = stage_uncounted k i s t e
 
 plus_left : (n : ℕ) (o : Option ℕ) → plus n o ≡ Some 0 → n ≡ 0
@@ -140,15 +139,15 @@ plus_right n (Some m) e = let d : n + m ≡ 0 = cc in let c : m ≡ 0 = omega (a
 
 unnoted : (k : SubjectKind) (ts : List Token) (w : Walk) (i : ℕ) → walked k w ts ≡ Some 0 → noted_from k i w ts ≡ None
 unnoted k [] w i e = refl
-unnoted k (t ∷ ts) w i e = at (take w (shape_of t)) e (λ v d. unnoted k ts v (i + 1) d)
+unnoted k (t ∷ ts) w i e = at (take w t) e (λ v d. unnoted k ts v (i + 1) d)
   where
-    at : (o : Option Walk) → on_walk o (λ v. plus (count k w (shape_of t)) (walked k v ts)) ≡ Some 0 → ((v : Walk) → walked k v ts ≡ Some 0 → noted_from k (i + 1) v ts ≡ None)
-        → then_note o (λ v. least (noted_here k i w (shape_of t)) (noted_from k (i + 1) v ts)) ≡ None
+    at : (o : Option Walk) → on_walk o (λ v. plus (count k w t) (walked k v ts)) ≡ Some 0 → ((v : Walk) → walked k v ts ≡ Some 0 → noted_from k (i + 1) v ts ≡ None)
+        → then_note o (λ v. least (noted_here k i w t) (noted_from k (i + 1) v ts)) ≡ None
     at None e on = refl
     at (Some v) e on =
-        least_none (noted_here k i w (shape_of t)) (noted_from k (i + 1) v ts)
-        (unnoted_here k i w (shape_of t) (plus_left (count k w (shape_of t)) (walked k v ts) e))
-        (on v (plus_right (count k w (shape_of t)) (walked k v ts) e))
+        least_none (noted_here k i w t) (noted_from k (i + 1) v ts)
+        (unnoted_here k i w t (plus_left (count k w t) (walked k v ts) e))
+        (on v (plus_right (count k w t) (walked k v ts) e))
 
 plus_some : (m n : ℕ) (o : Option ℕ) → plus m o ≡ Some n → m ≡ 0 → o ≡ Some n
 plus_some m n None e z = cc
@@ -160,14 +159,14 @@ end_zero false n e = cc
 
 uncounted : (k : SubjectKind) (ts : List Token) (w : Walk) (i n : ℕ) → walked k w ts ≡ Some n → noted_from k i w ts ≡ None → n ≡ 0
 uncounted k [] w i n e d = end_zero (may_end w) n e
-uncounted k (t ∷ ts) w i n e d = at (take w (shape_of t)) e d (λ v c b. uncounted k ts v (i + 1) n c b)
+uncounted k (t ∷ ts) w i n e d = at (take w t) e d (λ v c b. uncounted k ts v (i + 1) n c b)
   where
-    at : (o : Option Walk) → on_walk o (λ v. plus (count k w (shape_of t)) (walked k v ts)) ≡ Some n → then_note o (λ v. least (noted_here k i w (shape_of t)) (noted_from k (i + 1) v ts)) ≡ None
+    at : (o : Option Walk) → on_walk o (λ v. plus (count k w t) (walked k v ts)) ≡ Some n → then_note o (λ v. least (noted_here k i w t) (noted_from k (i + 1) v ts)) ≡ None
         → ((v : Walk) → walked k v ts ≡ Some n → noted_from k (i + 1) v ts ≡ None → n ≡ 0) → n ≡ 0
     at None e d on = cc
     at (Some v) e d on =
-        on v (plus_some (count k w (shape_of t)) n (walked k v ts) e (uncounted_here k i w (shape_of t) (none_least (noted_here k i w (shape_of t)) (noted_from k (i + 1) v ts) d)))
-        (none_later (noted_here k i w (shape_of t)) (noted_from k (i + 1) v ts) d)
+        on v (plus_some (count k w t) n (walked k v ts) e (uncounted_here k i w t (none_least (noted_here k i w t) (noted_from k (i + 1) v ts) d)))
+        (none_later (noted_here k i w t) (noted_from k (i + 1) v ts) d)
 
 all_seen : (ts : List Token) (s : Statement) → StatementHasLevels s → Spells s ts → walked (subject_kind ts) begins ts ≡ Some (bad_statement s)
 all_seen ts s v p = statement_walks ts ∙ ap bads (statement_read s ts v p)

@@ -3,7 +3,6 @@ use Rattle.std.proofs.Common.{arith, ◌≡◌, ℕ, ◌+◌, ◌<◌, length, L
 use Rattle.std.specs.Prelude.{Bool, true, false, nat_le, Option, Some, None, if◌then◌else◌}
 use Rattle.std.proofs.lemmas.Bool.Decides.{nat_tests}
 use Rattle.sno_token.specs.declared.Token.{Token}
-use Rattle.sno_expression.specs.Walking.{shape_of}
 use Rattle.sno_statement.specs.declared.fault.Fault.{Fault}
 use Rattle.sno_statement.specs.declared.fault.FaultKind.{FaultKind}
 use Rattle.sno_statement.specs.declared.fault.FaultKind.TheVariants.{Unfit}
@@ -36,29 +35,29 @@ least_least (Some i) (Some j) (Some k) = at (nat_le i j) (nat_le j k) refl refl
 pub more : (ts : List Token) (i : ℕ) (d : Token) → i < length ts → drop i ts ≡ get_or ts i d ∷ drop (i + 1) ts
 more ts i d lt = rw add-one (drop-cons ts i d lt)
 
-pub on_refusal : (w v : Walk) (t : Token) (ts m : List Token) (i : ℕ) (f : Option Fault) → ts ≡ t ∷ m → take w (shape_of t) ≡ Some v → f ≡ refusal_from i w ts → f ≡ refusal_from (i + 1) v m
+pub on_refusal : (w v : Walk) (t : Token) (ts m : List Token) (i : ℕ) (f : Option Fault) → ts ≡ t ∷ m → take w t ≡ Some v → f ≡ refusal_from i w ts → f ≡ refusal_from (i + 1) v m
 on_refusal w v t ts m i f d e h =
     h ∙ (ap (refusal_from i w) d
-    ∙ ap (λ (o : Option Walk). then_on o (Some (FaultAt i (refused_as w (shape_of t)))) (λ x. refusal_from (i + 1) x m)) e)
+    ∙ ap (λ (o : Option Walk). then_on o (Some (FaultAt i (refused_as w t.kind))) (λ x. refusal_from (i + 1) x m)) e)
 
-pub here_refusal : (w : Walk) (t : Token) (ts m : List Token) (i : ℕ) (f : Option Fault) (k : FaultKind) → ts ≡ t ∷ m → take w (shape_of t) ≡ None → k ≡ refused_as w (shape_of t) → f ≡ refusal_from i w ts → f ≡ Some (FaultAt i k)
+pub here_refusal : (w : Walk) (t : Token) (ts m : List Token) (i : ℕ) (f : Option Fault) (k : FaultKind) → ts ≡ t ∷ m → take w t ≡ None → k ≡ refused_as w t.kind → f ≡ refusal_from i w ts → f ≡ Some (FaultAt i k)
 here_refusal w t ts m i f k d e c h =
     h ∙ (ap (refusal_from i w) d
-    ∙ (ap (λ (o : Option Walk). then_on o (Some (FaultAt i (refused_as w (shape_of t)))) (λ x. refusal_from (i + 1) x m)) e
+    ∙ (ap (λ (o : Option Walk). then_on o (Some (FaultAt i (refused_as w t.kind))) (λ x. refusal_from (i + 1) x m)) e
     ∙ ap (λ (x : FaultKind). Some (FaultAt i x)) (sym c)))
 
-pub on_note : (k : SubjectKind) (w v : Walk) (t : Token) (ts m : List Token) (i : ℕ) (l n f : Option ℕ) → ts ≡ t ∷ m → take w (shape_of t) ≡ Some v
-    → n ≡ least l (noted_here k i w (shape_of t)) → f ≡ least l (noted_from k i w ts) → f ≡ least n (noted_from k (i + 1) v m)
+pub on_note : (k : SubjectKind) (w v : Walk) (t : Token) (ts m : List Token) (i : ℕ) (l n f : Option ℕ) → ts ≡ t ∷ m → take w t ≡ Some v
+    → n ≡ least l (noted_here k i w t) → f ≡ least l (noted_from k i w ts) → f ≡ least n (noted_from k (i + 1) v m)
 on_note k w v t ts m i l n f d e c h =
     h ∙ (ap (λ (x : List Token). least l (noted_from k i w x)) d
-    ∙ (ap (λ (o : Option Walk). least l (then_note o (λ x. least (noted_here k i w (shape_of t)) (noted_from k (i + 1) x m)))) e
-    ∙ (sym (least_least l (noted_here k i w (shape_of t)) (noted_from k (i + 1) v m))
+    ∙ (ap (λ (o : Option Walk). least l (then_note o (λ x. least (noted_here k i w t) (noted_from k (i + 1) x m)))) e
+    ∙ (sym (least_least l (noted_here k i w t) (noted_from k (i + 1) v m))
     ∙ ap (λ (x : Option ℕ). least x (noted_from k (i + 1) v m)) (sym c))))
 
-pub here_note : (k : SubjectKind) (w : Walk) (t : Token) (ts m : List Token) (i : ℕ) (l f : Option ℕ) → ts ≡ t ∷ m → take w (shape_of t) ≡ None → f ≡ least l (noted_from k i w ts) → f ≡ l
+pub here_note : (k : SubjectKind) (w : Walk) (t : Token) (ts m : List Token) (i : ℕ) (l f : Option ℕ) → ts ≡ t ∷ m → take w t ≡ None → f ≡ least l (noted_from k i w ts) → f ≡ l
 here_note k w t ts m i l f d e h =
     h ∙ (ap (λ (x : List Token). least l (noted_from k i w x)) d
-    ∙ (ap (λ (o : Option Walk). least l (then_note o (λ x. least (noted_here k i w (shape_of t)) (noted_from k (i + 1) x m)))) e
+    ∙ (ap (λ (o : Option Walk). least l (then_note o (λ x. least (noted_here k i w t) (noted_from k (i + 1) x m)))) e
     ∙ least_none l))
 
 -- at the end

@@ -6,10 +6,11 @@ use Rattle.sno_token.specs.declared.Outcome.{Outcome}
 use Rattle.sno_token.specs.declared.Outcome.TheVariants.{Success, Failure}
 use Rattle.sno_token.specs.declared.Part.TheVariants.{On, Label}
 use Rattle.sno_token.specs.declared.Token.{Token}
-use Rattle.sno_token.specs.declared.Token.TheVariants as token
+use Rattle.sno_token.specs.declared.TokenKind.{TokenKind}
+use Rattle.sno_token.specs.declared.TokenKind.TheVariants as token
 use Rattle.sno_expression.specs.declared.tree.UnaryOperator.TheVariants.{Indirect}
 use Rattle.sno_expression.specs.Expressions.{Expression, Unary, bit, bad}
-use Rattle.sno_expression.specs.Walking.{shape_of}
+use Rattle.sno_expression.specs.Spelling.{spaced}
 use Rattle.sno_expression.specs.Reading.{Reading, Read, reading}
 use Rattle.sno_statement.specs.declared.walking.Role.{Role}
 use Rattle.sno_statement.specs.declared.walking.Role.TheVariants.{Assigns, Goes, Follows, Touches}
@@ -17,9 +18,9 @@ use Rattle.sno_statement.specs.declared.walking.Field.TheVariants.{Subject, Patt
 use Rattle.sno_statement.specs.declared.walking.Stage.TheVariants.{AfterEquals, AfterColon, AfterOutcome, InTarget, AfterLabel, AfterTarget}
 use Rattle.sno_statement.specs.declared.walking.SubjectKind.{SubjectKind}
 use Rattle.sno_statement.specs.Statements.{Target, To, Computed, Goto, NoGoto, Always, OnBoth, NoObject, NullObject, ValueObject, Body, NoBody, Does, Says, kind_of, can_be_set}
-use Rattle.sno_statement.specs.Walking.{At, role, advanced, begins, other, at_first, after_subject, after_pattern, after_object, after_equals}
+use Rattle.sno_statement.specs.Walking.{At, role, advanced, begins, other, at_first, after_subject, after_pattern, after_object, after_element, after_equals, after_colon, after_outcome, after_target}
 use Rattle.sno_statement.specs.Faults.{is_unset, subject_kind}
-use Rattle.sno_statement.specs.Reading.{Aim, Missed, Aimed, closing, computed, inside, target_in, at_last, always, both, next, chosen, goto_in, going, ends_by, ending, giving, by_object, object_in, by_pattern, pattern_then, matching, by_subject, subject_then, acting, by_first, statement_in}
+use Rattle.sno_statement.specs.Reading.{Aim, Missed, Aimed, closed_by, closing, computed, inside_by, inside, target_by, target_in, at_last, always, both, next_by, next, chosen, goto_by, goto_in, going, ends_by, ending, giving, by_object, object_in, by_pattern, pattern_then, matching, by_subject, subject_then, acting, by_first, statement_in}
 use Rattle.sno_expression.proofs.Sound.{sound}
 use Rattle.sno_statement.proofs.Roles.{indirect_of, Apart, apart, kind_spelled}
 use Rattle.sno_statement.proofs.Counts.{bad_target, bad_goto, bad_body, unset, plus, on_walk, walked, bads, plus_zero, plus_plus, some_plus}
@@ -30,35 +31,48 @@ abbrev aimed : SubjectKind → Option Outcome → Aim → Option ℕ
 aimed k l Missed = None
 aimed k l (Aimed t ts) = plus (bad_target t) (walked k (At [] (AfterTarget l)) ts)
 
+closed_walks : (k : SubjectKind) (l : Option Outcome) (n : Target) (t : TokenKind) (ts : List Token) → bad_target n ≡ 0 → on_walk (advanced [] (after_element l t)) (λ v. plus 0 (walked k v ts)) ≡ aimed k l (closed_by t n ts)
+closed_walks k l n token.Close ts e = ap (λ (x : ℕ). plus x (walked k (At [] (AfterTarget l)) ts)) (sym e)
+closed_walks k l n _ ts e = refl
+
 label_walks : (k : SubjectKind) (l : Option Outcome) (n : List ℕ) (ts : List Token) → walked k (At [] (AfterLabel l)) ts ≡ aimed k l (closing (To n) ts)
 label_walks k l n [] = refl
-label_walks k l n (token.Close b ∷ ts) = refl
-label_walks k l n _ = refl
+label_walks k l n (t ∷ ts) = closed_walks k l (To n) t.kind ts refl
 
-element_walks : (k : SubjectKind) (l : Option Outcome) (t : Expression) (ts : List Token) → plus (bad (Unary Indirect t)) (left k (InComputed l) ts) ≡ aimed k l (closing (Computed t) ts)
-element_walks k l t [] = refl
-element_walks k l t (token.Close b ∷ ts) = ap (plus (bad (Unary Indirect t))) (plus_zero (walked k (At [] (AfterTarget l)) ts))
-element_walks k l t _ = refl
+element_closed : (k : SubjectKind) (l : Option Outcome) (n : Expression) (t : TokenKind) (ts : List Token)
+    → plus (bad (Unary Indirect n)) (on_walk (advanced [] (after_element l t)) (λ v. plus 0 (walked k v ts))) ≡ aimed k l (closed_by t (Computed n) ts)
+element_closed k l n token.Close ts = ap (plus (bad (Unary Indirect n))) (plus_zero (walked k (At [] (AfterTarget l)) ts))
+element_closed k l n _ ts = refl
 
-computed_walks : (k : SubjectKind) (l : Option Outcome) (b c : Bool) (ts : List Token) (x : Reading) → reading true (token.Mark b c Dollar ∷ ts) ≡ x
+element_walks : (k : SubjectKind) (l : Option Outcome) (n : Expression) (ts : List Token) → plus (bad (Unary Indirect n)) (left k (InComputed l) ts) ≡ aimed k l (closing (Computed n) ts)
+element_walks k l n [] = refl
+element_walks k l n (t ∷ ts) = element_closed k l n t.kind ts
+
+computed_walks : (k : SubjectKind) (l : Option Outcome) (b c : Bool) (ts : List Token) (x : Reading) → reading true (spaced b c (token.Mark Dollar) ∷ ts) ≡ x
     → after_field k (InComputed l) x ≡ aimed k l (computed x)
 computed_walks k l b c ts (Read None rest) e = refl
 computed_walks k l b c ts (Read (Some u) rest) e =
-    let i = sound true (token.Mark b c Dollar ∷ ts) rest u e in
+    let i = sound true (spaced b c (token.Mark Dollar) ∷ ts) rest u e in
     let d = indirect_of u b c i.blank ts rest i.suits i.spells in
     subst (λ (x : Expression). plus (bad x) (left k (InComputed l) rest) ≡ aimed k l (computed (Read (Some x) rest))) (sym d.1) (element_walks k l d.0 rest)
 
+inside_by_walks : (k : SubjectKind) (l : Option Outcome) (b a : Bool) (t : TokenKind) (ts : List Token) → walked k (At [] (InTarget l)) (spaced b a t ∷ ts) ≡ aimed k l (inside_by b a t ts)
+inside_by_walks k l b a (token.Part (Label n)) ts = plus_zero (walked k (At [] (AfterLabel l)) ts) ∙ label_walks k l n ts
+inside_by_walks k l b a (token.Mark Dollar) ts =
+    enter_walks k (InComputed l) (spaced b a (token.Mark Dollar)) ts refl ∙ computed_walks k l b a ts (reading true (spaced b a (token.Mark Dollar) ∷ ts)) refl
+inside_by_walks k l b a _ ts = refl
+
 inside_walks : (k : SubjectKind) (l : Option Outcome) (ts : List Token) → walked k (At [] (InTarget l)) ts ≡ aimed k l (inside ts)
 inside_walks k l [] = refl
-inside_walks k l (token.Part b c (Label n) ∷ ts) = plus_zero (walked k (At [] (AfterLabel l)) ts) ∙ label_walks k l n ts
-inside_walks k l (token.Mark b c Dollar ∷ ts) =
-    enter_walks k (InComputed l) (token.Mark b c Dollar) ts refl ∙ computed_walks k l b c ts (reading true (token.Mark b c Dollar ∷ ts)) refl
-inside_walks k l _ = refl
+inside_walks k l (t ∷ ts) = inside_by_walks k l t.blank_before t.blank_after t.kind ts
+
+target_by_walks : (k : SubjectKind) (l : Option Outcome) (t : TokenKind) (ts : List Token) → on_walk (advanced [] (after_outcome l t)) (λ v. plus 0 (walked k v ts)) ≡ aimed k l (target_by t ts)
+target_by_walks k l token.Open ts = plus_zero (walked k (At [] (InTarget l)) ts) ∙ inside_walks k l ts
+target_by_walks k l _ ts = refl
 
 target_walks : (k : SubjectKind) (l : Option Outcome) (ts : List Token) → walked k (At [] (AfterOutcome l)) ts ≡ aimed k l (target_in ts)
 target_walks k l [] = refl
-target_walks k l (token.Open b ∷ ts) = plus_zero (walked k (At [] (InTarget l)) ts) ∙ inside_walks k l ts
-target_walks k l _ = refl
+target_walks k l (t ∷ ts) = target_by_walks k l t.kind ts
 
 abbrev goto_bads : Option Goto → Option ℕ
 goto_bads None = None
@@ -87,24 +101,30 @@ failure_walks k t (Aimed u ts) =
 second_walks : (k : SubjectKind) (n : ℕ) (ts : List Token) → plus n (plus 0 (walked k (At [] (AfterOutcome None)) ts)) ≡ plus n (aimed k None (target_in ts))
 second_walks k n ts = ap (plus n) (plus_zero (walked k (At [] (AfterOutcome None)) ts) ∙ target_walks k None ts)
 
+next_by_walks : (k : SubjectKind) (o : Outcome) (t : Target) (u : TokenKind) (ts : List Token)
+    → plus (bad_target t) (on_walk (advanced [] (after_target (Some (other o)) u)) (λ v. plus 0 (walked k v ts))) ≡ goto_bads (next_by o t u ts)
+next_by_walks k Success t (token.Part (On Failure)) ts = second_walks k (bad_target t) ts ∙ success_walks k t (target_in ts)
+next_by_walks k Failure t (token.Part (On Success)) ts = second_walks k (bad_target t) ts ∙ failure_walks k t (target_in ts)
+next_by_walks k Success t _ ts = refl
+next_by_walks k Failure t _ ts = refl
+
 next_walks : (k : SubjectKind) (o : Outcome) (t : Target) (ts : List Token) → plus (bad_target t) (walked k (At [] (AfterTarget (Some (other o)))) ts) ≡ goto_bads (next o t ts)
 next_walks k Success t [] = some_plus (bad_target t) (bad_target t) refl
 next_walks k Failure t [] = some_plus (bad_target t) (bad_target t) refl
-next_walks k Success t (token.Part b c (On Failure) ∷ ts) = second_walks k (bad_target t) ts ∙ success_walks k t (target_in ts)
-next_walks k Failure t (token.Part b c (On Success) ∷ ts) = second_walks k (bad_target t) ts ∙ failure_walks k t (target_in ts)
-next_walks k Success t _ = refl
-next_walks k Failure t _ = refl
+next_walks k o t (u ∷ ts) = next_by_walks k o t u.kind ts
 
 chosen_walks : (k : SubjectKind) (o : Outcome) (a : Aim) → aimed k (Some (other o)) a ≡ goto_bads (chosen o a)
 chosen_walks k o Missed = refl
 chosen_walks k o (Aimed t ts) = next_walks k o t ts
 
+goto_by_walks : (k : SubjectKind) (t : TokenKind) (ts : List Token) → on_walk (advanced [] (after_colon t)) (λ v. plus 0 (walked k v ts)) ≡ goto_bads (goto_by t ts)
+goto_by_walks k token.Open ts = plus_zero (walked k (At [] (InTarget None)) ts) ∙ (inside_walks k None ts ∙ always_walks k (inside ts))
+goto_by_walks k (token.Part (On o)) ts = plus_zero (walked k (At [] (AfterOutcome (Some (other o)))) ts) ∙ (target_walks k (Some (other o)) ts ∙ chosen_walks k o (target_in ts))
+goto_by_walks k _ ts = refl
+
 goto_walks : (k : SubjectKind) (ts : List Token) → walked k (At [] AfterColon) ts ≡ goto_bads (goto_in ts)
 goto_walks k [] = refl
-goto_walks k (token.Open b ∷ ts) = plus_zero (walked k (At [] (InTarget None)) ts) ∙ (inside_walks k None ts ∙ always_walks k (inside ts))
-goto_walks k (token.Part b c (On o) ∷ ts) =
-    plus_zero (walked k (At [] (AfterOutcome (Some (other o)))) ts) ∙ (target_walks k (Some (other o)) ts ∙ chosen_walks k o (target_in ts))
-goto_walks k _ = refl
+goto_walks k (t ∷ ts) = goto_by_walks k t.kind ts
 
 going_bads : (n : ℕ) (b : Body) (o : Option Goto) → n ≡ bad_body b → plus n (goto_bads o) ≡ bads (going b o)
 going_bads n b None e = refl
@@ -118,7 +138,7 @@ stop_walks n b e = some_plus n (bad_body b + 0) (omega (arith, e))
 
 ending_walks : (k : SubjectKind) (n : ℕ) (b : Body) (ts : List Token) → n ≡ bad_body b → plus n (left k Object ts) ≡ bads (ending b ts)
 ending_walks k n b [] e = stop_walks n b e
-ending_walks k n b (t ∷ ts) e = at (role (shape_of t))
+ending_walks k n b (t ∷ ts) e = at (role t)
   where
     at : (r : Role) → plus n (on_walk (advanced [] (after_object r)) (λ v. plus (bit (is_unset k Object r)) (walked k v ts))) ≡ bads (ends_by r b ts)
     at Goes = going_walks k n b ts e
@@ -132,9 +152,9 @@ giving_walks k n s p (Read (Some o) rest) e =
 
 object_walks : (k : SubjectKind) (n : ℕ) (s : Expression) (p : Option Expression) (ts : List Token) → n ≡ bad_body (Does s p NullObject) → plus n (walked k (At [] AfterEquals) ts) ≡ bads (object_in s p ts)
 object_walks k n s p [] e = stop_walks n (Does s p NullObject) e
-object_walks k n s p (t ∷ ts) e = at (role (shape_of t)) refl
+object_walks k n s p (t ∷ ts) e = at (role t) refl
   where
-    at : (r : Role) → role (shape_of t) ≡ r → plus n (on_walk (advanced [] (after_equals r (shape_of t))) (λ v. plus 0 (walked k v ts))) ≡ bads (by_object r s p t ts)
+    at : (r : Role) → role t ≡ r → plus n (on_walk (advanced [] (after_equals r t)) (λ v. plus 0 (walked k v ts))) ≡ bads (by_object r s p t ts)
     at Assigns d = refl
     at Goes d = going_walks k n (Does s p NullObject) ts e
     at Follows d = ap (plus n) (enter_walks k Object t ts refl) ∙ giving_walks k n s p (reading false (t ∷ ts)) e
@@ -146,7 +166,7 @@ equals_walks k n m s p ts e = plus_plus n m (n + m) (walked k (At [] AfterEquals
 
 pattern_walks : (k : SubjectKind) (n : ℕ) (s p : Expression) (ts : List Token) → k ≡ kind_of s → n ≡ bad_body (Does s (Some p) NoObject) → plus n (left k Pattern ts) ≡ bads (pattern_then s p ts)
 pattern_walks k n s p [] d e = stop_walks n (Does s (Some p) NoObject) e
-pattern_walks k n s p (t ∷ ts) d e = at (role (shape_of t))
+pattern_walks k n s p (t ∷ ts) d e = at (role t)
   where
     at : (r : Role) → plus n (on_walk (advanced [] (after_pattern r)) (λ v. plus (bit (is_unset k Pattern r)) (walked k v ts))) ≡ bads (by_pattern r s p ts)
     at Assigns =
@@ -162,11 +182,11 @@ matching_walks k n s (Read (Some p) rest) d e =
     ∙ pattern_walks k (n + bad p) s p rest d (omega (arith, e))
 
 subject_walks : (k : SubjectKind) (n : ℕ) (s : Expression) (ts : List Token)
-    → ((t : Token) (m : List Token) → ts ≡ t ∷ m → (role (shape_of t) ≡ Touches → ⊥) → k ≡ kind_of s) → n ≡ bad_body (Does s None NoObject) → plus n (left k Subject ts) ≡ bads (subject_then s ts)
+    → ((t : Token) (m : List Token) → ts ≡ t ∷ m → (role t ≡ Touches → ⊥) → k ≡ kind_of s) → n ≡ bad_body (Does s None NoObject) → plus n (left k Subject ts) ≡ bads (subject_then s ts)
 subject_walks k n s [] d e = stop_walks n (Does s None NoObject) e
-subject_walks k n s (t ∷ ts) d e = at (role (shape_of t)) refl
+subject_walks k n s (t ∷ ts) d e = at (role t) refl
   where
-    at : (r : Role) → role (shape_of t) ≡ r → plus n (on_walk (advanced [] (after_subject r (shape_of t))) (λ v. plus (bit (is_unset k Subject r)) (walked k v ts))) ≡ bads (by_subject r s t ts)
+    at : (r : Role) → role t ≡ r → plus n (on_walk (advanced [] (after_subject r t)) (λ v. plus (bit (is_unset k Subject r)) (walked k v ts))) ≡ bads (by_subject r s t ts)
     at Assigns h =
         let i : k ≡ kind_of s = d t ts refl (λ j. cc (h, j)) in
         let c : bit (not (can_be_set k false)) ≡ unset (kind_of s) false NullObject = ap (λ (x : SubjectKind). bit (not (can_be_set x false))) i in
@@ -191,9 +211,9 @@ acting_walks ts (Read (Some s) rest) e =
 
 pub statement_walks : (ts : List Token) → walked (subject_kind ts) begins ts ≡ bads (statement_in ts)
 statement_walks [] = refl
-statement_walks (t ∷ ts) = at (role (shape_of t)) refl
+statement_walks (t ∷ ts) = at (role t) refl
   where
-    at : (r : Role) → role (shape_of t) ≡ r → on_walk (advanced [] (at_first r (shape_of t))) (λ v. plus 0 (walked (subject_kind (t ∷ ts)) v ts)) ≡ bads (by_first r t ts)
+    at : (r : Role) → role t ≡ r → on_walk (advanced [] (at_first r t)) (λ v. plus 0 (walked (subject_kind (t ∷ ts)) v ts)) ≡ bads (by_first r t ts)
     at Assigns e = refl
     at Goes e = plus_zero (walked (subject_kind (t ∷ ts)) (At [] AfterColon) ts) ∙ (goto_walks (subject_kind (t ∷ ts)) ts ∙ first_bads (goto_in ts))
     at Follows e =

@@ -6,18 +6,18 @@ use Rattle.sno_token.specs.declared.Outcome.{Outcome}
 use Rattle.sno_token.specs.declared.Outcome.TheVariants.{Success, Failure}
 use Rattle.sno_token.specs.declared.Part.TheVariants.{Equals, Colon, On, Label}
 use Rattle.sno_token.specs.declared.Token.{Token}
-use Rattle.sno_token.specs.declared.Token.TheVariants as token
+use Rattle.sno_token.specs.declared.TokenKind.{TokenKind}
+use Rattle.sno_token.specs.declared.TokenKind.TheVariants as token
 use Rattle.sno_expression.specs.declared.tree.UnaryOperator.TheVariants.{Indirect}
 use Rattle.sno_expression.specs.Expressions.{Expression, Unary, HasLevels, IsOperand}
-use Rattle.sno_expression.specs.Spelling.{SpellsTo}
-use Rattle.sno_expression.specs.Walking.{shape_of}
+use Rattle.sno_expression.specs.Spelling.{spaced, SpellsTo}
 use Rattle.sno_expression.specs.Reading.{Reading, Read, reading}
 use Rattle.sno_statement.specs.declared.walking.Role.{Role}
 use Rattle.sno_statement.specs.declared.walking.Role.TheVariants.{Assigns, Goes, Follows, Touches}
 use Rattle.sno_statement.specs.Statements.{Target, To, Computed, Goto, NoGoto, Always, OnSuccess, OnFailure, OnBoth, NoObject, NullObject, ValueObject, Body, NoBody, Does, Statement, Says, TargetHasLevels, GotoHasLevels, PatternHasLevels, BodyHasLevels, StatementHasLevels}
 use Rattle.sno_statement.specs.Spelling.{TargetTo, OutcomeTo, LeadsTo, GotoTo, PatternTo, BodyTo, Spells}
 use Rattle.sno_statement.specs.Walking.{role}
-use Rattle.sno_statement.specs.Reading.{Aim, Missed, Aimed, closing, computed, inside, target_in, at_last, always, both, next, chosen, goto_in, going, ends_by, ending, giving, by_object, object_in, by_pattern, pattern_then, matching, by_subject, subject_then, acting, by_first, statement_in}
+use Rattle.sno_statement.specs.Reading.{Aim, Missed, Aimed, closed_by, closing, computed, inside_by, inside, target_by, target_in, at_last, always, both, next_by, next, chosen, goto_by, goto_in, going, ends_by, ending, giving, by_object, object_in, by_pattern, pattern_then, matching, by_subject, subject_then, acting, by_first, statement_in}
 use Rattle.sno_expression.proofs.Sound.{IsRead, sound}
 use Rattle.sno_statement.proofs.Roles.{goes, assigns, blank_spells}
 
@@ -25,30 +25,42 @@ abbrev AimRight : Aim → List Token → Type 0
 AimRight Missed ts = Unit {0}
 AimRight (Aimed t rest) ts = TargetHasLevels t × TargetTo t ts rest
 
-label_right : (b c d : Bool) (l : List ℕ) (ts : List Token) → AimRight (closing (To l) ts) (token.Open b ∷ token.Part c d (Label l) ∷ ts)
-label_right b c d l [] = tt
-label_right b c d l (token.Close e ∷ ts) = (tt, (b, c, d, e, refl))
-label_right b c d l _ = tt
+label_by : (b a c d : Bool) (l : List ℕ) (e f : Bool) (k : TokenKind) (ts : List Token) → AimRight (closed_by k (To l) ts) (spaced b a token.Open ∷ spaced c d (token.Part (Label l)) ∷ spaced e f k ∷ ts)
+label_by b a c d l e f token.Close ts = (tt, (b, a, c, d, e, f, refl))
+label_by b a c d l e f _ ts = tt
 
-computed_right : (b : Bool) (t : Expression) (ts rest : List Token) → IsRead true (Unary Indirect t) ts rest → AimRight (closing (Computed t) rest) (token.Open b ∷ ts)
-computed_right b t ts [] r = tt
-computed_right b t ts (token.Close e ∷ rest) r = (r.levels, (ts, b, r.blank, e, refl, r.spells))
-computed_right b t ts _ r = tt
+label_right : (b a c d : Bool) (l : List ℕ) (ts : List Token) → AimRight (closing (To l) ts) (spaced b a token.Open ∷ spaced c d (token.Part (Label l)) ∷ ts)
+label_right b a c d l [] = tt
+label_right b a c d l (t ∷ ts) = label_by b a c d l t.blank_before t.blank_after t.kind ts
 
-reading_right : (b : Bool) (ts : List Token) (x : Reading) → reading true ts ≡ x → AimRight (computed x) (token.Open b ∷ ts)
-reading_right b ts (Read (Some (Unary Indirect t)) rest) e = computed_right b t ts rest (sound true ts rest (Unary Indirect t) e)
-reading_right b ts _ e = tt
+computed_by : (b a : Bool) (t : Expression) (ts : List Token) (e f : Bool) (k : TokenKind) (rest : List Token) → IsRead true (Unary Indirect t) ts (spaced e f k ∷ rest) → AimRight (closed_by k (Computed t) rest) (spaced b a token.Open ∷ ts)
+computed_by b a t ts e f token.Close rest r = (r.levels, (ts, b, a, r.blank, e, f, refl, r.spells))
+computed_by b a t ts e f _ rest r = tt
 
-inside_right : (b : Bool) (ts : List Token) → AimRight (inside ts) (token.Open b ∷ ts)
-inside_right b [] = tt
-inside_right b (token.Part c d (Label l) ∷ ts) = label_right b c d l ts
-inside_right b (token.Mark c d Dollar ∷ ts) = reading_right b (token.Mark c d Dollar ∷ ts) (reading true (token.Mark c d Dollar ∷ ts)) refl
-inside_right b _ = tt
+computed_right : (b a : Bool) (t : Expression) (ts rest : List Token) → IsRead true (Unary Indirect t) ts rest → AimRight (closing (Computed t) rest) (spaced b a token.Open ∷ ts)
+computed_right b a t ts [] r = tt
+computed_right b a t ts (u ∷ rest) r = computed_by b a t ts u.blank_before u.blank_after u.kind rest r
+
+reading_right : (b a : Bool) (ts : List Token) (x : Reading) → reading true ts ≡ x → AimRight (computed x) (spaced b a token.Open ∷ ts)
+reading_right b a ts (Read (Some (Unary Indirect t)) rest) e = computed_right b a t ts rest (sound true ts rest (Unary Indirect t) e)
+reading_right b a ts _ e = tt
+
+inside_by_right : (b a c d : Bool) (k : TokenKind) (ts : List Token) → AimRight (inside_by c d k ts) (spaced b a token.Open ∷ spaced c d k ∷ ts)
+inside_by_right b a c d (token.Part (Label l)) ts = label_right b a c d l ts
+inside_by_right b a c d (token.Mark Dollar) ts = reading_right b a (spaced c d (token.Mark Dollar) ∷ ts) (reading true (spaced c d (token.Mark Dollar) ∷ ts)) refl
+inside_by_right b a c d _ ts = tt
+
+inside_right : (b a : Bool) (ts : List Token) → AimRight (inside ts) (spaced b a token.Open ∷ ts)
+inside_right b a [] = tt
+inside_right b a (t ∷ ts) = inside_by_right b a t.blank_before t.blank_after t.kind ts
+
+target_by_right : (b a : Bool) (k : TokenKind) (ts : List Token) → AimRight (target_by k ts) (spaced b a k ∷ ts)
+target_by_right b a token.Open ts = inside_right b a ts
+target_by_right b a _ ts = tt
 
 target_right : (ts : List Token) → AimRight (target_in ts) ts
 target_right [] = tt
-target_right (token.Open b ∷ ts) = inside_right b ts
-target_right _ = tt
+target_right (t ∷ ts) = target_by_right t.blank_before t.blank_after t.kind ts
 
 abbrev GotoRight : Option Goto → List Token → Type 0
 GotoRight None ts = Unit {0}
@@ -62,34 +74,41 @@ always_right : (a : Aim) (ts : List Token) → AimRight a ts → GotoRight (alwa
 always_right Missed ts r = tt
 always_right (Aimed t rest) ts r = last_right (Always t) rest ts r.0 (λ e. subst (λ (x : List Token). TargetTo t ts x) e r.1)
 
-success_both : (s : Target) (a : Aim) (ts m k : List Token) (b c : Bool) → TargetHasLevels s → OutcomeTo Success s ts m → m ≡ token.Part b c (On Failure) ∷ k → AimRight a k → GotoRight (both Success s a) ts
+success_both : (s : Target) (a : Aim) (ts m k : List Token) (b c : Bool) → TargetHasLevels s → OutcomeTo Success s ts m → m ≡ spaced b c (token.Part (On Failure)) ∷ k → AimRight a k → GotoRight (both Success s a) ts
 success_both s Missed ts m k b c v q e r = tt
 success_both s (Aimed f rest) ts m k b c v q e r =
     last_right (OnBoth s f) rest ts (v, r.0) (λ d. inl (m, q, (k, b, c, e, subst (λ (x : List Token). TargetTo f k x) d r.1)))
 
-failure_both : (f : Target) (a : Aim) (ts m k : List Token) (b c : Bool) → TargetHasLevels f → OutcomeTo Failure f ts m → m ≡ token.Part b c (On Success) ∷ k → AimRight a k → GotoRight (both Failure f a) ts
+failure_both : (f : Target) (a : Aim) (ts m k : List Token) (b c : Bool) → TargetHasLevels f → OutcomeTo Failure f ts m → m ≡ spaced b c (token.Part (On Success)) ∷ k → AimRight a k → GotoRight (both Failure f a) ts
 failure_both f Missed ts m k b c v q e r = tt
 failure_both f (Aimed s rest) ts m k b c v q e r =
     last_right (OnBoth s f) rest ts (r.0, v) (λ d. inr (m, q, (k, b, c, e, subst (λ (x : List Token). TargetTo s k x) d r.1)))
 
+next_by_right : (o : Outcome) (t : Target) (b c : Bool) (u : TokenKind) (k ts : List Token) → TargetHasLevels t → OutcomeTo o t ts (spaced b c u ∷ k) → GotoRight (next_by o t u k) ts
+next_by_right Success t b c (token.Part (On Failure)) k ts v q = success_both t (target_in k) ts (spaced b c (token.Part (On Failure)) ∷ k) k b c v q refl (target_right k)
+next_by_right Failure t b c (token.Part (On Success)) k ts v q = failure_both t (target_in k) ts (spaced b c (token.Part (On Success)) ∷ k) k b c v q refl (target_right k)
+next_by_right Success t b c _ k ts v q = tt
+next_by_right Failure t b c _ k ts v q = tt
+
 next_right : (o : Outcome) (t : Target) (rest ts : List Token) → TargetHasLevels t → OutcomeTo o t ts rest → GotoRight (next o t rest) ts
 next_right Success t [] ts v q = (v, q)
 next_right Failure t [] ts v q = (v, q)
-next_right Success t (token.Part b c (On Failure) ∷ k) ts v q = success_both t (target_in k) ts (token.Part b c (On Failure) ∷ k) k b c v q refl (target_right k)
-next_right Failure t (token.Part b c (On Success) ∷ k) ts v q = failure_both t (target_in k) ts (token.Part b c (On Success) ∷ k) k b c v q refl (target_right k)
-next_right o t _ ts v q = tt
+next_right o t (u ∷ k) ts v q = next_by_right o t u.blank_before u.blank_after u.kind k ts v q
 
-chosen_right : (o : Outcome) (b c : Bool) (a : Aim) (ts : List Token) → AimRight a ts → GotoRight (chosen o a) (token.Part b c (On o) ∷ ts)
+chosen_right : (o : Outcome) (b c : Bool) (a : Aim) (ts : List Token) → AimRight a ts → GotoRight (chosen o a) (spaced b c (token.Part (On o)) ∷ ts)
 chosen_right o b c Missed ts r = tt
-chosen_right o b c (Aimed t rest) ts r = next_right o t rest (token.Part b c (On o) ∷ ts) r.0 (ts, b, c, refl, r.1)
+chosen_right o b c (Aimed t rest) ts r = next_right o t rest (spaced b c (token.Part (On o)) ∷ ts) r.0 (ts, b, c, refl, r.1)
+
+goto_by_right : (b c : Bool) (k : TokenKind) (ts : List Token) → GotoRight (goto_by k ts) (spaced b c k ∷ ts)
+goto_by_right b c token.Open ts = always_right (inside ts) (spaced b c token.Open ∷ ts) (inside_right b c ts)
+goto_by_right b c (token.Part (On o)) ts = chosen_right o b c (target_in ts) ts (target_right ts)
+goto_by_right b c _ ts = tt
 
 goto_right : (ts : List Token) → GotoRight (goto_in ts) ts
 goto_right [] = tt
-goto_right (token.Open b ∷ ts) = always_right (inside ts) (token.Open b ∷ ts) (inside_right b ts)
-goto_right (token.Part b c (On o) ∷ ts) = chosen_right o b c (target_in ts) ts (target_right ts)
-goto_right _ = tt
+goto_right (t ∷ ts) = goto_by_right t.blank_before t.blank_after t.kind ts
 
-with_colon : (g : Goto) (c : Bool) (ts k : List Token) → LeadsTo g ts → k ≡ token.Part true c Colon ∷ ts → GotoTo g k
+with_colon : (g : Goto) (c : Bool) (ts k : List Token) → LeadsTo g ts → k ≡ spaced true c (token.Part Colon) ∷ ts → GotoTo g k
 with_colon NoGoto c ts k l e = absurd l
 with_colon (Always t) c ts k l e = (ts, c, e, l)
 with_colon (OnSuccess t) c ts k l e = (ts, c, e, l)
@@ -103,42 +122,42 @@ Right (Some s) ts = StatementHasLevels s × Spells s ts
 stop_right : (b : Body) (ts : List Token) → BodyHasLevels b → BodyTo b ts [] → Right (Some (Says b NoGoto)) ts
 stop_right b ts v q = ((v, tt), ([], q, refl))
 
-going_right : (b : Body) (o : Option Goto) (ts k m : List Token) (c : Bool) → BodyHasLevels b → BodyTo b ts k → k ≡ token.Part true c Colon ∷ m → GotoRight o m → Right (going b o) ts
+going_right : (b : Body) (o : Option Goto) (ts k m : List Token) (c : Bool) → BodyHasLevels b → BodyTo b ts k → k ≡ spaced true c (token.Part Colon) ∷ m → GotoRight o m → Right (going b o) ts
 going_right b None ts k m c v q e r = tt
 going_right b (Some g) ts k m c v q e r = ((v, r.0), (k, q, with_colon g c m k r.1 e))
 
-binds_into_right : (b : Body) (t : Token) (ts m : List Token) → BodyHasLevels b → BodyTo b ts (t ∷ m) → role (shape_of t) ≡ Goes → Right (going b (goto_in m)) ts
-binds_into_right b t ts m v q e =
+goes_right : (b : Body) (t : Token) (ts m : List Token) → BodyHasLevels b → BodyTo b ts (t ∷ m) → role t ≡ Goes → Right (going b (goto_in m)) ts
+goes_right b t ts m v q e =
     let g = goes t e in
     going_right b (goto_in m) ts (t ∷ m) m g.0 v q (ap (λ (x : Token). x ∷ m) g.1) (goto_right m)
 
 ending_right : (b : Body) (ts m : List Token) → BodyHasLevels b → BodyTo b ts m → Right (ending b m) ts
 ending_right b ts [] v q = stop_right b ts v q
-ending_right b ts (t ∷ m) v q = at (role (shape_of t)) refl
+ending_right b ts (t ∷ m) v q = at (role t) refl
   where
-    at : (r : Role) → role (shape_of t) ≡ r → Right (ends_by r b m) ts
-    at Goes e = binds_into_right b t ts m v q e
+    at : (r : Role) → role t ≡ r → Right (ends_by r b m) ts
+    at Goes e = goes_right b t ts m v q e
     at _ e = tt
 
 -- the subject and the pattern up to `=`
 abbrev Assigned : Expression → Option Expression → List Token → List Token → Type 0
-Assigned s p ts n = (m : List Token) × (b : Bool) × IsOperand s × HasLevels s × PatternHasLevels p × SpellsTo b s ts m × PatternTo p m (token.Part true true Equals ∷ n)
+Assigned s p ts n = (m : List Token) × (b : Bool) × IsOperand s × HasLevels s × PatternHasLevels p × SpellsTo b s ts m × PatternTo p m (spaced true true (token.Part Equals) ∷ n)
 
 giving_right : (s : Expression) (p : Option Expression) (ts m : List Token) (t : Token) (k : List Token) (x : Reading)
-    → Assigned s p ts (t ∷ k) → role (shape_of t) ≡ Follows → reading false (t ∷ k) ≡ x → Right (giving s p x) ts
+    → Assigned s p ts (t ∷ k) → role t ≡ Follows → reading false (t ∷ k) ≡ x → Right (giving s p x) ts
 giving_right s p ts m t k (Read None rest) a r e = tt
 giving_right s p ts m t k (Read (Some o) rest) a r e =
     let i = sound false (t ∷ k) rest o e in
     ending_right (Does s p (ValueObject o)) ts rest (a.2, a.3, a.4, i.levels)
-    (a.0, token.Part true true Equals ∷ t ∷ k, a.1, a.5, a.6, (t ∷ k, refl, blank_spells o i.blank t k rest i.spells r))
+    (a.0, spaced true true (token.Part Equals) ∷ t ∷ k, a.1, a.5, a.6, (t ∷ k, refl, blank_spells o i.blank t k rest i.spells r))
 
 object_right : (s : Expression) (p : Option Expression) (ts n : List Token) → Assigned s p ts n → Right (object_in s p n) ts
-object_right s p ts [] a = stop_right (Does s p NullObject) ts (a.2, a.3, a.4, tt) (a.0, token.Part true true Equals ∷ [], a.1, a.5, a.6, refl)
-object_right s p ts (t ∷ k) a = at (role (shape_of t)) refl
+object_right s p ts [] a = stop_right (Does s p NullObject) ts (a.2, a.3, a.4, tt) (a.0, spaced true true (token.Part Equals) ∷ [], a.1, a.5, a.6, refl)
+object_right s p ts (t ∷ k) a = at (role t) refl
   where
-    at : (r : Role) → role (shape_of t) ≡ r → Right (by_object r s p t k) ts
+    at : (r : Role) → role t ≡ r → Right (by_object r s p t k) ts
     at Assigns e = tt
-    at Goes e = binds_into_right (Does s p NullObject) t ts k (a.2, a.3, a.4, tt) (a.0, token.Part true true Equals ∷ t ∷ k, a.1, a.5, a.6, refl) e
+    at Goes e = goes_right (Does s p NullObject) t ts k (a.2, a.3, a.4, tt) (a.0, spaced true true (token.Part Equals) ∷ t ∷ k, a.1, a.5, a.6, refl) e
     at Follows e = giving_right s p ts [] t k (reading false (t ∷ k)) a e refl
     at Touches e = tt
 
@@ -149,19 +168,19 @@ Subjected s p ts n = (m : List Token) × (b : Bool) × IsOperand s × HasLevels 
 bare : (s : Expression) (p : Option Expression) (ts n : List Token) → Subjected s p ts n → BodyTo (Does s p NoObject) ts n
 bare s p ts n a = (a.0, n, a.1, a.5, a.6, refl)
 
-assigned : (s : Expression) (p : Option Expression) (t : Token) (ts n : List Token) → Subjected s p ts (t ∷ n) → role (shape_of t) ≡ Assigns → Assigned s p ts n
+assigned : (s : Expression) (p : Option Expression) (t : Token) (ts n : List Token) → Subjected s p ts (t ∷ n) → role t ≡ Assigns → Assigned s p ts n
 assigned s p t ts n a e = (a.0, a.1, a.2, a.3, a.4, a.5, subst (λ (x : Token). PatternTo p a.0 (x ∷ n)) (assigns t e) a.6)
 
 pattern_right : (s p : Expression) (ts n : List Token) → Subjected s (Some p) ts n → Right (pattern_then s p n) ts
 pattern_right s p ts [] a = stop_right (Does s (Some p) NoObject) ts (a.2, a.3, a.4, tt) (bare s (Some p) ts [] a)
-pattern_right s p ts (t ∷ k) a = at (role (shape_of t)) refl
+pattern_right s p ts (t ∷ k) a = at (role t) refl
   where
-    at : (r : Role) → role (shape_of t) ≡ r → Right (by_pattern r s p k) ts
+    at : (r : Role) → role t ≡ r → Right (by_pattern r s p k) ts
     at Assigns e = object_right s (Some p) ts k (assigned s (Some p) t ts k a e)
-    at Goes e = binds_into_right (Does s (Some p) NoObject) t ts k (a.2, a.3, a.4, tt) (bare s (Some p) ts (t ∷ k) a) e
+    at Goes e = goes_right (Does s (Some p) NoObject) t ts k (a.2, a.3, a.4, tt) (bare s (Some p) ts (t ∷ k) a) e
     at _ e = tt
 
-matching_right : (s : Expression) (ts : List Token) (t : Token) (k : List Token) (x : Reading) → Subjected s None ts (t ∷ k) → role (shape_of t) ≡ Follows → reading false (t ∷ k) ≡ x → Right (matching s x) ts
+matching_right : (s : Expression) (ts : List Token) (t : Token) (k : List Token) (x : Reading) → Subjected s None ts (t ∷ k) → role t ≡ Follows → reading false (t ∷ k) ≡ x → Right (matching s x) ts
 matching_right s ts t k (Read None rest) a r e = tt
 matching_right s ts t k (Read (Some p) rest) a r e =
     let i = sound false (t ∷ k) rest p e in
@@ -169,11 +188,11 @@ matching_right s ts t k (Read (Some p) rest) a r e =
 
 subject_right : (s : Expression) (ts n : List Token) → Subjected s None ts n → Right (subject_then s n) ts
 subject_right s ts [] a = stop_right (Does s None NoObject) ts (a.2, a.3, a.4, tt) (bare s None ts [] a)
-subject_right s ts (t ∷ k) a = at (role (shape_of t)) refl
+subject_right s ts (t ∷ k) a = at (role t) refl
   where
-    at : (r : Role) → role (shape_of t) ≡ r → Right (by_subject r s t k) ts
+    at : (r : Role) → role t ≡ r → Right (by_subject r s t k) ts
     at Assigns e = object_right s None ts k (assigned s None t ts k a e)
-    at Goes e = binds_into_right (Does s None NoObject) t ts k (a.2, a.3, a.4, tt) (bare s None ts (t ∷ k) a) e
+    at Goes e = goes_right (Does s None NoObject) t ts k (a.2, a.3, a.4, tt) (bare s None ts (t ∷ k) a) e
     at Follows e = matching_right s ts t k (reading false (t ∷ k)) a e refl
     at Touches e = tt
 
@@ -185,11 +204,11 @@ acting_right ts (Read (Some s) rest) e =
 
 right : (ts : List Token) → Right (statement_in ts) ts
 right [] = stop_right NoBody [] tt refl
-right (t ∷ ts) = at (role (shape_of t)) refl
+right (t ∷ ts) = at (role t) refl
   where
-    at : (r : Role) → role (shape_of t) ≡ r → Right (by_first r t ts) (t ∷ ts)
+    at : (r : Role) → role t ≡ r → Right (by_first r t ts) (t ∷ ts)
     at Assigns e = tt
-    at Goes e = binds_into_right NoBody t (t ∷ ts) ts tt refl e
+    at Goes e = goes_right NoBody t (t ∷ ts) ts tt refl e
     at Follows e = acting_right (t ∷ ts) (reading true (t ∷ ts)) refl
     at Touches e = acting_right (t ∷ ts) (reading true (t ∷ ts)) refl
 

@@ -15,6 +15,6 @@ Taken = (ts : List Token) →
     (refusal ts ≡ None → (s : Statement) × StatementHasLevels s × Spells s ts)
     × ((s : Statement) → StatementHasLevels s → Spells s ts → refusal ts ≡ None)
 
--- nothing is noted exactly where the statement has a variable in each place that wants one
+-- nothing is noted exactly where the statement has a variable in each place that needs one
 abbrev pub NotesExactly : Type 0
 NotesExactly = (ts : List Token) (s : Statement) → StatementHasLevels s → Spells s ts → (noted ts ≡ None → StatementHasVariables s) × (StatementHasVariables s → noted ts ≡ None)

@@ -1,14 +1,15 @@
 -- A statement read part by part, each part as far as it goes.
-use Rattle.std.specs.Prelude.{true, false, List, [], ◌∷◌, Option, Some, None}
+use Rattle.std.specs.Prelude.{Bool, true, false, List, [], ◌∷◌, Option, Some, None}
 use Rattle.sno_token.specs.declared.Mark.TheVariants.{Dollar}
 use Rattle.sno_token.specs.declared.Outcome.{Outcome}
 use Rattle.sno_token.specs.declared.Outcome.TheVariants.{Success, Failure}
 use Rattle.sno_token.specs.declared.Part.TheVariants.{On, Label}
 use Rattle.sno_token.specs.declared.Token.{Token}
-use Rattle.sno_token.specs.declared.Token.TheVariants as token
+use Rattle.sno_token.specs.declared.TokenKind.{TokenKind}
+use Rattle.sno_token.specs.declared.TokenKind.TheVariants as token
 use Rattle.sno_expression.specs.declared.tree.UnaryOperator.TheVariants.{Indirect}
 use Rattle.sno_expression.specs.Expressions.{Expression, Unary}
-use Rattle.sno_expression.specs.Walking.{shape_of}
+use Rattle.sno_expression.specs.Spelling.{spaced}
 use Rattle.sno_expression.specs.Reading.{Reading, Read, reading}
 use Rattle.sno_statement.specs.declared.walking.Role.{Role}
 use Rattle.sno_statement.specs.declared.walking.Role.TheVariants.{Assigns, Goes, Follows, Touches}
@@ -20,9 +21,13 @@ pub data Aim : Type 0 where
   Missed : Aim
   Aimed : Target → List Token → Aim
 
+abbrev pub closed_by : TokenKind → Target → List Token → Aim
+closed_by token.Close t ts = Aimed t ts
+closed_by _ t ts = Missed
+
 abbrev pub closing : Target → List Token → Aim
-closing t (token.Close b ∷ ts) = Aimed t ts
-closing t _ = Missed
+closing t [] = Missed
+closing t (u ∷ ts) = closed_by u.kind t ts
 
 abbrev pub indirect : Option Expression → List Token → Aim
 indirect (Some (Unary Indirect t)) ts = closing (Computed t) ts
@@ -32,14 +37,22 @@ abbrev pub computed : Reading → Aim
 computed (Read t rest) = indirect t rest
 
 -- behind the parenthesis of a target
+abbrev pub inside_by : Bool → Bool → TokenKind → List Token → Aim
+inside_by b a (token.Part (Label l)) ts = closing (To l) ts
+inside_by b a (token.Mark Dollar) ts = computed (reading true (spaced b a (token.Mark Dollar) ∷ ts))
+inside_by b a _ ts = Missed
+
 abbrev pub inside : List Token → Aim
-inside (token.Part b c (Label l) ∷ ts) = closing (To l) ts
-inside (token.Mark b c Dollar ∷ ts) = computed (reading true (token.Mark b c Dollar ∷ ts))
-inside _ = Missed
+inside [] = Missed
+inside (t ∷ ts) = inside_by t.blank_before t.blank_after t.kind ts
+
+abbrev pub target_by : TokenKind → List Token → Aim
+target_by token.Open ts = inside ts
+target_by _ ts = Missed
 
 abbrev pub target_in : List Token → Aim
-target_in (token.Open b ∷ ts) = inside ts
-target_in _ = Missed
+target_in [] = Missed
+target_in (t ∷ ts) = target_by t.kind ts
 
 -- behind the last target
 abbrev pub at_last : Goto → List Token → Option Goto
@@ -66,20 +79,27 @@ on_one Success t = OnSuccess t
 on_one Failure t = OnFailure t
 
 -- behind the target of the first outcome
+abbrev pub next_by : Outcome → Target → TokenKind → List Token → Option Goto
+next_by o t (token.Part (On p)) ts = second o p t ts
+next_by o t _ ts = None
+
 abbrev pub next : Outcome → Target → List Token → Option Goto
 next o t [] = Some (on_one o t)
-next o t (token.Part b c (On p) ∷ ts) = second o p t ts
-next o t _ = None
+next o t (u ∷ ts) = next_by o t u.kind ts
 
 abbrev pub chosen : Outcome → Aim → Option Goto
 chosen o Missed = None
 chosen o (Aimed t ts) = next o t ts
 
 -- behind `:`
+abbrev pub goto_by : TokenKind → List Token → Option Goto
+goto_by token.Open ts = always (inside ts)
+goto_by (token.Part (On o)) ts = chosen o (target_in ts)
+goto_by _ ts = None
+
 abbrev pub goto_in : List Token → Option Goto
-goto_in (token.Open b ∷ ts) = always (inside ts)
-goto_in (token.Part b c (On o) ∷ ts) = chosen o (target_in ts)
-goto_in _ = None
+goto_in [] = None
+goto_in (t ∷ ts) = goto_by t.kind ts
 
 abbrev pub going : Body → Option Goto → Option Statement
 going b None = None
@@ -92,7 +112,7 @@ ends_by _ b ts = None
 -- behind the object
 abbrev pub ending : Body → List Token → Option Statement
 ending b [] = Some (Says b NoGoto)
-ending b (t ∷ ts) = ends_by (role (shape_of t)) b ts
+ending b (t ∷ ts) = ends_by (role t) b ts
 
 abbrev pub giving : Expression → Option Expression → Reading → Option Statement
 giving s p (Read None rest) = None
@@ -107,7 +127,7 @@ by_object Touches s p t ts = None
 -- behind `=`
 abbrev pub object_in : Expression → Option Expression → List Token → Option Statement
 object_in s p [] = Some (Says (Does s p NullObject) NoGoto)
-object_in s p (t ∷ ts) = by_object (role (shape_of t)) s p t ts
+object_in s p (t ∷ ts) = by_object (role t) s p t ts
 
 abbrev pub by_pattern : Role → Expression → Expression → List Token → Option Statement
 by_pattern Assigns s p ts = object_in s (Some p) ts
@@ -117,7 +137,7 @@ by_pattern _ s p ts = None
 -- behind the pattern
 abbrev pub pattern_then : Expression → Expression → List Token → Option Statement
 pattern_then s p [] = Some (Says (Does s (Some p) NoObject) NoGoto)
-pattern_then s p (t ∷ ts) = by_pattern (role (shape_of t)) s p ts
+pattern_then s p (t ∷ ts) = by_pattern (role t) s p ts
 
 abbrev pub matching : Expression → Reading → Option Statement
 matching s (Read None rest) = None
@@ -132,7 +152,7 @@ by_subject Touches s t ts = None
 -- behind the subject
 abbrev pub subject_then : Expression → List Token → Option Statement
 subject_then s [] = Some (Says (Does s None NoObject) NoGoto)
-subject_then s (t ∷ ts) = by_subject (role (shape_of t)) s t ts
+subject_then s (t ∷ ts) = by_subject (role t) s t ts
 
 abbrev pub acting : Reading → Option Statement
 acting (Read None rest) = None
@@ -147,4 +167,4 @@ by_first Touches t ts = acting (reading true (t ∷ ts))
 -- the statement that the tokens are read as, if they are one
 abbrev pub statement_in : List Token → Option Statement
 statement_in [] = Some (Says NoBody NoGoto)
-statement_in (t ∷ ts) = by_first (role (shape_of t)) t ts
+statement_in (t ∷ ts) = by_first (role t) t ts

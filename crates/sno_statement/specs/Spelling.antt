@@ -5,19 +5,21 @@ use Rattle.sno_token.specs.declared.Outcome.{Outcome}
 use Rattle.sno_token.specs.declared.Outcome.TheVariants.{Success, Failure}
 use Rattle.sno_token.specs.declared.Part.TheVariants.{Equals, Colon, On, Label}
 use Rattle.sno_token.specs.declared.Token.{Token}
-use Rattle.sno_token.specs.declared.Token.TheVariants as token
+use Rattle.sno_token.specs.declared.TokenKind.TheVariants as token
 use Rattle.sno_expression.specs.declared.tree.UnaryOperator.TheVariants.{Indirect}
 use Rattle.sno_expression.specs.Expressions.{Expression, Unary}
-use Rattle.sno_expression.specs.Spelling.{SpellsTo}
+use Rattle.sno_expression.specs.Spelling.{spaced, SpellsTo}
 use Rattle.sno_statement.specs.Statements.{Target, To, Computed, Goto, NoGoto, Always, OnSuccess, OnFailure, OnBoth, Object, NoObject, NullObject, ValueObject, Body, NoBody, Does, Statement, Says}
 
 -- a target stands in parentheses
 abbrev pub TargetTo : Target → List Token → List Token → Type 0
-TargetTo (To l) ts rest = (b : Bool) × (c : Bool) × (d : Bool) × (e : Bool) × (ts ≡ token.Open b ∷ token.Part c d (Label l) ∷ token.Close e ∷ rest)
-TargetTo (Computed t) ts rest = (m : List Token) × (b : Bool) × (c : Bool) × (e : Bool) × (ts ≡ token.Open b ∷ m) × SpellsTo c (Unary Indirect t) m (token.Close e ∷ rest)
+TargetTo (To l) ts rest =
+    (b : Bool) × (a : Bool) × (c : Bool) × (d : Bool) × (e : Bool) × (f : Bool) × (ts ≡ spaced b a token.Open ∷ spaced c d (token.Part (Label l)) ∷ spaced e f token.Close ∷ rest)
+TargetTo (Computed t) ts rest =
+    (m : List Token) × (b : Bool) × (a : Bool) × (c : Bool) × (e : Bool) × (f : Bool) × (ts ≡ spaced b a token.Open ∷ m) × SpellsTo c (Unary Indirect t) m (spaced e f token.Close ∷ rest)
 
 abbrev pub OutcomeTo : Outcome → Target → List Token → List Token → Type 0
-OutcomeTo o t ts rest = (m : List Token) × (b : Bool) × (c : Bool) × (ts ≡ token.Part b c (On o) ∷ m) × TargetTo t m rest
+OutcomeTo o t ts rest = (m : List Token) × (b : Bool) × (c : Bool) × (ts ≡ spaced b c (token.Part (On o)) ∷ m) × TargetTo t m rest
 
 -- behind `:` one target, or one for each outcome in either order, or one of those
 abbrev pub LeadsTo : Goto → List Token → Type 0
@@ -30,7 +32,7 @@ LeadsTo (OnBoth s f) ts =
     ⊎ ((m : List Token) × OutcomeTo Failure f ts m × OutcomeTo Success s m [])
 
 abbrev pub ColonTo : Goto → List Token → Type 0
-ColonTo g ts = (m : List Token) × (c : Bool) × (ts ≡ token.Part true c Colon ∷ m) × LeadsTo g m
+ColonTo g ts = (m : List Token) × (c : Bool) × (ts ≡ spaced true c (token.Part Colon) ∷ m) × LeadsTo g m
 
 -- a goto begins with `:` after a blank
 abbrev pub GotoTo : Goto → List Token → Type 0
@@ -48,8 +50,8 @@ PatternTo (Some p) ts rest = SpellsTo true p ts rest
 -- `=` has a blank before it, and a blank or the end after it
 abbrev pub ObjectTo : Object → List Token → List Token → Type 0
 ObjectTo NoObject ts rest = ts ≡ rest
-ObjectTo NullObject ts rest = ts ≡ token.Part true true Equals ∷ rest
-ObjectTo (ValueObject t) ts rest = (m : List Token) × (ts ≡ token.Part true true Equals ∷ m) × SpellsTo true t m rest
+ObjectTo NullObject ts rest = ts ≡ spaced true true (token.Part Equals) ∷ rest
+ObjectTo (ValueObject t) ts rest = (m : List Token) × (ts ≡ spaced true true (token.Part Equals) ∷ m) × SpellsTo true t m rest
 
 abbrev pub BodyTo : Body → List Token → List Token → Type 0
 BodyTo NoBody ts rest = ts ≡ rest

@@ -12,7 +12,6 @@ use Rattle.sno_statement.specs.declared.statement.Object.TheVariants as object
 use Rattle.sno_statement.specs.declared.statement.Body.{Body as ABody}
 use Rattle.sno_statement.specs.declared.statement.Statement.{Statement as AStatement}
 use Rattle.sno_expression.specs.declared.walking.Paren.{Paren}
-use Rattle.sno_expression.specs.declared.walking.Shape.{Shape}
 use Rattle.sno_statement.specs.declared.fault.FaultKind.{FaultKind}
 use Rattle.sno_statement.specs.declared.walking.Parens.{Parens}
 use Rattle.sno_statement.specs.declared.walking.Parens.TheVariants as parens
@@ -32,9 +31,9 @@ abbrev pub walk_of : AWalk → Walk
 walk_of w = At (parens_of w.parens) w.stage
 
 -- a token that is taken, or why it is not
-abbrev pub Stepped : Walk → Shape → Result AWalk FaultKind → Type 0
+abbrev pub Stepped : Walk → Token → Result AWalk FaultKind → Type 0
 Stepped w t (Ok v) = take w t ≡ Some (walk_of v)
-Stepped w t (Err k) = (take w t ≡ None) × (k ≡ refused_as w t)
+Stepped w t (Err k) = (take w t ≡ None) × (k ≡ refused_as w t.kind)
 
 abbrev pub target_of : ATarget → Target
 target_of (target.Label l) = To l
@@ -72,7 +71,7 @@ abbrev pub aim_of : Option AnAim → Aim
 aim_of None = Missed
 aim_of (Some a) = Aimed (target_of a.target) a.rest.now
 
--- the statement that the tokens spell, with levels and with a variable in each place that wants one, and the only one that
+-- the statement that the tokens spell, with levels and with a variable in each place that needs one, and the only one that
 -- they spell; or the leftmost fault, where there is no such statement
 abbrev pub Parsed : List Token → Result AStatement Fault → Type 0
 Parsed ts (Ok s) =

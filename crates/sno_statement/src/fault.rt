@@ -7,7 +7,7 @@ pub enum FaultKind {
     MissingBlank,
     /// It does not fit, whatever blanks stand round it; or the tokens end too early.
     Unfit,
-    /// A variable is wanted where it stands, and what begins there is none.
+    /// A variable is needed where it stands, and what begins there is none.
     NoVariable,
 }
 

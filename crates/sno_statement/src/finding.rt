@@ -1,29 +1,14 @@
 //! The leftmost fault of a statement's tokens, found without a tree.
 
 ghost use Rattle.std.specs.Prelude.{◌≡◌, ◌<◌, IfOk, Some, length};
-ghost use Rattle.sno_expression.specs.Walking as shapes;
 ghost use Rattle.sno_statement.specs.Faults.{opens, kind_by, subject_kind, is_unset, note, least, noted_at, earlier, fault};
 ghost use Rattle.sno_statement.specs.Statements.{can_be_set};
 
 use crate::fault::{Fault, FaultKind};
 use crate::walking::{Field, Parens, Role, Stage, SubjectKind, Walk, may_end, role_of, walk_on};
-use sno_expression::{Shape, is_misfit, misfit_index, shape_of};
-use sno_token::{Mark, Token};
+use sno_expression::{is_misfit, misfit_index, opens_call};
+use sno_token::{Mark, Token, TokenKind};
 use std::alloc::{AllocError, Global};
-
-fn opens_call(shape: Shape) -> bool
-    ensures { result ≡ shapes.opens_call shape }
-{
-    match shape {
-        Shape::Open(before) => !before,
-        Shape::Name(_)
-        | Shape::Constant(_)
-        | Shape::Mark(_, _, _)
-        | Shape::Close(_)
-        | Shape::Comma(_)
-        | Shape::Part(_, _, _) => false,
-    }
-}
 
 // Whether a parenthesis comes first that touches what stands before it.
 fn opens(tokens: &[Token]) -> bool
@@ -31,12 +16,12 @@ fn opens(tokens: &[Token]) -> bool
 {
     match tokens.split_first() {
         None => false,
-        Some((token, _)) => opens_call(shape_of(token)),
+        Some((token, _)) => opens_call(token.blank_before, &token.kind),
     }
 }
 
-fn kind_by_mark(before: bool, after: bool, mark: Mark, call: bool) -> SubjectKind
-    ensures { result ≡ kind_by (Shape.Mark before after mark) call }
+fn kind_by_mark(mark: Mark, call: bool) -> SubjectKind
+    ensures { result ≡ kind_by (TokenKind.Mark mark) call }
 {
     match mark {
         Mark::Dollar => SubjectKind::Variable,
@@ -45,23 +30,23 @@ fn kind_by_mark(before: bool, after: bool, mark: Mark, call: bool) -> SubjectKin
     }
 }
 
-fn kind_by(shape: Shape, call: bool) -> SubjectKind
-    ensures { result ≡ kind_by shape call }
+fn kind_by(kind: &TokenKind, call: bool) -> SubjectKind
+    ensures { result ≡ kind_by kind.now call }
 {
-    match shape {
-        Shape::Name(_) => {
+    match kind {
+        TokenKind::Identifier(_) => {
             if call {
                 SubjectKind::Other
             } else {
                 SubjectKind::Variable
             }
         }
-        Shape::Mark(before, after, mark) => kind_by_mark(before, after, mark, call),
-        Shape::Constant(_)
-        | Shape::Open(_)
-        | Shape::Close(_)
-        | Shape::Comma(_)
-        | Shape::Part(_, _, _) => { SubjectKind::Other }
+        TokenKind::Mark(mark) => kind_by_mark(*mark, call),
+        TokenKind::Constant(_)
+        | TokenKind::Open
+        | TokenKind::Close
+        | TokenKind::Comma
+        | TokenKind::Part(_) => { SubjectKind::Other }
     }
 }
 
@@ -70,7 +55,7 @@ fn subject_kind(tokens: &[Token]) -> SubjectKind
 {
     match tokens.split_first() {
         None => SubjectKind::Other,
-        Some((token, rest)) => kind_by(shape_of(token), opens(rest)),
+        Some((token, rest)) => kind_by(&token.kind, opens(rest)),
     }
 }
 
@@ -118,13 +103,16 @@ fn least(first: Option<usize>, second: Option<usize>) -> Option<usize>
     }
 }
 
-fn noted_at(kind: SubjectKind, i: usize, stage: Stage, shape: Shape) -> Option<usize>
-    ensures { result ≡ noted_at kind i stage shape }
+fn noted_at(kind: SubjectKind, i: usize, stage: Stage, token: &Token) -> Option<usize>
+    ensures { result ≡ noted_at kind i stage token.now }
 {
     match stage {
         Stage::In(field, position) => {
-            let element = note(is_misfit(position, shape), misfit_index(i, position));
-            let subject = note(is_unset(kind, field, role_of(shape)), 0);
+            let element = note(
+                is_misfit(position, token.blank_before, &token.kind),
+                misfit_index(i, position),
+            );
+            let subject = note(is_unset(kind, field, role_of(token)), 0);
             least(element, subject)
         }
         Stage::First => None,
@@ -164,9 +152,9 @@ pub fn find_fault(alloc: Global, tokens: &[Token]) -> Result<Option<Fault>, Allo
     };
     let mut noted: Option<usize> = None;
     for i in 0..tokens.len() {
-        let shape = shape_of(&tokens[i]);
-        let here = noted_at(kind, i, walk.stage, shape);
-        match walk_on(alloc, walk, shape)? {
+        let token = &tokens[i];
+        let here = noted_at(kind, i, walk.stage, token);
+        match walk_on(alloc, walk, token)? {
             Ok(next) => {
                 walk = next;
                 noted = least(noted, here);

@@ -8,12 +8,12 @@ pub fn one_statement()
 {}
 
 /// The walk that finds faults takes the tokens to the end exactly where a statement spells them, whether or not there is a
-/// variable in each place that wants one.
+/// variable in each place that needs one.
 pub fn taken()
     ensures { Taken }
 {}
 
-/// The walk notes no place that wants a variable and has none exactly where the statement that the tokens spell has none.
+/// The walk notes no place that needs a variable and has none exactly where the statement that the tokens spell has none.
 pub fn notes_exactly()
     ensures { NotesExactly }
 {}

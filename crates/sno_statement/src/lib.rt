@@ -12,6 +12,3 @@ mod walking;
 pub use fault::{Fault, FaultKind};
 pub use parsing::parse_statement;
 pub use statement::{Body, Goto, Object, Statement, Target};
-
-#[cfg(test)]
-mod tests;

@@ -12,8 +12,8 @@ use std::alloc::{AllocError, Global};
 
 /// The statement that the tokens behind a label spell, or their leftmost fault.
 ///
-/// The statement is the only one that they spell: its trees have the levels of the operators, and where a variable is
-/// wanted there is one. A fault is answered exactly where there is no such statement.
+/// The statement is the only one that they spell: its trees obey precedence and associativity, and where a variable is
+/// needed there is one. A fault is answered exactly where there is no such statement.
 ///
 /// # Errors
 ///

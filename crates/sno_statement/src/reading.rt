@@ -10,8 +10,8 @@ ghost use Rattle.sno_statement.specs.Told.{target_of, goto_of, gotos_of, body_of
 use crate::statement::{Body, Goto, Object, Statement, Target};
 use crate::walking::{Role, role_of};
 use mon_text::Line;
-use sno_expression::{Found, UnaryOperator, Expression, read_expression, shape_of};
-use sno_token::{Mark, Outcome, Part, Token};
+use sno_expression::{Expression, Found, UnaryOperator, read_expression};
+use sno_token::{Mark, Outcome, Part, Token, TokenKind};
 use std::alloc::{AllocError, Global};
 
 /// What was read as an expression, and the tokens behind it.
@@ -44,8 +44,8 @@ fn closing<'a>(target: Target, tokens: &'a [Token]) -> Option<Aim<'a>>
 {
     match tokens.split_first() {
         None => None,
-        Some((token, rest)) => match token {
-            Token::Close(_) => Some(Aim { target, rest }),
+        Some((token, rest)) => match &token.kind {
+            TokenKind::Close => Some(Aim { target, rest }),
             _ => None,
         },
     }
@@ -90,9 +90,9 @@ fn inside<'a>(alloc: Global, tokens: &'a [Token]) -> Result<Option<Aim<'a>>, All
 {
     match tokens.split_first() {
         None => Ok(None),
-        Some((token, rest)) => match token {
-            Token::Part(_, _, Part::Label(label)) => label_ends(alloc, label, rest),
-            Token::Mark(_, _, Mark::Dollar) => computed(alloc, tokens),
+        Some((token, rest)) => match &token.kind {
+            TokenKind::Part(Part::Label(label)) => label_ends(alloc, label, rest),
+            TokenKind::Mark(Mark::Dollar) => computed(alloc, tokens),
             _ => Ok(None),
         },
     }
@@ -103,8 +103,8 @@ fn target_in<'a>(alloc: Global, tokens: &'a [Token]) -> Result<Option<Aim<'a>>, 
 {
     match tokens.split_first() {
         None => Ok(None),
-        Some((token, rest)) => match token {
-            Token::Open(_) => inside(alloc, rest),
+        Some((token, rest)) => match &token.kind {
+            TokenKind::Open => inside(alloc, rest),
             _ => Ok(None),
         },
     }
@@ -190,8 +190,8 @@ fn next(
 {
     match tokens.split_first() {
         None => Ok(Some(on_one(outcome, target))),
-        Some((token, rest)) => match token {
-            Token::Part(_, _, Part::On(named)) => second(alloc, outcome, *named, target, rest),
+        Some((token, rest)) => match &token.kind {
+            TokenKind::Part(Part::On(named)) => second(alloc, outcome, *named, target, rest),
             _ => Ok(None),
         },
     }
@@ -212,9 +212,9 @@ fn goto_in(alloc: Global, tokens: &[Token]) -> Result<Option<Goto>, AllocError>
 {
     match tokens.split_first() {
         None => Ok(None),
-        Some((token, rest)) => match token {
-            Token::Open(_) => always(alloc, rest),
-            Token::Part(_, _, Part::On(outcome)) => chosen(alloc, *outcome, rest),
+        Some((token, rest)) => match &token.kind {
+            TokenKind::Open => always(alloc, rest),
+            TokenKind::Part(Part::On(outcome)) => chosen(alloc, *outcome, rest),
             _ => Ok(None),
         },
     }
@@ -242,7 +242,7 @@ fn ending(alloc: Global, body: Body, tokens: &[Token]) -> Result<Option<Statemen
             body: Some(body),
             goto: Goto::Next,
         })),
-        Some((token, rest)) => match role_of(shape_of(token)) {
+        Some((token, rest)) => match role_of(token) {
             Role::Goes => going(alloc, Some(body), rest),
             Role::Assigns => Ok(None),
             Role::Follows => Ok(None),
@@ -292,7 +292,7 @@ fn object_in(
             }),
             goto: Goto::Next,
         })),
-        Some((token, rest)) => match role_of(shape_of(token)) {
+        Some((token, rest)) => match role_of(token) {
             Role::Goes => going(
                 alloc,
                 Some(Body {
@@ -328,7 +328,7 @@ fn pattern_then(
             }),
             goto: Goto::Next,
         })),
-        Some((token, rest)) => match role_of(shape_of(token)) {
+        Some((token, rest)) => match role_of(token) {
             Role::Assigns => object_in(alloc, subject, pattern, rest),
             Role::Goes => going(
                 alloc,
@@ -345,7 +345,11 @@ fn pattern_then(
     }
 }
 
-fn matching(alloc: Global, subject: Expression, tokens: &[Token]) -> Result<Option<Statement>, AllocError>
+fn matching(
+    alloc: Global,
+    subject: Expression,
+    tokens: &[Token],
+) -> Result<Option<Statement>, AllocError>
     ensures { IfOk result (λ s. statements_of s ≡ matching (expression_of subject) (reading false tokens.now)) }
 {
     let Piece { tree, rest } = read_piece(alloc, false, tokens)?;
@@ -372,7 +376,7 @@ fn subject_then(
             }),
             goto: Goto::Next,
         })),
-        Some((token, rest)) => match role_of(shape_of(token)) {
+        Some((token, rest)) => match role_of(token) {
             Role::Assigns => object_in(alloc, subject, None, rest),
             Role::Goes => going(
                 alloc,
@@ -399,7 +403,7 @@ fn acting(alloc: Global, tokens: &[Token]) -> Result<Option<Statement>, AllocErr
     }
 }
 
-/// The statement that the tokens are read as, if they are one; places that want a variable may have another tree.
+/// The statement that the tokens are read as, if they are one; places that need a variable may have another tree.
 ///
 /// # Errors
 ///
@@ -412,7 +416,7 @@ pub fn read_statement(alloc: Global, tokens: &[Token]) -> Result<Option<Statemen
             body: None,
             goto: Goto::Next,
         })),
-        Some((token, rest)) => match role_of(shape_of(token)) {
+        Some((token, rest)) => match role_of(token) {
             Role::Assigns => Ok(None),
             Role::Goes => going(alloc, None, rest),
             Role::Follows => acting(alloc, tokens),

@@ -1,14 +1,15 @@
 //! Which tokens may come next in a statement, over data that are copied, with no tree.
 
-ghost use Rattle.std.specs.Prelude.{◌≡◌, IfOk, Some, None, if◌then◌else◌};
+ghost use Rattle.std.specs.Prelude.{◌≡◌, IfOk, Some, None};
 ghost use Rattle.sno_expression.specs.Walking.{inner_of, outer_of};
-ghost use Rattle.sno_statement.specs.Walking.{role, alone, within, continued, enter, after_subject, after_pattern, after_object, after_element, leave, in_field, at_first, after_equals, other, after_colon, after_outcome, in_target, after_target, advance, advanced, may_close, finishes, may_end, take};
+ghost use Rattle.sno_expression.specs.Spelling.{spaced};
+ghost use Rattle.sno_statement.specs.Walking.{stands, role_by, role, alone, within, continued, enter, after_subject, after_pattern, after_object, after_element, leave, at_first, after_equals, other, after_colon, after_outcome, in_target, after_target, advance, advanced, may_close, finishes, may_end, take};
 ghost use Rattle.sno_statement.specs.Faults.{takes, refused_as};
 ghost use Rattle.sno_statement.specs.Told.{parens_of, walk_of, Stepped};
 
 use crate::fault::FaultKind;
-use sno_expression::{Move, Paren, PartShape, Position, Shape, blank_before, ends, step, with_blanks};
-use sno_token::{Mark, Outcome};
+use sno_expression::{Move, Paren, Position, ends, step};
+use sno_token::{Mark, Outcome, Part, Token, TokenKind};
 use std::alloc::{AllocError, Global};
 
 /// What the subject is to an assignment.
@@ -80,42 +81,48 @@ pub struct Walk {
     pub stage: Stage,
 }
 
-fn plain(before: bool) -> Role
-    ensures { result ≡ (if before then Role.Follows else Role.Touches) }
+fn stands(before: bool) -> Role
+    ensures { result ≡ stands before }
 {
     if before { Role::Follows } else { Role::Touches }
 }
 
-fn part_role(before: bool, after: bool, part: PartShape) -> Role
-    ensures { result ≡ role (Shape.Part before after part) }
+fn part_role(before: bool, after: bool, part: &Part) -> Role
+    ensures { result ≡ role_by before after (TokenKind.Part part.now) }
 {
     match part {
-        PartShape::Colon => { if before { Role::Goes } else { Role::Touches } }
-        PartShape::Equals => {
-            if before {
-                if after { Role::Assigns } else { Role::Follows }
+        Part::Colon => { if before { Role::Goes } else { Role::Touches } }
+        Part::Equals => {
+            if before && after {
+                Role::Assigns
             } else {
-                Role::Touches
+                stands(before)
             }
         }
-        PartShape::On(_) => plain(before),
-        PartShape::Label => plain(before),
+        Part::On(_) => stands(before),
+        Part::Label(_) => stands(before),
+    }
+}
+
+fn role_by(before: bool, after: bool, kind: &TokenKind) -> Role
+    ensures { result ≡ role_by before after kind.now }
+{
+    match kind {
+        TokenKind::Part(part) => part_role(before, after, part),
+        TokenKind::Identifier(_)
+        | TokenKind::Constant(_)
+        | TokenKind::Mark(_)
+        | TokenKind::Open
+        | TokenKind::Close
+        | TokenKind::Comma => stands(before),
     }
 }
 
 /// What a token is between two parts of a statement.
-pub fn role_of(shape: Shape) -> Role
-    ensures { result ≡ role shape }
+pub fn role_of(token: &Token) -> Role
+    ensures { result ≡ role token.now }
 {
-    match shape {
-        Shape::Part(before, after, part) => part_role(before, after, part),
-        Shape::Name(before) => plain(before),
-        Shape::Constant(before) => plain(before),
-        Shape::Mark(before, _, _) => plain(before),
-        Shape::Open(before) => plain(before),
-        Shape::Close(before) => plain(before),
-        Shape::Comma(before) => plain(before),
-    }
+    role_by(token.blank_before, token.blank_after, &token.kind)
 }
 
 fn alone(field: Field) -> bool
@@ -149,27 +156,28 @@ fn continued(field: Field, taken: Option<Move>) -> Option<Advance>
 }
 
 // The first token of a part.
-fn enter(field: Field, shape: Shape) -> Option<Advance>
-    ensures { result ≡ enter field shape }
+fn enter(field: Field, before: bool, after: bool, kind: &TokenKind) -> Option<Advance>
+    ensures { result ≡ enter field (spaced before after kind.now) }
 {
-    continued(field, step(alone(field), None, Position::AtStart, shape))
+    let taken = step(alone(field), None, Position::AtStart, before, after, kind);
+    continued(field, taken)
 }
 
-fn after_subject(shape: Shape) -> Option<Advance>
-    ensures { result ≡ after_subject (role shape) shape }
+fn after_subject(before: bool, after: bool, kind: &TokenKind) -> Option<Advance>
+    ensures { result ≡ after_subject (role_by before after kind.now) (spaced before after kind.now) }
 {
-    match role_of(shape) {
+    match role_by(before, after, kind) {
         Role::Assigns => Some(Advance::Within(Stage::AfterEquals)),
         Role::Goes => Some(Advance::Within(Stage::AfterColon)),
-        Role::Follows => enter(Field::Pattern, shape),
+        Role::Follows => enter(Field::Pattern, before, after, kind),
         Role::Touches => None,
     }
 }
 
-fn after_pattern(shape: Shape) -> Option<Advance>
-    ensures { result ≡ after_pattern (role shape) }
+fn after_pattern(role: Role) -> Option<Advance>
+    ensures { result ≡ after_pattern role }
 {
-    match role_of(shape) {
+    match role {
         Role::Assigns => Some(Advance::Within(Stage::AfterEquals)),
         Role::Goes => Some(Advance::Within(Stage::AfterColon)),
         Role::Follows => None,
@@ -177,10 +185,10 @@ fn after_pattern(shape: Shape) -> Option<Advance>
     }
 }
 
-fn after_object(shape: Shape) -> Option<Advance>
-    ensures { result ≡ after_object (role shape) }
+fn after_object(role: Role) -> Option<Advance>
+    ensures { result ≡ after_object role }
 {
-    match role_of(shape) {
+    match role {
         Role::Goes => Some(Advance::Within(Stage::AfterColon)),
         Role::Assigns => None,
         Role::Follows => None,
@@ -188,59 +196,73 @@ fn after_object(shape: Shape) -> Option<Advance>
     }
 }
 
-fn after_element(left: Option<Outcome>, shape: Shape) -> Option<Advance>
-    ensures { result ≡ after_element left shape }
+fn after_element(left: Option<Outcome>, kind: &TokenKind) -> Option<Advance>
+    ensures { result ≡ after_element left kind.now }
 {
-    match shape {
-        Shape::Close(_) => Some(Advance::Within(Stage::AfterTarget(left))),
-        Shape::Name(_)
-        | Shape::Constant(_)
-        | Shape::Mark(_, _, _)
-        | Shape::Open(_)
-        | Shape::Comma(_)
-        | Shape::Part(_, _, _) => None,
+    match kind {
+        TokenKind::Close => Some(Advance::Within(Stage::AfterTarget(left))),
+        TokenKind::Identifier(_)
+        | TokenKind::Constant(_)
+        | TokenKind::Mark(_)
+        | TokenKind::Open
+        | TokenKind::Comma
+        | TokenKind::Part(_) => None,
     }
 }
 
 // What comes after a part that is complete.
-fn leave(field: Field, shape: Shape) -> Option<Advance>
-    ensures { result ≡ leave field shape }
+fn leave(field: Field, before: bool, after: bool, kind: &TokenKind) -> Option<Advance>
+    ensures { result ≡ leave field (spaced before after kind.now) }
 {
     match field {
-        Field::Subject => after_subject(shape),
-        Field::Pattern => after_pattern(shape),
-        Field::Object => after_object(shape),
-        Field::Target(left) => after_element(left, shape),
+        Field::Subject => after_subject(before, after, kind),
+        Field::Pattern => after_pattern(role_by(before, after, kind)),
+        Field::Object => after_object(role_by(before, after, kind)),
+        Field::Target(left) => after_element(left, kind),
     }
 }
 
-fn in_field(field: Field, complete: bool, shape: Shape, taken: Option<Move>) -> Option<Advance>
-    ensures { result ≡ in_field field complete shape taken }
+// A part takes what it can.
+fn in_field(
+    field: Field,
+    inner: Option<Paren>,
+    position: Position,
+    before: bool,
+    after: bool,
+    kind: &TokenKind,
+) -> Option<Advance>
+    ensures { result ≡ advance inner (Stage.In field position) (spaced before after kind.now) }
 {
-    match taken {
+    match step(alone(field), inner, position, before, after, kind) {
         Some(taken) => Some(within(field, taken)),
-        None => { if complete { leave(field, shape) } else { None } }
+        None => {
+            if ends(inner, position) {
+                leave(field, before, after, kind)
+            } else {
+                None
+            }
+        }
     }
 }
 
-fn at_first(shape: Shape) -> Option<Advance>
-    ensures { result ≡ at_first (role shape) shape }
+fn at_first(before: bool, after: bool, kind: &TokenKind) -> Option<Advance>
+    ensures { result ≡ at_first (role_by before after kind.now) (spaced before after kind.now) }
 {
-    match role_of(shape) {
+    match role_by(before, after, kind) {
         Role::Assigns => None,
         Role::Goes => Some(Advance::Within(Stage::AfterColon)),
-        Role::Follows => enter(Field::Subject, shape),
-        Role::Touches => enter(Field::Subject, shape),
+        Role::Follows => enter(Field::Subject, before, after, kind),
+        Role::Touches => enter(Field::Subject, before, after, kind),
     }
 }
 
-fn after_equals(shape: Shape) -> Option<Advance>
-    ensures { result ≡ after_equals (role shape) shape }
+fn after_equals(before: bool, after: bool, kind: &TokenKind) -> Option<Advance>
+    ensures { result ≡ after_equals (role_by before after kind.now) (spaced before after kind.now) }
 {
-    match role_of(shape) {
+    match role_by(before, after, kind) {
         Role::Assigns => None,
         Role::Goes => Some(Advance::Within(Stage::AfterColon)),
-        Role::Follows => enter(Field::Object, shape),
+        Role::Follows => enter(Field::Object, before, after, kind),
         Role::Touches => None,
     }
 }
@@ -254,78 +276,81 @@ fn other(outcome: Outcome) -> Outcome
     }
 }
 
-fn after_colon(shape: Shape) -> Option<Advance>
-    ensures { result ≡ after_colon shape }
+fn after_colon(kind: &TokenKind) -> Option<Advance>
+    ensures { result ≡ after_colon kind.now }
 {
-    match shape {
-        Shape::Open(_) => Some(Advance::Within(Stage::InTarget(None))),
-        Shape::Part(_, _, PartShape::On(outcome)) => Some(Advance::Within(Stage::AfterOutcome(Some(
-            other(outcome),
-        )))),
+    match kind {
+        TokenKind::Open => Some(Advance::Within(Stage::InTarget(None))),
+        TokenKind::Part(Part::On(outcome)) => Some(Advance::Within(Stage::AfterOutcome(Some(other(
+            *outcome,
+        ))))),
         _ => None,
     }
 }
 
-fn after_outcome(left: Option<Outcome>, shape: Shape) -> Option<Advance>
-    ensures { result ≡ after_outcome left shape }
+fn after_outcome(left: Option<Outcome>, kind: &TokenKind) -> Option<Advance>
+    ensures { result ≡ after_outcome left kind.now }
 {
-    match shape {
-        Shape::Open(_) => Some(Advance::Within(Stage::InTarget(left))),
-        Shape::Name(_)
-        | Shape::Constant(_)
-        | Shape::Mark(_, _, _)
-        | Shape::Close(_)
-        | Shape::Comma(_)
-        | Shape::Part(_, _, _) => None,
+    match kind {
+        TokenKind::Open => Some(Advance::Within(Stage::InTarget(left))),
+        TokenKind::Identifier(_)
+        | TokenKind::Constant(_)
+        | TokenKind::Mark(_)
+        | TokenKind::Close
+        | TokenKind::Comma
+        | TokenKind::Part(_) => None,
     }
 }
 
-fn in_target(left: Option<Outcome>, shape: Shape) -> Option<Advance>
-    ensures { result ≡ in_target left shape }
+fn in_target(left: Option<Outcome>, before: bool, after: bool, kind: &TokenKind) -> Option<Advance>
+    ensures { result ≡ in_target left before after kind.now }
 {
-    match shape {
-        Shape::Part(_, _, PartShape::Label) => Some(Advance::Within(Stage::AfterLabel(left))),
-        Shape::Mark(_, _, Mark::Dollar) => enter(Field::Target(left), shape),
+    match kind {
+        TokenKind::Part(Part::Label(_)) => Some(Advance::Within(Stage::AfterLabel(left))),
+        TokenKind::Mark(Mark::Dollar) => enter(Field::Target(left), before, after, kind),
         _ => None,
     }
 }
 
-fn after_target(left: Option<Outcome>, shape: Shape) -> Option<Advance>
-    ensures { result ≡ after_target left shape }
+fn after_target(left: Option<Outcome>, kind: &TokenKind) -> Option<Advance>
+    ensures { result ≡ after_target left kind.now }
 {
     match left {
         None => None,
-        Some(Outcome::Success) => match shape {
-            Shape::Part(_, _, PartShape::On(Outcome::Success)) => Some(Advance::Within(
-                Stage::AfterOutcome(None),
-            )),
+        Some(Outcome::Success) => match kind {
+            TokenKind::Part(Part::On(Outcome::Success)) => Some(Advance::Within(Stage::AfterOutcome(
+                None,
+            ))),
             _ => None,
         },
-        Some(Outcome::Failure) => match shape {
-            Shape::Part(_, _, PartShape::On(Outcome::Failure)) => Some(Advance::Within(
-                Stage::AfterOutcome(None),
-            )),
+        Some(Outcome::Failure) => match kind {
+            TokenKind::Part(Part::On(Outcome::Failure)) => Some(Advance::Within(Stage::AfterOutcome(
+                None,
+            ))),
             _ => None,
         },
     }
 }
 
 // What one more token does, unless it is not taken.
-fn next_advance(inner: Option<Paren>, stage: Stage, shape: Shape) -> Option<Advance>
-    ensures { result ≡ advance inner stage shape }
+fn next_advance(
+    inner: Option<Paren>,
+    stage: Stage,
+    before: bool,
+    after: bool,
+    kind: &TokenKind,
+) -> Option<Advance>
+    ensures { result ≡ advance inner stage (spaced before after kind.now) }
 {
     match stage {
-        Stage::First => at_first(shape),
-        Stage::In(field, position) => {
-            let taken = step(alone(field), inner, position, shape);
-            in_field(field, ends(inner, position), shape, taken)
-        }
-        Stage::AfterEquals => after_equals(shape),
-        Stage::AfterColon => after_colon(shape),
-        Stage::AfterOutcome(left) => after_outcome(left, shape),
-        Stage::InTarget(left) => in_target(left, shape),
-        Stage::AfterLabel(left) => after_element(left, shape),
-        Stage::AfterTarget(left) => after_target(left, shape),
+        Stage::First => at_first(before, after, kind),
+        Stage::In(field, position) => in_field(field, inner, position, before, after, kind),
+        Stage::AfterEquals => after_equals(before, after, kind),
+        Stage::AfterColon => after_colon(kind),
+        Stage::AfterOutcome(left) => after_outcome(left, kind),
+        Stage::InTarget(left) => in_target(left, before, after, kind),
+        Stage::AfterLabel(left) => after_element(left, kind),
+        Stage::AfterTarget(left) => after_target(left, kind),
     }
 }
 
@@ -366,22 +391,22 @@ fn advanced(alloc: Global, parens: Parens, advance: Advance) -> Result<Walk, All
     }
 }
 
-fn takes(walk: &Walk, shape: Shape) -> bool
-    ensures { result ≡ takes (walk_of walk.now) shape }
+fn takes(walk: &Walk, before: bool, after: bool, kind: &TokenKind) -> bool
+    ensures { result ≡ takes (walk_of walk.now) (spaced before after kind.now) }
 {
-    match next_advance(inner(&walk.parens), walk.stage, shape) {
+    match next_advance(inner(&walk.parens), walk.stage, before, after, kind) {
         Some(_) => true,
         None => false,
     }
 }
 
-fn refused_as(walk: &Walk, shape: Shape) -> FaultKind
-    ensures { result ≡ refused_as (walk_of walk.now) shape }
+fn refused_as(walk: &Walk, kind: &TokenKind) -> FaultKind
+    ensures { result ≡ refused_as (walk_of walk.now) kind.now }
 {
-    if takes(walk, with_blanks(false, false, shape))
-        || takes(walk, with_blanks(false, true, shape))
-        || takes(walk, with_blanks(true, false, shape))
-        || takes(walk, with_blanks(true, true, shape))
+    if takes(walk, false, false, kind)
+        || takes(walk, false, true, kind)
+        || takes(walk, true, false, kind)
+        || takes(walk, true, true, kind)
     {
         FaultKind::MissingBlank
     } else {
@@ -397,12 +422,18 @@ fn refused_as(walk: &Walk, shape: Shape) -> FaultKind
 pub fn walk_on(
     alloc: Global,
     walk: Walk,
-    shape: Shape,
+    token: &Token,
 ) -> Result<Result<Walk, FaultKind>, AllocError>
-    ensures { IfOk result (λ r. Stepped (walk_of walk) shape r) }
+    ensures { IfOk result (λ r. Stepped (walk_of walk) token.now r) }
 {
-    match next_advance(inner(&walk.parens), walk.stage, shape) {
-        None => Ok(Err(refused_as(&walk, shape))),
+    match next_advance(
+        inner(&walk.parens),
+        walk.stage,
+        token.blank_before,
+        token.blank_after,
+        &token.kind,
+    ) {
+        None => Ok(Err(refused_as(&walk, &token.kind))),
         Some(advance) => {
             let Walk { parens, stage: _ } = walk;
             let next = advanced(alloc, parens, advance)?;
