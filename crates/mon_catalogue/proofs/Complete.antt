@@ -1,5 +1,5 @@
 -- A text of a catalogue is read as that catalogue.
-use Rattle.std.proofs.Common.{◌≡◌, ℕ, suc, ◌+◌, ◌<◌, ◌≤◌, nat_eq, nat_le, Bool, true, false, ◌&&◌, if◌then◌else◌, List, [], ◌∷◌, ◌++◌, Option, None, Some, Result, Ok, Err, is_some, length, drop, refl, sym, ap, subst, ◌∙◌, arith, length-append}
+use Rattle.std.proofs.Common.{◌≡◌, ℕ, suc, ◌+◌, ◌<◌, ◌≤◌, nat_eq, nat_le, Bool, true, false, if◌then◌else◌, List, [], ◌∷◌, ◌++◌, Option, None, Some, Result, Ok, Err, is_some, length, drop, refl, sym, ap, subst, ◌∙◌, arith, length-append}
 use Rattle.std.specs.Prelude.{IsTrue}
 use Rattle.std.specs.List.{list_all, IsDistinct}
 use Rattle.std.specs.Map.{keys_of}
@@ -7,7 +7,6 @@ use Rattle.std.specs.Cmp.Lexicographic.{pointwise}
 use Rattle.std.proofs.lemmas.List.{append_assoc, append-nil, map-append}
 use Rattle.std.proofs.Math.Seq.{drop-append_seam}
 use borrow.Author.Tests.{le-ltb, lt-leb}
-use Rattle.mon_text.specs.Counts.{value_of}
 use Rattle.mon_text.specs.declared.stop.Stop.{Stop}
 use Rattle.mon_text.specs.declared.stop.Stop.TheVariants as stop
 use Rattle.mon_text.specs.Lines.{is_blank_line, words}
@@ -23,14 +22,11 @@ use Rattle.mon_catalogue.specs.Records.{is_record, AreRecords}
 use Rattle.mon_catalogue.specs.Sets.{Sets, find_set, NamesDiffer}
 use Rattle.mon_catalogue.specs.Head.{head_of, head_refusal}
 use Rattle.mon_catalogue.proofs.AtOnce.{◌>>=◌, unless, checked_head, head_at, acl_from, acl_at, records_at, set_of, sets_at, all_at_once}
-use Rattle.mon_catalogue.specs.Spelling.{SpellsHead, SpellsSets, IsCatalogueText}
+use Rattle.mon_catalogue.specs.Spelling.{head_for, SpellsSets, IsCatalogueText}
+use Rattle.mon_catalogue.proofs.Heads.{head_words}
 use Rattle.mon_catalogue.proofs.Readings.{skipped}
 use Rattle.mon_catalogue.proofs.Blanks.{both, no_words, after_blanks, only_blanks}
 use Rattle.mon_catalogue.proofs.Names.{any_name, not_found, none_before}
-
--- what the `$SET` line of a set says
-abbrev head_for : List ℕ × DataSet → Head
-head_for named = record { name = named.0; owner = named.1.owner; group = named.1.group; count = length named.1.records }
 
 -- the records are read, whatever follows
 records_taken : (n : ℕ) (records rest : List (List ℕ)) → IsTrue (list_all is_record records) → records_at n (length records) (records ++ rest) ≡ Ok records
@@ -48,16 +44,6 @@ with_words line word others has = by (is_blank_line line) refl
     by false e = refl
     by true e = let none = no_words line e in cc
 
-five_hold : (a b c d e : Bool) → a ≡ true → b ≡ true → c ≡ true → d ≡ true → e ≡ true → (a && b && c && d && e) ≡ true
-five_hold a b c d e h i j k l = rw (h, i, j, k, l) refl
-
-head_read : (line : List ℕ) (named : List ℕ × DataSet) → SpellsHead line named.0 named.1 → head_of (words line) ≡ Some (head_for named)
-head_read line named (count, has, name, owner, group, is, value) =
-    ap head_of has
-    ∙ ap (λ (b : Bool). if b then Some (record { name = named.0; owner = named.1.owner; group = named.1.group; count = value_of count }) else None)
-    (five_hold _ _ _ _ _ refl name owner group is)
-    ∙ ap (λ (k : ℕ). Some (record { name = named.0; owner = named.1.owner; group = named.1.group; count = k })) value
-
 not_refused : (n : ℕ) (sets : Sets) (head : Head) → head.count ≤ 100000 → find_set head.name sets ≡ None → length sets < 1000 → head_refusal n sets head ≡ None
 not_refused n sets head small absent few =
     ap (λ (b : Bool). if b then Some (SetFull n) else if is_some (find_set head.name sets) then Some (NameTaken n)
@@ -65,10 +51,10 @@ not_refused n sets head small absent few =
     ∙ ap (λ (o : Option DataSet). if is_some o then Some (NameTaken n) else if nat_le 1000 (length sets) then Some (CatalogueFull n) else None) absent
     ∙ ap (λ (b : Bool). if b then Some (CatalogueFull n) else None) (lt-leb 1000 (length sets) few)
 
-head_taken : (n : ℕ) (sets : Sets) (line : List ℕ) (named : List ℕ × DataSet) → SpellsHead line named.0 named.1
+head_taken : (n : ℕ) (sets : Sets) (line : List ℕ) (named : List ℕ × DataSet) → head_of (words line) ≡ Some (head_for named)
     → length named.1.records ≤ 100000 → find_set named.0 sets ≡ None → length sets < 1000 → head_at n sets line ≡ Ok (head_for named)
 head_taken n sets line named spells small absent few =
-    ap (checked_head n sets) (head_read line named spells)
+    ap (checked_head n sets) spells
     ∙ ap (λ (o : Option CatalogueError). unless o (head_for named)) (not_refused n sets (head_for named) small absent few)
 
 -- what follows the lines of a set
@@ -78,11 +64,11 @@ behind list records rest =
     ap (λ (k : ℕ). drop k (list ∷ records ++ rest)) next ∙ drop-append_seam records rest
 
 -- the lines of a set, where a `$SET` line is due, lead behind them
-set_taken : (n : ℕ) (sets : Sets) (named : List ℕ × DataSet) (head list : List ℕ) (rest : List (List ℕ)) → SpellsHead head named.0 named.1
+set_taken : (n : ℕ) (sets : Sets) (named : List ℕ × DataSet) (head list : List ℕ) (rest : List (List ℕ)) → head_of (words head) ≡ Some (head_for named)
     → read_short list ≡ Ok named.1.acl → AreRecords named.1.records → find_set named.0 sets ≡ None → length sets < 1000
     → sets_at n sets 0 (head ∷ list ∷ named.1.records ++ rest) ≡ sets_at (n + 1 + (1 + length named.1.records)) (sets ++ named ∷ []) 0 rest
 set_taken n sets named head list rest spells reads are absent few =
-    ap (λ (b : Bool). if b then sets_at (n + 1) sets 0 (list ∷ named.1.records ++ rest) else (head_at n sets head >>= with_head)) (with_words head _ _ spells.1)
+    ap (λ (b : Bool). if b then sets_at (n + 1) sets 0 (list ∷ named.1.records ++ rest) else (head_at n sets head >>= with_head)) (with_words head _ _ (head_words (words head) (head_for named) spells).1)
     ∙ ap (λ (r : Result Head (Stop CatalogueError)). r >>= with_head) (head_taken n sets head named spells are.0 absent few)
     ∙ ap (λ (r : Result (List Entry) AclError). acl_from (n + 1) r >>= with_acl) reads
     ∙ ap (λ (r : Result (List (List ℕ)) (Stop CatalogueError)). r >>= with_records) (records_taken (n + 2) named.1.records rest are.1)

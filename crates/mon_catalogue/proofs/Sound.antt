@@ -1,15 +1,12 @@
 -- What is read as a catalogue is a text of it.
 use Rattle.std.proofs.Common.{◌≡◌, ℕ, zero, suc, ◌+◌, ◌<◌, ◌≤◌, nat_eq, nat_le, nat_lt, Bool, true, false, ◌&&◌, if◌then◌else◌, List, [], ◌∷◌, ◌++◌, Option, None, Some, Result, Ok, Err, is_some, length, drop, refl, sym, ap, subst, ◌∙◌, arith, length-append}
-use Rattle.std.specs.Prelude.{codes, IsTrue}
+use Rattle.std.specs.Prelude.{IsTrue}
 use Rattle.std.specs.List.{list_all, IsDistinct}
 use Rattle.std.specs.Map.{keys_of}
 use Rattle.std.specs.Cmp.Lexicographic.{pointwise, nat_list_eq_equiv}
 use Rattle.std.proofs.lemmas.List.{append_assoc, append-nil, map-append}
 use Rattle.std.proofs.lemmas.Map.Keys.{IsDistinct-push}
-use Rattle.std.proofs.lemmas.Slice.Eq.{bytes_eq-Decides}
 use borrow.Author.Tests.{ltb-false, leb-false}
-use Rattle.mon_text.specs.Names.{is_name, IsName}
-use Rattle.mon_text.specs.Counts.{is_count, IsCount, value_of}
 use Rattle.mon_text.specs.declared.stop.Stop.{Stop}
 use Rattle.mon_text.specs.declared.stop.Stop.TheVariants as stop
 use Rattle.mon_text.specs.Lines.{is_blank_line, words}
@@ -24,11 +21,10 @@ use Rattle.mon_catalogue.specs.declared.loading.CatalogueError.{CatalogueError}
 use Rattle.mon_catalogue.specs.declared.loading.CatalogueError.TheVariants.{NameTaken, SetFull, CatalogueFull, BadText}
 use Rattle.mon_catalogue.specs.Records.{is_record, AreRecords}
 use Rattle.mon_catalogue.specs.Sets.{Sets, find_set, NamesDiffer}
-use Rattle.mon_catalogue.specs.Head.{head_of, are_head_words, head_refusal}
+use Rattle.mon_catalogue.specs.Head.{head_of, head_refusal}
 use Rattle.mon_catalogue.proofs.AtOnce.{◌>>=◌, unless, checked_head, head_at, acl_from, acl_at, records_at, set_of, sets_at, all_at_once}
-use Rattle.mon_catalogue.specs.Spelling.{SpellsHead, SpellsSets, IsCatalogueText}
+use Rattle.mon_catalogue.specs.Spelling.{head_for, SpellsSets, IsCatalogueText}
 use Rattle.mon_catalogue.proofs.Readings.{skipped}
-use Rattle.mon_catalogue.proofs.Blanks.{both}
 use Rattle.mon_catalogue.proofs.Names.{any_name}
 use Rattle.mon_catalogue.proofs.Complete.{behind}
 
@@ -67,40 +63,6 @@ records_read (suc count) n (line ∷ lines) records h =
     let all' : line ∷ others ≡ records = cc in
     subst (λ (rs : List (List ℕ)). AreFirst rs (suc count) (line ∷ lines)) all'
     (rest, ap (λ (ls : List (List ℕ)). line ∷ ls) are, ap suc many, ap (λ (b : Bool). b && list_all is_record others) short.0 ∙ all)
-
--- five tests, of which all hold
-all_five : (a b c d e : Bool) → (a && b && c && d && e) ≡ true → (a ≡ true) × (b ≡ true) × (c ≡ true) × (d ≡ true) × (e ≡ true)
-all_five a b c d e h =
-    let four = both (a && b && c && d) e h in
-    let three = both (a && b && c) d four.0 in
-    let two = both (a && b) c three.0 in
-    let one = both a b two.0 in
-    (one.0, one.1, two.1, three.1, four.1)
-
--- words that say what a `$SET` line says
-abbrev AreHeadWords : List (List ℕ) → Head → Type 0
-AreHeadWords ws head =
-    (count : List ℕ) × (ws ≡ codes "$SET" ∷ head.name ∷ head.owner ∷ head.group ∷ count ∷ [])
-    × IsName head.name × IsName head.owner × IsName head.group × IsCount count × (value_of count ≡ head.count)
-
-head_words : (ws : List (List ℕ)) (head : Head) → head_of ws ≡ Some head → AreHeadWords ws head
-head_words [] head h = cc
-head_words (a ∷ []) head h = cc
-head_words (a ∷ b ∷ []) head h = cc
-head_words (a ∷ b ∷ c ∷ []) head h = cc
-head_words (a ∷ b ∷ c ∷ d ∷ []) head h = cc
-head_words (a ∷ b ∷ c ∷ d ∷ e ∷ f ∷ ws) head h = cc
-head_words (a ∷ b ∷ c ∷ d ∷ e ∷ []) head h = by (are_head_words a b c d e) refl h
-  where
-    by : (fit : Bool) → are_head_words a b c d e ≡ fit → (if fit then Some (record { name = b; owner = c; group = d; count = value_of e }) else None) ≡ Some head
-        → AreHeadWords (a ∷ b ∷ c ∷ d ∷ e ∷ []) head
-    by false is h = cc
-    by true is h =
-        let parts = all_five (pointwise nat_eq a (codes "$SET")) (is_name b) (is_name c) (is_name d) (is_count e) is in
-        let same : record { name = b; owner = c; group = d; count = value_of e } ≡ head = cc in
-        let card : a ≡ codes "$SET" = (bytes_eq-Decides a (codes "$SET")).0 parts.0 in
-        subst (AreHeadWords (a ∷ b ∷ c ∷ d ∷ e ∷ [])) same
-        (e, ap (λ (x : List ℕ). x ∷ b ∷ c ∷ d ∷ e ∷ []) card, parts.1, parts.2, parts.3, parts.4, refl)
 
 no_refusal : (n : ℕ) (sets : Sets) (head : Head) → head_refusal n sets head ≡ None
     → (head.count ≤ 100000) × (is_some (find_set head.name sets) ≡ false) × (length sets < 1000)
@@ -148,7 +110,7 @@ pub record SetRead (line : List ℕ) (lines : List (List ℕ)) (n : ℕ) (before
   list : List ℕ
   rest : List (List ℕ)
   lines_are : lines ≡ list ∷ named.1.records ++ rest
-  head_is : SpellsHead line named.0 named.1
+  head_is : head_of (words line) ≡ Some (head_for named)
   list_is : IsShortText list named.1.acl
   records_are : AreRecords named.1.records
   absent : is_some (find_set named.0 before) ≡ false
@@ -167,7 +129,6 @@ set_of_parts : (line : List ℕ) (lines : List (List ℕ)) (n : ℕ) (before all
     → sets_at (n + 1) (before ++ (head.name, set_of head acl records) ∷ []) (1 + head.count) lines ≡ Ok all → SetRead line lines n before all
 set_of_parts line lines n before all head acl records head_ok acl_ok records_ok h =
     let (is_head, clear) = head_checked n before (head_of (words line)) head head_ok in
-    let (count, has, name, owner, group, is, value) = head_words (words line) head is_head in
     let (small, absent, few) = no_refusal n before head clear in
     let (list, behind_list, lines_are, list_is) = acl_read (n + 1) lines acl acl_ok in
     let (rest, are, many, short) = records_read head.count (n + 2) (drop 1 lines) records records_ok in
@@ -185,7 +146,7 @@ set_of_parts line lines n before all head acl records head_ok acl_ok records_ok 
       list = list;
       rest = rest;
       lines_are = all_lines;
-      head_is = (count, has, name, owner, group, is, value ∙ sym many);
+      head_is = is_head ∙ ap (λ (k : ℕ). Some (record { name = head.name; owner = head.owner; group = head.group; count = k })) (sym many);
       list_is = (reading_spells list acl).1 list_is;
       records_are = (subst (λ (k : ℕ). k ≤ 100000) (sym many) small, short);
       absent = absent;

@@ -5,8 +5,8 @@ pub mod Lending
 pub mod Text
 pub mod Head
 pub mod Progress
-pub mod Stages
 pub mod Reading
 pub mod Spelling
 pub mod Stored
 pub mod Laws
+pub mod inner

@@ -1,22 +1,20 @@
 -- Which text is the text of which catalogue (own). Blank lines may stand before, between and after the sets.
-use Rattle.std.specs.Prelude.{◌≡◌, ℕ, List, [], ◌∷◌, ◌++◌, length, codes, IsTrue}
+use Rattle.std.specs.Prelude.{◌≡◌, ℕ, List, [], ◌∷◌, ◌++◌, length, Some, IsTrue}
 use Rattle.std.specs.List.{list_all}
-use Rattle.mon_text.specs.Names.{IsName}
-use Rattle.mon_text.specs.Counts.{IsCount, value_of}
 use Rattle.mon_text.specs.Lines.{is_blank_line, words}
 use Rattle.mon_acl.specs.Texts.{IsShortText}
 use Rattle.mon_catalogue.specs.declared.data_set.DataSet.{DataSet}
+use Rattle.mon_catalogue.specs.declared.head.Head.{Head}
+use Rattle.mon_catalogue.specs.Head.{head_of}
 use Rattle.mon_catalogue.specs.Records.{AreRecords}
 use Rattle.mon_catalogue.specs.Sets.{Sets, IsCatalogue}
 
 abbrev pub AreBlank : List (List ℕ) → Type 0
 AreBlank lines = IsTrue (list_all is_blank_line lines)
 
--- a `$SET` line: five words, the last of them a count of the records
-abbrev pub SpellsHead : List ℕ → List ℕ → DataSet → Type 0
-SpellsHead line name set =
-    (count : List ℕ) × (words line ≡ codes "$SET" ∷ name ∷ set.owner ∷ set.group ∷ count ∷ [])
-    × IsName name × IsName set.owner × IsName set.group × IsCount count × (value_of count ≡ length set.records)
+-- what the `$SET` line of a set says
+abbrev pub head_for : List ℕ × DataSet → Head
+head_for named = record { name = named.0; owner = named.1.owner; group = named.1.group; count = length named.1.records }
 
 -- lines that begin with those of a set, and then go on with the rest: its `$SET` line, its permission list, its records as they are
 pub record SpellsSet (lines : List (List ℕ)) (named : List ℕ × DataSet) (rest : List (List ℕ)) : Type 0 where
@@ -25,7 +23,7 @@ pub record SpellsSet (lines : List (List ℕ)) (named : List ℕ × DataSet) (re
   pub list : List ℕ
   pub lines_are : lines ≡ blanks ++ (head ∷ list ∷ named.1.records ++ rest)
   pub blanks_are : AreBlank blanks
-  pub head_is : SpellsHead head named.0 named.1
+  pub head_is : head_of (words head) ≡ Some (head_for named)
   pub list_is : IsShortText list named.1.acl
   pub records_are : AreRecords named.1.records
 

@@ -10,7 +10,7 @@ ghost use Rattle.mon_catalogue.specs.Reading.{catalogue_of, catalogue_refusal, G
 ghost use Rattle.mon_catalogue.specs.Records.{is_record};
 ghost use Rattle.mon_catalogue.specs.Sets.{Sets};
 ghost use Rattle.mon_catalogue.specs.Spelling.{IsCatalogueText};
-ghost use Rattle.mon_catalogue.specs.Stages.{Reaches, Arrives, Pushes, IsSound, IsAwaited, progress_of};
+ghost use Rattle.mon_catalogue.specs.inner.Stages.{Reaches, Arrives, Pushes, IsSound, IsAwaited, progress_of};
 
 use crate::catalogue::{Catalogue, MOST_SETS};
 use crate::data_set::{DataSet, MOST_RECORD_CHARACTERS, MOST_RECORDS, Records};
@@ -61,7 +61,7 @@ pub struct Loading {
 impl Model for Loading {
     ghost use Rattle.std.specs.Prelude.{◌≤◌, ◌^◌};
     ghost use Rattle.mon_catalogue.specs.Progress.{Progress};
-    ghost use Rattle.mon_catalogue.specs.Stages.{progress_of, IsSound};
+    ghost use Rattle.mon_catalogue.specs.inner.Stages.{progress_of, IsSound};
 
     ghost Value = { Progress };
 
