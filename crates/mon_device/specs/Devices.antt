@@ -19,3 +19,7 @@ holding told bytes = option_map (λ held. held ++ bytes) told
 -- a count of reads after one read more: it stays where the numbers of 64 bits end
 abbrev pub one_more : ℕ → ℕ
 one_more reads = min (reads + 1) 18446744073709551615
+
+-- a writer that held the first has taken bytes from the front, and has not taken what is left
+abbrev pub HasTaken : Option (List ℕ) → Option (List ℕ) → List ℕ → List ℕ → Type 0
+HasTaken held now bytes left = (taken : List ℕ) × (now ≡ holding held taken) × (bytes ≡ taken ++ left)

@@ -1,6 +1,6 @@
 //! All of a reader's bytes, and bytes to a writer.
-ghost use Rattle.std.specs.Prelude.{◌≡◌, ◌⊎◌, ◌||◌, ◌≤◌, ℕ, true, false, Some, IfOk, IfSome, OnOk, OnErr, is_err, vec_len};
-ghost use Rattle.mon_device.specs.Devices.{Gives, IsAtEnd, holding};
+ghost use Rattle.std.specs.Prelude.{◌≡◌, ◌⊎◌, ◌||◌, ◌≤◌, ℕ, List, true, false, Some, IfOk, IfSome, OnOk, OnErr, is_err, vec_len};
+ghost use Rattle.mon_device.specs.Devices.{Gives, IsAtEnd, HasTaken, holding};
 ghost use Rattle.mon_device.specs.declared.transfer.TheConstants.{MOST_READS};
 
 use crate::device::{DeckReader, DeckWriter, Failed};
@@ -86,9 +86,14 @@ pub fn read_all<R: DeckReader>(alloc: Global, reader: &mut R) -> Result<Vec<u8>,
 }
 
 /// Writes all the bytes.
+///
+/// # Errors
+///
+/// `Failed` where the writer failed; it has taken bytes from the front then, or none.
 #[tactic(auto, using(crate::proofs::Holding::holds))]
 pub fn write_all<W: DeckWriter>(writer: &mut W, bytes: &[u8]) -> Result<(), Failed>
     ensures all { OnOk result (W.written writer.new ≡ holding (W.written writer.old) bytes.now) }
+    ensures part { OnErr result ((left : List ℕ) × HasTaken (W.written writer.old) (W.written writer.new) bytes.now left) }
     ensures failed { W.has_failed writer.new ≡ (W.has_failed writer.old || is_err result) }
 {
     let mut rest = bytes;
