@@ -93,7 +93,7 @@ pub fn read_all<R: DeckReader>(alloc: Global, reader: &mut R) -> Result<Vec<u8>,
 #[tactic(auto, using(crate::proofs::Holding::holds))]
 pub fn write_all<W: DeckWriter>(writer: &mut W, bytes: &[u8]) -> Result<(), Failed>
     ensures all { OnOk result (W.written writer.new ≡ holding (W.written writer.old) bytes.now) }
-    ensures part { OnErr result ((left : List ℕ) × HasTaken (W.written writer.old) (W.written writer.new) bytes.now left) }
+    ensures taken { (left : List ℕ) × HasTaken (W.written writer.old) (W.written writer.new) bytes.now left }
     ensures failed { W.has_failed writer.new ≡ (W.has_failed writer.old || is_err result) }
 {
     let mut rest = bytes;
