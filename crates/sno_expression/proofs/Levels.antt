@@ -36,11 +36,11 @@ abbrev pub implies : Bool → Bool → Bool
 implies true b = b
 implies false b = true
 
-and_left : (a b : Bool) → (a && b) ≡ true → a ≡ true
+pub and_left : (a b : Bool) → (a && b) ≡ true → a ≡ true
 and_left true b h = refl
 and_left false b h = h
 
-and_right : (a b : Bool) → (a && b) ≡ true → b ≡ true
+pub and_right : (a b : Bool) → (a && b) ≡ true → b ≡ true
 and_right true b h = h
 and_right false b h = cc
 
@@ -133,7 +133,7 @@ pub push_here : (o : BinaryOperator) (x l : Expression) → FitsLeft o l → pus
 push_here o x (Binary i a b) f = ap (λ (c : Bool). if c then Binary i a (push o x b) else Binary o (Binary i a b) x) (not_under i o f)
 push_here o x _ f = refl
 
-push_under : (p o : BinaryOperator) (x l a : Expression) → binds_into_right p o ≡ true → push p x (Binary o l a) ≡ Binary o l (push p x a)
+pub push_under : (p o : BinaryOperator) (x l a : Expression) → binds_into_right p o ≡ true → push p x (Binary o l a) ≡ Binary o l (push p x a)
 push_under p o x l a h = ap (λ (c : Bool). if c then Binary o l (push p x a) else Binary p (Binary o l a) x) h
 
 -- what may stand left under an operator that goes right of another may stand right of that one

@@ -3,6 +3,7 @@ pub mod Feeding
 pub mod Steps
 pub mod Lone
 pub mod Sound
+pub mod Spines
 pub mod Variables
 pub mod Grammar
 pub mod Loop

@@ -4,6 +4,9 @@ use Rattle.sno_expression.specs.declared.tree.Expression.{Expression as AnExpres
 use Rattle.sno_expression.specs.declared.tree.Expression.TheVariants as tree
 use Rattle.sno_expression.specs.declared.tree.Arguments.{Arguments as SomeArguments}
 use Rattle.sno_expression.specs.declared.tree.Arguments.TheVariants as args
+use Rattle.sno_expression.specs.declared.spine.Pending.{Pending}
+use Rattle.sno_expression.specs.declared.spine.Pending.TheVariants as pending
+use Rattle.sno_expression.specs.declared.spine.Spine.{Spine}
 use Rattle.sno_expression.specs.declared.reading.Hole.{Hole as AHole}
 use Rattle.sno_expression.specs.declared.reading.Hole.TheVariants as hole
 use Rattle.sno_expression.specs.declared.reading.Stack.{Stack as AStack}
@@ -36,9 +39,17 @@ abbrev pub expressions_of : Option AnExpression → Option Expression
 expressions_of None = None
 expressions_of (Some t) = Some (expression_of t)
 
+-- the tree of a spine with this operand at its end
+abbrev pub spread : Pending → Expression → Expression
+spread pending.End x = x
+spread (pending.More' l o q rest) x = spread rest (Binary o (expression_of l.value) x)
+
+abbrev pub spine_tree : Spine → Expression
+spine_tree s = spread s.pending (expression_of s.last)
+
 abbrev pub hole_of : AHole → Hole
 hole_of hole.Begin = Begin
-hole_of (hole.After t o) = After (expression_of t) o
+hole_of (hole.After t o) = After (spine_tree t) o
 hole_of (hole.Under' s p h) = Under s (hole_of h)
 
 abbrev pub stack_of : AStack → Stack
@@ -50,7 +61,7 @@ abbrev pub spot_of : ASpot → Spot
 spot_of (spot.Due h) = Due (hole_of h)
 spot_of (spot.Prefixed h w) = Prefixed (hole_of h) w
 spot_of (spot.Named h n) = Named (hole_of h) n
-spot_of (spot.Whole t) = Whole (expression_of t)
+spot_of (spot.Whole t) = Whole (spine_tree t)
 
 abbrev pub state_of : AState → State
 state_of s = At (stack_of s.stack) (spot_of s.spot)

@@ -2,7 +2,9 @@
 #![tactic(auto)]
 
 pub mod laws;
+mod pushing;
 mod reading;
+mod spine;
 mod tree;
 mod walking;
 

@@ -4,13 +4,16 @@ ghost use Rattle.std.specs.Prelude.{◌≡◌, ◌≤◌, IfOk, length, drop, tr
 ghost use Rattle.sno_expression.specs.Marks.{operator_of, prefix_of};
 ghost use Rattle.sno_expression.specs.Walking.{inner_of};
 ghost use Rattle.sno_expression.specs.Expressions as expressions;
+ghost use Rattle.sno_expression.specs.Spines.{is_element};
 ghost use Rattle.sno_expression.specs.Reading.{fill, prefixed, joined, begin, close, comma, first, go_on, closed, after, due, after_prefix, named, read, ended, result as result_of, parens, Read, reading};
 ghost use Rattle.sno_expression.specs.Reading as states;
-ghost use Rattle.sno_expression.specs.Told.{expression_of, arguments_of, expressions_of, hole_of, stack_of, state_of, stepped, step_of, Next, End};
+ghost use Rattle.sno_expression.specs.Told.{expression_of, arguments_of, expressions_of, spine_tree, hole_of, stack_of, state_of, stepped, step_of, Next, End};
 
+use crate::pushing::{alone, closed as closed_tree, push};
+use crate::spine::Spine;
 use crate::tree::{
     Arguments, BinaryOperator, Expression, IdentifierPrefix, Prefix, UnaryOperator, add_argument,
-    copy_constant, omit_argument, operator_of, prefix_of, push, with_prefix,
+    copy_constant, omit_argument, operator_of, prefix_of, with_prefix,
 };
 use crate::walking::{Paren, opens_call, stops};
 use mon_text::Line;
@@ -21,7 +24,7 @@ use std::alloc::{AllocError, Global};
 #[derive(Drop)]
 pub(crate) enum Hole {
     Begin,
-    After(Expression, BinaryOperator),
+    After(Spine, BinaryOperator),
     Under(UnaryOperator, Box<Hole>),
 }
 
@@ -43,7 +46,7 @@ pub(crate) enum Spot {
     /// An identifier, which may yet open a call.
     Named(Hole, Line),
     /// A whole operand.
-    Whole(Expression),
+    Whole(Spine),
 }
 
 /// How far an expression has been read.
@@ -70,15 +73,13 @@ pub struct Found {
     pub next: usize,
 }
 
-fn fill(alloc: Global, hole: Hole, operand: Expression) -> Result<Expression, AllocError>
-    ensures { IfOk result (λ t. expression_of t ≡ fill (hole_of hole) (expression_of operand)) }
+fn fill(alloc: Global, hole: Hole, operand: Expression) -> Result<Spine, AllocError>
+    requires { is_element operand ≡ true }
+    ensures { IfOk result (λ s. spine_tree s ≡ fill (hole_of hole) (expression_of operand)) }
 {
     match hole {
-        Hole::Begin => Ok(operand),
-        Hole::After(mut tree, operator) => {
-            push(alloc, operator, operand, &mut tree)?;
-            Ok(tree)
-        }
+        Hole::Begin => Ok(alone(operand)),
+        Hole::After(spine, operator) => push(alloc, operator, operand, spine),
         Hole::Under(unary, rest) => {
             let operand = Box::new(alloc, operand)?;
             fill(
@@ -92,24 +93,36 @@ fn fill(alloc: Global, hole: Hole, operand: Expression) -> Result<Expression, Al
 
 // A whole operand, in its place.
 fn whole(alloc: Global, stack: Stack, hole: Hole, operand: Expression) -> Result<Step, AllocError>
+    requires { is_element operand ≡ true }
     ensures { IfOk result (λ s. step_of s ≡ Next (states.At (stack_of stack) (states.Whole (fill (hole_of hole) (expression_of operand))))) }
 {
-    let tree = fill(alloc, hole, operand)?;
+    let spine = fill(alloc, hole, operand)?;
     Ok(Step::Next(State {
         stack,
-        spot: Spot::Whole(tree),
+        spot: Spot::Whole(spine),
     }))
 }
 
 // The tree, where one is complete.
-fn complete(stack: Stack, tree: Expression) -> Option<Expression>
-    ensures { expressions_of result ≡ ended (stack_of stack) (expression_of tree) }
+fn complete(alloc: Global, stack: Stack, spine: Spine) -> Result<Option<Expression>, AllocError>
+    ensures { IfOk result (λ t. expressions_of t ≡ ended (stack_of stack) (spine_tree spine)) }
 {
     match stack {
-        Stack::Bottom => Some(tree),
-        Stack::InGroup(_, _) => None,
-        Stack::InCall(_, _, _, _) => None,
+        Stack::Bottom => {
+            let tree = closed_tree(alloc, spine)?;
+            Ok(Some(tree))
+        }
+        Stack::InGroup(_, _) => Ok(None),
+        Stack::InCall(_, _, _, _) => Ok(None),
     }
+}
+
+// A token that is not taken after a whole operand.
+fn stop(alloc: Global, stack: Stack, spine: Spine) -> Result<Step, AllocError>
+    ensures { IfOk result (λ s. step_of s ≡ End (ended (stack_of stack) (spine_tree spine))) }
+{
+    let tree = complete(alloc, stack, spine)?;
+    Ok(Step::End(tree))
 }
 
 fn identifier_begins(
@@ -206,9 +219,10 @@ fn begin(
     }
 }
 
-fn close(alloc: Global, stack: Stack, tree: Expression) -> Result<Step, AllocError>
-    ensures { IfOk result (λ s. step_of s ≡ stepped (close (stack_of stack) (expression_of tree)) (ended (stack_of stack) (expression_of tree))) }
+fn close(alloc: Global, stack: Stack, spine: Spine) -> Result<Step, AllocError>
+    ensures { IfOk result (λ s. step_of s ≡ stepped (close (stack_of stack) (spine_tree spine)) (ended (stack_of stack) (spine_tree spine))) }
 {
+    let tree = closed_tree(alloc, spine)?;
     match stack {
         Stack::Bottom => Ok(Step::End(Some(tree))),
         Stack::InGroup(hole, below) => {
@@ -228,9 +242,10 @@ fn close(alloc: Global, stack: Stack, tree: Expression) -> Result<Step, AllocErr
     }
 }
 
-fn comma(alloc: Global, stack: Stack, tree: Expression) -> Result<Step, AllocError>
-    ensures { IfOk result (λ s. step_of s ≡ stepped (comma (stack_of stack) (expression_of tree)) (ended (stack_of stack) (expression_of tree))) }
+fn comma(alloc: Global, stack: Stack, spine: Spine) -> Result<Step, AllocError>
+    ensures { IfOk result (λ s. step_of s ≡ stepped (comma (stack_of stack) (spine_tree spine)) (ended (stack_of stack) (spine_tree spine))) }
 {
+    let tree = closed_tree(alloc, spine)?;
     match stack {
         Stack::Bottom => Ok(Step::End(Some(tree))),
         Stack::InGroup(_, _) => Ok(Step::End(None)),
@@ -322,40 +337,40 @@ fn first(alloc: Global, stack: Stack, after: bool, kind: &TokenKind) -> Result<S
     }
 }
 
-fn operator_follows(stack: Stack, tree: Expression, mark: Mark) -> Step
-    ensures { step_of result ≡ stepped (joined (stack_of stack) (expression_of tree) (operator_of mark)) (ended (stack_of stack) (expression_of tree)) }
+fn operator_follows(
+    alloc: Global,
+    stack: Stack,
+    spine: Spine,
+    mark: Mark,
+) -> Result<Step, AllocError>
+    ensures { IfOk result (λ s. step_of s ≡ stepped (joined (stack_of stack) (spine_tree spine) (operator_of mark)) (ended (stack_of stack) (spine_tree spine))) }
 {
     match operator_of(mark) {
-        Some(operator) => Step::Next(State {
+        Some(operator) => Ok(Step::Next(State {
             stack,
-            spot: Spot::Due(Hole::After(tree, operator)),
-        }),
-        None => Step::End(complete(stack, tree)),
+            spot: Spot::Due(Hole::After(spine, operator)),
+        })),
+        None => stop(alloc, stack, spine),
     }
 }
 
-fn prefix_follows(
-    alloc: Global,
-    stack: Stack,
-    tree: Expression,
-    mark: Mark,
-) -> Result<Step, AllocError>
-    ensures { IfOk result (λ s. step_of s ≡ stepped (prefixed (stack_of stack) (states.After (expression_of tree) BinaryOperator.Concatenation) (prefix_of mark)) (ended (stack_of stack) (expression_of tree))) }
+fn prefix_follows(alloc: Global, stack: Stack, spine: Spine, mark: Mark) -> Result<Step, AllocError>
+    ensures { IfOk result (λ s. step_of s ≡ stepped (prefixed (stack_of stack) (states.After (spine_tree spine) BinaryOperator.Concatenation) (prefix_of mark)) (ended (stack_of stack) (spine_tree spine))) }
 {
     match prefix_of(mark) {
         Some(Prefix::OfOperand(unary)) => prefix_begins(
             alloc,
             stack,
-            Hole::After(tree, BinaryOperator::Concatenation),
+            Hole::After(spine, BinaryOperator::Concatenation),
             Prefix::OfOperand(unary),
         ),
         Some(Prefix::OfIdentifier(prefix)) => prefix_begins(
             alloc,
             stack,
-            Hole::After(tree, BinaryOperator::Concatenation),
+            Hole::After(spine, BinaryOperator::Concatenation),
             Prefix::OfIdentifier(prefix),
         ),
-        None => Ok(Step::End(complete(stack, tree))),
+        None => stop(alloc, stack, spine),
     }
 }
 
@@ -363,16 +378,16 @@ fn prefix_follows(
 fn mark_follows(
     alloc: Global,
     stack: Stack,
-    tree: Expression,
+    spine: Spine,
     after: bool,
     mark: Mark,
 ) -> Result<Step, AllocError>
-    ensures { IfOk result (λ s. step_of s ≡ stepped (go_on (stack_of stack) (expression_of tree) true after (TokenKind.Mark mark)) (ended (stack_of stack) (expression_of tree))) }
+    ensures { IfOk result (λ s. step_of s ≡ stepped (go_on (stack_of stack) (spine_tree spine) true after (TokenKind.Mark mark)) (ended (stack_of stack) (spine_tree spine))) }
 {
     if after {
-        Ok(operator_follows(stack, tree, mark))
+        operator_follows(alloc, stack, spine, mark)
     } else {
-        prefix_follows(alloc, stack, tree, mark)
+        prefix_follows(alloc, stack, spine, mark)
     }
 }
 
@@ -380,36 +395,36 @@ fn mark_follows(
 fn follow(
     alloc: Global,
     stack: Stack,
-    tree: Expression,
+    spine: Spine,
     after: bool,
     kind: &TokenKind,
 ) -> Result<Step, AllocError>
-    ensures { IfOk result (λ s. step_of s ≡ stepped (go_on (stack_of stack) (expression_of tree) true after kind.now) (ended (stack_of stack) (expression_of tree))) }
+    ensures { IfOk result (λ s. step_of s ≡ stepped (go_on (stack_of stack) (spine_tree spine) true after kind.now) (ended (stack_of stack) (spine_tree spine))) }
 {
     match kind {
-        TokenKind::Mark(mark) => mark_follows(alloc, stack, tree, after, *mark),
+        TokenKind::Mark(mark) => mark_follows(alloc, stack, spine, after, *mark),
         TokenKind::Identifier(name) => identifier_begins(
             alloc,
             stack,
-            Hole::After(tree, BinaryOperator::Concatenation),
+            Hole::After(spine, BinaryOperator::Concatenation),
             name,
         ),
         TokenKind::Constant(constant) => {
             constant_begins(
                 alloc,
                 stack,
-                Hole::After(tree, BinaryOperator::Concatenation),
+                Hole::After(spine, BinaryOperator::Concatenation),
                 constant,
             )
         }
         TokenKind::Open => group_begins(
             alloc,
             stack,
-            Hole::After(tree, BinaryOperator::Concatenation),
+            Hole::After(spine, BinaryOperator::Concatenation),
         ),
-        TokenKind::Close => close(alloc, stack, tree),
-        TokenKind::Comma => comma(alloc, stack, tree),
-        TokenKind::Part(_) => Ok(Step::End(complete(stack, tree))),
+        TokenKind::Close => close(alloc, stack, spine),
+        TokenKind::Comma => comma(alloc, stack, spine),
+        TokenKind::Part(_) => stop(alloc, stack, spine),
     }
 }
 
@@ -417,20 +432,20 @@ fn follow(
 fn touch(
     alloc: Global,
     stack: Stack,
-    tree: Expression,
+    spine: Spine,
     after: bool,
     kind: &TokenKind,
 ) -> Result<Step, AllocError>
-    ensures { IfOk result (λ s. step_of s ≡ stepped (go_on (stack_of stack) (expression_of tree) false after kind.now) (ended (stack_of stack) (expression_of tree))) }
+    ensures { IfOk result (λ s. step_of s ≡ stepped (go_on (stack_of stack) (spine_tree spine) false after kind.now) (ended (stack_of stack) (spine_tree spine))) }
 {
     match kind {
-        TokenKind::Close => close(alloc, stack, tree),
-        TokenKind::Comma => comma(alloc, stack, tree),
+        TokenKind::Close => close(alloc, stack, spine),
+        TokenKind::Comma => comma(alloc, stack, spine),
         TokenKind::Identifier(_)
         | TokenKind::Constant(_)
         | TokenKind::Mark(_)
         | TokenKind::Open
-        | TokenKind::Part(_) => Ok(Step::End(complete(stack, tree))),
+        | TokenKind::Part(_) => stop(alloc, stack, spine),
     }
 }
 
@@ -455,17 +470,17 @@ fn after(
     alloc: Global,
     alone: bool,
     stack: Stack,
-    tree: Expression,
+    spine: Spine,
     token: &Token,
 ) -> Result<Step, AllocError>
-    ensures { IfOk result (λ s. step_of s ≡ stepped (after alone (stack_of stack) (expression_of tree) token.now.blank_before token.now.blank_after token.now.kind) (ended (stack_of stack) (expression_of tree))) }
+    ensures { IfOk result (λ s. step_of s ≡ stepped (after alone (stack_of stack) (spine_tree spine) token.now.blank_before token.now.blank_after token.now.kind) (ended (stack_of stack) (spine_tree spine))) }
 {
     if closed(alone, &stack) {
-        Ok(Step::End(complete(stack, tree)))
+        stop(alloc, stack, spine)
     } else if token.blank_before {
-        follow(alloc, stack, tree, token.blank_after, &token.kind)
+        follow(alloc, stack, spine, token.blank_after, &token.kind)
     } else {
-        touch(alloc, stack, tree, token.blank_after, &token.kind)
+        touch(alloc, stack, spine, token.blank_after, &token.kind)
     }
 }
 
@@ -475,12 +490,12 @@ fn due(alloc: Global, stack: Stack, hole: Hole, token: &Token) -> Result<Step, A
     let after = token.blank_after;
     match hole {
         Hole::Begin => first(alloc, stack, after, &token.kind),
-        Hole::After(tree, operator) => {
+        Hole::After(spine, operator) => {
             if token.blank_before {
                 begin(
                     alloc,
                     stack,
-                    Hole::After(tree, operator),
+                    Hole::After(spine, operator),
                     after,
                     &token.kind,
                 )
@@ -558,8 +573,8 @@ fn identifier_ends(
 ) -> Result<Step, AllocError>
     ensures { IfOk result (λ s. step_of s ≡ stepped (after alone (stack_of stack) (fill (hole_of hole) (expressions.Identifier name)) token.now.blank_before token.now.blank_after token.now.kind) (ended (stack_of stack) (fill (hole_of hole) (expressions.Identifier name)))) }
 {
-    let tree = fill(alloc, hole, Expression::Identifier(name))?;
-    after(alloc, alone, stack, tree, token)
+    let spine = fill(alloc, hole, Expression::Identifier(name))?;
+    after(alloc, alone, stack, spine, token)
 }
 
 fn named(
@@ -595,7 +610,7 @@ fn read(alloc: Global, alone: bool, state: State, token: &Token) -> Result<Step,
             &token.kind,
         ),
         Spot::Named(hole, name) => named(alloc, alone, stack, hole, name, token),
-        Spot::Whole(tree) => after(alloc, alone, stack, tree, token),
+        Spot::Whole(spine) => after(alloc, alone, stack, spine, token),
     }
 }
 
@@ -608,10 +623,10 @@ fn finish(alloc: Global, state: State) -> Result<Option<Expression>, AllocError>
         Spot::Due(_) => Ok(None),
         Spot::Prefixed(_, _) => Ok(None),
         Spot::Named(hole, name) => {
-            let tree = fill(alloc, hole, Expression::Identifier(name))?;
-            Ok(complete(stack, tree))
+            let spine = fill(alloc, hole, Expression::Identifier(name))?;
+            complete(alloc, stack, spine)
         }
-        Spot::Whole(tree) => Ok(complete(stack, tree)),
+        Spot::Whole(spine) => complete(alloc, stack, spine),
     }
 }
 

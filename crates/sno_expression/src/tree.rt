@@ -1,15 +1,14 @@
-//! Trees of expressions, and how one more operand joins one.
-ghost use Rattle.std.specs.Prelude.{◌≡◌, IfOk, OnOk};
+//! Trees of expressions.
+ghost use Rattle.std.specs.Prelude.{◌≡◌, IfOk};
 ghost use Rattle.sno_expression.specs.Marks.{operator_of, prefix_of, needs_variable, operand_is_variable};
 ghost use Rattle.sno_expression.specs.Expressions.{precedence, is_right_associative, binds_into_right};
 ghost use Rattle.sno_expression.specs.Expressions as expressions;
-ghost use Rattle.sno_expression.specs.Reading.{push, with_prefix};
+ghost use Rattle.sno_expression.specs.Reading.{with_prefix};
 ghost use Rattle.sno_expression.specs.Told.{expression_of, arguments_of};
 
 use mon_text::Line;
 use sno_token::{Constant, Mark};
 use std::alloc::{AllocError, Global};
-use std::mem;
 
 /// What joins two operands.
 #[derive(Clone, Copy)]
@@ -193,66 +192,25 @@ fn is_right_associative(operator: BinaryOperator) -> bool
     }
 }
 
-fn binds_into_right(inner: BinaryOperator, outer: BinaryOperator) -> bool
+/// Whether the one operator may stand right under the other.
+pub(crate) fn binds_into_right(inner: BinaryOperator, outer: BinaryOperator) -> bool
     ensures { result ≡ binds_into_right inner outer }
 {
     precedence(outer) < precedence(inner)
         || precedence(inner) == precedence(outer) && is_right_associative(outer)
 }
 
-fn join(
+// Two operands under their operator.
+pub(crate) fn join(
     alloc: Global,
     operator: BinaryOperator,
-    left: Expression,
+    left: Box<Expression>,
     right: Expression,
 ) -> Result<Expression, AllocError>
-    ensures { IfOk result (λ t. expression_of t ≡ expressions.Binary operator (expression_of left) (expression_of right)) }
+    ensures { IfOk result (λ t. expression_of t ≡ expressions.Binary operator (expression_of left.value) (expression_of right)) }
 {
-    let left = Box::new(alloc, left)?;
     let right = Box::new(alloc, right)?;
     Ok(Expression::Binary(operator, left, right))
-}
-
-// One more operand on the right of a whole tree.
-fn place(
-    alloc: Global,
-    operator: BinaryOperator,
-    operand: Expression,
-    tree: &mut Expression,
-) -> Result<(), AllocError>
-    ensures { OnOk result (expression_of tree.new ≡ expressions.Binary operator (expression_of tree.old) (expression_of operand)) }
-{
-    let left = mem::replace(tree, Expression::Constant(Constant::Integer(0)));
-    *tree = join(alloc, operator, left, operand)?;
-    Ok(())
-}
-
-// One more operand at the right end, as deep as the operator's precedence puts it. Where a growth was refused, the tree is of
-// no more use.
-pub(crate) fn push(
-    alloc: Global,
-    operator: BinaryOperator,
-    operand: Expression,
-    tree: &mut Expression,
-) -> Result<(), AllocError>
-    ensures { OnOk result (expression_of tree.new ≡ push operator (expression_of operand) (expression_of tree.old)) }
-{
-    match tree {
-        Expression::Binary(outer, _, right) => {
-            if binds_into_right(operator, *outer) {
-                push(alloc, operator, operand, right)
-            } else {
-                place(alloc, operator, operand, tree)
-            }
-        }
-        Expression::Identifier(_)
-        | Expression::Constant(_)
-        | Expression::Keyword(_)
-        | Expression::Unevaluated(_)
-        | Expression::Group(_)
-        | Expression::Call(_, _)
-        | Expression::Unary(_, _) => place(alloc, operator, operand, tree),
-    }
 }
 
 // The tree of `&` or `*` with its identifier.

@@ -1,0 +1,39 @@
+-- One more operand on an open spine.
+use Rattle.std.proofs.Common.{◌≡◌, refl, sym, ap, ◌∙◌}
+use Rattle.std.specs.Prelude.{true}
+use Rattle.sno_expression.specs.declared.tree.BinaryOperator.{BinaryOperator}
+use Rattle.sno_expression.specs.declared.tree.Expression.{Expression as AnExpression}
+use Rattle.sno_expression.specs.declared.tree.Expression.TheVariants as tree
+use Rattle.sno_expression.specs.declared.spine.Pending.{Pending}
+use Rattle.sno_expression.specs.declared.spine.Pending.TheVariants as pending
+use Rattle.sno_expression.specs.Expressions.{Expression, Binary, binds_into_right, FitsLeft}
+use Rattle.sno_expression.specs.Reading.{push}
+use Rattle.sno_expression.specs.Spines.{is_above, is_ordered, is_element}
+use Rattle.sno_expression.specs.Told.{expression_of, spread}
+use Rattle.sno_expression.proofs.Levels.{and_left, and_right, under_both, push_here, push_under}
+
+-- one element may stand left under any operator
+pub element_left : (o : BinaryOperator) (x : AnExpression) → is_element x ≡ true → FitsLeft o (expression_of x)
+element_left o (tree.Binary' i p l q r) e = cc
+element_left o (tree.Identifier n) e = tt
+element_left o (tree.Constant c) e = tt
+element_left o (tree.Keyword n) e = tt
+element_left o (tree.Unevaluated n) e = tt
+element_left o (tree.Group' p t) e = tt
+element_left o (tree.Call' n p a) e = tt
+element_left o (tree.Unary' s p t) e = tt
+
+-- what goes under the innermost operator goes under all
+outward : (o p : BinaryOperator) (js : Pending) → binds_into_right o p ≡ true → is_above p js ≡ true → is_above o js ≡ true
+outward o p pending.End h a = refl
+outward o p (pending.More' l q c rest) h a = under_both o p q h a
+
+through : (js : Pending) (o : BinaryOperator) (x t : Expression) → is_ordered js ≡ true → is_above o js ≡ true → push o x (spread js t) ≡ spread js (push o x t)
+through pending.End o x t d a = refl
+through (pending.More' l p c rest) o x t d a =
+    through rest o x (Binary p (expression_of l.value) t) (and_right (is_above p rest) (is_ordered rest) d) (outward o p rest a (and_left (is_above p rest) (is_ordered rest) d))
+    ∙ ap (spread rest) (push_under o p x (expression_of l.value) t a)
+
+-- where the operator may stand under the innermost one, and the last operand under it
+pub grown : (js : Pending) (o : BinaryOperator) (x t : Expression) → is_ordered js ≡ true → is_above o js ≡ true → FitsLeft o t → spread js (Binary o t x) ≡ push o x (spread js t)
+grown js o x t d a f = sym (through js o x t d a ∙ ap (spread js) (push_here o x t f))
