@@ -1,0 +1,676 @@
+//! The reading of SNOBOL4 programs in plain Rust, for comparison with `crates/sno_*`: std alone, no contract and no proof.
+//!
+//! Reads the cards of a program from standard input, makes its statements and their trees, and says `parsed`, or at which
+//! place the program is refused (and not why). What it reads is what `crates/sno_syntax` reads. Names and literals are
+//! slices of the joined cards, and places are found by one segment a card.
+
+use std::collections::HashMap;
+use std::hint::black_box;
+use std::io::{self, Read};
+use std::process::ExitCode;
+
+const MOST_TOKENS: usize = 1_000;
+const MOST_OPEN: usize = 100;
+
+#[derive(Clone, Copy, PartialEq)]
+enum Mark {
+    Power,
+    Star,
+    Slash,
+    Plus,
+    Minus,
+    Bar,
+    Dot,
+    Dollar,
+    At,
+    Tilde,
+    Question,
+    Ampersand,
+}
+
+#[derive(Clone, Copy)]
+enum Kind<'a> {
+    Identifier(&'a [u8]),
+    Literal(&'a [u8]),
+    Integer(i64),
+    Mark(Mark),
+    Open,
+    Close,
+    Comma,
+    Equals,
+    Colon,
+    /// `S`, or else `F`.
+    Outcome(bool),
+    Label(&'a [u8]),
+}
+
+#[derive(Clone, Copy)]
+struct Token<'a> {
+    kind: Kind<'a>,
+    offset: usize,
+    blank_before: bool,
+    blank_after: bool,
+}
+
+#[derive(Clone, Copy)]
+enum Operator {
+    Alternation,
+    Concatenation,
+    Minus,
+    Plus,
+    Over,
+    Times,
+    Power,
+    Immediate,
+    Conditional,
+}
+
+impl Operator {
+    fn of(mark: Mark) -> Option<Operator> {
+        match mark {
+            Mark::Power => Some(Operator::Power),
+            Mark::Star => Some(Operator::Times),
+            Mark::Slash => Some(Operator::Over),
+            Mark::Plus => Some(Operator::Plus),
+            Mark::Minus => Some(Operator::Minus),
+            Mark::Bar => Some(Operator::Alternation),
+            Mark::Dot => Some(Operator::Conditional),
+            Mark::Dollar => Some(Operator::Immediate),
+            Mark::At | Mark::Tilde | Mark::Question | Mark::Ampersand => None,
+        }
+    }
+
+    fn precedence(self) -> u8 {
+        match self {
+            Operator::Alternation => 1,
+            Operator::Concatenation => 2,
+            Operator::Minus | Operator::Plus => 3,
+            Operator::Over => 4,
+            Operator::Times => 5,
+            Operator::Power => 6,
+            Operator::Immediate | Operator::Conditional => 7,
+        }
+    }
+
+    fn is_right_associative(self) -> bool {
+        matches!(self, Operator::Alternation | Operator::Concatenation | Operator::Power)
+    }
+
+    fn needs_variable(self) -> bool {
+        matches!(self, Operator::Immediate | Operator::Conditional)
+    }
+}
+
+// Nothing here goes over the trees once they are made.
+#[allow(dead_code)]
+enum Expression<'a> {
+    Identifier(&'a [u8]),
+    Literal(&'a [u8]),
+    Integer(i64),
+    Keyword(&'a [u8]),
+    Unevaluated(&'a [u8]),
+    Group(Box<Expression<'a>>),
+    Call(&'a [u8], Vec<Option<Expression<'a>>>),
+    Unary(Mark, Box<Expression<'a>>),
+    Binary(Operator, Box<Expression<'a>>, Box<Expression<'a>>),
+}
+
+impl Expression<'_> {
+    fn is_variable(&self) -> bool {
+        matches!(self, Expression::Identifier(_) | Expression::Unary(Mark::Dollar, _))
+    }
+}
+
+#[allow(dead_code)]
+enum Target<'a> {
+    Label(&'a [u8]),
+    Computed(Expression<'a>),
+}
+
+#[allow(dead_code)]
+enum Object<'a> {
+    Nothing,
+    Null,
+    Value(Expression<'a>),
+}
+
+#[derive(Default)]
+#[allow(dead_code)]
+struct Goto<'a> {
+    always: Option<Target<'a>>,
+    success: Option<Target<'a>>,
+    failure: Option<Target<'a>>,
+}
+
+#[allow(dead_code)]
+struct Statement<'a> {
+    label: Option<&'a [u8]>,
+    subject: Option<Expression<'a>>,
+    pattern: Option<Expression<'a>>,
+    object: Object<'a>,
+    goto: Option<Box<Goto<'a>>>,
+}
+
+/// The statements' text: each line joined with its continuations, and where each card's part of it begins.
+#[derive(Default)]
+struct Joined {
+    text: Vec<u8>,
+    /// The offset and the number of each card; column 1 is its first character.
+    segments: Vec<(usize, usize)>,
+    /// The offset behind each joined line.
+    ends: Vec<usize>,
+}
+
+impl Joined {
+    fn place(&self, refused: Refused) -> (usize, usize) {
+        let (offset, further) = match refused {
+            Refused::At(offset) => (offset, 0),
+            Refused::Behind(offset) => (offset, 1),
+        };
+        let index = self.segments.partition_point(|(begin, _)| *begin <= offset) - 1;
+        let (begin, card) = self.segments[index];
+        (card, offset - begin + 1 + further)
+    }
+}
+
+/// What comes first on the cards, or the card that is refused.
+struct Cards {
+    joined: Joined,
+    /// What stands behind END, and its card.
+    end: (Vec<u8>, usize),
+}
+
+fn is_control(rest: &[u8]) -> bool {
+    let name = rest.split(|byte| *byte == b' ').next().unwrap_or(b"");
+    [b"LIST".as_slice(), b"UNLIST", b"EJECT"].iter().any(|known| name.eq_ignore_ascii_case(known))
+}
+
+fn is_end(line: &[u8]) -> bool {
+    line.starts_with(b"END") && matches!(line.get(3), None | Some(b' ' | b';'))
+}
+
+fn join(cards: &[u8]) -> Result<Cards, (usize, usize)> {
+    let mut joined = Joined::default();
+    let mut begun = false;
+    let mut card = 0;
+    for line in cards.split_inclusive(|byte| *byte == b'\n') {
+        let line = line.strip_suffix(b"\n").unwrap_or(line);
+        card += 1;
+        match line.first() {
+            Some(b'*') => continue,
+            Some(b'-') if is_control(&line[1..]) => continue,
+            Some(b'-') => return Err((card, 1)),
+            Some(b'+' | b'.') if !begun => return Err((card, 1)),
+            Some(b'+' | b'.') => {
+                joined.segments.push((joined.text.len(), card));
+                joined.text.push(b' ');
+                joined.text.extend_from_slice(&line[1..]);
+            }
+            _ => {
+                if begun {
+                    joined.ends.push(joined.text.len());
+                }
+                if is_end(line) {
+                    let rest = line[3..].split(|byte| *byte == b';').next().unwrap_or(b"");
+                    return Ok(Cards { joined, end: (rest.to_vec(), card) });
+                }
+                begun = true;
+                joined.segments.push((joined.text.len(), card));
+                joined.text.extend_from_slice(line);
+            }
+        }
+    }
+    Err((card + 1, 1))
+}
+
+/// The ends of the pieces of a line: each `;` outside literals, and its own end.
+fn next_cut(text: &[u8], from: usize, end: usize) -> usize {
+    let mut literal = None;
+    for (offset, byte) in text[from..end].iter().enumerate() {
+        match literal {
+            None if *byte == b';' => return from + offset,
+            None if matches!(byte, b'\'' | b'"') => literal = Some(*byte),
+            Some(quote) if quote == *byte => literal = None,
+            _ => {}
+        }
+    }
+    end
+}
+
+/// The offset of the character at which a text is refused, or behind which it ends too early.
+enum Refused {
+    At(usize),
+    Behind(usize),
+}
+
+fn run(text: &[u8], from: usize, end: usize, belongs: impl Fn(u8) -> bool) -> usize {
+    let length = text[from..end].iter().position(|byte| !belongs(*byte)).unwrap_or(end - from);
+    from + length
+}
+
+fn mark_of(first: u8, second: Option<u8>) -> Option<Mark> {
+    Some(match first {
+        b'*' if second == Some(b'*') => Mark::Power,
+        b'*' => Mark::Star,
+        b'/' => Mark::Slash,
+        b'+' => Mark::Plus,
+        b'-' => Mark::Minus,
+        b'|' => Mark::Bar,
+        b'.' => Mark::Dot,
+        b'$' => Mark::Dollar,
+        b'@' => Mark::At,
+        b'~' => Mark::Tilde,
+        b'?' => Mark::Question,
+        b'&' => Mark::Ampersand,
+        _ => return None,
+    })
+}
+
+fn is_printable(text: &[u8]) -> bool {
+    text.iter().all(|byte| matches!(byte, b' '..=b'~'))
+}
+
+/// The tokens of a text, into a list that is used again for each statement.
+fn lex<'a>(text: &'a [u8], from: usize, end: usize, tokens: &mut Vec<Token<'a>>) -> Result<(), Refused> {
+    tokens.clear();
+    let (mut open, mut inside) = (0_usize, 0_usize);
+    let (mut in_goto, mut at_target, mut blank_before) = (false, false, true);
+    let mut at = from;
+    while at < end {
+        let first = text[at];
+        if first == b' ' {
+            blank_before = true;
+            at += 1;
+            continue;
+        }
+        let next = text[..end].get(at + 1).copied();
+        let (kind, behind) = match first {
+            _ if at_target && first.is_ascii_alphanumeric() => {
+                let behind = run(text, at, end, |byte| byte != b' ' && byte != b')');
+                (Kind::Label(&text[at..behind]), behind)
+            }
+            b'A'..=b'Z' | b'a'..=b'z' => {
+                let behind = run(text, at, end, |byte| byte.is_ascii_alphanumeric() || byte == b'.' || byte == b'_');
+                match &text[at..behind] {
+                    b"S" if in_goto && inside == 0 => (Kind::Outcome(true), behind),
+                    b"F" if in_goto && inside == 0 => (Kind::Outcome(false), behind),
+                    name => (Kind::Identifier(name), behind),
+                }
+            }
+            b'0'..=b'9' => {
+                let behind = run(text, at, end, |byte| byte.is_ascii_digit());
+                let value = text[at..behind].iter().try_fold(0_i64, |value, byte| {
+                    value.checked_mul(10)?.checked_add(i64::from(byte - b'0'))
+                });
+                (Kind::Integer(value.ok_or(Refused::At(at))?), behind)
+            }
+            b'\'' | b'"' => {
+                let behind = run(text, at + 1, end, |byte| byte != first);
+                if behind == end || !is_printable(&text[at..behind]) {
+                    return Err(Refused::At(at));
+                }
+                (Kind::Literal(&text[at + 1..behind]), behind + 1)
+            }
+            b'(' => (Kind::Open, at + 1),
+            b')' => (Kind::Close, at + 1),
+            b',' => (Kind::Comma, at + 1),
+            b'=' => (Kind::Equals, at + 1),
+            b':' => (Kind::Colon, at + 1),
+            _ => {
+                let mark = mark_of(first, next).ok_or(Refused::At(at))?;
+                (Kind::Mark(mark), at + if mark == Mark::Power { 2 } else { 1 })
+            }
+        };
+        let is_open = matches!(kind, Kind::Open);
+        if tokens.len() == MOST_TOKENS || is_open && open == MOST_OPEN {
+            return Err(Refused::At(at));
+        }
+        at_target = is_open && in_goto && inside == 0;
+        match kind {
+            Kind::Open => {
+                open += 1;
+                inside += usize::from(in_goto);
+            }
+            Kind::Close => {
+                open = open.saturating_sub(1);
+                inside = inside.saturating_sub(1);
+            }
+            Kind::Colon => in_goto = true,
+            _ => {}
+        }
+        let blank_after = behind == end || text[behind] == b' ';
+        tokens.push(Token { kind, offset: at, blank_before, blank_after });
+        blank_before = false;
+        at = behind;
+    }
+    Ok(())
+}
+
+/// A statement's tokens, how far they are read, and the leftmost place that needs a variable and has none.
+struct Parser<'a, 't> {
+    tokens: &'t [Token<'a>],
+    at: usize,
+    misfit: Option<usize>,
+}
+
+/// The tokens do not fit at the parser's place.
+struct Unfit;
+
+impl<'a> Parser<'a, '_> {
+    fn peek(&self) -> Option<Token<'a>> {
+        self.tokens.get(self.at).copied()
+    }
+
+    fn note(&mut self, at: usize) {
+        self.misfit = Some(self.misfit.map_or(at, |other| other.min(at)));
+    }
+
+    fn identifier_that_touches(&mut self) -> Result<&'a [u8], Unfit> {
+        match self.peek() {
+            Some(Token { kind: Kind::Identifier(name), blank_before: false, .. }) => {
+                self.at += 1;
+                Ok(name)
+            }
+            _ => Err(Unfit),
+        }
+    }
+
+    fn element(&mut self, needs_variable: bool) -> Result<Expression<'a>, Unfit> {
+        let begin = self.at;
+        let token = self.peek().ok_or(Unfit)?;
+        let element = match token.kind {
+            Kind::Identifier(name) => {
+                self.at += 1;
+                match self.peek() {
+                    Some(Token { kind: Kind::Open, blank_before: false, .. }) => {
+                        if needs_variable {
+                            self.note(begin);
+                        }
+                        self.at += 1;
+                        Expression::Call(name, self.arguments()?)
+                    }
+                    _ => Expression::Identifier(name),
+                }
+            }
+            Kind::Literal(text) => {
+                self.at += 1;
+                Expression::Literal(text)
+            }
+            Kind::Integer(value) => {
+                self.at += 1;
+                Expression::Integer(value)
+            }
+            Kind::Open => {
+                self.at += 1;
+                let inner = self.expression(0)?;
+                self.close()?;
+                Expression::Group(Box::new(inner))
+            }
+            Kind::Mark(mark) if !token.blank_after => self.unary(mark)?,
+            _ => return Err(Unfit),
+        };
+        if needs_variable && !element.is_variable() {
+            self.note(begin);
+        }
+        Ok(element)
+    }
+
+    fn unary(&mut self, mark: Mark) -> Result<Expression<'a>, Unfit> {
+        if matches!(mark, Mark::Power | Mark::Slash | Mark::Bar) {
+            return Err(Unfit);
+        }
+        self.at += 1;
+        match mark {
+            Mark::Ampersand => Ok(Expression::Keyword(self.identifier_that_touches()?)),
+            Mark::Star => Ok(Expression::Unevaluated(self.identifier_that_touches()?)),
+            _ => {
+                if self.peek().is_none_or(|token| token.blank_before) {
+                    return Err(Unfit);
+                }
+                let operand = self.element(matches!(mark, Mark::Dot | Mark::At))?;
+                Ok(Expression::Unary(mark, Box::new(operand)))
+            }
+        }
+    }
+
+    fn close(&mut self) -> Result<(), Unfit> {
+        match self.peek() {
+            Some(Token { kind: Kind::Close, .. }) => {
+                self.at += 1;
+                Ok(())
+            }
+            _ => Err(Unfit),
+        }
+    }
+
+    fn arguments(&mut self) -> Result<Vec<Option<Expression<'a>>>, Unfit> {
+        let mut arguments = Vec::new();
+        loop {
+            match self.peek().ok_or(Unfit)?.kind {
+                Kind::Comma | Kind::Close => arguments.push(None),
+                _ => arguments.push(Some(self.expression(0)?)),
+            }
+            match self.peek().ok_or(Unfit)?.kind {
+                Kind::Comma => self.at += 1,
+                Kind::Close => {
+                    self.at += 1;
+                    return Ok(arguments);
+                }
+                _ => return Err(Unfit),
+            }
+        }
+    }
+
+    /// The binary operator that comes next, and whether it has a mark.
+    fn operator(&self) -> Option<(Operator, bool)> {
+        let token = self.peek()?;
+        if !token.blank_before {
+            return None;
+        }
+        match token.kind {
+            Kind::Mark(mark) if token.blank_after => Some((Operator::of(mark)?, true)),
+            Kind::Mark(Mark::Power | Mark::Slash | Mark::Bar) => None,
+            Kind::Mark(_) | Kind::Identifier(_) | Kind::Literal(_) | Kind::Integer(_) | Kind::Open => {
+                Some((Operator::Concatenation, false))
+            }
+            _ => None,
+        }
+    }
+
+    /// An expression whose operators have this precedence at least.
+    fn expression(&mut self, least: u8) -> Result<Expression<'a>, Unfit> {
+        let left = self.element(false)?;
+        self.behind(left, least)
+    }
+
+    fn behind(&mut self, mut left: Expression<'a>, least: u8) -> Result<Expression<'a>, Unfit> {
+        while let Some((operator, has_mark)) = self.operator() {
+            let precedence = operator.precedence();
+            if precedence < least {
+                break;
+            }
+            if has_mark {
+                self.at += 1;
+                if self.peek().is_none_or(|token| !token.blank_before) {
+                    return Err(Unfit);
+                }
+            }
+            let first = self.element(operator.needs_variable())?;
+            let right = self.behind(first, if operator.is_right_associative() { precedence } else { precedence + 1 })?;
+            left = Expression::Binary(operator, Box::new(left), Box::new(right));
+        }
+        Ok(left)
+    }
+
+    fn target(&mut self) -> Result<Target<'a>, Unfit> {
+        match self.peek() {
+            Some(Token { kind: Kind::Open, .. }) => self.at += 1,
+            _ => return Err(Unfit),
+        }
+        let target = match self.peek().ok_or(Unfit)?.kind {
+            Kind::Label(label) => {
+                self.at += 1;
+                Target::Label(label)
+            }
+            Kind::Mark(Mark::Dollar) => Target::Computed(self.element(false)?),
+            _ => return Err(Unfit),
+        };
+        self.close()?;
+        Ok(target)
+    }
+
+    fn goto(&mut self) -> Result<Goto<'a>, Unfit> {
+        let mut goto = Goto::default();
+        if let Some(Token { kind: Kind::Open, .. }) = self.peek() {
+            goto.always = Some(self.target()?);
+            return Ok(goto);
+        }
+        while let Some(Token { kind: Kind::Outcome(is_success), .. }) = self.peek() {
+            let place = if is_success { &mut goto.success } else { &mut goto.failure };
+            if place.is_some() {
+                return Err(Unfit);
+            }
+            self.at += 1;
+            *place = Some(self.target()?);
+        }
+        if goto.success.is_none() && goto.failure.is_none() {
+            return Err(Unfit);
+        }
+        Ok(goto)
+    }
+
+    fn is_next(&self, holds: impl Fn(Token<'a>) -> bool) -> bool {
+        self.peek().is_some_and(holds)
+    }
+
+    fn statement(&mut self, label: Option<&'a [u8]>) -> Result<Statement<'a>, Unfit> {
+        let is_colon = |token: Token| matches!(token.kind, Kind::Colon) && token.blank_before;
+        let is_equals = |token: Token| matches!(token.kind, Kind::Equals) && token.blank_before && token.blank_after;
+        let mut statement =
+            Statement { label, subject: None, pattern: None, object: Object::Nothing, goto: None };
+        if self.peek().is_some() && !self.is_next(is_colon) {
+            let subject = self.element(false)?;
+            if self.is_next(|token| token.blank_before) && !self.is_next(is_colon) && !self.is_next(is_equals) {
+                statement.pattern = Some(self.expression(0)?);
+            }
+            if self.is_next(is_equals) {
+                let is_keyword = matches!(subject, Expression::Keyword(_)) && statement.pattern.is_none();
+                if !is_keyword && !subject.is_variable() {
+                    self.note(0);
+                }
+                self.at += 1;
+                statement.object = if self.peek().is_none() || self.is_next(is_colon) {
+                    Object::Null
+                } else {
+                    Object::Value(self.expression(0)?)
+                };
+            }
+            statement.subject = Some(subject);
+        }
+        if self.is_next(is_colon) {
+            self.at += 1;
+            statement.goto = Some(Box::new(self.goto()?));
+        }
+        if self.peek().is_some() { Err(Unfit) } else { Ok(statement) }
+    }
+}
+
+/// The offset of the last character that is no blank.
+fn last_of(text: &[u8], from: usize, end: usize) -> usize {
+    text[from..end].iter().rposition(|byte| *byte != b' ').map_or(from, |last| from + last)
+}
+
+#[allow(dead_code)]
+struct Program<'a> {
+    statements: Vec<Statement<'a>>,
+    labels: HashMap<&'a [u8], usize>,
+    start: Option<usize>,
+}
+
+fn label_of(text: &[u8]) -> Result<Option<&[u8]>, Unfit> {
+    let label = text.split(|byte| *byte == b' ').next().unwrap_or(b"");
+    match label.first() {
+        None => Ok(None),
+        Some(first) if !first.is_ascii_alphanumeric() => Err(Unfit),
+        Some(_) if [b"END".as_slice(), b"RETURN", b"FRETURN"].contains(&label) => Err(Unfit),
+        Some(_) => Ok(Some(label)),
+    }
+}
+
+fn read_statement<'a>(
+    text: &'a [u8],
+    from: usize,
+    end: usize,
+    labels: &mut HashMap<&'a [u8], usize>,
+    index: usize,
+    tokens: &mut Vec<Token<'a>>,
+) -> Result<Statement<'a>, Refused> {
+    let label = label_of(&text[from..end]).map_err(|Unfit| Refused::At(from))?;
+    if label.is_some_and(|label| labels.insert(label, index).is_some()) {
+        return Err(Refused::At(from));
+    }
+    lex(text, from + label.map_or(0, <[u8]>::len), end, tokens)?;
+    let mut parser = Parser { tokens, at: 0, misfit: None };
+    let answer = parser.statement(label);
+    let (at, misfit) = (parser.at, parser.misfit);
+    let refused = |at: usize| match tokens.get(at) {
+        Some(token) => Refused::At(token.offset),
+        None => Refused::Behind(last_of(text, from, end)),
+    };
+    match (misfit, answer) {
+        (Some(at), _) => Err(refused(at)),
+        (None, Err(Unfit)) => Err(refused(at)),
+        (None, Ok(statement)) => Ok(statement),
+    }
+}
+
+fn read(cards: &Cards) -> Result<Program<'_>, (usize, usize)> {
+    let joined = &cards.joined;
+    let (mut statements, mut labels, mut tokens) = (Vec::new(), HashMap::new(), Vec::new());
+    let mut from = 0;
+    for &end in &joined.ends {
+        loop {
+            let cut = next_cut(&joined.text, from, end);
+            if joined.text[from..cut].iter().any(|byte| *byte != b' ') {
+                let index = statements.len();
+                let statement = read_statement(&joined.text, from, cut, &mut labels, index, &mut tokens)
+                    .map_err(|refused| joined.place(refused))?;
+                statements.push(statement);
+            }
+            if cut == end {
+                break;
+            }
+            from = cut + 1;
+        }
+        from = end;
+    }
+    let (rest, card) = &cards.end;
+    let words: Vec<&[u8]> = rest.split(|byte| *byte == b' ').filter(|word| !word.is_empty()).collect();
+    let start = match words[..] {
+        [] | [b"END"] => None,
+        [label] if labels.contains_key(label) => labels.get(label).copied(),
+        _ => return Err((*card, 4 + rest.iter().position(|byte| *byte != b' ').unwrap_or(0))),
+    };
+    Ok(Program { statements, labels, start })
+}
+
+fn main() -> ExitCode {
+    let mut cards = Vec::new();
+    if let Err(error) = io::stdin().lock().read_to_end(&mut cards) {
+        eprintln!("{error}");
+        return ExitCode::from(2);
+    }
+    let answer = join(&cards);
+    drop(cards);
+    match answer.as_ref().map_err(|place| *place).and_then(read) {
+        Ok(program) => {
+            black_box(&program);
+            println!("parsed");
+            ExitCode::SUCCESS
+        }
+        Err((card, column)) => {
+            println!("REFUSED CARD {card} COLUMN {column}");
+            ExitCode::FAILURE
+        }
+    }
+}
