@@ -1,6 +1,7 @@
 pub mod Characters
 pub mod Names
 pub mod Lines
+pub mod Feeding
 pub mod Counts
 pub mod Stops
 pub mod inner

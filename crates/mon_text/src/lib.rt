@@ -5,11 +5,13 @@
 
 pub mod count;
 pub mod line;
+pub mod line_feed;
 pub mod name;
 pub mod stop;
 mod words;
 
 pub use count::{BadNumber, put_number, read_count};
 pub use line::{Line, LineError, read_line, split_words};
+pub use line_feed::{LineFeed, MOST_KEPT_BYTES};
 pub use name::{BadName, Name, read_name};
 pub use stop::Stop;
