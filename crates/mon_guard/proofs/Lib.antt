@@ -1,2 +1,5 @@
+mod Owners
+mod Kept
+pub mod Lent
 pub mod Owned
 pub mod Denials

@@ -1,6 +1,7 @@
 -- What an account may do to a data set: the access check on the set's owner, group and list, as they stand (own).
-use Rattle.std.specs.Prelude.{ℕ, Bool, true, false, List, filter, Option, None, Some, slice_get}
+use Rattle.std.specs.Prelude.{ℕ, Bool, true, false, List, Option, None, Some, Result, Ok, Err}
 use Rattle.mon_acl.specs.declared.entries.Perms.{Perms}
+use Rattle.mon_acl.specs.declared.entries.Entry.{Entry}
 use Rattle.mon_access.specs.declared.account.Account.{Account}
 use Rattle.mon_access.specs.declared.access.Decision.{Decision}
 use Rattle.mon_access.specs.declared.access.Decision.TheVariants as decision
@@ -9,6 +10,8 @@ use Rattle.mon_catalogue.specs.declared.data_set.DataSet.{DataSet}
 use Rattle.mon_catalogue.specs.Sets.{Sets, find_set}
 use Rattle.mon_guard.specs.declared.answer.Decided.{Decided}
 use Rattle.mon_guard.specs.declared.answer.Decided.TheVariants.{Granted, Denied, NoSet}
+use Rattle.mon_guard.specs.declared.answer.Reason.{Reason}
+use Rattle.mon_guard.specs.Reasons.{reason_of}
 
 -- the requests of one permission
 abbrev pub to_read : Perms
@@ -24,14 +27,6 @@ to_execute = record { read = false; write = false; execute = true }
 abbrev pub decision_on : Account → DataSet → Perms → Decision
 decision_on account set request = access_check account set.owner set.group set.acl request
 
-abbrev pub is_granted : Decision → Bool
-is_granted decision.Granted = true
-is_granted (decision.Denied d) = false
-
--- whether the access check grants a request on a set
-abbrev pub grants_on : Account → DataSet → Perms → Bool
-grants_on account set request = is_granted (decision_on account set request)
-
 abbrev pub decided_as : Decision → Decided
 decided_as decision.Granted = Granted
 decided_as (decision.Denied d) = Denied d
@@ -44,18 +39,18 @@ decided_of account (Some set) request = decided_as (decision_on account set requ
 abbrev pub decided : Account → Sets → List ℕ → Perms → Decided
 decided account sets name request = decided_of account (find_set name sets) request
 
+abbrev pub by_decision : {A : Type 0} → List Entry → Decision → A → Result A Reason
+by_decision acl decision.Granted granted = Ok granted
+by_decision acl (decision.Denied decider) granted = Err (reason_of acl decider)
+
+-- what is granted with this request, where the access check on the set grants it; else the entry that decides
+abbrev pub where_granted : {A : Type 0} → Account → Perms → DataSet → A → Result A Reason
+where_granted account request set granted = by_decision set.acl (decision_on account set request) granted
+
+abbrev pub is_granted : Decision → Bool
+is_granted decision.Granted = true
+is_granted (decision.Denied d) = false
+
 -- a name is shown exactly where x is granted
 abbrev pub may_be_shown : Account → List ℕ × DataSet → Bool
-may_be_shown account named = grants_on account named.1 to_execute
-
-abbrev pub is_listed_of : Account → Option (List ℕ × DataSet) → Bool
-is_listed_of account None = false
-is_listed_of account (Some named) = may_be_shown account named
-
--- whether the name of the set at this place is shown; there is none past the end
-abbrev pub is_listed : Account → Sets → ℕ → Bool
-is_listed account sets place = is_listed_of account (slice_get sets place)
-
--- the sets whose names are shown, in their order
-abbrev pub sets_shown : Account → Sets → Sets
-sets_shown account sets = filter (may_be_shown account) sets
+may_be_shown account named = is_granted (decision_on account named.1 to_execute)

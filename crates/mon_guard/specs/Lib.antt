@@ -1,4 +1,6 @@
 pub mod Reasons
 pub mod Deciding
+pub mod Lending
 pub mod Owning
+pub mod Answers
 pub mod Laws

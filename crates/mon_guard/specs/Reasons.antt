@@ -3,14 +3,10 @@ use Rattle.std.specs.Prelude.{List, Option, None, Some, slice_get}
 use Rattle.mon_acl.specs.declared.entries.Tag.{Tag}
 use Rattle.mon_acl.specs.declared.entries.Tag.TheVariants as tag
 use Rattle.mon_acl.specs.declared.entries.Entry.{Entry}
-use Rattle.mon_access.specs.declared.access.Decision.{Decision}
-use Rattle.mon_access.specs.declared.access.Decision.TheVariants as decision
 use Rattle.mon_access.specs.declared.access.Decider.{Decider}
 use Rattle.mon_access.specs.declared.access.Decider.TheVariants as decider
 use Rattle.mon_guard.specs.declared.answer.Reason.{Reason}
 use Rattle.mon_guard.specs.declared.answer.Reason.TheVariants.{By}
-use Rattle.mon_guard.specs.declared.answer.GuardAnswer.{GuardAnswer}
-use Rattle.mon_guard.specs.declared.answer.GuardAnswer.TheVariants.{Done, Denied}
 
 -- what is named of an entry; where there is none, the type alone
 abbrev pub reason_at : Tag → Option Entry → Reason
@@ -20,12 +16,7 @@ reason_at t None = By t None
 -- what a denial by the access check names of a list's entries
 abbrev pub reason_of : List Entry → Decider → Reason
 reason_of entries decider.UserObj = By tag.UserObj None
-reason_of entries (decider.User place) = reason_at tag.User (slice_get entries place)
-reason_of entries (decider.Group place) = reason_at tag.GroupObj (slice_get entries place)
+reason_of entries (decider.User index) = reason_at tag.User (slice_get entries index)
+reason_of entries (decider.Group index) = reason_at tag.GroupObj (slice_get entries index)
 reason_of entries decider.Mask = By tag.Mask None
 reason_of entries decider.Other = By tag.Other None
-
--- what an access check is answered with
-abbrev pub answer_of : List Entry → Decision → GuardAnswer
-answer_of entries decision.Granted = Done
-answer_of entries (decision.Denied d) = Denied (reason_of entries d)

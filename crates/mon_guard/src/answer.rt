@@ -1,10 +1,11 @@
 //! What the guard decides, why it denies, and what it answers.
 ghost use Rattle.std.specs.Prelude.{◌≡◌};
 ghost use Rattle.std.specs.Option.{option_copied};
-ghost use Rattle.mon_guard.specs.Reasons.{reason_at, reason_of, answer_of};
+ghost use Rattle.mon_guard.specs.Reasons.{reason_at, reason_of};
+ghost use Rattle.mon_guard.specs.Answers.{guard_answer};
 
-use mon_access::{Decider, Decision};
-use mon_acl::{Acl, Entry, Tag};
+use mon_access::Decider;
+use mon_acl::{Acl, AclError, Entry, Tag};
 use mon_text::{Line, Name};
 
 /// What is decided of a request on a data set.
@@ -50,6 +51,17 @@ pub enum GuardAnswer {
     Full,
 }
 
+/// What giving a data set another permission list is answered.
+#[derive(Debug, PartialEq, Eq, Drop)]
+pub enum AclAnswer {
+    /// It is done.
+    Done,
+    /// It is denied, and nothing has changed.
+    Denied(Reason),
+    /// The text is no permission list, and nothing has changed.
+    BadList(AclError),
+}
+
 impl Reason {
     /// What a denial names of its decider: the type and the qualifier of the entry that decided.
     pub fn of(decider: Decider, acl: &Acl) -> Reason
@@ -57,8 +69,8 @@ impl Reason {
     {
         match decider {
             Decider::UserObj => Reason::By(Tag::UserObj, None),
-            Decider::User(place) => reason_at(Tag::User, acl.entry(place)),
-            Decider::Group(place) => reason_at(Tag::GroupObj, acl.entry(place)),
+            Decider::User(index) => reason_at(Tag::User, acl.entry(index)),
+            Decider::Group(index) => reason_at(Tag::GroupObj, acl.entry(index)),
             Decider::Mask => Reason::By(Tag::Mask, None),
             Decider::Other => Reason::By(Tag::Other, None),
         }
@@ -93,12 +105,14 @@ fn reason_at(tag: Tag, entry: Option<&Entry>) -> Reason
     }
 }
 
-// What an access check is answered with.
-pub(crate) fn answer_of(decision: Decision, acl: &Acl) -> GuardAnswer
-    ensures { result ≡ answer_of acl.now decision }
-{
-    match decision {
-        Decision::Granted => GuardAnswer::Done,
-        Decision::Denied(decider) => GuardAnswer::Denied(Reason::of(decider, acl)),
+impl GuardAnswer {
+    // It is done, or denied.
+    pub(crate) fn of(done: Result<(), Reason>) -> GuardAnswer
+        ensures { result ≡ guard_answer done }
+    {
+        match done {
+            Ok(()) => GuardAnswer::Done,
+            Err(reason) => GuardAnswer::Denied(reason),
+        }
     }
 }

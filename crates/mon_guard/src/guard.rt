@@ -1,16 +1,22 @@
 //! The guard: what an account asks, done exactly where it is granted.
-ghost use Rattle.std.specs.Prelude.{◌≡◌};
+ghost use Rattle.std.specs.Prelude.{◌≡◌, ◌↔◌, Some, Ok, Err, IfOk, OnOk, IfErr, OnErr, IfSome, is_some};
+ghost use Rattle.std.specs.Result.{result_map_both};
+ghost use Rattle.mon_text.specs.Stops.{Gives};
 ghost use Rattle.mon_access.specs.Matches.{is_owner};
-ghost use Rattle.mon_guard.specs.Deciding.{to_execute, decision_on, decided, is_listed};
-ghost use Rattle.mon_guard.specs.Owning.{owner_denial, shown, removed, acl_set, IsOutcome};
+ghost use Rattle.mon_guard.specs.declared.answer.Reason.{Reason};
+ghost use Rattle.mon_guard.specs.Deciding.{to_read, to_execute, decision_on, decided, where_granted};
+ghost use Rattle.mon_guard.specs.Lending.{records_lent, acl_lent, name_lent};
+ghost use Rattle.mon_guard.specs.Owning.{owner_denial, removed, acl_set, created, new_list};
+ghost use Rattle.mon_guard.specs.Answers.{guard_answer, acl_answer};
 
-use crate::answer::{Decided, GuardAnswer, Reason, answer_of};
+use crate::answer::{AclAnswer, Decided, GuardAnswer, Reason};
+use crate::shown::{ShownAcl, ShownName};
 use crate::text::AclText;
 use mon_access::{Account, Decision, check};
-use mon_acl::{AclError, Perms};
-use mon_catalogue::{Catalogue, DataSet, NoSet};
-use mon_text::Name;
-use std::alloc::Global;
+use mon_acl::{Acl, AclError, Perms};
+use mon_catalogue::{Catalogue, CreateError, DataSet, NoSet, Records};
+use mon_text::{Name, Stop};
+use std::alloc::{AllocError, Global};
 
 /// Answers requests on data sets, each by the set's owner, group and permission list as they stand at that moment.
 ///
@@ -45,31 +51,128 @@ impl Guard {
         }
     }
 
-    /// Whether a name is shown to an account: whether the set at a place in the catalogue's order, counted from 0, grants
-    /// x. Past the end there is none to be shown. It takes no memory.
-    pub fn list_name(&self, account: &Account, catalogue: &Catalogue, place: usize) -> bool
-        ensures { result ≡ is_listed account.now catalogue.now place }
+    /// The records of the set of a name, where r is granted on it. It takes no memory.
+    ///
+    /// # Errors
+    ///
+    /// Why they are denied.
+    pub fn records<'a>(
+        &self,
+        account: &Account,
+        catalogue: &'a Catalogue,
+        name: &Name,
+    ) -> Result<&'a Records, Reason>
+        ensures { result_map_both (λ records. records.now) (λ reason. reason) result ≡ records_lent account.now catalogue.now name.now }
     {
-        match catalogue.at(place) {
-            Some((_, set)) => decision_on(account, set, to_execute()) == Decision::Granted,
-            None => false,
+        let Some(set) = catalogue.find(name) else {
+            return Err(Reason::NoSet);
+        };
+        permit(account, set, to_read())?;
+        Ok(&set.records)
+    }
+
+    /// The owner, the group and the permission list of the set of a name, for its owner and where x is granted on it. It
+    /// takes no memory.
+    ///
+    /// # Errors
+    ///
+    /// Why they are denied.
+    pub fn acl<'a>(
+        &self,
+        account: &Account,
+        catalogue: &'a Catalogue,
+        name: &Name,
+    ) -> Result<ShownAcl<'a>, Reason>
+        ensures { result ≡ acl_lent account.now catalogue.now name.now }
+    {
+        let Some(set) = catalogue.find(name) else {
+            return Err(Reason::NoSet);
+        };
+        if !owns(account, set) {
+            permit(account, set, to_execute())?;
         }
+        Ok(ShownAcl {
+            owner: &set.owner,
+            group: &set.group,
+            acl: &set.acl,
+        })
+    }
+
+    /// The name, the owner, the group and the number of records of the set at an index in the catalogue's order, where x
+    /// is granted on it. Past the end there is none. It takes no memory.
+    pub fn name_at<'a>(
+        &self,
+        account: &Account,
+        catalogue: &'a Catalogue,
+        index: usize,
+    ) -> Option<ShownName<'a>>
+        ensures { result ≡ name_lent account.now catalogue.now index }
+    {
+        let (name, set) = catalogue.at(index)?;
+        match decision_on(account, set, to_execute()) {
+            Decision::Granted => Some(ShownName {
+                name,
+                owner: &set.owner,
+                group: &set.group,
+                records: set.records.len(),
+            }),
+            Decision::Denied(_) => None,
+        }
+    }
+
+    /// Whether a name is shown to an account: that of the set at an index in the catalogue's order, counted from 0. Past
+    /// the end there is none to be shown. It takes no memory.
+    pub fn list_name(&self, account: &Account, catalogue: &Catalogue, index: usize) -> bool
+        ensures { result ≡ is_some (name_lent account.now catalogue.now index) }
+    {
+        self.name_at(account, catalogue, index).is_some()
     }
 
     /// Whether a set's permission list is shown to an account: it is `Done` for the owner, and where x is granted.
     pub fn show(&self, account: &Account, catalogue: &Catalogue, name: &Name) -> GuardAnswer
-        ensures { result ≡ shown account.now catalogue.now name.now }
+        ensures { result ≡ guard_answer (acl_lent account.now catalogue.now name.now) }
     {
-        match catalogue.find(name) {
-            Some(set) if owns(account, set) => GuardAnswer::Done,
-            Some(set) => answer_of(decision_on(account, set, to_execute()), &set.acl),
-            None => GuardAnswer::Denied(Reason::NoSet),
+        match self.acl(account, catalogue, name) {
+            Ok(_) => GuardAnswer::Done,
+            Err(reason) => GuardAnswer::Denied(reason),
         }
     }
 
     /// Gives a set another permission list, which only its owner may do.
     ///
-    /// It is denied where there is no such set, and then where the account is not the owner. Only then is the text read.
+    /// It is denied where there is no such set, and then where the account is not the owner, whatever memory there is.
+    /// Only then is the text read.
+    ///
+    /// # Errors
+    ///
+    /// Where a growth was refused; the catalogue is then unchanged.
+    pub fn try_set_acl(
+        &mut self,
+        alloc: Global,
+        account: &Account,
+        catalogue: &mut Catalogue,
+        name: &Name,
+        text: &AclText,
+    ) -> Result<AclAnswer, AllocError>
+        ensures answer { IfOk result (λ answer. answer ≡ (acl_set account.now catalogue.old name.now text.now).0) }
+        ensures sets { OnOk result (catalogue.new ≡ (acl_set account.now catalogue.old name.now text.now).1) }
+        ensures unchanged { OnErr result (catalogue.new ≡ catalogue.old) }
+        ensures denied { (reason : Reason) → (result ≡ Ok (AclAnswer.Denied reason)) ↔ (owner_denial account.now catalogue.old name.now ≡ Some reason) }
+    {
+        if let Some(reason) = owner_denial(account, catalogue, name) {
+            return Ok(AclAnswer::Denied(reason));
+        }
+        match text.read(alloc) {
+            Ok(acl) => match catalogue.set_acl(name, acl) {
+                Ok(_) => Ok(AclAnswer::Done),
+                Err(NoSet) => Ok(AclAnswer::Denied(Reason::NoSet)),
+            },
+            Err(Stop::Refused(error)) => Ok(AclAnswer::BadList(error)),
+            Err(Stop::Memory) => Err(AllocError),
+        }
+    }
+
+    /// Gives a set another permission list, as `try_set_acl` does.
     ///
     /// # Errors
     ///
@@ -81,39 +184,104 @@ impl Guard {
         catalogue: &mut Catalogue,
         name: &Name,
         text: &AclText,
-    ) -> Result<GuardAnswer, AclError>
-        ensures { IsOutcome result catalogue.old catalogue.new (acl_set account.now catalogue.old name.now text.now) }
+    ) -> Result<GuardAnswer, Stop<AclError>>
+        ensures answer { Gives (λ answer. answer) result (acl_answer (acl_set account.now catalogue.old name.now text.now).0) }
+        ensures sets { OnOk result (catalogue.new ≡ (acl_set account.now catalogue.old name.now text.now).1) }
+        ensures unchanged { OnErr result (catalogue.new ≡ catalogue.old) }
+        ensures denied { (reason : Reason) → (result ≡ Ok (GuardAnswer.Denied reason)) ↔ (owner_denial account.now catalogue.old name.now ≡ Some reason) }
     {
-        if let Some(reason) = owner_denial(account, catalogue, name) {
-            return Ok(GuardAnswer::Denied(reason));
-        }
-        let acl = text.read(alloc)?;
-        match catalogue.set_acl(name, acl) {
-            Ok(_) => Ok(GuardAnswer::Done),
-            Err(NoSet) => Ok(GuardAnswer::Denied(Reason::NoSet)),
+        match self.try_set_acl(alloc, account, catalogue, name, text) {
+            Ok(AclAnswer::Done) => Ok(GuardAnswer::Done),
+            Ok(AclAnswer::Denied(reason)) => Ok(GuardAnswer::Denied(reason)),
+            Ok(AclAnswer::BadList(error)) => Err(Stop::Refused(error)),
+            Err(AllocError) => Err(Stop::Memory),
         }
     }
 
     /// Takes a set out of the catalogue, which only its owner may do. It takes no memory.
     ///
-    /// It is denied where there is no such set, and then where the account is not the owner.
+    /// # Errors
+    ///
+    /// Why it is denied: there is no such set, or the account is not the owner.
+    pub fn try_remove(
+        &mut self,
+        account: &Account,
+        catalogue: &mut Catalogue,
+        name: &Name,
+    ) -> Result<(), Reason>
+        ensures answer { result ≡ (removed account.now catalogue.old name.now).0 }
+        ensures sets { catalogue.new ≡ (removed account.now catalogue.old name.now).1 }
+    {
+        if let Some(reason) = owner_denial(account, catalogue, name) {
+            return Err(reason);
+        }
+        match catalogue.remove(name) {
+            Ok(()) => Ok(()),
+            Err(NoSet) => Err(Reason::NoSet),
+        }
+    }
+
+    /// Takes a set out of the catalogue, as `try_remove` does.
     pub fn remove(
         &mut self,
         account: &Account,
         catalogue: &mut Catalogue,
         name: &Name,
     ) -> GuardAnswer
-        ensures answer { result ≡ (removed account.now catalogue.old name.now).0 }
+        ensures answer { result ≡ guard_answer (removed account.now catalogue.old name.now).0 }
         ensures sets { catalogue.new ≡ (removed account.now catalogue.old name.now).1 }
     {
-        if let Some(reason) = owner_denial(account, catalogue, name) {
-            return GuardAnswer::Denied(reason);
-        }
-        match catalogue.remove(name) {
-            Ok(()) => GuardAnswer::Done,
-            Err(NoSet) => GuardAnswer::Denied(Reason::NoSet),
-        }
+        GuardAnswer::of(self.try_remove(account, catalogue, name))
     }
+
+    /// Creates a data set with no records, which every account may do: it is the account's, of the account's primary
+    /// group, grants all to its owner and nothing to others, and is put last.
+    ///
+    /// # Errors
+    ///
+    /// `NameTaken` where there is a set of this name, else `CatalogueFull` where there are 1,000 sets; `Memory` where a
+    /// growth was refused. The catalogue is then unchanged.
+    pub fn create(
+        &mut self,
+        alloc: Global,
+        account: &Account,
+        catalogue: &mut Catalogue,
+        name: Name,
+    ) -> Result<(), Stop<CreateError>>
+        ensures answer { Gives (λ done. done) result (created account.now catalogue.old name).0 }
+        ensures sets { OnOk result (catalogue.new ≡ (created account.now catalogue.old name).1) }
+        ensures unchanged { OnErr result (catalogue.new ≡ catalogue.old) }
+    {
+        let acl = new_list(alloc)?;
+        catalogue.create(name, account.name.copy(), account.primary.copy(), acl)
+    }
+}
+
+// The permission list of a new data set.
+fn new_list(alloc: Global) -> Result<Acl, AllocError>
+    ensures { IfOk result (λ acl. acl ≡ new_list) }
+{
+    match Acl::parse_short(alloc, b"u::rwx,g::---,o::---") {
+        Ok(acl) => Ok(acl),
+        Err(_) => Err(AllocError),
+    }
+}
+
+// Why an account may not do what only the owner may.
+fn owner_denial(account: &Account, catalogue: &Catalogue, name: &Name) -> Option<Reason>
+    ensures { result ≡ owner_denial account.now catalogue.now name.now }
+{
+    match catalogue.find(name) {
+        Some(set) if owns(account, set) => None,
+        Some(_) => Some(Reason::NotOwner),
+        None => Some(Reason::NoSet),
+    }
+}
+
+fn to_read() -> Perms
+    ensures { result ≡ to_read }
+{
+    Perms::new(true, false, false)
 }
 
 fn to_execute() -> Perms
@@ -129,19 +297,18 @@ fn decision_on(account: &Account, set: &DataSet, request: Perms) -> Decision
     check(account, &set.owner, &set.group, &set.acl, request)
 }
 
+// Whether the access check grants a request on a set; else the entry that decides.
+fn permit(account: &Account, set: &DataSet, request: Perms) -> Result<(), Reason>
+    ensures { result ≡ where_granted account.now request set.now tt }
+{
+    match decision_on(account, set, request) {
+        Decision::Granted => Ok(()),
+        Decision::Denied(decider) => Err(Reason::of(decider, &set.acl)),
+    }
+}
+
 fn owns(account: &Account, set: &DataSet) -> bool
     ensures { result ≡ is_owner account.now set.now.owner }
 {
     account.name == set.owner
-}
-
-// Why an account may not do what only the owner may.
-fn owner_denial(account: &Account, catalogue: &Catalogue, name: &Name) -> Option<Reason>
-    ensures { result ≡ owner_denial account.now catalogue.now name.now }
-{
-    match catalogue.find(name) {
-        Some(set) if owns(account, set) => None,
-        Some(_) => Some(Reason::NotOwner),
-        None => Some(Reason::NoSet),
-    }
 }

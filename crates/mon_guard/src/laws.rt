@@ -1,7 +1,30 @@
 //! Laws of the guard. Each is the contract of a function that does nothing, or only cites a law that it rests on.
-ghost use Rattle.mon_guard.specs.Laws.{OwnersRemove, OwnersSetLists, OtherSetsStay, ShownWhereGranted, DenialsNameAnEntry};
+ghost use Rattle.mon_guard.specs.Laws.{LendsWhereGranted, HiddenSetsLeaveNoTrace, DenialsSayWhy, DenialsNameAnEntry, OwnersRemove, OwnersSetLists, MakersOwn, OtherSetsStay};
 
 use mon_access::laws::deciders_lack_the_part;
+
+/// Records are lent exactly where r is granted, a permission list to its owner and where x is granted, and a name exactly
+/// where x is granted.
+pub fn lends_where_granted()
+    ensures { LendsWhereGranted }
+{}
+
+/// A set whose name the account may not see leaves no trace in the names that it is lent.
+pub fn hidden_sets_leave_no_trace()
+    ensures { HiddenSetsLeaveNoTrace }
+{}
+
+/// Something is denied exactly where a set is missing, is another's, or an entry decides so, and the denial names that.
+pub fn denials_say_why()
+    ensures { DenialsSayWhy }
+{}
+
+/// A denial by the access check names an entry of the set's list that lacks a part of the request.
+pub fn denials_name_an_entry()
+    ensures { DenialsNameAnEntry }
+{
+    deciders_lack_the_part();
+}
 
 /// A set is removed exactly where it is the account's; else nothing changes.
 pub fn owners_remove()
@@ -13,19 +36,15 @@ pub fn owners_set_lists()
     ensures { OwnersSetLists }
 {}
 
+/// A set is created exactly where its name is free and there is room, and is then its maker's; else nothing changes.
+pub fn makers_own()
+    ensures { MakersOwn }
+{}
+
 /// No call changes another set than the one that it names.
 pub fn other_sets_stay()
     ensures { OtherSetsStay }
-{}
-
-/// A list is shown exactly to its owner and where x is granted.
-pub fn shown_where_granted()
-    ensures { ShownWhereGranted }
-{}
-
-/// A denial by the access check names an entry of the set's list that lacks a part of the request.
-pub fn denials_name_an_entry()
-    ensures { DenialsNameAnEntry }
 {
-    deciders_lack_the_part();
+    // Said of the catalogue's own changes.
+    mon_catalogue::laws::other_sets_stay();
 }

@@ -1,17 +1,17 @@
 //! Every access behind the check.
 //!
 //! A `Guard` does what an account asks of a data set exactly where the set's owner, group and permission list grant it
-//! as they stand at that moment. What is denied changes nothing and shows nothing.
+//! as they stand at that moment, and lends of a set what is granted and nothing else. What is denied changes nothing and
+//! shows nothing.
 #![tactic(auto)]
 
 pub mod answer;
 pub mod guard;
 pub mod laws;
+pub mod shown;
 pub mod text;
 
-pub use answer::{Decided, GuardAnswer, Reason};
+pub use answer::{AclAnswer, Decided, GuardAnswer, Reason};
 pub use guard::Guard;
+pub use shown::{ShownAcl, ShownName};
 pub use text::{AclText, Bytes};
-
-#[cfg(test)]
-mod tests;

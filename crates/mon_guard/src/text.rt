@@ -1,9 +1,10 @@
 //! The text of a permission list that is to be set.
 ghost use Rattle.std.specs.Prelude.{◌≡◌};
-ghost use Rattle.mon_acl.specs.Reading.{Gives};
+ghost use Rattle.mon_text.specs.Stops.{Gives};
 ghost use Rattle.mon_guard.specs.Owning.{list_of_text};
 
 use mon_acl::{Acl, AclError};
+use mon_text::Stop;
 use std::alloc::Global;
 use std::marker::Model;
 
@@ -48,7 +49,7 @@ impl Bytes {
 
 impl AclText {
     // The list that the text spells.
-    pub(crate) fn read(&self, alloc: Global) -> Result<Acl, AclError>
+    pub(crate) fn read(&self, alloc: Global) -> Result<Acl, Stop<AclError>>
         ensures { Gives (λ acl. acl) result (list_of_text self.now) }
     {
         match self {

@@ -1,8 +1,3 @@
-mod Places
-mod Changes
-mod Known
-mod Exactly
-mod Others
-mod Kept
+mod Names
+mod Changed
 mod Shows
-mod Denials

@@ -1,8 +1,7 @@
 pub mod Printouts
 pub mod Commands
-pub mod Outcomes
+pub mod Replies
 pub mod Commanded
-pub mod Serving
+pub mod inner
 pub mod Worlds
-pub mod Places
 pub mod Laws

@@ -1,16 +1,15 @@
 -- What is printed (own). The monitor's own lines begin with a word; a line that shows stored text begins with one blank.
-use Rattle.std.specs.Prelude.{ℕ, List, [], ◌++◌, length, codes, decimal, Option}
+use Rattle.std.specs.Prelude.{ℕ, List, ◌++◌, length, codes, decimal, Option}
 use Rattle.std.specs.List.{flat_map}
 use Rattle.mon_acl.specs.declared.entries.Tag.{Tag}
 use Rattle.mon_acl.specs.declared.entries.Entry.{Entry}
 use Rattle.mon_acl.specs.declared.refusals.AclError.{AclError}
-use Rattle.mon_acl.specs.declared.refusals.AclError.TheVariants.{BadTag, BadQualifier, BadPerms, Missing, Twice, NoMask, TooMany, Memory}
+use Rattle.mon_acl.specs.declared.refusals.AclError.TheVariants.{BadTag, BadQualifier, BadPerms, Missing, Twice, NoMask, TooMany}
 use Rattle.mon_acl.specs.Entries.{bytes_of}
 use Rattle.mon_acl.specs.Texts.{tag_word}
 use Rattle.mon_acl.specs.declared.entries.Perms.{Perms}
 use Rattle.mon_acl.specs.Printing.{mask_of, long_line}
-use Rattle.mon_catalogue.specs.declared.data_set.DataSet.{DataSet}
-use Rattle.mon_catalogue.specs.Sets.{Sets}
+use Rattle.mon_guard.specs.Lending.{AclPart, NamePart}
 
 -- a word behind another, and a number behind a word
 abbrev pub word : List ℕ → List ℕ
@@ -36,19 +35,18 @@ abbrev pub acl_line : Option Perms → Entry → List ℕ
 acl_line mask entry = word (long_line mask entry)
 
 -- a data set's owner, its group and its permission list, and how many entries that has
-abbrev pub acl_text : DataSet → List ℕ
-acl_text set =
-    codes "OWNER" ++ word set.owner ++ codes " GROUP" ++ word set.group ++ codes "\n"
-    ++ flat_map (acl_line (mask_of set.acl)) set.acl ++ count_line (codes "ENTRIES") (length set.acl)
+abbrev pub acl_text : AclPart → List ℕ
+acl_text list =
+    codes "OWNER" ++ word list.owner ++ codes " GROUP" ++ word list.group ++ codes "\n"
+    ++ flat_map (acl_line (mask_of list.acl)) list.acl ++ count_line (codes "ENTRIES") (length list.acl)
 
 -- a data set's name, its owner, its group and the number of its records
-abbrev pub name_line : List ℕ × DataSet → List ℕ
-name_line named =
-    word named.0 ++ word named.1.owner ++ word named.1.group ++ number (length named.1.records) ++ codes "\n"
+abbrev pub name_line : NamePart → List ℕ
+name_line shown = word shown.name ++ word shown.owner ++ word shown.group ++ number shown.records ++ codes "\n"
 
 -- the names of data sets, and how many they are
-abbrev pub names_text : Sets → List ℕ
-names_text sets = flat_map name_line sets ++ count_line (codes "NAMES") (length sets)
+abbrev pub names_text : List NamePart → List ℕ
+names_text names = flat_map name_line names ++ count_line (codes "NAMES") (length names)
 
 -- an entry of a permission list without its permissions: its type, and its qualifier if it has one
 abbrev pub entry_words : Tag → Option (List ℕ) → List ℕ
@@ -63,5 +61,3 @@ list_refusal (Missing tag) = codes "A4 MISSING " ++ tag_word tag ++ codes "::"
 list_refusal (Twice n) = codes "A5 TWICE ENTRY" ++ number n
 list_refusal NoMask = codes "A6 NO MASK"
 list_refusal (TooMany n) = codes "A7 TOO MANY ENTRY" ++ number n
--- a text is never refused so
-list_refusal Memory = []

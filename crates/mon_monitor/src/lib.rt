@@ -7,15 +7,12 @@
 pub mod command;
 pub mod laws;
 pub mod monitor;
-pub mod outcome;
 mod printing;
 pub mod printout;
+pub mod reply;
 mod serving;
 
 pub use command::Command;
 pub use monitor::Monitor;
-pub use outcome::Outcome;
 pub use printout::Printout;
-
-#[cfg(test)]
-mod tests;
+pub use reply::Reply;

@@ -3,8 +3,8 @@ ghost use Rattle.std.specs.Prelude.{◌≡◌, ◌≤◌, IfOk, OnOk, OnErr};
 ghost use Rattle.mon_monitor.specs.Commanded.{commanded};
 
 use crate::command::Command;
-use crate::outcome::Outcome;
 use crate::printout::{Printout, told};
+use crate::reply::Reply;
 use crate::serving::serve;
 use mon_access::Accounts;
 use mon_catalogue::Catalogue;
@@ -79,7 +79,7 @@ impl Monitor {
                 &mut self.catalogue,
                 &command,
             ),
-            None => told(alloc, &command, Outcome::NoAccount),
+            None => told(alloc, &command, Reply::NoAccount),
         }
     }
 }

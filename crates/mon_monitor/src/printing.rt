@@ -5,7 +5,8 @@ ghost use Rattle.mon_monitor.specs.Commands.{card_line};
 ghost use Rattle.mon_monitor.specs.Printouts.{word, number, stored_line, count_line, records_text, name_line, acl_text, acl_line, entry_words, list_refusal};
 
 use mon_acl::{AclError, Entry, Perms, Tag};
-use mon_catalogue::{DataSet, Records};
+use mon_catalogue::Records;
+use mon_guard::{ShownAcl, ShownName};
 use mon_text::{Name, put_number};
 use std::alloc::AllocError;
 
@@ -55,16 +56,16 @@ pub(crate) fn put_records(records: &Records, out: &mut Vec<u8>) -> Result<(), Al
 }
 
 // Appends a data set's owner, its group and its permission list, and how many entries that has.
-pub(crate) fn put_acl(set: &DataSet, out: &mut Vec<u8>) -> Result<(), AllocError>
-    ensures { OnOk result (out.new.items ≡ out.old.items ++ acl_text set.now) }
+pub(crate) fn put_acl(shown: &ShownAcl, out: &mut Vec<u8>) -> Result<(), AllocError>
+    ensures { OnOk result (out.new.items ≡ out.old.items ++ acl_text shown.now) }
 {
     out.extend_from_slice(b"OWNER")?;
-    put_word(set.owner.as_bytes(), out)?;
+    put_word(shown.owner.as_bytes(), out)?;
     out.extend_from_slice(b" GROUP")?;
-    put_word(set.group.as_bytes(), out)?;
+    put_word(shown.group.as_bytes(), out)?;
     out.push(b'\n')?;
-    put_entries(set.acl.entries(), set.acl.mask(), out)?;
-    put_count(b"ENTRIES", set.acl.len() as u64, out)
+    put_entries(shown.acl.entries(), shown.acl.mask(), out)?;
+    put_count(b"ENTRIES", shown.acl.len() as u64, out)
 }
 
 // Appends the lines of entries under a mask.
@@ -79,13 +80,13 @@ fn put_entries(entries: &[Entry], mask: Option<Perms>, out: &mut Vec<u8>) -> Res
 }
 
 // Appends a data set's name, its owner, its group and the number of its records.
-pub(crate) fn put_name(name: &Name, set: &DataSet, out: &mut Vec<u8>) -> Result<(), AllocError>
-    ensures { OnOk result (out.new.items ≡ out.old.items ++ name_line (name.now, set.now)) }
+pub(crate) fn put_name(shown: &ShownName, out: &mut Vec<u8>) -> Result<(), AllocError>
+    ensures { OnOk result (out.new.items ≡ out.old.items ++ name_line shown.now) }
 {
-    put_word(name.as_bytes(), out)?;
-    put_word(set.owner.as_bytes(), out)?;
-    put_word(set.group.as_bytes(), out)?;
-    put_number_word(set.records.len(), out)?;
+    put_word(shown.name.as_bytes(), out)?;
+    put_word(shown.owner.as_bytes(), out)?;
+    put_word(shown.group.as_bytes(), out)?;
+    put_number_word(shown.records, out)?;
     out.push(b'\n')?;
     Ok(())
 }
@@ -138,7 +139,6 @@ pub(crate) fn put_list_refusal(error: AclError, out: &mut Vec<u8>) -> Result<(),
         AclError::Twice(entry) => put_at_entry(b"A5 TWICE ENTRY", entry, out),
         AclError::NoMask => out.extend_from_slice(b"A6 NO MASK"),
         AclError::TooMany(entry) => put_at_entry(b"A7 TOO MANY ENTRY", entry, out),
-        AclError::Memory => Ok(()),
     }
 }
 

@@ -3,7 +3,7 @@ ghost use Rattle.std.specs.Prelude.{◌≡◌, ◌++◌, IfOk};
 ghost use Rattle.mon_monitor.specs.Commanded.{printed, Told};
 
 use crate::command::Command;
-use crate::outcome::Outcome;
+use crate::reply::Reply;
 use std::alloc::{AllocError, Global};
 use std::marker::Model;
 
@@ -32,16 +32,12 @@ impl Printout {
     }
 }
 
-// The printout of a command that is told an outcome.
-pub(crate) fn told(
-    alloc: Global,
-    command: &Command,
-    outcome: Outcome,
-) -> Result<Printout, AllocError>
-    ensures { IfOk result (λ printout. printout ≡ printed command.now (Told outcome)) }
+// The printout of a command that is told a reply.
+pub(crate) fn told(alloc: Global, command: &Command, reply: Reply) -> Result<Printout, AllocError>
+    ensures { IfOk result (λ printout. printout ≡ printed command.now (Told reply)) }
 {
     let mut bytes = Vec::new(alloc);
     command.put_heading(&mut bytes)?;
-    outcome.put_line(&mut bytes)?;
+    reply.put_line(&mut bytes)?;
     Ok(Printout { bytes })
 }

@@ -1,4 +1,4 @@
-use Rattle.mon_monitor.proofs.Others.{other_sets_stay}
+use Rattle.mon_monitor.proofs.Changed.{other_sets_stay}
 use Rattle.mon_monitor.proofs.laws.other_sets_stay.Goals as goal
 
 pub returns : goal.returns

@@ -3,4 +3,4 @@ use Rattle.mon_monitor.specs.Commanded.{printed}
 use Rattle.mon_monitor.proofs.laws.refusals_show_nothing.Goals as goal
 
 pub returns : goal.returns
-returns c = λ accounts sets command outcome h. ap (printed command) h
+returns c = λ accounts sets command reply h. ap (printed command) h
