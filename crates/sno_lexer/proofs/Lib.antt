@@ -4,4 +4,7 @@ mod Places
 mod Contexts
 mod Words
 mod Faults
+mod Reading
 mod Telling
+mod Once
+mod Examples

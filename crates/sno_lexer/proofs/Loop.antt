@@ -112,7 +112,7 @@ joined_first : (tokens : List Token) (offsets : List ℕ) (token : Token) (at : 
 joined_first tokens offsets token at (Ok list) = simp append_assoc
 joined_first tokens offsets token at (Err fault) = refl
 
-on_turn : (s : Context) (at c : ℕ) (text rest : List ℕ) (action : Action) → text ≡ c ∷ rest → step s text ≡ action
+pub on_turn : (s : Context) (at c : ℕ) (text rest : List ℕ) (action : Action) → text ≡ c ∷ rest → step s text ≡ action
     → stage s at text ≡ on_action s at text action (λ next. stage next (at + 1) rest)
 on_turn s at c text rest action d e =
     subst (λ (x : List ℕ). step s x ≡ action → stage s at x ≡ on_action s at x action (λ next. stage next (at + 1) rest)) (sym d)

@@ -23,11 +23,11 @@ use Rattle.sno_lexer.proofs.Faults.{IsTaken, found_refused, found_taken}
 
 -- ONE TOKEN
 
-or_false : (b : Bool) → b ≡ (b || false)
+pub or_false : (b : Bool) → b ≡ (b || false)
 or_false true = refl
 or_false false = refl
 
-or_true : (b : Bool) → true ≡ (b || true)
+pub or_true : (b : Bool) → true ≡ (b || true)
 or_true true = refl
 or_true false = refl
 

@@ -243,7 +243,7 @@ none_is (c ∷ []) e = at (c == 83) (c == 70) e
     at false false e = refl
 none_is (c ∷ d ∷ word) e = refl
 
-and_false : (a b : Bool) → b ≡ false → (a && b) ≡ false
+pub and_false : (a b : Bool) → b ≡ false → (a && b) ≡ false
 and_false true b e = e
 and_false false b e = refl
 
