@@ -85,11 +85,11 @@ taken ts = (
   λ s v p. no_refusal (refusal ts) (statement_in ts) s (agrees ts) (statement_read s ts v p),
 )
 
-least_none : (a b : Option ℕ) → a ≡ None → b ≡ None → least a b ≡ None
+pub least_none : (a b : Option ℕ) → a ≡ None → b ≡ None → least a b ≡ None
 least_none None b d e = e
 least_none (Some i) b d e = cc
 
-none_least : (a b : Option ℕ) → least a b ≡ None → a ≡ None
+pub none_least : (a b : Option ℕ) → least a b ≡ None → a ≡ None
 none_least None b e = refl
 none_least (Some i) None e = cc
 none_least (Some i) (Some j) e = at (nat_le i j) e
@@ -98,7 +98,7 @@ none_least (Some i) (Some j) e = at (nat_le i j) e
     at true d = cc
     at false d = cc
 
-none_later : (a b : Option ℕ) → least a b ≡ None → b ≡ None
+pub none_later : (a b : Option ℕ) → least a b ≡ None → b ≡ None
 none_later None b e = e
 none_later (Some i) b e = let d = none_least (Some i) b e in cc
 

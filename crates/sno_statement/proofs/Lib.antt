@@ -6,4 +6,5 @@ pub mod Counts
 pub mod Strides
 pub mod Passing
 pub mod Grammar
+pub mod Prefixes
 pub mod Loop
