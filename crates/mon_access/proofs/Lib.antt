@@ -1,9 +1,12 @@
 mod Tables
 mod Places
+mod Halves
+mod Together
 mod Meanings
 mod Cases
 mod Orders
 mod Smaller
+mod Outcomes
 mod Changes
 mod Counts
 mod Denials

@@ -5,3 +5,4 @@ pub mod Matches
 pub mod AccessCheck
 pub mod FourCases
 pub mod Laws
+pub mod inner

@@ -1,12 +1,14 @@
 //! The access check of acl(5), "ACCESS CHECK ALGORITHM".
-ghost use Rattle.std.specs.Prelude.{◌≡◌, position, if◌then◌else◌};
+ghost use Rattle.std.specs.Prelude.{◌≡◌, ◌&&◌, if◌then◌else◌};
 ghost use Rattle.std.specs.List.{list_any};
 ghost use Rattle.mon_acl.specs.declared.entries.Tag.TheVariants as tag;
-ghost use Rattle.mon_acl.specs.Entries.{has_tag};
-ghost use Rattle.mon_access.specs.Matches.{is_in_group, is_for_user, is_for_group, some_holds};
+ghost use Rattle.mon_acl.specs.Entries.{has_tag, IsAcl};
+ghost use Rattle.mon_access.specs.Matches.{some_holds};
 ghost use Rattle.mon_access.specs.AccessCheck.{decision};
+ghost use Rattle.mon_access.specs.inner.Deciding.{decision_beside_owner, decision_beside_users};
 
 use crate::account::Account;
+use crate::finding::{Found, of_groups, of_type, of_user, type_holds};
 use mon_acl::{Acl, Entry, Perms, Tag};
 use mon_text::Name;
 
@@ -19,90 +21,19 @@ pub enum Decision {
     Denied(Decider),
 }
 
-/// The entry of a permission list that decided a denial (own). A place is that of `Acl::entry`, so in canonical order.
+/// The entry of a permission list that decided a denial (own). An index is that of `Acl::entry`, so in canonical order.
 #[derive(Clone, Copy, Debug, PartialEq, Eq)]
 pub enum Decider {
     /// The owner's entry.
     UserObj,
-    /// The named user's entry at this place.
+    /// The named user's entry at this index.
     User(usize),
-    /// The entry of the owning group or of a named group at this place.
+    /// The entry of the owning group or of a named group at this index.
     Group(usize),
     /// The mask: an entry for the account holds the request, and the mask lacks a part of it.
     Mask,
     /// The entry for everyone else.
     Other,
-}
-
-fn is_in_group(account: &Account, group: &Name) -> bool
-    ensures { result ≡ is_in_group account.now group.now }
-{
-    account.primary == *group || account.groups.contains(group)
-}
-
-fn is_for_user(account: &Account, entry: &Entry) -> bool
-    ensures { result ≡ is_for_user account.now entry.now }
-{
-    entry.tag == Tag::User
-        && entry
-            .name
-            .as_ref()
-            .is_some_and(|name| account.name == *name)
-}
-
-fn is_for_group(account: &Account, group: &Name, entry: &Entry) -> bool
-    ensures { result ≡ is_for_group account.now group.now entry.now }
-{
-    match entry.tag {
-        Tag::GroupObj => is_in_group(account, group),
-        Tag::Group => entry
-            .name
-            .as_ref()
-            .is_some_and(|name| is_in_group(account, name)),
-        _ => false,
-    }
-}
-
-/// The place of the named user's entry.
-fn user_place(account: &Account, entries: &[Entry]) -> Option<usize>
-    ensures { result ≡ position (is_for_user account.now) entries.now }
-{
-    entries.iter().position(|entry| is_for_user(account, entry))
-}
-
-/// The place of the first group entry that matches.
-fn group_place(account: &Account, group: &Name, entries: &[Entry]) -> Option<usize>
-    ensures { result ≡ position (is_for_group account.now group.now) entries.now }
-{
-    entries
-        .iter()
-        .position(|entry| is_for_group(account, group, entry))
-}
-
-fn has_mask(entries: &[Entry]) -> bool
-    ensures { result ≡ list_any (has_tag tag.Mask) entries.now }
-{
-    entries.iter().any(|entry| entry.tag == Tag::Mask)
-}
-
-fn tag_holds(tag: Tag, entries: &[Entry], request: Perms) -> bool
-    ensures { result ≡ some_holds (has_tag tag) entries.now request }
-{
-    entries
-        .iter()
-        .any(|entry| entry.tag == tag && entry.perms.contains(request))
-}
-
-fn user_holds(account: &Account, entries: &[Entry], request: Perms) -> bool
-    ensures { result ≡ some_holds (is_for_user account.now) entries.now request }
-{
-    entries.iter().any(|entry| is_for_user(account, entry) && entry.perms.contains(request))
-}
-
-fn group_holds(account: &Account, group: &Name, entries: &[Entry], request: Perms) -> bool
-    ensures { result ≡ some_holds (is_for_group account.now group.now) entries.now request }
-{
-    entries.iter().any(|entry| is_for_group(account, group, entry) && entry.perms.contains(request))
 }
 
 fn decided(granted: bool, decider: Decider) -> Decision
@@ -115,41 +46,54 @@ fn decided(granted: bool, decider: Decider) -> Decision
     }
 }
 
-/// Who denies to an account that has entries: the mask where one of them holds the request, else the first of them.
-fn mask_or(held: bool, first: Decider) -> Decider
-    ensures { result ≡ (if held then Decider.Mask else first) }
+/// Whether groups are granted what some one of their entries holds, or what none does.
+fn is_granted_to_groups(entries: &[Entry], held: bool, request: Perms) -> bool
+    requires { IsAcl entries.now }
+    ensures { result ≡ (if list_any (has_tag tag.Mask) entries.now then some_holds (has_tag tag.Mask) entries.now request && held
+        else some_holds (has_tag tag.GroupObj) entries.now request) }
 {
-    if held { Decider::Mask } else { first }
+    match of_type(entries, Tag::Mask, request) {
+        Found::Holding => held,
+        Found::Lacking(_) => false,
+        Found::Nobody => type_holds(entries, Tag::GroupObj, request),
+    }
 }
 
-#[tactic(auto, using(crate::proofs::Places::places), unfolding(crate::specs::AccessCheck::decision))]
-fn decision_among(
+/// What is decided of an account that is not the owner.
+fn decision_of_others(
     account: &Account,
-    owner: &Name,
     group: &Name,
     entries: &[Entry],
     request: Perms,
 ) -> Decision
-    ensures { result ≡ decision account.now owner.now group.now entries.now request }
+    requires { IsAcl entries.now }
+    ensures { result ≡ decision_beside_owner account.now group.now entries.now request }
 {
-    if account.name == *owner {
-        return decided(tag_holds(Tag::UserObj, entries, request), Decider::UserObj);
+    match of_user(entries, account, request) {
+        Found::Holding => decided(type_holds(entries, Tag::Mask, request), Decider::Mask),
+        Found::Lacking(index) => Decision::Denied(Decider::User(index)),
+        Found::Nobody => decision_by_groups(account, group, entries, request),
     }
-    if let Some(place) = user_place(account, entries) {
-        let held = user_holds(account, entries, request);
-        let granted = held && tag_holds(Tag::Mask, entries, request);
-        return decided(granted, mask_or(held, Decider::User(place)));
+}
+
+/// What is decided of an account that no entry names.
+fn decision_by_groups(
+    account: &Account,
+    group: &Name,
+    entries: &[Entry],
+    request: Perms,
+) -> Decision
+    requires { IsAcl entries.now }
+    ensures { result ≡ decision_beside_users account.now group.now entries.now request }
+{
+    match of_groups(entries, account, group, request) {
+        Found::Holding => decided(is_granted_to_groups(entries, true, request), Decider::Mask),
+        Found::Lacking(index) => {
+            let granted = is_granted_to_groups(entries, false, request);
+            decided(granted, Decider::Group(index))
+        }
+        Found::Nobody => decided(type_holds(entries, Tag::Other, request), Decider::Other),
     }
-    if let Some(place) = group_place(account, group, entries) {
-        let held = group_holds(account, group, entries, request);
-        let granted = if has_mask(entries) {
-            held && tag_holds(Tag::Mask, entries, request)
-        } else {
-            tag_holds(Tag::GroupObj, entries, request)
-        };
-        return decided(granted, mask_or(held, Decider::Group(place)));
-    }
-    decided(tag_holds(Tag::Other, entries, request), Decider::Other)
 }
 
 /// Decides whether an account may do what is requested with a data set, by the data set's owner, its group and its
@@ -161,5 +105,10 @@ fn decision_among(
 pub fn check(account: &Account, owner: &Name, group: &Name, acl: &Acl, request: Perms) -> Decision
     ensures { result ≡ decision account.now owner.now group.now acl.now request }
 {
-    decision_among(account, owner, group, acl.entries(), request)
+    let entries = acl.entries();
+    if account.name == *owner {
+        decided(type_holds(entries, Tag::UserObj, request), Decider::UserObj)
+    } else {
+        decision_of_others(account, group, entries, request)
+    }
 }

@@ -56,6 +56,13 @@ impl Groups {
         self.names.is_empty()
     }
 
+    /// The names of the groups.
+    pub(crate) fn names(&self) -> &[Name]
+        ensures { result.now ≡ self.now }
+    {
+        self.names.as_slice()
+    }
+
     /// Adds a group at the end.
     ///
     /// # Errors

@@ -6,6 +6,7 @@
 
 pub mod access;
 pub mod account;
+mod finding;
 pub mod laws;
 pub mod table;
 

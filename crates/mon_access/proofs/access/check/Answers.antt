@@ -1,0 +1,27 @@
+use Rattle.std.proofs.Common.{rules, ◌≡◌, ◌∙◌, Bool, true, false, List, ap, if◌then◌else◌}
+use Rattle.mon_acl.specs.declared.entries.Tag.TheVariants.{UserObj}
+use Rattle.mon_acl.specs.declared.entries.Entry.{Entry}
+use Rattle.mon_acl.specs.Entries.{has_tag}
+use Rattle.mon_access.specs.declared.access.Decision.TheVariants.{Granted, Denied}
+use Rattle.mon_access.specs.declared.access.Decider.TheVariants.{UserObj as ByUserObj}
+use Rattle.mon_access.specs.Matches.{is_owner, some_holds}
+use Rattle.mon_access.specs.AccessCheck.{decision}
+use Rattle.mon_access.specs.inner.Deciding.{decision_beside_owner}
+use Rattle.mon_access.proofs.access.check.Goals as goal
+
+pub returns-then-eq : goal.returns-then-eq
+unfolding decision
+returns-then-eq c =
+    let own : is_owner c.args.account.now c.args.owner.now ≡ true = search rules in
+    rw own
+    (c.decided.ensures
+    ∙ ap (λ (b : Bool). if b then Granted else Denied ByUserObj)
+    (c.type_holds.ensures ∙ ap (λ (es : List Entry). some_holds (has_tag UserObj) es c.args.request) c.entries-entries.ensures.value))
+
+pub returns-else-eq : goal.returns-else-eq
+unfolding decision
+returns-else-eq c =
+    let other : is_owner c.args.account.now c.args.owner.now ≡ false = search rules in
+    rw other
+    (c.decision_of_others.ensures
+    ∙ ap (λ (es : List Entry). decision_beside_owner c.args.account.now c.args.group.now es c.args.request) c.entries-entries.ensures.value)

@@ -1,0 +1,13 @@
+use Rattle.std.proofs.Common.{◌∷◌, ◌∙◌, get_or}
+use Rattle.mon_acl.specs.declared.entries.Tag.TheVariants.{User}
+use Rattle.mon_acl.specs.Entries.{rank}
+use Rattle.mon_access.specs.Matches.{is_for_user}
+use Rattle.mon_access.specs.inner.Kinds.{stands_at}
+use Rattle.mon_access.proofs.Together.{alike, user_kind}
+use Rattle.mon_access.proofs.finding.of_user.Goals as goal
+
+pub returns : goal.returns
+returns c =
+    c.named.ensures
+    ∙ alike (stands_at (rank User ∷ c.args.account.now.name)) (is_for_user c.args.account.now) c.args.entries.now c.args.request
+    (λ k d h. user_kind c.args.account.now.name (get_or c.args.entries.now k d) (c.requires.valid.entries k d h))
