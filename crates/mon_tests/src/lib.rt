@@ -4,4 +4,10 @@
 #[cfg(test)]
 mod access;
 #[cfg(test)]
+mod acl;
+#[cfg(test)]
+mod catalogue;
+#[cfg(test)]
 mod device;
+#[cfg(test)]
+mod text;
