@@ -5,7 +5,8 @@ use Rattle.mon_acl.specs.declared.entries.Tag.{Tag}
 use Rattle.mon_acl.specs.declared.entries.Tag.TheVariants.{UserObj, GroupObj, Other}
 use Rattle.mon_acl.specs.declared.entries.Entry.{Entry}
 use Rattle.mon_acl.specs.declared.refusals.AclError.{AclError}
-use Rattle.mon_acl.specs.Reading.{read_short, read_long}
+use Rattle.mon_acl.specs.Texts.{pieces, long_pieces}
+use Rattle.mon_acl.specs.Reading.{read_short, read_long, MayGrow}
 use Rattle.mon_access.specs.declared.account.Account.{Account}
 use Rattle.mon_access.specs.Matches.{is_owner}
 use Rattle.mon_catalogue.specs.declared.data_set.DataSet.{DataSet}
@@ -39,6 +40,11 @@ removed account sets name = removed_unless (owner_denial account sets name) sets
 abbrev pub list_of_text : AclText → Result (List Entry) AclError
 list_of_text (Short text) = read_short text
 list_of_text (Long text) = read_long text
+
+-- reading a text may take memory: it has five entries or more, and none of the first five is refused
+abbrev pub MayTakeMemory : AclText → Type 0
+MayTakeMemory (Short text) = MayGrow (pieces text)
+MayTakeMemory (Long text) = MayGrow (long_pieces text)
 
 -- a list is given to the set only where the text spells one
 abbrev pub given : Result (List Entry) AclError → Sets → List ℕ → AclAnswer × Sets

@@ -1,12 +1,13 @@
 //! The guard: what an account asks, done exactly where it is granted.
-ghost use Rattle.std.specs.Prelude.{◌≡◌, ◌↔◌, Some, Ok, Err, IfOk, OnOk, IfErr, OnErr, IfSome, is_some};
+ghost use Rattle.std.specs.Prelude.{◌≡◌, ◌↔◌, Some, Ok, Err, IfOk, OnOk, IfErr, OnErr, IfSome, is_some, IsErrOf, IsOkAnd};
 ghost use Rattle.std.specs.Result.{result_map_both};
-ghost use Rattle.mon_text.specs.Stops.{Gives};
+ghost use Rattle.mon_text.specs.Stops.{Gives, refused_as};
 ghost use Rattle.mon_access.specs.Matches.{is_owner};
+ghost use Rattle.mon_catalogue.specs.Sets.{create_refusal};
 ghost use Rattle.mon_guard.specs.declared.answer.Reason.{Reason};
 ghost use Rattle.mon_guard.specs.Deciding.{to_read, to_execute, decision_on, decided, where_granted};
 ghost use Rattle.mon_guard.specs.Lending.{records_lent, acl_lent, name_lent};
-ghost use Rattle.mon_guard.specs.Owning.{owner_denial, removed, acl_set, created, new_list};
+ghost use Rattle.mon_guard.specs.Owning.{owner_denial, removed, acl_set, created, new_list, MayTakeMemory};
 ghost use Rattle.mon_guard.specs.Answers.{guard_answer, acl_answer};
 
 use crate::answer::{AclAnswer, Decided, GuardAnswer, Reason};
@@ -145,7 +146,8 @@ impl Guard {
     ///
     /// # Errors
     ///
-    /// Where a growth was refused; the catalogue is then unchanged.
+    /// Where a growth was refused, which no text of four entries needs, nor one that is refused within its first five; the
+    /// catalogue is then unchanged.
     pub fn try_set_acl(
         &mut self,
         alloc: Global,
@@ -158,6 +160,7 @@ impl Guard {
         ensures sets { OnOk result (catalogue.new ≡ (acl_set account.now catalogue.old name.now text.now).1) }
         ensures unchanged { OnErr result (catalogue.new ≡ catalogue.old) }
         ensures denied { (reason : Reason) → (result ≡ Ok (AclAnswer.Denied reason)) ↔ (owner_denial account.now catalogue.old name.now ≡ Some reason) }
+        ensures memory { OnErr result (MayTakeMemory text.now) }
     {
         if let Some(reason) = owner_denial(account, catalogue, name) {
             return Ok(AclAnswer::Denied(reason));
@@ -189,6 +192,7 @@ impl Guard {
         ensures sets { OnOk result (catalogue.new ≡ (acl_set account.now catalogue.old name.now text.now).1) }
         ensures unchanged { OnErr result (catalogue.new ≡ catalogue.old) }
         ensures denied { (reason : Reason) → (result ≡ Ok (GuardAnswer.Denied reason)) ↔ (owner_denial account.now catalogue.old name.now ≡ Some reason) }
+        ensures memory { IsErrOf result Stop.Memory → MayTakeMemory text.now }
     {
         match self.try_set_acl(alloc, account, catalogue, name, text) {
             Ok(AclAnswer::Done) => Ok(GuardAnswer::Done),
@@ -239,8 +243,8 @@ impl Guard {
     ///
     /// # Errors
     ///
-    /// `NameTaken` where there is a set of this name, else `CatalogueFull` where there are 1,000 sets; `Memory` where a
-    /// growth was refused. The catalogue is then unchanged.
+    /// `NameTaken` where there is a set of this name, else `CatalogueFull` where there are 1,000 sets, whatever memory there
+    /// is; else `Memory` where a growth was refused. The catalogue is then unchanged.
     pub fn create(
         &mut self,
         alloc: Global,
@@ -249,6 +253,7 @@ impl Guard {
         name: Name,
     ) -> Result<(), Stop<CreateError>>
         ensures answer { Gives (λ done. done) result (created account.now catalogue.old name).0 }
+        ensures refused { refused_as result ≡ create_refusal name catalogue.old }
         ensures sets { OnOk result (catalogue.new ≡ (created account.now catalogue.old name).1) }
         ensures unchanged { OnErr result (catalogue.new ≡ catalogue.old) }
     {
@@ -257,9 +262,9 @@ impl Guard {
     }
 }
 
-// The permission list of a new data set.
+// The permission list of a new data set. So few entries take no memory.
 fn new_list(alloc: Global) -> Result<Acl, AllocError>
-    ensures { IfOk result (λ acl. acl ≡ new_list) }
+    ensures { IsOkAnd result (λ acl. acl ≡ new_list) }
 {
     match Acl::parse_short(alloc, b"u::rwx,g::---,o::---") {
         Ok(acl) => Ok(acl),

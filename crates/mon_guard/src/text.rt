@@ -1,7 +1,7 @@
 //! The text of a permission list that is to be set.
-ghost use Rattle.std.specs.Prelude.{◌≡◌};
+ghost use Rattle.std.specs.Prelude.{◌≡◌, IsErrOf};
 ghost use Rattle.mon_text.specs.Stops.{Gives};
-ghost use Rattle.mon_guard.specs.Owning.{list_of_text};
+ghost use Rattle.mon_guard.specs.Owning.{list_of_text, MayTakeMemory};
 
 use mon_acl::{Acl, AclError};
 use mon_text::Stop;
@@ -48,9 +48,10 @@ impl Bytes {
 }
 
 impl AclText {
-    // The list that the text spells.
+    // The list that the text spells. A text that is refused within its first five entries is so whatever memory there is.
     pub(crate) fn read(&self, alloc: Global) -> Result<Acl, Stop<AclError>>
-        ensures { Gives (λ acl. acl) result (list_of_text self.now) }
+        ensures list { Gives (λ acl. acl) result (list_of_text self.now) }
+        ensures memory { IsErrOf result Stop.Memory → MayTakeMemory self.now }
     {
         match self {
             AclText::Short(text) => Acl::parse_short(alloc, text.as_slice()),

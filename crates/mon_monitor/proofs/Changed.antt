@@ -10,16 +10,16 @@ use Rattle.mon_guard.specs.declared.answer.AclAnswer.{AclAnswer}
 use Rattle.mon_guard.specs.declared.answer.AclAnswer.TheVariants as acl
 use Rattle.mon_guard.specs.declared.text.AclText.{AclText}
 use Rattle.mon_guard.specs.declared.text.AclText.TheVariants.{Short}
-use Rattle.mon_guard.specs.Lending.{AclPart, records_lent, acl_lent, names_lent}
+use Rattle.mon_guard.specs.Lending.{records_lent, acl_lent, names_lent}
 use Rattle.mon_guard.specs.Owning.{removed, acl_set, created}
 use Rattle.mon_guard.specs.Laws as guard
 use Rattle.mon_monitor.specs.declared.command.Command.{Command}
 use Rattle.mon_monitor.specs.declared.command.Command.TheVariants.{Create, Delete, SetAcl, ShowAcl, List as Listing, Catalog}
 use Rattle.mon_monitor.specs.declared.reply.Reply.{Reply}
-use Rattle.mon_monitor.specs.declared.reply.Reply.TheVariants.{Done, NoAccount, Denied, NameTaken, CatalogueFull, BadList}
+use Rattle.mon_monitor.specs.declared.reply.Reply.TheVariants.{Done, Denied, NameTaken, CatalogueFull, BadList}
 use Rattle.mon_monitor.specs.Commands.{account_of}
-use Rattle.mon_monitor.specs.Commanded.{Answer, Told, Records, Shown, Names, Served, told_by, creation_reply, removal_reply, acl_reply, shown_as, only_shown, served, served_if_known, answered}
-use Rattle.mon_monitor.specs.Laws.{IsKnown, Changes, done, ChangesExactly, ChangesWhereGranted, IsNamed, OtherSetsStay}
+use Rattle.mon_monitor.specs.Commanded.{Answer, Told, Records, Shown, Names, Served, told_by, creation_reply, removal_reply, acl_reply, shown_as, served, served_if_known, answered}
+use Rattle.mon_monitor.specs.Laws.{IsKnown, Changes, done, ChangesWhereGranted, IsNamed, OtherSetsStay}
 
 pub answered_known : (accounts : List Account) (sets : Sets) (command : Command) (account : Account) → IsKnown accounts command account
     → answered accounts sets command ≡ served account command sets

@@ -1,23 +1,22 @@
 -- Records, lists and names are shown exactly where they may be, and every denial says why.
-use Rattle.std.proofs.Common.{◌≡◌, ◌≢◌, ◌++◌, ◌∷◌, ℕ, List, Option, Some, None, Result, Ok, Err, refl, sym, ap, ◌∙◌}
+use Rattle.std.proofs.Common.{◌≡◌, ◌≢◌, ◌++◌, ◌∷◌, ℕ, List, Option, Some, None, Result, Ok, Err, sym, ap, ◌∙◌}
 use Rattle.mon_access.specs.declared.account.Account.{Account}
 use Rattle.mon_access.specs.Accounts.{find_account}
 use Rattle.mon_acl.specs.declared.refusals.AclError.{AclError}
 use Rattle.mon_acl.specs.declared.entries.Entry.{Entry}
-use Rattle.mon_catalogue.specs.declared.data_set.DataSet.{DataSet}
 use Rattle.mon_catalogue.specs.declared.catalogue.CreateError.{CreateError}
 use Rattle.mon_catalogue.specs.declared.catalogue.CreateError.TheVariants as create
 use Rattle.mon_catalogue.specs.Sets.{Sets}
 use Rattle.mon_guard.specs.declared.answer.Reason.{Reason}
 use Rattle.mon_guard.specs.declared.text.AclText.{AclText}
 use Rattle.mon_guard.specs.Lending.{AclPart, records_lent, acl_lent, names_lent}
-use Rattle.mon_guard.specs.Owning.{owner_denial, removed_unless, removed, given, acl_set_unless, acl_set, list_of_text, created}
+use Rattle.mon_guard.specs.Owning.{owner_denial, removed_unless, given, acl_set_unless, list_of_text, created}
 use Rattle.mon_guard.specs.Laws as guard
 use Rattle.mon_monitor.specs.declared.command.Command.{Command}
 use Rattle.mon_monitor.specs.declared.command.Command.TheVariants.{Create, Delete, SetAcl, ShowAcl, List as Listing, Catalog}
 use Rattle.mon_monitor.specs.declared.reply.Reply.TheVariants.{Done, Denied, NameTaken, CatalogueFull, BadList}
-use Rattle.mon_monitor.specs.Commanded.{Answer, Told, Records, Shown, Names, Served, creation_reply, removal_reply, acl_reply, shown_as, served, served_if_known, answered, printed, printed_as, commanded}
-use Rattle.mon_monitor.specs.Laws.{IsKnown, ShowsWhereGranted, HiddenSetsHaveNoEffect, IsWhy, DenialsSayWhy}
+use Rattle.mon_monitor.specs.Commanded.{Answer, Told, Records, Shown, Names, Served, creation_reply, removal_reply, acl_reply, shown_as, served, served_if_known, printed, printed_as, commanded}
+use Rattle.mon_monitor.specs.Laws.{ShowsWhereGranted, HiddenSetsHaveNoEffect, IsWhy, DenialsSayWhy}
 use Rattle.mon_monitor.proofs.Changed.{answered_known}
 
 records_from : (r : Result (List (List ℕ)) Reason) (records : List (List ℕ)) → shown_as Records r ≡ Records records → r ≡ Ok records
