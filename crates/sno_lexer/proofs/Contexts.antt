@@ -1,6 +1,6 @@
 -- What is known of the characters before a place is what the tokens before it say.
-use Rattle.std.proofs.Common.{arith, ◌≡◌, ℕ, ◌+◌, ◌-◌, List, [], ◌∷◌, length, refl, sym, ap, ◌∙◌}
-use Rattle.std.specs.Prelude.{Bool, true, false, ◌&&◌, ◌||◌, ◌==◌, nat_le, if◌then◌else◌}
+use Rattle.std.proofs.Common.{arith, ◌≡◌, ℕ, List, [], ◌∷◌, length, refl, ap, ◌∙◌}
+use Rattle.std.specs.Prelude.{Bool, true, false, ◌&&◌, ◌||◌, if◌then◌else◌}
 use Rattle.sno_token.specs.declared.TokenKind.{TokenKind}
 use Rattle.sno_lexer.specs.declared.begin.Class.{Class}
 use Rattle.sno_lexer.specs.declared.begin.Class.TheVariants.{Identifier, Label, Integer, Literal, Operator, Open, Close, Comma, Equals, Colon, On}

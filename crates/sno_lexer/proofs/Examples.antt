@@ -1,11 +1,11 @@
 -- The definitions on worked texts.
 use Rattle.std.proofs.Common.{◌≡◌, ℕ, ◌++◌, List, [], ◌∷◌, true, false, Result, Ok, Err, refl}
-use Rattle.std.specs.Prelude.{Bool, codes, pos, replicate}
+use Rattle.std.specs.Prelude.{codes, pos, replicate}
 use Rattle.sno_token.specs.declared.Token.{Token}
 use Rattle.sno_token.specs.declared.TokenKind.{TokenKind}
-use Rattle.sno_token.specs.declared.TokenKind.TheVariants.{Identifier, Constant, Mark, Open, Close, Comma, Part}
+use Rattle.sno_token.specs.declared.TokenKind.TheVariants.{Identifier, Constant, Mark, Open, Close, Part}
 use Rattle.sno_token.specs.declared.Constant.TheVariants.{Literal, Integer}
-use Rattle.sno_token.specs.declared.Mark.TheVariants.{Power, Star, Minus, Dot, Dollar, Ampersand}
+use Rattle.sno_token.specs.declared.Mark.TheVariants.{Power, Star, Minus, Dollar}
 use Rattle.sno_token.specs.declared.Part.TheVariants.{Equals, Colon, On, Label}
 use Rattle.sno_token.specs.declared.Outcome.TheVariants.{Success, Failure}
 use Rattle.sno_lexer.specs.declared.fault.FaultKind.{FaultKind}

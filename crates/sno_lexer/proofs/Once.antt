@@ -1,7 +1,7 @@
 -- Whatever tells a text is what is read of it.
-use Rattle.std.proofs.Common.{arith, ◌≡◌, ℕ, suc, ◌+◌, ◌-◌, ◌<◌, List, [], ◌∷◌, ◌++◌, length, drop, refl, sym, ap, ◌∙◌, subst}
-use Rattle.std.specs.Prelude.{Bool, true, false, not, ◌&&◌, ◌||◌, ◌==◌, nat_lt, Option, Some, None, Result, Ok, Err, if◌then◌else◌}
-use Rattle.std.specs.List.{list_all, list_any}
+use Rattle.std.proofs.Common.{arith, ◌≡◌, ℕ, ◌+◌, ◌-◌, ◌<◌, List, [], ◌∷◌, ◌++◌, length, drop, refl, sym, ap, ◌∙◌, subst}
+use Rattle.std.specs.Prelude.{Bool, true, false, ◌&&◌, ◌||◌, ◌==◌, nat_lt, Option, Some, None, Result, Ok, Err, if◌then◌else◌}
+use Rattle.std.specs.List.{list_all}
 use Rattle.std.proofs.lemmas.Bool.Decides.{nat_tests}
 use mathlib.Core.Logic.{inl, inr}
 use Rattle.mon_text.specs.Characters.{is_blank}
@@ -9,12 +9,11 @@ use Rattle.sno_token.specs.declared.Token.{Token}
 use Rattle.sno_token.specs.declared.TokenKind.{TokenKind}
 use Rattle.sno_lexer.specs.declared.begin.Class.{Class}
 use Rattle.sno_lexer.specs.declared.begin.Context.{Context}
-use Rattle.sno_lexer.specs.declared.lexing.Action.{Action}
-use Rattle.sno_lexer.specs.declared.lexing.Action.TheVariants.{Pass, Take, Refuse}
+use Rattle.sno_lexer.specs.declared.lexing.Action.TheVariants.{Pass}
 use Rattle.sno_lexer.specs.declared.fault.FaultKind.{FaultKind}
 use Rattle.sno_lexer.specs.declared.fault.LexFault.{LexFault}
 use Rattle.sno_lexer.specs.inner.Classes.{found, further, kind_of, text_of, token_of}
-use Rattle.sno_lexer.specs.inner.Lexing.{after, lexed, on_action, stage, start, step, taken, with_first}
+use Rattle.sno_lexer.specs.inner.Lexing.{after, on_action, stage, start, taken, with_first}
 use Rattle.sno_lexer.specs.Listed.{TokenList}
 use Rattle.sno_lexer.specs.Following.{IsEnd, IsFault, Stands, Tells, fault_of, is_apart, is_some_text}
 use Rattle.sno_lexer.specs.Laws.{NothingElseTellsIt}

@@ -20,8 +20,8 @@ use Rattle.sno_lexer.specs.declared.begin.Class.TheVariants.{Identifier, Label, 
 use Rattle.sno_lexer.specs.declared.begin.Context.{Context}
 use Rattle.sno_lexer.specs.declared.fault.FaultKind.{FaultKind}
 use Rattle.sno_lexer.specs.declared.fault.FaultKind.TheVariants.{BadConstant, Foreign, TooMany}
-use Rattle.sno_lexer.specs.inner.Classes.{at_goto, class_of, class_of_quote, class_of_sign, class_of_value, class_of_word, found, further, goes_on, kind_of, let_in_if_good, name_or, outcome_of, run_in, star, text_of}
-use Rattle.sno_lexer.specs.Written.{IsRun, IsWritten, begins_token, continues, is_identifier_character, is_label_character, is_letter_or_digit, is_quote, mark_text}
+use Rattle.sno_lexer.specs.inner.Classes.{class_of, class_of_quote, class_of_sign, class_of_value, class_of_word, found, further, goes_on, kind_of, let_in_if_good, name_or, outcome_of, run_in, star, text_of}
+use Rattle.sno_lexer.specs.Written.{begins_token, continues, is_identifier_character, is_label_character, is_letter_or_digit, is_quote, mark_text}
 use Rattle.sno_lexer.specs.Following.{Stands, begins, fault_of, goto_of, in_goto, is_label_due, is_outcome, is_outcome_due, is_too_many, open_after}
 use Rattle.sno_lexer.proofs.Contexts.{Knows, outcome_due}
 use Rattle.sno_lexer.proofs.Faults.{good_or, let_in_is}

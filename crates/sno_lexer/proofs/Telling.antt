@@ -1,6 +1,6 @@
 -- The tokens of a text tell it, to its end or to its fault.
 use Rattle.std.proofs.Common.{arith, ◌≡◌, ℕ, zero, suc, ◌+◌, ◌-◌, ◌≤◌, ◌<◌, List, [], ◌∷◌, ◌++◌, length, take, drop, refl, sym, ap, ◌∙◌, subst}
-use Rattle.std.specs.Prelude.{Bool, true, false, not, ◌||◌, ◌==◌, nat_lt, Option, Some, None, Result, Ok, Err, slice_get, if◌then◌else◌}
+use Rattle.std.specs.Prelude.{Bool, true, false, ◌||◌, ◌==◌, nat_lt, Option, Some, None, Result, Ok, Err, slice_get, if◌then◌else◌}
 use Rattle.std.specs.List.{list_all}
 use Rattle.std.proofs.Math.Seq.{drop-nil}
 use Rattle.std.proofs.lemmas.List.{take-append-drop, length-take-le}
@@ -13,10 +13,10 @@ use Rattle.sno_lexer.specs.declared.begin.Context.{Context}
 use Rattle.sno_lexer.specs.declared.lexing.Action.TheVariants.{Pass}
 use Rattle.sno_lexer.specs.declared.fault.FaultKind.{FaultKind}
 use Rattle.sno_lexer.specs.declared.fault.LexFault.{LexFault}
-use Rattle.sno_lexer.specs.inner.Classes.{begins_with, found, further, is_blank_or_end, kind_of, text_of, token_of}
-use Rattle.sno_lexer.specs.inner.Lexing.{after, lexed, on_action, stage, start, step, taken, with_first}
+use Rattle.sno_lexer.specs.inner.Classes.{found, further, is_blank_or_end, kind_of, text_of, token_of}
+use Rattle.sno_lexer.specs.inner.Lexing.{after, lexed, on_action, stage, start, taken, with_first}
 use Rattle.sno_lexer.specs.Listed.{TokenList}
-use Rattle.sno_lexer.specs.Following.{IsFault, Tells, Told, is_apart, is_some_text}
+use Rattle.sno_lexer.specs.Following.{Tells, Told, is_apart}
 use Rattle.sno_lexer.specs.Laws.{TokensTellTheText}
 use Rattle.sno_lexer.proofs.Contexts.{Knows, at_start, knows_after}
 use Rattle.sno_lexer.proofs.Faults.{IsTaken, found_refused, found_taken}

@@ -1,6 +1,6 @@
 -- How tokens are written out (after Griswold, Poage and Polonsky, "The SNOBOL4 Programming Language", 2nd edition,
 -- chapter 1; the mark `~`, the range of integers and what a goto's label may hold are own).
-use Rattle.std.specs.Prelude.{◌≡◌, ℕ, pos, Bool, false, true, not, ◌&&◌, ◌||◌, ◌==◌, List, [], ◌∷◌, ◌++◌, codes}
+use Rattle.std.specs.Prelude.{◌≡◌, ℕ, pos, Bool, false, true, not, ◌||◌, ◌==◌, List, [], ◌∷◌, ◌++◌, codes}
 use Rattle.std.specs.List.{list_all, list_any}
 use Rattle.mon_text.specs.Characters.{is_letter, is_digit, is_blank}
 use Rattle.mon_text.specs.Counts.{value_of}

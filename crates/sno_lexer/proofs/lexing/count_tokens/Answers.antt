@@ -1,4 +1,4 @@
-use Rattle.std.proofs.Common.{◌≡◌, ◌+◌, ◌-◌, ◌∙◌, ℕ, List, ap, sym, length, drop, take, get_or}
+use Rattle.std.proofs.Common.{◌+◌, ◌-◌, ◌∙◌, ℕ, List, ap, sym, length, drop, take, get_or}
 use Rattle.std.proofs.lemmas.List.{take_rest}
 use Rattle.sno_lexer.specs.inner.Lexing.{counted, lexed, stage}
 use Rattle.sno_lexer.proofs.Runs.{more}

@@ -1,4 +1,4 @@
-use Rattle.std.proofs.Common.{arith, ◌≡◌, ◌+◌, ◌-◌, ◌<◌, ◌∙◌, ℕ, List, [], ◌∷◌, ◌++◌, Ok, ap, sym, length, drop, take, get_or}
+use Rattle.std.proofs.Common.{arith, ◌+◌, ◌-◌, ◌∙◌, ℕ, List, [], ◌∷◌, ◌++◌, Ok, ap, sym, length, drop, take, get_or}
 use Rattle.std.proofs.lemmas.List.{take_rest}
 use Rattle.std.specs.Prelude.{vec_len}
 use Rattle.sno_lexer.specs.inner.Lexing.{lexed, stage}
