@@ -1,2 +1,5 @@
 //! Tests of the crates of the language, above them all, so that none of these is proved again for its tests.
 #![tactic(auto)]
+
+#[cfg(test)]
+mod lexer;
