@@ -1,3 +1,1 @@
-pub mod Trees
-pub mod Statements
-pub mod Answers
+pub mod inner

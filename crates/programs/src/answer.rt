@@ -1,15 +1,15 @@
 //! What is shown of a program that was read or refused.
-ghost use Rattle.std.specs.Prelude.{◌≡◌, ◌++◌, OnOk};
-ghost use Rattle.programs.specs.Answers.{verdict_text, program_answer, statement_answer, statements_text, start_text, error_text, refusal_text};
+ghost use Rattle.std.specs.Prelude.{◌≡◌, ◌++◌, drop, OnOk};
+ghost use Rattle.std.specs.Option.{option_copied};
+ghost use Rattle.programs.specs.inner.Answers.{own_label, verdict_text, program_answer, statement_answer, statements_text, start_text, stop_text, refusal_text};
 
-use crate::statement::put_labelled;
-use crate::tree::put;
-use mon_text::put_number;
-use sno_cards::{Refusal, SyntaxError};
-use sno_syntax::{Labelled, Program, Start};
+use crate::expression::put;
+use crate::statement::put_statement;
+use mon_text::{Stop, put_number};
+use sno_syntax::{Labels, Program, Start, SyntaxError};
 use std::alloc::AllocError;
 
-type Answer = Result<Program, SyntaxError>;
+type Answer = Result<Program, Stop<SyntaxError>>;
 
 /// Appends a line: `parsed`, or where the program is refused.
 pub fn put_verdict(answer: &Answer, out: &mut Vec<u8>) -> Result<(), AllocError>
@@ -17,7 +17,7 @@ pub fn put_verdict(answer: &Answer, out: &mut Vec<u8>) -> Result<(), AllocError>
 {
     match answer {
         Ok(_) => put(b"parsed\n", out),
-        Err(error) => put_error(*error, out),
+        Err(stop) => put_stop(*stop, out),
     }
 }
 
@@ -27,28 +27,41 @@ pub fn put_program(answer: &Answer, out: &mut Vec<u8>) -> Result<(), AllocError>
 {
     match answer {
         Ok(program) => {
-            put_statements(&program.statements, out)?;
+            put_statements(program, out)?;
             put_start(program.start, out)
         }
-        Err(error) => put_error(*error, out),
+        Err(stop) => put_stop(*stop, out),
     }
 }
 
 /// Appends a line for each statement, or where the program is refused.
-pub fn put_statement(answer: &Answer, out: &mut Vec<u8>) -> Result<(), AllocError>
+pub fn put_statements_of(answer: &Answer, out: &mut Vec<u8>) -> Result<(), AllocError>
     ensures { OnOk result (out.new.items ≡ out.old.items ++ statement_answer answer.now) }
 {
     match answer {
-        Ok(program) => put_statements(&program.statements, out),
-        Err(error) => put_error(*error, out),
+        Ok(program) => put_statements(program, out),
+        Err(stop) => put_stop(*stop, out),
     }
 }
 
-fn put_statements(statements: &[Labelled], out: &mut Vec<u8>) -> Result<(), AllocError>
-    ensures { OnOk result (out.new.items ≡ out.old.items ++ statements_text statements.now) }
+// The label of the statement at an index, where the next of the labels is its.
+fn own_label(labels: &Labels, next: usize, index: usize) -> Option<&[u8]>
+    ensures { option_copied result ≡ own_label (drop next labels.now) index }
 {
-    for statement in statements {
-        put_labelled(statement, out)?;
+    match labels.entry(next) {
+        Some((label, at)) if at == index => Some(label),
+        _ => None,
+    }
+}
+
+fn put_statements(program: &Program, out: &mut Vec<u8>) -> Result<(), AllocError>
+    ensures { OnOk result (out.new.items ≡ out.old.items ++ statements_text program.now) }
+{
+    let mut next = 0;
+    for (index, statement) in program.statements.iter().enumerate() {
+        let label = own_label(&program.labels, next, index);
+        next += label.is_some() as usize;
+        put_statement(label, statement, out)?;
         put(b"\n", out)?;
     }
     Ok(())
@@ -67,16 +80,16 @@ fn put_start(start: Start, out: &mut Vec<u8>) -> Result<(), AllocError>
     }
 }
 
-fn put_error(error: SyntaxError, out: &mut Vec<u8>) -> Result<(), AllocError>
-    ensures { OnOk result (out.new.items ≡ out.old.items ++ error_text error) }
+fn put_stop(stop: Stop<SyntaxError>, out: &mut Vec<u8>) -> Result<(), AllocError>
+    ensures { OnOk result (out.new.items ≡ out.old.items ++ stop_text stop) }
 {
-    match error {
-        SyntaxError::Refused(refusal) => put_refusal(refusal, out),
-        SyntaxError::Memory => Err(AllocError),
+    match stop {
+        Stop::Refused(refusal) => put_refusal(refusal, out),
+        Stop::Memory => Err(AllocError),
     }
 }
 
-fn put_refusal(refusal: Refusal, out: &mut Vec<u8>) -> Result<(), AllocError>
+fn put_refusal(refusal: SyntaxError, out: &mut Vec<u8>) -> Result<(), AllocError>
     ensures { OnOk result (out.new.items ≡ out.old.items ++ refusal_text refusal) }
 {
     put(b"REFUSED ", out)?;

@@ -1,11 +1,10 @@
 //! A worked case: its cards, and what must come out.
 
-use crate::answer::{put_program, put_statement, put_verdict};
+use crate::answer::{put_program, put_statements_of, put_verdict};
 use crate::difference::first_difference;
 use anyhow::{Context, Result};
-use mon_text::{Line, read_line};
-use sno_cards::{SyntaxError, statements};
-use sno_syntax::{Program, parse};
+use mon_text::{Line, Stop, read_line};
+use sno_syntax::{Program, SyntaxError, parse, statements};
 use std::alloc::{AllocError, Global};
 use std::fs;
 use std::rt::Files;
@@ -64,7 +63,7 @@ fn answer(alloc: Global, form: Form, cards: &str) -> Result<Vec<u8>> {
         Form::Trees => put_program(&read_program(alloc, cards)?, &mut out)?,
         Form::Statements => {
             for card in cards.lines() {
-                put_statement(&read_card(alloc, card)?, &mut out)?;
+                put_statements_of(&read_card(alloc, card)?, &mut out)?;
             }
         }
     }
@@ -72,7 +71,7 @@ fn answer(alloc: Global, form: Form, cards: &str) -> Result<Vec<u8>> {
 }
 
 // The program of these cards.
-fn read_program(alloc: Global, cards: &str) -> Result<Result<Program, SyntaxError>> {
+fn read_program(alloc: Global, cards: &str) -> Result<Result<Program, Stop<SyntaxError>>> {
     let mut lines = Vec::new(alloc);
     for card in cards.lines() {
         put_card(alloc, card, &mut lines)?;
@@ -81,7 +80,7 @@ fn read_program(alloc: Global, cards: &str) -> Result<Result<Program, SyntaxErro
 }
 
 // The program of a card and an END line.
-fn read_card(alloc: Global, card: &str) -> Result<Result<Program, SyntaxError>> {
+fn read_card(alloc: Global, card: &str) -> Result<Result<Program, Stop<SyntaxError>>> {
     let mut lines = Vec::new(alloc);
     put_card(alloc, card, &mut lines)?;
     put_card(alloc, "END", &mut lines)?;
@@ -94,7 +93,7 @@ fn put_card(alloc: Global, card: &str, lines: &mut Vec<Line>) -> Result<()> {
     Ok(())
 }
 
-fn program_of(alloc: Global, lines: &[Line]) -> Result<Program, SyntaxError> {
+fn program_of(alloc: Global, lines: &[Line]) -> Result<Program, Stop<SyntaxError>> {
     let cards = statements(alloc, lines)?;
     parse(alloc, &cards)
 }

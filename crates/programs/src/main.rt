@@ -26,8 +26,8 @@
 mod answer;
 mod case;
 mod difference;
+mod expression;
 mod statement;
-mod tree;
 
 use anyhow::{Context, Result};
 use case::{Form, holds};

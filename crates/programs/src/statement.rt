@@ -1,36 +1,31 @@
 //! Statements as text.
 ghost use Rattle.std.specs.Prelude.{◌≡◌, ◌++◌, OnOk};
-ghost use Rattle.sno_expression.specs.Told.{trees_of};
-ghost use Rattle.sno_statement.specs.Told.{body_of, object_of, goto_of, target_of};
-ghost use Rattle.programs.specs.Statements.{labelled_text, label_text, body_text, pattern_text, object_text, goto_text, target_text};
+ghost use Rattle.std.specs.Option.{option_copied};
+ghost use Rattle.sno_expression.specs.Told.{expressions_of};
+ghost use Rattle.sno_statement.specs.Told.{statement_of, body_of, object_of, goto_of, target_of};
+ghost use Rattle.programs.specs.inner.Statements.{statement_text, body_text, pattern_text, object_text, goto_text, target_text};
 
-use crate::tree::{put, put_indirect, put_tree};
-use sno_expression::Tree;
-use sno_statement::{Body, Goto, Object, Target};
-use sno_syntax::{Label, Labelled};
+use crate::expression::{put, put_expression, put_indirect};
+use sno_expression::Expression;
+use sno_statement::{Body, Goto, Object, Statement, Target};
 use std::alloc::AllocError;
 
 /// What stands for a part that a statement has not.
 const NOTHING: &[u8] = b"-";
 
 /// Appends a statement: its label, subject, pattern, object and goto.
-pub fn put_labelled(labelled: &Labelled, out: &mut Vec<u8>) -> Result<(), AllocError>
-    ensures { OnOk result (out.new.items ≡ out.old.items ++ labelled_text labelled.now) }
+pub fn put_statement(
+    label: Option<&[u8]>,
+    statement: &Statement,
+    out: &mut Vec<u8>,
+) -> Result<(), AllocError>
+    ensures { OnOk result (out.new.items ≡ out.old.items ++ statement_text (option_copied label.entry) (statement_of statement.now)) }
 {
-    put_label(&labelled.label, out)?;
+    put(label.unwrap_or(NOTHING), out)?;
     put(b" ", out)?;
-    put_body(&labelled.statement.body, out)?;
+    put_body(&statement.body, out)?;
     put(b" ", out)?;
-    put_goto(&labelled.statement.goto, out)
-}
-
-fn put_label(label: &Option<Label>, out: &mut Vec<u8>) -> Result<(), AllocError>
-    ensures { OnOk result (out.new.items ≡ out.old.items ++ label_text label.now) }
-{
-    match label {
-        Some(label) => put(label.as_bytes(), out),
-        None => put(NOTHING, out),
-    }
+    put_goto(&statement.goto, out)
 }
 
 fn put_body(body: &Option<Body>, out: &mut Vec<u8>) -> Result<(), AllocError>
@@ -39,7 +34,7 @@ fn put_body(body: &Option<Body>, out: &mut Vec<u8>) -> Result<(), AllocError>
     match body {
         None => put(b"- - -", out),
         Some(body) => {
-            put_tree(&body.subject, out)?;
+            put_expression(&body.subject, out)?;
             put(b" ", out)?;
             put_pattern(&body.pattern, out)?;
             put(b" ", out)?;
@@ -48,11 +43,11 @@ fn put_body(body: &Option<Body>, out: &mut Vec<u8>) -> Result<(), AllocError>
     }
 }
 
-fn put_pattern(pattern: &Option<Tree>, out: &mut Vec<u8>) -> Result<(), AllocError>
-    ensures { OnOk result (out.new.items ≡ out.old.items ++ pattern_text (trees_of pattern.now)) }
+fn put_pattern(pattern: &Option<Expression>, out: &mut Vec<u8>) -> Result<(), AllocError>
+    ensures { OnOk result (out.new.items ≡ out.old.items ++ pattern_text (expressions_of pattern.now)) }
 {
     match pattern {
-        Some(tree) => put_tree(tree, out),
+        Some(pattern) => put_expression(pattern, out),
         None => put(NOTHING, out),
     }
 }
@@ -63,9 +58,9 @@ fn put_object(object: &Object, out: &mut Vec<u8>) -> Result<(), AllocError>
     match object {
         Object::Nothing => put(NOTHING, out),
         Object::Null => put(b"(=)", out),
-        Object::Value(tree) => {
+        Object::Value(value) => {
             put(b"(= ", out)?;
-            put_tree(tree, out)?;
+            put_expression(value, out)?;
             put(b")", out)
         }
     }

@@ -1,3 +1,4 @@
+pub mod Tables
 pub mod Ends
-pub mod Statements
+pub mod Spelled
 pub mod Wholes

@@ -1,35 +1,32 @@
 -- Whole programs: that cards spell at most one, and that none is refused.
 use Rattle.std.proofs.Common.{◌≡◌, ◌+◌, ℕ, List, [], ◌∷◌, Some, None, Result, Ok, Err, refl, sym, ap, ◌∙◌}
-use Rattle.sno_cards.specs.declared.text.Placed.{Placed}
+use Rattle.sno_cards.specs.declared.refusal.SyntaxError.{SyntaxError}
 use Rattle.sno_cards.specs.Programs.{ProgramText}
-use Rattle.sno_lexer.specs.declared.fault.LexFault.{LexFault}
+use Rattle.sno_cards.specs.Texts.{Placed}
 use Rattle.sno_lexer.specs.Listed.{TokenList}
 use Rattle.sno_statement.specs.Statements.{Statement}
 use Rattle.sno_syntax.specs.declared.start.Start.{Start}
 use Rattle.sno_syntax.specs.Labels.{LabelList}
 use Rattle.sno_syntax.specs.Refusals.{label_of, tokens_of, with_label, either, statements_refusal, end_refusal, start_in, syntax_refusal}
-use Rattle.sno_syntax.specs.Programs.{Labelled, Program, AreTokensOf, SpellsLabelled, SpellFrom, IsProgram}
+use Rattle.sno_syntax.specs.Programs.{Program, AreTokensOf, SpellsBehind, SpellFrom, IsProgram}
 use Rattle.sno_statement.proofs.Grammar.{one_statement}
-use Rattle.sno_syntax.proofs.Statements.{no_refusal}
+use Rattle.sno_syntax.proofs.Spelled.{no_refusal}
 
-one_of_tokens : (s t : Statement) (tokens : Result TokenList LexFault) → AreTokensOf s tokens → AreTokensOf t tokens → s ≡ t
+one_of_tokens : (s t : Statement) (tokens : Result TokenList SyntaxError) → AreTokensOf s tokens → AreTokensOf t tokens → s ≡ t
 one_of_tokens s t (Err f) a b = absurd a
 one_of_tokens s t (Ok list) a b = one_statement s t list.tokens a.0 a.2 b.0 b.2
 
-same_labelled : (s t : Labelled) → s.label ≡ t.label → s.statement ≡ t.statement → s ≡ t
-same_labelled s t label statement = ap (λ l. record s { label = l }) label ∙ ap (λ b. record t { statement = b }) statement
+one_behind : (labels : LabelList) (text : List Placed) (s t : Statement) → SpellsBehind labels text s → SpellsBehind labels text t → s ≡ t
+one_behind labels text s t a b = one_of_tokens s t (tokens_of text) a.1 b.1
 
-one_labelled : (labels : LabelList) (text : List Placed) (s t : Labelled) → SpellsLabelled labels text s → SpellsLabelled labels text t → s ≡ t
-one_labelled labels text s t a b = same_labelled s t (a.1 ∙ sym b.1) (one_of_tokens s.statement t.statement (tokens_of text) a.2 b.2)
-
-one_from : (labels : LabelList) (i : ℕ) (texts : List (List Placed)) (ss ts : List Labelled) → SpellFrom labels i texts ss → SpellFrom labels i texts ts → ss ≡ ts
+one_from : (labels : LabelList) (i : ℕ) (texts : List (List Placed)) (ss ts : List Statement) → SpellFrom labels i texts ss → SpellFrom labels i texts ts → ss ≡ ts
 one_from labels i [] [] [] a b = refl
 one_from labels i [] [] (t ∷ ts) a b = absurd b
 one_from labels i [] (s ∷ ss) ts a b = absurd a
 one_from labels i (text ∷ texts) [] ts a b = absurd a
 one_from labels i (text ∷ texts) (s ∷ ss) [] a b = absurd b
 one_from labels i (text ∷ texts) (s ∷ ss) (t ∷ ts) a b =
-    ap (λ h. h ∷ ss) (one_labelled labels text s t a.0 b.0) ∙ ap (λ r. t ∷ r) (one_from (with_label labels (label_of text) i) (i + 1) texts ss ts a.1 b.1)
+    ap (λ h. h ∷ ss) (one_behind labels text s t a.0 b.0) ∙ ap (λ r. t ∷ r) (one_from (with_label labels (label_of text) i) (i + 1) texts ss ts a.1 b.1)
 
 one_start : (s t : Start) → Some s ≡ Some t → s ≡ t
 one_start s t e = cc
@@ -37,9 +34,10 @@ one_start s t e = cc
 pub one_program : (cards : ProgramText) (p q : Program) → IsProgram cards p → IsProgram cards q → p ≡ q
 one_program cards p q a b =
     ap (λ ss. record p { statements = ss }) (one_from [] 0 cards.statements p.statements q.statements a.0 b.0)
-    ∙ ap (λ s. record q { start = s }) (one_start p.start q.start (sym a.1 ∙ b.1))
+    ∙ ap (λ ls. record { statements = q.statements; labels = ls; start = p.start }) (a.1 ∙ sym b.1)
+    ∙ ap (λ s. record q { start = s }) (one_start p.start q.start (sym a.2 ∙ b.2))
 
-clean_from : (labels : LabelList) (i : ℕ) (texts : List (List Placed)) (ss : List Labelled) → SpellFrom labels i texts ss → statements_refusal labels i texts ≡ None
+clean_from : (labels : LabelList) (i : ℕ) (texts : List (List Placed)) (ss : List Statement) → SpellFrom labels i texts ss → statements_refusal labels i texts ≡ None
 clean_from labels i [] ss a = refl
 clean_from labels i (text ∷ texts) [] a = absurd a
 clean_from labels i (text ∷ texts) (s ∷ ss) a =
@@ -49,4 +47,4 @@ clean_from labels i (text ∷ texts) (s ∷ ss) a =
 pub not_refused : (cards : ProgramText) (p : Program) → IsProgram cards p → syntax_refusal cards ≡ None
 not_refused cards p a =
     ap (λ first. either first (end_refusal cards.end_rest (start_in cards))) (clean_from [] 0 cards.statements p.statements a.0)
-    ∙ ap (end_refusal cards.end_rest) a.1
+    ∙ ap (end_refusal cards.end_rest) a.2

@@ -1,6 +1,6 @@
 -- Labels (after Griswold, Poage and Polonsky, "The SNOBOL4 Programming Language", 2nd edition, chapter 1; which labels are
 -- refused is own).
-use Rattle.std.specs.Prelude.{ℕ, Bool, not, ◌||◌, bytes_eq, codes, is_some, List, [], ◌∷◌, Option, Some, None, if◌then◌else◌}
+use Rattle.std.specs.Prelude.{ℕ, Bool, false, not, ◌||◌, bytes_eq, codes, is_some, List, [], ◌∷◌, Option, Some, None, if◌then◌else◌}
 use Rattle.std.specs.List.{before_first}
 use Rattle.std.specs.Map.{lookup}
 use Rattle.mon_text.specs.Characters.{is_letter, is_digit, is_blank}
@@ -27,6 +27,11 @@ LabelList = List (List ℕ × ℕ)
 
 abbrev pub is_defined : LabelList → List ℕ → Bool
 is_defined labels label = is_some (lookup (bytes_eq label) labels)
+
+-- a label begins with something else
+abbrev pub is_bad_label : List ℕ → Bool
+is_bad_label [] = false
+is_bad_label (c ∷ cs) = not (begins_label c)
 
 -- why a statement may not have a label, where these are defined before it: it begins with something else than a letter or
 -- digit; it is END, which is the END line's; it was defined before, or is kept

@@ -4,3 +4,4 @@ pub mod Starts
 pub mod Refusals
 pub mod Programs
 pub mod Laws
+pub mod inner

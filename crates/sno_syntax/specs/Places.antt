@@ -2,18 +2,17 @@
 use Rattle.std.specs.Prelude.{ℕ, ◌+◌, ◌-◌, ◌^◌, min, List, [], ◌∷◌, get_or, if◌then◌else◌}
 use Rattle.mon_text.specs.Characters.{is_blank}
 use Rattle.sno_cards.specs.declared.refusal.Place.{Place}
-use Rattle.sno_cards.specs.declared.refusal.Refusal.{Refusal}
+use Rattle.sno_cards.specs.declared.refusal.SyntaxError.{SyntaxError}
 use Rattle.sno_cards.specs.declared.refusal.SyntaxCode.{SyntaxCode}
-use Rattle.sno_cards.specs.declared.text.Placed.{Placed}
-use Rattle.sno_cards.specs.Texts.{places_of}
+use Rattle.sno_cards.specs.Texts.{Placed, places_of}
 
 -- no place at all: cards and columns are counted from 1
 abbrev pub nowhere : Place
 nowhere = record { card = 0; column = 0 }
 
--- where the character at an index stands
+-- where the character at an offset stands
 abbrev pub place_at : List Placed → ℕ → Place
-place_at text index = get_or (places_of text) index nowhere
+place_at text offset = get_or (places_of text) offset nowhere
 
 -- the column after a place, unless it is the last that a number can tell
 abbrev pub next_to : Place → Place
@@ -30,5 +29,5 @@ end_from so_far (c ∷ cs) = end_from (end_after so_far c.code c.place) cs
 abbrev pub end_of : List Placed → Place
 end_of text = end_from nowhere text
 
-abbrev pub refused : SyntaxCode → Place → Refusal
+abbrev pub refused : SyntaxCode → Place → SyntaxError
 refused code place = record { code = code; place = place }

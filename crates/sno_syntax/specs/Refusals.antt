@@ -6,23 +6,22 @@ use Rattle.indexmap.specs.IndexMap.{insert_entry}
 use Rattle.mon_text.specs.Characters.{is_blank}
 use Rattle.mon_text.specs.Lines.{words}
 use Rattle.sno_cards.specs.declared.refusal.Place.{Place}
-use Rattle.sno_cards.specs.declared.refusal.Refusal.{Refusal}
+use Rattle.sno_cards.specs.declared.refusal.SyntaxError.{SyntaxError}
 use Rattle.sno_cards.specs.declared.refusal.SyntaxCode.{SyntaxCode}
 use Rattle.sno_cards.specs.declared.refusal.SyntaxCode.TheVariants.{BadConstant, BlankMissing, Unexpected, VariableNeeded, StatementTooLarge, BadEnd}
-use Rattle.sno_cards.specs.declared.text.Placed.{Placed}
 use Rattle.sno_cards.specs.Programs.{ProgramText}
-use Rattle.sno_cards.specs.Texts.{text_of}
+use Rattle.sno_cards.specs.Texts.{Placed, text_of}
 use Rattle.sno_lexer.specs.declared.fault.FaultKind.{FaultKind as LexKind}
 use Rattle.sno_lexer.specs.declared.fault.FaultKind.TheVariants as lex
 use Rattle.sno_lexer.specs.declared.fault.LexFault.{LexFault}
 use Rattle.sno_lexer.specs.Listed.{TokenList}
-use Rattle.sno_lexer.specs.Stage.{lexed}
+use Rattle.sno_lexer.specs.inner.Lexing.{lexed}
 use Rattle.sno_statement.specs.declared.fault.FaultKind.{FaultKind}
 use Rattle.sno_statement.specs.declared.fault.FaultKind.TheVariants.{MissingBlank, Unfit, NoVariable}
 use Rattle.sno_statement.specs.declared.fault.Fault.{Fault}
 use Rattle.sno_statement.specs.Faults.{fault}
 use Rattle.sno_syntax.specs.declared.start.Start.{Start}
-use Rattle.sno_syntax.specs.Labels.{LabelList, label_in, label_fault}
+use Rattle.sno_syntax.specs.Labels.{LabelList, label_in, is_bad_label, label_fault}
 use Rattle.sno_syntax.specs.Places.{place_at, end_of, refused}
 use Rattle.sno_syntax.specs.Starts.{start_of}
 
@@ -40,37 +39,45 @@ code_of_fault NoVariable = VariableNeeded
 
 -- where a token stands, or the end where there is none
 abbrev pub token_place : List Placed → List ℕ → ℕ → Place
-token_place text places i = if nat_lt i (length places) then place_at text (get_or places i 0) else end_of text
+token_place text offsets i = if nat_lt i (length offsets) then place_at text (get_or offsets i 0) else end_of text
 
-abbrev pub lex_refusal : List Placed → LexFault → Refusal
-lex_refusal text f = refused (code_of_lex f.kind) (place_at text f.at)
+abbrev pub lex_refusal : List Placed → LexFault → SyntaxError
+lex_refusal text f = refused (code_of_lex f.kind) (place_at text f.offset)
 
-abbrev pub fault_refusal : List Placed → List ℕ → Fault → Refusal
-fault_refusal text places f = refused (code_of_fault f.kind) (token_place text places f.at)
+abbrev pub fault_refusal : List Placed → List ℕ → Fault → SyntaxError
+fault_refusal text offsets f = refused (code_of_fault f.kind) (token_place text offsets f.at)
 
-abbrev pub grammar_refusal : List Placed → List ℕ → Option Fault → Option Refusal
-grammar_refusal text places None = None
-grammar_refusal text places (Some f) = Some (fault_refusal text places f)
+abbrev pub grammar_refusal : List Placed → List ℕ → Option Fault → Option SyntaxError
+grammar_refusal text offsets None = None
+grammar_refusal text offsets (Some f) = Some (fault_refusal text offsets f)
 
--- the token stage, and then the grammar
-abbrev pub stage_refusal : List Placed → Result TokenList LexFault → Option Refusal
-stage_refusal text (Err f) = Some (lex_refusal text f)
-stage_refusal text (Ok list) = grammar_refusal text list.places (fault list.tokens)
+abbrev pub with_place : List Placed → Result TokenList LexFault → Result TokenList SyntaxError
+with_place text (Ok list) = Ok list
+with_place text (Err f) = Err (lex_refusal text f)
 
 -- the tokens of a statement are those behind its label
-abbrev pub tokens_of : List Placed → Result TokenList LexFault
-tokens_of text = lexed (text_of text) (length (label_in (text_of text)))
+abbrev pub tokens_of : List Placed → Result TokenList SyntaxError
+tokens_of text = with_place text (lexed (text_of text) (length (label_in (text_of text))))
+
+-- the token stage, and then the grammar
+abbrev pub stage_refusal : List Placed → Result TokenList SyntaxError → Option SyntaxError
+stage_refusal text (Err refusal) = Some refusal
+stage_refusal text (Ok list) = grammar_refusal text list.offsets (fault list.tokens)
 
 abbrev pub label_of : List Placed → List ℕ
 label_of text = label_in (text_of text)
 
+-- the tokens of a text, or its first refusal where neither the grammar is looked at nor which labels may stand there
+abbrev pub lexed_text : List Placed → Result TokenList SyntaxError
+lexed_text text = if is_bad_label (label_of text) then Err (refused Unexpected (place_at text 0)) else tokens_of text
+
 -- of the label, else what comes later; a label is refused where it begins
-abbrev pub label_first : List Placed → Option SyntaxCode → Option Refusal → Option Refusal
+abbrev pub label_first : List Placed → Option SyntaxCode → Option SyntaxError → Option SyntaxError
 label_first text (Some code) later = Some (refused code (place_at text 0))
 label_first text None later = later
 
 -- of a statement, where these labels are defined before it
-abbrev pub statement_refusal : LabelList → List Placed → Option Refusal
+abbrev pub statement_refusal : LabelList → List Placed → Option SyntaxError
 statement_refusal labels text = label_first text (label_fault labels (label_of text)) (stage_refusal text (tokens_of text))
 
 -- ALL STATEMENTS
@@ -79,12 +86,12 @@ abbrev pub with_label : LabelList → List ℕ → ℕ → LabelList
 with_label labels [] index = labels
 with_label labels (c ∷ cs) index = insert_entry bytes_eq labels (c ∷ cs) index
 
-abbrev pub either : Option Refusal → Option Refusal → Option Refusal
+abbrev pub either : Option SyntaxError → Option SyntaxError → Option SyntaxError
 either (Some refusal) later = Some refusal
 either None later = later
 
 -- of the statements from an index on
-abbrev pub statements_refusal : LabelList → ℕ → List (List Placed) → Option Refusal
+abbrev pub statements_refusal : LabelList → ℕ → List (List Placed) → Option SyntaxError
 statements_refusal labels index [] = None
 statements_refusal labels index (text ∷ texts) =
     either (statement_refusal labels text) (statements_refusal (with_label labels (label_of text) index) (index + 1) texts)
@@ -103,7 +110,7 @@ labels_in texts = labels_from [] 0 texts
 abbrev pub begin_of : List Placed → Place
 begin_of text = place_at text (position_or_len (λ c. not (is_blank c)) (text_of text))
 
-abbrev pub end_refusal : List Placed → Option Start → Option Refusal
+abbrev pub end_refusal : List Placed → Option Start → Option SyntaxError
 end_refusal rest (Some start) = None
 end_refusal rest None = Some (refused BadEnd (begin_of rest))
 
@@ -112,5 +119,5 @@ abbrev pub start_in : ProgramText → Option Start
 start_in program = start_of (length program.statements) (labels_in program.statements) (words (text_of program.end_rest))
 
 -- statement by statement, and then the END line
-abbrev pub syntax_refusal : ProgramText → Option Refusal
+abbrev pub syntax_refusal : ProgramText → Option SyntaxError
 syntax_refusal program = either (statements_refusal [] 0 program.statements) (end_refusal program.end_rest (start_in program))

@@ -1,17 +1,20 @@
-//! Programs: from the texts of statements to trees, or the first refusal.
+//! Programs: from cards to trees, or the first refusal.
+//!
+//! `statements` makes the texts of the statements from cards, `lex` the tokens of one of them, and `parse` the program.
 #![tactic(auto)]
 
 pub mod label;
 pub mod laws;
+pub mod lexing;
 pub mod place;
 pub mod program;
 pub mod reading;
 pub mod start;
 
-pub use label::{Label, Labels};
-pub use program::{Labelled, Program};
+pub use label::Labels;
+pub use lexing::lex;
+pub use program::Program;
 pub use reading::parse;
+pub use sno_cards::{Place, ProgramCards, StatementText, SyntaxCode, SyntaxError, statements};
+pub use sno_lexer::Tokens;
 pub use start::Start;
-
-#[cfg(test)]
-mod tests;

@@ -1,6 +1,7 @@
 //! Where a program is refused.
 ghost use Rattle.std.specs.Prelude.{◌≡◌};
-ghost use Rattle.sno_syntax.specs.Places.{nowhere, place_at, next_to, end_after, end_of};
+ghost use Rattle.sno_syntax.specs.Places.{nowhere, place_at, next_to, end_of};
+ghost use Rattle.sno_syntax.specs.inner.Ends.{place_after};
 
 use sno_cards::{Place, StatementText};
 
@@ -27,19 +28,25 @@ fn next_to(place: Place) -> Place
     }
 }
 
-fn end_after(so_far: Place, byte: u8, place: Place) -> Place
-    ensures { result ≡ end_after so_far byte place }
+// The place after a character, which is the last that is no blank, or no place where there is none.
+fn place_after(text: &StatementText, last: Option<usize>) -> Place
+    ensures { result ≡ place_after text.now last }
 {
-    if byte == b' ' { so_far } else { next_to(place) }
+    match last {
+        None => NOWHERE,
+        Some(index) => next_to(place_at(text, index)),
+    }
 }
 
 /// The place after the last character that is no blank.
 pub(crate) fn end_of(text: &StatementText) -> Place
     ensures { result ≡ end_of text.now }
 {
-    let mut place = NOWHERE;
+    let mut last = None;
     for (index, byte) in text.as_bytes().iter().enumerate() {
-        place = end_after(place, *byte, place_at(text, index));
+        if *byte != b' ' {
+            last = Some(index);
+        }
     }
-    place
+    place_after(text, last)
 }

@@ -3,11 +3,11 @@ ghost use Rattle.std.specs.Prelude.{◌≡◌, map, IfOk};
 ghost use Rattle.mon_text.specs.Lines.{words};
 ghost use Rattle.sno_syntax.specs.Starts.{first_start, start_named, start_of};
 
-use crate::label::{Label, Labels, is_end};
+use crate::label::{Labels, is_end};
 use std::alloc::{AllocError, Global};
 
 /// Where a run begins.
-#[derive(Clone, Copy, Debug, PartialEq, Eq)]
+#[derive(Clone, Copy, PartialEq, Eq)]
 pub enum Start {
     /// At the statement of this index, counted from 0.
     Statement(usize),
@@ -25,14 +25,14 @@ fn first_start(count: usize) -> Start
     }
 }
 
-fn start_named(alloc: Global, labels: &Labels, label: &[u8]) -> Result<Option<Start>, AllocError>
-    ensures { IfOk result (λ start. start ≡ start_named labels.now label.now) }
+fn start_named(labels: &Labels, label: &[u8]) -> Option<Start>
+    ensures { result ≡ start_named labels.now label.now }
 {
     if is_end(label) {
-        return Ok(Some(Start::End));
+        Some(Start::End)
+    } else {
+        labels.find(label).map(Start::Statement)
     }
-    let label = Label::from_slice(alloc, label)?;
-    Ok(labels.find(&label).map(Start::Statement))
 }
 
 fn words(alloc: Global, text: &[u8]) -> Result<Vec<&[u8]>, AllocError>
@@ -56,7 +56,7 @@ pub(crate) fn start_of(
     let words = words(alloc, rest)?;
     match words.as_slice() {
         [] => Ok(Some(first_start(count))),
-        [word] => start_named(alloc, labels, word),
+        [word] => Ok(start_named(labels, word)),
         _ => Ok(None),
     }
 }

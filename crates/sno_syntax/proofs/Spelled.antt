@@ -2,18 +2,19 @@
 use Rattle.std.proofs.Common.{◌≡◌, ◌+◌, ℕ, List, [], ◌∷◌, ◌++◌, drop, map, Option, Some, None, Result, Ok, Err, refl, sym, ap, ◌∙◌, subst, append-nil}
 use Rattle.std.proofs.lemmas.List.{map-append}
 use Rattle.std.proofs.Common.{append_assoc}
-use Rattle.sno_cards.specs.declared.text.Placed.{Placed}
-use Rattle.sno_lexer.specs.declared.fault.LexFault.{LexFault}
+use Rattle.sno_cards.specs.declared.refusal.SyntaxError.{SyntaxError}
+use Rattle.sno_cards.specs.Texts.{Placed}
 use Rattle.sno_lexer.specs.Listed.{TokenList}
 use Rattle.sno_token.specs.declared.Token.{Token}
 use Rattle.sno_statement.specs.declared.fault.Fault.{Fault}
 use Rattle.sno_statement.specs.Statements.{Statement, StatementHasLevels, StatementHasVariables}
 use Rattle.sno_statement.specs.Spelling.{Spells}
 use Rattle.sno_statement.specs.Faults.{fault}
-use Rattle.sno_syntax.specs.declared.program.Labelled.{Labelled as ALabelled}
+use Rattle.sno_statement.specs.Told.{statement_of}
+use Rattle.sno_statement.specs.declared.statement.Statement.{Statement as AStatement}
 use Rattle.sno_syntax.specs.Labels.{LabelList}
 use Rattle.sno_syntax.specs.Refusals.{label_of, tokens_of, label_first, grammar_refusal, stage_refusal, statement_refusal, with_label, either, statements_refusal, labels_from}
-use Rattle.sno_syntax.specs.Programs.{Labelled, AreTokensOf, SpellsLabelled, SpellFrom, labelled_of}
+use Rattle.sno_syntax.specs.Programs.{AreTokensOf, SpellsBehind, SpellFrom}
 use Rattle.sno_statement.proofs.Grammar.{parsed_err}
 
 -- what spells a statement has no fault and is not refused
@@ -24,17 +25,17 @@ no_fault s ts levels variables spells = at (fault ts) refl
     at None e = refl
     at (Some f) e = absurd ((parsed_err ts f e).1 s levels variables spells)
 
-pub clean : (text : List Placed) (s : Statement) (tokens : Result TokenList LexFault) → AreTokensOf s tokens → stage_refusal text tokens ≡ None
-clean text s (Err f) spells = absurd spells
-clean text s (Ok list) spells = ap (grammar_refusal text list.places) (no_fault s list.tokens spells.0 spells.1 spells.2)
+pub clean : (text : List Placed) (s : Statement) (tokens : Result TokenList SyntaxError) → AreTokensOf s tokens → stage_refusal text tokens ≡ None
+clean text s (Err refusal) spells = absurd spells
+clean text s (Ok list) spells = ap (grammar_refusal text list.offsets) (no_fault s list.tokens spells.0 spells.1 spells.2)
 
-pub no_refusal : (labels : LabelList) (text : List Placed) (s : Labelled) → SpellsLabelled labels text s → statement_refusal labels text ≡ None
+pub no_refusal : (labels : LabelList) (text : List Placed) (s : Statement) → SpellsBehind labels text s → statement_refusal labels text ≡ None
 no_refusal labels text s spells =
-    ap (λ fault. label_first text fault (stage_refusal text (tokens_of text))) spells.0 ∙ clean text s.statement (tokens_of text) spells.2
+    ap (λ fault. label_first text fault (stage_refusal text (tokens_of text))) spells.0 ∙ clean text s (tokens_of text) spells.1
 
 -- a statement more was read
-module _ (texts : List (List Placed)) (labels next : LabelList) (i : ℕ) (text : List Placed) (s : Labelled)
-    (here : drop i texts ≡ text ∷ drop (i + 1) texts) (spells : SpellsLabelled labels text s) (noted : next ≡ with_label labels (label_of text) i) where
+module _ (texts : List (List Placed)) (labels next : LabelList) (i : ℕ) (text : List Placed) (s : Statement)
+    (here : drop i texts ≡ text ∷ drop (i + 1) texts) (spells : SpellsBehind labels text s) (noted : next ≡ with_label labels (label_of text) i) where
   abbrev rest : List (List Placed)
   rest = drop (i + 1) texts
 
@@ -47,20 +48,20 @@ module _ (texts : List (List Placed)) (labels next : LabelList) (i : ℕ) (text 
   pub labels_more : labels_from labels i (drop i texts) ≡ labels_from next (i + 1) rest
   labels_more = ap (labels_from labels i) here ∙ ap (λ ls. labels_from ls (i + 1) rest) (sym noted)
 
-  pub spelled_more : (ss : List Labelled) → SpellFrom next (i + 1) rest ss → SpellFrom labels i (drop i texts) (s ∷ ss)
+  pub spelled_more : (ss : List Statement) → SpellFrom next (i + 1) rest ss → SpellFrom labels i (drop i texts) (s ∷ ss)
   spelled_more ss more =
       subst (λ ts. SpellFrom labels i ts (s ∷ ss)) (sym here) (spells, subst (λ ls. SpellFrom ls (i + 1) rest ss) noted more)
 
 -- and is the last so far
-pub last_more : (before after : List ALabelled) (s : ALabelled) (ss : List Labelled) → after ≡ before ++ s ∷ []
-    → map labelled_of before ++ labelled_of s ∷ ss ≡ map labelled_of after ++ ss
+pub last_more : (before after : List AStatement) (s : AStatement) (ss : List Statement) → after ≡ before ++ s ∷ []
+    → map statement_of before ++ statement_of s ∷ ss ≡ map statement_of after ++ ss
 last_more before after s ss is =
-    sym (append_assoc (map labelled_of before) (labelled_of s ∷ []) ss)
-    ∙ ap (λ ms. ms ++ ss) (sym (ap (map labelled_of) is ∙ map-append labelled_of before (s ∷ [])))
+    sym (append_assoc (map statement_of before) (statement_of s ∷ []) ss)
+    ∙ ap (λ ms. ms ++ ss) (sym (ap (map statement_of) is ∙ map-append statement_of before (s ∷ [])))
 
 -- no text is left
-pub spelled_all : (texts : List (List Placed)) (labels : LabelList) (i : ℕ) (read : List ALabelled) → drop i texts ≡ []
-    → ((ss : List Labelled) → SpellFrom labels i (drop i texts) ss → SpellFrom [] 0 texts (map labelled_of read ++ ss))
-    → SpellFrom [] 0 texts (map labelled_of read)
+pub spelled_all : (texts : List (List Placed)) (labels : LabelList) (i : ℕ) (read : List AStatement) → drop i texts ≡ []
+    → ((ss : List Statement) → SpellFrom labels i (drop i texts) ss → SpellFrom [] 0 texts (map statement_of read ++ ss))
+    → SpellFrom [] 0 texts (map statement_of read)
 spelled_all texts labels i read none on =
-    subst (SpellFrom [] 0 texts) (append-nil (map labelled_of read)) (on [] (subst (λ ts. SpellFrom labels i ts []) (sym none) tt))
+    subst (SpellFrom [] 0 texts) (append-nil (map statement_of read)) (on [] (subst (λ ts. SpellFrom labels i ts []) (sym none) tt))

@@ -1,11 +1,9 @@
 -- How statements are written: label, subject, pattern, object and goto, with `-` for what a statement has not (own).
 use Rattle.std.specs.Prelude.{ℕ, List, ◌++◌, codes, Option, Some, None}
-use Rattle.sno_expression.specs.declared.tree.Sign.TheVariants.{Indirect}
-use Rattle.sno_expression.specs.Trees.{Tree, Unary}
+use Rattle.sno_expression.specs.declared.tree.UnaryOperator.TheVariants.{Indirect}
+use Rattle.sno_expression.specs.Expressions.{Expression, Unary}
 use Rattle.sno_statement.specs.Statements.{Target, To, Computed, Goto, NoGoto, Always, OnSuccess, OnFailure, OnBoth, Object, NoObject, NullObject, Gives, Body, NoBody, Does, Statement, Says}
-use Rattle.sno_statement.specs.Told.{statement_of}
-use Rattle.sno_syntax.specs.declared.program.Labelled.{Labelled}
-use Rattle.programs.specs.Trees.{tree_text}
+use Rattle.programs.specs.inner.Trees.{expression_text}
 
 abbrev pub label_text : Option (List ℕ) → List ℕ
 label_text None = codes "-"
@@ -13,7 +11,7 @@ label_text (Some label) = label
 
 abbrev pub target_text : Target → List ℕ
 target_text (To label) = label
-target_text (Computed element) = tree_text (Unary Indirect element)
+target_text (Computed element) = expression_text (Unary Indirect element)
 
 abbrev pub goto_text : Goto → List ℕ
 goto_text NoGoto = codes "-"
@@ -23,22 +21,19 @@ goto_text (OnFailure target) = codes "(:F " ++ target_text target ++ codes ")"
 goto_text (OnBoth success failure) =
     codes "(:S " ++ target_text success ++ codes " :F " ++ target_text failure ++ codes ")"
 
-abbrev pub pattern_text : Option Tree → List ℕ
+abbrev pub pattern_text : Option Expression → List ℕ
 pattern_text None = codes "-"
-pattern_text (Some tree) = tree_text tree
+pattern_text (Some pattern) = expression_text pattern
 
 abbrev pub object_text : Object → List ℕ
 object_text NoObject = codes "-"
 object_text NullObject = codes "(=)"
-object_text (Gives tree) = codes "(= " ++ tree_text tree ++ codes ")"
+object_text (Gives value) = codes "(= " ++ expression_text value ++ codes ")"
 
 abbrev pub body_text : Body → List ℕ
 body_text NoBody = codes "- - -"
 body_text (Does subject pattern object) =
-    tree_text subject ++ codes " " ++ pattern_text pattern ++ codes " " ++ object_text object
+    expression_text subject ++ codes " " ++ pattern_text pattern ++ codes " " ++ object_text object
 
 abbrev pub statement_text : Option (List ℕ) → Statement → List ℕ
 statement_text label (Says body goto) = label_text label ++ codes " " ++ body_text body ++ codes " " ++ goto_text goto
-
-abbrev pub labelled_text : Labelled → List ℕ
-labelled_text s = statement_text s.label (statement_of s.statement)

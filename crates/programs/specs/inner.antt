@@ -1,0 +1,4 @@
+-- How what is read is shown, to be compared with what was worked out by hand: no promise of the product.
+pub mod Trees
+pub mod Statements
+pub mod Answers

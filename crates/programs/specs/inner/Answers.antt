@@ -1,0 +1,64 @@
+-- What is shown of a program that is read or refused (own).
+use Rattle.std.specs.Prelude.{ℕ, ◌+◌, ◌==◌, List, [], ◌∷◌, ◌++◌, codes, decimal, Option, Some, None, Result, Ok, Err, if◌then◌else◌}
+use Rattle.mon_text.specs.declared.stop.Stop.{Stop}
+use Rattle.mon_text.specs.declared.stop.Stop.TheVariants.{Refused, Memory}
+use Rattle.sno_cards.specs.declared.refusal.SyntaxError.{SyntaxError}
+use Rattle.sno_cards.specs.Codes.{code_symbol}
+use Rattle.sno_statement.specs.declared.statement.Statement.{Statement}
+use Rattle.sno_statement.specs.Told.{statement_of}
+use Rattle.sno_syntax.specs.declared.program.Program.{Program}
+use Rattle.sno_syntax.specs.declared.start.Start.{Start}
+use Rattle.sno_syntax.specs.declared.start.Start.TheVariants as start
+use Rattle.sno_syntax.specs.Labels.{LabelList}
+use Rattle.programs.specs.inner.Statements.{statement_text}
+
+abbrev pub refusal_text : SyntaxError → List ℕ
+refusal_text r =
+    codes "REFUSED " ++ code_symbol r.code ++ codes " CARD " ++ decimal r.place.card
+    ++ codes " COLUMN " ++ decimal r.place.column ++ codes "\n"
+
+-- statements are counted from 0
+abbrev pub start_text : Start → List ℕ
+start_text (start.Statement index) = codes "start " ++ decimal index ++ codes "\n"
+start_text start.End = codes "start END\n"
+
+-- the label of the statement at an index, where the first of these is its
+abbrev pub own_label : LabelList → ℕ → Option (List ℕ)
+own_label [] index = None
+own_label (l ∷ labels) index = if l.1 == index then Some l.0 else None
+
+-- the labels of the statements behind it
+abbrev pub labels_behind : LabelList → ℕ → LabelList
+labels_behind [] index = []
+labels_behind (l ∷ labels) index = if l.1 == index then labels else l ∷ labels
+
+abbrev pub statements_from : LabelList → ℕ → List Statement → List ℕ
+statements_from labels index [] = []
+statements_from labels index (s ∷ ss) =
+    statement_text (own_label labels index) (statement_of s) ++ codes "\n" ++ statements_from (labels_behind labels index) (index + 1) ss
+
+abbrev pub statements_text : Program → List ℕ
+statements_text p = statements_from p.labels 0 p.statements.items
+
+abbrev pub program_text : Program → List ℕ
+program_text p = statements_text p ++ start_text p.start
+
+-- where memory ran out nothing is shown, and that is told
+abbrev pub stop_text : Stop SyntaxError → List ℕ
+stop_text (Refused refusal) = refusal_text refusal
+stop_text Memory = []
+
+abbrev pub Answer : Type 0
+Answer = Result Program (Stop SyntaxError)
+
+abbrev pub verdict_text : Answer → List ℕ
+verdict_text (Ok program) = codes "parsed\n"
+verdict_text (Err stop) = stop_text stop
+
+abbrev pub program_answer : Answer → List ℕ
+program_answer (Ok program) = program_text program
+program_answer (Err stop) = stop_text stop
+
+abbrev pub statement_answer : Answer → List ℕ
+statement_answer (Ok program) = statements_text program
+statement_answer (Err stop) = stop_text stop

@@ -1,0 +1,4 @@
+use Rattle.sno_syntax.proofs.reading.read_next.Goals as goal
+
+pub returns-clause-spelled : goal.returns-clause-spelled
+returns-clause-spelled c = (c.in_ok-statement.statement, c.in_ok-push.ensures, c.in_ok-statement.ensures.spelled)
