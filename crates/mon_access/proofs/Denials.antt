@@ -1,7 +1,9 @@
 -- What a grant to a member of a group rests on, and what a denial names.
-use Rattle.std.proofs.Common.{◌≡◌, ◌≢◌, ℕ, ◌<◌, Bool, true, false, ◌||◌, ◌&&◌, ◌⊎◌, inl, inr, List, length, get_or, Option, None, Some, refl, sym, subst, ◌∙◌, true≢false, arith, nat_lt}
+use Rattle.std.proofs.Common.{◌≡◌, ◌≢◌, ℕ, ◌<◌, Bool, true, false, ◌||◌, ◌&&◌, ◌⊎◌, inl, inr, List, length, get_or, Option, None, Some, refl, sym, ap, subst, nat_cmp, Ordering, Less, Equal, Greater, ◌∙◌, true≢false, arith, nat_lt}
 use Rattle.std.specs.Prelude.{Any, Decides, IsSomeAnd, IfSome, slice_get, if◌then◌else◌}
 use Rattle.std.specs.List.{list_any, position_or_len}
+use Rattle.std.specs.Cmp.{ranks}
+use Rattle.std.specs.Ordering.{MatchOrdering}
 use Rattle.std.specs.Option.{option_map_or}
 use Rattle.std.proofs.lemmas.Bool.Decides.{nat_tests}
 use Rattle.std.proofs.lemmas.List.Folds.{Any-from_list_any, list_any-from_Any}
@@ -13,17 +15,18 @@ use Rattle.mon_acl.specs.declared.entries.Entry.{Entry}
 use Rattle.mon_acl.specs.Entries.{has_tag, is_named, IsValidAcl}
 use Rattle.mon_acl.specs.Permissions.{holds}
 use Rattle.mon_access.specs.declared.account.Account.{Account}
+use Rattle.mon_access.specs.declared.access.Decision.TheVariants.{Granted, Denied}
 use Rattle.mon_access.specs.declared.access.Decider.{Decider}
 use Rattle.mon_access.specs.declared.access.Decider.TheVariants.{UserObj as ByUserObj, User as ByUser, Group as ByGroup, Mask as ByMask, Other as ByOther}
 use Rattle.mon_access.specs.Matches.{is_in_group, is_for_user, is_for_group, some_holds}
-use Rattle.mon_access.specs.AccessCheck.{Case, Owner, NamedUser, InGroup, Others, case_of, grants, decider, decision}
+use Rattle.mon_access.specs.AccessCheck.{Case, Owner, NamedUser, InGroup, Others, case_of, grants, decider, decision_in, decision}
 use Rattle.mon_access.specs.FourCases.{IsOf, IsForUser, IsForGroup, Lacks, SomeHolds, Applies, Grants}
 use Rattle.mon_access.specs.Laws.{HasEntry, NeverFallsThrough, MaskLimitsNamedEntriesAndGroups, GroupsAreNotJoined, IsRightDecider, DecidersLackThePart}
-use Rattle.mon_access.proofs.Meanings.{refuted, has_tag-Decides, is_for_user-Decides, is_for_group-Decides, some_holds-Decides}
+use Rattle.mon_access.proofs.Meanings.{refuted, fails, has_tag-Decides, is_for_user-Decides, is_for_group-Decides, some_holds-Decides}
 use Rattle.mon_access.proofs.Places.{list_any_by_place}
 use Rattle.mon_access.proofs.Counts.{any_from_one, masked_by, unnamed}
 use Rattle.mon_access.proofs.Smaller.{both, both_pass, any_less, any_more}
-use Rattle.mon_access.proofs.Cases.{any_user, any_group, case_applies, denied_is, grants-Decides, grants_by_case}
+use Rattle.mon_access.proofs.Cases.{any_user, any_group, case_applies, applies_once, denied_is, grants-Decides, grants_by_case}
 use Rattle.mon_access.proofs.Changes.{Spares, spared}
 
 -- an account with an entry is not one of all others
@@ -172,20 +175,6 @@ module _ (kind : Entry → Bool) (entries : List Entry) (request : Perms) where
           let fails_here : kind e ≡ false = subst (λ (x : Entry). kind x ≡ false) (get_or_from_slice_get entries before e e at) (fails_before_first kind entries before e lt) in
           refuted _ (each e) fails_here
 
--- the entry that holds the request where only the mask lacks a part
-holder : (account : Account) (group : List ℕ) (entries : List Entry) (request : Perms) (kind : Entry → Bool) (Kind : Entry → Type 0) → ((e : Entry) → Decides (kind e) (Kind e))
-    → ((e : Entry) → Kind e → IsForUser account e ⊎ IsForGroup account group e)
-    → some_holds kind entries request ≡ true → SomeHolds (λ e. IsForUser account e ⊎ IsForGroup account group e) entries request
-holder account group entries request kind Kind each into h =
-    let (k, x, within, at, is) = (some_holds-Decides kind Kind each entries request).0 h in
-    (k, x, within, at, (into x is.0, is.1))
-
-mask_lacks : (account : Account) (group : List ℕ) (entries : List Entry) (request : Perms)
-    → list_any (has_tag Mask) entries ≡ true → some_holds (has_tag Mask) entries request ≡ false
-    → SomeHolds (λ e. IsForUser account e ⊎ IsForGroup account group e) entries request
-    → IsRightDecider ByMask account group entries request
-mask_lacks account group entries request has none held = (some_lacks _ entries request (IsOf Mask) (has_tag-Decides Mask) has none, held)
-
 second_fails : (a b : Bool) → a ≡ true → (a && b) ≡ false → b ≡ false
 second_fails a b p q = rw p at q
 
@@ -193,11 +182,12 @@ first_fails : (a b : Bool) → b ≡ true → (a && b) ≡ false → a ≡ false
 first_fails true b p q = absurd (true≢false (sym p ∙ q))
 first_fails false b p q = refl
 
+-- what is denied is denied by the right decider
 right_decider : (case : Case) (account : Account) (owner group : List ℕ) (entries : List Entry) (request : Perms) → IsValidAcl entries
     → Applies case account owner group entries → grants case account group entries request ≡ false
-    → IsRightDecider (decider case account group entries request) account group entries request
+    → IsRightDecider (decider case account group entries request) account owner group entries request
 right_decider Owner account owner group entries request valid applies refused =
-    some_lacks _ entries request (IsOf UserObj) (has_tag-Decides UserObj) (any_from_one _ entries valid.owner) refused
+    (applies, some_lacks _ entries request (IsOf UserObj) (has_tag-Decides UserObj) (any_from_one _ entries valid.owner) refused)
 right_decider NamedUser account owner group entries request valid applies refused = by (some_holds (is_for_user account) entries request) refl
   where
     user : list_any (is_for_user account) entries ≡ true
@@ -206,12 +196,18 @@ right_decider NamedUser account owner group entries request valid applies refuse
     named : list_any is_named entries ≡ true
     named = any_less (is_for_user account) is_named (λ (e : Entry) h. let tag : has_tag User e ≡ true = (both _ _ h).0 in rw tag refl) entries user
 
+    holders : Decides (some_holds (is_for_user account) entries request) (SomeHolds (IsForUser account) entries request)
+    holders = some_holds-Decides (is_for_user account) (IsForUser account) (is_for_user-Decides account) entries request
+
     by : (b : Bool) → some_holds (is_for_user account) entries request ≡ b
-        → IsRightDecider (if b then ByMask else ByUser (position_or_len (is_for_user account) entries)) account group entries request
-    by true e =
-        mask_lacks account group entries request (masked_by entries valid named) (second_fails _ _ e refused)
-        (holder account group entries request (is_for_user account) (IsForUser account) (is_for_user-Decides account) (λ e is. inl is) e)
-    by false e = first_lacks (is_for_user account) entries request (IsForUser account) (is_for_user-Decides account) user e
+        → IsRightDecider (if b then ByMask else ByUser (position_or_len (is_for_user account) entries)) account owner group entries request
+    by true e = (inl (applies, holders.0 e), some_lacks _ entries request (IsOf Mask) (has_tag-Decides Mask) (masked_by entries valid named) (second_fails _ _ e refused))
+    by false e = (
+      applies,
+      (first_lacks (is_for_user account) entries request (IsForUser account) (is_for_user-Decides account) user e,
+      none_before (is_for_user account) entries request (IsForUser account) (is_for_user-Decides account),
+      refuted _ holders e),
+    )
 right_decider InGroup account owner group entries request valid applies refused = by (some_holds (is_for_group account group) entries request) refl
   where
     member : list_any (is_for_group account group) entries ≡ true
@@ -224,23 +220,90 @@ right_decider InGroup account owner group entries request valid applies refused 
     masked held true e refused = (e, first_fails _ _ held refused)
     masked held false e refused = absurd (true≢false (sym (owning_holds account group entries request (unnamed entries valid e) held) ∙ refused))
 
+    holders : Decides (some_holds (is_for_group account group) entries request) (SomeHolds (IsForGroup account group) entries request)
+    holders = some_holds-Decides (is_for_group account group) (IsForGroup account group) (is_for_group-Decides account group) entries request
+
     by : (b : Bool) → some_holds (is_for_group account group) entries request ≡ b
-        → IsRightDecider (if b then ByMask else ByGroup (position_or_len (is_for_group account group) entries)) account group entries request
+        → IsRightDecider (if b then ByMask else ByGroup (position_or_len (is_for_group account group) entries)) account owner group entries request
     by true e =
         let m = masked e (list_any (has_tag Mask) entries) refl refused in
-        mask_lacks account group entries request m.0 m.1
-        (holder account group entries request (is_for_group account group) (IsForGroup account group) (is_for_group-Decides account group) (λ e is. inr is) e)
+        (inr (applies, holders.0 e), some_lacks _ entries request (IsOf Mask) (has_tag-Decides Mask) m.0 m.1)
     by false e = (
-      first_lacks (is_for_group account group) entries request (IsForGroup account group) (is_for_group-Decides account group) member e,
+      applies,
+      (first_lacks (is_for_group account group) entries request (IsForGroup account group) (is_for_group-Decides account group) member e,
       none_before (is_for_group account group) entries request (IsForGroup account group) (is_for_group-Decides account group),
+      refuted _ holders e),
     )
 right_decider Others account owner group entries request valid applies refused =
-    some_lacks _ entries request (IsOf Other) (has_tag-Decides Other) (any_from_one _ entries valid.other) refused
+    (applies, some_lacks _ entries request (IsOf Other) (has_tag-Decides Other) (any_from_one _ entries valid.other) refused)
+
+-- the first of a kind stands where one does and none before
+first_is : (kind : Entry → Bool) (Kind : Entry → Type 0) → ((e : Entry) → Decides (kind e) (Kind e)) → (entries : List Entry) (index : ℕ)
+    → list_any kind entries ≡ true → (request : Perms) → IsSomeAnd (slice_get entries index) (λ e. Kind e × Lacks e request)
+    → ((before : ℕ) → before < index → IfSome (slice_get entries before) (λ e. ¬ Kind e))
+    → position_or_len kind entries ≡ index
+first_is kind Kind each entries index some request here before = by (slice_get entries index) refl here
+  where
+    within : position_or_len kind entries < length entries
+    within = let found : nat_lt (position_or_len kind entries) (length entries) ≡ true = sym (list_any_by_place kind entries) ∙ some in grind (arith, nat_tests)
+
+    by : (o : Option Entry) → slice_get entries index ≡ o → IsSomeAnd o (λ e. Kind e × Lacks e request) → position_or_len kind entries ≡ index
+    by None at none = absurd none
+    by (Some e) at (is, lacks) = side (nat_cmp (position_or_len kind entries) index) (ranks (position_or_len kind entries) index)
+      where
+        side : (r : Ordering) → MatchOrdering r (position_or_len kind entries < index) (position_or_len kind entries ≡ index) (index < position_or_len kind entries)
+            → position_or_len kind entries ≡ index
+        side Less lt =
+            let first = get_or entries (position_or_len kind entries) e in
+            let got : slice_get entries (position_or_len kind entries) ≡ Some first = slice_get-get_or entries (position_or_len kind entries) e within in
+            let none : ¬ Kind first = rw got at (before (position_or_len kind entries) lt) in
+            absurd (none ((each first).0 (passes_at_first kind entries e within)))
+        side Equal same = same
+        side Greater lt =
+            let fails_here : kind e ≡ false = subst (λ (x : Entry). kind x ≡ false) (get_or_from_slice_get entries index e e at) (fails_before_first kind entries index e lt) in
+            absurd (refuted _ (each e) fails_here is)
+
+denied_by : (granted : Bool) (x d : Decider) → x ≡ d → ((if granted then Granted else Denied x) ≢ Granted) → (if granted then Granted else Denied x) ≡ Denied d
+denied_by true x d e n = absurd (n refl)
+denied_by false x d e n = ap Denied e
+
+module _ (account : Account) (owner group : List ℕ) (entries : List Entry) (request : Perms) where
+  -- in the case that applies its decider is named
+  named_in : (case : Case) (d : Decider) → Applies case account owner group entries → decider case account group entries request ≡ d
+      → (decision account owner group entries request ≢ Granted) → decision account owner group entries request ≡ Denied d
+  unfolding decision
+  named_in case d applies is =
+      subst (λ (k : Case). (decision_in k account group entries request ≢ Granted) → decision_in k account group entries request ≡ Denied d)
+      (applies_once account owner group entries case applies)
+      (denied_by (grants case account group entries request) (decider case account group entries request) d is)
+
+  -- a right decider is the one that is named
+  right_is_named : (d : Decider) → IsRightDecider d account owner group entries request
+      → (decision account owner group entries request ≢ Granted) → decision account owner group entries request ≡ Denied d
+  right_is_named ByUserObj (applies, lacks) = named_in Owner ByUserObj applies refl
+  right_is_named (ByUser index) (applies, first) =
+      let none = fails _ (some_holds-Decides (is_for_user account) (IsForUser account) (is_for_user-Decides account) entries request) first.2 in
+      let at = first_is (is_for_user account) (IsForUser account) (is_for_user-Decides account) entries index ((any_user account owner group entries).1 applies.1) request first.0 first.1 in
+      named_in NamedUser (ByUser index) applies (rw none (ap ByUser at))
+  right_is_named (ByGroup index) (applies, first) =
+      let none = fails _ (some_holds-Decides (is_for_group account group) (IsForGroup account group) (is_for_group-Decides account group) entries request) first.2 in
+      let at = first_is (is_for_group account group) (IsForGroup account group) (is_for_group-Decides account group) entries index ((any_group account owner group entries).1 applies.2) request first.0 first.1 in
+      named_in InGroup (ByGroup index) applies (rw none (ap ByGroup at))
+  right_is_named ByMask (inl (applies, holding), lacks) =
+      let held = (some_holds-Decides (is_for_user account) (IsForUser account) (is_for_user-Decides account) entries request).1 holding in
+      named_in NamedUser ByMask applies (rw held refl)
+  right_is_named ByMask (inr (applies, holding), lacks) =
+      let held = (some_holds-Decides (is_for_group account group) (IsForGroup account group) (is_for_group-Decides account group) entries request).1 holding in
+      named_in InGroup ByMask applies (rw held refl)
+  right_is_named ByOther (applies, lacks) = named_in Others ByOther applies refl
 
 pub deciders_lack : DecidersLackThePart
 unfolding decision
-deciders_lack = λ account owner group entries request named valid denied.
-    let case = case_of account owner group entries in
-    let (refused, is) = denied_is _ _ _ denied in
-    subst (λ (d : Decider). IsRightDecider d account group entries request) is
-    (right_decider case account owner group entries request valid (case_applies account owner group entries) refused)
+deciders_lack = λ account owner group entries request named valid refused. (
+      (λ denied.
+      let case = case_of account owner group entries in
+      let (refused, is) = denied_is _ _ _ denied in
+      subst (λ (d : Decider). IsRightDecider d account owner group entries request) is
+      (right_decider case account owner group entries request valid (case_applies account owner group entries) refused)),
+      (λ right. right_is_named account owner group entries request named right refused),
+    )

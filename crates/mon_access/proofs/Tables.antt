@@ -8,7 +8,7 @@ use Rattle.indexmap.proofs.CallerLemmas.{insert_entry-new}
 use Rattle.std.proofs.lemmas.List.{map-append}
 use Rattle.mon_access.specs.declared.account.Account.{Account}
 use Rattle.mon_access.specs.Accounts.{find_account, names_of}
-use Rattle.mon_access.specs.Layout.{accounts_of, IsTable}
+use Rattle.mon_access.specs.inner.Layout.{accounts_of, IsTable}
 
 -- the look-up by key is the table's entry of that name
 pub lookup-accounts_of : (name : List ℕ) (entries : List (List ℕ × Account)) → keys_of entries ≡ names_of (accounts_of entries)

@@ -10,7 +10,7 @@ use Rattle.mon_access.specs.declared.account.Account.{Account}
 use Rattle.mon_access.specs.declared.access.Decision.TheVariants.{Granted, Denied}
 use Rattle.mon_access.specs.declared.access.Decider.{Decider}
 use Rattle.mon_access.specs.declared.access.Decider.TheVariants.{UserObj as ByUserObj, User as ByUser, Group as ByGroup, Mask as ByMask, Other as ByOther}
-use Rattle.mon_access.specs.AccessCheck.{Case, InGroup, decision}
+use Rattle.mon_access.specs.AccessCheck.{Case, Owner, NamedUser, InGroup, Others, decision}
 use Rattle.mon_access.specs.FourCases.{IsOf, IsForUser, IsForGroup, Lacks, SomeHolds, Applies, Grants}
 
 -- exactly one of the four cases applies
@@ -74,22 +74,31 @@ GroupsAreNotJoined = (account : Account) (owner group : List ℕ) (entries : Lis
     → IsValidAcl entries → Applies InGroup account owner group entries
     → decision account owner group entries request ≡ Granted → SomeHolds (IsForGroup account group) entries request
 
--- the decider of a denial is an entry of the list that lacks a part of the request: the named user's; the first for a group of the account;
--- or the mask, where an entry for the account holds the whole request
-abbrev pub IsRightDecider : Decider → Account → List ℕ → List Entry → Perms → Type 0
-IsRightDecider ByUserObj account group entries request = Any (λ e. IsOf UserObj e × Lacks e request) entries
-IsRightDecider (ByUser place) account group entries request =
-    IsSomeAnd (slice_get entries place) (λ e. IsForUser account e × Lacks e request)
-IsRightDecider (ByGroup place) account group entries request =
-    IsSomeAnd (slice_get entries place) (λ e. IsForGroup account group e × Lacks e request)
-    × ((before : ℕ) → before < place → IfSome (slice_get entries before) (λ e. ¬ IsForGroup account group e))
-IsRightDecider ByMask account group entries request =
-    Any (λ e. IsOf Mask e × Lacks e request) entries
-    × SomeHolds (λ e. IsForUser account e ⊎ IsForGroup account group e) entries request
-IsRightDecider ByOther account group entries request = Any (λ e. IsOf Other e × Lacks e request) entries
+-- the entry at the index is the first of its kind and lacks a part of the request, and no entry of the kind holds the whole
+abbrev pub IsFirstToLack : (Entry → Type 0) → ℕ → List Entry → Perms → Type 0
+IsFirstToLack Kind index entries request =
+    IsSomeAnd (slice_get entries index) (λ e. Kind e × Lacks e request)
+    × ((before : ℕ) → before < index → IfSome (slice_get entries before) (λ e. ¬ Kind e))
+    × (¬ SomeHolds Kind entries request)
 
--- every denial of a valid list is by the right decider
+-- who is right to be named of a denial: in the case that applies, the entry that lacks a part of the request;
+-- or the mask that does, where an entry for the account holds the whole
+abbrev pub IsRightDecider : Decider → Account → List ℕ → List ℕ → List Entry → Perms → Type 0
+IsRightDecider ByUserObj account owner group entries request =
+    Applies Owner account owner group entries × Any (λ e. IsOf UserObj e × Lacks e request) entries
+IsRightDecider (ByUser index) account owner group entries request =
+    Applies NamedUser account owner group entries × IsFirstToLack (IsForUser account) index entries request
+IsRightDecider (ByGroup index) account owner group entries request =
+    Applies InGroup account owner group entries × IsFirstToLack (IsForGroup account group) index entries request
+IsRightDecider ByMask account owner group entries request =
+    ((Applies NamedUser account owner group entries × SomeHolds (IsForUser account) entries request)
+    ⊎ (Applies InGroup account owner group entries × SomeHolds (IsForGroup account group) entries request))
+    × Any (λ e. IsOf Mask e × Lacks e request) entries
+IsRightDecider ByOther account owner group entries request =
+    Applies Others account owner group entries × Any (λ e. IsOf Other e × Lacks e request) entries
+
+-- where a request is denied by a valid list, the decider that is named is the right one, and no other is
 abbrev pub DecidersLackThePart : Type 0
 DecidersLackThePart = (account : Account) (owner group : List ℕ) (entries : List Entry) (request : Perms) (decider : Decider)
-    → IsValidAcl entries → decision account owner group entries request ≡ Denied decider
-    → IsRightDecider decider account group entries request
+    → IsValidAcl entries → decision account owner group entries request ≢ Granted
+    → (decision account owner group entries request ≡ Denied decider) ↔ IsRightDecider decider account owner group entries request

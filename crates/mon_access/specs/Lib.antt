@@ -1,6 +1,5 @@
 pub mod Groups
 pub mod Accounts
-pub mod Layout
 pub mod Matches
 pub mod AccessCheck
 pub mod FourCases

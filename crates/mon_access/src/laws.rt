@@ -41,7 +41,8 @@ pub fn groups_are_not_joined()
     ensures { GroupsAreNotJoined }
 {}
 
-/// The decider of a denial is an entry of the list that lacks a part of the request, or the mask that does.
+/// A denial names the one decider that is right: the entry of the case that applies, which lacks a part of the request, or
+/// the mask that does, where an entry for the account holds the whole.
 pub fn deciders_lack_the_part()
     ensures { DecidersLackThePart }
 {}

@@ -27,7 +27,7 @@ impl Model for Accounts {
 
     ghost Value = { List Account };
 
-    ghost use Rattle.mon_access.specs.Layout.{accounts_of, IsTable};
+    ghost use Rattle.mon_access.specs.inner.Layout.{accounts_of, IsTable};
 
     ghost view = { λ t. accounts_of t.by_name.entries };
 
