@@ -1,5 +1,7 @@
 //! The work of `snomon` in plain Rust, for comparison: std alone, no contract and no proof.
 //!
+//! Written for speed: a name is compared as a number, and no entry of a list is looked at twice.
+//!
 //! Reads a whole deck from standard input, writes the printouts and the catalogue, and tells of the first refusal as
 //! `snomon` does; it takes no options. `docs/REFERENCE.md` has the rules that both follow.
 
@@ -142,6 +144,19 @@ fn name(word: &[u8]) -> Result<&[u8], Code> {
         Ok(word)
     } else {
         Err(Code::BadName)
+    }
+}
+
+/// A number for each name, so that two are compared at once.
+#[derive(Default)]
+struct Numbers<'a> {
+    by_name: HashMap<&'a [u8], u32>,
+}
+
+impl<'a> Numbers<'a> {
+    fn of(&mut self, name: &'a [u8]) -> u32 {
+        let next = self.by_name.len() as u32;
+        *self.by_name.entry(name).or_insert(next)
     }
 }
 
@@ -301,21 +316,28 @@ fn write_perms(perms: u8, out: &mut impl Write) -> io::Result<()> {
 /// A permission list: valid, and in the order in which it is printed.
 struct Acl<'a> {
     entries: Vec<Entry<'a>>,
+    /// The numbers of the entries' names; for an entry that has none, a number that no name has.
+    numbers: Vec<u32>,
+    /// The index of the owning group's entry, which is that of the named users' end.
+    owning_group: usize,
 }
 
 impl<'a> Acl<'a> {
-    fn parse_short(text: &'a [u8]) -> Result<Acl<'a>, ListFault> {
-        Acl::of_pieces(text.split(|&byte| byte == b','))
+    fn parse_short(text: &'a [u8], numbers: &mut Numbers<'a>) -> Result<Acl<'a>, ListFault> {
+        Acl::of_pieces(text.split(|&byte| byte == b','), numbers)
     }
 
-    fn parse_long(lines: &[&'a [u8]]) -> Result<Acl<'a>, ListFault> {
+    fn parse_long(lines: &[&'a [u8]], numbers: &mut Numbers<'a>) -> Result<Acl<'a>, ListFault> {
         let without_comment =
             |line: &&'a [u8]| line.split(|&byte| byte == b'#').next().unwrap_or_default();
         let is_filled = |line: &&[u8]| !line.trim_ascii().is_empty();
-        Acl::of_pieces(lines.iter().map(without_comment).filter(is_filled))
+        Acl::of_pieces(lines.iter().map(without_comment).filter(is_filled), numbers)
     }
 
-    fn of_pieces(pieces: impl Iterator<Item = &'a [u8]>) -> Result<Acl<'a>, ListFault> {
+    fn of_pieces(
+        pieces: impl Iterator<Item = &'a [u8]>,
+        numbers: &mut Numbers<'a>,
+    ) -> Result<Acl<'a>, ListFault> {
         let mut given = Vec::new();
         for piece in pieces {
             match Entry::parse(piece, given.len() + 1) {
@@ -331,7 +353,19 @@ impl<'a> Acl<'a> {
         if named > NAMED_ENTRIES || entries.windows(2).any(is_twice) {
             return Err(first_surplus(&given).expect("an entry is one too many"));
         }
-        let acl = Acl { entries };
+        let numbers = entries
+            .iter()
+            .map(|entry| match entry.is_named() {
+                true => numbers.of(entry.name),
+                false => u32::MAX,
+            })
+            .collect();
+        let owning_group = entries.partition_point(|entry| entry.tag < Tag::GroupObj);
+        let acl = Acl {
+            entries,
+            numbers,
+            owning_group,
+        };
         let needed = [
             (Tag::UserObj, "user::"),
             (Tag::GroupObj, "group::"),
@@ -399,39 +433,50 @@ struct DataSet<'a> {
     name: &'a [u8],
     owner: &'a [u8],
     group: &'a [u8],
+    /// The numbers of the owner and of the group.
+    owner_number: u32,
+    group_number: u32,
     acl: Acl<'a>,
     records: Vec<&'a [u8]>,
 }
 
 impl DataSet<'_> {
-    /// The entry that denies a request to an account of these groups; none where it is granted.
-    fn denied_by(&self, account: &[u8], groups: &[&[u8]], request: u8) -> Option<&Entry<'_>> {
-        let lacking =
-            |entry: Option<&'_ Entry<'_>>| entry.is_some_and(|entry| !entry.holds(request));
-        let if_lacking = |tag| self.acl.find(tag).filter(|entry| lacking(Some(entry)));
-
-        if account == self.owner {
-            return if_lacking(Tag::UserObj);
+    /// The entry that denies a request to an account; none where it is granted. The entries are in canonical order.
+    fn denied_by(&self, account: &Account<'_>, request: u8) -> Option<&Entry<'_>> {
+        let Acl {
+            entries,
+            numbers,
+            owning_group,
+        } = &self.acl;
+        let if_lacking = |index: usize| Some(&entries[index]).filter(|entry| !entry.holds(request));
+        if account.number == self.owner_number {
+            return if_lacking(0);
         }
-        let named = |entry: &&Entry<'_>| entry.tag == Tag::User && entry.name == account;
-        if let Some(entry) = self.acl.entries.iter().find(named) {
-            return if lacking(Some(entry)) {
-                Some(entry)
+        let others = entries.len() - 1;
+        let has_mask = entries[others - 1].tag == Tag::Mask;
+        let users = &numbers[1..*owning_group];
+        if let Some(user) = users.iter().position(|&number| number == account.number) {
+            return if_lacking(1 + user).or_else(|| if_lacking(others - 1));
+        }
+        let ends = others - usize::from(has_mask);
+        let is_for_group = |&index: &usize| {
+            let number = if index == *owning_group {
+                self.group_number
             } else {
-                if_lacking(Tag::Mask)
+                numbers[index]
             };
-        }
-        let mut matching = self.acl.entries.iter().filter(|entry| match entry.tag {
-            Tag::GroupObj => groups.contains(&self.group),
-            Tag::Group => groups.contains(&entry.name),
-            _ => false,
-        });
+            account.groups.contains(&number)
+        };
+        let mut matching = (*owning_group..ends).filter(is_for_group);
         match matching.next() {
-            None => if_lacking(Tag::Other),
-            Some(first) if first.holds(request) || matching.any(|entry| entry.holds(request)) => {
-                if_lacking(Tag::Mask)
+            None => if_lacking(others),
+            Some(first)
+                if entries[first].holds(request)
+                    || matching.any(|index| entries[index].holds(request)) =>
+            {
+                if_lacking(others - 1).filter(|_| has_mask)
             }
-            Some(first) => Some(first),
+            Some(first) => Some(&entries[first]),
         }
     }
 
@@ -503,10 +548,10 @@ enum AclText<'a> {
 }
 
 impl<'a> AclText<'a> {
-    fn parse(&self) -> Result<Acl<'a>, ListFault> {
+    fn parse(&self, numbers: &mut Numbers<'a>) -> Result<Acl<'a>, ListFault> {
         match self {
-            AclText::Short(text) => Acl::parse_short(text),
-            AclText::Long(lines) => Acl::parse_long(lines),
+            AclText::Short(text) => Acl::parse_short(text, numbers),
+            AclText::Long(lines) => Acl::parse_long(lines, numbers),
         }
     }
 }
@@ -531,10 +576,18 @@ struct Command<'a> {
     request: Request<'a>,
 }
 
+/// Someone who may ask.
+struct Account<'a> {
+    number: u32,
+    primary: &'a [u8],
+    /// The numbers of the groups, the primary one's first.
+    groups: Vec<u32>,
+}
+
 #[derive(Default)]
 struct Deck<'a> {
-    /// The groups of each account, the primary one first.
-    accounts: HashMap<&'a [u8], Vec<&'a [u8]>>,
+    numbers: Numbers<'a>,
+    accounts: HashMap<&'a [u8], Account<'a>>,
     catalogue: Catalogue<'a>,
     commands: Vec<Command<'a>>,
 }
@@ -580,7 +633,12 @@ impl<'a> Deck<'a> {
         if names.len() > 1 + FURTHER_GROUPS {
             return Err(Code::TooManyGroups);
         }
-        self.accounts.insert(account, names);
+        let known = Account {
+            number: self.numbers.of(account),
+            primary: names[0],
+            groups: names.iter().map(|name| self.numbers.of(name)).collect(),
+        };
+        self.accounts.insert(account, known);
         Ok(())
     }
 
@@ -594,7 +652,8 @@ impl<'a> Deck<'a> {
             return Err(Code::SetFull);
         }
         self.catalogue.room_for(set)?;
-        let acl = Acl::parse_short(lines.next(CATALOGUE_LINE)?).map_err(|_| Code::BadText)?;
+        let acl = Acl::parse_short(lines.next(CATALOGUE_LINE)?, &mut self.numbers)
+            .map_err(|_| Code::BadText)?;
         let mut taken = Vec::with_capacity(records);
         for _ in 0..records {
             let record = lines.next(CATALOGUE_LINE)?;
@@ -607,6 +666,8 @@ impl<'a> Deck<'a> {
             name: set,
             owner,
             group,
+            owner_number: self.numbers.of(owner),
+            group_number: self.numbers.of(group),
             acl,
             records: taken,
         });
@@ -682,22 +743,24 @@ impl<'a> Catalogue<'a> {
     fn serve(
         &mut self,
         command: &Command<'a>,
-        groups: &[&'a [u8]],
+        account: &Account<'a>,
+        numbers: &mut Numbers<'a>,
         out: &mut impl Write,
     ) -> io::Result<()> {
-        let account = command.account;
         match &command.request {
-            Request::Catalog => self.write_names(account, groups, out),
+            Request::Catalog => self.write_names(account, out),
             Request::Of(Act::Create, name) => match self.room_for(name) {
                 Err(code) => writeln!(out, "REFUSED {code}"),
                 Ok(()) => {
-                    let Ok(acl) = Acl::parse_short(NEW_LIST) else {
+                    let Ok(acl) = Acl::parse_short(NEW_LIST, numbers) else {
                         unreachable!("it is a list")
                     };
                     self.push(DataSet {
                         name,
-                        owner: account,
-                        group: groups[0],
+                        owner: command.account,
+                        group: account.primary,
+                        owner_number: account.number,
+                        group_number: account.groups[0],
                         acl,
                         records: Vec::new(),
                     });
@@ -708,7 +771,7 @@ impl<'a> Catalogue<'a> {
                 let Some(set) = self.find(name) else {
                     return writeln!(out, "DENIED NO DATA SET");
                 };
-                let is_owner = account == set.owner;
+                let is_owner = account.number == set.owner_number;
                 match act {
                     Act::Create => unreachable!("it is served above"),
                     Act::Delete | Act::SetAcl(_) if !is_owner => writeln!(out, "DENIED NOT OWNER"),
@@ -716,7 +779,7 @@ impl<'a> Catalogue<'a> {
                         self.remove(name);
                         writeln!(out, "DONE")
                     }
-                    Act::SetAcl(text) => match text.parse() {
+                    Act::SetAcl(text) => match text.parse(numbers) {
                         Err(fault) => writeln!(out, "REFUSED {fault}"),
                         Ok(acl) => {
                             set.acl = acl;
@@ -724,11 +787,11 @@ impl<'a> Catalogue<'a> {
                         }
                     },
                     Act::ShowAcl if is_owner => write_list(set, out),
-                    Act::ShowAcl => match set.denied_by(account, groups, EXECUTE) {
+                    Act::ShowAcl => match set.denied_by(account, EXECUTE) {
                         Some(entry) => write_denial(entry, out),
                         None => write_list(set, out),
                     },
-                    Act::List => match set.denied_by(account, groups, READ) {
+                    Act::List => match set.denied_by(account, READ) {
                         Some(entry) => write_denial(entry, out),
                         None => write_records(set, out),
                     },
@@ -737,15 +800,10 @@ impl<'a> Catalogue<'a> {
         }
     }
 
-    fn write_names(
-        &self,
-        account: &[u8],
-        groups: &[&[u8]],
-        out: &mut impl Write,
-    ) -> io::Result<()> {
+    fn write_names(&self, account: &Account<'_>, out: &mut impl Write) -> io::Result<()> {
         let mut names = 0;
         for set in &self.sets {
-            if set.denied_by(account, groups, EXECUTE).is_none() {
+            if set.denied_by(account, EXECUTE).is_none() {
                 out.write_all(b" ")?;
                 set.write_head(out)?;
                 names += 1;
@@ -833,7 +891,9 @@ fn main() -> io::Result<ExitCode> {
     for command in &deck.commands {
         write_command(command, &mut out)?;
         match deck.accounts.get(command.account) {
-            Some(groups) => deck.catalogue.serve(command, groups, &mut out)?,
+            Some(account) => deck
+                .catalogue
+                .serve(command, account, &mut deck.numbers, &mut out)?,
             None => writeln!(out, "REFUSED M2 NO ACCOUNT")?,
         }
     }

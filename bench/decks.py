@@ -9,11 +9,14 @@ The cases, at their whole size (HALVES is 2, and 1 gives half of it):
   commands   1,000 sets with 100 named entries each, and 20,000 commands of all kinds; at each size 100 of them are
              $CATALOG and 100 $DELETE, which look at every set
   names      1,000 sets with 100 named entries each, and 400 $CATALOG cards, as many at half the size
+  lists      1,000 sets with 70 named users of 200 and 30 named groups of 40 each, drawn by lot, and 20,000 commands, of
+             which each tenth is $CATALOG: 2,018,000 access checks; as many commands at half the size
 
 decks.py sets SETS COMMANDS: so many sets as in `commands`, and so many commands but $CATALOG and $DELETE.
 decks.py programs STATEMENTS: no deck, but the cards of a SNOBOL4 program: so many statements of 1,000 tokens each.
 """
 
+import random
 import sys
 
 ACCOUNTS = 400
@@ -141,6 +144,31 @@ def names(sets, cards):
     yield "$STOP"
 
 
+def drawn_lists(sets, commands):
+    """Lists in which most accounts are found neither at once nor last, and groups that mostly do not hold a request."""
+    dice = random.Random(1)
+    accounts, groups = ["acc%03d" % i for i in range(200)], ["g%02d" % i for i in range(40)]
+    yield "$ACCOUNTS"
+    for i, name in enumerate(accounts):
+        yield " ".join([name, groups[i % 40], *(groups[(i * 7 + k) % 40] for k in range(1, 5))])
+    yield "$CATALOGUE"
+    for i in range(sets):
+        yield "$SET SET%04d %s %s 5" % (i, dice.choice(accounts), dice.choice(groups))
+        users, members = dice.sample(accounts, 70), dice.sample(groups, 30)
+        named = ["user:%s:%s" % (name, dice.choice(["r--", "rw-", "r-x", "---", "rwx"])) for name in users]
+        named += ["group:%s:%s" % (name, dice.choice(["r--", "rw-", "r-x", "---"])) for name in members]
+        yield ",".join(["user::rwx", "group::r--", "mask::rwx", "other::--x", *named])
+        for k in range(5):
+            yield "RECORD %d OF SET %d" % (k, i)
+    yield "$STREAM"
+    for k in range(commands):
+        if k % 10:
+            yield "$LIST %s SET%04d" % (dice.choice(accounts), dice.randrange(sets))
+        else:
+            yield "$CATALOG %s" % dice.choice(accounts)
+    yield "$STOP"
+
+
 def some_sets(sets, commands):
     yield from head(sets, records=5, length=40)
     for i in range(commands):
@@ -179,6 +207,7 @@ CASES = {
     "catalogue": lambda halves: many_sets(sets=500 * halves, records=1_000, cards=0, length=40),
     "commands": lambda halves: mixed(sets=500 * halves, commands=10_000 * halves),
     "names": lambda halves: names(sets=500 * halves, cards=400),
+    "lists": lambda halves: drawn_lists(sets=500 * halves, commands=20_000),
 }
 
 
