@@ -10,6 +10,8 @@ use Rattle.mon_acl.specs.Entries.{is_qualified, IsEntry}
 use Rattle.mon_access.specs.declared.account.Account.{Account}
 use Rattle.mon_access.specs.declared.access.Decider.{Decider}
 use Rattle.mon_access.specs.declared.access.Decider.TheVariants as decider
+use Rattle.mon_access.specs.declared.access.Decision.TheVariants.{Granted, Denied}
+use Rattle.mon_access.specs.AccessCheck.{decision}
 use Rattle.mon_access.specs.FourCases.{IsOf, IsForUser, IsForGroup, Lacks}
 use Rattle.mon_access.specs.Laws.{IsRightDecider, DecidersLackThePart}
 use Rattle.mon_guard.specs.Reasons.{reason_at, reason_of}
@@ -44,15 +46,16 @@ module _ (entries : List Entry) (request : Perms) where
         | inr (past, at) ↦ absurd (subst (λ o. IsSomeAnd o (λ e. Kind e × Lacks e request)) at h)
       ]
 
-  named : (account : Account) (group : List ℕ) (d : Decider) → All IsEntry entries → IsRightDecider d account group entries request
+  named : (account : Account) (owner group : List ℕ) (d : Decider) → All IsEntry entries → IsRightDecider d account owner group entries request
       → NamesLackingEntry entries request (reason_of entries d)
-  named account group decider.UserObj entries_are right = nameless_lacks UserObj (λ _. refl) entries_are right
-  named account group (decider.User place) entries_are right = named_lacks User place (IsForUser account) right
-  named account group (decider.Group place) entries_are right = named_lacks GroupObj place (IsForGroup account group) right.0
-  named account group decider.Mask entries_are right = nameless_lacks Mask (λ _. refl) entries_are right.0
-  named account group decider.Other entries_are right = nameless_lacks Other (λ _. refl) entries_are right
+  named account owner group decider.UserObj entries_are right = nameless_lacks UserObj (λ _. refl) entries_are right.1
+  named account owner group (decider.User place) entries_are right = named_lacks User place (IsForUser account) right.1.0
+  named account owner group (decider.Group place) entries_are right = named_lacks GroupObj place (IsForGroup account group) right.1.0
+  named account owner group decider.Mask entries_are right = nameless_lacks Mask (λ _. refl) entries_are right.1
+  named account owner group decider.Other entries_are right = nameless_lacks Other (λ _. refl) entries_are right.1
 
 -- by mon_access's law of the deciders
 pub denials_name_an_entry : DecidersLackThePart → DenialsNameAnEntry
 denials_name_an_entry law account set request d valid denied =
-    named set.acl request account set.group d valid.entries (law account set.owner set.group set.acl request d valid denied)
+    let refused = λ (granted : decision account set.owner set.group set.acl request ≡ Granted). let differ : Denied d ≡ Granted = sym denied ∙ granted in absurd cc in
+    named set.acl request account set.owner set.group d valid.entries ((law account set.owner set.group set.acl request d valid refused).0 denied)
