@@ -7,11 +7,12 @@ use Rattle.sno_token.specs.declared.TokenKind.TheVariants as token
 use Rattle.sno_expression.specs.declared.tree.BinaryOperator.TheVariants as operator
 use Rattle.sno_expression.specs.declared.tree.UnaryOperator.TheVariants as unary
 use Rattle.sno_expression.specs.declared.walking.Position.TheVariants.{AfterIdentifier, AfterBinary}
-use Rattle.sno_expression.specs.Expressions.{Identifier, Keyword, Unevaluated, Group, Call, Unary, Binary, NoArguments, Omitted, Argument, bad}
+use Rattle.sno_expression.specs.Expressions.{Identifier, Keyword, Unevaluated, Group, Call, Unary, Binary, NoArguments, Omitted, Argument}
+use Rattle.sno_expression.specs.inner.Counting.{bad, misfit}
 use Rattle.sno_expression.specs.Spelling.{spaced}
-use Rattle.sno_expression.specs.Walking.{take, begins, misfit}
-use Rattle.sno_expression.specs.Walking as walking
-use Rattle.sno_expression.specs.Reading.{reading, Read}
+use Rattle.sno_expression.specs.inner.Walks.{take, begins}
+use Rattle.sno_expression.specs.inner.Walks as walks
+use Rattle.sno_expression.specs.inner.Reading.{reading, Read}
 
 abbrev A : List ℕ
 A = 65 ∷ []
@@ -94,8 +95,8 @@ indirect : bad (Binary operator.Conditional (Identifier A) (Unary unary.Indirect
 indirect = refl
 
 -- it is seen at the parenthesis, and for A . B(C) where the name opens the call
-at_group : misfit (walking.At [] (AfterBinary true)) (spaced true false token.Open) ≡ 1
+at_group : misfit (walks.At [] (AfterBinary true)) (spaced true false token.Open) ≡ 1
 at_group = refl
 
-at_call : misfit (walking.At [] (AfterIdentifier true)) (spaced false false token.Open) ≡ 1
+at_call : misfit (walks.At [] (AfterIdentifier true)) (spaced false false token.Open) ≡ 1
 at_call = refl

@@ -2,11 +2,13 @@
 use Rattle.std.proofs.Common.{◌≡◌, ◌+◌, List, [], ◌∷◌, refl, sym, ap, ◌∙◌, subst, arith}
 use Rattle.std.specs.Prelude.{Bool, true, false, Option, Some, None}
 use Rattle.sno_token.specs.declared.Token.{Token}
-use Rattle.sno_expression.specs.Expressions.{Expression, HasLevels, bad}
+use Rattle.sno_expression.specs.Expressions.{Expression, HasLevels}
+use Rattle.sno_expression.specs.inner.Counting.{bad, misfit, then_count, misfits}
 use Rattle.sno_expression.specs.Spelling.{Spells}
-use Rattle.sno_expression.specs.Walking.{Walk, take, begins, misfit}
-use Rattle.sno_expression.specs.Reading.{State, read, result, Reading, Read, and_then, answer, start, reading, walk}
-use Rattle.sno_expression.specs.Laws.{OneExpression, ReadsExactly, WalksExactly, CountsExactly, then_takes, takes_all, then_count, misfits}
+use Rattle.sno_expression.specs.inner.Walks.{Walk, take, begins}
+use Rattle.sno_expression.specs.inner.Reading.{State, read, result, Reading, Read, and_then, answer, start, reading, walk}
+use Rattle.sno_expression.specs.Laws.{OneExpression}
+use Rattle.sno_expression.specs.inner.Laws.{ReadsExactly, WalksExactly, CountsExactly, then_takes, takes_all}
 use Rattle.sno_expression.proofs.Feeding.{complete}
 use Rattle.sno_expression.proofs.Sound.{sound}
 use Rattle.sno_expression.proofs.Steps.{walk_of, read_walks, is_some, end_walks}

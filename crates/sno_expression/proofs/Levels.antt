@@ -5,7 +5,7 @@ use Rattle.sno_expression.specs.declared.tree.BinaryOperator.{BinaryOperator}
 use Rattle.sno_expression.specs.declared.tree.BinaryOperator.TheVariants as operator
 use Rattle.sno_expression.specs.Marks.{needs_variable}
 use Rattle.sno_expression.specs.Expressions.{Expression, Identifier, Constant, Keyword, Unevaluated, Group, Call, Unary, Binary, binds_into_left, binds_into_right, FitsLeft, FitsRight, IsOperand, HasLevels}
-use Rattle.sno_expression.specs.Reading.{push, Hole, Begin, After, Under, fill}
+use Rattle.sno_expression.specs.inner.Reading.{push, Hole, Begin, After, Under, fill}
 
 -- a test of all operators, by computing it
 abbrev pub all7 : (BinaryOperator → Bool) → Bool

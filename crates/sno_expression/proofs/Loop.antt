@@ -3,8 +3,8 @@ use Rattle.std.proofs.Common.{◌≡◌, ℕ, suc, ◌+◌, ◌<◌, length, Lis
 use Rattle.std.specs.Prelude.{Bool, Option, Some, None}
 use Rattle.sno_token.specs.declared.Token.{Token}
 use Rattle.sno_expression.specs.Expressions.{Expression}
-use Rattle.sno_expression.specs.Reading.{State, read, result, Reading, Read, and_then, answer}
-use Rattle.sno_expression.specs.Told.{Next, End, stepped}
+use Rattle.sno_expression.specs.inner.Reading.{State, read, result, Reading, Read, and_then, answer}
+use Rattle.sno_expression.specs.inner.Told.{Next, End, stepped}
 
 pub more : (ts : List Token) (i : ℕ) (t : Token) → i < length ts → t ≡ get_or ts i t → drop i ts ≡ t ∷ drop (i + 1) ts
 more ts i t lt e = rw add-one (drop-cons ts i t lt ∙ ap (λ (u : Token). u ∷ drop (suc i) ts) (sym e))

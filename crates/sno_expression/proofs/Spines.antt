@@ -7,9 +7,10 @@ use Rattle.sno_expression.specs.declared.tree.Expression.TheVariants as tree
 use Rattle.sno_expression.specs.declared.spine.Pending.{Pending}
 use Rattle.sno_expression.specs.declared.spine.Pending.TheVariants as pending
 use Rattle.sno_expression.specs.Expressions.{Expression, Binary, binds_into_right, FitsLeft}
-use Rattle.sno_expression.specs.Reading.{push}
-use Rattle.sno_expression.specs.Spines.{is_above, is_ordered, is_element}
-use Rattle.sno_expression.specs.Told.{expression_of, spread}
+use Rattle.sno_expression.specs.inner.Reading.{push}
+use Rattle.sno_expression.specs.inner.Spines.{is_above, is_ordered, is_element}
+use Rattle.sno_expression.specs.Told.{expression_of}
+use Rattle.sno_expression.specs.inner.Told.{spread}
 use Rattle.sno_expression.proofs.Levels.{and_left, and_right, under_both, push_here, push_under}
 
 -- one element may stand left under any operator

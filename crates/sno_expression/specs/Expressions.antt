@@ -1,5 +1,5 @@
 -- Trees of expressions, and the trees that the table of operators allows (after the SNOBOL4 book, chapter 1; own where it leaves a choice).
-use Rattle.std.specs.Prelude.{◌≡◌, ℕ, Bool, true, false, List, nat_lt, nat_eq, ◌||◌, ◌&&◌, not, ◌+◌}
+use Rattle.std.specs.Prelude.{◌≡◌, ℕ, Bool, true, false, List, nat_lt, nat_eq, ◌||◌, ◌&&◌, not}
 use Rattle.sno_token.specs.declared.Constant.{Constant as Value}
 use Rattle.sno_expression.specs.declared.tree.BinaryOperator.{BinaryOperator}
 use Rattle.sno_expression.specs.declared.tree.BinaryOperator.TheVariants as operator
@@ -84,11 +84,6 @@ abbrev mutual
   HaveLevels (Omitted args) = HaveLevels args
   HaveLevels (Argument args t) = HaveLevels args × HasLevels t
 
--- where one element alone may stand
-abbrev pub Suits : Bool → Expression → Type 0
-Suits true t = IsOperand t
-Suits false t = Unit {0}
-
 -- a variable: an identifier, or an indirect reference
 abbrev pub is_variable : Expression → Bool
 is_variable (Identifier n) = true
@@ -115,27 +110,3 @@ abbrev mutual
   HaveVariables NoArguments = Unit {0}
   HaveVariables (Omitted args) = HaveVariables args
   HaveVariables (Argument args t) = HaveVariables args × HasVariables t
-
--- how many places need a variable and have none
-abbrev pub bit : Bool → ℕ
-bit true = 1
-bit false = 0
-
-abbrev pub unfit : Bool → Expression → ℕ
-unfit w t = bit (w && not (is_variable t))
-
-abbrev mutual
-  pub bad : Expression → ℕ
-  bad (Identifier n) = 0
-  bad (Constant c) = 0
-  bad (Keyword n) = 0
-  bad (Unevaluated n) = 0
-  bad (Group t) = bad t
-  bad (Call f args) = bads args
-  bad (Unary s t) = bad t + unfit (operand_is_variable s) t
-  bad (Binary o l r) = bad l + bad r + unfit (needs_variable o) r
-
-  pub bads : Arguments → ℕ
-  bads NoArguments = 0
-  bads (Omitted args) = bads args
-  bads (Argument args t) = bads args + bad t

@@ -2,7 +2,6 @@ pub mod Marks
 pub mod Expressions
 pub mod Spelling
 pub mod Walking
-pub mod Reading
-pub mod Spines
 pub mod Laws
 pub mod Told
+pub mod inner

@@ -2,7 +2,6 @@
 -- stands before it, whether one follows it, and what it is.
 use Rattle.std.specs.Prelude.{ℕ, ◌-◌, Bool, true, false, List, [], ◌∷◌, Option, Some, None, ◌&&◌, not, if◌then◌else◌}
 use Rattle.sno_token.specs.declared.Mark.TheVariants as mark
-use Rattle.sno_token.specs.declared.Token.{Token}
 use Rattle.sno_token.specs.declared.TokenKind.{TokenKind}
 use Rattle.sno_token.specs.declared.TokenKind.TheVariants as token
 use Rattle.sno_expression.specs.declared.tree.BinaryOperator.{BinaryOperator}
@@ -15,11 +14,6 @@ use Rattle.sno_expression.specs.declared.walking.Position.TheVariants.{AtStart, 
 use Rattle.sno_expression.specs.declared.walking.Move.{Move}
 use Rattle.sno_expression.specs.declared.walking.Move.TheVariants.{Into, Within, Out}
 use Rattle.sno_expression.specs.Marks.{operator_of, prefix_of, needs_variable, operand_is_variable}
-use Rattle.sno_expression.specs.Expressions.{bit}
-
--- the open parentheses, the innermost first, and where among them the walk stands
-pub data Walk : Type 0 where
-  At : List Paren → Position → Walk
 
 -- an operand begins with a mark; or a mark joins two
 abbrev pub prefixed : Option Prefix → Option Move
@@ -101,27 +95,11 @@ abbrev pub outer_of : List Paren → List Paren
 outer_of [] = []
 outer_of (p ∷ ps) = ps
 
-abbrev pub moved : List Paren → Option Move → Option Walk
-moved ps None = None
-moved ps (Some (Into p position)) = Some (At (p ∷ ps) position)
-moved ps (Some (Within position)) = Some (At ps position)
-moved ps (Some (Out position)) = Some (At (outer_of ps) position)
-
--- the walk after one more token, unless it does not take it
-abbrev pub take : Bool → Walk → Token → Option Walk
-take alone (At ps position) t = moved ps (step alone (inner_of ps) position t.blank_before t.blank_after t.kind)
-
-abbrev pub begins : Walk
-begins = At [] AtStart
-
 -- may the expression end here
 abbrev pub ends : Option Paren → Position → Bool
 ends None (AfterIdentifier w) = true
 ends None AfterOperand = true
 ends _ _ = false
-
-abbrev pub may_end : Walk → Bool
-may_end (At ps position) = ends (inner_of ps) position
 
 -- an element that stands where a variable is needed and is none is seen where it begins, or where its identifier opens a call
 abbrev pub begins_variable : TokenKind → Bool
@@ -134,9 +112,6 @@ is_misfit (AfterBinary w) b k = w && not (begins_variable k)
 is_misfit (AfterUnary w) b k = w && not (begins_variable k)
 is_misfit (AfterIdentifier w) b k = w && opens_call b k
 is_misfit _ b k = false
-
-abbrev pub misfit : Walk → Token → ℕ
-misfit (At ps position) t = bit (is_misfit position t.blank_before t.kind)
 
 -- the index of the token at which the element begins that is a misfit at token i
 abbrev pub misfit_index : ℕ → Position → ℕ

@@ -1,5 +1,6 @@
 //! Laws of expressions: each function's contract is one, and its body is empty.
-ghost use Rattle.sno_expression.specs.Laws.{OneExpression, ReadsExactly, WalksExactly, CountsExactly};
+ghost use Rattle.sno_expression.specs.Laws.{OneExpression};
+ghost use Rattle.sno_expression.specs.inner.Laws.{ReadsExactly, WalksExactly, CountsExactly};
 
 /// Tokens spell at most one tree.
 pub fn one_expression()

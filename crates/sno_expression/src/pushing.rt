@@ -2,9 +2,10 @@
 
 ghost use Rattle.std.specs.Prelude.{◌≡◌, true, IfOk};
 ghost use Rattle.sno_expression.specs.Expressions.{FitsLeft};
-ghost use Rattle.sno_expression.specs.Reading.{push};
-ghost use Rattle.sno_expression.specs.Spines.{is_element, is_ordered};
-ghost use Rattle.sno_expression.specs.Told.{expression_of, spread, spine_tree};
+ghost use Rattle.sno_expression.specs.inner.Reading.{push};
+ghost use Rattle.sno_expression.specs.inner.Spines.{is_element, is_ordered};
+ghost use Rattle.sno_expression.specs.Told.{expression_of};
+ghost use Rattle.sno_expression.specs.inner.Told.{spread, spine_tree};
 
 use crate::spine::{Pending, Spine};
 use crate::tree::{BinaryOperator, Expression, binds_into_right, join};

@@ -4,10 +4,11 @@ ghost use Rattle.std.specs.Prelude.{◌≡◌, ◌≤◌, IfOk, length, drop, tr
 ghost use Rattle.sno_expression.specs.Marks.{operator_of, prefix_of};
 ghost use Rattle.sno_expression.specs.Walking.{inner_of};
 ghost use Rattle.sno_expression.specs.Expressions as expressions;
-ghost use Rattle.sno_expression.specs.Spines.{is_element};
-ghost use Rattle.sno_expression.specs.Reading.{fill, prefixed, joined, begin, close, comma, first, go_on, closed, after, due, after_prefix, named, read, ended, result as result_of, parens, Read, reading};
-ghost use Rattle.sno_expression.specs.Reading as states;
-ghost use Rattle.sno_expression.specs.Told.{expression_of, arguments_of, expressions_of, spine_tree, hole_of, stack_of, state_of, stepped, step_of, Next, End};
+ghost use Rattle.sno_expression.specs.inner.Spines.{is_element};
+ghost use Rattle.sno_expression.specs.inner.Reading.{fill, prefixed, joined, begin, close, comma, first, go_on, closed, after, due, after_prefix, named, read, ended, result as result_of, parens, Read, reading};
+ghost use Rattle.sno_expression.specs.inner.Reading as states;
+ghost use Rattle.sno_expression.specs.Told.{expression_of, arguments_of, expressions_of};
+ghost use Rattle.sno_expression.specs.inner.Told.{spine_tree, hole_of, stack_of, state_of, stepped, step_of, Next, End};
 
 use crate::pushing::{alone, closed as closed_tree, push};
 use crate::spine::Spine;

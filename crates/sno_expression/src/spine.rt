@@ -1,7 +1,7 @@
 //! The right spine of a tree that is being read, open at its end.
 
 ghost use Rattle.std.specs.Prelude.{◌≡◌, true};
-ghost use Rattle.sno_expression.specs.Spines.{is_element, is_ordered};
+ghost use Rattle.sno_expression.specs.inner.Spines.{is_element, is_ordered};
 
 use crate::tree::{BinaryOperator, Expression};
 

@@ -3,7 +3,7 @@ ghost use Rattle.std.specs.Prelude.{◌≡◌, IfOk};
 ghost use Rattle.sno_expression.specs.Marks.{operator_of, prefix_of, needs_variable, operand_is_variable};
 ghost use Rattle.sno_expression.specs.Expressions.{precedence, is_right_associative, binds_into_right};
 ghost use Rattle.sno_expression.specs.Expressions as expressions;
-ghost use Rattle.sno_expression.specs.Reading.{with_prefix};
+ghost use Rattle.sno_expression.specs.inner.Reading.{with_prefix};
 ghost use Rattle.sno_expression.specs.Told.{expression_of, arguments_of};
 
 use mon_text::Line;

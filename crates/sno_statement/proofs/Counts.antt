@@ -3,7 +3,8 @@ use Rattle.std.proofs.Common.{arith, ◌≡◌, ℕ, ◌+◌, List, [], ◌∷�
 use Rattle.std.specs.Prelude.{Bool, true, false, not, Option, Some, None, if◌then◌else◌}
 use Rattle.sno_token.specs.declared.Token.{Token}
 use Rattle.sno_expression.specs.declared.tree.UnaryOperator.TheVariants.{Indirect}
-use Rattle.sno_expression.specs.Expressions.{Expression, Unary, bit, bad}
+use Rattle.sno_expression.specs.Expressions.{Expression, Unary}
+use Rattle.sno_expression.specs.inner.Counting.{bit, bad}
 use Rattle.sno_expression.specs.Walking.{is_misfit}
 use Rattle.sno_statement.specs.declared.walking.Stage.{Stage}
 use Rattle.sno_statement.specs.declared.walking.Stage.TheVariants.{In}

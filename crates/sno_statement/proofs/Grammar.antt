@@ -2,7 +2,7 @@
 use Rattle.std.proofs.Common.{arith, ◌≡◌, ℕ, ◌+◌, List, [], ◌∷◌, refl, ap, ◌∙◌, subst}
 use Rattle.std.specs.Prelude.{Bool, true, false, nat_le, Option, Some, None, Ok, Err, if◌then◌else◌}
 use Rattle.sno_token.specs.declared.Token.{Token}
-use Rattle.sno_expression.specs.Expressions.{bit}
+use Rattle.sno_expression.specs.inner.Counting.{bit}
 use Rattle.sno_expression.specs.Walking.{is_misfit, misfit_index}
 use Rattle.sno_statement.specs.declared.fault.Fault.{Fault}
 use Rattle.sno_statement.specs.declared.fault.FaultKind.TheVariants.{Unfit}
@@ -14,7 +14,7 @@ use Rattle.sno_statement.specs.Statements.{Statement, StatementHasLevels, Statem
 use Rattle.sno_statement.specs.Spelling.{Spells}
 use Rattle.sno_statement.specs.Walking.{Walk, At, take, begins, may_end, role}
 use Rattle.sno_statement.specs.Faults.{FaultAt, refused_as, then_on, refusal_from, refusal, subject_kind, is_unset, note, least, noted_at, noted_here, then_note, noted_from, noted, earlier, fault}
-use Rattle.sno_statement.specs.Reading.{statement_in}
+use Rattle.sno_statement.specs.inner.Reading.{statement_in}
 use Rattle.sno_statement.specs.Told.{statement_of, Parsed}
 use Rattle.sno_statement.specs.Laws.{NotesExactly, OneStatement, Taken}
 use Rattle.sno_statement.proofs.Completing.{statement_read}

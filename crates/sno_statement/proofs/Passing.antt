@@ -9,9 +9,10 @@ use Rattle.sno_token.specs.declared.Token.{Token}
 use Rattle.sno_token.specs.declared.TokenKind.{TokenKind}
 use Rattle.sno_token.specs.declared.TokenKind.TheVariants as token
 use Rattle.sno_expression.specs.declared.tree.UnaryOperator.TheVariants.{Indirect}
-use Rattle.sno_expression.specs.Expressions.{Expression, Unary, bit, bad}
+use Rattle.sno_expression.specs.Expressions.{Expression, Unary}
+use Rattle.sno_expression.specs.inner.Counting.{bit, bad}
 use Rattle.sno_expression.specs.Spelling.{spaced}
-use Rattle.sno_expression.specs.Reading.{Reading, Read, reading}
+use Rattle.sno_expression.specs.inner.Reading.{Reading, Read, reading}
 use Rattle.sno_statement.specs.declared.walking.Role.{Role}
 use Rattle.sno_statement.specs.declared.walking.Role.TheVariants.{Assigns, Goes, Follows, Touches}
 use Rattle.sno_statement.specs.declared.walking.Field.TheVariants.{Subject, Pattern, Object, Target as InComputed}
@@ -20,7 +21,7 @@ use Rattle.sno_statement.specs.declared.walking.SubjectKind.{SubjectKind}
 use Rattle.sno_statement.specs.Statements.{Target, To, Computed, Goto, NoGoto, Always, OnBoth, NoObject, NullObject, ValueObject, Body, NoBody, Does, Says, kind_of, can_be_set}
 use Rattle.sno_statement.specs.Walking.{At, role, advanced, begins, other, at_first, after_subject, after_pattern, after_object, after_element, after_equals, after_colon, after_outcome, after_target}
 use Rattle.sno_statement.specs.Faults.{is_unset, subject_kind}
-use Rattle.sno_statement.specs.Reading.{Aim, Missed, Aimed, closed_by, closing, computed, inside_by, inside, target_by, target_in, at_last, always, both, next_by, next, chosen, goto_by, goto_in, going, ends_by, ending, giving, by_object, object_in, by_pattern, pattern_then, matching, by_subject, subject_then, acting, by_first, statement_in}
+use Rattle.sno_statement.specs.inner.Reading.{Aim, Missed, Aimed, closed_by, closing, computed, inside_by, inside, target_by, target_in, at_last, always, both, next_by, next, chosen, goto_by, goto_in, going, ends_by, ending, giving, by_object, object_in, by_pattern, pattern_then, matching, by_subject, subject_then, acting, by_first, statement_in}
 use Rattle.sno_expression.proofs.Sound.{sound}
 use Rattle.sno_statement.proofs.Roles.{indirect_of, Apart, apart, kind_spelled}
 use Rattle.sno_statement.proofs.Counts.{bad_target, bad_goto, bad_body, unset, plus, on_walk, walked, bads, plus_zero, plus_plus, some_plus}

@@ -13,7 +13,7 @@ use Rattle.sno_expression.specs.Marks.{prefix_of}
 use Rattle.sno_expression.specs.Expressions.{Expression, Identifier, Constant, Keyword, Unevaluated, Group, Call, Unary, Binary, IsOperand}
 use Rattle.sno_expression.specs.Spelling.{spaced, SpellsTo}
 use Rattle.sno_expression.specs.Walking.{opens_call}
-use Rattle.sno_expression.specs.Reading.{Stops}
+use Rattle.sno_expression.specs.inner.Reading.{Stops}
 use Rattle.sno_statement.specs.declared.walking.Role.TheVariants.{Assigns, Goes, Follows, Touches}
 use Rattle.sno_statement.specs.Statements.{kind_of}
 use Rattle.sno_statement.specs.declared.walking.SubjectKind.TheVariants as kind

@@ -11,11 +11,14 @@ use Rattle.sno_expression.specs.declared.walking.Position.{Position}
 use Rattle.sno_expression.specs.declared.walking.Position.TheVariants.{AtStart, AfterBinary, AfterUnary, AfterPrefix, AfterIdentifier, AfterOperand}
 use Rattle.sno_expression.specs.declared.walking.Move.{Move}
 use Rattle.sno_expression.specs.declared.walking.Move.TheVariants as move
-use Rattle.sno_expression.specs.Expressions.{Expression, bit, bad}
-use Rattle.sno_expression.specs.Walking.{is_misfit, opens_call, ends, inner_of, outer_of, moved, misfit}
+use Rattle.sno_expression.specs.Expressions.{Expression}
+use Rattle.sno_expression.specs.inner.Counting.{bit, bad, misfit}
+use Rattle.sno_expression.specs.Walking.{is_misfit, opens_call, ends, inner_of, outer_of}
+use Rattle.sno_expression.specs.inner.Walks.{moved}
 use Rattle.sno_expression.specs.Walking as walking
-use Rattle.sno_expression.specs.Reading.{State, Stack, Reading, Read, reading, answer, and_then, read, result, start, walk, parens, position, Spot}
-use Rattle.sno_expression.specs.Reading as reading
+use Rattle.sno_expression.specs.inner.Walks as walks
+use Rattle.sno_expression.specs.inner.Reading.{State, Stack, Reading, Read, reading, answer, and_then, read, result, start, walk, parens, position, Spot}
+use Rattle.sno_expression.specs.inner.Reading as reading
 use Rattle.sno_statement.specs.declared.walking.Field.{Field}
 use Rattle.sno_statement.specs.declared.walking.Field.TheVariants.{Subject, Pattern}
 use Rattle.sno_statement.specs.declared.walking.Stage.TheVariants.{In}
@@ -36,8 +39,8 @@ abbrev pub after_field : SubjectKind → Field → Reading → Option ℕ
 after_field k f (Read None rest) = None
 after_field k f (Read (Some u) rest) = plus (bad u) (left k f rest)
 
-abbrev walk_in : Field → walking.Walk → Walk
-walk_in f (walking.At ps p) = At ps (In f p)
+abbrev walk_in : Field → walks.Walk → Walk
+walk_in f (walks.At ps p) = At ps (In f p)
 
 at_bottom : (ps : List Paren) (p : Position) → ends (inner_of ps) p ≡ true → ps ≡ []
 at_bottom [] p e = refl
@@ -89,10 +92,10 @@ taken_sets k f alone q p b a (token.Part s) m e = cc (not_a_part alone q p b a s
 taken_sets k f alone q p b a _ m e = stands_unset k f b
 
 -- a part that takes a token stays what it is
-stride : (f : Field) (ps : List Paren) (m : Move) (v : walking.Walk) → moved ps (Some m) ≡ Some v → advanced ps (Some (within f m)) ≡ Some (walk_in f v)
-stride f ps (move.Into q p) v e = let d : walking.At (q ∷ ps) p ≡ v = cc in ap (λ (x : walking.Walk). Some (walk_in f x)) d
-stride f ps (move.Within p) v e = let d : walking.At ps p ≡ v = cc in ap (λ (x : walking.Walk). Some (walk_in f x)) d
-stride f ps (move.Out p) v e = let d : walking.At (outer_of ps) p ≡ v = cc in ap (λ (x : walking.Walk). Some (walk_in f x)) d
+stride : (f : Field) (ps : List Paren) (m : Move) (v : walks.Walk) → moved ps (Some m) ≡ Some v → advanced ps (Some (within f m)) ≡ Some (walk_in f v)
+stride f ps (move.Into q p) v e = let d : walks.At (q ∷ ps) p ≡ v = cc in ap (λ (x : walks.Walk). Some (walk_in f x)) d
+stride f ps (move.Within p) v e = let d : walks.At ps p ≡ v = cc in ap (λ (x : walks.Walk). Some (walk_in f x)) d
+stride f ps (move.Out p) v e = let d : walks.At (outer_of ps) p ≡ v = cc in ap (λ (x : walks.Walk). Some (walk_in f x)) d
 
 some_moved : (ps : List Paren) (m : Move) → moved ps (Some m) ≡ None → ⊥
 some_moved ps (move.Into q p) e = cc

@@ -11,29 +11,9 @@ use Rattle.sno_statement.specs.declared.statement.Object.{Object as AnObject}
 use Rattle.sno_statement.specs.declared.statement.Object.TheVariants as object
 use Rattle.sno_statement.specs.declared.statement.Body.{Body as ABody}
 use Rattle.sno_statement.specs.declared.statement.Statement.{Statement as AStatement}
-use Rattle.sno_expression.specs.declared.walking.Paren.{Paren}
-use Rattle.sno_statement.specs.declared.fault.FaultKind.{FaultKind}
-use Rattle.sno_statement.specs.declared.walking.Parens.{Parens}
-use Rattle.sno_statement.specs.declared.walking.Parens.TheVariants as parens
-use Rattle.sno_statement.specs.declared.walking.Walk.{Walk as AWalk}
-use Rattle.sno_statement.specs.declared.reading.Aim.{Aim as AnAim}
-use Rattle.sno_statement.specs.Reading.{Aim, Missed, Aimed}
-use Rattle.sno_statement.specs.Walking.{Walk, At, take}
 use Rattle.sno_statement.specs.Statements.{Target, To, Computed, Goto, NoGoto, Always, OnSuccess, OnFailure, OnBoth, Object, NoObject, NullObject, ValueObject, Body, NoBody, Does, Statement, Says, StatementHasLevels, StatementHasVariables}
 use Rattle.sno_statement.specs.Spelling.{Spells}
-use Rattle.sno_statement.specs.Faults.{refused_as, fault}
-
-abbrev pub parens_of : Parens → List Paren
-parens_of parens.Bottom = []
-parens_of (parens.Open' p q around) = p ∷ parens_of around
-
-abbrev pub walk_of : AWalk → Walk
-walk_of w = At (parens_of w.parens) w.stage
-
--- a token that is taken, or why it is not
-abbrev pub Stepped : Walk → Token → Result AWalk FaultKind → Type 0
-Stepped w t (Ok v) = take w t ≡ Some (walk_of v)
-Stepped w t (Err k) = (take w t ≡ None) × (k ≡ refused_as w t.kind)
+use Rattle.sno_statement.specs.Faults.{fault}
 
 abbrev pub target_of : ATarget → Target
 target_of (target.Label l) = To l
@@ -57,19 +37,6 @@ body_of (Some b) = Does (expression_of b.subject) (expressions_of b.pattern) (ob
 
 abbrev pub statement_of : AStatement → Statement
 statement_of s = Says (body_of s.body) (goto_of s.goto)
-
-abbrev pub statements_of : Option AStatement → Option Statement
-statements_of None = None
-statements_of (Some s) = Some (statement_of s)
-
-abbrev pub gotos_of : Option AGoto → Option Goto
-gotos_of None = None
-gotos_of (Some g) = Some (goto_of g)
-
--- a target that was read, and the tokens behind it
-abbrev pub aim_of : Option AnAim → Aim
-aim_of None = Missed
-aim_of (Some a) = Aimed (target_of a.target) a.rest.now
 
 -- the statement that the tokens spell, with levels and with a variable in each place that needs one, and the only one that
 -- they spell; or the leftmost fault, where there is no such statement

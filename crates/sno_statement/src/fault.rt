@@ -1,7 +1,7 @@
 //! What is wrong with the tokens of a statement.
 
 /// Why a token does not fit.
-#[derive(Clone, Copy, Debug, PartialEq, Eq)]
+#[derive(Clone, Copy)]
 pub enum FaultKind {
     /// It would be taken with other blanks round it.
     MissingBlank,
@@ -12,7 +12,7 @@ pub enum FaultKind {
 }
 
 /// The leftmost fault of a statement.
-#[derive(Clone, Copy, Debug, PartialEq, Eq)]
+#[derive(Clone, Copy)]
 pub struct Fault {
     /// The index of the token, or the number of tokens where they end too early.
     pub at: usize,

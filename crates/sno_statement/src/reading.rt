@@ -2,10 +2,11 @@
 
 ghost use Rattle.std.specs.Prelude.{◌≡◌, IfOk, Some, None, true, false, []};
 ghost use Rattle.sno_expression.specs.Told.{expression_of, expressions_of};
-ghost use Rattle.sno_expression.specs.Reading.{Read, reading};
+ghost use Rattle.sno_expression.specs.inner.Reading.{Read, reading};
 ghost use Rattle.sno_statement.specs.Statements as the;
-ghost use Rattle.sno_statement.specs.Reading.{Aimed, closing, indirect, computed, inside, target_in, at_last, always, both, second, on_one, next, chosen, goto_in, going, ending, giving, object_in, pattern_then, matching, subject_then, acting, statement_in};
-ghost use Rattle.sno_statement.specs.Told.{target_of, goto_of, gotos_of, body_of, statements_of, aim_of};
+ghost use Rattle.sno_statement.specs.inner.Reading.{Aimed, closing, indirect, computed, inside, target_in, at_last, always, both, second, on_one, next, chosen, goto_in, going, ending, giving, object_in, pattern_then, matching, subject_then, acting, statement_in};
+ghost use Rattle.sno_statement.specs.Told.{target_of, goto_of, body_of};
+ghost use Rattle.sno_statement.specs.inner.Told.{gotos_of, statements_of, aim_of};
 
 use crate::statement::{Body, Goto, Object, Statement, Target};
 use crate::walking::{Role, role_of};

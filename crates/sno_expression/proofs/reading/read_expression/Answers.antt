@@ -1,6 +1,7 @@
 use Rattle.std.proofs.Common.{◌+◌, drop}
-use Rattle.sno_expression.specs.Reading.{reading}
-use Rattle.sno_expression.specs.Told.{expressions_of, state_of}
+use Rattle.sno_expression.specs.inner.Reading.{reading}
+use Rattle.sno_expression.specs.Told.{expressions_of}
+use Rattle.sno_expression.specs.inner.Told.{state_of}
 use Rattle.sno_expression.proofs.Loop.{more, on_end}
 use Rattle.sno_expression.proofs.reading.read_expression.Goals as goal
 

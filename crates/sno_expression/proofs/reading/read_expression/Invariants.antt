@@ -1,6 +1,6 @@
 use Rattle.std.proofs.Common.{◌≡◌, drop}
-use Rattle.sno_expression.specs.Reading.{reading, answer}
-use Rattle.sno_expression.specs.Told.{state_of}
+use Rattle.sno_expression.specs.inner.Reading.{reading, answer}
+use Rattle.sno_expression.specs.inner.Told.{state_of}
 use Rattle.sno_expression.proofs.reading.read_expression.Given as goal
 
 abbrev pub invariant-loop-i : goal.invariant-loop-i

@@ -15,9 +15,10 @@ use Rattle.sno_expression.specs.declared.walking.Paren.TheVariants.{OfGroup, OfC
 use Rattle.sno_expression.specs.declared.walking.Position.{Position}
 use Rattle.sno_expression.specs.declared.walking.Position.TheVariants.{AtStart, AfterBinary, AfterUnary, AfterPrefix, AfterIdentifier, AfterOperand}
 use Rattle.sno_expression.specs.Marks.{operator_of, prefix_of, needs_variable, operand_is_variable}
-use Rattle.sno_expression.specs.Expressions.{Expression, Arguments, Identifier, Constant, Keyword, Unevaluated, Group, Call, Unary, Binary, NoArguments, Omitted, Argument, binds_into_right}
-use Rattle.sno_expression.specs.Walking.{Walk, opens_call, stops, inner_of}
-use Rattle.sno_expression.specs.Walking as walking
+use Rattle.sno_expression.specs.Expressions.{Expression, Arguments, Identifier, Constant, Keyword, Unevaluated, Group, Call, Unary, Binary, NoArguments, Omitted, Argument, binds_into_right, IsOperand}
+use Rattle.sno_expression.specs.Walking.{opens_call, stops, inner_of}
+use Rattle.sno_expression.specs.inner.Walks.{Walk}
+use Rattle.sno_expression.specs.inner.Walks as walks
 
 -- one more operand at the right end, as deep as the operator's precedence puts it
 abbrev pub push : BinaryOperator → Expression → Expression → Expression
@@ -153,6 +154,11 @@ start = At Bottom (Due Begin)
 abbrev pub reading : Bool → List Token → Reading
 reading alone ts = answer alone start ts
 
+-- where one element alone may stand
+abbrev pub Suits : Bool → Expression → Type 0
+Suits true t = IsOperand t
+Suits false t = Unit {0}
+
 -- the tokens after an expression at which its reading stops
 abbrev pub StopsAt : Bool → Bool → TokenKind → Type 0
 StopsAt alone b (token.Part p) = Unit {0}
@@ -179,4 +185,4 @@ position (Named h n) = AfterIdentifier (variable_due h)
 position (Whole t) = AfterOperand
 
 abbrev pub walk : State → Walk
-walk (At st spot) = walking.At (parens st) (position spot)
+walk (At st spot) = walks.At (parens st) (position spot)

@@ -1,0 +1,6 @@
+pub mod Walks
+pub mod Counting
+pub mod Reading
+pub mod Spines
+pub mod Told
+pub mod Laws
