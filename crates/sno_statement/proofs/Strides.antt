@@ -12,7 +12,7 @@ use Rattle.sno_expression.specs.declared.walking.Position.TheVariants.{AtStart, 
 use Rattle.sno_expression.specs.declared.walking.Move.{Move}
 use Rattle.sno_expression.specs.declared.walking.Move.TheVariants as move
 use Rattle.sno_expression.specs.Expressions.{Expression}
-use Rattle.sno_expression.specs.inner.Counting.{bit, bad, misfit}
+use Rattle.sno_expression.specs.inner.Counting.{bit, bad}
 use Rattle.sno_expression.specs.Walking.{is_misfit, opens_call, ends, inner_of, outer_of}
 use Rattle.sno_expression.specs.inner.Walks.{moved}
 use Rattle.sno_expression.specs.Walking as walking

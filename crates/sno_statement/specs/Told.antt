@@ -1,5 +1,5 @@
 -- The program's values by the definitions.
-use Rattle.std.specs.Prelude.{◌≡◌, List, [], ◌∷◌, Option, Some, None, Result, Ok, Err}
+use Rattle.std.specs.Prelude.{◌≡◌, List, Option, Some, None, Result, Ok, Err}
 use Rattle.sno_token.specs.declared.Token.{Token}
 use Rattle.sno_expression.specs.Told.{expression_of, expressions_of}
 use Rattle.sno_statement.specs.declared.fault.Fault.{Fault}
