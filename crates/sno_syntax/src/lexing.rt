@@ -1,5 +1,5 @@
 //! The tokens of a statement.
-ghost use Rattle.std.specs.Prelude.{◌≡◌, Ok, Err, IfOk, IfErr};
+ghost use Rattle.std.specs.Prelude.{◌≡◌, Ok, Err, IfOk, IfErr, IsOk, IsErrOf};
 ghost use Rattle.sno_cards.specs.Answers.{IfRefused};
 ghost use Rattle.sno_syntax.specs.Refusals.{code_of_lex, lex_refusal, tokens_of, lexed_text};
 
@@ -33,6 +33,7 @@ fn lex_refusal(text: &StatementText, fault: LexFault) -> SyntaxError
 pub(crate) fn tokens_of(alloc: Global, text: &StatementText) -> Result<Tokens, Stop<SyntaxError>>
     ensures tokens { IfOk result (λ tokens. tokens_of text.now ≡ Ok tokens) }
     ensures refused { IfErr result (IfRefused (λ refusal. tokens_of text.now ≡ Err refusal)) }
+    ensures memory { IsErrOf result Stop.Memory → IsOk (tokens_of text.now) }
 {
     let bytes = text.as_bytes();
     match sno_lexer::lex(alloc, bytes, label_length(bytes))? {
@@ -48,10 +49,12 @@ pub(crate) fn tokens_of(alloc: Global, text: &StatementText) -> Result<Tokens, S
 /// The first refusal: `Unexpected` for a label that begins with something else than a letter or digit; then, from left to
 /// right, `BadConstant` for a literal that is not closed and an integer above 9,223,372,036,854,775,807, `Unexpected` for
 /// a character that begins no token, and `StatementTooLarge` at the 101st open parenthesis and the 1,001st token. A label
-/// that may not stand there, as END, is told by `parse` alone. `Memory` where a growth was refused.
+/// that may not stand there, as END, is told by `parse` alone. `Memory` where a growth was refused: a text that is refused
+/// takes no memory.
 pub fn lex(alloc: Global, text: &StatementText) -> Result<Tokens, Stop<SyntaxError>>
     ensures tokens { IfOk result (λ tokens. lexed_text text.now ≡ Ok tokens) }
     ensures refused { IfErr result (IfRefused (λ refusal. lexed_text text.now ≡ Err refusal)) }
+    ensures memory { IsErrOf result Stop.Memory → IsOk (lexed_text text.now) }
 {
     if is_bad_label(label_in(text.as_bytes())) {
         return Err(Stop::Refused(SyntaxError {
