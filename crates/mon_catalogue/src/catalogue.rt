@@ -86,11 +86,11 @@ impl Catalogue {
         self.sets.is_empty()
     }
 
-    /// The set at a place in the order of creation, counted from 0, with its name.
-    pub fn at(&self, place: usize) -> Option<(&Name, &DataSet)>
-        ensures { option_map deref_pair result ≡ slice_get self.now place }
+    /// The set at an index of the order of creation, from 0, with its name.
+    pub fn at(&self, index: usize) -> Option<(&Name, &DataSet)>
+        ensures { option_map deref_pair result ≡ slice_get self.now index }
     {
-        self.sets.get_index(place)
+        self.sets.get_index(index)
     }
 
     /// The set of a name. It takes no memory, and the time does not grow with the catalogue.

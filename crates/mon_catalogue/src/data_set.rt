@@ -93,10 +93,10 @@ impl Records {
 }
 
 impl DataSet {
-    /// The record at a place, counted from 0, where there is one.
-    pub fn record_at(&self, place: u64) -> Option<&Line>
-        ensures { option_copied result ≡ slice_get self.now.records place }
+    /// The record at an index, from 0, where there is one.
+    pub fn record_at(&self, index: u64) -> Option<&Line>
+        ensures { option_copied result ≡ slice_get self.now.records index }
     {
-        self.records.lines.get(place as usize)
+        self.records.lines.get(index as usize)
     }
 }
