@@ -1,4 +1,4 @@
-//! One more operand on an open spine, in constant time.
+//! One more operand on an open spine: each operator is opened and closed once, whatever the depth.
 
 ghost use Rattle.std.specs.Prelude.{◌≡◌, true, IfOk};
 ghost use Rattle.sno_expression.specs.Expressions.{FitsLeft};
@@ -11,7 +11,7 @@ use crate::spine::{Pending, Spine};
 use crate::tree::{BinaryOperator, Expression, binds_into_right, join};
 use std::alloc::{AllocError, Global};
 
-// The last operand is closed under the operators that do not stand above the new one; then it is the new one's left operand.
+// The innermost operators are closed that the new one may not stand under; what they make is its left operand.
 fn grow(
     alloc: Global,
     operator: BinaryOperator,
@@ -49,7 +49,7 @@ fn grow(
     }
 }
 
-// The last operand closed under all operators.
+// All operators closed, the innermost first.
 fn close_all(alloc: Global, pending: Pending, last: Expression) -> Result<Expression, AllocError>
     ensures { IfOk result (λ t. expression_of t ≡ spread pending (expression_of last)) }
 {
