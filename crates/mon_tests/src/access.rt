@@ -1,11 +1,11 @@
 //! The access check on lists worked by hand from acl(5), and the account table.
-use super::*;
-use crate::access::Decider as By;
-use crate::access::Decision::{Denied, Granted};
+use mon_access::Decision::{Denied, Granted};
+use mon_access::{
+    Account, AccountError, Accounts, Decider as By, Decision, Groups, MOST_GROUPS, check,
+};
 use mon_acl::{Acl, Perms};
-use mon_text::read_name;
+use mon_text::{Stop, read_name};
 use std::alloc::Global;
-use std::test::Fail;
 
 const NONE: Perms = Perms {
     read: false,
@@ -56,7 +56,7 @@ const RWX: Perms = Perms {
 };
 
 /// The accounts that ask: a name, a primary group and further groups. The data set is anna's, of the group admin.
-#[derive(Clone, Copy, Debug)]
+#[derive(Clone, Copy)]
 enum Who {
     /// admin
     Anna,
@@ -83,10 +83,10 @@ struct Case {
     rows: &'static [(Who, Perms, Decision)],
 }
 
-/// Entries by place: 0 `user::`, 1 hugo, 2 lisa, 3 `group::`, 4 ops, 5 staff, 6 `mask::`, 7 `other::`.
+/// Entries by index: 0 `user::`, 1 hugo, 2 lisa, 3 `group::`, 4 ops, 5 staff, 6 `mask::`, 7 `other::`.
 const FULL: &[u8] = b"u::rwx,u:lisa:rw-,u:hugo:---,g::r--,g:ops:r-x,g:staff:-w-,m::rw-,o::--x";
 
-/// Worked by hand from acl(5), "ACCESS CHECK ALGORITHM". A place is that of the canonical order.
+/// Worked by hand from acl(5), "ACCESS CHECK ALGORITHM". An index is that of the canonical order.
 static CASES: [Case; 12] = [
     Case {
         meaning: "the owner is judged by the owner's entry alone",
@@ -254,19 +254,35 @@ static CASES: [Case; 12] = [
     },
 ];
 
-fn account(alloc: Global, name: &[u8], primary: &[u8], further: &[&[u8]]) -> Result<Account, Fail> {
-    let mut groups = Groups::new(alloc);
-    for group in further {
-        groups.push(read_name(group)?)?;
+fn is_pushed(groups: &mut Groups, name: &[u8]) -> bool {
+    match read_name(name) {
+        Ok(name) => groups.push(name).is_ok(),
+        Err(_) => false,
     }
-    Ok(Account {
-        name: read_name(name)?,
-        primary: read_name(primary)?,
+}
+
+fn groups_of(alloc: Global, names: &[&[u8]]) -> Option<Groups> {
+    let mut groups = Groups::new(alloc);
+    for name in names {
+        if !is_pushed(&mut groups, name) {
+            return None;
+        }
+    }
+    Some(groups)
+}
+
+fn account(alloc: Global, name: &[u8], primary: &[u8], further: &[&[u8]]) -> Option<Account> {
+    let name = read_name(name).ok()?;
+    let primary = read_name(primary).ok()?;
+    let groups = groups_of(alloc, further)?;
+    Some(Account {
+        name,
+        primary,
         groups,
     })
 }
 
-fn account_of(alloc: Global, who: Who) -> Result<Account, Fail> {
+fn account_of(alloc: Global, who: Who) -> Option<Account> {
     match who {
         Who::Anna => account(alloc, b"anna", b"admin", &[]),
         Who::Lisa => account(alloc, b"lisa", b"staff", &[]),
@@ -279,103 +295,107 @@ fn account_of(alloc: Global, who: Who) -> Result<Account, Fail> {
     }
 }
 
-#[test]
-fn the_access_check_is_acl5_worked_by_hand(rt: HostRuntime) -> Result<(), Fail> {
-    let owner = read_name(b"anna")?;
-    let group = read_name(b"admin")?;
-    for case in &CASES {
-        let acl = Acl::parse_short(rt.alloc(), case.list)?;
-        for (who, request, wanted) in case.rows {
-            let account = account_of(rt.alloc(), *who)?;
-            let answer = check(&account, &owner, &group, &acl, *request);
-            let meaning = case.meaning;
-            assert_eq!(rt; answer, *wanted, "{meaning}: {who:?} asks for {request:?}");
+/// Whether an account is answered so by a data set of anna and the group admin with this list.
+fn is_answered(alloc: Global, acl: &Acl, who: Who, request: Perms, wanted: Decision) -> bool {
+    match (
+        account_of(alloc, who),
+        read_name(b"anna"),
+        read_name(b"admin"),
+    ) {
+        (Some(account), Ok(owner), Ok(group)) => {
+            check(&account, &owner, &group, acl, request) == wanted
+        }
+        _ => false,
+    }
+}
+
+fn are_answered(alloc: Global, acl: &Acl, rows: &[(Who, Perms, Decision)]) -> bool {
+    for (who, request, wanted) in rows {
+        if !is_answered(alloc, acl, *who, *request, *wanted) {
+            return false;
         }
     }
-    Ok(())
+    true
+}
+
+fn is_worked_by_hand(alloc: Global, case: &Case) -> bool {
+    match Acl::parse_short(alloc, case.list) {
+        Ok(acl) => are_answered(alloc, &acl, case.rows),
+        Err(_) => false,
+    }
 }
 
 #[test]
-fn accounts_are_added_and_found(rt: HostRuntime) -> Result<(), Fail> {
-    let mut accounts = Accounts::new(rt.alloc());
-    accounts.add(account_of(rt.alloc(), Who::Lisa)?)?;
-    accounts.add(account_of(rt.alloc(), Who::Hugo)?)?;
-    let hugo = accounts.find(&read_name(b"hugo")?).ok_or("hugo is there")?;
-    assert_eq!(rt; hugo.primary, read_name(b"ops")?);
-    assert_eq!(rt; hugo.groups.len(), 1);
-    assert!(rt; hugo.groups.contains(&read_name(b"staff")?));
-    assert!(rt; !hugo.groups.contains(&read_name(b"ops")?));
-    assert!(rt; accounts.find(&read_name(b"zoe")?).is_none());
-    Ok(())
+fn the_access_check_is_acl5_worked_by_hand(rt: HostRuntime) {
+    for case in &CASES {
+        let meaning = case.meaning;
+        assert!(rt; is_worked_by_hand(rt.alloc(), case), "{meaning}");
+    }
 }
 
-/// An account whose further groups are one name so many times.
-fn crowded(alloc: Global, name: &[u8], count: usize) -> Result<Account, Fail> {
+/// An account with so many further groups, all of one name.
+fn crowded(alloc: Global, name: &[u8], count: usize) -> Option<Account> {
     let mut crowd = account(alloc, name, b"staff", &[])?;
     for _ in 0..count {
-        crowd.groups.push(read_name(b"ops")?)?;
-    }
-    Ok(crowd)
-}
-
-#[test]
-fn accounts_are_refused(rt: HostRuntime) -> Result<(), Fail> {
-    let mut accounts = Accounts::new(rt.alloc());
-    accounts.add(crowded(rt.alloc(), b"lisa", MOST_GROUPS)?)?;
-    let refusals: [(&[u8], usize, AccountError); 4] = [
-        (b"lisa", 0, AccountError::AccountTwice),
-        (b"lisa", MOST_GROUPS + 1, AccountError::AccountTwice),
-        (b"hugo", MOST_GROUPS + 1, AccountError::TooManyGroups),
-        (b"hugo", 40, AccountError::TooManyGroups),
-    ];
-    for (name, count, refusal) in &refusals {
-        let refused = accounts.add(crowded(rt.alloc(), name, *count)?);
-        assert_eq!(rt; refused, Err(*refusal), "{count} groups");
-        assert!(rt; accounts.find(&read_name(b"hugo")?).is_none());
-    }
-    accounts.add(crowded(rt.alloc(), b"hugo", 0)?)?;
-    assert!(rt; accounts.find(&read_name(b"hugo")?).is_some());
-    Ok(())
-}
-
-/// Under `rt try --test --fail-alloc N` the Nth growth is refused: that is told, and nothing else differs.
-#[test]
-fn a_refused_growth_changes_nothing(rt: HostRuntime) -> Result<(), Fail> {
-    let names: [&[u8]; 9] = [
-        b"anna", b"hugo", b"lisa", b"tim", b"zoe", b"ada", b"sue", b"otto", b"eva",
-    ];
-    let mut accounts = Accounts::new(rt.alloc());
-    for (count, name) in names.iter().enumerate() {
-        if let Err(refusal) = accounts.add(account(rt.alloc(), name, b"staff", &[])?) {
-            assert_eq!(rt; refusal, AccountError::Memory);
-            for (place, other) in names.iter().enumerate() {
-                let is_there = accounts.find(&read_name(other)?).is_some();
-                assert_eq!(rt; is_there, place < count);
-            }
-            accounts.add(account(rt.alloc(), name, b"staff", &[])?)?;
+        if !is_pushed(&mut crowd.groups, b"ops") {
+            return None;
         }
     }
-    for name in &names {
-        assert!(rt; accounts.find(&read_name(name)?).is_some());
-    }
-    Ok(())
+    Some(crowd)
 }
 
-/// The same, of the groups of an account.
-#[test]
-fn a_refused_growth_adds_no_group(rt: HostRuntime) -> Result<(), Fail> {
-    let names: [&[u8]; 9] = [
-        b"ops", b"staff", b"admin", b"guests", b"a", b"b", b"c", b"d", b"e",
-    ];
-    let mut groups = Groups::new(rt.alloc());
-    for (count, name) in names.iter().enumerate() {
-        if groups.push(read_name(name)?).is_err() {
-            assert_eq!(rt; groups.len(), count);
-            assert!(rt; !groups.contains(&read_name(name)?));
-            groups.push(read_name(name)?)?;
-        }
-        assert_eq!(rt; groups.len(), count + 1);
-        assert!(rt; groups.contains(&read_name(name)?));
+fn is_told(
+    alloc: Global,
+    accounts: &mut Accounts,
+    name: &[u8],
+    count: usize,
+    wanted: Result<(), Stop<AccountError>>,
+) -> bool {
+    match crowded(alloc, name, count) {
+        Some(account) => accounts.add(account) == wanted,
+        None => false,
     }
-    Ok(())
+}
+
+fn has(accounts: &Accounts, name: &[u8], groups: usize) -> bool {
+    match read_name(name) {
+        Ok(name) => match accounts.find(&name) {
+            Some(account) => account.groups.len() == groups,
+            None => false,
+        },
+        Err(_) => false,
+    }
+}
+
+/// Accounts by turns: a name, the number of further groups, and what is told.
+static ADDED: [(&[u8], usize, Result<(), Stop<AccountError>>); 7] = [
+    (b"lisa", MOST_GROUPS, Ok(())),
+    (b"lisa", 0, Err(Stop::Refused(AccountError::AccountTwice))),
+    (b"lisa", 17, Err(Stop::Refused(AccountError::AccountTwice))),
+    (b"hugo", 17, Err(Stop::Refused(AccountError::TooManyGroups))),
+    (b"hugo", 40, Err(Stop::Refused(AccountError::TooManyGroups))),
+    (b"hugo", 0, Ok(())),
+    (b"hugo", 16, Err(Stop::Refused(AccountError::AccountTwice))),
+];
+
+fn are_told(alloc: Global, accounts: &mut Accounts) -> bool {
+    for (name, count, wanted) in &ADDED {
+        if !is_told(alloc, accounts, name, *count, *wanted) {
+            return false;
+        }
+    }
+    true
+}
+
+fn keeps_what_was_added(alloc: Global) -> bool {
+    let mut accounts = Accounts::new(alloc);
+    are_told(alloc, &mut accounts)
+        && has(&accounts, b"lisa", MOST_GROUPS)
+        && has(&accounts, b"hugo", 0)
+        && !has(&accounts, b"zoe", 0)
+}
+
+#[test]
+fn accounts_are_added_and_refused(rt: HostRuntime) {
+    assert!(rt; keeps_what_was_added(rt.alloc()));
 }
