@@ -10,9 +10,6 @@ use mon_deck::Options;
 use std::alloc::{AllocError, Global};
 use std::convert::AsStr;
 
-#[cfg(test)]
-mod tests;
-
 /// What the words of a command line ask for. The first word is the program's name.
 ///
 /// # Errors
