@@ -6,17 +6,17 @@ use Rattle.mon_acl.specs.declared.entries.Tag.TheVariants.{UserObj, GroupObj, Ot
 use Rattle.mon_access.specs.declared.account.Account.{Account}
 use Rattle.mon_access.specs.AccessCheck.{decision}
 use Rattle.mon_catalogue.specs.Sets.{Sets}
-use Rattle.mon_deck.specs.declared.card.Card.TheVariants as card
-use Rattle.mon_deck.specs.declared.code.Code.TheVariants.{BadName, BadCharacter, AccountTwice, UnknownCard, BadCard, OutOfPlace, Truncated}
-use Rattle.mon_deck.specs.declared.deck.Ending.TheVariants.{Stopped, Refused}
-use Rattle.mon_deck.specs.Cards.{card_of}
-use Rattle.mon_deck.specs.Refusing.{line_refusal, lone_card_refusal}
-use Rattle.mon_deck.specs.Sections.{account_refusal, deck_of}
-use Rattle.mon_deck.specs.Requests.{two_names_refusal, request_on}
+use Rattle.mon_cards.specs.declared.card.Card.TheVariants as card
+use Rattle.mon_cards.specs.declared.code.Code.TheVariants.{BadName, BadCharacter, AccountTwice, UnknownCard, BadCard, OutOfPlace, Truncated}
+use Rattle.mon_cards.specs.Decks.{Stopped, Refused}
+use Rattle.mon_cards.specs.Cards.{card_of}
+use Rattle.mon_cards.specs.Refusing.{line_refusal, lone_card_refusal}
+use Rattle.mon_cards.specs.Sections.{account_refusal, deck_of}
+use Rattle.mon_cards.specs.Requests.{two_names_refusal, request_on}
 use Rattle.mon_deck.specs.Laws.{printout}
 use Rattle.mon_guard.specs.declared.text.AclText.TheVariants.{Short, Long}
 use Rattle.mon_monitor.specs.declared.command.Command.TheVariants as command
-use Rattle.mon_deck.specs.declared.request.Request.TheVariants.{Asks, Opens}
+use Rattle.mon_cards.specs.declared.request.Request.TheVariants.{Asks, Opens}
 use Rattle.std.specs.Str.Lines.{lines}
 use Rattle.mon_deck.specs.Runs.{ending_of}
 
@@ -71,7 +71,7 @@ the_text_of_a_list = refl
 the_lines_of_a_list_follow : request_on (codes "$SETACL anna X ") ≡ Opens (codes "anna") (codes "X")
 the_lines_of_a_list_follow = refl
 
-a_list_in_lines : (let deck = deck_of (lines (codes "$ACCOUNTS\n$CATALOGUE\n$STREAM\n$SETACL anna X\n\tu::r\n\n$ENDACL\n$STOP")) in deck.commands) ≡ command.SetAcl (codes "anna") (codes "X") (Long (codes "\tu::r\n\n")) ∷ []
+a_list_in_lines : (let deck = deck_of (lines (codes "$ACCOUNTS\n$CATALOGUE\n$STREAM\n$SETACL anna X\n\tu::r\n\n$ENDACL\n$STOP")) in deck.cards.commands) ≡ command.SetAcl (codes "anna") (codes "X") (Long (codes "\tu::r\n\n")) ∷ []
 a_list_in_lines = refl
 
 a_card_within_a_list : ending_of (codes "$ACCOUNTS\n$CATALOGUE\n$STREAM\n$SETACL anna X\n$LIST anna X\n") ≡ Refused 5 OutOfPlace

@@ -1,7 +1,7 @@
-pub mod Splitting
-pub mod AccountWords
-pub mod AccountLines
-pub mod Holding
-pub mod Serving
+pub mod Commanding
+pub mod Following
+pub mod Telling
+pub mod Holdings
+pub mod Running
 pub mod ShownRecords
 mod Examples

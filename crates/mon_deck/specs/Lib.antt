@@ -1,12 +1,7 @@
-pub mod Cards
-pub mod Codes
 pub mod Faults
-pub mod Lines
-pub mod Refusing
-pub mod Requests
-pub mod Sections
-pub mod Stops
-pub mod Readings
 pub mod Printouts
 pub mod Runs
 pub mod Laws
+pub mod Feeds
+pub mod Told
+pub mod inner

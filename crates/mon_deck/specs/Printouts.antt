@@ -6,25 +6,25 @@ use Rattle.mon_catalogue.specs.Sets.{Sets}
 use Rattle.mon_catalogue.specs.Text.{catalogue_text}
 use Rattle.mon_monitor.specs.declared.command.Command.{Command}
 use Rattle.mon_monitor.specs.Commanded.{Commanded, commanded}
-use Rattle.mon_deck.specs.declared.deck.Deck.{Deck}
-use Rattle.mon_deck.specs.declared.deck.Ending.{Ending}
-use Rattle.mon_deck.specs.declared.deck.Ending.TheVariants.{Stopped, Refused}
-use Rattle.mon_deck.specs.Sections.{deck_of}
+use Rattle.mon_cards.specs.Decks.{Deck}
+use Rattle.mon_cards.specs.Decks.{Ending}
+use Rattle.mon_cards.specs.Decks.{Stopped, Refused}
+use Rattle.mon_cards.specs.Sections.{deck_of}
 
 -- one command and then others, each over the data sets that the one before it left
-abbrev pub and_then : Commanded → Commanded → Commanded
-and_then first others = record { printout = first.printout ++ others.printout; sets = others.sets }
+abbrev pub then_others : Commanded → Commanded → Commanded
+then_others first others = record { printout = first.printout ++ others.printout; sets = others.sets }
 
 -- commands in order: their printouts, and the data sets after the last
 abbrev pub all_commanded : List Account → Sets → List Command → Commanded
 all_commanded accounts sets [] = record { printout = []; sets = sets }
 all_commanded accounts sets (command ∷ commands) =
     let first = commanded accounts sets command in
-    and_then first (all_commanded accounts first.sets commands)
+    then_others first (all_commanded accounts first.sets commands)
 
 -- the commands of a deck, over its accounts and its catalogue
 abbrev pub served : Deck → Commanded
-served deck = all_commanded deck.accounts deck.catalogue deck.commands
+served deck = all_commanded deck.accounts deck.catalogue deck.cards.commands
 
 -- the data sets after them
 abbrev pub sets_after : Deck → Sets
@@ -37,7 +37,7 @@ closing sets (Refused n code) = []
 
 -- the output of a deck that is run
 abbrev pub output_of_deck : Deck → List ℕ
-output_of_deck deck = let all = served deck in all.printout ++ closing all.sets deck.ending
+output_of_deck deck = let all = served deck in all.printout ++ closing all.sets deck.cards.ending
 
 -- a deck that is only read: whether it is refused
 abbrev pub verdict : Ending → List ℕ
@@ -46,7 +46,7 @@ verdict (Refused n code) = []
 
 -- what a deck is answered, where it is only to be checked or is to be run
 abbrev pub answer_to : Bool → Deck → List ℕ
-answer_to check deck = if check then verdict deck.ending else output_of_deck deck
+answer_to check deck = if check then verdict deck.cards.ending else output_of_deck deck
 
 -- what is written for these bytes
 abbrev pub output_of : Bool → List ℕ → List ℕ

@@ -1,21 +1,19 @@
 //! From a deck's bytes to the bytes of its output: what `snomon` does, over any reader and writer.
 #![tactic(auto)]
 
-pub mod card;
-pub mod code;
-pub mod deck;
+pub mod fault;
+pub mod feed;
+mod feeding;
 pub mod laws;
-mod lines;
-pub mod reading;
-pub mod request;
+pub mod options;
+mod reading;
 pub mod run;
-mod words;
+mod serving;
+pub mod stage;
 
-pub use code::{Code, RunError};
-pub use deck::{Commands, Deck, Ending};
+pub use fault::RunError;
+pub use feed::DeckFeed;
+pub use mon_cards::Code;
 pub use mon_device::{DeckReader, DeckWriter, Failed, MemReader, MemWriter, StdReader, StdWriter};
-pub use reading::read_deck;
-pub use run::{Counts, Options, Slots, exit_status, put_fault, run_deck};
-
-#[cfg(test)]
-mod tests;
+pub use options::{Counts, Options, Slots};
+pub use run::{exit_status, put_fault, run_deck};

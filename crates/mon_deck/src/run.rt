@@ -1,76 +1,26 @@
-//! A whole run: a deck is read, understood, and answered.
-ghost use Rattle.std.specs.Prelude.{◌≡◌, ◌++◌, ◌≤◌, ◌↔◌, ◌⊎◌, ◌||◌, ℕ, true, false, is_err, IsSome, IfSome, IfOk, OnOk};
-ghost use Rattle.std.specs.Str.Lines.{lines};
-ghost use Rattle.mon_deck.specs.declared.code.Code.{Code};
-ghost use Rattle.mon_deck.specs.declared.deck.Ending.TheVariants.{Stopped, Refused};
+//! A whole run: a deck is read piece by piece, and answered card by card.
+ghost use Rattle.std.specs.Prelude.{◌≡◌, ◌++◌, ◌<◌, ◌≤◌, ◌+◌, ◌^◌, drop, ◌⊎◌, ◌||◌, ℕ, List, [], true, false, length, vec_len, is_err, IfSome, IfOk, OnOk};
+ghost use Rattle.mon_cards.specs.declared.code.Code.{Code, Code as AnyCode};
+ghost use Rattle.mon_catalogue.specs.Sets.{Sets};
+ghost use Rattle.mon_cards.specs.Decks.{Stopped, Refused};
 ghost use Rattle.mon_device.specs.declared.transfer.TheConstants.{MOST_READS};
-ghost use Rattle.mon_device.specs.Devices.{IsAtEnd, HasAtLeast, holding};
-ghost use Rattle.mon_deck.specs.Sections.{deck_of};
-ghost use Rattle.mon_deck.specs.Printouts.{output_of, answer_to, output_of_deck, verdict, closing, sets_after};
+ghost use Rattle.mon_device.specs.Devices.{IsAtEnd, holding};
+ghost use Rattle.mon_deck.specs.Feeds.{Good, refused_at, IsReadBack};
+ghost use Rattle.mon_deck.specs.Told.{told, outcome_from};
+ghost use Rattle.mon_deck.specs.inner.Writing.{holds, Runs};
+ghost use Rattle.mon_deck.specs.Printouts.{output_of};
 ghost use Rattle.mon_deck.specs.Runs.{ending_of, catalogue_after, counts_of, ReadsBack};
 ghost use Rattle.mon_deck.specs.Faults.{status_of, fault_line};
 
-use crate::code::RunError;
-use crate::deck::{Deck, Ending};
-use crate::reading::read_deck;
-use mon_catalogue::Catalogue;
-use mon_device::{DeckReader, DeckWriter, Failed, InputError, OutputError, read_all, write_all};
-use mon_monitor::Monitor;
+use crate::fault::RunError;
+use crate::feed::DeckFeed;
+use crate::options::{Counts, Options};
+use mon_device::{DeckReader, DeckWriter, Failed, MOST_READS, READ_SIZE, write_all};
 use mon_text::put_number;
 use std::alloc::{AllocError, Global};
 
 /// How many bytes of output are gathered before they are written.
 const WRITE_SIZE: usize = 65_536;
-
-/// How many slots for jobs there are: 1 to 8.
-#[derive(Clone, Copy, Debug, PartialEq, Eq)]
-pub struct Slots {
-    number: u8,
-    ghost within: { (1 ≤ number) × (number ≤ 8) },
-}
-
-impl Slots {
-    /// So many slots, where there may be so many.
-    pub fn new(number: u8) -> Option<Slots>
-        ensures within { IsSome result ↔ ((1 ≤ number) × (number ≤ 8)) }
-        ensures value { IfSome result (λ slots. slots.number ≡ number) }
-    {
-        if (1..=8).contains(&number) {
-            Some(Slots { number })
-        } else {
-            None
-        }
-    }
-}
-
-/// What a run is told beside its deck.
-#[derive(Clone, Copy, Debug, PartialEq, Eq)]
-pub struct Options {
-    /// How many slots there are. There are no jobs yet, so that it has no effect.
-    pub slots: Slots,
-    /// Whether the deck is only read, and not run.
-    pub check: bool,
-}
-
-impl Options {
-    /// Four slots, and the deck is run.
-    pub fn new() -> Options
-        ensures slots { result.slots.number ≡ 4 }
-        ensures runs { result.check ≡ false }
-    {
-        Options {
-            slots: Slots { number: 4 },
-            check: false,
-        }
-    }
-}
-
-/// How many cards of each kind a deck has.
-#[derive(Clone, Copy, Debug, PartialEq, Eq)]
-pub struct Counts {
-    pub jobs: u64,
-    pub commands: u64,
-}
 
 /// Runs a deck: reads all of it, serves its commands in order, and writes the printout of each and then the catalogue as
 /// it stands. Where the deck is only to be checked, no command is served, and `DECK OK` is written in place of all that.
@@ -78,8 +28,8 @@ pub struct Counts {
 /// # Errors
 ///
 /// `DeckRefused` at the first line that is refused: the printouts of the commands before it were written, unless the
-/// deck was only to be checked, and no catalogue. `ReadFault` where the reader failed, or gave more than 4,294,967,295
-/// pieces; `WriteFault` where the writer failed; `Memory` where a growth was refused.
+/// deck was only to be checked, and no catalogue. `ReadFault` where the reader failed, or where 4,294,967,295 reads did not
+/// come to its end; `WriteFault` where the writer failed; `Memory` where a growth was refused.
 pub fn run_deck<R: DeckReader, W: DeckWriter>(
     alloc: Global,
     reader: &mut R,
@@ -106,127 +56,166 @@ pub fn run_deck<R: DeckReader, W: DeckWriter>(
 
     // Faults are told only where a device failed.
     ensures read_fault { result ≡ Err RunError.ReadFault →
-        (R.has_failed reader.new ≡ true) ⊎ HasAtLeast MOST_READS (R.remaining reader.old) }
+        (R.has_failed reader.new ≡ true) ⊎ (MOST_READS ≤ R.reads reader.new) }
     ensures write_fault { result ≡ Err RunError.WriteFault → W.has_failed writer.new ≡ true }
 {
-    let deck = input_of(alloc, reader)?;
-    let ending = deck.ending;
-    let commands = deck.commands.len() as u64;
-    put_answer(alloc, deck, options, writer)?;
-    match ending {
-        Ending::Refused(line, code) => Err(RunError::DeckRefused(line, code)),
-        Ending::Stopped => Ok(Counts { jobs: 0, commands }),
-    }
-}
-
-// The deck that the reader gives.
-fn input_of<R: DeckReader>(alloc: Global, reader: &mut R) -> Result<Deck, InputError>
-    ensures at_end { OnOk result (IsAtEnd (R.remaining reader.new)) }
-    ensures deck { IfOk result (λ deck. IfSome (R.remaining reader.old) (λ bytes. deck ≡ deck_of (lines bytes))) }
-    ensures sound { OnOk result (R.has_failed reader.new ≡ R.has_failed reader.old) }
-    ensures fault { result ≡ Err InputError.Fault →
-        (R.has_failed reader.new ≡ true) ⊎ HasAtLeast MOST_READS (R.remaining reader.old) }
-{
-    let bytes = read_all(alloc, reader)?;
-    Ok(read_deck(alloc, &bytes)?)
-}
-
-// Writes what a deck is answered.
-fn put_answer<W: DeckWriter>(
-    alloc: Global,
-    deck: Deck,
-    options: Options,
-    writer: &mut W,
-) -> Result<(), OutputError>
-    ensures written { OnOk result (W.written writer.new ≡ holding (W.written writer.old) (answer_to options.check deck)) }
-    ensures reads_back { OnOk result (options.check ≡ false → deck.ending ≡ Stopped → ReadsBack (sets_after deck)) }
-    ensures sound { OnOk result (W.has_failed writer.new ≡ W.has_failed writer.old) }
-    ensures fault { result ≡ Err OutputError.Fault → W.has_failed writer.new ≡ true }
-{
-    if options.check {
-        put_verdict(deck.ending, writer)
-    } else {
-        put_output(alloc, deck, options.slots, writer)
-    }
-}
-
-// Writes whether a deck is refused.
-#[tactic(auto, using(mon_device::proofs::Holding::holds))]
-fn put_verdict<W: DeckWriter>(ending: Ending, writer: &mut W) -> Result<(), OutputError>
-    ensures written { OnOk result (W.written writer.new ≡ holding (W.written writer.old) (verdict ending)) }
-    ensures sound { OnOk result (W.has_failed writer.new ≡ W.has_failed writer.old) }
-    ensures fault { result ≡ Err OutputError.Fault → W.has_failed writer.new ≡ true }
-{
-    match ending {
-        Ending::Stopped => Ok(write_all(writer, b"DECK OK\n")?),
-        Ending::Refused(_line, _code) => Ok(()),
-    }
-}
-
-// Serves the commands of a deck, and writes its output.
-fn put_output<W: DeckWriter>(
-    alloc: Global,
-    deck: Deck,
-    slots: Slots,
-    writer: &mut W,
-) -> Result<(), OutputError>
-    ensures written { OnOk result (W.written writer.new ≡ holding (W.written writer.old) (output_of_deck deck)) }
-    ensures reads_back { OnOk result (deck.ending ≡ Stopped → ReadsBack (sets_after deck)) }
-    ensures sound { OnOk result (W.has_failed writer.new ≡ W.has_failed writer.old) }
-    ensures fault { result ≡ Err OutputError.Fault → W.has_failed writer.new ≡ true }
-{
-    let ending = deck.ending;
-    let mut monitor = Monitor::new(deck.accounts, deck.catalogue, slots.number);
+    let mut feed = DeckFeed::new(alloc, options);
     let mut out = Vec::new(alloc);
-    for command in deck.commands.into_vec() {
-        let printout = monitor.command(alloc, command)?;
-        put_printout(printout.as_slice(), &mut out, writer)?;
+    match feed_all(alloc, reader, &mut feed, &mut out, writer) {
+        Ok(()) => finish(alloc, feed, &mut out, writer),
+        Err(error) => Err(error),
     }
-    put_closing(monitor.catalogue(), ending, &mut out)?;
-    Ok(write_all(writer, &out)?)
 }
 
-// Gathers a printout with those before it. A large one is written where it stands, after them: it isn't copied.
-fn put_printout<W: DeckWriter>(
-    printout: &[u8],
+// Feeds all that the reader gives, read by read, and writes what is printed.
+fn feed_all<R: DeckReader, W: DeckWriter>(
+    alloc: Global,
+    reader: &mut R,
+    feed: &mut DeckFeed,
     out: &mut Vec<u8>,
     writer: &mut W,
-) -> Result<(), OutputError>
-    ensures put { OnOk result (holding (W.written writer.new) out.new.items ≡ holding (W.written writer.old) (out.old.items ++ printout.now)) }
-    ensures sound { OnOk result (W.has_failed writer.new ≡ W.has_failed writer.old) }
-    ensures fault { result ≡ Err OutputError.Fault → W.has_failed writer.new ≡ true }
+) -> Result<(), RunError>
+    requires start { feed.old.fed ≡ 0 }
+    requires empty { out.old.items ≡ [] }
+    ensures runs { OnOk result ((given : List ℕ) × Runs (R.remaining reader.old) (R.remaining reader.new) (W.written writer.old) (W.written writer.new) feed.old feed.new given) }
+    ensures at_end { OnOk result (IsAtEnd (R.remaining reader.new)) }
+    ensures empty { OnOk result (out.new.items ≡ []) }
+    ensures reads_back { IsReadBack feed.old.options.check feed.old.state → OnOk result (IsReadBack feed.new.options.check feed.new.state) }
+    ensures options { feed.new.options ≡ feed.old.options }
+    ensures refused { (n : ℕ) (code : AnyCode) → result ≡ Err (RunError.DeckRefused n code) →
+        IfSome (R.remaining reader.old) (λ bytes. holds (W.written writer.new) (refused_at n code) ≡ holds (W.written writer.old) (outcome_from feed.old bytes)) }
+    ensures sound { OnOk result ((R.has_failed reader.new ≡ R.has_failed reader.old) × (W.has_failed writer.new ≡ W.has_failed writer.old)) }
+    ensures read_fault { result ≡ Err RunError.ReadFault →
+        (R.has_failed reader.new ≡ true) ⊎ (MOST_READS ≤ R.reads reader.new) }
+    ensures write_fault { result ≡ Err RunError.WriteFault → W.has_failed writer.new ≡ true }
 {
-    if out.len().saturating_add(printout.len()) >= WRITE_SIZE {
-        Ok(flush(printout, out, writer)?)
-    } else {
-        Ok(out.extend_from_slice(printout)?)
+    let mut buffer = buffer_of(alloc, READ_SIZE)?;
+    for _read in 0..MOST_READS {
+        match reader.read(&mut buffer) {
+            Err(Failed) => return Err(RunError::ReadFault),
+            Ok(0) => return Ok(()),
+            Ok(count) => match serve(alloc, feed, &buffer[..count], out, writer) {
+                Ok(()) => {}
+                Err(error) => return Err(error),
+            },
+        }
+    }
+    Err(RunError::ReadFault)
+}
+
+// A buffer for reads, of so many bytes.
+fn buffer_of(alloc: Global, size: usize) -> Result<Vec<u8>, AllocError>
+    ensures { IfOk result (λ buffer. vec_len buffer ≡ size) }
+{
+    Ok(vec![in alloc; 0; size]?)
+}
+
+// Feeds what a read gave, line by line, and writes what is printed.
+fn serve<W: DeckWriter>(
+    alloc: Global,
+    feed: &mut DeckFeed,
+    piece: &[u8],
+    out: &mut Vec<u8>,
+    writer: &mut W,
+) -> Result<(), RunError>
+    requires few { feed.old.fed + length piece.now < 2 ^ 63 }
+    requires empty { out.old.items ≡ [] }
+    ensures served { OnOk result ((bytes : List ℕ) → holds (W.written writer.new) (outcome_from feed.new bytes) ≡ holds (W.written writer.old) (outcome_from feed.old (piece.now ++ bytes))) }
+    ensures refused { (n : ℕ) (code : AnyCode) → result ≡ Err (RunError.DeckRefused n code) →
+        (bytes : List ℕ) → holds (W.written writer.new) (refused_at n code) ≡ holds (W.written writer.old) (outcome_from feed.old (piece.now ++ bytes)) }
+    ensures empty { OnOk result (out.new.items ≡ []) }
+    ensures fed { OnOk result (feed.new.fed ≡ feed.old.fed + length piece.now) }
+    ensures reads_back { IsReadBack feed.old.options.check feed.old.state → OnOk result (IsReadBack feed.new.options.check feed.new.state) }
+    ensures options { feed.new.options ≡ feed.old.options }
+    ensures sound { OnOk result (W.has_failed writer.new ≡ W.has_failed writer.old) }
+    ensures read_fault { result ≡ Err RunError.ReadFault → ⊥ }
+    ensures write_fault { result ≡ Err RunError.WriteFault → W.has_failed writer.new ≡ true }
+{
+    let mut rest = piece;
+    'lines: while !rest.is_empty() {
+        let used = serve_line(alloc, feed, rest, out, writer)?;
+        rest = &rest[used..];
+    }
+    Ok(flush(out, writer)?)
+}
+
+// Feeds up to the first line end, and writes what is gathered if it is much, or if the deck is refused there.
+fn serve_line<W: DeckWriter>(
+    alloc: Global,
+    feed: &mut DeckFeed,
+    piece: &[u8],
+    out: &mut Vec<u8>,
+    writer: &mut W,
+) -> Result<usize, RunError>
+    requires full { 0 < length piece.now }
+    requires few { feed.old.fed + length piece.now < 2 ^ 63 }
+    ensures used { IfOk result (λ used. (0 < used) × (used ≤ length piece.now) × (feed.new.fed ≡ feed.old.fed + used)) }
+    ensures served { IfOk result (λ used. (bytes : List ℕ) → holds (W.written writer.new) (told out.new.items feed.new (drop used piece.now ++ bytes)) ≡ holds (W.written writer.old) (told out.old.items feed.old (piece.now ++ bytes))) }
+    ensures refused { (n : ℕ) (code : AnyCode) → result ≡ Err (RunError.DeckRefused n code) →
+        (bytes : List ℕ) → holds (W.written writer.new) (refused_at n code) ≡ holds (W.written writer.old) (told out.old.items feed.old (piece.now ++ bytes)) }
+    ensures reads_back { IsReadBack feed.old.options.check feed.old.state → OnOk result (IsReadBack feed.new.options.check feed.new.state) }
+    ensures options { feed.new.options ≡ feed.old.options }
+    ensures sound { OnOk result (W.has_failed writer.new ≡ W.has_failed writer.old) }
+    ensures read_fault { result ≡ Err RunError.ReadFault → ⊥ }
+    ensures write_fault { result ≡ Err RunError.WriteFault → W.has_failed writer.new ≡ true }
+{
+    match feed.feed_line(alloc, piece, out) {
+        Ok(used) => match flush_large(out, writer) {
+            Ok(()) => Ok(used),
+            Err(_) => Err(RunError::WriteFault),
+        },
+        Err(error) => match write_all(writer, out) {
+            Ok(()) => Err(error),
+            Err(_) => Err(RunError::WriteFault),
+        },
     }
 }
 
-// Writes what is gathered, and then a printout.
+// Writes what is gathered, if it is much.
+fn flush_large<W: DeckWriter>(out: &mut Vec<u8>, writer: &mut W) -> Result<(), Failed>
+    ensures put { OnOk result (holding (W.written writer.new) out.new.items ≡ holding (W.written writer.old) out.old.items) }
+    ensures failed { W.has_failed writer.new ≡ (W.has_failed writer.old || is_err result) }
+{
+    if out.len() < WRITE_SIZE {
+        return Ok(());
+    }
+    flush(out, writer)
+}
+
+// The reader is at its end.
+fn finish<W: DeckWriter>(
+    alloc: Global,
+    feed: DeckFeed,
+    out: &mut Vec<u8>,
+    writer: &mut W,
+) -> Result<Counts, RunError>
+    requires empty { out.old.items ≡ [] }
+    ensures ended { IfOk result (λ counts. (sets : Sets) × (holds (W.written writer.new) (record { written = []; conclusion = Good counts.commands sets }) ≡ holds (W.written writer.old) (outcome_from feed []))
+        × (IsReadBack feed.options.check feed.state → feed.options.check ≡ false → ReadsBack sets) × (counts.jobs ≡ 0)) }
+    ensures refused { (n : ℕ) (code : AnyCode) → result ≡ Err (RunError.DeckRefused n code) →
+        holds (W.written writer.new) (refused_at n code) ≡ holds (W.written writer.old) (outcome_from feed []) }
+    ensures sound { OnOk result (W.has_failed writer.new ≡ W.has_failed writer.old) }
+    ensures read_fault { result ≡ Err RunError.ReadFault → ⊥ }
+    ensures write_fault { result ≡ Err RunError.WriteFault → W.has_failed writer.new ≡ true }
+{
+    let answer = feed.finish(alloc, out);
+    match write_all(writer, out) {
+        Ok(()) => answer,
+        Err(_) => Err(RunError::WriteFault),
+    }
+}
+
+// Writes what is gathered.
 #[tactic(auto, using(mon_device::proofs::Holding::holds))]
-fn flush<W: DeckWriter>(printout: &[u8], out: &mut Vec<u8>, writer: &mut W) -> Result<(), Failed>
-    ensures put { OnOk result (holding (W.written writer.new) out.new.items ≡ holding (W.written writer.old) (out.old.items ++ printout.now)) }
+fn flush<W: DeckWriter>(out: &mut Vec<u8>, writer: &mut W) -> Result<(), Failed>
+    ensures written { OnOk result (W.written writer.new ≡ holding (W.written writer.old) out.old.items) }
+    ensures put { OnOk result (holding (W.written writer.new) out.new.items ≡ holding (W.written writer.old) out.old.items) }
+    ensures empty { OnOk result (out.new.items ≡ []) }
     ensures failed { W.has_failed writer.new ≡ (W.has_failed writer.old || is_err result) }
 {
     write_all(writer, out)?;
     out.clear();
-    write_all(writer, printout)
-}
-
-// A deck that was not refused gives its catalogue back.
-fn put_closing(catalogue: &Catalogue, ending: Ending, out: &mut Vec<u8>) -> Result<(), AllocError>
-    ensures written { OnOk result (out.new.items ≡ out.old.items ++ closing catalogue.now ending) }
-    ensures reads_back { OnOk result (ending ≡ Stopped → ReadsBack catalogue.now) }
-{
-    match ending {
-        Ending::Refused(..) => Ok(()),
-        Ending::Stopped => {
-            out.extend_from_slice(b"$CATALOGUE\n")?;
-            catalogue.put_text(out)?;
-            Ok(())
-        }
-    }
+    Ok(())
 }
 
 /// The exit status of the program: 0, 1 where the deck is refused, 3 where something failed.
@@ -263,30 +252,24 @@ pub fn put_fault(fault: &RunError, out: &mut Vec<u8>) -> Result<(), AllocError>
     out.extend_from_slice(b"\n")
 }
 
-impl From<InputError> for RunError {
+impl From<AllocError> for RunError {
     ghost use Rattle.std.specs.Prelude.{◌≡◌};
-    ghost use Rattle.mon_deck.specs.Faults.{fault_of_input};
+    ghost use Rattle.mon_deck.specs.declared.fault.RunError.TheVariants.{Memory};
 
-    ghost from_gives = { λ error fault. fault ≡ fault_of_input error };
+    ghost from_gives = { λ _ fault. fault ≡ Memory };
 
-    fn from(error: InputError) -> RunError {
-        match error {
-            InputError::Fault => RunError::ReadFault,
-            InputError::Memory => RunError::Memory,
-        }
+    fn from(_: AllocError) -> RunError {
+        RunError::Memory
     }
 }
 
-impl From<OutputError> for RunError {
+impl From<Failed> for RunError {
     ghost use Rattle.std.specs.Prelude.{◌≡◌};
-    ghost use Rattle.mon_deck.specs.Faults.{fault_of_output};
+    ghost use Rattle.mon_deck.specs.declared.fault.RunError.TheVariants.{WriteFault};
 
-    ghost from_gives = { λ error fault. fault ≡ fault_of_output error };
+    ghost from_gives = { λ _ fault. fault ≡ WriteFault };
 
-    fn from(error: OutputError) -> RunError {
-        match error {
-            OutputError::Fault => RunError::WriteFault,
-            OutputError::Memory => RunError::Memory,
-        }
+    fn from(_: Failed) -> RunError {
+        RunError::WriteFault
     }
 }

@@ -1,5 +1,53 @@
-use Rattle.mon_deck.proofs.Holding.{output_of_read}
+use Rattle.std.proofs.Common.{rules, sym, ap, ◌≡◌, ◌∙◌, Ok, Err, List, ℕ, Result, Option, IfSome, IfOk, OnOk, false}
+use Rattle.mon_device.specs.Devices.{holding}
+use Rattle.mon_deck.specs.declared.fault.RunError.{RunError}
+use Rattle.mon_deck.specs.declared.options.Counts.{Counts}
+use Rattle.mon_cards.specs.Decks.{Stopped, Refused}
+use Rattle.mon_deck.specs.Feeds.{IsReadBack}
+use Rattle.mon_deck.specs.Printouts.{output_of}
+use Rattle.mon_deck.specs.Runs.{ending_of, catalogue_after, counts_of, ReadsBack}
+use Rattle.mon_deck.proofs.Telling.{refused_so}
+use Rattle.mon_deck.proofs.Running.{run_good, run_bad, met_bad, on_good, if_some, IsGood}
 use Rattle.mon_deck.proofs.run.run_deck.Goals as goal
 
-pub returns-in-Refused-clause-refused_output : goal.returns-in-Refused-clause-refused_output
-returns-in-Refused-clause-refused_output g c line code same = output_of_read _ _ _ _ _ c.in_ok-deck.ensures.deck c.in_ok-put_answer.ensures.written
+pub returns-in-Ok-clause-stopped : goal.returns-in-Ok-clause-stopped
+returns-in-Ok-clause-stopped g c =
+    let r = c.in-Ok.ensures.runs in
+    let held = g.W.DeckWriter.written c.args.writer.now in
+    let now = g.W.DeckWriter.written c.finish.new.writer in
+    let told = g.R.DeckReader.remaining c.args.reader.now in
+    on_good told (IsGood c.args.options.check held now) (λ bytes. ending_of bytes ≡ Stopped) c.finish.result (λ counts bytes (good : IsGood c.args.options.check held now counts bytes). good.stopped)
+    (run_good c.args.options.check told _ held _ now c.new-feed.result _ r.0 r.1 c.in-Ok.ensures.at_end c.new-feed.ensures.start (search rules) (search rules) c.finish.result c.finish.ensures.ended)
+
+pub returns-in-Ok-clause-output : goal.returns-in-Ok-clause-output
+returns-in-Ok-clause-output g c =
+    let r = c.in-Ok.ensures.runs in
+    let held = g.W.DeckWriter.written c.args.writer.now in
+    let now = g.W.DeckWriter.written c.finish.new.writer in
+    let told = g.R.DeckReader.remaining c.args.reader.now in
+    on_good told (IsGood c.args.options.check held now) (λ bytes. now ≡ holding held (output_of c.args.options.check bytes)) c.finish.result (λ counts bytes (good : IsGood c.args.options.check held now counts bytes). good.output)
+    (run_good c.args.options.check told _ held _ now c.new-feed.result _ r.0 r.1 c.in-Ok.ensures.at_end c.new-feed.ensures.start (search rules) (search rules) c.finish.result c.finish.ensures.ended)
+
+pub returns-in-Ok-clause-refused : goal.returns-in-Ok-clause-refused
+returns-in-Ok-clause-refused g c = λ n code same.
+    let r = c.in-Ok.ensures.runs in
+    if_some _ _ _ (λ bytes (x : (ending_of bytes ≡ Refused n code) × (g.W.DeckWriter.written c.finish.new.writer ≡ holding (g.W.DeckWriter.written c.args.writer.now) (output_of c.args.options.check bytes))). x.0)
+    (run_bad c.args.options.check (g.R.DeckReader.remaining c.args.reader.now) _ (g.W.DeckWriter.written c.args.writer.now) _ (g.W.DeckWriter.written c.finish.new.writer) c.new-feed.result _ r.0 r.1 c.in-Ok.ensures.at_end c.new-feed.ensures.start n code (c.finish.ensures.refused n code same))
+
+pub returns-in-Ok-clause-refused_output : goal.returns-in-Ok-clause-refused_output
+returns-in-Ok-clause-refused_output g c = λ n code same.
+    let r = c.in-Ok.ensures.runs in
+    if_some _ _ _ (λ bytes (x : (ending_of bytes ≡ Refused n code) × (g.W.DeckWriter.written c.finish.new.writer ≡ holding (g.W.DeckWriter.written c.args.writer.now) (output_of c.args.options.check bytes))). x.1)
+    (run_bad c.args.options.check (g.R.DeckReader.remaining c.args.reader.now) _ (g.W.DeckWriter.written c.args.writer.now) _ (g.W.DeckWriter.written c.finish.new.writer) c.new-feed.result _ r.0 r.1 c.in-Ok.ensures.at_end c.new-feed.ensures.start n code (c.finish.ensures.refused n code same))
+
+pub returns-in-Err-clause-refused : goal.returns-in-Err-clause-refused
+returns-in-Err-clause-refused g c = λ n code same.
+    if_some _ _ _ (λ bytes (x : (ending_of bytes ≡ Refused n code) × (g.W.DeckWriter.written c.feed_all.new.writer ≡ holding (g.W.DeckWriter.written c.args.writer.now) (output_of c.args.options.check bytes))). x.0)
+    (met_bad c.args.options.check (g.R.DeckReader.remaining c.args.reader.now) (g.W.DeckWriter.written c.args.writer.now) (g.W.DeckWriter.written c.feed_all.new.writer) c.new-feed.result c.new-feed.ensures.start n code
+    (c.feed_all.ensures.refused n code (c.in-Err.is ∙ refused_so c.in-Err.error n code same)))
+
+pub returns-in-Err-clause-refused_output : goal.returns-in-Err-clause-refused_output
+returns-in-Err-clause-refused_output g c = λ n code same.
+    if_some _ _ _ (λ bytes (x : (ending_of bytes ≡ Refused n code) × (g.W.DeckWriter.written c.feed_all.new.writer ≡ holding (g.W.DeckWriter.written c.args.writer.now) (output_of c.args.options.check bytes))). x.1)
+    (met_bad c.args.options.check (g.R.DeckReader.remaining c.args.reader.now) (g.W.DeckWriter.written c.args.writer.now) (g.W.DeckWriter.written c.feed_all.new.writer) c.new-feed.result c.new-feed.ensures.start n code
+    (c.feed_all.ensures.refused n code (c.in-Err.is ∙ refused_so c.in-Err.error n code same)))

@@ -1,0 +1,2 @@
+pub mod AccountWords
+pub mod CatalogueLines

@@ -1,0 +1,23 @@
+-- A deck as it is understood (own): its account table, its data sets, its commands in order, and how it ends.
+use Rattle.std.specs.Prelude.{ℕ, List}
+use Rattle.mon_access.specs.declared.account.Account.{Account}
+use Rattle.mon_catalogue.specs.Sets.{Sets}
+use Rattle.mon_monitor.specs.declared.command.Command.{Command}
+use Rattle.mon_cards.specs.declared.code.Code.{Code}
+
+pub data Ending : Type 0 where
+  -- by its `$STOP`
+  Stopped : Ending
+  -- refused at this line, counted from 1
+  Refused : ℕ → Code → Ending
+
+-- what a stream says, up to its `$STOP` or up to the line at which the deck is refused
+pub record Cards : Type 0 where
+  pub commands : List Command
+  pub ending : Ending
+
+-- the stream's cards are served over the accounts and data sets that come before it
+pub record Deck : Type 0 where
+  pub accounts : List Account
+  pub catalogue : Sets
+  pub cards : Cards

@@ -1,0 +1,14 @@
+//! A deck's syntax: bytes are cut into lines, lines belong to sections, and each is refused or adds to the deck.
+#![tactic(auto)]
+
+pub mod card;
+pub mod code;
+pub mod list;
+pub mod reading;
+pub mod request;
+mod words;
+
+pub use code::Code;
+pub use list::OpenList;
+pub use reading::{finish_catalogue, opens_accounts, put_account_line, put_catalogue_line};
+pub use request::{Request, ends_list, read_request};

@@ -1,0 +1,148 @@
+-- A run, read by read.
+use Rattle.std.proofs.Common.{◌≡◌, ℕ, ◌+◌, ◌<◌, ◌≤◌, Bool, true, false, List, [], ◌∷◌, ◌++◌, length, Option, Some, None, IfSome, IfOk, OnOk, Result, Ok, Err, refl, sym, ap, ◌∙◌, subst, arith, append_assoc, append-nil, length-append, if◌then◌else◌}
+use Rattle.std.specs.Str.Lines.{lines}
+use Rattle.mon_catalogue.specs.Sets.{Sets}
+use Rattle.mon_device.specs.Devices.{holding, Gives, IsAtEnd}
+use Rattle.mon_device.proofs.Holding.{holding-nothing}
+use Rattle.mon_cards.specs.declared.code.Code.{Code}
+use Rattle.mon_deck.specs.declared.feed.DeckFeed.{DeckFeed}
+use Rattle.mon_deck.specs.declared.fault.RunError.{RunError}
+use Rattle.mon_deck.specs.declared.options.Counts.{Counts}
+use Rattle.mon_cards.specs.Decks.{Deck, Ending, Stopped, Refused}
+use Rattle.mon_cards.specs.Sections.{deck_of}
+use Rattle.mon_deck.specs.Printouts.{output_of, answer_to, sets_after}
+use Rattle.mon_deck.specs.Runs.{ending_of, catalogue_after, counts_of, ReadsBack}
+use Rattle.mon_deck.specs.Feeds.{outcome_of, refused_at, IsReadBack, concluded, sets_left, Conclusion, Good, Bad}
+use Rattle.mon_deck.specs.Told.{outcome_from}
+use Rattle.mon_deck.specs.inner.Writing.{Held, holds, Runs}
+
+gives_nothing : (told : Option (List ℕ)) → Gives told [] told
+gives_nothing None = tt
+gives_nothing (Some all) = refl
+
+gives_more : (told left after : Option (List ℕ)) (given piece : List ℕ) → Gives told given left → Gives left piece after → Gives told (given ++ piece) after
+gives_more None left after given piece a b = tt
+gives_more (Some all) None after given piece a b = absurd a
+gives_more (Some all) (Some left) None given piece a b = absurd b
+gives_more (Some all) (Some left) (Some after) given piece a b = a ∙ ap (λ v. given ++ v) b ∙ sym (append_assoc given piece after)
+
+pub begins : (told held : Option (List ℕ)) (f : DeckFeed) → Runs told told held held f f []
+begins told held f = record { gives = gives_nothing told; served = λ bytes. refl }
+
+module _ (told left held now : Option (List ℕ)) (start f : DeckFeed) (given : List ℕ) (runs : Runs told left held now start f given) where
+  pub goes_on : (piece : List ℕ) (after now' : Option (List ℕ)) (f' : DeckFeed) → Gives left piece after
+      → ((bytes : List ℕ) → holds now' (outcome_from f' bytes) ≡ holds now (outcome_from f (piece ++ bytes)))
+      → Runs told after held now' start f' (given ++ piece)
+  goes_on piece after now' f' gives step = record {
+    gives = gives_more told left after given piece runs.gives gives;
+    served = λ bytes. step bytes ∙ runs.served (piece ++ bytes) ∙ ap (λ v. holds held (outcome_from start v)) (sym (append_assoc given piece bytes));
+  }
+
+  -- the reader is at its end
+  pub whole : IsAtEnd left → (o : Held) → o ≡ holds now (outcome_from f []) → IfSome told (λ bytes. o ≡ holds held (outcome_from start bytes))
+  whole end o is = by told left runs.gives end
+    where
+      by : (t l : Option (List ℕ)) → Gives t given l → IsAtEnd l → IfSome t (λ bytes. o ≡ holds held (outcome_from start bytes))
+      by None l g e = tt
+      by (Some all) None g e = absurd g
+      by (Some all) (Some rest) g e = is ∙ runs.served [] ∙ ap (λ v. holds held (outcome_from start v)) (ap (λ v. given ++ v) (sym e) ∙ sym g)
+
+  -- the deck is refused in the middle, whatever follows
+  pub midway : (piece : List ℕ) (after : Option (List ℕ)) → Gives left piece after → (o : Held) → ((bytes : List ℕ) → o ≡ holds now (outcome_from f (piece ++ bytes)))
+      → IfSome told (λ bytes. o ≡ holds held (outcome_from start bytes))
+  midway piece after gives o is = by told left after runs.gives gives
+    where
+      by : (t l a : Option (List ℕ)) → Gives t given l → Gives l piece a → IfSome t (λ bytes. o ≡ holds held (outcome_from start bytes))
+      by None l a g h = tt
+      by (Some all) None a g h = absurd g
+      by (Some all) (Some rest) None g h = absurd h
+      by (Some all) (Some rest) (Some more) g h =
+          is more ∙ runs.served (piece ++ more) ∙ ap (λ v. holds held (outcome_from start v)) (ap (λ v. given ++ v) (sym h) ∙ sym g)
+
+-- how a deck came out
+abbrev count_of : Conclusion → ℕ
+count_of (Good count sets) = count
+count_of (Bad n code) = n
+
+abbrev sets_in : Conclusion → Sets
+sets_in (Good count sets) = sets
+sets_in (Bad n code) = []
+
+abbrev ending_in : Conclusion → Ending
+ending_in (Good count sets) = Stopped
+ending_in (Bad n code) = Refused n code
+
+same_ending : (ending : Ending) (count : ℕ) (sets : Sets) → ending_in (concluded count sets ending) ≡ ending
+same_ending Stopped count sets = refl
+same_ending (Refused n code) count sets = refl
+
+pub record IsGood (check : Bool) (held now : Option (List ℕ)) (counts : Counts) (bytes : List ℕ) : Type 0 where
+  pub stopped : ending_of bytes ≡ Stopped
+  pub output : now ≡ holding held (output_of check bytes)
+  pub counts_are : counts ≡ counts_of bytes
+  pub reads_back : check ≡ false → ReadsBack (catalogue_after bytes)
+
+module _ (check : Bool) (held now : Option (List ℕ)) (bytes : List ℕ) where
+  abbrev deck : Deck
+  deck = deck_of (lines bytes)
+
+  ended_so : (c : Conclusion) → c ≡ concluded (length deck.cards.commands) (sets_left check deck) deck.cards.ending → ending_in c ≡ deck.cards.ending
+  ended_so c e = ap ending_in e ∙ same_ending deck.cards.ending (length deck.cards.commands) (sets_left check deck)
+
+  written_so : (c : Conclusion) → ◌≡◌ {A = Held} (record { bytes = holding now []; conclusion = c }) (holds held (outcome_of check deck)) → now ≡ holding held (output_of check bytes)
+  written_so c e = sym (holding-nothing now) ∙ ap (λ (h : Held). h.bytes) e
+
+  good : (counts : Counts) (sets : Sets) → ◌≡◌ {A = Held} (record { bytes = holding now []; conclusion = Good counts.commands sets }) (holds held (outcome_of check deck))
+      → counts.jobs ≡ 0 → (check ≡ false → ReadsBack sets) → IsGood check held now counts bytes
+  good counts sets e none back =
+      let c = ap (λ (h : Held). h.conclusion) e in
+      let stopped : Stopped ≡ deck.cards.ending = ended_so _ c in
+      let same : Good counts.commands sets ≡ Good (length deck.cards.commands) (sets_left check deck) = c ∙ ap (λ (en : Ending). concluded (length deck.cards.commands) (sets_left check deck) en) (sym stopped) in
+      record {
+        stopped = sym stopped;
+        output = written_so _ e;
+        counts_are = ap (λ j. record { jobs = j; commands = counts.commands }) none ∙ ap (λ k. record { jobs = 0; commands = k }) (ap count_of same);
+        reads_back = λ no. subst ReadsBack (ap sets_in same ∙ ap (λ b. if b then deck.catalogue else sets_after deck) no) (back no);
+      }
+
+  pub bad : (n : ℕ) (code : Code) → ◌≡◌ {A = Held} (record { bytes = holding now []; conclusion = Bad n code }) (holds held (outcome_of check deck))
+      → (ending_of bytes ≡ Refused n code) × (now ≡ holding held (output_of check bytes))
+  bad n code e = (sym (ended_so _ (ap (λ (h : Held). h.conclusion) e)), written_so _ e)
+
+pub if_some : (told : Option (List ℕ)) (P Q : List ℕ → Type 0) → ((bytes : List ℕ) → P bytes → Q bytes) → IfSome told P → IfSome told Q
+if_some None P Q f p = tt
+if_some (Some bytes) P Q f p = f bytes p
+
+pub all_good : (check : Bool) (told held now : Option (List ℕ)) (counts : Counts) (sets : Sets)
+    → IfSome told (λ bytes. ◌≡◌ {A = Held} (record { bytes = holding now []; conclusion = Good counts.commands sets }) (holds held (outcome_of check (deck_of (lines bytes)))))
+    → counts.jobs ≡ 0 → (check ≡ false → ReadsBack sets) → IfSome told (IsGood check held now counts)
+all_good check None held now counts sets e none back = tt
+all_good check (Some bytes) held now counts sets e none back = good check held now bytes counts sets e none back
+
+-- a run to the reader's end
+module _ (check : Bool) (told left held now now' : Option (List ℕ)) (start f : DeckFeed) (given : List ℕ) (runs : Runs told left held now start f given) (end : IsAtEnd left)
+    (begin : (bytes : List ℕ) → outcome_from start bytes ≡ outcome_of check (deck_of (lines bytes))) where
+  from_start : (o : Held) → o ≡ holds now (outcome_from f []) → IfSome told (λ bytes. o ≡ holds held (outcome_of check (deck_of (lines bytes))))
+  from_start o is = if_some told _ _ (λ bytes e. e ∙ ap (holds held) (begin bytes)) (whole told left held now start f given runs end o is)
+
+  pub run_good : IsReadBack f.options.check f.state → f.options.check ≡ check → (result : Result Counts RunError)
+      → IfOk result (λ counts. (sets : Sets) × (holds now' (record { written = []; conclusion = Good counts.commands sets }) ≡ holds now (outcome_from f []))
+      × (IsReadBack f.options.check f.state → f.options.check ≡ false → ReadsBack sets) × (counts.jobs ≡ 0))
+      → IfOk result (λ counts. IfSome told (IsGood check held now' counts))
+  run_good back same (Err error) ended = tt
+  run_good back same (Ok counts) ended = all_good check told held now' counts ended.0 (from_start _ ended.1) ended.3 (λ no. ended.2 back (same ∙ no))
+
+  pub run_bad : (n : ℕ) (code : Code) → holds now' (refused_at n code) ≡ holds now (outcome_from f [])
+      → IfSome told (λ bytes. (ending_of bytes ≡ Refused n code) × (now' ≡ holding held (output_of check bytes)))
+  run_bad n code e = if_some told _ _ (λ bytes. bad check held now' bytes n code) (from_start _ e)
+
+pub met_bad : (check : Bool) (told held now' : Option (List ℕ)) (start : DeckFeed) → ((bytes : List ℕ) → outcome_from start bytes ≡ outcome_of check (deck_of (lines bytes)))
+    → (n : ℕ) (code : Code) → IfSome told (λ bytes. holds now' (refused_at n code) ≡ holds held (outcome_from start bytes))
+    → IfSome told (λ bytes. (ending_of bytes ≡ Refused n code) × (now' ≡ holding held (output_of check bytes)))
+met_bad check told held now' start begin n code e =
+    if_some told _ _ (λ bytes x. bad check held now' bytes n code (x ∙ ap (holds held) (begin bytes))) e
+
+pub on_good : (told : Option (List ℕ)) (P : Counts → List ℕ → Type 0) (Q : List ℕ → Type 0) (result : Result Counts RunError) → ((counts : Counts) (bytes : List ℕ) → P counts bytes → Q bytes)
+    → IfOk result (λ counts. IfSome told (P counts)) → OnOk result (IfSome told Q)
+on_good told P Q (Ok counts) f p = if_some told (P counts) Q (f counts) p
+on_good told P Q (Err error) f p = tt

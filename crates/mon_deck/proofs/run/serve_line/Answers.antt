@@ -1,0 +1,24 @@
+use Rattle.std.proofs.Common.{◌≡◌, sym, ap, subst, ◌∙◌, ◌++◌, ◌+◌, drop, List, ℕ, Result, IfErr, Some, None}
+use Rattle.std.specs.Str.Lines.{lines}
+use Rattle.mon_device.specs.Devices.{holding}
+use Rattle.mon_deck.specs.declared.fault.RunError.{RunError}
+use Rattle.mon_deck.specs.declared.stage.State.{State}
+use Rattle.mon_deck.specs.Feeds.{behind, outcome, stopped_by}
+use Rattle.mon_deck.specs.inner.Writing.{holds}
+use Rattle.mon_deck.proofs.Telling.{refused_so}
+use Rattle.mon_deck.proofs.Holdings.{kept_told, refused_holds}
+use Rattle.mon_deck.proofs.run.serve_line.Goals as goal
+
+pub returns-in-Ok-flush_large-clause-served : goal.returns-in-Ok-flush_large-clause-served
+returns-in-Ok-flush_large-clause-served g c = λ bytes.
+    kept_told (g.W.DeckWriter.written c.args.writer.now) (g.W.DeckWriter.written c.flush_large.new.writer) c.feed_line.new.out.items c.flush_large.new.out.items c.in-Ok-flush_large.ensures.put c.feed_line.new.self (drop c.in-Ok.used c.args.piece.now ++ bytes)
+    ∙ ap (holds (g.W.DeckWriter.written c.args.writer.now)) (c.in-Ok.ensures.told bytes)
+
+pub returns-in-Ok-write_all-clause-refused : goal.returns-in-Ok-write_all-clause-refused
+returns-in-Ok-write_all-clause-refused g c = λ n code same bytes.
+    let after = c.feed_line.new.self in
+    let so : ◌≡◌ {A = Result ℕ RunError} c.feed_line.result _ = c.in-Err.is ∙ refused_so c.in-Err.error n code same in
+    let failed = subst (λ (e : Result ℕ RunError). IfErr e (λ error. after.state ≡ stopped_by error)) so c.feed_line.ensures.failed in
+    refused_holds (g.W.DeckWriter.written c.args.writer.now) (g.W.DeckWriter.written c.write_all.new.writer) c.feed_line.new.out.items after.commands n code _
+    (c.in-Ok-write_all.ensures.all ∙ ap (λ (items : List ℕ). holding (g.W.DeckWriter.written c.args.writer.now) items) c.deref.ensures.value)
+    (sym (ap (λ (s : State). behind c.feed_line.new.out.items after.commands (outcome after.options.check s (after.lines_taken + 1) (lines (after.line ++ bytes)))) failed) ∙ c.feed_line.ensures.refused n code so bytes)
