@@ -204,9 +204,11 @@ right_decider NamedUser account owner group entries request valid applies refuse
     by true e = (inl (applies, holders.0 e), some_lacks _ entries request (IsOf Mask) (has_tag-Decides Mask) (masked_by entries valid named) (second_fails _ _ e refused))
     by false e = (
       applies,
-      (first_lacks (is_for_user account) entries request (IsForUser account) (is_for_user-Decides account) user e,
-      none_before (is_for_user account) entries request (IsForUser account) (is_for_user-Decides account),
-      refuted _ holders e),
+      (
+        first_lacks (is_for_user account) entries request (IsForUser account) (is_for_user-Decides account) user e,
+        none_before (is_for_user account) entries request (IsForUser account) (is_for_user-Decides account),
+        refuted _ holders e,
+      ),
     )
 right_decider InGroup account owner group entries request valid applies refused = by (some_holds (is_for_group account group) entries request) refl
   where
@@ -230,9 +232,11 @@ right_decider InGroup account owner group entries request valid applies refused 
         (inr (applies, holders.0 e), some_lacks _ entries request (IsOf Mask) (has_tag-Decides Mask) m.0 m.1)
     by false e = (
       applies,
-      (first_lacks (is_for_group account group) entries request (IsForGroup account group) (is_for_group-Decides account group) member e,
-      none_before (is_for_group account group) entries request (IsForGroup account group) (is_for_group-Decides account group),
-      refuted _ holders e),
+      (
+        first_lacks (is_for_group account group) entries request (IsForGroup account group) (is_for_group-Decides account group) member e,
+        none_before (is_for_group account group) entries request (IsForGroup account group) (is_for_group-Decides account group),
+        refuted _ holders e,
+      ),
     )
 right_decider Others account owner group entries request valid applies refused =
     (applies, some_lacks _ entries request (IsOf Other) (has_tag-Decides Other) (any_from_one _ entries valid.other) refused)
@@ -300,10 +304,10 @@ module _ (account : Account) (owner group : List ℕ) (entries : List Entry) (re
 pub deciders_lack : DecidersLackThePart
 unfolding decision
 deciders_lack = λ account owner group entries request named valid refused. (
-      (λ denied.
+  (λ denied.
       let case = case_of account owner group entries in
       let (refused, is) = denied_is _ _ _ denied in
       subst (λ (d : Decider). IsRightDecider d account owner group entries request) is
       (right_decider case account owner group entries request valid (case_applies account owner group entries) refused)),
-      (λ right. right_is_named account owner group entries request named right refused),
-    )
+  (λ right. right_is_named account owner group entries request named right refused),
+)

@@ -84,9 +84,12 @@ module _ (check : Bool) (out : List ℕ) (count : ℕ) (stage : Stage) (n m : �
       → IfOk result (λ counts. (sets : Sets) × (behind out count (outcome_of check (deck_from stage n (last_lines last))) ≡ record { written = out'; conclusion = Good counts.commands sets })
       × (check ≡ false → ReadsBack sets) × (counts.jobs ≡ 0))
   last_good back (Err error) ended = tt
-  last_good back (Ok counts) ended =
-      (ended.0, at_last _ (ended.1 check) ∙ behind_good out' count' ended.0 ∙ ap (λ k. record { written = out'; conclusion = Good k ended.0 }) (sym ended.3),
-      λ no. ended.2 check back no, ended.4)
+  last_good back (Ok counts) ended = (
+    ended.0,
+    at_last _ (ended.1 check) ∙ behind_good out' count' ended.0 ∙ ap (λ k. record { written = out'; conclusion = Good k ended.0 }) (sym ended.3),
+    λ no. ended.2 check back no,
+    ended.4,
+  )
 
   pub last_bad : (k : ℕ) (code : Code) → ((check : Bool) → outcome check after m [] ≡ refused_at k code)
       → behind out count (outcome_of check (deck_from stage n (last_lines last))) ≡ record { written = out'; conclusion = Bad k code }

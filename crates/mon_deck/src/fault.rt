@@ -18,4 +18,3 @@ pub enum RunError {
     #[error("out of memory")]
     Memory,
 }
-

@@ -95,7 +95,12 @@ impl DeckFeed {
     /// # Errors
     ///
     /// As `feed`.
-    pub(crate) fn feed_line(&mut self, alloc: Global, piece: &[u8], out: &mut Vec<u8>) -> Result<usize, RunError>
+    pub(crate) fn feed_line(
+        &mut self,
+        alloc: Global,
+        piece: &[u8],
+        out: &mut Vec<u8>,
+    ) -> Result<usize, RunError>
         requires full { 0 < length piece.now }
         requires few { self.old.fed + length piece.now < 2 ^ 63 }
         ensures used { IfOk result (λ used. (0 < used) × (used ≤ length piece.now) × (self.new.fed ≡ self.old.fed + used)) }
@@ -228,10 +233,7 @@ fn end(
     ensures own { IfErr result IsOwn }
 {
     if last.is_empty() {
-        return Err(RunError::DeckRefused(
-            lines_taken + 1,
-            Code::Truncated,
-        ));
+        return Err(RunError::DeckRefused(lines_taken + 1, Code::Truncated));
     }
     let mut commands = commands;
     match after_stage(
@@ -323,9 +325,7 @@ fn after_stage(
 {
     match stage {
         Stage::Opening => Ok(State::Reading(after_opening(alloc, text)?)),
-        Stage::Accounts(accounts) => {
-            Ok(State::Reading(after_account(alloc, accounts, text)?))
-        }
+        Stage::Accounts(accounts) => { Ok(State::Reading(after_account(alloc, accounts, text)?)) }
         Stage::Catalogue(accounts, loading) => {
             Ok(State::Reading(after_catalogue(alloc, slots, accounts, loading, text)?))
         }

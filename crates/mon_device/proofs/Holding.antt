@@ -14,10 +14,11 @@ holding-nothing (Some held) = ap Some (append-nil held)
 -- some more bytes were taken
 pub taken_more : (held before after : Option (List ℕ)) (bytes left piece rest : List ℕ) → HasTaken held before bytes left → left ≡ piece ++ rest → after ≡ holding before piece
     → HasTaken held after bytes rest
-taken_more held before after bytes left piece rest so_far are more =
-    (so_far.0 ++ piece,
-    more ∙ ap (λ h. holding h piece) so_far.1 ∙ holding-append held so_far.0 piece,
-    so_far.2 ∙ ap (λ l. so_far.0 ++ l) are ∙ sym (append_assoc so_far.0 piece rest))
+taken_more held before after bytes left piece rest so_far are more = (
+  so_far.0 ++ piece,
+  more ∙ ap (λ h. holding h piece) so_far.1 ∙ holding-append held so_far.0 piece,
+  so_far.2 ∙ ap (λ l. so_far.0 ++ l) are ∙ sym (append_assoc so_far.0 piece rest),
+)
 
 -- a piece was written, and what is left after it would make all that is to be written
 pub one_write : (held before after : Option (List ℕ)) (bytes left : List ℕ) (count : ℕ) → HasTaken held before bytes left → holding before left ≡ holding held bytes → after ≡ holding before (take count left)

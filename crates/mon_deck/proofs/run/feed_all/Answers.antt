@@ -16,9 +16,11 @@ loop-read-preserved g c =
     record {
       buffer = search rules;
       empty = search rules;
-      runs = (so_far.0 ++ take c.in-Ok.count c.read.new.buffer,
-          goes_on _ _ _ _ _ _ _ so_far.1 (take c.in-Ok.count c.read.new.buffer) _ _ _ c.in-Ok.ensures.given
-          (λ bytes. c.in-Ok-serve.ensures.served bytes ∙ ap (λ (b : List ℕ). holds (g.W.DeckWriter.written c.loop-read.writer) (outcome_from c.loop-read.feed (take c.in-Ok.count b ++ bytes))) same));
+      runs = (
+        so_far.0 ++ take c.in-Ok.count c.read.new.buffer,
+        goes_on _ _ _ _ _ _ _ so_far.1 (take c.in-Ok.count c.read.new.buffer) _ _ _ c.in-Ok.ensures.given
+            (λ bytes. c.in-Ok-serve.ensures.served bytes ∙ ap (λ (b : List ℕ). holds (g.W.DeckWriter.written c.loop-read.writer) (outcome_from c.loop-read.feed (take c.in-Ok.count b ++ bytes))) same),
+      );
       counted = search rules;
       few = omega (arith, c.loop-read.invariant.few, c.in-Ok-serve.ensures.fed, length-take c.in-Ok.count c.deref.result.now, within);
       reads_back = search rules;
