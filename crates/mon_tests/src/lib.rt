@@ -10,4 +10,8 @@ mod catalogue;
 #[cfg(test)]
 mod device;
 #[cfg(test)]
+mod guard;
+#[cfg(test)]
+mod monitor;
+#[cfg(test)]
 mod text;
