@@ -3,7 +3,7 @@
 use crate::answer::{put_program, put_statements_of, put_verdict};
 use crate::difference::first_difference;
 use anyhow::{Context, Result};
-use mon_text::{Line, Stop, read_line};
+use mon_text::{Line, LineError, Stop, read_line};
 use sno_syntax::{Program, SyntaxError, parse, statements};
 use std::alloc::{AllocError, Global};
 use std::fs;
@@ -88,9 +88,17 @@ fn read_card(alloc: Global, card: &str) -> Result<Result<Program, Stop<SyntaxErr
 }
 
 fn put_card(alloc: Global, card: &str, lines: &mut Vec<Line>) -> Result<()> {
-    let line = read_line(alloc, card.as_bytes(), CARD_LIMIT)?;
+    let line = line_of(alloc, card)??;
     lines.push(line).map_err(AllocError::from)?;
     Ok(())
+}
+
+fn line_of(alloc: Global, card: &str) -> Result<Result<Line, LineError>, AllocError> {
+    match read_line(alloc, card.as_bytes(), CARD_LIMIT) {
+        Ok(line) => Ok(Ok(line)),
+        Err(Stop::Refused(error)) => Ok(Err(error)),
+        Err(Stop::Memory) => Err(AllocError),
+    }
 }
 
 fn program_of(alloc: Global, lines: &[Line]) -> Result<Program, Stop<SyntaxError>> {

@@ -1,5 +1,5 @@
 -- What is shown of a program that is read or refused (own).
-use Rattle.std.specs.Prelude.{ℕ, ◌+◌, ◌==◌, List, [], ◌∷◌, ◌++◌, codes, decimal, Option, Some, None, Result, Ok, Err, if◌then◌else◌}
+use Rattle.std.specs.Prelude.{ℕ, ◌+◌, ◌==◌, List, [], ◌∷◌, ◌++◌, codes, decimal, slice_get, Option, Some, None, Result, Ok, Err, if◌then◌else◌}
 use Rattle.mon_text.specs.declared.stop.Stop.{Stop}
 use Rattle.mon_text.specs.declared.stop.Stop.TheVariants.{Refused, Memory}
 use Rattle.sno_cards.specs.declared.refusal.SyntaxError.{SyntaxError}
@@ -22,23 +22,25 @@ abbrev pub start_text : Start → List ℕ
 start_text (start.Statement index) = codes "start " ++ decimal index ++ codes "\n"
 start_text start.End = codes "start END\n"
 
--- the label of the statement at an index, where the first of these is its
-abbrev pub own_label : LabelList → ℕ → Option (List ℕ)
-own_label [] index = None
-own_label (l ∷ labels) index = if l.1 == index then Some l.0 else None
+-- the label of the statement at an index, where the next of the labels is its
+abbrev pub own_label : Option (List ℕ × ℕ) → ℕ → Option (List ℕ)
+own_label None index = None
+own_label (Some next) index = if next.1 == index then Some next.0 else None
 
--- the labels of the statements behind it
-abbrev pub labels_behind : LabelList → ℕ → LabelList
-labels_behind [] index = []
-labels_behind (l ∷ labels) index = if l.1 == index then labels else l ∷ labels
+-- how many labels are behind that statement then
+abbrev pub passed : ℕ → Option (List ℕ × ℕ) → ℕ → ℕ
+passed count None index = count
+passed count (Some next) index = if next.1 == index then count + 1 else count
 
-abbrev pub statements_from : LabelList → ℕ → List Statement → List ℕ
-statements_from labels index [] = []
-statements_from labels index (s ∷ ss) =
-    statement_text (own_label labels index) (statement_of s) ++ codes "\n" ++ statements_from (labels_behind labels index) (index + 1) ss
+-- the statements from an index on, so many labels being behind
+abbrev pub statements_from : LabelList → ℕ → ℕ → List Statement → List ℕ
+statements_from labels count index [] = []
+statements_from labels count index (s ∷ ss) =
+    statement_text (own_label (slice_get labels count) index) (statement_of s) ++ codes "\n"
+    ++ statements_from labels (passed count (slice_get labels count) index) (index + 1) ss
 
 abbrev pub statements_text : Program → List ℕ
-statements_text p = statements_from p.labels 0 p.statements.items
+statements_text p = statements_from p.labels 0 0 p.statements.items
 
 abbrev pub program_text : Program → List ℕ
 program_text p = statements_text p ++ start_text p.start

@@ -2,7 +2,7 @@
 use Rattle.std.specs.Prelude.{ℕ, List, ◌++◌, codes, Option, Some, None}
 use Rattle.sno_expression.specs.declared.tree.UnaryOperator.TheVariants.{Indirect}
 use Rattle.sno_expression.specs.Expressions.{Expression, Unary}
-use Rattle.sno_statement.specs.Statements.{Target, To, Computed, Goto, NoGoto, Always, OnSuccess, OnFailure, OnBoth, Object, NoObject, NullObject, Gives, Body, NoBody, Does, Statement, Says}
+use Rattle.sno_statement.specs.Statements.{Target, To, Computed, Goto, NoGoto, Always, OnSuccess, OnFailure, OnBoth, Object, NoObject, NullObject, ValueObject, Body, NoBody, Does, Statement, Says}
 use Rattle.programs.specs.inner.Trees.{expression_text}
 
 abbrev pub label_text : Option (List ℕ) → List ℕ
@@ -28,7 +28,7 @@ pattern_text (Some pattern) = expression_text pattern
 abbrev pub object_text : Object → List ℕ
 object_text NoObject = codes "-"
 object_text NullObject = codes "(=)"
-object_text (Gives value) = codes "(= " ++ expression_text value ++ codes ")"
+object_text (ValueObject value) = codes "(= " ++ expression_text value ++ codes ")"
 
 abbrev pub body_text : Body → List ℕ
 body_text NoBody = codes "- - -"
