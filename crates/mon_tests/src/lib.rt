@@ -8,6 +8,8 @@ mod acl;
 #[cfg(test)]
 mod catalogue;
 #[cfg(test)]
+mod deck;
+#[cfg(test)]
 mod device;
 #[cfg(test)]
 mod guard;

@@ -1,0 +1,611 @@
+//! Whole runs over memory: worked decks in pieces, with each call that fails, cut anywhere; and decks that are refused.
+ghost use Rattle.std.specs.Prelude.{◌≡◌, false};
+
+use mon_deck::{
+    Code, Counts, MemReader, MemWriter, Options, RunError, exit_status, put_fault, run_deck,
+};
+use std::alloc::{AllocError, Global};
+use std::process::Abort;
+
+/// The worked deck: records with an empty one, a denial by `other::`, a missing data set.
+const DECK: &[u8] = b"$ACCOUNTS\n\
+    anna admin\n\
+    lisa staff\n\
+    hugo ops staff\n\
+    $CATALOGUE\n\
+    $SET PAYROLL anna admin 3\n\
+    user::rwx,user:lisa:rw-,group::r--,mask::r--,other::---\n\
+    ADA 100\n\
+    BOB 200\n\
+    \n\
+    $STREAM\n\
+    $LIST lisa PAYROLL\n\
+    $LIST hugo PAYROLL\n\
+    $LIST anna GONE\n\
+    $STOP\n";
+
+/// What the worked deck prints, worked by hand.
+const OUTPUT: &[u8] = b"LIST lisa PAYROLL\n\
+    \x20ADA 100\n\
+    \x20BOB 200\n\
+    \x20\n\
+    RECORDS 3\n\
+    LIST hugo PAYROLL\n\
+    DENIED BY other::\n\
+    LIST anna GONE\n\
+    DENIED NO DATA SET\n\
+    $CATALOGUE\n\
+    $SET PAYROLL anna admin 3\n\
+    user::rwx,user:lisa:rw-,group::r--,mask::r--,other::---\n\
+    ADA 100\n\
+    BOB 200\n\
+    \n";
+
+/// A deck with each command: a list in lines is stored and used, a set is made, and what is another's stays.
+const OWNERS_DECK: &[u8] = b"$ACCOUNTS\n\
+    anna admin\n\
+    lisa staff\n\
+    $CATALOGUE\n\
+    $SET PAY anna admin 1\n\
+    user::rwx,group::---,other::---\n\
+    ADA\n\
+    $STREAM\n\
+    $SETACL anna PAY\n\
+    # who may read\n\
+    user::rwx\n\
+    user:lisa:rw-\t#effective:r--\n\
+    group::---\n\
+    \n\
+    mask::r--\n\
+    other::---\n\
+    $ENDACL\n\
+    $LIST lisa PAY\n\
+    $SHOWACL anna PAY\n\
+    $CREATE lisa NOTE\n\
+    $CATALOG lisa\n\
+    $DELETE lisa PAY\n\
+    $SETACL lisa NOTE u::r, g::, o::\n\
+    $STOP\n";
+
+/// What it prints, worked by hand.
+const OWNERS_OUTPUT: &[u8] = b"SETACL anna PAY\n\
+    DONE\n\
+    LIST lisa PAY\n\
+    \x20ADA\n\
+    RECORDS 1\n\
+    SHOWACL anna PAY\n\
+    OWNER anna GROUP admin\n\
+    \x20user::rwx\n\
+    \x20user:lisa:rw-\t#effective:r--\n\
+    \x20group::---\n\
+    \x20mask::r--\n\
+    \x20other::---\n\
+    ENTRIES 5\n\
+    CREATE lisa NOTE\n\
+    DONE\n\
+    CATALOG lisa\n\
+    \x20NOTE lisa staff 0\n\
+    NAMES 1\n\
+    DELETE lisa PAY\n\
+    DENIED NOT OWNER\n\
+    SETACL lisa NOTE\n\
+    DONE\n\
+    $CATALOGUE\n\
+    $SET PAY anna admin 1\n\
+    user::rwx,user:lisa:rw-,group::---,mask::r--,other::---\n\
+    ADA\n\
+    $SET NOTE lisa staff 0\n\
+    user::r--,group::---,other::---\n";
+
+/// A deck, what it prints, and how many commands it has.
+struct Worked {
+    deck: &'static [u8],
+    output: &'static [u8],
+    commands: u64,
+}
+
+static WORKED: [Worked; 2] = [
+    Worked {
+        deck: DECK,
+        output: OUTPUT,
+        commands: 3,
+    },
+    Worked {
+        deck: OWNERS_DECK,
+        output: OWNERS_OUTPUT,
+        commands: 7,
+    },
+];
+
+/// Room for every output of these tests.
+const ROOM: usize = 1_000;
+
+// What a good run of a worked deck answers.
+fn is_done(outcome: &Result<Counts, RunError>, worked: &Worked) -> bool {
+    matches!(outcome, Ok(counts) if counts.jobs == 0 && counts.commands == worked.commands)
+        && exit_status(outcome) == 0
+}
+
+fn options(check: bool) -> Options {
+    Options {
+        check,
+        ..Options::new()
+    }
+}
+
+// Whether a run of a worked deck in pieces answers its output.
+fn is_answered_in_pieces(alloc: Global, worked: &Worked, read: usize, write: usize) -> bool {
+    let Ok(mut writer) = MemWriter::in_pieces(alloc, ROOM, write) else {
+        return false;
+    };
+    let mut reader = MemReader::in_pieces(worked.deck, read);
+    let outcome = run_deck(alloc, &mut reader, &mut writer, options(false));
+    is_done(&outcome, worked) && writer.as_bytes() == worked.output
+}
+
+fn is_only_checked(alloc: Global, worked: &Worked) -> bool {
+    let Ok(mut writer) = MemWriter::new(alloc, ROOM) else {
+        return false;
+    };
+    let mut reader = MemReader::new(worked.deck);
+    let outcome = run_deck(alloc, &mut reader, &mut writer, options(true));
+    is_done(&outcome, worked) && writer.as_bytes() == b"DECK OK\n".as_slice()
+}
+
+#[test]
+fn pieces_of_any_size_give_the_same_output(rt: HostRuntime) {
+    for worked in &WORKED {
+        for (read, write) in [(1, 1), (7, 3), (1, 1_000), (1_000, 1), (1_000, 1_000)] {
+            assert!(rt; is_answered_in_pieces(rt.alloc(), worked, read, write));
+        }
+        assert!(rt; is_only_checked(rt.alloc(), worked));
+    }
+}
+
+// Whether a run that failed so has written a beginning of the output, and nothing else.
+fn has_failed_cleanly(
+    outcome: &Result<Counts, RunError>,
+    fault: RunError,
+    worked: &Worked,
+    writer: &MemWriter,
+) -> bool {
+    matches!(outcome, Err(error) if *error == fault)
+        && exit_status(outcome) == 3
+        && worked.output.starts_with(writer.as_bytes())
+}
+
+// One read a byte, and this one fails.
+fn tells_a_failing_read(alloc: Global, worked: &Worked, call: usize) -> bool {
+    let Ok(mut writer) = MemWriter::new(alloc, ROOM) else {
+        return false;
+    };
+    let mut reader = MemReader::failing_at(worked.deck, 1, call as u64);
+    let outcome = run_deck(alloc, &mut reader, &mut writer, options(false));
+    has_failed_cleanly(&outcome, RunError::ReadFault, worked, &writer)
+}
+
+#[test]
+fn every_read_that_fails_is_told(rt: HostRuntime) {
+    for worked in &WORKED {
+        for call in 0..=worked.deck.len() {
+            assert!(rt; tells_a_failing_read(rt.alloc(), worked, call));
+        }
+    }
+}
+
+// Whether a run to this writer fails after so many bytes.
+fn fails_after(alloc: Global, worked: &Worked, mut writer: MemWriter, count: usize) -> bool
+    requires { writer.has_failed ≡ false }
+{
+    let mut reader = MemReader::new(worked.deck);
+    let outcome = run_deck(alloc, &mut reader, &mut writer, options(false));
+    has_failed_cleanly(&outcome, RunError::WriteFault, worked, &writer)
+        && writer.as_bytes().len() == count
+}
+
+// One write a byte, and this one fails; and a writer that is full after so many bytes.
+fn tells_a_failing_write(alloc: Global, worked: &Worked, call: usize) -> bool {
+    let Ok(failing) = MemWriter::failing_at(alloc, ROOM, 1, call as u64) else {
+        return false;
+    };
+    let Ok(full) = MemWriter::new(alloc, call) else {
+        return false;
+    };
+    fails_after(alloc, worked, failing, call) && fails_after(alloc, worked, full, call)
+}
+
+#[test]
+fn every_write_that_fails_is_told(rt: HostRuntime) {
+    for worked in &WORKED {
+        for call in 0..worked.output.len() {
+            assert!(rt; tells_a_failing_write(rt.alloc(), worked, call));
+        }
+    }
+}
+
+// Whether this line is where a deck of these bytes may be refused with this code: behind a whole line it is truncated,
+// and a cut within a line may leave another good line there, or one that is refused.
+fn is_where_it_ends(cut: &[u8], line: u64, code: Code) -> bool {
+    let last = cut.split(|byte| *byte == b'\n').count() as u64;
+    if cut.is_empty() || cut.ends_with(b"\n") {
+        return line == last && code == Code::Truncated;
+    }
+    line == if code == Code::Truncated {
+        last.saturating_add(1)
+    } else {
+        last
+    }
+}
+
+fn is_refused_where_it_is_cut(alloc: Global, worked: &Worked, end: usize) -> bool {
+    let Ok(mut writer) = MemWriter::new(alloc, ROOM) else {
+        return false;
+    };
+    let cut = &worked.deck[..end.min(worked.deck.len())];
+    let outcome = run_deck(alloc, &mut MemReader::new(cut), &mut writer, options(false));
+    matches!(outcome, Err(RunError::DeckRefused(line, code)) if is_where_it_ends(cut, line, code))
+        && exit_status(&outcome) == 1
+        && !writer.as_bytes().contains(&b'$')
+}
+
+#[test]
+fn a_deck_cut_anywhere_is_refused(rt: HostRuntime) {
+    for worked in &WORKED {
+        for end in 0..worked.deck.len() - 1 {
+            assert!(rt; is_refused_where_it_is_cut(rt.alloc(), worked, end));
+        }
+    }
+}
+
+/// A small deck that is refused at a line, after what it printed.
+#[derive(Drop)]
+struct Refusal<'a> {
+    deck: &'a [u8],
+    line: u64,
+    code: Code,
+    printed: &'static [u8],
+}
+
+/// Codes with the places that the rules give, section by section.
+static REFUSALS: [Refusal<'static>; 36] = [
+    // Before the account table.
+    Refusal {
+        deck: b"",
+        line: 1,
+        code: Code::Truncated,
+        printed: b"",
+    },
+    Refusal {
+        deck: b"\n  \nanna admin\n",
+        line: 3,
+        code: Code::UnknownCard,
+        printed: b"",
+    },
+    Refusal {
+        deck: b"$CATALOGUE\n",
+        line: 1,
+        code: Code::OutOfPlace,
+        printed: b"",
+    },
+    Refusal {
+        deck: b"$ACCOUNTS x\n",
+        line: 1,
+        code: Code::BadCard,
+        printed: b"",
+    },
+    // The account table.
+    Refusal {
+        deck: b"$ACCOUNTS\nanna\n",
+        line: 2,
+        code: Code::BadCard,
+        printed: b"",
+    },
+    Refusal {
+        deck: b"$ACCOUNTS\n2anna\n",
+        line: 2,
+        code: Code::BadCard,
+        printed: b"",
+    },
+    Refusal {
+        deck: b"$ACCOUNTS\n2anna admin\n",
+        line: 2,
+        code: Code::BadName,
+        printed: b"",
+    },
+    Refusal {
+        deck: b"$ACCOUNTS\nanna\tadmin\n",
+        line: 2,
+        code: Code::BadCharacter,
+        printed: b"",
+    },
+    Refusal {
+        deck: b"$ACCOUNTS\nanna\radmin\n",
+        line: 2,
+        code: Code::BadCharacter,
+        printed: b"",
+    },
+    Refusal {
+        deck: b"$ACCOUNTS\nanna admin\nanna admin 9g\n",
+        line: 3,
+        code: Code::BadName,
+        printed: b"",
+    },
+    Refusal {
+        deck: b"$ACCOUNTS\nanna admin\nanna ops\n",
+        line: 3,
+        code: Code::AccountTwice,
+        printed: b"",
+    },
+    Refusal {
+        deck: b"$ACCOUNTS\nanna admin g g g g g g g g g g g g g g g g g\n",
+        line: 2,
+        code: Code::TooManyGroups,
+        printed: b"",
+    },
+    Refusal {
+        deck: b"$ACCOUNTS\nanna admin\n$ACCOUNTS\n",
+        line: 3,
+        code: Code::OutOfPlace,
+        printed: b"",
+    },
+    // The catalogue.
+    Refusal {
+        deck: b"$ACCOUNTS\nanna admin\n$CATALOGUE\nSET X anna admin 0\n",
+        line: 4,
+        code: Code::UnknownCard,
+        printed: b"",
+    },
+    Refusal {
+        deck: b"$ACCOUNTS\nanna admin\n$CATALOGUE\n$STOP\n",
+        line: 4,
+        code: Code::OutOfPlace,
+        printed: b"",
+    },
+    Refusal {
+        deck: b"$ACCOUNTS\nanna admin\n$CATALOGUE\n$STREAM x\n",
+        line: 4,
+        code: Code::BadCard,
+        printed: b"",
+    },
+    Refusal {
+        deck: b"$ACCOUNTS\nanna admin\n$CATALOGUE\n$SET X anna admin two\n",
+        line: 4,
+        code: Code::BadText,
+        printed: b"",
+    },
+    Refusal {
+        deck: b"$ACCOUNTS\nanna admin\n$CATALOGUE\n$SET X anna admin 100001\n",
+        line: 4,
+        code: Code::SetFull,
+        printed: b"",
+    },
+    Refusal {
+        deck: b"$ACCOUNTS\nanna admin\n$CATALOGUE\n$SET X anna admin 0\nu::r,u:lisa:r,g::,o::\n",
+        line: 5,
+        code: Code::BadText,
+        printed: b"",
+    },
+    Refusal {
+        deck: b"$ACCOUNTS\nanna admin\n$CATALOGUE\n$SET X anna admin 0\nu::,g::,o::\n$SET X anna admin 0\n",
+        line: 6,
+        code: Code::NameTaken,
+        printed: b"",
+    },
+    // The cards.
+    Refusal {
+        deck: b"$ACCOUNTS\n$CATALOGUE\n$STREAM\n$SET X anna admin 0\n",
+        line: 4,
+        code: Code::OutOfPlace,
+        printed: b"",
+    },
+    Refusal {
+        deck: b"$ACCOUNTS\n$CATALOGUE\n$STREAM\n$LIST lisa\n$STOP\n",
+        line: 4,
+        code: Code::BadCard,
+        printed: b"",
+    },
+    Refusal {
+        deck: b"$ACCOUNTS\n$CATALOGUE\n$STREAM\n$LIST 9a 9X y\n$STOP\n",
+        line: 4,
+        code: Code::BadCard,
+        printed: b"",
+    },
+    Refusal {
+        deck: b"$ACCOUNTS\n$CATALOGUE\n$STREAM\n$LIST lisa X\n$LIST lisa 9X\n$STOP\n",
+        line: 5,
+        code: Code::BadName,
+        printed: b"LIST lisa X\nREFUSED M2 NO ACCOUNT\n",
+    },
+    Refusal {
+        deck: b"$ACCOUNTS\n$CATALOGUE\n$STREAM\n$LIST lisa X\n$STOP now\n",
+        line: 5,
+        code: Code::BadCard,
+        printed: b"LIST lisa X\nREFUSED M2 NO ACCOUNT\n",
+    },
+    Refusal {
+        deck: b"$ACCOUNTS\n$CATALOGUE\n$STREAM\n$FOO\n",
+        line: 4,
+        code: Code::UnknownCard,
+        printed: b"",
+    },
+    Refusal {
+        deck: b"$ACCOUNTS\n$CATALOGUE\n$STREAM\n$ENDACL\n",
+        line: 4,
+        code: Code::OutOfPlace,
+        printed: b"",
+    },
+    Refusal {
+        deck: b"$ACCOUNTS\n$CATALOGUE\n$STREAM\n$CREATE lisa X SEQ\n",
+        line: 4,
+        code: Code::BadCard,
+        printed: b"",
+    },
+    Refusal {
+        deck: b"$ACCOUNTS\n$CATALOGUE\n$STREAM\n$CATALOG lisa X\n",
+        line: 4,
+        code: Code::BadCard,
+        printed: b"",
+    },
+    Refusal {
+        deck: b"$ACCOUNTS\n$CATALOGUE\n$STREAM\n$CATALOG 9\n",
+        line: 4,
+        code: Code::BadName,
+        printed: b"",
+    },
+    Refusal {
+        deck: b"$ACCOUNTS\n$CATALOGUE\n$STREAM\n$SETACL lisa\n",
+        line: 4,
+        code: Code::BadCard,
+        printed: b"",
+    },
+    Refusal {
+        deck: b"$ACCOUNTS\n$CATALOGUE\n$STREAM\n$SETACL lisa X u::r,\tg::r,o::r\n",
+        line: 4,
+        code: Code::BadCharacter,
+        printed: b"",
+    },
+    Refusal {
+        deck: b"$ACCOUNTS\n$CATALOGUE\n$STREAM\n$SETACL lisa X\nu::r\n$LIST lisa X\n",
+        line: 6,
+        code: Code::OutOfPlace,
+        printed: b"",
+    },
+    Refusal {
+        deck: b"$ACCOUNTS\n$CATALOGUE\n$STREAM\n$SETACL lisa X\nu::r\n$ENDACL x\n",
+        line: 6,
+        code: Code::BadCard,
+        printed: b"",
+    },
+    Refusal {
+        deck: b"$ACCOUNTS\n$CATALOGUE\n$STREAM\n$SETACL lisa X\n\tu::r\n$ENDACL\t\n",
+        line: 6,
+        code: Code::BadCharacter,
+        printed: b"",
+    },
+    Refusal {
+        deck: b"$ACCOUNTS\n$CATALOGUE\n$STREAM\n$LIST lisa X\n",
+        line: 5,
+        code: Code::Truncated,
+        printed: b"LIST lisa X\nREFUSED M2 NO ACCOUNT\n",
+    },
+];
+
+fn is_refused(alloc: Global, refusal: &Refusal<'_>, check: bool, wanted: &[u8]) -> bool {
+    let Ok(mut writer) = MemWriter::new(alloc, ROOM) else {
+        return false;
+    };
+    let outcome = run_deck(
+        alloc,
+        &mut MemReader::new(refusal.deck),
+        &mut writer,
+        options(check),
+    );
+    matches!(outcome, Err(RunError::DeckRefused(line, code)) if line == refusal.line && code == refusal.code)
+        && writer.as_bytes() == wanted
+}
+
+#[test]
+fn decks_are_refused_at_their_lines(rt: HostRuntime) {
+    for refusal in &REFUSALS {
+        assert!(rt; is_refused(rt.alloc(), refusal, false, refusal.printed));
+        assert!(rt; is_refused(rt.alloc(), refusal, true, b""));
+    }
+}
+
+// A line of an account that is no good, with so many characters.
+fn long_line(alloc: Global, length: usize) -> Result<Vec<u8>, AllocError> {
+    let mut deck = Vec::new(alloc);
+    deck.extend_from_slice(b"$ACCOUNTS\n\t")?;
+    for _ in 1..length {
+        deck.push(b'a')?;
+    }
+    Ok(deck)
+}
+
+// Too long comes before a bad character.
+fn is_told_to_be_long(alloc: Global, length: usize, code: Code) -> bool {
+    let Ok(deck) = long_line(alloc, length) else {
+        return false;
+    };
+    let refusal = Refusal {
+        deck: &deck,
+        line: 2,
+        code,
+        printed: b"",
+    };
+    is_refused(alloc, &refusal, false, b"")
+}
+
+#[test]
+fn long_lines_are_refused(rt: HostRuntime) {
+    for (length, code) in [
+        (200, Code::BadCharacter),
+        (201, Code::LineTooLong),
+        (70_000, Code::LineTooLong),
+    ] {
+        assert!(rt; is_told_to_be_long(rt.alloc(), length, code));
+    }
+}
+
+/// How many commands the long deck has: enough for several pieces, and for several writes.
+const MANY: usize = 5_000;
+
+// A deck of so many commands, and what it prints.
+fn many_commands(alloc: Global) -> Result<(Vec<u8>, Vec<u8>), AllocError> {
+    let mut deck = Vec::new(alloc);
+    let mut output = Vec::new(alloc);
+    deck.extend_from_slice(b"$ACCOUNTS\nanna admin\n$CATALOGUE\n$STREAM\n")?;
+    for _ in 0..MANY {
+        deck.extend_from_slice(b"$LIST anna PAYROLL_OF_NOVEMBER\n")?;
+        output.extend_from_slice(b"LIST anna PAYROLL_OF_NOVEMBER\nDENIED NO DATA SET\n")?;
+    }
+    deck.extend_from_slice(b"$STOP\n")?;
+    output.extend_from_slice(b"$CATALOGUE\n")?;
+    Ok((deck, output))
+}
+
+fn serves_many_commands(alloc: Global) -> bool {
+    let Ok((deck, output)) = many_commands(alloc) else {
+        return false;
+    };
+    let Ok(mut writer) = MemWriter::new(alloc, output.len()) else {
+        return false;
+    };
+    let outcome = run_deck(
+        alloc,
+        &mut MemReader::new(&deck),
+        &mut writer,
+        options(false),
+    );
+    matches!(outcome, Ok(counts) if counts.commands == MANY as u64)
+        && writer.as_bytes() == output.as_slice()
+}
+
+#[test]
+fn a_long_deck_is_served(rt: HostRuntime) {
+    assert!(rt; serves_many_commands(rt.alloc()));
+}
+
+fn says(alloc: Global, fault: RunError, line: &[u8], status: u8) -> bool {
+    let mut out = Vec::new(alloc);
+    put_fault(&fault, &mut out).is_ok()
+        && out.as_slice() == line
+        && exit_status(&Err(fault)) == status
+}
+
+#[test]
+fn faults_have_a_line_and_a_status(rt: HostRuntime) {
+    let faults: [(RunError, &[u8], u8); 4] = [
+        (
+            RunError::DeckRefused(14, Code::Truncated),
+            b"snomon: line 14: E4 TRUNCATED\n",
+            1,
+        ),
+        (RunError::ReadFault, b"snomon: read fault\n", 3),
+        (RunError::WriteFault, b"snomon: write fault\n", 3),
+        (RunError::Memory, b"snomon: out of memory\n", 3),
+    ];
+    for (fault, line, status) in faults {
+        assert!(rt; says(rt.alloc(), fault, line, status));
+    }
+}
