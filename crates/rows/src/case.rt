@@ -10,7 +10,7 @@ use std::fs;
 use std::rt::Files;
 
 /// Room for the longest output of a case, and for some more.
-const ROOM: usize = 65_536;
+const ROOM: usize = 131_072;
 
 /// How many bytes a read and a write move at the most. Each case is run once with each of these pairs.
 const PIECES: [(usize, usize); 3] = [(usize::MAX, usize::MAX), (1, 1), (7, 3)];

@@ -14,8 +14,8 @@ use std::convert::AsStr;
 ///
 /// # Errors
 ///
-/// Where the words give no options: an unknown one, one that is given twice, a word that is none, or a call for help.
-/// The text of the error, which is that of the help too, is `clap`'s. Its kind is `OutOfMemory` where a growth was
+/// Where the words give no options: an unknown one, one that is given twice, a word that is none, or a call for help or for
+/// the version. The text of the error, which is that of the help and the version too, is `clap`'s. Its kind is `OutOfMemory` where a growth was
 /// refused, and words that give options are refused for that alone.
 pub fn read_options<S: AsStr>(alloc: Global, words: &[S]) -> Result<Options, Error>
     ensures given { IfOk result (λ options. Gives (map S.text words.now) options) }
@@ -39,7 +39,17 @@ pub fn no_text(alloc: Global) -> Result<Error, AllocError>
     command(alloc)?.error(ErrorKind::UnknownArgument, "a word is no text in UTF-8")
 }
 
-// The program's options, as `clap` knows them. Help is among them without being named.
+// What follows the list of options in the help.
+const AFTER_HELP: &str = "The deck comes from standard input:
+
+  snomon < payroll.deck > payroll.out
+
+Exit status: 0 where the deck ran, or is good; 1 where it is refused; 2 where the words
+give no options, or ask for this help or the version, which go to standard error;
+3 where reading, writing or memory failed.
+";
+
+// The program's options, as `clap` knows them. Help and version are among them without being named.
 fn command<'a>(alloc: Global) -> Result<Command<'a>, AllocError>
     ensures { IfOk result (λ command. app_of command ≡ snomon) }
 {
@@ -48,6 +58,8 @@ fn command<'a>(alloc: Global) -> Result<Command<'a>, AllocError>
         .action(ArgAction::SetTrue)
         .help("Only reads the deck, and tells whether it is good");
     Command::new(alloc, "snomon")
+        .version("0.1.0")
         .about("Runs the deck on standard input, and writes its output to standard output")
+        .after_help(AFTER_HELP)
         .arg(check)
 }
