@@ -2,7 +2,6 @@
 use Rattle.std.proofs.Common.{◌≡◌, ◌<◌, ◌+◌, ℕ, Bool, true, false, List, length, drop, get_or, Option, Some, sym, ap, ◌∙◌, if◌then◌else◌}
 use Rattle.std.proofs.lemmas.List.{at_drop_more, get_or-map}
 use Rattle.mon_text.specs.Characters.{is_blank}
-use Rattle.sno_cards.specs.declared.refusal.Place.{Place}
 use Rattle.sno_cards.specs.Texts.{Placed, text_of}
 use Rattle.sno_syntax.specs.Places.{nowhere, place_at, next_to, end_after, end_from}
 use Rattle.sno_syntax.specs.inner.Ends.{place_after}

@@ -1,5 +1,5 @@
 -- Labels in a table whose keys are texts.
-use Rattle.std.proofs.Common.{◌≡◌, ℕ, Bool, true, false, List, [], ◌∷◌, Option, Some, None, slice_get, map, if◌then◌else◌, zero, suc, refl, ap}
+use Rattle.std.proofs.Common.{◌≡◌, ℕ, Bool, true, false, List, [], ◌∷◌, Some, slice_get, map, if◌then◌else◌, zero, suc, refl, ap}
 use Rattle.std.specs.Prelude.{Vec, bytes_eq, option_map}
 use Rattle.std.specs.Map.{lookup}
 use Rattle.indexmap.specs.IndexMap.{insert_entry}
