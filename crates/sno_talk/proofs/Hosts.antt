@@ -1,0 +1,31 @@
+-- A talk whose questions are put as talks with someone else.
+use Rattle.std.proofs.Common.{ap, sym, inl, inr, subst}
+use Rattle.sno_talk.specs.Talks.{Talk, Ends, Asks, through}
+use Rattle.sno_talk.specs.Holding.{Held, Cut}
+use Rattle.sno_talk.proofs.Held.{held_then, cut_here, cut_first, cut_then}
+
+-- a host that puts each question as a talk with someone else holds the whole as one such talk
+module _ {H K S P T Q R : Type 0} (meaning : S → Q → R → S → Type 0) (fits : Q → R → Type 0)
+    (puts : P → K → Talk Q R (T × K)) (state : H → K) (other : H → S)
+    (asked : H → P → T → H → Type 0) (suits : P → T → Type 0)
+    (each : (a : H) (q : P) (r : T) (b : H) → asked a q r b → Held meaning fits (puts q (state a)) (other a) (r, state b) (other b)) where
+  pub held_through : {A : Type 0} (t : Talk P T A) (a : H) (v : A) (b : H)
+      → Held asked suits t a v b → Held meaning fits (through puts t (state a)) (other a) (v, state b) (other b)
+  held_through (Ends v') a v b g = (cc (g.0, ap state g.1), ap other g.1)
+  held_through (Asks q f) a v b g =
+      held_then meaning fits (puts q (state a)) (λ p. through puts (f p.0) p.1) (other a) (g.0, state g.1) (other g.1) (v, state b) (other b)
+      (each a q g.0 g.1 g.2) (held_through (f g.0) g.1 v b g.4)
+
+  -- and so where it is broken off
+  module _ (broken : S → Q → S → Type 0) (unasked : H → P → H → Type 0)
+      (breaks : (a : H) (q : P) (b : H) → unasked a q b → Cut meaning fits broken (puts q (state a)) (other a) (other b)) where
+    pub cut_through : {A : Type 0} (t : Talk P T A) (a b : H)
+        → Cut asked suits unasked t a b → Cut meaning fits broken (through puts t (state a)) (other a) (other b)
+    cut_through (Ends v') a b g = ap other g
+    cut_through (Asks q f) a b (inl g) =
+        subst (λ (x : H). Cut meaning fits broken (through puts (Asks q f) (state a)) (other a) (other x)) (sym g) (cut_here meaning fits broken (through puts (Asks q f) (state a)) (other a))
+    cut_through (Asks q f) a b (inr (inl g)) =
+        cut_first meaning fits broken (puts q (state a)) (λ p. through puts (f p.0) p.1) (other a) (other b) (breaks a q b g)
+    cut_through (Asks q f) a b (inr (inr g)) =
+        cut_then meaning fits broken (puts q (state a)) (λ p. through puts (f p.0) p.1) (other a) (g.0, state g.1) (other g.1) (other b)
+        (each a q g.0 g.1 g.2) (cut_through (f g.0) g.1 b g.4)

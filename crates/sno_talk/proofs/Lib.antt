@@ -1,0 +1,5 @@
+pub mod Binds
+pub mod Held
+pub mod Runs
+pub mod Hosts
+pub mod Enough

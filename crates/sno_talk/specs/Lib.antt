@@ -1,0 +1,5 @@
+pub mod Talks
+pub mod Exchanges
+pub mod Holding
+pub mod Endings
+pub mod Laws
