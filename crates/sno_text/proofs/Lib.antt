@@ -1,0 +1,3 @@
+pub mod Printable
+mod Repeating
+mod Trimming

@@ -1,0 +1,314 @@
+//! Texts, which are shared.
+ghost use Rattle.std.specs.Prelude.{◌≡◌, ◌==◌, ◌≤◌, ◌+◌, ◌++◌, [], length, take, drop, nat_eq, refl, vec_capacity, Some, IfOk};
+ghost use Rattle.std.specs.List.{slice_range};
+ghost use Rattle.std.specs.Fmt.{signed_decimal};
+ghost use Rattle.std.specs.Ordering.{nat_cmp};
+ghost use Rattle.std.specs.Hash as fed;
+ghost use Rattle.std.specs.Cmp.Lexicographic.{pointwise, slice_cmp, nat_list_eq_equiv, nat_list_cmp_total, texts_ties, texts_po};
+ghost use Rattle.std.specs.Cmp.{partial_equiv_from_equiv};
+ghost use Rattle.std.specs.Cmp.Rules.{hashing};
+ghost use Rattle.std.proofs.Common.{rules};
+ghost use Rattle.mon_text.specs.Lines.{IsLine};
+ghost use Rattle.sno_text.specs.Texts.{repeated, without_trailing_blanks};
+
+use itoa::Buffer;
+use mon_text::Line;
+use std::alloc::{AllocError, Global};
+use std::cmp::Ordering;
+use std::hash::{Hash, Hasher};
+use std::marker::Model;
+use std::rc::Rc;
+
+/// A text of ASCII 32 to 126, which contracts see as the list of its bytes.
+///
+/// Its copies share the bytes, and the null text takes no memory.
+#[derive(Drop)]
+pub struct Text {
+    bytes: Option<Rc<Vec<u8>>>,
+}
+
+impl Model for Text {
+    ghost use Rattle.std.specs.Prelude.{List, ℕ, []};
+    ghost use Rattle.std.specs.Option.{option_map_or};
+    ghost use Rattle.mon_text.specs.Lines.{IsLine};
+
+    ghost Value = { List ℕ };
+
+    ghost view = { λ t. option_map_or (λ r. r.value.items) t.bytes [] };
+
+    ghost invariant = { λ t. IsLine (option_map_or (λ r. r.value.items) t.bytes []) };
+}
+
+/// A text without the blanks at its end.
+pub fn without_trailing_blanks(text: &[u8]) -> &[u8]
+    ensures { result.now ≡ without_trailing_blanks text.now }
+{
+    let mut end = text.len();
+    while end > 0 && text[end - 1] == b' ' {
+        end -= 1;
+    }
+    &text[..end]
+}
+
+/// Room for so many bytes and so many more.
+fn room_for(alloc: Global, bytes: usize, more: usize) -> Result<Vec<u8>, AllocError>
+    ensures empty { IfOk result (λ room. room.items ≡ []) }
+    ensures wide { IfOk result (λ room. bytes + more ≤ vec_capacity room) }
+{
+    match bytes.checked_add(more) {
+        Some(all) => Vec::with_capacity(alloc, all),
+        None => Err(AllocError),
+    }
+}
+
+impl Text {
+    /// The null string.
+    pub fn null() -> Text
+        ensures { result ≡ [] }
+    {
+        Text { bytes: None }
+    }
+
+    /// The text that bytes are.
+    ///
+    /// # Errors
+    ///
+    /// Where a growth was refused.
+    pub fn of_bytes(alloc: Global, bytes: Vec<u8>) -> Result<Text, AllocError>
+        requires { IsLine bytes.items }
+        ensures { IfOk result (λ text. text ≡ bytes.items) }
+    {
+        if bytes.is_empty() {
+            return Ok(Text::null());
+        }
+        let bytes = Rc::new(alloc, bytes)?;
+        Ok(Text { bytes: Some(bytes) })
+    }
+
+    /// The text that bytes are, which are copied.
+    ///
+    /// # Errors
+    ///
+    /// Where a growth was refused.
+    pub fn of_slice(alloc: Global, bytes: &[u8]) -> Result<Text, AllocError>
+        requires { IsLine bytes.now }
+        ensures { IfOk result (λ text. text ≡ bytes.now) }
+    {
+        let bytes = Vec::from_slice(alloc, bytes)?;
+        Text::of_bytes(alloc, bytes)
+    }
+
+    /// The text of a line.
+    ///
+    /// # Errors
+    ///
+    /// Where a growth was refused.
+    pub fn of_line(alloc: Global, line: &Line) -> Result<Text, AllocError>
+        ensures { IfOk result (λ text. text ≡ line.now) }
+    {
+        Text::of_slice(alloc, line.as_bytes())
+    }
+
+    /// A number in decimal, with `-` before it if it is negative.
+    ///
+    /// # Errors
+    ///
+    /// Where a growth was refused.
+    pub fn of_number(alloc: Global, number: i64) -> Result<Text, AllocError>
+        ensures { IfOk result (λ text. text ≡ signed_decimal number) }
+    {
+        let mut buffer = Buffer::new();
+        Text::of_slice(alloc, buffer.format(number).as_bytes())
+    }
+
+    /// The characters of the text.
+    pub fn as_bytes(&self) -> &[u8]
+        ensures value { result.now ≡ self.now }
+        ensures printable { IsLine self.now }
+    {
+        match &self.bytes {
+            Some(bytes) => bytes.as_slice(),
+            None => &[],
+        }
+    }
+
+    /// How many characters the text has.
+    pub fn len(&self) -> usize
+        ensures { result ≡ length self.now }
+    {
+        self.as_bytes().len()
+    }
+
+    /// Whether it is the null string.
+    pub fn is_null(&self) -> bool
+        ensures { result ≡ (length self.now == 0) }
+    {
+        self.as_bytes().is_empty()
+    }
+
+    /// The same text once more. It takes no memory.
+    ///
+    /// # Errors
+    ///
+    /// Where as many share it as can be counted.
+    pub fn copy(&self) -> Result<Text, AllocError>
+        ensures { IfOk result (λ text. text ≡ self.now) }
+    {
+        match &self.bytes {
+            Some(bytes) => {
+                let bytes = bytes.clone()?;
+                Ok(Text { bytes: Some(bytes) })
+            }
+            None => Ok(Text { bytes: None }),
+        }
+    }
+
+    /// This text and then the other.
+    ///
+    /// # Errors
+    ///
+    /// Where a growth was refused.
+    pub fn joined(&self, alloc: Global, other: &Text) -> Result<Text, AllocError>
+        ensures { IfOk result (λ text. text ≡ self.now ++ other.now) }
+    {
+        let (first, second) = (self.as_bytes(), other.as_bytes());
+        let mut bytes = room_for(alloc, first.len(), second.len())?;
+        bytes.extend_from_slice(first).unwrap();
+        bytes.extend_from_slice(second).unwrap();
+        Text::of_bytes(alloc, bytes)
+    }
+
+    /// The characters from one place up to another.
+    ///
+    /// # Errors
+    ///
+    /// Where a growth was refused.
+    pub fn part(&self, alloc: Global, from: usize, to: usize) -> Result<Text, AllocError>
+        requires ordered { from ≤ to }
+        requires within { to ≤ length self.now }
+        ensures { IfOk result (λ text. text ≡ slice_range self.now from to) }
+    {
+        Text::of_slice(alloc, &self.as_bytes()[from..to])
+    }
+
+    /// The text with other characters in place of those from one place up to another.
+    ///
+    /// # Errors
+    ///
+    /// Where a growth was refused.
+    pub fn replaced(
+        &self,
+        alloc: Global,
+        from: usize,
+        to: usize,
+        new: &Text,
+    ) -> Result<Text, AllocError>
+        requires ordered { from ≤ to }
+        requires within { to ≤ length self.now }
+        ensures { IfOk result (λ text. text ≡ take from self.now ++ (new.now ++ drop to self.now)) }
+    {
+        let old = self.as_bytes();
+        let mut bytes = room_for(alloc, old.len() - (to - from), new.len())?;
+        bytes.extend_from_slice(&old[..from]).unwrap();
+        bytes.extend_from_slice(new.as_bytes()).unwrap();
+        bytes.extend_from_slice(&old[to..]).unwrap();
+        Text::of_bytes(alloc, bytes)
+    }
+
+    /// So many of the text, one after the other.
+    ///
+    /// # Errors
+    ///
+    /// Where a growth was refused.
+    pub fn repeated(&self, alloc: Global, times: usize) -> Result<Text, AllocError>
+        ensures { IfOk result (λ text. text ≡ repeated times self.now) }
+    {
+        let text = self.as_bytes();
+        if text.is_empty() {
+            return Ok(Text::null());
+        }
+        let all = text.len().checked_mul(times).ok_or(AllocError)?;
+        let mut bytes = Vec::with_capacity(alloc, all)?;
+        for _ in 0..times {
+            bytes.extend_from_slice(text)?;
+        }
+        Text::of_bytes(alloc, bytes)
+    }
+
+    /// The text without the blanks at its end.
+    ///
+    /// # Errors
+    ///
+    /// Where a growth was refused.
+    pub fn trimmed(&self, alloc: Global) -> Result<Text, AllocError>
+        ensures { IfOk result (λ text. text ≡ without_trailing_blanks self.now) }
+    {
+        let kept = without_trailing_blanks(self.as_bytes());
+        if kept.len() == self.len() {
+            return self.copy();
+        }
+        Text::of_slice(alloc, kept)
+    }
+
+    /// The characters from one place up to another, as a line.
+    ///
+    /// # Errors
+    ///
+    /// Where a growth was refused.
+    pub fn line(&self, alloc: Global, from: usize, to: usize) -> Result<Line, AllocError>
+        requires ordered { from ≤ to }
+        requires within { to ≤ length self.now }
+        ensures { IfOk result (λ line. line ≡ slice_range self.now from to) }
+    {
+        let room = Vec::with_capacity(alloc, to - from)?;
+        Ok(Line::in_room(room, &self.as_bytes()[from..to]))
+    }
+}
+
+impl PartialEq for Text {
+    ghost eq = { pointwise nat_eq };
+
+    ghost laws = { partial_equiv_from_equiv nat_list_eq_equiv };
+
+    fn eq(&self, other: &Self) -> bool {
+        self.as_bytes() == other.as_bytes()
+    }
+}
+
+impl Eq for Text {
+    ghost laws = { nat_list_eq_equiv };
+}
+
+impl PartialOrd for Text {
+    ghost partial_cmp = { λ x y. Some (slice_cmp nat_cmp x y) };
+
+    ghost laws = { texts_po };
+
+    fn partial_cmp(&self, other: &Self) -> Option<Ordering> {
+        Some(self.cmp(other))
+    }
+}
+
+impl Ord for Text {
+    ghost cmp = { slice_cmp nat_cmp };
+
+    ghost total = { nat_list_cmp_total };
+
+    ghost matches_partial_cmp = { λ x y. refl };
+
+    ghost matches_eq = { texts_ties };
+
+    fn cmp(&self, other: &Self) -> Ordering {
+        self.as_bytes().cmp(other.as_bytes())
+    }
+}
+
+impl Hash for Text {
+    ghost hash_input = { fed.slice fed.u8 };
+
+    ghost respects_eq = { Prim.search (hashing, rules) };
+
+    fn hash<H: Hasher>(&self, state: &mut H) {
+        self.as_bytes().hash(state);
+    }
+}
