@@ -1,0 +1,4 @@
+pub mod Fitting
+pub mod Asking
+pub mod Scripts
+pub mod Laws
