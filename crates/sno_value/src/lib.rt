@@ -1,0 +1,14 @@
+//! Values, and what operators and primitive functions make of them.
+//!
+//! It knows no variable and no statement. A call answers what it gives: a value, failure or a fault. Memory is no part of
+//! that: a call that takes some may be refused it, and says so apart; one that takes none has no answer for it.
+#![tactic(auto)]
+
+pub mod calculating;
+mod numeral;
+pub mod outcome;
+pub mod value;
+
+pub use calculating::{Operation, affirm, arith, negate};
+pub use outcome::Outcome;
+pub use value::Value;
