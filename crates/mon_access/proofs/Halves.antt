@@ -11,7 +11,7 @@ use Rattle.std.proofs.lemmas.List.Sorted.{searchable_from_sorted}
 use Rattle.std.proofs.lemmas.Map.Keys.{Less-from_sorted}
 use Rattle.mon_acl.specs.declared.entries.Perms.{Perms}
 use Rattle.mon_acl.specs.declared.entries.Entry.{Entry}
-use Rattle.mon_acl.specs.Entries.{place, compared, IsCanonical}
+use Rattle.mon_acl.specs.Entries.{sort_key, compared, IsCanonical}
 use Rattle.mon_acl.specs.Permissions.{holds}
 use Rattle.mon_access.specs.declared.finding.Found.{Found}
 use Rattle.mon_access.specs.declared.finding.Found.TheVariants.{Nobody, Lacking, Holding}
@@ -67,44 +67,44 @@ only kind (x ∷ xs) request (suc i) d l at others =
     (sym (shift_judged (holds (get_or xs i d).perms request) i) ∙ ap shifted rest
     ∙ sym (shift (some_holds kind xs request) (list_any kind xs) (position_or_len kind xs)))
 
--- the place where an entry would stand, and what stands there
+-- where the entry of a sort key would stand, and what stands there
 module _ (es : List Entry) (key : List ℕ) (sorted : IsCanonical es) where
-  pub rises : IsNonDecreasingBy (λ (y : Entry). ordering_index (slice_cmp nat_cmp (place y) key)) es
+  pub rises : IsNonDecreasingBy (λ (y : Entry). ordering_index (slice_cmp nat_cmp (sort_key y) key)) es
   rises =
-      searchable_from_sorted nat_list_cmp_total place es key
+      searchable_from_sorted nat_list_cmp_total sort_key es key
       (λ k d _ h.
       let up : compared (get_or es k d) (get_or es (k + 1) d) ≡ Less = Less-from_sorted compared es k (k + 1) d sorted (omega arith) h in
-      ap Rattle.std.specs.Ordering.is_lt (nat_list_cmp_total.antisymm (place (get_or es (k + 1) d)) (place (get_or es k d)) ∙ ap ordering_reverse up))
+      ap Rattle.std.specs.Ordering.is_lt (nat_list_cmp_total.antisymm (sort_key (get_or es (k + 1) d)) (sort_key (get_or es k d)) ∙ ap ordering_reverse up))
 
   not_equal : (o : Ordering) → (o ≡ Equal → ⊥) → is_eq o ≡ false
   not_equal Less n = refl
   not_equal Equal n = absurd (n refl)
   not_equal Greater n = refl
 
-  apart : (i k : ℕ) (d : Entry) → i < k → k < length es → slice_cmp nat_cmp (place (get_or es i d)) key ≡ Equal → slice_cmp nat_cmp (place (get_or es k d)) key ≡ Equal → ⊥
+  apart : (i k : ℕ) (d : Entry) → i < k → k < length es → slice_cmp nat_cmp (sort_key (get_or es i d)) key ≡ Equal → slice_cmp nat_cmp (sort_key (get_or es k d)) key ≡ Equal → ⊥
   apart i k d l h a b =
-      let x = place (get_or es i d) in
-      let y = place (get_or es k d) in
+      let x = sort_key (get_or es i d) in
+      let y = sort_key (get_or es k d) in
       let up : slice_cmp nat_cmp x y ≡ Less = Less-from_sorted compared es i k d sorted l h in
       let same : slice_cmp nat_cmp x y ≡ slice_cmp nat_cmp key y = nat_list_cmp_total.congr x key y a in
       let turned : slice_cmp nat_cmp key y ≡ Equal = nat_list_cmp_total.antisymm key y ∙ ap ordering_reverse b in
       let differ : Less ≡ Equal = sym up ∙ same ∙ turned in cc
 
-  others : (i k : ℕ) (d : Entry) → i < length es → k < length es → (k ≡ i → ⊥) → ((d : Entry) → slice_cmp nat_cmp (place (get_or es i d)) key ≡ Equal) →
+  others : (i k : ℕ) (d : Entry) → i < length es → k < length es → (k ≡ i → ⊥) → ((d : Entry) → slice_cmp nat_cmp (sort_key (get_or es i d)) key ≡ Equal) →
       stands_at key (get_or es k d) ≡ false
   others i k d l h n a = not_equal _ (λ b. by (nat_cmp k i) (ranks k i) b)
     where
-      by : (r : Ordering) → MatchOrdering r (k < i) (k ≡ i) (i < k) → slice_cmp nat_cmp (place (get_or es k d)) key ≡ Equal → ⊥
+      by : (r : Ordering) → MatchOrdering r (k < i) (k ≡ i) (i < k) → slice_cmp nat_cmp (sort_key (get_or es k d)) key ≡ Equal → ⊥
       by Less lt b = apart k i d lt l b (a d)
       by Equal e b = n e
       by Greater lt b = apart i k d lt h (a d) b
 
-  pub found_at : (request : Perms) (i : ℕ) (d : Entry) → i < length es → HoldsAt (λ (y : Entry). slice_cmp nat_cmp (place y) key ≡ Equal) es i →
+  pub found_at : (request : Perms) (i : ℕ) (d : Entry) → i < length es → HoldsAt (λ (y : Entry). slice_cmp nat_cmp (sort_key y) key ≡ Equal) es i →
       judged (holds (get_or es i d).perms request) i ≡ found (stands_at key) es request
   found_at request i d l a = only (stands_at key) es request i d l (ap is_eq (a d)) (λ k d h n. others i k d l h n a)
 
   pub found_nowhere : (request : Perms) (i : ℕ) →
-      AllWithin (λ (y : Entry). slice_cmp nat_cmp (place y) key ≡ Less) es 0 i × AllWithin (λ (y : Entry). slice_cmp nat_cmp (place y) key ≡ Greater) es i (length es) →
+      AllWithin (λ (y : Entry). slice_cmp nat_cmp (sort_key y) key ≡ Less) es 0 i × AllWithin (λ (y : Entry). slice_cmp nat_cmp (sort_key y) key ≡ Greater) es i (length es) →
       Nobody ≡ found (stands_at key) es request
   found_nowhere request i w = nobody (stands_at key) es request (λ k d h. by k d h (nat_cmp k i) (ranks k i))
     where

@@ -9,7 +9,7 @@ use Rattle.mon_acl.specs.declared.entries.Perms.{Perms}
 use Rattle.mon_acl.specs.declared.entries.Tag.{Tag}
 use Rattle.mon_acl.specs.declared.entries.Tag.TheVariants.{UserObj, User, GroupObj, Group, Mask, Other}
 use Rattle.mon_acl.specs.declared.entries.Entry.{Entry}
-use Rattle.mon_acl.specs.Entries.{rank, has_tag, bytes_of, qualifier, is_qualified, place, IsEntry}
+use Rattle.mon_acl.specs.Entries.{rank, has_tag, bytes_of, qualifier, is_qualified, sort_key, IsEntry}
 use Rattle.mon_acl.specs.Permissions.{holds}
 use Rattle.mon_access.specs.declared.account.Account.{Account}
 use Rattle.mon_access.specs.declared.finding.Found.{Found}
@@ -90,13 +90,13 @@ together p q es request =
     ∙ ap (found_of (some_holds p es request || some_holds q es request) (list_any p es || list_any q es)) (place_or p q es)
     ∙ joining (some_holds p es request) (some_holds q es request) (list_any p es) (list_any q es) _ _ (length es) (list_any_by_place p es) (list_any_by_place q es)
 
--- ---- what the place of an entry tells
+-- ---- what the sort key of an entry tells
 row : ℕ → List ℕ → Entry → Bool
 row r name e = (rank e.tag == r) && pointwise nat_eq (qualifier e) name
 
 stands : (r : ℕ) (name : List ℕ) (e : Entry) → stands_at (r ∷ name) e ≡ row r name e
 unfolding row
-stands r name e = sym (texts_ties (place e) (r ∷ name))
+stands r name e = sym (texts_ties (sort_key e) (r ∷ name))
 
 pub user_kind : (name : List ℕ) (e : Entry) → IsEntry e → stands_at (rank User ∷ name) e ≡ (has_tag User e && option_map_or (bytes_eq name) e.name false)
 unfolding row

@@ -13,7 +13,7 @@ use mon_acl::{Acl, Entry, Perms, Tag};
 use mon_text::Name;
 
 /// What the access check answers.
-#[derive(Clone, Copy, Debug, PartialEq, Eq)]
+#[derive(Clone, Copy, PartialEq, Eq)]
 pub enum Decision {
     /// The whole request is granted.
     Granted,
@@ -22,7 +22,7 @@ pub enum Decision {
 }
 
 /// The entry of a permission list that decided a denial (own). An index is that of `Acl::entry`, so in canonical order.
-#[derive(Clone, Copy, Debug, PartialEq, Eq)]
+#[derive(Clone, Copy, PartialEq, Eq)]
 pub enum Decider {
     /// The owner's entry.
     UserObj,

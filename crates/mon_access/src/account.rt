@@ -9,7 +9,7 @@ use std::marker::Model;
 /// The groups of an account beside its primary one, in the order in which they were given.
 ///
 /// A contract sees them as the list of their names. A group may stand in it more than once.
-#[derive(Debug, Drop)]
+#[derive(Drop)]
 pub struct Groups {
     names: Vec<Name>,
 }
@@ -23,7 +23,7 @@ impl Model for Groups {
 }
 
 /// Someone who may ask: a name, and the groups that the name is in.
-#[derive(Debug, Drop)]
+#[derive(Drop)]
 pub struct Account {
     pub name: Name,
     /// The primary group.

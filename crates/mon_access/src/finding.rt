@@ -2,7 +2,7 @@
 ghost use Rattle.std.specs.Prelude.{◌≡◌, ◌∷◌, [], None, true};
 ghost use Rattle.std.specs.Ordering.{nat_cmp};
 ghost use Rattle.std.specs.Cmp.Lexicographic.{slice_cmp};
-ghost use Rattle.mon_acl.specs.Entries.{rank, place, has_tag, is_qualified, IsCanonical, IsAcl};
+ghost use Rattle.mon_acl.specs.Entries.{rank, sort_key, has_tag, is_qualified, IsCanonical, IsAcl};
 ghost use Rattle.mon_acl.specs.Permissions.{holds};
 ghost use Rattle.mon_access.specs.Matches.{is_in_group, is_for_user, is_for_owning_group, is_for_group, some_holds};
 ghost use Rattle.mon_access.specs.inner.Kinds.{found, judged, joined, is_holding, stands_at};
@@ -54,9 +54,9 @@ fn judged(index: usize, perms: Perms, request: Perms) -> Found
     }
 }
 
-/// How an entry stands to the place of a type and a name.
+/// How an entry's sort key stands to that of a type and a name.
 fn compare_named(entry: &Entry, tag: Tag, name: &Name) -> Ordering
-    ensures { result ≡ slice_cmp nat_cmp (place entry.now) (rank tag ∷ name.now) }
+    ensures { result ≡ slice_cmp nat_cmp (sort_key entry.now) (rank tag ∷ name.now) }
 {
     let by_type = (entry.tag as u8).cmp(&(tag as u8));
     match &entry.name {
@@ -65,9 +65,9 @@ fn compare_named(entry: &Entry, tag: Tag, name: &Name) -> Ordering
     }
 }
 
-/// How an entry stands to the place of a type without names.
+/// How an entry's sort key stands to that of a type without names.
 fn compare_lone(entry: &Entry, tag: Tag) -> Ordering
-    ensures { result ≡ slice_cmp nat_cmp (place entry.now) (rank tag ∷ []) }
+    ensures { result ≡ slice_cmp nat_cmp (sort_key entry.now) (rank tag ∷ []) }
 {
     let by_type = (entry.tag as u8).cmp(&(tag as u8));
     let no_name: &[u8] = &[];
@@ -85,7 +85,7 @@ fn named(entries: &[Entry], tag: Tag, name: &Name, request: Perms) -> Found
     }
 }
 
-/// What the entry at the place of a type alone says.
+/// What the entry with the sort key of a type alone says.
 fn lone(entries: &[Entry], tag: Tag, request: Perms) -> Found
     requires { IsCanonical entries.now }
     ensures { result ≡ found (stands_at (rank tag ∷ [])) entries.now request }

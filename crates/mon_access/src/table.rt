@@ -16,7 +16,7 @@ pub const MOST_GROUPS: usize = 16;
 /// The accounts of a deck, no two of one name, in the order in which they were added.
 ///
 /// A contract sees the table as the list of its accounts.
-#[derive(Debug, Drop)]
+#[derive(Drop)]
 pub struct Accounts {
     by_name: IndexMap<Name, Account>,
 }
@@ -35,7 +35,7 @@ impl Model for Accounts {
 }
 
 /// Why an account could not be added.
-#[derive(Clone, Copy, Debug, PartialEq, Eq, Error)]
+#[derive(Clone, Copy, Debug, Error)]
 pub enum AccountError {
     /// The table has an account of this name.
     #[error("C1 ACCOUNT TWICE")]

@@ -15,20 +15,20 @@ use Rattle.std.proofs.lemmas.List.Folds.{list_any_at, list_any_none}
 use Rattle.std.proofs.lemmas.List.Sorted.{searchable_from_sorted, IsPermutation-refl, IsPermutation-trans, IsPermutation-middle, IsPermutation-cons, list_any-IsPermutation, sum_by-IsPermutation}
 use Rattle.std.proofs.lemmas.Map.Keys.{Less-from_sorted}
 use Rattle.mon_acl.specs.declared.entries.Entry.{Entry}
-use Rattle.mon_acl.specs.Entries.{place, compared, is_for, qualifier, IsCanonical}
+use Rattle.mon_acl.specs.Entries.{sort_key, compared, is_for, qualifier, IsCanonical}
 use Rattle.mon_acl.specs.Reading.{put_in, arranged}
 
 pub order : IsTotalOrder compared
-order = on_total place nat_list_cmp_total
+order = on_total sort_key nat_list_cmp_total
 
--- the same type and qualifier is the same place
+-- the same type and qualifier is the same sort key
 pub is_for_by_order : (e x : Entry) → is_for e.tag (qualifier e) x ≡ is_eq (compared x e)
-is_for_by_order e x = texts_ties (place x) (place e)
+is_for_by_order e x = texts_ties (sort_key x) (sort_key e)
 
 -- what a binary search asks
 pub rises : (es : List Entry) (e : Entry) → IsCanonical es → IsNonDecreasingBy (λ y. ordering_index (compared y e)) es
 rises es e s =
-    searchable_from_sorted nat_list_cmp_total place es (place e)
+    searchable_from_sorted nat_list_cmp_total sort_key es (sort_key e)
     (λ k d _ h.
     let up : compared (get_or es k d) (get_or es (k + 1) d) ≡ Less = Less-from_sorted compared es k (k + 1) d s (omega arith) h in
     ap is_lt (order.antisymm (get_or es (k + 1) d) (get_or es k d) ∙ ap ordering_reverse up))

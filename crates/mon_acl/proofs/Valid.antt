@@ -13,7 +13,7 @@ use Rattle.mon_acl.specs.declared.entries.Tag.TheVariants.{UserObj, User, GroupO
 use Rattle.mon_acl.specs.declared.entries.Entry.{Entry}
 use Rattle.mon_acl.specs.declared.refusals.AclError.{AclError}
 use Rattle.mon_acl.specs.declared.refusals.AclError.TheVariants.{Twice, TooMany, Missing, NoMask}
-use Rattle.mon_acl.specs.Entries.{rank, place, is_tag, has_tag, is_named, is_for, qualifier, is_qualified, bytes_of, IsEntry, IsValidAcl, IsCanonical, IsAcl}
+use Rattle.mon_acl.specs.Entries.{rank, sort_key, is_tag, has_tag, is_named, is_for, qualifier, is_qualified, bytes_of, IsEntry, IsValidAcl, IsCanonical, IsAcl}
 use Rattle.mon_acl.specs.Refusals.{◌>>=◌, joined, lacking, entry_of, entries_on, entries_of}
 use Rattle.mon_acl.specs.Reading.{whole, arranged, read_pieces}
 use Rattle.mon_acl.proofs.Order.{put_sorted, none_sorted, any_arranged, count_moved, arranged_moves}
@@ -71,14 +71,14 @@ abbrev pub IsApart : List Entry → Type 0
 IsApart es = (t : Tag) (name : List ℕ) → count_by (is_for t name) es ≤ 1
 
 pub for_itself : (e : Entry) → is_for e.tag (qualifier e) e ≡ true
-for_itself e = nat_list_eq_equiv.refl (place e)
+for_itself e = nat_list_eq_equiv.refl (sort_key e)
 
 -- whatever has the same type and name is for the same
 pub same_for : (t : Tag) (name : List ℕ) (e : Entry) (es : List Entry) → is_for t name e ≡ true →
     list_any (is_for e.tag (qualifier e)) es ≡ list_any (is_for t name) es
 same_for t name e es h =
-    let same : place e ≡ rank t ∷ name = (bytes_decides (place e) (rank t ∷ name)).0 h in
-    ap (λ (k : List ℕ). list_any (λ x. pointwise nat_eq (place x) k) es) same
+    let same : sort_key e ≡ rank t ∷ name = (bytes_decides (sort_key e) (rank t ∷ name)).0 h in
+    ap (λ (k : List ℕ). list_any (λ x. pointwise nat_eq (sort_key x) k) es) same
 
 pub apart_more : (e : Entry) (es : List Entry) → IsApart es → list_any (is_for e.tag (qualifier e)) es ≡ false → IsApart (e ∷ es)
 apart_more e es apart none t name = omega (arith, counted (is_for t name) e es, at (is_for t name e) refl)

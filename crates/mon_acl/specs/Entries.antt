@@ -68,13 +68,13 @@ pub record IsValidAcl (es : List Entry) : Type 0 where
   pub groups_differ : (name : List ℕ) → count_by (is_for Group name) es ≤ 1
   pub few : count_by is_named es ≤ 100
 
--- where an entry stands: by its type, and within a type by its qualifier's bytes (own)
-abbrev pub place : Entry → List ℕ
-place e = rank e.tag ∷ qualifier e
+-- what entries are sorted by: their type, and within a type their qualifier's bytes (own)
+abbrev pub sort_key : Entry → List ℕ
+sort_key e = rank e.tag ∷ qualifier e
 
 -- which of two entries stands first
 abbrev pub compared : Entry → Entry → Ordering
-compared d e = slice_cmp nat_cmp (place d) (place e)
+compared d e = slice_cmp nat_cmp (sort_key d) (sort_key e)
 
 -- the canonical order: each entry stands before those after it (own)
 abbrev pub IsCanonical : List Entry → Type 0

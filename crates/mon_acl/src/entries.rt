@@ -1,5 +1,5 @@
 //! The entries of a permission list: a type, a qualifier and permissions.
-ghost use Rattle.std.specs.Prelude.{◌≡◌, ◌++◌, Some, OnOk};
+ghost use Rattle.std.specs.Prelude.{◌≡◌, ◌++◌, OnOk};
 ghost use Rattle.mon_acl.specs.Permissions.{holds, common};
 ghost use Rattle.mon_acl.specs.Entries.{rank, qualifier, compared, is_named};
 ghost use Rattle.mon_acl.specs.Texts.{tag_word};
@@ -8,10 +8,9 @@ ghost use Rattle.mon_acl.specs.Printing.{entry_head, entry_text, letter, perms_t
 use mon_text::Name;
 use std::alloc::AllocError;
 use std::cmp::Ordering;
-use std::fmt;
 
 /// Permissions: to read, to write, to execute.
-#[derive(Clone, Copy, Debug, Default, PartialEq, Eq)]
+#[derive(Clone, Copy, Default)]
 pub struct Perms {
     pub read: bool,
     pub write: bool,
@@ -37,7 +36,7 @@ pub enum Tag {
 }
 
 /// An entry. It has a name exactly where its type is `User` or `Group`.
-#[derive(Debug, Default, Drop)]
+#[derive(Default, Drop)]
 pub struct Entry {
     pub tag: Tag,
     pub name: Option<Name>,
@@ -114,19 +113,6 @@ impl Tag {
             Tag::Mask => b"mask",
             Tag::Other => b"other",
         }
-    }
-}
-
-impl fmt::Display for Tag {
-    ghost output = { λ tag. Some (tag_word tag) };
-
-    fn fmt<W: fmt::Write>(&self, f: &mut fmt::Formatter<W>) -> fmt::Result {
-        f.write_str(match self {
-            Tag::UserObj | Tag::User => "user",
-            Tag::GroupObj | Tag::Group => "group",
-            Tag::Mask => "mask",
-            Tag::Other => "other",
-        })
     }
 }
 

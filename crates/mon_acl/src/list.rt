@@ -24,7 +24,7 @@ use std::marker::Model;
 /// A permission list: always valid.
 ///
 /// A contract sees it as the list of its entries in canonical order.
-#[derive(Debug, Drop)]
+#[derive(Drop)]
 pub struct Acl {
     entries: SmallVec<Entry, ENTRIES_INLINE>,
 }

@@ -24,7 +24,7 @@ use std::alloc::{AllocError, Global};
 pub const MOST_LINE_CHARACTERS: usize = 200;
 
 /// What a line of the stream asks for.
-#[derive(Debug, Drop)]
+#[derive(Drop)]
 pub enum Request {
     /// Nothing: a blank line.
     Nothing,

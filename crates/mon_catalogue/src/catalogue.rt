@@ -46,7 +46,7 @@ impl Model for Catalogue {
 }
 
 /// Why a data set could not be created.
-#[derive(Clone, Copy, Debug, PartialEq, Eq, Error)]
+#[derive(Clone, Copy, Debug, Error)]
 pub enum CreateError {
     /// The catalogue has a set of this name.
     #[error("K1 NAME TAKEN")]
@@ -57,7 +57,7 @@ pub enum CreateError {
 }
 
 /// The catalogue has no set of the name.
-#[derive(Clone, Copy, Debug, PartialEq, Eq, Error)]
+#[derive(Clone, Copy, Debug, Error)]
 #[error("K2 NO SET")]
 pub struct NoSet;
 

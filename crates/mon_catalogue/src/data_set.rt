@@ -17,7 +17,7 @@ pub const MOST_RECORD_CHARACTERS: usize = 1_024;
 /// The records of a data set, in order: at most 100,000, each of at most 1,024 characters.
 ///
 /// A contract sees them as a list. A record may be empty.
-#[derive(Debug, Drop)]
+#[derive(Drop)]
 pub struct Records {
     lines: Vec<Line>,
 }
@@ -36,7 +36,7 @@ impl Model for Records {
 /// A data set: who owns it, its group, its permission list and its records.
 ///
 /// The owner and the group need not be known accounts.
-#[derive(Debug, Drop)]
+#[derive(Drop)]
 pub struct DataSet {
     pub owner: Name,
     pub group: Name,

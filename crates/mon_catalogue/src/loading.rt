@@ -23,7 +23,7 @@ use std::mem;
 use thiserror::Error;
 
 /// Why a text is no catalogue. The number is that of the line within the text, from 1.
-#[derive(Clone, Copy, Debug, PartialEq, Eq, Error)]
+#[derive(Clone, Copy, Debug, Error)]
 pub enum CatalogueError {
     /// A set before has this name.
     #[error("K1 NAME TAKEN")]

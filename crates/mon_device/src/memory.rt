@@ -7,7 +7,7 @@ use crate::device::{DeckReader, DeckWriter, Failed};
 use std::alloc::{AllocError, Global};
 
 /// Reads bytes from memory.
-#[derive(Debug, Drop)]
+#[derive(Drop)]
 pub struct MemReader<'a> {
     /// The bytes that are still to come.
     pub rest: &'a [u8],
@@ -145,7 +145,7 @@ fn moved(there: usize, room: usize, most: usize) -> usize
 }
 
 /// Keeps what is written in memory, up to the room that it was made with.
-#[derive(Debug, Drop)]
+#[derive(Drop)]
 pub struct MemWriter {
     /// What was written.
     pub bytes: Vec<u8>,

@@ -9,7 +9,7 @@ use mon_acl::{Acl, AclError, Entry, Tag};
 use mon_text::{Line, Name};
 
 /// What is decided of a request on a data set.
-#[derive(Clone, Copy, Debug, PartialEq, Eq)]
+#[derive(Clone, Copy)]
 pub enum Decided {
     /// The whole request is granted.
     Granted,
@@ -20,7 +20,7 @@ pub enum Decided {
 }
 
 /// Why something was denied (own).
-#[derive(Debug, PartialEq, Eq, Drop)]
+#[derive(Drop)]
 pub enum Reason {
     /// By the entry of the data set's permission list that has this type and this qualifier.
     By(Tag, Option<Name>),
@@ -37,7 +37,7 @@ pub enum Reason {
 }
 
 /// What the guard answers to a request.
-#[derive(Debug, PartialEq, Eq, Drop)]
+#[derive(Drop)]
 pub enum GuardAnswer {
     /// It is done.
     Done,
@@ -52,7 +52,7 @@ pub enum GuardAnswer {
 }
 
 /// What giving a data set another permission list is answered.
-#[derive(Debug, PartialEq, Eq, Drop)]
+#[derive(Drop)]
 pub enum AclAnswer {
     /// It is done.
     Done,

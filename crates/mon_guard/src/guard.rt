@@ -1,5 +1,5 @@
 //! The guard: what an account asks, done exactly where it is granted.
-ghost use Rattle.std.specs.Prelude.{◌≡◌, ◌↔◌, Some, Ok, Err, IfOk, OnOk, IfErr, OnErr, IfSome, is_some, IsErrOf, IsOkAnd};
+ghost use Rattle.std.specs.Prelude.{◌≡◌, ◌↔◌, Some, Ok, IfOk, OnOk, OnErr, is_some, IsErrOf, IsOkAnd};
 ghost use Rattle.std.specs.Result.{result_map_both};
 ghost use Rattle.mon_text.specs.Stops.{Gives, refused_as};
 ghost use Rattle.mon_access.specs.Matches.{is_owner};
@@ -23,7 +23,7 @@ use std::alloc::{AllocError, Global};
 ///
 /// What only the owner may do is denied to all others, whatever the list grants them. Nothing is kept from one request
 /// to the next.
-#[derive(Debug, Drop)]
+#[derive(Drop)]
 pub struct Guard {}
 
 impl Guard {

@@ -8,7 +8,7 @@ use mon_text::Name;
 use std::alloc::AllocError;
 
 /// What an account asks of the monitor by one card.
-#[derive(Debug, Drop)]
+#[derive(Drop)]
 pub enum Command {
     /// To make a data set with no records, whose owner is the account.
     Create {

@@ -1,5 +1,5 @@
 //! The printout of a command.
-ghost use Rattle.std.specs.Prelude.{◌≡◌, ◌++◌, IfOk};
+ghost use Rattle.std.specs.Prelude.{◌≡◌, IfOk};
 ghost use Rattle.mon_monitor.specs.Commanded.{printed, Told};
 
 use crate::command::Command;
@@ -10,7 +10,7 @@ use std::marker::Model;
 /// What a command prints: its own line, and its answer below it. Each line is ended by LF.
 ///
 /// A contract sees it as its bytes.
-#[derive(Debug, Drop)]
+#[derive(Drop)]
 pub struct Printout {
     pub bytes: Vec<u8>,
 }

@@ -8,7 +8,7 @@ use mon_guard::Reason;
 use std::alloc::AllocError;
 
 /// What a command is told in one line: that it is done, or why it is not.
-#[derive(Debug, Drop)]
+#[derive(Drop)]
 pub enum Reply {
     /// It is done.
     Done,

@@ -1,10 +1,8 @@
-//! The access check on lists worked by hand from acl(5), and the account table.
+//! The access check on lists worked by hand from acl(5).
 use mon_access::Decision::{Denied, Granted};
-use mon_access::{
-    Account, AccountError, Accounts, Decider as By, Decision, Groups, MOST_GROUPS, check,
-};
+use mon_access::{Account, Decider as By, Decision, Groups, check};
 use mon_acl::{Acl, Perms};
-use mon_text::{Stop, read_name};
+use mon_text::{Name, read_name};
 use std::alloc::Global;
 
 const NONE: Perms = Perms {
@@ -254,27 +252,19 @@ static CASES: [Case; 12] = [
     },
 ];
 
-fn is_pushed(groups: &mut Groups, name: &[u8]) -> bool {
-    match read_name(name) {
-        Ok(name) => groups.push(name).is_ok(),
-        Err(_) => false,
-    }
-}
-
-fn groups_of(alloc: Global, names: &[&[u8]]) -> Option<Groups> {
+/// The groups of an account beside its primary one: at most one here.
+fn groups_of(alloc: Global, further: Option<Name>) -> Option<Groups> {
     let mut groups = Groups::new(alloc);
-    for name in names {
-        if !is_pushed(&mut groups, name) {
-            return None;
-        }
+    if let Some(name) = further {
+        groups.push(name).ok()?;
     }
     Some(groups)
 }
 
-fn account(alloc: Global, name: &[u8], primary: &[u8], further: &[&[u8]]) -> Option<Account> {
+fn account(alloc: Global, (name, primary, further): Names) -> Option<Account> {
     let name = read_name(name).ok()?;
     let primary = read_name(primary).ok()?;
-    let groups = groups_of(alloc, further)?;
+    let groups = groups_of(alloc, read_name(further).ok())?;
     Some(Account {
         name,
         primary,
@@ -282,27 +272,32 @@ fn account(alloc: Global, name: &[u8], primary: &[u8], further: &[&[u8]]) -> Opt
     })
 }
 
-fn account_of(alloc: Global, who: Who) -> Option<Account> {
+/// An account's name, its primary group, and a further one, or nothing.
+type Names = (&'static [u8], &'static [u8], &'static [u8]);
+
+fn names_of(who: Who) -> Names {
     match who {
-        Who::Anna => account(alloc, b"anna", b"admin", &[]),
-        Who::Lisa => account(alloc, b"lisa", b"staff", &[]),
-        Who::Hugo => account(alloc, b"hugo", b"ops", &[b"staff"]),
-        Who::Otto => account(alloc, b"otto", b"ops", &[b"staff"]),
-        Who::Ada => account(alloc, b"ada", b"admin", &[]),
-        Who::Sue => account(alloc, b"sue", b"staff", &[b"admin"]),
-        Who::Tim => account(alloc, b"tim", b"guests", &[b"ops"]),
-        Who::Zoe => account(alloc, b"zoe", b"guests", &[]),
+        Who::Anna => (b"anna", b"admin", b""),
+        Who::Lisa => (b"lisa", b"staff", b""),
+        Who::Hugo => (b"hugo", b"ops", b"staff"),
+        Who::Otto => (b"otto", b"ops", b"staff"),
+        Who::Ada => (b"ada", b"admin", b""),
+        Who::Sue => (b"sue", b"staff", b"admin"),
+        Who::Tim => (b"tim", b"guests", b"ops"),
+        Who::Zoe => (b"zoe", b"guests", b""),
     }
+}
+
+fn anna_and_admin() -> Option<(Name, Name)> {
+    let owner = read_name(b"anna").ok()?;
+    let group = read_name(b"admin").ok()?;
+    Some((owner, group))
 }
 
 /// Whether an account is answered so by a data set of anna and the group admin with this list.
 fn is_answered(alloc: Global, acl: &Acl, who: Who, request: Perms, wanted: Decision) -> bool {
-    match (
-        account_of(alloc, who),
-        read_name(b"anna"),
-        read_name(b"admin"),
-    ) {
-        (Some(account), Ok(owner), Ok(group)) => {
+    match (account(alloc, names_of(who)), anna_and_admin()) {
+        (Some(account), Some((owner, group))) => {
             check(&account, &owner, &group, acl, request) == wanted
         }
         _ => false,
@@ -331,71 +326,4 @@ fn the_access_check_is_acl5_worked_by_hand(rt: HostRuntime) {
         let meaning = case.meaning;
         assert!(rt; is_worked_by_hand(rt.alloc(), case), "{meaning}");
     }
-}
-
-/// An account with so many further groups, all of one name.
-fn crowded(alloc: Global, name: &[u8], count: usize) -> Option<Account> {
-    let mut crowd = account(alloc, name, b"staff", &[])?;
-    for _ in 0..count {
-        if !is_pushed(&mut crowd.groups, b"ops") {
-            return None;
-        }
-    }
-    Some(crowd)
-}
-
-fn is_told(
-    alloc: Global,
-    accounts: &mut Accounts,
-    name: &[u8],
-    count: usize,
-    wanted: Result<(), Stop<AccountError>>,
-) -> bool {
-    match crowded(alloc, name, count) {
-        Some(account) => accounts.add(account) == wanted,
-        None => false,
-    }
-}
-
-fn has(accounts: &Accounts, name: &[u8], groups: usize) -> bool {
-    match read_name(name) {
-        Ok(name) => match accounts.find(&name) {
-            Some(account) => account.groups.len() == groups,
-            None => false,
-        },
-        Err(_) => false,
-    }
-}
-
-/// Accounts by turns: a name, the number of further groups, and what is told.
-static ADDED: [(&[u8], usize, Result<(), Stop<AccountError>>); 7] = [
-    (b"lisa", MOST_GROUPS, Ok(())),
-    (b"lisa", 0, Err(Stop::Refused(AccountError::AccountTwice))),
-    (b"lisa", 17, Err(Stop::Refused(AccountError::AccountTwice))),
-    (b"hugo", 17, Err(Stop::Refused(AccountError::TooManyGroups))),
-    (b"hugo", 40, Err(Stop::Refused(AccountError::TooManyGroups))),
-    (b"hugo", 0, Ok(())),
-    (b"hugo", 16, Err(Stop::Refused(AccountError::AccountTwice))),
-];
-
-fn are_told(alloc: Global, accounts: &mut Accounts) -> bool {
-    for (name, count, wanted) in &ADDED {
-        if !is_told(alloc, accounts, name, *count, *wanted) {
-            return false;
-        }
-    }
-    true
-}
-
-fn keeps_what_was_added(alloc: Global) -> bool {
-    let mut accounts = Accounts::new(alloc);
-    are_told(alloc, &mut accounts)
-        && has(&accounts, b"lisa", MOST_GROUPS)
-        && has(&accounts, b"hugo", 0)
-        && !has(&accounts, b"zoe", 0)
-}
-
-#[test]
-fn accounts_are_added_and_refused(rt: HostRuntime) {
-    assert!(rt; keeps_what_was_added(rt.alloc()));
 }

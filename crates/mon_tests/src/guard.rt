@@ -1,5 +1,4 @@
-//! Permission lists of the least and of the largest size, given where memory is ample. The worked requests are decks,
-//! which the program `rows` runs.
+//! A list of the largest size, given where memory is ample. The worked requests are decks, which the program `rows` runs.
 use mon_access::{Account, Groups};
 use mon_catalogue::Catalogue;
 use mon_guard::{AclText, Bytes, Guard, GuardAnswer};
@@ -16,32 +15,21 @@ fn lisa(alloc: Global) -> Option<Account> {
     })
 }
 
-fn put_user(number: u64, text: &mut Vec<u8>) -> Option<()> {
-    text.extend_from_slice(b",u:n").ok()?;
-    put_number(number, text).ok()?;
-    text.extend_from_slice(b":rw").ok()
+fn put_user(number: u64, text: &mut Vec<u8>) -> bool {
+    text.extend_from_slice(b",u:n").is_ok()
+        && put_number(number, text).is_ok()
+        && text.extend_from_slice(b":rw").is_ok()
 }
 
-// A list of so many named users, and of four entries beside them.
-fn list_of(alloc: Global, users: u64) -> Option<AclText> {
+// A list of 100 named users, and of four entries beside them.
+fn hundred_users(alloc: Global) -> Option<AclText> {
     let mut text = Vec::from_slice(alloc, b"u::rwx,g::r,m::rw,o::").ok()?;
-    for number in 0..users {
-        put_user(number, &mut text)?;
+    for number in 0..100 {
+        if !put_user(number, &mut text) {
+            return None;
+        }
     }
     Some(AclText::Short(Bytes::new(text)))
-}
-
-// lisa creates a set and gives it this list.
-fn is_given(
-    alloc: Global,
-    lisa: &Account,
-    catalogue: &mut Catalogue,
-    name: &Name,
-    text: &AclText,
-) -> bool {
-    let mut guard = Guard::new();
-    guard.create(alloc, lisa, catalogue, name.copy()).is_ok()
-        && guard.set_acl(alloc, lisa, catalogue, name, text) == Ok(GuardAnswer::Done)
 }
 
 fn has_entries(lisa: &Account, catalogue: &Catalogue, name: &Name, entries: usize) -> bool {
@@ -51,18 +39,28 @@ fn has_entries(lisa: &Account, catalogue: &Catalogue, name: &Name, entries: usiz
     }
 }
 
-fn given_entries(alloc: Global, users: u64, entries: usize) -> Option<bool> {
-    let name = read_name(b"PLAN").ok()?;
-    let lisa = lisa(alloc)?;
-    let text = list_of(alloc, users)?;
+// Whether lisa creates a set, gives it this list, and is shown so many entries.
+fn is_given(alloc: Global, lisa: &Account, name: &Name, text: &AclText, entries: usize) -> bool {
+    let mut guard = Guard::new();
     let mut catalogue = Catalogue::new(alloc);
-    let is_given = is_given(alloc, &lisa, &mut catalogue, &name, &text);
-    Some(is_given && has_entries(&lisa, &catalogue, &name, entries))
+    guard
+        .create(alloc, lisa, &mut catalogue, name.copy())
+        .is_ok()
+        && matches!(
+            guard.set_acl(alloc, lisa, &mut catalogue, name, text),
+            Ok(GuardAnswer::Done)
+        )
+        && has_entries(lisa, &catalogue, name, entries)
+}
+
+fn gives_hundred_users(alloc: Global) -> bool {
+    match (lisa(alloc), read_name(b"PLAN"), hundred_users(alloc)) {
+        (Some(lisa), Ok(name), Some(text)) => is_given(alloc, &lisa, &name, &text, 104),
+        _ => false,
+    }
 }
 
 #[test]
-fn lists_are_given(rt: HostRuntime) {
-    for (users, entries) in [(0, 4), (1, 5), (100, 104)] {
-        assert!(rt; given_entries(rt.alloc(), users, entries) == Some(true));
-    }
+fn a_long_list_is_given(rt: HostRuntime) {
+    assert!(rt; gives_hundred_users(rt.alloc()));
 }

@@ -15,5 +15,3 @@ mod device;
 mod guard;
 #[cfg(test)]
 mod monitor;
-#[cfg(test)]
-mod text;

@@ -6,7 +6,7 @@ use std::alloc::AllocError;
 ///
 /// What is refused and what memory is short for are told apart: a refusal depends on what was given alone, and `Memory`
 /// says nothing of it.
-#[derive(Clone, Copy, Debug, PartialEq, Eq)]
+#[derive(Clone, Copy)]
 pub enum Stop<R> {
     /// What was given is refused, and why.
     Refused(R),

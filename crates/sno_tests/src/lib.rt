@@ -4,6 +4,4 @@
 #[cfg(test)]
 mod asking;
 #[cfg(test)]
-mod lexer;
-#[cfg(test)]
 mod syntax;

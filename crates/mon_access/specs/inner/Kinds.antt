@@ -6,7 +6,7 @@ use Rattle.std.specs.Cmp.Lexicographic.{slice_cmp}
 use Rattle.mon_acl.specs.declared.entries.Perms.{Perms}
 use Rattle.mon_acl.specs.declared.entries.Tag.TheVariants.{Group}
 use Rattle.mon_acl.specs.declared.entries.Entry.{Entry}
-use Rattle.mon_acl.specs.Entries.{rank, place}
+use Rattle.mon_acl.specs.Entries.{rank, sort_key}
 use Rattle.mon_access.specs.declared.account.Account.{Account}
 use Rattle.mon_access.specs.declared.finding.Found.{Found}
 use Rattle.mon_access.specs.declared.finding.Found.TheVariants.{Nobody, Lacking, Holding}
@@ -39,9 +39,9 @@ joined Nobody g = g
 joined f Nobody = f
 joined (Lacking i) (Lacking j) = Lacking (min i j)
 
--- the entry stands at this place of the canonical order
+-- the entry has this sort key
 abbrev pub stands_at : List ℕ → Entry → Bool
-stands_at key e = is_eq (slice_cmp nat_cmp (place e) key)
+stands_at key e = is_eq (slice_cmp nat_cmp (sort_key e) key)
 
 -- an entry for a group of these names
 abbrev pub is_for_one_of : List (List ℕ) → Entry → Bool
