@@ -11,7 +11,9 @@ pub mod list;
 mod pieces;
 mod reading;
 pub mod refusals;
+pub mod text;
 
 pub use entries::{Entry, Perms, Tag};
 pub use list::Acl;
 pub use refusals::AclError;
+pub use text::{AclText, Bytes};

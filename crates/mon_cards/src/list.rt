@@ -2,7 +2,7 @@
 ghost use Rattle.std.specs.Prelude.{◌≡◌, [], ◌++◌, codes, OnOk};
 ghost use Rattle.mon_cards.specs.Requests.{opened, set_acl_of};
 
-use mon_guard::{AclText, Bytes};
+use mon_acl::{AclText, Bytes};
 use mon_monitor::Command;
 use mon_text::Name;
 use std::alloc::{AllocError, Global};

@@ -135,7 +135,7 @@ impl DeckFeed {
             }
             Ok((used, Some(line))) => {
                 self.fed += used as u64;
-                match self.take_line(alloc, &line, out) {
+                match self.take_line(alloc, line.text(), out) {
                     Ok(()) => Ok(used),
                     Err(error) => Err(error),
                 }

@@ -16,8 +16,9 @@ use Rattle.mon_catalogue.specs.Laws as catalogue
 use Rattle.mon_guard.specs.declared.answer.Reason.{Reason}
 use Rattle.mon_guard.specs.declared.answer.Reason.TheVariants.{NoSet, NotOwner}
 use Rattle.mon_guard.specs.declared.answer.AclAnswer.TheVariants as acl
-use Rattle.mon_guard.specs.declared.text.AclText.{AclText}
-use Rattle.mon_guard.specs.Owning.{owner_denial_of, owner_denial, removed_unless, removed, given, acl_set_unless, acl_set, list_of_text, new_set, new_list, created_unless, created}
+use Rattle.mon_acl.specs.declared.text.AclText.{AclText}
+use Rattle.mon_acl.specs.Forms.{list_of_text}
+use Rattle.mon_guard.specs.Owning.{owner_denial_of, owner_denial, removed_unless, removed, given, acl_set_unless, acl_set, new_set, new_list, created_unless, created}
 use Rattle.mon_guard.specs.Laws.{OwnsNamed, Removes, SetsList, Creates, HappensExactly, OwnersRemove, OwnersSetLists, MakersOwn, OtherSetsStay}
 use Rattle.mon_guard.proofs.Owners.{is_owner_true, owns_from}
 

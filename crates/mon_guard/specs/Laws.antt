@@ -3,7 +3,9 @@
 use Rattle.std.specs.Prelude.{◌≡◌, ◌≢◌, ℕ, ◌<◌, ◌⊎◌, ◌↔◌, List, [], ◌∷◌, ◌++◌, length, Some, None, Ok, Err, Any, Contains}
 use Rattle.mon_acl.specs.declared.entries.Perms.{Perms}
 use Rattle.mon_acl.specs.declared.entries.Entry.{Entry}
+use Rattle.mon_acl.specs.declared.text.AclText.{AclText}
 use Rattle.mon_acl.specs.Entries.{IsValidAcl}
+use Rattle.mon_acl.specs.Forms.{list_of_text}
 use Rattle.mon_access.specs.declared.account.Account.{Account}
 use Rattle.mon_access.specs.declared.access.Decision.TheVariants.{Granted, Denied}
 use Rattle.mon_access.specs.declared.access.Decider.{Decider}
@@ -14,11 +16,10 @@ use Rattle.mon_catalogue.specs.Changes.{without_set, with_acl}
 use Rattle.mon_guard.specs.declared.answer.Reason.{Reason}
 use Rattle.mon_guard.specs.declared.answer.Reason.TheVariants.{By, NoSet, NotOwner, NoUnit, InStream, SpoolUnit}
 use Rattle.mon_guard.specs.declared.answer.AclAnswer.TheVariants as acl
-use Rattle.mon_guard.specs.declared.text.AclText.{AclText}
 use Rattle.mon_guard.specs.Deciding.{decision_on, to_read, to_execute}
 use Rattle.mon_guard.specs.Reasons.{reason_of}
 use Rattle.mon_guard.specs.Lending.{AclPart, acl_part, records_lent, acl_lent, names_shown, names_lent}
-use Rattle.mon_guard.specs.Owning.{owner_denial, removed, list_of_text, acl_set, new_set, created}
+use Rattle.mon_guard.specs.Owning.{owner_denial, removed, acl_set, new_set, created}
 
 -- there is a data set of this name, and it is this one
 abbrev pub IsThere : List ℕ → Sets → DataSet → Type 0

@@ -5,8 +5,8 @@ use Rattle.mon_acl.specs.declared.entries.Tag.{Tag}
 use Rattle.mon_acl.specs.declared.entries.Tag.TheVariants.{UserObj, GroupObj, Other}
 use Rattle.mon_acl.specs.declared.entries.Entry.{Entry}
 use Rattle.mon_acl.specs.declared.refusals.AclError.{AclError}
-use Rattle.mon_acl.specs.Texts.{pieces, long_pieces}
-use Rattle.mon_acl.specs.Reading.{read_short, read_long, MayGrow}
+use Rattle.mon_acl.specs.declared.text.AclText.{AclText}
+use Rattle.mon_acl.specs.Forms.{list_of_text}
 use Rattle.mon_access.specs.declared.account.Account.{Account}
 use Rattle.mon_access.specs.Matches.{is_owner}
 use Rattle.mon_catalogue.specs.declared.data_set.DataSet.{DataSet}
@@ -17,8 +17,6 @@ use Rattle.mon_guard.specs.declared.answer.Reason.{Reason}
 use Rattle.mon_guard.specs.declared.answer.Reason.TheVariants.{NoSet, NotOwner}
 use Rattle.mon_guard.specs.declared.answer.AclAnswer.{AclAnswer}
 use Rattle.mon_guard.specs.declared.answer.AclAnswer.TheVariants as acl
-use Rattle.mon_guard.specs.declared.text.AclText.{AclText}
-use Rattle.mon_guard.specs.declared.text.AclText.TheVariants.{Short, Long}
 
 abbrev pub owner_denial_of : Account → Option DataSet → Option Reason
 owner_denial_of account None = Some NoSet
@@ -35,16 +33,6 @@ removed_unless None sets name = (Ok tt, without_set name sets)
 -- the owner removes the set; another changes nothing
 abbrev pub removed : Account → Sets → List ℕ → Result (Unit {0}) Reason × Sets
 removed account sets name = removed_unless (owner_denial account sets name) sets name
-
--- the list that a text spells, or its first refusal
-abbrev pub list_of_text : AclText → Result (List Entry) AclError
-list_of_text (Short text) = read_short text
-list_of_text (Long text) = read_long text
-
--- reading a text may take memory: it has five entries or more, and none of the first five is refused
-abbrev pub MayTakeMemory : AclText → Type 0
-MayTakeMemory (Short text) = MayGrow (pieces text)
-MayTakeMemory (Long text) = MayGrow (long_pieces text)
 
 -- a list is given to the set only where the text spells one
 abbrev pub given : Result (List Entry) AclError → Sets → List ℕ → AclAnswer × Sets

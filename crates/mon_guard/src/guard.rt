@@ -2,19 +2,19 @@
 ghost use Rattle.std.specs.Prelude.{◌≡◌, ◌↔◌, Some, Ok, IfOk, OnOk, OnErr, is_some, IsErrOf, IsOkAnd};
 ghost use Rattle.std.specs.Result.{result_map_both};
 ghost use Rattle.mon_text.specs.Stops.{Gives, refused_as};
+ghost use Rattle.mon_acl.specs.Forms.{MayTakeMemory};
 ghost use Rattle.mon_access.specs.Matches.{is_owner};
 ghost use Rattle.mon_catalogue.specs.Sets.{create_refusal};
 ghost use Rattle.mon_guard.specs.declared.answer.Reason.{Reason};
 ghost use Rattle.mon_guard.specs.Deciding.{to_read, to_execute, decision_on, decided, where_granted};
 ghost use Rattle.mon_guard.specs.Lending.{records_lent, acl_lent, name_lent};
-ghost use Rattle.mon_guard.specs.Owning.{owner_denial, removed, acl_set, created, new_list, MayTakeMemory};
+ghost use Rattle.mon_guard.specs.Owning.{owner_denial, removed, acl_set, created, new_list};
 ghost use Rattle.mon_guard.specs.Answers.{guard_answer, acl_answer};
 
 use crate::answer::{AclAnswer, Decided, GuardAnswer, Reason};
 use crate::shown::{ShownAcl, ShownName};
-use crate::text::AclText;
 use mon_access::{Account, Decision, check};
-use mon_acl::{Acl, AclError, Perms};
+use mon_acl::{Acl, AclError, AclText, Perms};
 use mon_catalogue::{Catalogue, CreateError, DataSet, NoSet, Records};
 use mon_text::{Name, Stop};
 use std::alloc::{AllocError, Global};

@@ -9,9 +9,7 @@ pub mod answer;
 pub mod guard;
 pub mod laws;
 pub mod shown;
-pub mod text;
 
 pub use answer::{AclAnswer, Decided, GuardAnswer, Reason};
 pub use guard::Guard;
 pub use shown::{ShownAcl, ShownName};
-pub use text::{AclText, Bytes};

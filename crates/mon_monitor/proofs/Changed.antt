@@ -8,8 +8,8 @@ use Rattle.mon_catalogue.specs.Sets.{Sets, find_set}
 use Rattle.mon_guard.specs.declared.answer.Reason.{Reason}
 use Rattle.mon_guard.specs.declared.answer.AclAnswer.{AclAnswer}
 use Rattle.mon_guard.specs.declared.answer.AclAnswer.TheVariants as acl
-use Rattle.mon_guard.specs.declared.text.AclText.{AclText}
-use Rattle.mon_guard.specs.declared.text.AclText.TheVariants.{Short}
+use Rattle.mon_acl.specs.declared.text.AclText.{AclText}
+use Rattle.mon_acl.specs.declared.text.AclText.TheVariants.{Short}
 use Rattle.mon_guard.specs.Lending.{records_lent, acl_lent, names_lent}
 use Rattle.mon_guard.specs.Owning.{removed, acl_set, created}
 use Rattle.mon_guard.specs.Laws as guard

@@ -8,9 +8,10 @@ use Rattle.mon_catalogue.specs.declared.catalogue.CreateError.{CreateError}
 use Rattle.mon_catalogue.specs.declared.catalogue.CreateError.TheVariants as create
 use Rattle.mon_catalogue.specs.Sets.{Sets}
 use Rattle.mon_guard.specs.declared.answer.Reason.{Reason}
-use Rattle.mon_guard.specs.declared.text.AclText.{AclText}
+use Rattle.mon_acl.specs.declared.text.AclText.{AclText}
+use Rattle.mon_acl.specs.Forms.{list_of_text}
 use Rattle.mon_guard.specs.Lending.{AclPart, records_lent, acl_lent, names_lent}
-use Rattle.mon_guard.specs.Owning.{owner_denial, removed_unless, given, acl_set_unless, list_of_text, created}
+use Rattle.mon_guard.specs.Owning.{owner_denial, removed_unless, given, acl_set_unless, created}
 use Rattle.mon_guard.specs.Laws as guard
 use Rattle.mon_monitor.specs.declared.command.Command.{Command}
 use Rattle.mon_monitor.specs.declared.command.Command.TheVariants.{Create, Delete, SetAcl, ShowAcl, List as Listing, Catalog}

@@ -3,7 +3,7 @@ ghost use Rattle.std.specs.Prelude.{◌≡◌, ◌++◌, OnOk};
 ghost use Rattle.mon_monitor.specs.Commands.{account_of, heading};
 
 use crate::printing::{put_card, put_word};
-use mon_guard::AclText;
+use mon_acl::AclText;
 use mon_text::Name;
 use std::alloc::AllocError;
 

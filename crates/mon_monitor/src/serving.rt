@@ -16,8 +16,9 @@ use crate::printing::{put_acl, put_count, put_name, put_records};
 use crate::printout::{Printout, told};
 use crate::reply::Reply;
 use mon_access::Account;
+use mon_acl::AclText;
 use mon_catalogue::{Catalogue, CreateError, Records};
-use mon_guard::{AclAnswer, AclText, Guard, ShownAcl};
+use mon_guard::{AclAnswer, Guard, ShownAcl};
 use mon_text::{Name, Stop};
 use std::alloc::{AllocError, Global};
 

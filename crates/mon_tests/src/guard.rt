@@ -1,7 +1,8 @@
 //! A list of the largest size, given where memory is ample. The worked requests are decks, which the program `rows` runs.
 use mon_access::{Account, Groups};
+use mon_acl::{AclText, Bytes};
 use mon_catalogue::Catalogue;
-use mon_guard::{AclText, Bytes, Guard, GuardAnswer};
+use mon_guard::{Guard, GuardAnswer};
 use mon_text::{Name, put_number, read_name};
 use std::alloc::Global;
 

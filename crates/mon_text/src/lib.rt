@@ -4,6 +4,7 @@
 #![tactic(auto)]
 
 pub mod count;
+pub mod ended_line;
 pub mod line;
 pub mod line_feed;
 pub mod name;
@@ -11,6 +12,7 @@ pub mod stop;
 mod words;
 
 pub use count::{BadNumber, put_number, read_count};
+pub use ended_line::EndedLine;
 pub use line::{Line, LineError, read_line, split_words};
 pub use line_feed::{LineFeed, MOST_KEPT_BYTES};
 pub use name::{BadName, Name, read_name};

@@ -1,4 +1,4 @@
-use Rattle.std.proofs.Common.{◌≡◌, ◌-◌, ◌+◌, List, ℕ, ap, ◌∙◌, take, min, length, ◌++◌, rules, arith}
+use Rattle.std.proofs.Common.{◌-◌, ap, ◌∙◌, take, ◌++◌, arith}
 use Rattle.std.proofs.lemmas.List.{take_min}
 use Rattle.mon_text.proofs.Cutting.{kept_more}
 use Rattle.mon_text.proofs.line_feed.keep.Goals as goal

@@ -1,4 +1,4 @@
-use Rattle.std.proofs.Common.{rules, sym, ◌∙◌, ap, subst, ◌≡◌, List, ℕ, length, cond, [], ◌∷◌, ◌==◌}
+use Rattle.std.proofs.Common.{rules, subst, ◌≡◌, List, ℕ, length, cond, [], ◌∷◌, ◌==◌}
 use Rattle.std.specs.Str.Lines.{lines}
 use Rattle.mon_text.proofs.Cutting.{last_line}
 use Rattle.mon_text.proofs.line_feed.LineFeed.rest.Goals as goal

@@ -1,9 +1,10 @@
-//! The text of a permission list that is to be set.
+//! The text of a permission list, in either of its two forms.
 ghost use Rattle.std.specs.Prelude.{◌≡◌, IsErrOf};
 ghost use Rattle.mon_text.specs.Stops.{Gives};
-ghost use Rattle.mon_guard.specs.Owning.{list_of_text, MayTakeMemory};
+ghost use Rattle.mon_acl.specs.Forms.{list_of_text, MayTakeMemory};
 
-use mon_acl::{Acl, AclError};
+use crate::list::Acl;
+use crate::refusals::AclError;
 use mon_text::Stop;
 use std::alloc::Global;
 use std::marker::Model;
@@ -48,8 +49,13 @@ impl Bytes {
 }
 
 impl AclText {
-    // The list that the text spells. A text that is refused within its first five entries is so whatever memory there is.
-    pub(crate) fn read(&self, alloc: Global) -> Result<Acl, Stop<AclError>>
+    /// The list that the text spells.
+    ///
+    /// # Errors
+    ///
+    /// The text's first refusal; `Memory` where a growth was refused, which no text of four entries needs, nor one that is
+    /// refused within its first five.
+    pub fn read(&self, alloc: Global) -> Result<Acl, Stop<AclError>>
         ensures list { Gives (λ acl. acl) result (list_of_text self.now) }
         ensures memory { IsErrOf result Stop.Memory → MayTakeMemory self.now }
     {
