@@ -7,7 +7,7 @@ use std::marker::Model;
 /// The tokens of a text, and for each the index of its first character.
 ///
 /// A contract sees them as two lists, which have the same length.
-#[derive(Debug, Drop)]
+#[derive(Drop)]
 pub struct Tokens {
     tokens: Vec<Token>,
     offsets: Vec<usize>,

@@ -43,7 +43,7 @@ pub enum Outcome {
 }
 
 /// A value that is written out.
-#[derive(Debug, Drop)]
+#[derive(Drop)]
 pub enum Constant {
     /// What stands between the quotes.
     Literal(Line),
@@ -51,7 +51,7 @@ pub enum Constant {
 }
 
 /// What may stand in a statement and in no expression.
-#[derive(Debug, Drop)]
+#[derive(Drop)]
 pub enum Part {
     /// `=`
     Equals,
@@ -64,7 +64,7 @@ pub enum Part {
 }
 
 /// What a token is, whatever blanks stand round it.
-#[derive(Debug, Drop)]
+#[derive(Drop)]
 pub enum TokenKind {
     Identifier(Line),
     Constant(Constant),
@@ -78,7 +78,7 @@ pub enum TokenKind {
 }
 
 /// A token, and whether blanks stand round it.
-#[derive(Debug, Drop)]
+#[derive(Drop)]
 pub struct Token {
     /// Does a blank stand before it? At the beginning of a statement's body there is one.
     pub blank_before: bool,
