@@ -10,7 +10,7 @@ use std::alloc::Global;
 use std::marker::Model;
 
 /// Bytes of any kind. A contract sees them as a list.
-#[derive(Debug, Drop)]
+#[derive(Drop)]
 pub struct Bytes {
     bytes: Vec<u8>,
 }
@@ -24,7 +24,7 @@ impl Model for Bytes {
 }
 
 /// The text of a permission list, in one of the two forms of acl(5), "ACL TEXT FORMS".
-#[derive(Debug, Drop)]
+#[derive(Drop)]
 pub enum AclText {
     /// Entries with commas between them.
     Short(Bytes),

@@ -1,2 +1,7 @@
 pub mod AccountWords
 pub mod CatalogueLines
+pub mod Spelled
+pub mod Complete
+pub mod Sound
+pub mod Standing
+pub mod ComingBack

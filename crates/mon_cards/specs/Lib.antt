@@ -4,4 +4,6 @@ pub mod Decks
 pub mod Refusing
 pub mod Requests
 pub mod Sections
+pub mod Spelling
+pub mod Laws
 pub mod inner

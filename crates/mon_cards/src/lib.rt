@@ -3,6 +3,7 @@
 
 pub mod card;
 pub mod code;
+pub mod laws;
 pub mod list;
 pub mod reading;
 pub mod request;
