@@ -1,2 +1,4 @@
 mod Numerals
 mod Powers
+mod Strings
+mod Replacing

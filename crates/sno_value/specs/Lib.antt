@@ -1,3 +1,4 @@
 pub mod Values
 pub mod Outcomes
 pub mod Operators
+pub mod Primitives

@@ -5,10 +5,17 @@
 #![tactic(auto)]
 
 pub mod calculating;
+pub mod joining;
 mod numeral;
 pub mod outcome;
+mod patterns;
+mod predicates;
+pub mod primitive;
+mod texts;
 pub mod value;
 
 pub use calculating::{Operation, affirm, arith, negate};
+pub use joining::{alternate, concat};
 pub use outcome::Outcome;
+pub use primitive::{CharacterPattern, Comparison, NumberPattern, Primitive, primitive_named};
 pub use value::Value;

@@ -1,9 +1,15 @@
 //! What an operator or a primitive function gives.
-ghost use Rattle.std.specs.Prelude.{◌≡◌, IfOk};
-ghost use Rattle.sno_value.specs.Outcomes.{predicate};
+ghost use Rattle.std.specs.Prelude.{◌≡◌, Result, IfOk};
+ghost use Rattle.mon_text.specs.Stops.{Gives};
+ghost use Rattle.sno_text.specs.declared.fault.Fault.{Fault};
+ghost use Rattle.sno_nodes.specs.Patterns.{Pattern};
+ghost use Rattle.sno_value.specs.Outcomes.{predicate, formed};
 
 use crate::value::Value;
+use mon_text::Stop;
+use sno_nodes::Pat;
 use sno_text::Fault;
+use std::alloc::AllocError;
 
 /// What an operator or a primitive function gives.
 #[derive(Drop)]
@@ -24,5 +30,16 @@ pub(crate) fn predicate(holds: bool) -> Outcome
         Outcome::Gives(Value::null())
     } else {
         Outcome::Fails
+    }
+}
+
+/// A pattern that was to be formed.
+pub(crate) fn formed(made: Result<Pat, Stop<Fault>>) -> Result<Outcome, AllocError>
+    ensures { (said : Result Pattern Fault) → Gives (λ pattern. pattern) made said → IfOk result (λ outcome. outcome ≡ formed said) }
+{
+    match made {
+        Ok(pattern) => Ok(Outcome::Gives(Value::Pattern(pattern))),
+        Err(Stop::Refused(fault)) => Ok(Outcome::Faults(fault)),
+        Err(Stop::Memory) => Err(AllocError),
     }
 }

@@ -2,7 +2,7 @@
 ghost use Rattle.std.specs.Prelude.{◌≡◌, IfOk, IfSome};
 ghost use Rattle.std.specs.Option.{option_copied};
 ghost use Rattle.mon_text.specs.Lines.{IsLine};
-ghost use Rattle.sno_value.specs.Values.{null, is_null, text_of, number_of};
+ghost use Rattle.sno_value.specs.Values.{null, is_null, text_of, number_of, pattern_of};
 
 use crate::numeral::number_of_text;
 use itoa::Buffer;
@@ -95,6 +95,31 @@ impl Value {
             Value::Text(text) => number_of_text(text.as_bytes()),
             Value::Integer(number) => Some(*number),
             Value::Pattern(_) | Value::Unevaluated(_) => None,
+        }
+    }
+
+    /// The value as a pattern: a text matches itself, and what is not evaluated is looked up in the match.
+    ///
+    /// # Errors
+    ///
+    /// Where a growth was refused.
+    pub fn to_pattern(&self, alloc: Global) -> Result<Pat, AllocError>
+        ensures { IfOk result (λ pattern. pattern ≡ pattern_of self.now) }
+    {
+        match self {
+            Value::Text(text) => {
+                let text = text.copy()?;
+                Pat::text(alloc, text)
+            }
+            Value::Integer(number) => {
+                let text = Text::of_number(alloc, *number)?;
+                Pat::text(alloc, text)
+            }
+            Value::Pattern(pattern) => pattern.copy(),
+            Value::Unevaluated(name) => {
+                let name = name.copy()?;
+                Pat::defer(alloc, name)
+            }
         }
     }
 

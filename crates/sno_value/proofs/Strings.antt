@@ -1,0 +1,40 @@
+-- Strings that are formed: how long they are, and what that gives.
+use Rattle.std.proofs.Common.{arith, ◌≡◌, ℕ, zero, suc, ◌+◌, ◌*◌, ◌≤◌, ◌<◌, List, ◌++◌, length, refl, sym, ap, ◌∙◌, Bool, true, false, length-append}
+use Rattle.std.specs.Prelude.{ℤ, pos, negsuc, nat_le, nat_lt, unsigned_abs, int_lt, if◌then◌else◌}
+use Rattle.std.proofs.Math.Nat.{suc-mul}
+use Rattle.std.proofs.lemmas.Bool.Decides.{nat_tests}
+use Rattle.sno_text.specs.Texts.{repeated}
+use Rattle.sno_text.specs.declared.fault.Fault.TheVariants.{Length}
+use Rattle.sno_value.specs.declared.value.Value.TheVariants.{Text}
+use Rattle.sno_value.specs.declared.outcome.Outcome.{Outcome}
+use Rattle.sno_value.specs.declared.outcome.Outcome.TheVariants.{Gives, Faults}
+use Rattle.sno_value.specs.Outcomes.{string}
+use Rattle.sno_value.specs.Primitives.{copies}
+
+pub length-repeated : (n : ℕ) (text : List ℕ) → length (repeated n text) ≡ n * length text
+length-repeated zero text = omega arith
+length-repeated (suc n) text =
+    let more = length-repeated n text in
+    let times = suc-mul n (length text) in
+    length-append text (repeated n text) ∙ omega (arith, more, times)
+
+by_length : (text : List ℕ) (b : Bool) (given : Bool) → b ≡ given → (if given then Gives (Text text) else Faults Length) ≡ (if b then Gives (Text text) else Faults Length)
+by_length text b given e = ap (λ (c : Bool). if c then Gives (Text text) else Faults Length) (sym e)
+
+pub too_long : (most : ℕ) (text : List ℕ) → most < length text → Faults Length ≡ string most text
+too_long most text over = by_length text (nat_le (length text) most) false (grind (arith, nat_tests, over))
+
+pub not_too_long : (most : ℕ) (text : List ℕ) → length text ≤ most → Gives (Text text) ≡ string most text
+not_too_long most text within = by_length text (nat_le (length text) most) true (grind (arith, nat_tests, within))
+
+-- the same by the test on their number
+pub too_many : (most n : ℕ) (text : List ℕ) (b : Bool) → b ≡ nat_lt most (n * length text) → b ≡ true → Faults Length ≡ string most (repeated n text)
+too_many most n text b test e = let long = length-repeated n text in too_long most (repeated n text) (grind (arith, nat_tests, test, e, long))
+
+pub not_too_many : (most n : ℕ) (text : List ℕ) (b : Bool) → b ≡ nat_lt most (n * length text) → b ≡ false → Gives (Text (repeated n text)) ≡ string most (repeated n text)
+not_too_many most n text b test e = let long = length-repeated n text in not_too_long most (repeated n text) (grind (arith, nat_tests, test, e, long))
+
+-- a number that is not negative counts copies
+pub copies_of : (most : ℕ) (text : List ℕ) (z : ℤ) (n : ℕ) → n ≡ unsigned_abs z → int_lt z (pos 0) ≡ false → string most (repeated n text) ≡ copies most text z
+copies_of most text (pos k) n is sign = ap (λ (m : ℕ). string most (repeated m text)) is
+copies_of most text (negsuc k) n is sign = absurd (cc)

@@ -1,0 +1,81 @@
+//! Concatenation and alternation.
+ghost use Rattle.std.specs.Prelude.{◌≡◌, ◌++◌, IfOk};
+ghost use Rattle.mon_text.specs.Lines.{IsLine};
+ghost use Rattle.sno_nodes.specs.Patterns.{Cat};
+ghost use Rattle.sno_value.specs.Values.{text_of, pattern_of};
+ghost use Rattle.sno_value.specs.Outcomes.{string, pattern};
+ghost use Rattle.sno_value.specs.Operators.{joined, concatenation, alternation};
+
+use crate::outcome::{Outcome, formed};
+use crate::value::Value;
+use itoa::Buffer;
+use sno_nodes::Pat;
+use sno_text::{Fault, Text};
+use std::alloc::{AllocError, Global};
+
+// Two texts as one, if it is not too long.
+fn join_texts(alloc: Global, first: &[u8], second: &[u8], most: u64) -> Result<Outcome, AllocError>
+    requires first { IsLine first.now }
+    requires second { IsLine second.now }
+    ensures { IfOk result (λ outcome. outcome ≡ string most (first.now ++ second.now)) }
+{
+    let length = first.len() + second.len();
+    if length as u64 > most {
+        return Ok(Outcome::Faults(Fault::Length));
+    }
+    let mut bytes = Vec::with_capacity(alloc, length)?;
+    bytes.extend_from_slice(first).unwrap();
+    bytes.extend_from_slice(second).unwrap();
+    let text = Text::of_bytes(alloc, bytes)?;
+    Ok(Outcome::Gives(Value::Text(text)))
+}
+
+// The pattern of one value and then another.
+fn join_patterns(alloc: Global, left: &Value, right: &Value) -> Result<Outcome, AllocError>
+    ensures { IfOk result (λ outcome. outcome ≡ pattern (Cat (pattern_of left.now) (pattern_of right.now))) }
+{
+    let left = left.to_pattern(alloc)?;
+    let right = right.to_pattern(alloc)?;
+    formed(Pat::cat(alloc, &left, &right))
+}
+
+// Two values of which neither is null.
+fn join(alloc: Global, left: &Value, right: &Value, most: u64) -> Result<Outcome, AllocError>
+    ensures { IfOk result (λ outcome. outcome ≡ joined most (text_of left.now) (text_of right.now) (pattern_of left.now) (pattern_of right.now)) }
+{
+    let (mut first, mut second) = (Buffer::new(), Buffer::new());
+    match (left.characters(&mut first), right.characters(&mut second)) {
+        (Some(first), Some(second)) => join_texts(alloc, first, second, most),
+        _ => join_patterns(alloc, left, right),
+    }
+}
+
+/// Two values one after the other: a string of at most `most` characters, or a pattern. The null string changes nothing.
+///
+/// # Errors
+///
+/// Where a growth was refused.
+pub fn concat(alloc: Global, left: Value, right: Value, most: u64) -> Result<Outcome, AllocError>
+    ensures { IfOk result (λ outcome. outcome ≡ concatenation most left right) }
+{
+    if left.is_null() {
+        Ok(Outcome::Gives(right))
+    } else if right.is_null() {
+        Ok(Outcome::Gives(left))
+    } else {
+        join(alloc, &left, &right, most)
+    }
+}
+
+/// The pattern of one value or else another.
+///
+/// # Errors
+///
+/// Where a growth was refused.
+pub fn alternate(alloc: Global, left: &Value, right: &Value) -> Result<Outcome, AllocError>
+    ensures { IfOk result (λ outcome. outcome ≡ alternation left.now right.now) }
+{
+    let left = left.to_pattern(alloc)?;
+    let right = right.to_pattern(alloc)?;
+    formed(Pat::alt(alloc, &left, &right))
+}

@@ -1,0 +1,93 @@
+//! The primitive functions that make patterns.
+ghost use Rattle.std.specs.Prelude.{◌≡◌, IfOk};
+ghost use Rattle.sno_value.specs.Primitives.{number_pattern, at_number, of_number, character_pattern, among, of_characters, any_number_of};
+
+use crate::outcome::{Outcome, formed};
+use crate::primitive::{CharacterPattern, NumberPattern};
+use crate::value::Value;
+use sno_nodes::Pat;
+use sno_text::{Fault, Text};
+use std::alloc::{AllocError, Global};
+
+fn number_pattern(alloc: Global, kind: NumberPattern, number: u64) -> Result<Pat, AllocError>
+    ensures { IfOk result (λ pattern. pattern ≡ number_pattern kind number) }
+{
+    match kind {
+        NumberPattern::Len => Pat::len(alloc, number),
+        NumberPattern::Pos => Pat::pos(alloc, number),
+        NumberPattern::RPos => Pat::rpos(alloc, number),
+        NumberPattern::Tab => Pat::tab(alloc, number),
+        NumberPattern::RTab => Pat::rtab(alloc, number),
+    }
+}
+
+fn at_number(alloc: Global, kind: NumberPattern, number: i64) -> Result<Outcome, AllocError>
+    ensures { IfOk result (λ outcome. outcome ≡ at_number kind number) }
+{
+    if number < 0 {
+        return Ok(Outcome::Faults(Fault::Negative));
+    }
+    let pattern = number_pattern(alloc, kind, number.unsigned_abs())?;
+    Ok(Outcome::Gives(Value::Pattern(pattern)))
+}
+
+/// LEN, POS, RPOS, TAB, RTAB.
+pub(crate) fn of_number(
+    alloc: Global,
+    kind: NumberPattern,
+    value: &Value,
+) -> Result<Outcome, AllocError>
+    ensures { IfOk result (λ outcome. outcome ≡ of_number kind value.now) }
+{
+    match value.to_number() {
+        Some(number) => at_number(alloc, kind, number),
+        None => Ok(Outcome::Faults(Fault::WrongType)),
+    }
+}
+
+fn character_pattern(
+    alloc: Global,
+    kind: CharacterPattern,
+    characters: Text,
+) -> Result<Pat, AllocError>
+    ensures { IfOk result (λ pattern. pattern ≡ character_pattern kind characters) }
+{
+    match kind {
+        CharacterPattern::Span => Pat::span(alloc, characters),
+        CharacterPattern::Break => Pat::break_at(alloc, characters),
+        CharacterPattern::Any => Pat::any(alloc, characters),
+        CharacterPattern::NotAny => Pat::not_any(alloc, characters),
+    }
+}
+
+fn among(alloc: Global, kind: CharacterPattern, characters: Text) -> Result<Outcome, AllocError>
+    ensures { IfOk result (λ outcome. outcome ≡ among kind characters) }
+{
+    if characters.is_null() {
+        return Ok(Outcome::Faults(Fault::Null));
+    }
+    let pattern = character_pattern(alloc, kind, characters)?;
+    Ok(Outcome::Gives(Value::Pattern(pattern)))
+}
+
+/// SPAN, BREAK, ANY, NOTANY.
+pub(crate) fn of_characters(
+    alloc: Global,
+    kind: CharacterPattern,
+    value: &Value,
+) -> Result<Outcome, AllocError>
+    ensures { IfOk result (λ outcome. outcome ≡ of_characters kind value.now) }
+{
+    match value.to_text(alloc)? {
+        Some(characters) => among(alloc, kind, characters),
+        None => Ok(Outcome::Faults(Fault::WrongType)),
+    }
+}
+
+/// ARBNO.
+pub(crate) fn any_number_of(alloc: Global, value: &Value) -> Result<Outcome, AllocError>
+    ensures { IfOk result (λ outcome. outcome ≡ any_number_of value.now) }
+{
+    let pattern = value.to_pattern(alloc)?;
+    formed(Pat::arbno(alloc, &pattern))
+}
