@@ -1,12 +1,11 @@
 -- Strings that are formed: how long they are, and what that gives.
-use Rattle.std.proofs.Common.{arith, ◌≡◌, ℕ, zero, suc, ◌+◌, ◌*◌, ◌≤◌, ◌<◌, List, ◌++◌, length, refl, sym, ap, ◌∙◌, Bool, true, false, length-append}
+use Rattle.std.proofs.Common.{arith, ◌≡◌, ℕ, zero, suc, ◌*◌, ◌≤◌, ◌<◌, List, length, sym, ap, ◌∙◌, Bool, true, false, length-append}
 use Rattle.std.specs.Prelude.{ℤ, pos, negsuc, nat_le, nat_lt, unsigned_abs, int_lt, if◌then◌else◌}
 use Rattle.std.proofs.Math.Nat.{suc-mul}
 use Rattle.std.proofs.lemmas.Bool.Decides.{nat_tests}
 use Rattle.sno_text.specs.Texts.{repeated}
 use Rattle.sno_text.specs.declared.fault.Fault.TheVariants.{Length}
 use Rattle.sno_value.specs.declared.value.Value.TheVariants.{Text}
-use Rattle.sno_value.specs.declared.outcome.Outcome.{Outcome}
 use Rattle.sno_value.specs.declared.outcome.Outcome.TheVariants.{Gives, Faults}
 use Rattle.sno_value.specs.Outcomes.{string}
 use Rattle.sno_value.specs.Primitives.{copies}

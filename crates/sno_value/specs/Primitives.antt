@@ -5,7 +5,7 @@ use Rattle.std.specs.Option.{option_map_or, unwrap_or}
 use Rattle.std.specs.Ordering.{nat_cmp, int_eq, is_gt}
 use Rattle.std.specs.Cmp.Lexicographic.{pointwise, slice_cmp}
 use Rattle.sno_text.specs.Texts.{repeated, without_trailing_blanks}
-use Rattle.sno_text.specs.declared.fault.Fault.TheVariants.{WrongType, Null, Negative}
+use Rattle.sno_text.specs.declared.fault.Fault.TheVariants.{Null, Negative}
 use Rattle.sno_nodes.specs.Patterns as patterns
 use Rattle.sno_value.specs.declared.value.Value.{Value}
 use Rattle.sno_value.specs.declared.value.Value.TheVariants.{Text, Integer, Pattern, Unevaluated}
