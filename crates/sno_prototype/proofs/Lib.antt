@@ -1,0 +1,4 @@
+mod Numbers
+mod Identifiers
+mod Listing
+mod Apart

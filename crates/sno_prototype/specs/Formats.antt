@@ -1,0 +1,52 @@
+-- Formats of records (own): `(nA1)` for n characters a record, 1 to 1,024, and `(1X,nA1)` for a blank and n characters, 1 to 1,023.
+use Rattle.std.specs.Prelude.{ℕ, zero, suc, ◌-◌, nat_le, nat_eq, Bool, true, false, ◌&&◌, List, [], ◌∷◌, length, take, drop, map, codes, Option, Some, None, if◌then◌else◌}
+use Rattle.std.specs.List.{list_all, onto_first}
+use Rattle.std.specs.Option.{option_map, option_and_then}
+use Rattle.std.specs.Cmp.Lexicographic.{pointwise}
+use Rattle.mon_text.specs.Characters.{is_digit}
+use Rattle.mon_text.specs.Counts.{value_of}
+use Rattle.sno_prototype.specs.declared.format.Format.{Format}
+
+-- the number that digits stand for, if it is from 1 to so many
+abbrev pub number_to : ℕ → List ℕ → Option ℕ
+number_to most text = if list_all is_digit text && nat_le 1 (value_of text) && nat_le (value_of text) most then Some (value_of text) else None
+
+-- what stands before a text at the end
+abbrev pub before : List ℕ → List ℕ → Option (List ℕ)
+before end text = let kept = length text - length end in if pointwise nat_eq (drop kept text) end then Some (take kept text) else None
+
+-- what stands behind a text at the front
+abbrev pub behind : List ℕ → List ℕ → Option (List ℕ)
+behind front text = if pointwise nat_eq (take (length front) text) front then Some (drop (length front) text) else None
+
+-- the number before `A1)`
+abbrev pub characters_in : ℕ → List ℕ → Option ℕ
+characters_in most text = option_and_then (number_to most) (before (codes "A1)") text)
+
+abbrev pub with_blank : Bool → ℕ → Format
+with_blank blank n = record { length = n; blank = blank }
+
+abbrev pub format_without_blank : Option (List ℕ) → Option Format
+format_without_blank None = None
+format_without_blank (Some rest) = option_map (with_blank false) (characters_in 1024 rest)
+
+abbrev pub format_behind : List ℕ → Option (List ℕ) → Option Format
+format_behind text None = format_without_blank (behind (codes "(") text)
+format_behind text (Some rest) = option_map (with_blank true) (characters_in 1023 rest)
+
+abbrev pub format_of : List ℕ → Option Format
+format_of text = format_behind text (behind (codes "(1X,") text)
+
+-- a text cut into pieces of n characters, of which so many may still go into the first one; no text is one piece without characters
+abbrev pub pieces : ℕ → ℕ → List ℕ → List (List ℕ)
+pieces n left [] = [] ∷ []
+pieces n zero (c ∷ cs) = [] ∷ onto_first c (pieces n (n - 1) cs)
+pieces n (suc left) (c ∷ cs) = onto_first c (pieces n left cs)
+
+-- a piece as a record
+abbrev pub laid_out : Format → List ℕ → List ℕ
+laid_out format piece = if format.blank then 32 ∷ piece else piece
+
+-- the records of a text: there is at least one
+abbrev pub records : Format → List ℕ → List (List ℕ)
+records format text = map (laid_out format) (pieces format.length format.length text)

@@ -1,0 +1,233 @@
+//! Prototypes of functions.
+ghost use Rattle.std.specs.Prelude.{◌≡◌, ◌==◌, position, ◌∷◌, ◌++◌, ◌<◌, [], length, nat_eq, true, map, ⊤, if◌then◌else◌, ◌&&◌, IfOk, IfSome, MatchOption};
+ghost use Rattle.std.specs.List.{list_all, list_any, slice_split};
+ghost use Rattle.std.specs.Option.{option_map};
+ghost use Rattle.std.specs.Cmp.Lexicographic.{pointwise};
+ghost use Rattle.mon_text.specs.Lines.{is_blank_line};
+ghost use Rattle.sno_prototype.specs.Prototypes.{is_identifier_character, is_identifier, without_leading_blanks, trimmed, cut_at, is_comma, names_of, are_different, prototype_with, prototype_of};
+ghost use Rattle.sno_prototype.specs.inner.Reading.{told, listed, items_from, are_apart, both_listed};
+
+use crate::names::Names;
+use sno_text::{Named, Text, without_trailing_blanks};
+use std::alloc::{AllocError, Global};
+
+/// What a prototype says of a function.
+#[derive(Drop)]
+pub struct Prototype {
+    /// Its name.
+    pub name: Named,
+    /// The names of its parameters.
+    pub parameters: Names,
+    /// The names of its other variables.
+    pub locals: Names,
+}
+
+fn is_identifier_character(code: u8) -> bool
+    ensures { result ≡ is_identifier_character code }
+{
+    code.is_ascii_alphabetic() || code.is_ascii_digit() || code == b'.' || code == b'_'
+}
+
+fn are_identifier_characters(text: &[u8]) -> bool
+    ensures { result ≡ list_all is_identifier_character text.now }
+{
+    text.iter().all(|code| is_identifier_character(*code))
+}
+
+fn is_identifier(text: &[u8]) -> bool
+    ensures { result ≡ is_identifier text.now }
+{
+    match text.split_first() {
+        None => false,
+        Some((first, rest)) => first.is_ascii_alphabetic() && are_identifier_characters(rest),
+    }
+}
+
+fn is_blank_line(text: &[u8]) -> bool
+    ensures { result ≡ is_blank_line text.now }
+{
+    text.iter().all(|code| *code == b' ')
+}
+
+fn without_leading_blanks(text: &[u8]) -> &[u8]
+    ensures { result.now ≡ without_leading_blanks text.now }
+{
+    let mut from = 0;
+    while from < text.len() && text[from] == b' ' {
+        from += 1;
+    }
+    &text[from..]
+}
+
+fn trimmed(text: &[u8]) -> &[u8]
+    ensures { result.now ≡ trimmed text.now }
+{
+    without_trailing_blanks(without_leading_blanks(text))
+}
+
+/// The first place of a character.
+fn place_of(text: &[u8], at: u8) -> Option<usize>
+    ensures place { result ≡ position (λ code. code == at) text.now }
+    ensures within { IfSome result (λ place. place < length text.now) }
+{
+    text.iter().position(|code| *code == at)
+}
+
+/// What stands before a character's first place, and behind it.
+fn cut_at(text: &[u8], at: u8) -> Option<(&[u8], &[u8])>
+    ensures cut { option_map told result ≡ cut_at at text.now }
+    ensures shorter { IfSome result (λ parts. length parts.1.now < length text.now) }
+{
+    match place_of(text, at) {
+        Some(place) => Some((&text[..place], &text[place + 1..])),
+        None => None,
+    }
+}
+
+/// The first item of a list, and what stands behind its comma.
+fn next_item(text: &[u8]) -> (&[u8], Option<&[u8]>)
+    ensures split { slice_split is_comma text.now ≡ result.0.now ∷ items_from result.1 }
+    ensures shorter { MatchOption result.1 ⊤ (λ rest. length rest.now < length text.now) }
+{
+    match cut_at(text, b',') {
+        Some((item, rest)) => (item, Some(rest)),
+        None => (text, None),
+    }
+}
+
+/// Adds an item, if it is an identifier.
+fn add_item(alloc: Global, names: &mut Names, item: &[u8]) -> Result<bool, AllocError>
+    ensures is { IfOk result (λ is. is ≡ is_identifier (trimmed item.now)) }
+    ensures added { IfOk result (λ is. names.new ≡ (if is then names.old ++ trimmed item.now ∷ [] else names.old)) }
+{
+    let name = trimmed(item);
+    if !is_identifier(name) {
+        return Ok(false);
+    }
+    let name = Text::of_slice(alloc, name)?;
+    names.push(Named::new(name, 0))?;
+    Ok(true)
+}
+
+/// The items of a list, if they are identifiers.
+fn read_items(alloc: Global, text: &[u8]) -> Result<Option<Names>, AllocError>
+    ensures { IfOk result (λ names. names ≡ listed text.now) }
+{
+    let mut names = Names::new(alloc);
+    if is_blank_line(text) {
+        return Ok(Some(names));
+    }
+    let mut left = Some(text);
+    while let Some(text) = left {
+        let (item, rest) = next_item(text);
+        if !add_item(alloc, &mut names, item)? {
+            return Ok(None);
+        }
+        left = rest;
+    }
+    Ok(Some(names))
+}
+
+/// The items of two lists, if they are identifiers.
+fn read_lists(
+    alloc: Global,
+    parameters: &[u8],
+    locals: &[u8],
+) -> Result<Option<(Names, Names)>, AllocError>
+    ensures { IfOk result (λ lists. lists ≡ both_listed (listed parameters.now) (listed locals.now)) }
+{
+    let parameters = read_items(alloc, parameters)?;
+    let locals = read_items(alloc, locals)?;
+    match (parameters, locals) {
+        (Some(parameters), Some(locals)) => Ok(Some((parameters, locals))),
+        _ => Ok(None),
+    }
+}
+
+fn is_among(name: &Text, names: &[Named]) -> bool
+    ensures { result ≡ list_any (λ other. pointwise nat_eq other name.now) names.now }
+{
+    names.iter().any(|other| other.text() == name)
+}
+
+/// Whether no name of a list is one behind it, or one of another list.
+fn are_apart(names: &[Named], others: &[Named]) -> bool
+    ensures { result ≡ are_apart names.now others.now }
+{
+    for (place, name) in names.iter().enumerate() {
+        let later = &names[place + 1..];
+        if is_among(name.text(), later) {
+            return false;
+        }
+        if is_among(name.text(), others) {
+            return false;
+        }
+    }
+    true
+}
+
+/// Whether all names of a function's variables are different.
+fn are_different(prototype: &Prototype) -> bool
+    ensures { result ≡ are_different (names_of prototype.now) }
+{
+    let name = prototype.name.text();
+    let parameters = prototype.parameters.as_slice();
+    let locals = prototype.locals.as_slice();
+    if is_among(name, parameters) {
+        return false;
+    }
+    if is_among(name, locals) {
+        return false;
+    }
+    if !are_apart(parameters, locals) {
+        return false;
+    }
+    are_apart(locals, &[])
+}
+
+/// The prototype that a name and two lists make.
+fn read_parts(
+    alloc: Global,
+    name: &[u8],
+    parameters: &[u8],
+    locals: &[u8],
+) -> Result<Option<Prototype>, AllocError>
+    ensures { IfOk result (λ prototype. prototype ≡ prototype_with name.now (parameters.now, locals.now)) }
+{
+    let name = trimmed(name);
+    if !is_identifier(name) {
+        return Ok(None);
+    }
+    let Some((parameters, locals)) = read_lists(alloc, parameters, locals)? else {
+        return Ok(None);
+    };
+    let name = Text::of_slice(alloc, name)?;
+    let prototype = Prototype {
+        name: Named::new(name, 0),
+        parameters,
+        locals,
+    };
+    if are_different(&prototype) {
+        Ok(Some(prototype))
+    } else {
+        Ok(None)
+    }
+}
+
+/// Reads a prototype, as `F(A,B)L1,L2`: a name, and the names of parameters and of other variables, all identifiers
+/// and all different. Blanks may stand round each.
+///
+/// # Errors
+///
+/// Where a growth was refused.
+pub fn read_prototype(alloc: Global, text: &[u8]) -> Result<Option<Prototype>, AllocError>
+    ensures { IfOk result (λ prototype. prototype ≡ prototype_of text.now) }
+{
+    let Some((name, rest)) = cut_at(text, b'(') else {
+        return Ok(None);
+    };
+    let Some((parameters, locals)) = cut_at(rest, b')') else {
+        return Ok(None);
+    };
+    read_parts(alloc, name, parameters, locals)
+}
