@@ -11,6 +11,7 @@ The cases, at their whole size (HALVES is 2, and 1 gives half of it):
   names      1,000 sets with 100 named entries each, and 400 $CATALOG cards, as many at half the size
   lists      1,000 sets with 70 named users of 200 and 30 named groups of 40 each, drawn by lot, and 20,000 commands, of
              which each tenth is $CATALOG: 2,018,000 access checks; as many commands at half the size
+  stream     one set of one record, and 1,000,000 $LIST cards of it
 
 decks.py sets SETS COMMANDS: so many sets as in `commands`, and so many commands but $CATALOG and $DELETE.
 decks.py programs STATEMENTS: no deck, but the cards of a SNOBOL4 program: so many statements of 1,000 tokens each.
@@ -208,6 +209,7 @@ CASES = {
     "commands": lambda halves: mixed(sets=500 * halves, commands=10_000 * halves),
     "names": lambda halves: names(sets=500 * halves, cards=400),
     "lists": lambda halves: drawn_lists(sets=500 * halves, commands=20_000),
+    "stream": lambda halves: one_set(records=1, cards=500_000 * halves, length=10),
 }
 
 
