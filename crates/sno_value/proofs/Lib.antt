@@ -1,4 +1,6 @@
+mod Examples
 mod Numerals
 mod Powers
 mod Strings
 mod Replacing
+mod Lawful

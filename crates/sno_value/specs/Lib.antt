@@ -2,3 +2,4 @@ pub mod Values
 pub mod Outcomes
 pub mod Operators
 pub mod Primitives
+pub mod Laws

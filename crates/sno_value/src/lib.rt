@@ -6,6 +6,7 @@
 
 pub mod calculating;
 pub mod joining;
+pub mod laws;
 mod numeral;
 pub mod outcome;
 mod patterns;
