@@ -4,4 +4,6 @@
 #[cfg(test)]
 mod asking;
 #[cfg(test)]
+mod coding;
+#[cfg(test)]
 mod syntax;

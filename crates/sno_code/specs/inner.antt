@@ -1,0 +1,4 @@
+pub mod Code
+pub mod Machine
+pub mod Coding
+pub mod Laws
