@@ -1,20 +1,21 @@
 -- A run, read by read.
-use Rattle.std.proofs.Common.{◌≡◌, ℕ, ◌+◌, ◌<◌, ◌≤◌, Bool, true, false, List, [], ◌∷◌, ◌++◌, length, Option, Some, None, IfSome, IfOk, OnOk, Result, Ok, Err, refl, sym, ap, ◌∙◌, subst, arith, append_assoc, append-nil, length-append, if◌then◌else◌}
+use Rattle.std.proofs.Common.{◌≡◌, ℕ, Bool, false, List, [], ◌++◌, length, Option, Some, None, IfSome, IfOk, OnOk, OnErr, Result, Ok, Err, refl, sym, ap, ◌∙◌, subst, append_assoc, if◌then◌else◌}
 use Rattle.std.specs.Str.Lines.{lines}
 use Rattle.mon_catalogue.specs.Sets.{Sets}
 use Rattle.mon_device.specs.Devices.{holding, Gives, IsAtEnd}
 use Rattle.mon_device.proofs.Holding.{holding-nothing}
 use Rattle.mon_cards.specs.declared.code.Code.{Code}
-use Rattle.mon_deck.specs.declared.feed.DeckFeed.{DeckFeed}
-use Rattle.mon_deck.specs.declared.fault.RunError.{RunError}
-use Rattle.mon_deck.specs.declared.options.Counts.{Counts}
+use Rattle.mon_feed.specs.declared.feed.DeckFeed.{DeckFeed}
+use Rattle.mon_feed.specs.declared.fault.RunError.{RunError}
+use Rattle.mon_feed.specs.declared.options.Counts.{Counts}
 use Rattle.mon_cards.specs.Decks.{Deck, Ending, Stopped, Refused}
 use Rattle.mon_cards.specs.Sections.{deck_of}
-use Rattle.mon_deck.specs.Printouts.{output_of, answer_to, sets_after}
-use Rattle.mon_deck.specs.Runs.{ending_of, catalogue_after, counts_of, ReadsBack}
-use Rattle.mon_deck.specs.Feeds.{outcome_of, refused_at, IsReadBack, concluded, sets_left, Conclusion, Good, Bad}
-use Rattle.mon_deck.specs.Told.{outcome_from}
-use Rattle.mon_deck.specs.inner.Writing.{Held, holds, Runs}
+use Rattle.mon_feed.specs.Printouts.{output_of, sets_after, ReadsBack}
+use Rattle.mon_deck.specs.Runs.{ending_of, catalogue_after, counts_of, HoldsBeginning, HasBegun}
+use Rattle.mon_feed.specs.Feeds.{outcome_of, refused_at, IsReadBack, concluded, sets_left, Outcome, Conclusion, Good, Bad}
+use Rattle.mon_feed.specs.Told.{outcome_from}
+use Rattle.mon_deck.specs.inner.Writing.{Held, holds, Begun, Runs}
+use Rattle.mon_deck.proofs.Holdings.{nothing_held, held_further}
 
 gives_nothing : (told : Option (List ℕ)) → Gives told [] told
 gives_nothing None = tt
@@ -26,21 +27,43 @@ gives_more (Some all) None after given piece a b = absurd a
 gives_more (Some all) (Some left) None given piece a b = absurd b
 gives_more (Some all) (Some left) (Some after) given piece a b = a ∙ ap (λ v. given ++ v) b ∙ sym (append_assoc given piece after)
 
+-- nothing was read yet
+pub begun_at_start : (told held : Option (List ℕ)) (f : DeckFeed) → Begun told told held held f []
+begun_at_start told held f = record { gives = gives_nothing told; begun = λ bytes. nothing_held held (outcome_from f bytes).written }
+
 pub begins : (told held : Option (List ℕ)) (f : DeckFeed) → Runs told told held held f f []
-begins told held f = record { gives = gives_nothing told; served = λ bytes. refl }
+begins told held f = record { so_far = begun_at_start told held f; served = λ bytes. refl }
+
+-- nothing more was given
+pub left_same : (told left after held now : Option (List ℕ)) (start : DeckFeed) (given : List ℕ) → after ≡ left → Begun told left held now start given → Begun told after held now start given
+left_same told left after held now start given same begun = record { gives = subst (λ l. Gives told given l) (sym same) begun.gives; begun = begun.begun }
 
 module _ (told left held now : Option (List ℕ)) (start f : DeckFeed) (given : List ℕ) (runs : Runs told left held now start f given) where
+  -- another piece was read, and a beginning of what comes of it was written
+  pub begun_further : (piece : List ℕ) (after now' : Option (List ℕ)) → Gives left piece after
+      → ((bytes : List ℕ) → HoldsBeginning now now' (outcome_from f (piece ++ bytes)).written)
+      → Begun told after held now' start (given ++ piece)
+  begun_further piece after now' gives step = record {
+    gives = gives_more told left after given piece runs.so_far.gives gives;
+    begun = λ bytes.
+        let text = λ (v : List ℕ). (outcome_from start v).written in
+        subst (λ v. HoldsBeginning held now' (text v)) (sym (append_assoc given piece bytes))
+        (held_further held now now' (text (given ++ (piece ++ bytes))) (outcome_from f (piece ++ bytes)).written (runs.so_far.begun (piece ++ bytes))
+        (ap (λ (h : Held). h.bytes) (runs.served (piece ++ bytes))) (step bytes));
+  }
+
   pub goes_on : (piece : List ℕ) (after now' : Option (List ℕ)) (f' : DeckFeed) → Gives left piece after
       → ((bytes : List ℕ) → holds now' (outcome_from f' bytes) ≡ holds now (outcome_from f (piece ++ bytes)))
+      → ((bytes : List ℕ) → HoldsBeginning now now' (outcome_from f (piece ++ bytes)).written)
       → Runs told after held now' start f' (given ++ piece)
-  goes_on piece after now' f' gives step = record {
-    gives = gives_more told left after given piece runs.gives gives;
+  goes_on piece after now' f' gives step written = record {
+    so_far = begun_further piece after now' gives written;
     served = λ bytes. step bytes ∙ runs.served (piece ++ bytes) ∙ ap (λ v. holds held (outcome_from start v)) (sym (append_assoc given piece bytes));
   }
 
   -- the reader is at its end
   pub whole : IsAtEnd left → (o : Held) → o ≡ holds now (outcome_from f []) → IfSome told (λ bytes. o ≡ holds held (outcome_from start bytes))
-  whole end o is = by told left runs.gives end
+  whole end o is = by told left runs.so_far.gives end
     where
       by : (t l : Option (List ℕ)) → Gives t given l → IsAtEnd l → IfSome t (λ bytes. o ≡ holds held (outcome_from start bytes))
       by None l g e = tt
@@ -50,7 +73,7 @@ module _ (told left held now : Option (List ℕ)) (start f : DeckFeed) (given : 
   -- the deck is refused in the middle, whatever follows
   pub midway : (piece : List ℕ) (after : Option (List ℕ)) → Gives left piece after → (o : Held) → ((bytes : List ℕ) → o ≡ holds now (outcome_from f (piece ++ bytes)))
       → IfSome told (λ bytes. o ≡ holds held (outcome_from start bytes))
-  midway piece after gives o is = by told left after runs.gives gives
+  midway piece after gives o is = by told left after runs.so_far.gives gives
     where
       by : (t l a : Option (List ℕ)) → Gives t given l → Gives l piece a → IfSome t (λ bytes. o ≡ holds held (outcome_from start bytes))
       by None l a g h = tt
@@ -141,6 +164,31 @@ pub met_bad : (check : Bool) (told held now' : Option (List ℕ)) (start : DeckF
     → IfSome told (λ bytes. (ending_of bytes ≡ Refused n code) × (now' ≡ holding held (output_of check bytes)))
 met_bad check told held now' start begin n code e =
     if_some told _ _ (λ bytes x. bad check held now' bytes n code (x ∙ ap (holds held) (begin bytes))) e
+
+-- whatever is answered, what was written is a beginning of the output
+module _ (check : Bool) (told left held now : Option (List ℕ)) (start : DeckFeed) (begin : (bytes : List ℕ) → outcome_from start bytes ≡ outcome_of check (deck_of (lines bytes))) where
+  pub broken : (given : List ℕ) → Begun told left held now start given → HasBegun check told left held now
+  broken given begun = (
+    given,
+    begun.gives,
+    λ more none. subst (λ (o : Outcome). HoldsBeginning held now o.written) (begin (given ++ more)) (begun.begun more),
+  )
+
+  pub finished : (f : DeckFeed) (given : List ℕ) (now' : Option (List ℕ)) → Runs told left held now start f given → IsAtEnd left
+      → HoldsBeginning now now' (outcome_from f []).written → HasBegun check told left held now'
+  finished f given now' runs end written = (
+    given,
+    runs.so_far.gives,
+    λ more none.
+        let last : HoldsBeginning held now' (outcome_from start (given ++ [])).written =
+        held_further held now now' (outcome_from start (given ++ [])).written (outcome_from f []).written (runs.so_far.begun []) (ap (λ (h : Held). h.bytes) (runs.served [])) written in
+        subst (λ v. HoldsBeginning held now' (output_of check (given ++ v))) (sym (none end))
+        (subst (λ (o : Outcome). HoldsBeginning held now' o.written) (begin (given ++ [])) last),
+  )
+
+pub on_err : {T E P : Type 0} (result : Result T E) → P → OnErr result P
+on_err (Ok x) p = tt
+on_err (Err error) p = p
 
 pub on_good : (told : Option (List ℕ)) (P : Counts → List ℕ → Type 0) (Q : List ℕ → Type 0) (result : Result Counts RunError) → ((counts : Counts) (bytes : List ℕ) → P counts bytes → Q bytes)
     → IfOk result (λ counts. IfSome told (P counts)) → OnOk result (IfSome told Q)

@@ -1,22 +1,9 @@
 -- The exit status and the line of standard error (own).
 use Rattle.std.specs.Prelude.{ℕ, List, ◌++◌, Result, Ok, Err, codes, decimal}
-use Rattle.mon_deck.specs.declared.fault.RunError.{RunError}
-use Rattle.mon_deck.specs.declared.fault.RunError.TheVariants.{DeckRefused, ReadFault, WriteFault, Memory}
-use Rattle.mon_device.specs.declared.transfer.InputError.{InputError}
-use Rattle.mon_device.specs.declared.transfer.InputError.TheVariants as input
-use Rattle.mon_device.specs.declared.transfer.OutputError.{OutputError}
-use Rattle.mon_device.specs.declared.transfer.OutputError.TheVariants as output
-use Rattle.mon_deck.specs.declared.options.Counts.{Counts}
+use Rattle.mon_feed.specs.declared.fault.RunError.{RunError}
+use Rattle.mon_feed.specs.declared.fault.RunError.TheVariants.{DeckRefused, ReadFault, WriteFault, Memory}
+use Rattle.mon_feed.specs.declared.options.Counts.{Counts}
 use Rattle.mon_cards.specs.Codes.{code_text}
-
--- what a run tells where its input or its output failed
-abbrev pub fault_of_input : InputError → RunError
-fault_of_input input.Fault = ReadFault
-fault_of_input input.Memory = Memory
-
-abbrev pub fault_of_output : OutputError → RunError
-fault_of_output output.Fault = WriteFault
-fault_of_output output.Memory = Memory
 
 -- 0; 1 for a refused deck; 3 for a fault
 abbrev pub status_of : Result Counts RunError → ℕ

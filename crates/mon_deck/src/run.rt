@@ -1,21 +1,19 @@
 //! A whole run: a deck is read piece by piece, and answered card by card.
-ghost use Rattle.std.specs.Prelude.{◌≡◌, ◌++◌, ◌<◌, ◌≤◌, ◌+◌, ◌^◌, drop, ◌⊎◌, ◌||◌, ℕ, List, [], true, false, length, vec_len, is_err, IfSome, IfOk, OnOk};
+ghost use Rattle.std.specs.Prelude.{◌≡◌, ◌++◌, ◌<◌, ◌≤◌, ◌+◌, ◌^◌, drop, ◌⊎◌, ◌||◌, ℕ, List, [], true, false, length, vec_len, is_err, IfSome, IfOk, OnOk, OnErr};
 ghost use Rattle.mon_cards.specs.declared.code.Code.{Code, Code as AnyCode};
 ghost use Rattle.mon_catalogue.specs.Sets.{Sets};
 ghost use Rattle.mon_cards.specs.Decks.{Stopped, Refused};
 ghost use Rattle.mon_device.specs.declared.transfer.TheConstants.{MOST_READS};
 ghost use Rattle.mon_device.specs.Devices.{IsAtEnd, holding};
-ghost use Rattle.mon_deck.specs.Feeds.{Good, refused_at, IsReadBack};
-ghost use Rattle.mon_deck.specs.Told.{told, outcome_from};
-ghost use Rattle.mon_deck.specs.inner.Writing.{holds, Runs};
-ghost use Rattle.mon_deck.specs.Printouts.{output_of};
-ghost use Rattle.mon_deck.specs.Runs.{ending_of, catalogue_after, counts_of, ReadsBack};
+ghost use Rattle.mon_feed.specs.Feeds.{Good, refused_at, IsReadBack};
+ghost use Rattle.mon_feed.specs.Told.{told, outcome_from};
+ghost use Rattle.mon_deck.specs.inner.Writing.{holds, HasGrown, Begun, Runs};
+ghost use Rattle.mon_feed.specs.Printouts.{output_of, ReadsBack};
+ghost use Rattle.mon_deck.specs.Runs.{ending_of, catalogue_after, counts_of, HoldsBeginning, HasBegun};
 ghost use Rattle.mon_deck.specs.Faults.{status_of, fault_line};
 
-use crate::fault::RunError;
-use crate::feed::DeckFeed;
-use crate::options::{Counts, Options};
 use mon_device::{DeckReader, DeckWriter, Failed, MOST_READS, READ_SIZE, write_all};
+use mon_feed::{Counts, DeckFeed, Options, RunError};
 use mon_text::put_number;
 use std::alloc::{AllocError, Global};
 
@@ -54,6 +52,9 @@ pub fn run_deck<R: DeckReader, W: DeckWriter>(
     ensures refused_output { (line : ℕ) (code : Code) → result ≡ Err (RunError.DeckRefused line code) →
         IfSome (R.remaining reader.old) (λ bytes. W.written writer.new ≡ holding (W.written writer.old) (output_of options.check bytes)) }
 
+    // Whatever is answered, what was written is a beginning of the output.
+    ensures begun { HasBegun options.check (R.remaining reader.old) (R.remaining reader.new) (W.written writer.old) (W.written writer.new) }
+
     // Faults are told only where a device failed.
     ensures read_fault { result ≡ Err RunError.ReadFault →
         (R.has_failed reader.new ≡ true) ⊎ (MOST_READS ≤ R.reads reader.new) }
@@ -78,6 +79,7 @@ fn feed_all<R: DeckReader, W: DeckWriter>(
     requires start { feed.old.fed ≡ 0 }
     requires empty { out.old.items ≡ [] }
     ensures runs { OnOk result ((given : List ℕ) × Runs (R.remaining reader.old) (R.remaining reader.new) (W.written writer.old) (W.written writer.new) feed.old feed.new given) }
+    ensures begun { OnErr result ((given : List ℕ) × Begun (R.remaining reader.old) (R.remaining reader.new) (W.written writer.old) (W.written writer.new) feed.old given) }
     ensures at_end { OnOk result (IsAtEnd (R.remaining reader.new)) }
     ensures empty { OnOk result (out.new.items ≡ []) }
     ensures reads_back { IsReadBack feed.old.options.check feed.old.state → OnOk result (IsReadBack feed.new.options.check feed.new.state) }
@@ -123,6 +125,7 @@ fn serve<W: DeckWriter>(
     ensures served { OnOk result ((bytes : List ℕ) → holds (W.written writer.new) (outcome_from feed.new bytes) ≡ holds (W.written writer.old) (outcome_from feed.old (piece.now ++ bytes))) }
     ensures refused { (n : ℕ) (code : AnyCode) → result ≡ Err (RunError.DeckRefused n code) →
         (bytes : List ℕ) → holds (W.written writer.new) (refused_at n code) ≡ holds (W.written writer.old) (outcome_from feed.old (piece.now ++ bytes)) }
+    ensures begun { (bytes : List ℕ) → HoldsBeginning (W.written writer.old) (W.written writer.new) (outcome_from feed.old (piece.now ++ bytes)).written }
     ensures empty { OnOk result (out.new.items ≡ []) }
     ensures fed { OnOk result (feed.new.fed ≡ feed.old.fed + length piece.now) }
     ensures reads_back { IsReadBack feed.old.options.check feed.old.state → OnOk result (IsReadBack feed.new.options.check feed.new.state) }
@@ -136,7 +139,10 @@ fn serve<W: DeckWriter>(
         let used = serve_line(alloc, feed, rest, out, writer)?;
         rest = &rest[used..];
     }
-    Ok(flush(out, writer)?)
+    match flush(out, writer) {
+        Ok(()) => Ok(()),
+        Err(_) => Err(RunError::WriteFault),
+    }
 }
 
 // Feeds up to the first line end, and writes what is gathered if it is much, or if the deck is refused there.
@@ -153,6 +159,8 @@ fn serve_line<W: DeckWriter>(
     ensures served { IfOk result (λ used. (bytes : List ℕ) → holds (W.written writer.new) (told out.new.items feed.new (drop used piece.now ++ bytes)) ≡ holds (W.written writer.old) (told out.old.items feed.old (piece.now ++ bytes))) }
     ensures refused { (n : ℕ) (code : AnyCode) → result ≡ Err (RunError.DeckRefused n code) →
         (bytes : List ℕ) → holds (W.written writer.new) (refused_at n code) ≡ holds (W.written writer.old) (told out.old.items feed.old (piece.now ++ bytes)) }
+    ensures begun { (bytes : List ℕ) → HoldsBeginning (W.written writer.old) (W.written writer.new) (told out.old.items feed.old (piece.now ++ bytes)).written }
+    ensures grown { HasGrown (W.written writer.old) (W.written writer.new) }
     ensures reads_back { IsReadBack feed.old.options.check feed.old.state → OnOk result (IsReadBack feed.new.options.check feed.new.state) }
     ensures options { feed.new.options ≡ feed.old.options }
     ensures sound { OnOk result (W.has_failed writer.new ≡ W.has_failed writer.old) }
@@ -174,6 +182,7 @@ fn serve_line<W: DeckWriter>(
 // Writes what is gathered, if it is much.
 fn flush_large<W: DeckWriter>(out: &mut Vec<u8>, writer: &mut W) -> Result<(), Failed>
     ensures put { OnOk result (holding (W.written writer.new) out.new.items ≡ holding (W.written writer.old) out.old.items) }
+    ensures begun { HoldsBeginning (W.written writer.old) (W.written writer.new) out.old.items }
     ensures failed { W.has_failed writer.new ≡ (W.has_failed writer.old || is_err result) }
 {
     if out.len() < WRITE_SIZE {
@@ -194,6 +203,7 @@ fn finish<W: DeckWriter>(
         × (IsReadBack feed.options.check feed.state → feed.options.check ≡ false → ReadsBack sets) × (counts.jobs ≡ 0)) }
     ensures refused { (n : ℕ) (code : AnyCode) → result ≡ Err (RunError.DeckRefused n code) →
         holds (W.written writer.new) (refused_at n code) ≡ holds (W.written writer.old) (outcome_from feed []) }
+    ensures begun { HoldsBeginning (W.written writer.old) (W.written writer.new) (outcome_from feed []).written }
     ensures sound { OnOk result (W.has_failed writer.new ≡ W.has_failed writer.old) }
     ensures read_fault { result ≡ Err RunError.ReadFault → ⊥ }
     ensures write_fault { result ≡ Err RunError.WriteFault → W.has_failed writer.new ≡ true }
@@ -210,6 +220,7 @@ fn finish<W: DeckWriter>(
 fn flush<W: DeckWriter>(out: &mut Vec<u8>, writer: &mut W) -> Result<(), Failed>
     ensures written { OnOk result (W.written writer.new ≡ holding (W.written writer.old) out.old.items) }
     ensures put { OnOk result (holding (W.written writer.new) out.new.items ≡ holding (W.written writer.old) out.old.items) }
+    ensures begun { HoldsBeginning (W.written writer.old) (W.written writer.new) out.old.items }
     ensures empty { OnOk result (out.new.items ≡ []) }
     ensures failed { W.has_failed writer.new ≡ (W.has_failed writer.old || is_err result) }
 {
@@ -250,26 +261,4 @@ pub fn put_fault(fault: &RunError, out: &mut Vec<u8>) -> Result<(), AllocError>
         RunError::Memory => out.extend_from_slice(b"out of memory")?,
     }
     out.extend_from_slice(b"\n")
-}
-
-impl From<AllocError> for RunError {
-    ghost use Rattle.std.specs.Prelude.{◌≡◌};
-    ghost use Rattle.mon_deck.specs.declared.fault.RunError.TheVariants.{Memory};
-
-    ghost from_gives = { λ _ fault. fault ≡ Memory };
-
-    fn from(_: AllocError) -> RunError {
-        RunError::Memory
-    }
-}
-
-impl From<Failed> for RunError {
-    ghost use Rattle.std.specs.Prelude.{◌≡◌};
-    ghost use Rattle.mon_deck.specs.declared.fault.RunError.TheVariants.{WriteFault};
-
-    ghost from_gives = { λ _ fault. fault ≡ WriteFault };
-
-    fn from(_: Failed) -> RunError {
-        RunError::WriteFault
-    }
 }

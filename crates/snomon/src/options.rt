@@ -1,7 +1,7 @@
 //! The words of the command line, and the options that they give.
 ghost use Rattle.std.specs.Prelude.{◌≡◌, ◌⊎◌, map, IfOk, IfErr};
 ghost use Rattle.clap.specs.Words.{app_of, kind_of};
-ghost use Rattle.mon_deck.specs.declared.options.Options.{Options};
+ghost use Rattle.mon_feed.specs.declared.options.Options.{Options};
 ghost use Rattle.snomon.specs.CommandLine.{Gives, snomon};
 
 use clap::error::ErrorKind;

@@ -1,6 +1,6 @@
 -- What was written, and what comes of any bytes that follow those that the reader gave, is what comes of all of them.
-use Rattle.std.proofs.Common.{◌≡◌, ◌≤◌, ◌*◌, [], List, ℕ, length, vec_len}
-use Rattle.mon_deck.specs.Feeds.{IsReadBack}
+use Rattle.std.proofs.Common.{◌≡◌, ◌≤◌, ◌*◌, [], List, ℕ, vec_len}
+use Rattle.mon_feed.specs.Feeds.{IsReadBack}
 use Rattle.mon_deck.specs.inner.Writing.{Runs}
 use Rattle.mon_deck.proofs.run.feed_all.Given as goal
 

@@ -1,13 +1,10 @@
-use Rattle.std.proofs.Common.{rules, sym, ap, ◌≡◌, ◌∙◌, Ok, Err, List, ℕ, Result, Option, IfSome, IfOk, OnOk, false}
+use Rattle.std.proofs.Common.{rules, ◌≡◌, ◌∙◌}
 use Rattle.mon_device.specs.Devices.{holding}
-use Rattle.mon_deck.specs.declared.fault.RunError.{RunError}
-use Rattle.mon_deck.specs.declared.options.Counts.{Counts}
 use Rattle.mon_cards.specs.Decks.{Stopped, Refused}
-use Rattle.mon_deck.specs.Feeds.{IsReadBack}
-use Rattle.mon_deck.specs.Printouts.{output_of}
-use Rattle.mon_deck.specs.Runs.{ending_of, catalogue_after, counts_of, ReadsBack}
-use Rattle.mon_deck.proofs.Telling.{refused_so}
-use Rattle.mon_deck.proofs.Running.{run_good, run_bad, met_bad, on_good, if_some, IsGood}
+use Rattle.mon_feed.specs.Printouts.{output_of}
+use Rattle.mon_deck.specs.Runs.{ending_of}
+use Rattle.mon_feed.proofs.Telling.{refused_so}
+use Rattle.mon_deck.proofs.Running.{run_good, run_bad, met_bad, on_good, if_some, IsGood, broken, finished}
 use Rattle.mon_deck.proofs.run.run_deck.Goals as goal
 
 pub returns-in-Ok-clause-stopped : goal.returns-in-Ok-clause-stopped
@@ -51,3 +48,13 @@ returns-in-Err-clause-refused_output g c = λ n code same.
     if_some _ _ _ (λ bytes (x : (ending_of bytes ≡ Refused n code) × (g.W.DeckWriter.written c.feed_all.new.writer ≡ holding (g.W.DeckWriter.written c.args.writer.now) (output_of c.args.options.check bytes))). x.1)
     (met_bad c.args.options.check (g.R.DeckReader.remaining c.args.reader.now) (g.W.DeckWriter.written c.args.writer.now) (g.W.DeckWriter.written c.feed_all.new.writer) c.new-feed.result c.new-feed.ensures.start n code
     (c.feed_all.ensures.refused n code (c.in-Err.is ∙ refused_so c.in-Err.error n code same)))
+
+pub returns-in-Ok-clause-begun : goal.returns-in-Ok-clause-begun
+returns-in-Ok-clause-begun g c =
+    let r = c.in-Ok.ensures.runs in
+    finished c.args.options.check _ _ _ _ c.new-feed.result c.new-feed.ensures.start _ r.0 _ r.1 c.in-Ok.ensures.at_end c.finish.ensures.begun
+
+pub returns-in-Err-clause-begun : goal.returns-in-Err-clause-begun
+returns-in-Err-clause-begun g c =
+    let b = c.in-Err.ensures.begun in
+    broken c.args.options.check _ _ _ _ c.new-feed.result c.new-feed.ensures.start b.0 b.1

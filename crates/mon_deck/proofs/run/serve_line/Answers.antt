@@ -1,12 +1,13 @@
-use Rattle.std.proofs.Common.{◌≡◌, sym, ap, subst, ◌∙◌, ◌++◌, ◌+◌, drop, List, ℕ, Result, IfErr, Some, None}
+use Rattle.std.proofs.Common.{◌≡◌, sym, ap, subst, ◌∙◌, ◌++◌, ◌+◌, drop, List, ℕ, Result, IfErr}
 use Rattle.std.specs.Str.Lines.{lines}
 use Rattle.mon_device.specs.Devices.{holding}
-use Rattle.mon_deck.specs.declared.fault.RunError.{RunError}
-use Rattle.mon_deck.specs.declared.stage.State.{State}
-use Rattle.mon_deck.specs.Feeds.{behind, outcome, stopped_by}
+use Rattle.mon_feed.specs.declared.fault.RunError.{RunError}
+use Rattle.mon_feed.specs.declared.stage.State.{State}
+use Rattle.mon_feed.specs.Feeds.{behind, outcome, stopped_by}
+use Rattle.mon_deck.specs.Runs.{HoldsBeginning}
 use Rattle.mon_deck.specs.inner.Writing.{holds}
-use Rattle.mon_deck.proofs.Telling.{refused_so}
-use Rattle.mon_deck.proofs.Holdings.{kept_told, refused_holds}
+use Rattle.mon_feed.proofs.Telling.{refused_so}
+use Rattle.mon_deck.proofs.Holdings.{kept_told, refused_holds, held_begins, has_grown}
 use Rattle.mon_deck.proofs.run.serve_line.Goals as goal
 
 pub returns-in-Ok-flush_large-clause-served : goal.returns-in-Ok-flush_large-clause-served
@@ -22,3 +23,33 @@ returns-in-Ok-write_all-clause-refused g c = λ n code same bytes.
     refused_holds (g.W.DeckWriter.written c.args.writer.now) (g.W.DeckWriter.written c.write_all.new.writer) c.feed_line.new.out.items after.commands n code _
     (c.in-Ok-write_all.ensures.all ∙ ap (λ (items : List ℕ). holding (g.W.DeckWriter.written c.args.writer.now) items) c.deref.ensures.value)
     (sym (ap (λ (s : State). behind c.feed_line.new.out.items after.commands (outcome after.options.check s (after.lines_taken + 1) (lines (after.line ++ bytes)))) failed) ∙ c.feed_line.ensures.refused n code so bytes)
+
+pub returns-in-Ok-flush_large-clause-begun : goal.returns-in-Ok-flush_large-clause-begun
+returns-in-Ok-flush_large-clause-begun g c = λ bytes. held_begins _ _ c.feed_line.new.out.items _ c.flush_large.ensures.begun (c.feed_line.ensures.begun bytes)
+
+pub returns-in-Err-flush_large-clause-begun : goal.returns-in-Err-flush_large-clause-begun
+returns-in-Err-flush_large-clause-begun g c = λ bytes. held_begins _ _ c.feed_line.new.out.items _ c.flush_large.ensures.begun (c.feed_line.ensures.begun bytes)
+
+pub returns-in-Ok-write_all-clause-begun : goal.returns-in-Ok-write_all-clause-begun
+returns-in-Ok-write_all-clause-begun g c = λ bytes.
+    held_begins _ _ c.feed_line.new.out.items _
+    (subst (λ (v : List ℕ). HoldsBeginning (g.W.DeckWriter.written c.args.writer.now) (g.W.DeckWriter.written c.write_all.new.writer) v) c.deref.ensures.value c.write_all.ensures.taken)
+    (c.feed_line.ensures.begun bytes)
+
+pub returns-in-Err-write_all-clause-begun : goal.returns-in-Err-write_all-clause-begun
+returns-in-Err-write_all-clause-begun g c = λ bytes.
+    held_begins _ _ c.feed_line.new.out.items _
+    (subst (λ (v : List ℕ). HoldsBeginning (g.W.DeckWriter.written c.args.writer.now) (g.W.DeckWriter.written c.write_all.new.writer) v) c.deref.ensures.value c.write_all.ensures.taken)
+    (c.feed_line.ensures.begun bytes)
+
+pub returns-in-Ok-flush_large-clause-grown : goal.returns-in-Ok-flush_large-clause-grown
+returns-in-Ok-flush_large-clause-grown g c = has_grown _ _ c.feed_line.new.out.items c.flush_large.ensures.begun
+
+pub returns-in-Err-flush_large-clause-grown : goal.returns-in-Err-flush_large-clause-grown
+returns-in-Err-flush_large-clause-grown g c = has_grown _ _ c.feed_line.new.out.items c.flush_large.ensures.begun
+
+pub returns-in-Ok-write_all-clause-grown : goal.returns-in-Ok-write_all-clause-grown
+returns-in-Ok-write_all-clause-grown g c = has_grown _ _ c.deref.result.now c.write_all.ensures.taken
+
+pub returns-in-Err-write_all-clause-grown : goal.returns-in-Err-write_all-clause-grown
+returns-in-Err-write_all-clause-grown g c = has_grown _ _ c.deref.result.now c.write_all.ensures.taken

@@ -1,0 +1,4 @@
+pub mod Commanding
+pub mod Following
+pub mod Telling
+pub mod Beginnings

@@ -1,0 +1,3 @@
+pub mod Printouts
+pub mod Feeds
+pub mod Told

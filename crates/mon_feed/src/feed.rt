@@ -1,0 +1,21 @@
+//! A deck that comes in pieces.
+ghost use Rattle.std.specs.Prelude.{◌≤◌, ◌<◌, ◌^◌};
+ghost use Rattle.mon_feed.specs.Feeds.{lines_loaded};
+
+use crate::options::Options;
+use crate::stage::State;
+use mon_text::LineFeed;
+
+/// A deck on its way in. What it keeps grows with the accounts, the catalogue and the card that is open, and not with the
+/// deck.
+#[derive(Drop)]
+pub struct DeckFeed {
+    pub(crate) options: Options,
+    pub(crate) state: State,
+    pub(crate) line: LineFeed,
+    pub(crate) lines_taken: u64,
+    pub(crate) commands: u64,
+    pub(crate) fed: u64,
+    ghost counted: { (commands ≤ lines_taken) × (lines_taken ≤ fed) × (fed < 2 ^ 63) },
+    ghost within: { lines_loaded state ≤ lines_taken },
+}

@@ -1,0 +1,280 @@
+//! Feeding a deck: each card's event happens when the card is complete.
+ghost use Rattle.std.specs.Prelude.{◌≡◌, ℕ, List, ◌+◌, ◌-◌, ◌<◌, ◌≤◌, ◌^◌, [], ◌∷◌, ◌++◌, Bool, false, length, drop, Ok, Err, IfOk, IfErr, OnOk, OnErr};
+ghost use Rattle.std.specs.Str.Lines.{lines};
+ghost use Rattle.mon_catalogue.specs.Sets.{Sets};
+ghost use Rattle.mon_cards.specs.declared.code.Code.{Code as AnyCode};
+ghost use Rattle.mon_feed.specs.declared.stage.State.TheVariants as states;
+ghost use Rattle.mon_cards.specs.Sections.{deck_of};
+ghost use Rattle.mon_feed.specs.Feeds.{outcome, outcome_of, behind, refused_at, Good, Bad, Begins, OnAnswer, lines_loaded, IsReadBack, IsOwn, stopped_by, error_at, fault_at};
+ghost use Rattle.mon_feed.specs.Told.{told, outcome_from, last_lines};
+ghost use Rattle.mon_feed.specs.Printouts.{ReadsBack};
+
+use crate::fault::RunError;
+use crate::feed::DeckFeed;
+use crate::options::{Counts, Options};
+use crate::stage::{Stage, State};
+use mon_cards::Code;
+use mon_text::{LineFeed, Stop};
+use std::alloc::Global;
+use std::mem;
+
+impl DeckFeed {
+    /// The start of a deck.
+    pub fn new(alloc: Global, options: Options) -> DeckFeed
+        ensures start { (bytes : List ℕ) → outcome_from result bytes ≡ outcome_of options.check (deck_of (lines bytes)) }
+        ensures reads_back { IsReadBack result.options.check result.state }
+        ensures options { result.options ≡ options }
+        ensures fed { result.fed ≡ 0 }
+    {
+        DeckFeed {
+            options,
+            state: State::Reading(Stage::Opening),
+            line: LineFeed::new(alloc),
+            lines_taken: 0,
+            commands: 0,
+            fed: 0,
+        }
+    }
+
+    /// How many bytes were fed.
+    pub fn fed(&self) -> u64
+        ensures { result ≡ self.now.fed }
+    {
+        self.fed
+    }
+
+    /// Takes the next bytes of the deck: the events of the cards that are complete by them happen, and what these print is
+    /// appended, and at `$STOP` the catalogue.
+    ///
+    /// Fewer than 2^63 bytes may be fed in all.
+    ///
+    /// # Errors
+    ///
+    /// `DeckRefused` where a card is refused; `Memory` where a growth was refused. After an error each further call answers
+    /// the same and appends nothing.
+    #[tactic(auto, using(crate::proofs::Beginnings::begins_further))]
+    pub fn feed(&mut self, alloc: Global, piece: &[u8], out: &mut Vec<u8>) -> Result<(), RunError>
+        requires { self.old.fed + length piece.now < 2 ^ 63 }
+        ensures appends { Begins out.old.items out.new.items }
+        ensures begun { (bytes : List ℕ) → Begins out.new.items (told out.old.items self.old (piece.now ++ bytes)).written }
+        ensures told { OnAnswer result ((bytes : List ℕ) → told out.new.items self.new bytes ≡ told out.old.items self.old (piece.now ++ bytes)) }
+        ensures failed { IfErr result (λ error. self.new.state ≡ stopped_by error) }
+        ensures again { (n : ℕ) (code : AnyCode) → self.old.state ≡ states.Refused n code → (result ≡ Err (RunError.DeckRefused n code)) × (self.new ≡ self.old) × (out.new.items ≡ out.old.items) }
+        ensures still { self.old.state ≡ states.NoMemory → (result ≡ Err RunError.Memory) × (self.new ≡ self.old) × (out.new.items ≡ out.old.items) }
+        ensures own { IfErr result IsOwn }
+        ensures reads_back { IsReadBack self.old.options.check self.old.state → OnOk result (IsReadBack self.new.options.check self.new.state) }
+        ensures options { self.new.options ≡ self.old.options }
+        ensures fed { self.new.fed ≤ self.old.fed + length piece.now }
+        ensures all { OnOk result (self.new.fed ≡ self.old.fed + length piece.now) }
+    {
+        if let Some(error) = self.failed() {
+            return Err(error);
+        }
+        let mut rest = piece;
+        'lines: while !rest.is_empty() {
+            let used = self.feed_line(alloc, rest, out)?;
+            rest = &rest[used..];
+        }
+        Ok(())
+    }
+
+    // The error that was answered, if one was.
+    fn failed(&self) -> Option<RunError>
+        ensures { result ≡ error_at self.now.state }
+    {
+        match &self.state {
+            State::Refused(n, code) => Some(RunError::DeckRefused(*n, *code)),
+            State::NoMemory => Some(RunError::Memory),
+            State::Reading(_) | State::Stopped(_) => None,
+        }
+    }
+
+    /// Takes bytes from the front of a piece, up to the first line end in it or all of them: how many they are. It is
+    /// `feed` of them.
+    ///
+    /// # Errors
+    ///
+    /// As `feed`.
+    pub fn feed_line(
+        &mut self,
+        alloc: Global,
+        piece: &[u8],
+        out: &mut Vec<u8>,
+    ) -> Result<usize, RunError>
+        requires full { 0 < length piece.now }
+        requires few { self.old.fed + length piece.now < 2 ^ 63 }
+        ensures used { IfOk result (λ used. (0 < used) × (used ≤ length piece.now) × (self.new.fed ≡ self.old.fed + used)) }
+        ensures told { IfOk result (λ used. (bytes : List ℕ) → told out.new.items self.new (drop used piece.now ++ bytes) ≡ told out.old.items self.old (piece.now ++ bytes)) }
+        ensures refused { (n : ℕ) (code : AnyCode) → result ≡ Err (RunError.DeckRefused n code) →
+            (bytes : List ℕ) → told out.new.items self.new bytes ≡ told out.old.items self.old (piece.now ++ bytes) }
+        ensures appends { Begins out.old.items out.new.items }
+        ensures begun { (bytes : List ℕ) → Begins out.new.items (told out.old.items self.old (piece.now ++ bytes)).written }
+        ensures failed { IfErr result (λ error. self.new.state ≡ stopped_by error) }
+        ensures again { (n : ℕ) (code : AnyCode) → self.old.state ≡ states.Refused n code → (result ≡ Err (RunError.DeckRefused n code)) × (self.new ≡ self.old) × (out.new.items ≡ out.old.items) }
+        ensures still { self.old.state ≡ states.NoMemory → (result ≡ Err RunError.Memory) × (self.new ≡ self.old) × (out.new.items ≡ out.old.items) }
+        ensures own { IfErr result IsOwn }
+        ensures reads_back { IsReadBack self.old.options.check self.old.state → OnOk result (IsReadBack self.new.options.check self.new.state) }
+        ensures options { self.new.options ≡ self.old.options }
+        ensures fed { self.new.fed ≤ self.old.fed + length piece.now }
+    {
+        match &self.state {
+            State::Refused(n, code) => return Err(RunError::DeckRefused(*n, *code)),
+            State::NoMemory => return Err(RunError::Memory),
+            State::Stopped(_) => {
+                self.fed += piece.len() as u64;
+                return Ok(piece.len());
+            }
+            State::Reading(_) => {}
+        }
+        match self.line.take(piece) {
+            Err(_) => {
+                self.state = State::NoMemory;
+                Err(RunError::Memory)
+            }
+            Ok((used, None)) => {
+                self.fed += used as u64;
+                Ok(used)
+            }
+            Ok((used, Some(line))) => {
+                self.fed += used as u64;
+                match self.take_line(alloc, line.text(), out) {
+                    Ok(()) => Ok(used),
+                    Err(error) => Err(error),
+                }
+            }
+        }
+    }
+
+    // Takes a whole line: its event happens, and what that prints is appended.
+    fn take_line(&mut self, alloc: Global, text: &[u8], out: &mut Vec<u8>) -> Result<(), RunError>
+        requires { self.old.lines_taken < self.old.fed }
+        ensures told { OnOk result ((ls : List (List ℕ)) → behind out.new.items self.new.commands (outcome self.new.options.check self.new.state (self.new.lines_taken + 1) ls)
+            ≡ behind out.old.items self.old.commands (outcome self.old.options.check self.old.state (self.old.lines_taken + 1) (text.now ∷ ls))) }
+        ensures refused { (n : ℕ) (code : AnyCode) → result ≡ Err (RunError.DeckRefused n code) →
+            (ls : List (List ℕ)) → behind out.new.items 0 (refused_at n code) ≡ behind out.old.items self.old.commands (outcome self.old.options.check self.old.state (self.old.lines_taken + 1) (text.now ∷ ls)) }
+        ensures failed { IfErr result (λ error. self.new.state ≡ stopped_by error) }
+        ensures reads_back { IsReadBack self.old.options.check self.old.state → OnOk result (IsReadBack self.new.options.check self.new.state) }
+        ensures own { IfErr result IsOwn }
+        ensures appends { Begins out.old.items out.new.items }
+        ensures nothing { OnErr result (out.new.items ≡ out.old.items) }
+        ensures stays { (self.new.options ≡ self.old.options) × (self.new.line ≡ self.old.line) × (self.new.fed ≡ self.old.fed) }
+    {
+        let before = mem::replace(&mut self.state, State::NoMemory);
+        let answer = before.after_line(
+            alloc,
+            self.options.check,
+            self.options.slots,
+            text,
+            &mut self.commands,
+            out,
+        );
+        self.lines_taken += 1;
+        match answer {
+            Ok(after) => {
+                self.state = after;
+                Ok(())
+            }
+            Err(Stop::Refused(code)) => {
+                self.state = State::Refused(self.lines_taken, code);
+                Err(RunError::DeckRefused(self.lines_taken, code))
+            }
+            Err(Stop::Memory) => Err(RunError::Memory),
+        }
+    }
+
+    /// The deck has come to its end: a last line without LF is taken too, and a deck without `$STOP` is refused.
+    ///
+    /// # Errors
+    ///
+    /// As `feed`.
+    pub fn finish(self, alloc: Global, out: &mut Vec<u8>) -> Result<Counts, RunError>
+        ensures appends { Begins out.old.items out.new.items }
+        ensures begun { Begins out.new.items (told out.old.items self []).written }
+        ensures ended { IfOk result (λ counts. (sets : Sets) × (told out.old.items self [] ≡ record { written = out.new.items; conclusion = Good counts.commands sets })
+            × (IsReadBack self.options.check self.state → self.options.check ≡ false → ReadsBack sets) × (counts.jobs ≡ 0)) }
+        ensures refused { (n : ℕ) (code : AnyCode) → result ≡ Err (RunError.DeckRefused n code) →
+            told out.old.items self [] ≡ record { written = out.new.items; conclusion = Bad n code } }
+        ensures again { (n : ℕ) (code : AnyCode) → self.state ≡ states.Refused n code → (result ≡ Err (RunError.DeckRefused n code)) × (out.new.items ≡ out.old.items) }
+        ensures still { self.state ≡ states.NoMemory → (result ≡ Err RunError.Memory) × (out.new.items ≡ out.old.items) }
+        ensures own { IfErr result IsOwn }
+    {
+        if let Some(error) = self.failed() {
+            return Err(error);
+        }
+        let DeckFeed {
+            options,
+            state,
+            line,
+            lines_taken,
+            commands,
+            fed: _,
+        } = self;
+        let last = line.rest();
+        end(alloc, options, state, &last, lines_taken, commands, out)
+    }
+}
+
+// The end of a deck: a last line without LF is taken too, and then `$STOP` has come, or never comes.
+fn end(
+    alloc: Global,
+    options: Options,
+    state: State,
+    last: &[u8],
+    lines_taken: u64,
+    commands: u64,
+    out: &mut Vec<u8>,
+) -> Result<Counts, RunError>
+    requires few { commands < 2 ^ 63 }
+    requires short { lines_taken < 2 ^ 63 }
+    requires within { lines_loaded state < 2 ^ 63 }
+    ensures appends { Begins out.old.items out.new.items }
+    ensures begun { Begins out.new.items (behind out.old.items commands (outcome options.check state (lines_taken + 1) (last_lines last.now))).written }
+    ensures ended { IfOk result (λ counts. (sets : Sets) × (behind out.old.items commands (outcome options.check state (lines_taken + 1) (last_lines last.now))
+        ≡ record { written = out.new.items; conclusion = Good counts.commands sets })
+        × (IsReadBack options.check state → options.check ≡ false → ReadsBack sets) × (counts.jobs ≡ 0)) }
+    ensures refused { (n : ℕ) (code : AnyCode) → result ≡ Err (RunError.DeckRefused n code) →
+        behind out.old.items commands (outcome options.check state (lines_taken + 1) (last_lines last.now)) ≡ record { written = out.new.items; conclusion = Bad n code } }
+    ensures own { IfErr result IsOwn }
+{
+    if last.is_empty() {
+        return conclude(&state, lines_taken + 1, commands);
+    }
+    let mut commands = commands;
+    match state.after_line(
+        alloc,
+        options.check,
+        options.slots,
+        last,
+        &mut commands,
+        out,
+    ) {
+        Err(stop) => Err(fault_of_stop(lines_taken + 1, stop)),
+        Ok(after) => conclude(&after, lines_taken + 2, commands),
+    }
+}
+
+// How a deck comes out whose lines end before line n.
+fn conclude(state: &State, n: u64, commands: u64) -> Result<Counts, RunError>
+    ensures ended { IfOk result (λ counts. (sets : Sets) × ((check : Bool) → outcome check state.now n [] ≡ record { written = []; conclusion = Good 0 sets })
+        × ((check : Bool) → IsReadBack check state.now → check ≡ false → ReadsBack sets) × (counts.commands ≡ commands) × (counts.jobs ≡ 0)) }
+    ensures refused { (m : ℕ) (code : AnyCode) → result ≡ Err (RunError.DeckRefused m code) → (check : Bool) → outcome check state.now n [] ≡ refused_at m code }
+    ensures own { IfErr result IsOwn }
+{
+    match state {
+        State::Reading(_) => Err(RunError::DeckRefused(n, Code::Truncated)),
+        State::Stopped(_) => Ok(Counts { jobs: 0, commands }),
+        State::Refused(n, code) => Err(RunError::DeckRefused(*n, *code)),
+        State::NoMemory => Err(RunError::Memory),
+    }
+}
+
+// What a refusal of line n, or want of memory, is for the run.
+fn fault_of_stop(n: u64, stop: Stop<Code>) -> RunError
+    ensures value { result ≡ fault_at n stop }
+    ensures own { IsOwn result }
+{
+    match stop {
+        Stop::Refused(code) => RunError::DeckRefused(n, code),
+        Stop::Memory => RunError::Memory,
+    }
+}

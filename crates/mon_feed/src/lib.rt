@@ -1,0 +1,14 @@
+//! A deck that comes in pieces: each line takes effect as it is complete, and what its card prints is appended.
+#![tactic(auto)]
+
+pub mod fault;
+pub mod feed;
+mod feeding;
+pub mod options;
+mod reading;
+mod serving;
+pub mod stage;
+
+pub use fault::RunError;
+pub use feed::DeckFeed;
+pub use options::{Counts, Options, Slots};

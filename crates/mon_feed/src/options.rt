@@ -1,0 +1,59 @@
+//! What a run is told beside its deck, and what it counts.
+ghost use Rattle.std.specs.Prelude.{◌≡◌, ◌≤◌, ◌↔◌, false, IsSome, IfSome};
+
+/// How many slots for jobs there are: 1 to 8.
+#[derive(Clone, Copy)]
+pub struct Slots {
+    number: u8,
+    ghost within: { (1 ≤ number) × (number ≤ 8) },
+}
+
+impl Slots {
+    /// So many slots, where there may be so many.
+    pub fn new(number: u8) -> Option<Slots>
+        ensures within { IsSome result ↔ ((1 ≤ number) × (number ≤ 8)) }
+        ensures value { IfSome result (λ slots. slots.number ≡ number) }
+    {
+        if (1..=8).contains(&number) {
+            Some(Slots { number })
+        } else {
+            None
+        }
+    }
+
+    pub(crate) fn number(self) -> u8
+        ensures value { result ≡ self.number }
+        ensures within { (1 ≤ result) × (result ≤ 8) }
+    {
+        self.number
+    }
+}
+
+/// What a run is told beside its deck.
+#[derive(Clone, Copy)]
+pub struct Options {
+    /// How many slots there are. There are no jobs yet, so that it has no effect.
+    pub slots: Slots,
+    /// Whether the deck is only read, and not run.
+    pub check: bool,
+}
+
+impl Options {
+    /// Four slots, and the deck is run.
+    pub fn new() -> Options
+        ensures slots { result.slots.number ≡ 4 }
+        ensures runs { result.check ≡ false }
+    {
+        Options {
+            slots: Slots { number: 4 },
+            check: false,
+        }
+    }
+}
+
+/// How many cards of each kind a deck has.
+#[derive(Clone, Copy)]
+pub struct Counts {
+    pub jobs: u64,
+    pub commands: u64,
+}

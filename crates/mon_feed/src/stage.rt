@@ -1,0 +1,121 @@
+//! How far the reading of a deck has come, and what the next line makes of that.
+ghost use Rattle.std.specs.Prelude.{◌≡◌, ℕ, List, ◌+◌, ◌<◌, ◌≤◌, ◌^◌, ◌∷◌, IfOk, IfErr, OnErr};
+ghost use Rattle.mon_cards.specs.inner.Stops.{IfRefused};
+ghost use Rattle.mon_feed.specs.declared.stage.State.TheVariants as states;
+ghost use Rattle.mon_feed.specs.Feeds.{deck_from, refused_from, outcome, outcome_of, behind, refused_at, lines_loaded, IsReadBack};
+
+use crate::options::Slots;
+use crate::reading::{after_account, after_catalogue, after_opening};
+use crate::serving::{after_card, after_list_line};
+use mon_access::Accounts;
+use mon_cards::{Code, OpenList};
+use mon_catalogue::Loading;
+use mon_monitor::Monitor;
+use mon_text::Stop;
+use std::alloc::Global;
+
+/// The section that the next line belongs to, and what was collected.
+#[derive(Drop)]
+pub enum Stage {
+    /// `$ACCOUNTS` is due.
+    Opening,
+    /// An account, or `$CATALOGUE`.
+    Accounts(Accounts),
+    /// The catalogue's text, or `$STREAM`.
+    Catalogue(Accounts, Loading),
+    /// A card.
+    Stream(Monitor),
+    /// A line of a permission list, or `$ENDACL`.
+    List(Monitor, OpenList),
+}
+
+/// Whether a deck is still read.
+pub enum State {
+    /// The next line counts.
+    Reading(Stage),
+    /// `$STOP` came, and the lines after it are ignored.
+    Stopped(Monitor),
+    /// The deck was refused at this line.
+    Refused(u64, Code),
+    /// Memory ran out.
+    NoMemory,
+}
+
+// By hand, so that what holds a state drops it by one call.
+impl Drop for State {
+    fn drop(self) {
+        match self {
+            State::Reading(_stage) => {}
+            State::Stopped(_monitor) => {}
+            State::Refused(_, _) => {}
+            State::NoMemory => {}
+        }
+    }
+}
+
+impl State {
+    /// After a whole line.
+    ///
+    /// # Errors
+    ///
+    /// The line's refusal; memory. Nothing was appended then.
+    pub(crate) fn after_line(
+        self,
+        alloc: Global,
+        check: bool,
+        slots: Slots,
+        text: &[u8],
+        commands: &mut u64,
+        out: &mut Vec<u8>,
+    ) -> Result<State, Stop<Code>>
+        requires few { commands.old < 2 ^ 63 }
+        requires within { lines_loaded self < 2 ^ 63 }
+        ensures told { IfOk result (λ after. (n : ℕ) (ls : List (List ℕ)) → behind out.new.items commands.new (outcome check after (n + 1) ls)
+            ≡ behind out.old.items commands.old (outcome check self n (text.now ∷ ls))) }
+        ensures within { IfOk result (λ after. lines_loaded after ≤ lines_loaded self + 1) }
+        ensures reads_back { IsReadBack check self → IfOk result (IsReadBack check) }
+        ensures counted { commands.new ≤ commands.old + 1 }
+        ensures refused { IfErr result (IfRefused (λ code. (n : ℕ) (ls : List (List ℕ)) → outcome check self n (text.now ∷ ls) ≡ refused_at n code)) }
+        ensures nothing { OnErr result (out.new.items ≡ out.old.items) }
+    {
+        match self {
+            State::Reading(stage) => after_stage(alloc, check, slots, stage, text, commands, out),
+            State::Stopped(monitor) => Ok(State::Stopped(monitor)),
+            State::Refused(n, code) => Ok(State::Refused(n, code)),
+            State::NoMemory => Ok(State::NoMemory),
+        }
+    }
+}
+
+// After a whole line of a deck that is still read.
+fn after_stage(
+    alloc: Global,
+    check: bool,
+    slots: Slots,
+    stage: Stage,
+    text: &[u8],
+    commands: &mut u64,
+    out: &mut Vec<u8>,
+) -> Result<State, Stop<Code>>
+    requires few { commands.old < 2 ^ 63 }
+    requires within { lines_loaded (states.Reading stage) < 2 ^ 63 }
+    ensures told { IfOk result (λ after. (n : ℕ) (ls : List (List ℕ)) → behind out.new.items commands.new (outcome check after (n + 1) ls)
+        ≡ behind out.old.items commands.old (outcome_of check (deck_from stage n (text.now ∷ ls)))) }
+    ensures within { IfOk result (λ after. lines_loaded after ≤ lines_loaded (states.Reading stage) + 1) }
+    ensures reads_back { IfOk result (IsReadBack check) }
+    ensures counted { commands.new ≤ commands.old + 1 }
+    ensures refused { IfErr result (IfRefused (λ code. (n : ℕ) (ls : List (List ℕ)) → deck_from stage n (text.now ∷ ls) ≡ refused_from stage n code)) }
+    ensures nothing { OnErr result (out.new.items ≡ out.old.items) }
+{
+    match stage {
+        Stage::Opening => Ok(State::Reading(after_opening(alloc, text)?)),
+        Stage::Accounts(accounts) => { Ok(State::Reading(after_account(alloc, accounts, text)?)) }
+        Stage::Catalogue(accounts, loading) => {
+            Ok(State::Reading(after_catalogue(alloc, slots, accounts, loading, text)?))
+        }
+        Stage::Stream(monitor) => after_card(alloc, check, monitor, text, commands, out),
+        Stage::List(monitor, list) => {
+            after_list_line(alloc, check, monitor, list, text, commands, out)
+        }
+    }
+}
