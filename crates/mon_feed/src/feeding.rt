@@ -16,7 +16,6 @@ use crate::stage::{Stage, State};
 use mon_cards::Code;
 use mon_text::{LineFeed, Stop};
 use std::alloc::Global;
-use std::mem;
 
 impl DeckFeed {
     /// The start of a deck.
@@ -159,8 +158,8 @@ impl DeckFeed {
         ensures nothing { OnErr result (out.new.items ≡ out.old.items) }
         ensures stays { (self.new.options ≡ self.old.options) × (self.new.line ≡ self.old.line) × (self.new.fed ≡ self.old.fed) }
     {
-        let before = mem::replace(&mut self.state, State::NoMemory);
-        let answer = before.after_line(
+        self.lines_taken += 1;
+        let answer = self.state.take_line(
             alloc,
             self.options.check,
             self.options.slots,
@@ -168,17 +167,16 @@ impl DeckFeed {
             &mut self.commands,
             out,
         );
-        self.lines_taken += 1;
         match answer {
-            Ok(after) => {
-                self.state = after;
-                Ok(())
-            }
+            Ok(()) => Ok(()),
             Err(Stop::Refused(code)) => {
                 self.state = State::Refused(self.lines_taken, code);
                 Err(RunError::DeckRefused(self.lines_taken, code))
             }
-            Err(Stop::Memory) => Err(RunError::Memory),
+            Err(Stop::Memory) => {
+                self.state = State::NoMemory;
+                Err(RunError::Memory)
+            }
         }
     }
 

@@ -14,6 +14,37 @@ use mon_monitor::{Command, Monitor};
 use mon_text::Stop;
 use std::alloc::{AllocError, Global};
 
+/// Takes a line of the stream that is blank or a command: whether it is one. Else nothing has changed.
+///
+/// # Errors
+///
+/// The line's refusal; memory. Nothing was appended then.
+pub(crate) fn take_card(
+    alloc: Global,
+    check: bool,
+    monitor: &mut Monitor,
+    text: &[u8],
+    commands: &mut u64,
+    out: &mut Vec<u8>,
+) -> Result<bool, Stop<Code>>
+    requires { commands.old < 2 ^ 63 }
+    ensures taken { IfOk result (λ taken. taken ≡ true → (n : ℕ) (ls : List (List ℕ)) → behind out.new.items commands.new (outcome_of check (over monitor.new (stream_section (n + 1) None ls)))
+        ≡ behind out.old.items commands.old (outcome_of check (over monitor.old (stream_section n None (text.now ∷ ls))))) }
+    ensures left { IfOk result (λ taken. taken ≡ false → (monitor.new ≡ monitor.old) × (out.new.items ≡ out.old.items) × (commands.new ≡ commands.old)) }
+    ensures counted { commands.new ≤ commands.old + 1 }
+    ensures refused { IfErr result (IfRefused (λ code. (n : ℕ) (ls : List (List ℕ)) → stream_section n None (text.now ∷ ls) ≡ refused n code)) }
+    ensures nothing { OnErr result (out.new.items ≡ out.old.items) }
+{
+    match read_request(alloc, text)? {
+        Request::Nothing => Ok(true),
+        Request::Asks(command) => {
+            put_command(alloc, check, monitor, command, commands, out)?;
+            Ok(true)
+        }
+        Request::Opens(..) | Request::Stops => Ok(false),
+    }
+}
+
 /// A line of the stream: a card, or blank.
 ///
 /// # Errors

@@ -1,18 +1,19 @@
 //! How far the reading of a deck has come, and what the next line makes of that.
-ghost use Rattle.std.specs.Prelude.{◌≡◌, ℕ, List, ◌+◌, ◌<◌, ◌≤◌, ◌^◌, ◌∷◌, IfOk, IfErr, OnErr};
+ghost use Rattle.std.specs.Prelude.{◌≡◌, ℕ, List, true, false, OnOk, ◌+◌, ◌<◌, ◌≤◌, ◌^◌, ◌∷◌, IfOk, IfErr, OnErr};
 ghost use Rattle.mon_cards.specs.inner.Stops.{IfRefused};
 ghost use Rattle.mon_feed.specs.declared.stage.State.TheVariants as states;
 ghost use Rattle.mon_feed.specs.Feeds.{deck_from, refused_from, outcome, outcome_of, behind, refused_at, lines_loaded, IsReadBack};
 
 use crate::options::Slots;
 use crate::reading::{after_account, after_catalogue, after_opening};
-use crate::serving::{after_card, after_list_line};
+use crate::serving::{after_card, after_list_line, take_card};
 use mon_access::Accounts;
-use mon_cards::{Code, OpenList};
+use mon_cards::{Code, OpenList, put_catalogue_line};
 use mon_catalogue::Loading;
 use mon_monitor::Monitor;
 use mon_text::Stop;
 use std::alloc::Global;
+use std::mem;
 
 /// The section that the next line belongs to, and what was collected.
 #[derive(Drop)]
@@ -53,7 +54,70 @@ impl Drop for State {
     }
 }
 
+impl Stage {
+    // Takes a line that changes what was collected and not the section, where what was collected stands: most lines do. Whether
+    // it was one; else nothing has changed.
+    fn take_in_place(
+        &mut self,
+        alloc: Global,
+        check: bool,
+        text: &[u8],
+        commands: &mut u64,
+        out: &mut Vec<u8>,
+    ) -> Result<bool, Stop<Code>>
+        requires few { commands.old < 2 ^ 63 }
+        requires within { lines_loaded (states.Reading self.old) < 2 ^ 63 }
+        ensures taken { IfOk result (λ taken. taken ≡ true → (n : ℕ) (ls : List (List ℕ)) → behind out.new.items commands.new (outcome_of check (deck_from self.new (n + 1) ls))
+            ≡ behind out.old.items commands.old (outcome_of check (deck_from self.old n (text.now ∷ ls)))) }
+        ensures left { IfOk result (λ taken. taken ≡ false → (self.new ≡ self.old) × (out.new.items ≡ out.old.items) × (commands.new ≡ commands.old)) }
+        ensures within { lines_loaded (states.Reading self.new) ≤ lines_loaded (states.Reading self.old) + 1 }
+        ensures counted { commands.new ≤ commands.old + 1 }
+        ensures refused { IfErr result (IfRefused (λ code. (n : ℕ) (ls : List (List ℕ)) → deck_from self.old n (text.now ∷ ls) ≡ refused_from self.old n code)) }
+        ensures nothing { OnErr result (out.new.items ≡ out.old.items) }
+    {
+        match self {
+            Stage::Catalogue(_, loading) => Ok(!put_catalogue_line(alloc, loading, text)?),
+            Stage::Stream(monitor) => take_card(alloc, check, monitor, text, commands, out),
+            Stage::Opening | Stage::Accounts(_) | Stage::List(..) => Ok(false),
+        }
+    }
+}
+
 impl State {
+    /// Takes a whole line.
+    ///
+    /// # Errors
+    ///
+    /// The line's refusal; memory. Nothing was appended then, and what the state is says nothing.
+    pub(crate) fn take_line(
+        &mut self,
+        alloc: Global,
+        check: bool,
+        slots: Slots,
+        text: &[u8],
+        commands: &mut u64,
+        out: &mut Vec<u8>,
+    ) -> Result<(), Stop<Code>>
+        requires few { commands.old < 2 ^ 63 }
+        requires within { lines_loaded self.old < 2 ^ 63 }
+        ensures told { OnOk result ((n : ℕ) (ls : List (List ℕ)) → behind out.new.items commands.new (outcome check self.new (n + 1) ls)
+            ≡ behind out.old.items commands.old (outcome check self.old n (text.now ∷ ls))) }
+        ensures within { lines_loaded self.new ≤ lines_loaded self.old + 1 }
+        ensures reads_back { IsReadBack check self.old → OnOk result (IsReadBack check self.new) }
+        ensures counted { commands.new ≤ commands.old + 1 }
+        ensures refused { IfErr result (IfRefused (λ code. (n : ℕ) (ls : List (List ℕ)) → outcome check self.old n (text.now ∷ ls) ≡ refused_at n code)) }
+        ensures nothing { OnErr result (out.new.items ≡ out.old.items) }
+    {
+        if let State::Reading(stage) = self {
+            if stage.take_in_place(alloc, check, text, commands, out)? {
+                return Ok(());
+            }
+        }
+        let before = mem::replace(self, State::NoMemory);
+        *self = before.after_line(alloc, check, slots, text, commands, out)?;
+        Ok(())
+    }
+
     /// After a whole line.
     ///
     /// # Errors
