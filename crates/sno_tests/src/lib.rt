@@ -7,3 +7,5 @@ mod asking;
 mod coding;
 #[cfg(test)]
 mod syntax;
+#[cfg(test)]
+mod values;
