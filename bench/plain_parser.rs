@@ -1,14 +1,17 @@
 //! The reading of SNOBOL4 programs in plain Rust, for comparison with `crates/sno_*`: std alone, no contract and no proof.
 //!
 //! Reads the cards of a program from standard input, makes its statements and their trees, and says `parsed`, or at which
-//! place the program is refused (and not why). What it reads is what `crates/sno_syntax` reads. Names and literals are
-//! slices of the joined cards, and places are found by one segment a card.
+//! place the program is refused (and not why). What it reads is what `crates/sno_syntax` reads, and what it makes is the
+//! same: a program that outlives its cards, so each name, label and literal of a tree is a text of its own. Tokens are
+//! slices of the joined cards, in one list that is used again for each statement, and places are found by one segment a
+//! card.
 
 use std::collections::HashMap;
 use std::hint::black_box;
 use std::io::{self, Read};
 use std::process::ExitCode;
 
+const LONGEST_CARD: usize = 200;
 const MOST_TOKENS: usize = 1_000;
 const MOST_OPEN: usize = 100;
 
@@ -101,54 +104,56 @@ impl Operator {
     }
 }
 
+/// A name, label or literal of a tree. It is a text of its own, since the program outlives its cards.
+type Text = Box<[u8]>;
+
 // Nothing here goes over the trees once they are made.
 #[allow(dead_code)]
-enum Expression<'a> {
-    Identifier(&'a [u8]),
-    Literal(&'a [u8]),
+enum Expression {
+    Identifier(Text),
+    Literal(Text),
     Integer(i64),
-    Keyword(&'a [u8]),
-    Unevaluated(&'a [u8]),
-    Group(Box<Expression<'a>>),
-    Call(&'a [u8], Vec<Option<Expression<'a>>>),
-    Unary(Mark, Box<Expression<'a>>),
-    Binary(Operator, Box<Expression<'a>>, Box<Expression<'a>>),
+    Keyword(Text),
+    Unevaluated(Text),
+    Group(Box<Expression>),
+    Call(Text, Vec<Option<Expression>>),
+    Unary(Mark, Box<Expression>),
+    Binary(Operator, Box<Expression>, Box<Expression>),
 }
 
-impl Expression<'_> {
+impl Expression {
     fn is_variable(&self) -> bool {
         matches!(self, Expression::Identifier(_) | Expression::Unary(Mark::Dollar, _))
     }
 }
 
 #[allow(dead_code)]
-enum Target<'a> {
-    Label(&'a [u8]),
-    Computed(Expression<'a>),
+enum Target {
+    Label(Text),
+    Computed(Expression),
 }
 
 #[allow(dead_code)]
-enum Object<'a> {
+enum Object {
     Nothing,
     Null,
-    Value(Expression<'a>),
+    Value(Expression),
 }
 
 #[derive(Default)]
 #[allow(dead_code)]
-struct Goto<'a> {
-    always: Option<Target<'a>>,
-    success: Option<Target<'a>>,
-    failure: Option<Target<'a>>,
+struct Goto {
+    always: Option<Target>,
+    success: Option<Target>,
+    failure: Option<Target>,
 }
 
 #[allow(dead_code)]
-struct Statement<'a> {
-    label: Option<&'a [u8]>,
-    subject: Option<Expression<'a>>,
-    pattern: Option<Expression<'a>>,
-    object: Object<'a>,
-    goto: Option<Box<Goto<'a>>>,
+struct Statement {
+    subject: Option<Expression>,
+    pattern: Option<Expression>,
+    object: Object,
+    goto: Option<Box<Goto>>,
 }
 
 /// The statements' text: each line joined with its continuations, and where each card's part of it begins.
@@ -196,6 +201,9 @@ fn join(cards: &[u8]) -> Result<Cards, (usize, usize)> {
     for line in cards.split_inclusive(|byte| *byte == b'\n') {
         let line = line.strip_suffix(b"\n").unwrap_or(line);
         card += 1;
+        if line.len() > LONGEST_CARD || !is_printable(line) {
+            return Err((card, 1));
+        }
         match line.first() {
             Some(b'*') => continue,
             Some(b'-') if is_control(&line[1..]) => continue,
@@ -266,8 +274,9 @@ fn mark_of(first: u8, second: Option<u8>) -> Option<Mark> {
     })
 }
 
+// Without a way out in the middle, so that it looks at many bytes at once.
 fn is_printable(text: &[u8]) -> bool {
-    text.iter().all(|byte| matches!(byte, b' '..=b'~'))
+    text.iter().fold(true, |is_good, byte| is_good & matches!(byte, b' '..=b'~'))
 }
 
 /// The tokens of a text, into a list that is used again for each statement.
@@ -375,7 +384,7 @@ impl<'a> Parser<'a, '_> {
         }
     }
 
-    fn element(&mut self, needs_variable: bool) -> Result<Expression<'a>, Unfit> {
+    fn element(&mut self, needs_variable: bool) -> Result<Expression, Unfit> {
         let begin = self.at;
         let token = self.peek().ok_or(Unfit)?;
         let element = match token.kind {
@@ -387,14 +396,14 @@ impl<'a> Parser<'a, '_> {
                             self.note(begin);
                         }
                         self.at += 1;
-                        Expression::Call(name, self.arguments()?)
+                        Expression::Call(name.into(), self.arguments()?)
                     }
-                    _ => Expression::Identifier(name),
+                    _ => Expression::Identifier(name.into()),
                 }
             }
             Kind::Literal(text) => {
                 self.at += 1;
-                Expression::Literal(text)
+                Expression::Literal(text.into())
             }
             Kind::Integer(value) => {
                 self.at += 1;
@@ -415,14 +424,14 @@ impl<'a> Parser<'a, '_> {
         Ok(element)
     }
 
-    fn unary(&mut self, mark: Mark) -> Result<Expression<'a>, Unfit> {
+    fn unary(&mut self, mark: Mark) -> Result<Expression, Unfit> {
         if matches!(mark, Mark::Power | Mark::Slash | Mark::Bar) {
             return Err(Unfit);
         }
         self.at += 1;
         match mark {
-            Mark::Ampersand => Ok(Expression::Keyword(self.identifier_that_touches()?)),
-            Mark::Star => Ok(Expression::Unevaluated(self.identifier_that_touches()?)),
+            Mark::Ampersand => Ok(Expression::Keyword(self.identifier_that_touches()?.into())),
+            Mark::Star => Ok(Expression::Unevaluated(self.identifier_that_touches()?.into())),
             _ => {
                 if self.peek().is_none_or(|token| token.blank_before) {
                     return Err(Unfit);
@@ -443,7 +452,7 @@ impl<'a> Parser<'a, '_> {
         }
     }
 
-    fn arguments(&mut self) -> Result<Vec<Option<Expression<'a>>>, Unfit> {
+    fn arguments(&mut self) -> Result<Vec<Option<Expression>>, Unfit> {
         let mut arguments = Vec::new();
         loop {
             match self.peek().ok_or(Unfit)?.kind {
@@ -478,12 +487,12 @@ impl<'a> Parser<'a, '_> {
     }
 
     /// An expression whose operators have this precedence at least.
-    fn expression(&mut self, least: u8) -> Result<Expression<'a>, Unfit> {
+    fn expression(&mut self, least: u8) -> Result<Expression, Unfit> {
         let left = self.element(false)?;
         self.behind(left, least)
     }
 
-    fn behind(&mut self, mut left: Expression<'a>, least: u8) -> Result<Expression<'a>, Unfit> {
+    fn behind(&mut self, mut left: Expression, least: u8) -> Result<Expression, Unfit> {
         while let Some((operator, has_mark)) = self.operator() {
             let precedence = operator.precedence();
             if precedence < least {
@@ -502,7 +511,7 @@ impl<'a> Parser<'a, '_> {
         Ok(left)
     }
 
-    fn target(&mut self) -> Result<Target<'a>, Unfit> {
+    fn target(&mut self) -> Result<Target, Unfit> {
         match self.peek() {
             Some(Token { kind: Kind::Open, .. }) => self.at += 1,
             _ => return Err(Unfit),
@@ -510,7 +519,7 @@ impl<'a> Parser<'a, '_> {
         let target = match self.peek().ok_or(Unfit)?.kind {
             Kind::Label(label) => {
                 self.at += 1;
-                Target::Label(label)
+                Target::Label(label.into())
             }
             Kind::Mark(Mark::Dollar) => Target::Computed(self.element(false)?),
             _ => return Err(Unfit),
@@ -519,7 +528,7 @@ impl<'a> Parser<'a, '_> {
         Ok(target)
     }
 
-    fn goto(&mut self) -> Result<Goto<'a>, Unfit> {
+    fn goto(&mut self) -> Result<Goto, Unfit> {
         let mut goto = Goto::default();
         if let Some(Token { kind: Kind::Open, .. }) = self.peek() {
             goto.always = Some(self.target()?);
@@ -543,11 +552,10 @@ impl<'a> Parser<'a, '_> {
         self.peek().is_some_and(holds)
     }
 
-    fn statement(&mut self, label: Option<&'a [u8]>) -> Result<Statement<'a>, Unfit> {
+    fn statement(&mut self) -> Result<Statement, Unfit> {
         let is_colon = |token: Token| matches!(token.kind, Kind::Colon) && token.blank_before;
         let is_equals = |token: Token| matches!(token.kind, Kind::Equals) && token.blank_before && token.blank_after;
-        let mut statement =
-            Statement { label, subject: None, pattern: None, object: Object::Nothing, goto: None };
+        let mut statement = Statement { subject: None, pattern: None, object: Object::Nothing, goto: None };
         if self.peek().is_some() && !self.is_next(is_colon) {
             let subject = self.element(false)?;
             if self.is_next(|token| token.blank_before) && !self.is_next(is_colon) && !self.is_next(is_equals) {
@@ -581,9 +589,9 @@ fn last_of(text: &[u8], from: usize, end: usize) -> usize {
 }
 
 #[allow(dead_code)]
-struct Program<'a> {
-    statements: Vec<Statement<'a>>,
-    labels: HashMap<&'a [u8], usize>,
+struct Program {
+    statements: Vec<Statement>,
+    labels: HashMap<Text, usize>,
     start: Option<usize>,
 }
 
@@ -601,17 +609,17 @@ fn read_statement<'a>(
     text: &'a [u8],
     from: usize,
     end: usize,
-    labels: &mut HashMap<&'a [u8], usize>,
+    labels: &mut HashMap<Text, usize>,
     index: usize,
     tokens: &mut Vec<Token<'a>>,
-) -> Result<Statement<'a>, Refused> {
+) -> Result<Statement, Refused> {
     let label = label_of(&text[from..end]).map_err(|Unfit| Refused::At(from))?;
-    if label.is_some_and(|label| labels.insert(label, index).is_some()) {
+    if label.is_some_and(|label| labels.insert(label.into(), index).is_some()) {
         return Err(Refused::At(from));
     }
     lex(text, from + label.map_or(0, <[u8]>::len), end, tokens)?;
     let mut parser = Parser { tokens, at: 0, misfit: None };
-    let answer = parser.statement(label);
+    let answer = parser.statement();
     let (at, misfit) = (parser.at, parser.misfit);
     let refused = |at: usize| match tokens.get(at) {
         Some(token) => Refused::At(token.offset),
@@ -624,7 +632,7 @@ fn read_statement<'a>(
     }
 }
 
-fn read(cards: &Cards) -> Result<Program<'_>, (usize, usize)> {
+fn read(cards: &Cards) -> Result<Program, (usize, usize)> {
     let joined = &cards.joined;
     let (mut statements, mut labels, mut tokens) = (Vec::new(), HashMap::new(), Vec::new());
     let mut from = 0;

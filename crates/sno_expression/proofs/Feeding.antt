@@ -89,11 +89,9 @@ Begins token.Comma = ⊥
 Begins _ = Unit {0}
 
 firsts : (st : Stack) (a : Bool) (k : TokenKind) → Begins k → first st a k ≡ begin st Begin a k
-firsts Bottom a k i = refl
-firsts (InGroup h st) a k i = refl
-firsts (InCall f args h st) a token.Close i = absurd i
-firsts (InCall f args h st) a token.Comma i = absurd i
-firsts (InCall f args h st) a _ i = refl
+firsts st a token.Close i = absurd i
+firsts st a token.Comma i = absurd i
+firsts st a _ i = refl
 
 fits_under : (b : Bool) (s : UnaryOperator) (h : Hole) → fits (Under s h) b ≡ true → b ≡ false
 fits_under true s h f = sym f

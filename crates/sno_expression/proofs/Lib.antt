@@ -5,6 +5,7 @@ pub mod Lone
 pub mod Sound
 pub mod Spines
 pub mod Variables
+pub mod Tested
 pub mod Grammar
 pub mod Loop
 mod Examples

@@ -90,11 +90,13 @@ begin_anew alone st a k r = begin_lone alone st Begin a k r (at (closed alone st
     at false = tt
 
 first_lone : (alone : Bool) (st : Stack) (a : Bool) (k : TokenKind) → LoneStack alone st → LoneNext alone (first st a k)
-first_lone alone Bottom a k r = begin_anew alone Bottom a k r
-first_lone alone (InGroup h st) a k r = begin_anew alone (InGroup h st) a k r
+first_lone alone Bottom a token.Close r = tt
+first_lone alone Bottom a token.Comma r = tt
+first_lone alone (InGroup h st) a token.Close r = tt
+first_lone alone (InGroup h st) a token.Comma r = tt
 first_lone alone (InCall f args h st) a token.Close r = (r.1, fill_suits (closed alone st) h (Call f (Omitted args)) r.0 tt)
 first_lone alone (InCall f args h st) a token.Comma r = (r, tt)
-first_lone alone (InCall f args h st) a k r = begin_anew alone (InCall f args h st) a k r
+first_lone alone st a k r = begin_anew alone st a k r
 
 joined_lone : (alone : Bool) (st : Stack) (l : Expression) (o : Option BinaryOperator) → closed alone st ≡ false → LoneStack alone st → LoneNext alone (joined st l o)
 joined_lone alone st l None e r = tt

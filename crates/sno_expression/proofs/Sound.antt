@@ -167,13 +167,15 @@ commas (InCall f args h st) t ts k m c d e r u =
     (m, (r.0, r.1, r.2, r.3, r.4, spaced d e token.Comma ∷ m, r.6, r.7, r.8, (r.5, k, c, r.9, r.10, u.spells), (d, e, refl), (r.11, u.levels)), λ e f. (e, (refl, refl)))
 
 firsts : (st : Stack) (b a : Bool) (t : TokenKind) (ts k m : List Token) → StackReads st ts k → k ≡ spaced b a t ∷ m → NextReads (first st a t) ts m
-firsts Bottom b a t ts k m r e = begins Bottom Begin b a t ts k k m b r (refl, refl) e
-firsts (InGroup h st) b a t ts k m r e = begins (InGroup h st) Begin b a t ts k k m b r (refl, refl) e
+firsts Bottom b a token.Close ts k m r e = tt
+firsts Bottom b a token.Comma ts k m r e = tt
+firsts (InGroup h st) b a token.Close ts k m r e = tt
+firsts (InGroup h st) b a token.Comma ts k m r e = tt
 firsts (InCall f args h st) d a token.Close ts k m r e =
     whole st h (Call f (Omitted args)) ts r.0 r.1 m r.2 r.3 r.6 r.7 tt (tt, r.11) (r.4, r.8.0, r.8.1, d, a, r.8.2, (r.5, r.9, subst (λ (l : List Token). Parts args r.5 l) e r.10))
 firsts (InCall f args h st) d a token.Comma ts k m r e =
     (m, (r.0, r.1, r.2, r.3, r.4, spaced d a token.Comma ∷ m, r.6, r.7, r.8, (r.5, r.9, subst (λ (l : List Token). Parts args r.5 l) e r.10), (d, a, refl), r.11), λ e f. (e, (refl, refl)))
-firsts (InCall f args h st) b a t ts k m r e = begins (InCall f args h st) Begin b a t ts k k m b r (refl, refl) e
+firsts st b a t ts k m r e = begins st Begin b a t ts k k m b r (refl, refl) e
 
 -- with a blank before it
 joins : (st : Stack) (l : Expression) (a : Bool) (t : TokenKind) (ts k m : List Token) (c : Bool) → StackReads st ts k → Made c l k (spaced true a t ∷ m) → NextReads (begin st (After l operator.Concatenation) a t) ts m

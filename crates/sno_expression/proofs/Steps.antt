@@ -51,7 +51,11 @@ comma_walks (InGroup h st) t = refl
 comma_walks (InCall f args h st) t = refl
 
 first_walks : (st : Stack) (a : Bool) (k : TokenKind) → walk_of (first st a k) ≡ moved (parens st) (walking.first (inner_of (parens st)) a k)
+first_walks Bottom a token.Close = refl
+first_walks Bottom a token.Comma = refl
 first_walks Bottom a k = begin_walks Bottom Begin a k
+first_walks (InGroup h st) a token.Close = refl
+first_walks (InGroup h st) a token.Comma = refl
 first_walks (InGroup h st) a k = begin_walks (InGroup h st) Begin a k
 first_walks (InCall f args h st) a token.Close = refl
 first_walks (InCall f args h st) a token.Comma = refl

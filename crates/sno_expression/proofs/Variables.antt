@@ -168,11 +168,13 @@ begin_free : (st : Stack) (a : Bool) (k : TokenKind) → Counted (begin st Begin
 begin_free st a k = recount (begin st Begin a k) (bad_stack st + 0 + 0) (bad_stack st + 0) (omega arith) (begin_counts st Begin a k)
 
 first_counts : (st : Stack) (a : Bool) (k : TokenKind) → Counted (first st a k) (bad_stack st + 0)
-first_counts Bottom a k = begin_free Bottom a k
-first_counts (InGroup h st) a k = begin_free (InGroup h st) a k
+first_counts Bottom a token.Close = tt
+first_counts Bottom a token.Comma = tt
+first_counts (InGroup h st) a token.Close = tt
+first_counts (InGroup h st) a token.Comma = tt
 first_counts (InCall f args h st) a token.Close = let g = fill_bad h (Call f (Omitted args)) in omega (arith, g)
 first_counts (InCall f args h st) a token.Comma = omega arith
-first_counts (InCall f args h st) a k = begin_free (InCall f args h st) a k
+first_counts st a k = begin_free st a k
 
 joined_counts : (st : Stack) (l : Expression) (a : Bool) (k : TokenKind) → Counted (begin st (After l Concatenation) a k) (bad_stack st + bad l)
 joined_counts st l a k = recount (begin st (After l Concatenation) a k) (bad_stack st + bad l + 0) (bad_stack st + bad l) (omega arith) (begin_counts st (After l Concatenation) a k)

@@ -1,5 +1,6 @@
 pub mod Walks
 pub mod Counting
+pub mod Variables
 pub mod Reading
 pub mod Spines
 pub mod Told

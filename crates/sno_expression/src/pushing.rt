@@ -63,6 +63,7 @@ fn close_all(alloc: Global, pending: Pending, last: Expression) -> Result<Expres
 }
 
 /// The tree of one operand.
+#[inline(always)]
 pub(crate) fn alone(operand: Expression) -> Spine
     requires { is_element operand ≡ true }
     ensures { spine_tree result ≡ expression_of operand }
@@ -74,6 +75,7 @@ pub(crate) fn alone(operand: Expression) -> Spine
 }
 
 /// One more operand at the right end, as deep as the operator's precedence puts it.
+#[inline(always)]
 pub(crate) fn push(
     alloc: Global,
     operator: BinaryOperator,
@@ -88,6 +90,7 @@ pub(crate) fn push(
 }
 
 /// The tree, when no more operands come.
+#[inline(always)]
 pub(crate) fn closed(alloc: Global, spine: Spine) -> Result<Expression, AllocError>
     ensures { IfOk result (λ t. expression_of t ≡ spine_tree spine) }
 {

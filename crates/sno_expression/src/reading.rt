@@ -5,7 +5,7 @@ ghost use Rattle.sno_expression.specs.Marks.{operator_of, prefix_of};
 ghost use Rattle.sno_expression.specs.Walking.{inner_of};
 ghost use Rattle.sno_expression.specs.Expressions as expressions;
 ghost use Rattle.sno_expression.specs.inner.Spines.{is_element};
-ghost use Rattle.sno_expression.specs.inner.Reading.{fill, prefixed, joined, begin, close, comma, first, go_on, closed, after, due, after_prefix, named, read, ended, result as result_of, parens, Read, reading};
+ghost use Rattle.sno_expression.specs.inner.Reading.{fill, prefixed, joined, begin, close, comma, first, go_on, closed, after, due, omitted, omitted_last, after_prefix, named, read, ended, result as result_of, parens, Read, reading};
 ghost use Rattle.sno_expression.specs.inner.Reading as states;
 ghost use Rattle.sno_expression.specs.Told.{expression_of, arguments_of, expressions_of};
 ghost use Rattle.sno_expression.specs.inner.Told.{spine_tree, hole_of, stack_of, state_of, stepped, step_of, Next, End};
@@ -18,7 +18,7 @@ use crate::tree::{
 };
 use crate::walking::{Paren, opens_call, stops};
 use mon_text::Line;
-use sno_token::{Constant, Mark, Token, TokenKind};
+use sno_token::{Constant, Mark, Token, TokenKind, Word};
 use std::alloc::{AllocError, Global};
 
 /// What waits for an operand.
@@ -53,7 +53,7 @@ pub(crate) enum Spot {
 /// How far an expression has been read.
 #[derive(Drop)]
 pub(crate) struct State {
-    stack: Stack,
+    stack: Box<Stack>,
     spot: Spot,
 }
 
@@ -93,9 +93,15 @@ fn fill(alloc: Global, hole: Hole, operand: Expression) -> Result<Spine, AllocEr
 }
 
 // A whole operand, in its place.
-fn whole(alloc: Global, stack: Stack, hole: Hole, operand: Expression) -> Result<Step, AllocError>
+#[inline(always)]
+fn whole(
+    alloc: Global,
+    stack: Box<Stack>,
+    hole: Hole,
+    operand: Expression,
+) -> Result<Step, AllocError>
     requires { is_element operand ≡ true }
-    ensures { IfOk result (λ s. step_of s ≡ Next (states.At (stack_of stack) (states.Whole (fill (hole_of hole) (expression_of operand))))) }
+    ensures { IfOk result (λ s. step_of s ≡ Next (states.At (stack_of stack.value) (states.Whole (fill (hole_of hole) (expression_of operand))))) }
 {
     let spine = fill(alloc, hole, operand)?;
     Ok(Step::Next(State {
@@ -105,10 +111,15 @@ fn whole(alloc: Global, stack: Stack, hole: Hole, operand: Expression) -> Result
 }
 
 // The tree, where one is complete.
-fn complete(alloc: Global, stack: Stack, spine: Spine) -> Result<Option<Expression>, AllocError>
-    ensures { IfOk result (λ t. expressions_of t ≡ ended (stack_of stack) (spine_tree spine)) }
+#[inline(always)]
+fn complete(
+    alloc: Global,
+    stack: Box<Stack>,
+    spine: Spine,
+) -> Result<Option<Expression>, AllocError>
+    ensures { IfOk result (λ t. expressions_of t ≡ ended (stack_of stack.value) (spine_tree spine)) }
 {
-    match stack {
+    match Box::into_inner(stack) {
         Stack::Bottom => {
             let tree = closed_tree(alloc, spine)?;
             Ok(Some(tree))
@@ -119,57 +130,62 @@ fn complete(alloc: Global, stack: Stack, spine: Spine) -> Result<Option<Expressi
 }
 
 // A token that is not taken after a whole operand.
-fn stop(alloc: Global, stack: Stack, spine: Spine) -> Result<Step, AllocError>
-    ensures { IfOk result (λ s. step_of s ≡ End (ended (stack_of stack) (spine_tree spine))) }
+#[inline(always)]
+fn stop(alloc: Global, stack: Box<Stack>, spine: Spine) -> Result<Step, AllocError>
+    ensures { IfOk result (λ s. step_of s ≡ End (ended (stack_of stack.value) (spine_tree spine))) }
 {
     let tree = complete(alloc, stack, spine)?;
     Ok(Step::End(tree))
 }
 
+#[inline(always)]
 fn identifier_begins(
     alloc: Global,
-    stack: Stack,
+    stack: Box<Stack>,
     hole: Hole,
-    name: &Line,
+    name: &Word,
 ) -> Result<Step, AllocError>
-    ensures { IfOk result (λ s. step_of s ≡ Next (states.At (stack_of stack) (states.Named (hole_of hole) name.now))) }
+    ensures { IfOk result (λ s. step_of s ≡ Next (states.At (stack_of stack.value) (states.Named (hole_of hole) name.now))) }
 {
-    let name = name.copy(alloc)?;
+    let name = name.line(alloc)?;
     Ok(Step::Next(State {
         stack,
         spot: Spot::Named(hole, name),
     }))
 }
 
+#[inline(always)]
 fn constant_begins(
     alloc: Global,
-    stack: Stack,
+    stack: Box<Stack>,
     hole: Hole,
     constant: &Constant,
 ) -> Result<Step, AllocError>
-    ensures { IfOk result (λ s. step_of s ≡ Next (states.At (stack_of stack) (states.Whole (fill (hole_of hole) (expressions.Constant constant.now))))) }
+    ensures { IfOk result (λ s. step_of s ≡ Next (states.At (stack_of stack.value) (states.Whole (fill (hole_of hole) (expressions.Constant constant.now))))) }
 {
     let constant = copy_constant(alloc, constant)?;
     whole(alloc, stack, hole, Expression::Constant(constant))
 }
 
-fn group_begins(alloc: Global, stack: Stack, hole: Hole) -> Result<Step, AllocError>
-    ensures { IfOk result (λ s. step_of s ≡ Next (states.At (states.InGroup (hole_of hole) (stack_of stack)) (states.Due states.Begin))) }
+#[inline(always)]
+fn group_begins(alloc: Global, stack: Box<Stack>, hole: Hole) -> Result<Step, AllocError>
+    ensures { IfOk result (λ s. step_of s ≡ Next (states.At (states.InGroup (hole_of hole) (stack_of stack.value)) (states.Due states.Begin))) }
 {
-    let stack = Box::new(alloc, stack)?;
+    let stack = Box::new(alloc, Stack::InGroup(hole, stack))?;
     Ok(Step::Next(State {
-        stack: Stack::InGroup(hole, stack),
+        stack,
         spot: Spot::Due(Hole::Begin),
     }))
 }
 
+#[inline(always)]
 fn prefix_begins(
     alloc: Global,
-    stack: Stack,
+    stack: Box<Stack>,
     hole: Hole,
     prefix: Prefix,
 ) -> Result<Step, AllocError>
-    ensures { IfOk result (λ s. step_of s ≡ stepped (prefixed (stack_of stack) (hole_of hole) (Some prefix)) None) }
+    ensures { IfOk result (λ s. step_of s ≡ stepped (prefixed (stack_of stack.value) (hole_of hole) (Some prefix)) None) }
 {
     match prefix {
         Prefix::OfOperand(unary) => {
@@ -186,8 +202,9 @@ fn prefix_begins(
     }
 }
 
-fn mark_begins(alloc: Global, stack: Stack, hole: Hole, mark: Mark) -> Result<Step, AllocError>
-    ensures { IfOk result (λ s. step_of s ≡ stepped (prefixed (stack_of stack) (hole_of hole) (prefix_of mark)) None) }
+#[inline(always)]
+fn mark_begins(alloc: Global, stack: Box<Stack>, hole: Hole, mark: Mark) -> Result<Step, AllocError>
+    ensures { IfOk result (λ s. step_of s ≡ stepped (prefixed (stack_of stack.value) (hole_of hole) (prefix_of mark)) None) }
 {
     match prefix_of(mark) {
         Some(prefix) => prefix_begins(alloc, stack, hole, prefix),
@@ -196,14 +213,15 @@ fn mark_begins(alloc: Global, stack: Stack, hole: Hole, mark: Mark) -> Result<St
 }
 
 // An operand begins, where one is due.
+#[inline(always)]
 fn begin(
     alloc: Global,
-    stack: Stack,
+    stack: Box<Stack>,
     hole: Hole,
     after: bool,
     kind: &TokenKind,
 ) -> Result<Step, AllocError>
-    ensures { IfOk result (λ s. step_of s ≡ stepped (begin (stack_of stack) (hole_of hole) after kind.now) None) }
+    ensures { IfOk result (λ s. step_of s ≡ stepped (begin (stack_of stack.value) (hole_of hole) after kind.now) None) }
 {
     match kind {
         TokenKind::Identifier(name) => identifier_begins(alloc, stack, hole, name),
@@ -220,131 +238,104 @@ fn begin(
     }
 }
 
-fn close(alloc: Global, stack: Stack, spine: Spine) -> Result<Step, AllocError>
-    ensures { IfOk result (λ s. step_of s ≡ stepped (close (stack_of stack) (spine_tree spine)) (ended (stack_of stack) (spine_tree spine))) }
+fn close(alloc: Global, stack: Box<Stack>, spine: Spine) -> Result<Step, AllocError>
+    ensures { IfOk result (λ s. step_of s ≡ stepped (close (stack_of stack.value) (spine_tree spine)) (ended (stack_of stack.value) (spine_tree spine))) }
 {
     let tree = closed_tree(alloc, spine)?;
-    match stack {
+    match Box::into_inner(stack) {
         Stack::Bottom => Ok(Step::End(Some(tree))),
         Stack::InGroup(hole, below) => {
             let tree = Box::new(alloc, tree)?;
-            whole(alloc, Box::into_inner(below), hole, Expression::Group(tree))
+            whole(alloc, below, hole, Expression::Group(tree))
         }
         Stack::InCall(name, arguments, hole, below) => {
             let arguments = add_argument(alloc, arguments, tree)?;
             let arguments = Box::new(alloc, arguments)?;
-            whole(
-                alloc,
-                Box::into_inner(below),
-                hole,
-                Expression::Call(name, arguments),
-            )
+            whole(alloc, below, hole, Expression::Call(name, arguments))
         }
     }
 }
 
-fn comma(alloc: Global, stack: Stack, spine: Spine) -> Result<Step, AllocError>
-    ensures { IfOk result (λ s. step_of s ≡ stepped (comma (stack_of stack) (spine_tree spine)) (ended (stack_of stack) (spine_tree spine))) }
+fn comma(alloc: Global, stack: Box<Stack>, spine: Spine) -> Result<Step, AllocError>
+    ensures { IfOk result (λ s. step_of s ≡ stepped (comma (stack_of stack.value) (spine_tree spine)) (ended (stack_of stack.value) (spine_tree spine))) }
 {
     let tree = closed_tree(alloc, spine)?;
-    match stack {
+    match Box::into_inner(stack) {
         Stack::Bottom => Ok(Step::End(Some(tree))),
         Stack::InGroup(_, _) => Ok(Step::End(None)),
         Stack::InCall(name, arguments, hole, below) => {
             let arguments = add_argument(alloc, arguments, tree)?;
+            let stack = Box::new(alloc, Stack::InCall(name, arguments, hole, below))?;
             Ok(Step::Next(State {
-                stack: Stack::InCall(name, arguments, hole, below),
+                stack,
                 spot: Spot::Due(Hole::Begin),
             }))
         }
     }
 }
 
-fn empty_before_comma(
-    alloc: Global,
-    name: Line,
-    arguments: Arguments,
-    hole: Hole,
-    below: Box<Stack>,
-) -> Result<Step, AllocError>
-    ensures { IfOk result (λ s. step_of s ≡ Next (states.At (states.InCall name (expressions.Omitted (arguments_of arguments)) (hole_of hole) (stack_of below.value)) (states.Due states.Begin))) }
+// An argument is empty, and a comma follows.
+fn empty_before_comma(alloc: Global, stack: Box<Stack>) -> Result<Step, AllocError>
+    ensures { IfOk result (λ s. step_of s ≡ stepped (omitted (stack_of stack.value)) None) }
 {
-    let arguments = omit_argument(alloc, arguments)?;
-    Ok(Step::Next(State {
-        stack: Stack::InCall(name, arguments, hole, below),
-        spot: Spot::Due(Hole::Begin),
-    }))
+    match Box::into_inner(stack) {
+        Stack::Bottom => Ok(Step::End(None)),
+        Stack::InGroup(_, _) => Ok(Step::End(None)),
+        Stack::InCall(name, arguments, hole, below) => {
+            let arguments = omit_argument(alloc, arguments)?;
+            let stack = Box::new(alloc, Stack::InCall(name, arguments, hole, below))?;
+            Ok(Step::Next(State {
+                stack,
+                spot: Spot::Due(Hole::Begin),
+            }))
+        }
+    }
 }
 
-fn empty_at_end(
-    alloc: Global,
-    name: Line,
-    arguments: Arguments,
-    hole: Hole,
-    below: Stack,
-) -> Result<Step, AllocError>
-    ensures { IfOk result (λ s. step_of s ≡ Next (states.At (stack_of below) (states.Whole (fill (hole_of hole) (expressions.Call name (expressions.Omitted (arguments_of arguments))))))) }
+// An argument is empty, and the last.
+fn empty_at_end(alloc: Global, stack: Box<Stack>) -> Result<Step, AllocError>
+    ensures { IfOk result (λ s. step_of s ≡ stepped (omitted_last (stack_of stack.value)) None) }
 {
-    let arguments = omit_argument(alloc, arguments)?;
-    let arguments = Box::new(alloc, arguments)?;
-    whole(alloc, below, hole, Expression::Call(name, arguments))
+    match Box::into_inner(stack) {
+        Stack::Bottom => Ok(Step::End(None)),
+        Stack::InGroup(_, _) => Ok(Step::End(None)),
+        Stack::InCall(name, arguments, hole, below) => {
+            let arguments = omit_argument(alloc, arguments)?;
+            let arguments = Box::new(alloc, arguments)?;
+            whole(alloc, below, hole, Expression::Call(name, arguments))
+        }
+    }
 }
 
-// An argument begins, or is empty.
-fn first_of_call(
+// An expression or an argument begins, or an argument is empty.
+#[inline(always)]
+fn first(
     alloc: Global,
-    name: Line,
-    arguments: Arguments,
-    hole: Hole,
-    below: Box<Stack>,
+    stack: Box<Stack>,
     after: bool,
     kind: &TokenKind,
 ) -> Result<Step, AllocError>
-    ensures { IfOk result (λ s. step_of s ≡ stepped (first (states.InCall name (arguments_of arguments) (hole_of hole) (stack_of below.value)) after kind.now) None) }
+    ensures { IfOk result (λ s. step_of s ≡ stepped (first (stack_of stack.value) after kind.now) None) }
 {
     match kind {
-        TokenKind::Comma => empty_before_comma(alloc, name, arguments, hole, below),
-        TokenKind::Close => empty_at_end(alloc, name, arguments, hole, Box::into_inner(below)),
+        TokenKind::Comma => empty_before_comma(alloc, stack),
+        TokenKind::Close => empty_at_end(alloc, stack),
         TokenKind::Identifier(_)
         | TokenKind::Constant(_)
         | TokenKind::Mark(_)
         | TokenKind::Open
-        | TokenKind::Part(_) => begin(
-            alloc,
-            Stack::InCall(name, arguments, hole, below),
-            Hole::Begin,
-            after,
-            kind,
-        ),
+        | TokenKind::Part(_) => begin(alloc, stack, Hole::Begin, after, kind),
     }
 }
 
-// An expression or an argument begins.
-fn first(alloc: Global, stack: Stack, after: bool, kind: &TokenKind) -> Result<Step, AllocError>
-    ensures { IfOk result (λ s. step_of s ≡ stepped (first (stack_of stack) after kind.now) None) }
-{
-    match stack {
-        Stack::Bottom => begin(alloc, Stack::Bottom, Hole::Begin, after, kind),
-        Stack::InGroup(hole, below) => begin(
-            alloc,
-            Stack::InGroup(hole, below),
-            Hole::Begin,
-            after,
-            kind,
-        ),
-        Stack::InCall(name, arguments, hole, below) => first_of_call(
-            alloc, name, arguments, hole, below, after, kind,
-        ),
-    }
-}
-
+#[inline(always)]
 fn operator_follows(
     alloc: Global,
-    stack: Stack,
+    stack: Box<Stack>,
     spine: Spine,
     mark: Mark,
 ) -> Result<Step, AllocError>
-    ensures { IfOk result (λ s. step_of s ≡ stepped (joined (stack_of stack) (spine_tree spine) (operator_of mark)) (ended (stack_of stack) (spine_tree spine))) }
+    ensures { IfOk result (λ s. step_of s ≡ stepped (joined (stack_of stack.value) (spine_tree spine) (operator_of mark)) (ended (stack_of stack.value) (spine_tree spine))) }
 {
     match operator_of(mark) {
         Some(operator) => Ok(Step::Next(State {
@@ -355,8 +346,14 @@ fn operator_follows(
     }
 }
 
-fn prefix_follows(alloc: Global, stack: Stack, spine: Spine, mark: Mark) -> Result<Step, AllocError>
-    ensures { IfOk result (λ s. step_of s ≡ stepped (prefixed (stack_of stack) (states.After (spine_tree spine) BinaryOperator.Concatenation) (prefix_of mark)) (ended (stack_of stack) (spine_tree spine))) }
+#[inline(always)]
+fn prefix_follows(
+    alloc: Global,
+    stack: Box<Stack>,
+    spine: Spine,
+    mark: Mark,
+) -> Result<Step, AllocError>
+    ensures { IfOk result (λ s. step_of s ≡ stepped (prefixed (stack_of stack.value) (states.After (spine_tree spine) BinaryOperator.Concatenation) (prefix_of mark)) (ended (stack_of stack.value) (spine_tree spine))) }
 {
     match prefix_of(mark) {
         Some(Prefix::OfOperand(unary)) => prefix_begins(
@@ -376,14 +373,15 @@ fn prefix_follows(alloc: Global, stack: Stack, spine: Spine, mark: Mark) -> Resu
 }
 
 // A mark after an operand and a blank.
+#[inline(always)]
 fn mark_follows(
     alloc: Global,
-    stack: Stack,
+    stack: Box<Stack>,
     spine: Spine,
     after: bool,
     mark: Mark,
 ) -> Result<Step, AllocError>
-    ensures { IfOk result (λ s. step_of s ≡ stepped (go_on (stack_of stack) (spine_tree spine) true after (TokenKind.Mark mark)) (ended (stack_of stack) (spine_tree spine))) }
+    ensures { IfOk result (λ s. step_of s ≡ stepped (go_on (stack_of stack.value) (spine_tree spine) true after (TokenKind.Mark mark)) (ended (stack_of stack.value) (spine_tree spine))) }
 {
     if after {
         operator_follows(alloc, stack, spine, mark)
@@ -393,14 +391,15 @@ fn mark_follows(
 }
 
 // After an operand and a blank.
+#[inline(always)]
 fn follow(
     alloc: Global,
-    stack: Stack,
+    stack: Box<Stack>,
     spine: Spine,
     after: bool,
     kind: &TokenKind,
 ) -> Result<Step, AllocError>
-    ensures { IfOk result (λ s. step_of s ≡ stepped (go_on (stack_of stack) (spine_tree spine) true after kind.now) (ended (stack_of stack) (spine_tree spine))) }
+    ensures { IfOk result (λ s. step_of s ≡ stepped (go_on (stack_of stack.value) (spine_tree spine) true after kind.now) (ended (stack_of stack.value) (spine_tree spine))) }
 {
     match kind {
         TokenKind::Mark(mark) => mark_follows(alloc, stack, spine, after, *mark),
@@ -430,14 +429,15 @@ fn follow(
 }
 
 // After an operand, with no blank between.
+#[inline(always)]
 fn touch(
     alloc: Global,
-    stack: Stack,
+    stack: Box<Stack>,
     spine: Spine,
     after: bool,
     kind: &TokenKind,
 ) -> Result<Step, AllocError>
-    ensures { IfOk result (λ s. step_of s ≡ stepped (go_on (stack_of stack) (spine_tree spine) false after kind.now) (ended (stack_of stack) (spine_tree spine))) }
+    ensures { IfOk result (λ s. step_of s ≡ stepped (go_on (stack_of stack.value) (spine_tree spine) false after kind.now) (ended (stack_of stack.value) (spine_tree spine))) }
 {
     match kind {
         TokenKind::Close => close(alloc, stack, spine),
@@ -450,6 +450,7 @@ fn touch(
     }
 }
 
+#[inline(always)]
 fn inner(stack: &Stack) -> Option<Paren>
     ensures { result ≡ inner_of (parens (stack_of stack.now)) }
 {
@@ -461,20 +462,22 @@ fn inner(stack: &Stack) -> Option<Paren>
 }
 
 // Whether nothing is taken after an operand there.
+#[inline(always)]
 fn closed(alone: bool, stack: &Stack) -> bool
     ensures { result ≡ closed alone (stack_of stack.now) }
 {
     stops(alone, inner(stack))
 }
 
+#[inline(always)]
 fn after(
     alloc: Global,
     alone: bool,
-    stack: Stack,
+    stack: Box<Stack>,
     spine: Spine,
     token: &Token,
 ) -> Result<Step, AllocError>
-    ensures { IfOk result (λ s. step_of s ≡ stepped (after alone (stack_of stack) (spine_tree spine) token.now.blank_before token.now.blank_after token.now.kind) (ended (stack_of stack) (spine_tree spine))) }
+    ensures { IfOk result (λ s. step_of s ≡ stepped (after alone (stack_of stack.value) (spine_tree spine) token.now.blank_before token.now.blank_after token.now.kind) (ended (stack_of stack.value) (spine_tree spine))) }
 {
     if closed(alone, &stack) {
         stop(alloc, stack, spine)
@@ -485,8 +488,9 @@ fn after(
     }
 }
 
-fn due(alloc: Global, stack: Stack, hole: Hole, token: &Token) -> Result<Step, AllocError>
-    ensures { IfOk result (λ s. step_of s ≡ stepped (due (stack_of stack) (hole_of hole) token.now.blank_before token.now.blank_after token.now.kind) None) }
+#[inline(always)]
+fn due(alloc: Global, stack: Box<Stack>, hole: Hole, token: &Token) -> Result<Step, AllocError>
+    ensures { IfOk result (λ s. step_of s ≡ stepped (due (stack_of stack.value) (hole_of hole) token.now.blank_before token.now.blank_after token.now.kind) None) }
 {
     let after = token.blank_after;
     match hole {
@@ -514,28 +518,30 @@ fn due(alloc: Global, stack: Stack, hole: Hole, token: &Token) -> Result<Step, A
     }
 }
 
+#[inline(always)]
 fn prefix_ends(
     alloc: Global,
-    stack: Stack,
+    stack: Box<Stack>,
     hole: Hole,
     prefix: IdentifierPrefix,
-    name: &Line,
+    name: &Word,
 ) -> Result<Step, AllocError>
-    ensures { IfOk result (λ s. step_of s ≡ Next (states.At (stack_of stack) (states.Whole (fill (hole_of hole) (states.with_prefix prefix name.now))))) }
+    ensures { IfOk result (λ s. step_of s ≡ Next (states.At (stack_of stack.value) (states.Whole (fill (hole_of hole) (states.with_prefix prefix name.now))))) }
 {
-    let name = name.copy(alloc)?;
+    let name = name.line(alloc)?;
     whole(alloc, stack, hole, with_prefix(prefix, name))
 }
 
+#[inline(always)]
 fn after_prefix(
     alloc: Global,
-    stack: Stack,
+    stack: Box<Stack>,
     hole: Hole,
     prefix: IdentifierPrefix,
     before: bool,
     kind: &TokenKind,
 ) -> Result<Step, AllocError>
-    ensures { IfOk result (λ s. step_of s ≡ stepped (after_prefix (stack_of stack) (hole_of hole) prefix before kind.now) None) }
+    ensures { IfOk result (λ s. step_of s ≡ stepped (after_prefix (stack_of stack.value) (hole_of hole) prefix before kind.now) None) }
 {
     match kind {
         TokenKind::Identifier(name) => {
@@ -554,39 +560,45 @@ fn after_prefix(
     }
 }
 
-fn call_begins(alloc: Global, stack: Stack, hole: Hole, name: Line) -> Result<Step, AllocError>
-    ensures { IfOk result (λ s. step_of s ≡ Next (states.At (states.InCall name expressions.NoArguments (hole_of hole) (stack_of stack)) (states.Due states.Begin))) }
+#[inline(always)]
+fn call_begins(alloc: Global, stack: Box<Stack>, hole: Hole, name: Line) -> Result<Step, AllocError>
+    ensures { IfOk result (λ s. step_of s ≡ Next (states.At (states.InCall name expressions.NoArguments (hole_of hole) (stack_of stack.value)) (states.Due states.Begin))) }
 {
-    let stack = Box::new(alloc, stack)?;
+    let stack = Box::new(
+        alloc,
+        Stack::InCall(name, Arguments::NoArguments, hole, stack),
+    )?;
     Ok(Step::Next(State {
-        stack: Stack::InCall(name, Arguments::NoArguments, hole, stack),
+        stack,
         spot: Spot::Due(Hole::Begin),
     }))
 }
 
+#[inline(always)]
 fn identifier_ends(
     alloc: Global,
     alone: bool,
-    stack: Stack,
+    stack: Box<Stack>,
     hole: Hole,
     name: Line,
     token: &Token,
 ) -> Result<Step, AllocError>
-    ensures { IfOk result (λ s. step_of s ≡ stepped (after alone (stack_of stack) (fill (hole_of hole) (expressions.Identifier name)) token.now.blank_before token.now.blank_after token.now.kind) (ended (stack_of stack) (fill (hole_of hole) (expressions.Identifier name)))) }
+    ensures { IfOk result (λ s. step_of s ≡ stepped (after alone (stack_of stack.value) (fill (hole_of hole) (expressions.Identifier name)) token.now.blank_before token.now.blank_after token.now.kind) (ended (stack_of stack.value) (fill (hole_of hole) (expressions.Identifier name)))) }
 {
     let spine = fill(alloc, hole, Expression::Identifier(name))?;
     after(alloc, alone, stack, spine, token)
 }
 
+#[inline(always)]
 fn named(
     alloc: Global,
     alone: bool,
-    stack: Stack,
+    stack: Box<Stack>,
     hole: Hole,
     name: Line,
     token: &Token,
 ) -> Result<Step, AllocError>
-    ensures { IfOk result (λ s. step_of s ≡ stepped (named alone (stack_of stack) (hole_of hole) name token.now.blank_before token.now.blank_after token.now.kind) (ended (stack_of stack) (fill (hole_of hole) (expressions.Identifier name)))) }
+    ensures { IfOk result (λ s. step_of s ≡ stepped (named alone (stack_of stack.value) (hole_of hole) name token.now.blank_before token.now.blank_after token.now.kind) (ended (stack_of stack.value) (fill (hole_of hole) (expressions.Identifier name)))) }
 {
     if opens_call(token.blank_before, &token.kind) {
         call_begins(alloc, stack, hole, name)
@@ -596,6 +608,7 @@ fn named(
 }
 
 // One more token.
+#[inline(always)]
 fn read(alloc: Global, alone: bool, state: State, token: &Token) -> Result<Step, AllocError>
     ensures { IfOk result (λ s. step_of s ≡ stepped (read alone (state_of state) token.now) (result_of (state_of state))) }
 {
@@ -648,8 +661,9 @@ pub fn read_expression(
     ensures within { IfOk result (λ found. found.next ≤ length tokens.now) }
     ensures onward { IfOk result (λ found. from ≤ length tokens.now → from ≤ found.next) }
 {
+    let bottom = Box::new(alloc, Stack::Bottom)?;
     let mut state = State {
-        stack: Stack::Bottom,
+        stack: bottom,
         spot: Spot::Due(Hole::Begin),
     };
     for i in from..tokens.len() {

@@ -12,7 +12,7 @@ use Rattle.sno_lexer.specs.declared.fault.FaultKind.{FaultKind}
 use Rattle.sno_lexer.specs.declared.fault.FaultKind.TheVariants.{BadConstant, Foreign, TooMany}
 use Rattle.sno_lexer.specs.declared.fault.LexFault.{LexFault}
 use Rattle.sno_lexer.specs.Listed.{TokenList}
-use Rattle.sno_lexer.specs.inner.Lexing.{lexed}
+use Rattle.sno_lexer.specs.Lexed.{lexed}
 
 -- a token with a blank before it, and one after it
 abbrev apart : TokenKind → Token

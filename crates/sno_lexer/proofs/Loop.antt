@@ -12,7 +12,7 @@ use Rattle.sno_lexer.specs.declared.lexing.Action.TheVariants.{Pass, Take, Refus
 use Rattle.sno_lexer.specs.declared.fault.FaultKind.{FaultKind}
 use Rattle.sno_lexer.specs.declared.fault.FaultKind.TheVariants.{Foreign, TooMany}
 use Rattle.sno_lexer.specs.declared.fault.LexFault.{LexFault}
-use Rattle.sno_lexer.specs.inner.Classes.{begins_with, text_of, class_of, let_in_if_good, is_one_too_many, found, token_of}
+use Rattle.sno_lexer.specs.inner.Classes.{begins_with, further, text_of, class_of, let_in_if_good, is_one_too_many, found, token_of}
 use Rattle.sno_lexer.specs.Listed.{TokenList}
 use Rattle.sno_lexer.specs.inner.Lexing.{counted, after, depth_after, step, taken, on_action, with_first, stage}
 
@@ -140,6 +140,10 @@ on_taken s v at c text rest class token tokens tokens' offsets offsets' all d e 
 pub as_many_taken : (at : ℕ) (token : Token) (tokens tokens' : List Token) (offsets offsets' : List ℕ)
     → length tokens ≡ length offsets → tokens' ≡ tokens ++ token ∷ [] → offsets' ≡ offsets ++ at ∷ [] → length tokens' ≡ length offsets'
 as_many_taken at token tokens tokens' offsets offsets' h e1 e2 = rw (e1, e2) (simp length-append (omega arith))
+
+-- the context after a token, by how many characters follow its first
+pub after_is : (s : Context) (class : Class) (text : List ℕ) (more : ℕ) → more ≡ further class text → record (after s class []) { skip = more } ≡ after s class text
+after_is s class text more e = ap (λ (n : ℕ). record (after s class []) { skip = n }) e
 
 pub on_refuse : (s : Context) (at c : ℕ) (text rest : List ℕ) (class : FaultKind) (tokens : List Token) (offsets : List ℕ) (all : Result TokenList LexFault)
     → text ≡ c ∷ rest → step s text ≡ Refuse class → joined tokens offsets (stage s at text) ≡ all → all ≡ Err (record { offset = at; kind = class })

@@ -7,8 +7,9 @@ use Rattle.sno_lexer.specs.declared.begin.Context.{Context}
 use Rattle.sno_lexer.specs.declared.lexing.Action.{Action}
 use Rattle.sno_lexer.specs.declared.lexing.Action.TheVariants.{Pass, Take, Refuse}
 use Rattle.sno_lexer.specs.declared.fault.LexFault.{LexFault}
-use Rattle.sno_lexer.specs.Listed.{TokenList}
-use Rattle.sno_lexer.specs.inner.Lexing.{StandsBefore, after, lexed, on_action, stage, start, step, with_first}
+use Rattle.sno_lexer.specs.Listed.{TokenList, StandsBefore}
+use Rattle.sno_lexer.specs.inner.Lexing.{after, on_action, stage, start, step, with_first}
+use Rattle.sno_lexer.specs.Lexed.{lexed}
 use Rattle.sno_lexer.specs.inner.Classes.{token_of}
 
 with_first_stands : (token : Token) (at end : ℕ) (r : Result TokenList LexFault) → at < end → StandsBefore end r → StandsBefore end (with_first token at r)

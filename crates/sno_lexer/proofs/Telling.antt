@@ -14,7 +14,8 @@ use Rattle.sno_lexer.specs.declared.lexing.Action.TheVariants.{Pass}
 use Rattle.sno_lexer.specs.declared.fault.FaultKind.{FaultKind}
 use Rattle.sno_lexer.specs.declared.fault.LexFault.{LexFault}
 use Rattle.sno_lexer.specs.inner.Classes.{found, further, is_blank_or_end, kind_of, text_of, token_of}
-use Rattle.sno_lexer.specs.inner.Lexing.{after, lexed, on_action, stage, start, taken, with_first}
+use Rattle.sno_lexer.specs.inner.Lexing.{after, on_action, stage, start, taken, with_first}
+use Rattle.sno_lexer.specs.Lexed.{lexed}
 use Rattle.sno_lexer.specs.Listed.{TokenList}
 use Rattle.sno_lexer.specs.Following.{Tells, Told, is_apart}
 use Rattle.sno_lexer.specs.Laws.{TokensTellTheText}

@@ -3,7 +3,7 @@ use Rattle.std.specs.Prelude.{◌≡◌, ℕ, List, Result}
 use Rattle.sno_lexer.specs.declared.fault.LexFault.{LexFault}
 use Rattle.sno_lexer.specs.Listed.{TokenList}
 use Rattle.sno_lexer.specs.Following.{IsLexed}
-use Rattle.sno_lexer.specs.inner.Lexing.{lexed}
+use Rattle.sno_lexer.specs.Lexed.{lexed}
 
 -- the tokens of a text tell it, to its end or to its fault
 abbrev pub TokensTellTheText : Type 0

@@ -60,6 +60,7 @@ fn quoted_in(text: &[u8]) -> &[u8]
     }
 }
 
+#[inline(always)]
 pub(crate) fn begins_with(code: u8, text: &[u8]) -> bool
     ensures { result ≡ begins_with code text.now }
 {
@@ -80,17 +81,18 @@ fn outcome_of(word: &[u8]) -> Option<Outcome>
 }
 
 // In the goto, with none of its parentheses open.
+#[inline(always)]
 pub(crate) fn at_goto(context: Context) -> bool
     ensures { result ≡ at_goto context }
 {
     context.in_goto && context.inside == 0
 }
 
-fn class_of_word(context: Context, word: &[u8]) -> Class
-    ensures { result ≡ class_of_word context word.now }
+fn class_of_word(context: Context, text: &[u8]) -> Class
+    ensures { result ≡ class_of_word context (run_in Run.InIdentifier text.now) }
 {
     if at_goto(context) {
-        match outcome_of(word) {
+        match outcome_of(run_in(Run::InIdentifier, text)) {
             None => Class::Identifier,
             Some(outcome) => Class::On(outcome),
         }
@@ -181,7 +183,7 @@ fn class_of(context: Context, text: &[u8]) -> Result<Class, FaultKind>
             if context.at_target && (is_letter(*first) || is_digit(*first)) {
                 Ok(Class::Label)
             } else if is_letter(*first) {
-                Ok(class_of_word(context, run_in(Run::InIdentifier, text)))
+                Ok(class_of_word(context, text))
             } else if is_digit(*first) {
                 class_of_digits(run_in(Run::InInteger, text))
             } else if is_quote(*first) {
@@ -206,39 +208,34 @@ pub(crate) fn text_of(class: Class, text: &[u8]) -> &[u8]
     }
 }
 
-// How many characters of a literal follow its first.
-fn further_in_literal(text: &[u8]) -> usize
-    ensures { result ≡ further Class.Literal text.now }
-{
-    match text {
-        [] => 1,
-        [quote, others @ ..] => run_in(Run::InLiteral(*quote), others).len() + 1,
-    }
-}
-
-/// How many characters of a token follow its first.
-pub(crate) fn further(class: Class, text: &[u8]) -> usize
+/// How many characters of a token follow its first, where this is its own text.
+#[inline(always)]
+pub(crate) fn further(class: Class, text: &[u8], word: &[u8]) -> usize
+    requires { word.now ≡ text_of class text.now }
     ensures { result ≡ further class text.now }
 {
     match class {
-        Class::Literal => further_in_literal(text),
+        Class::Literal => word.len() + 1,
         Class::Operator(Mark::Power) => 1,
-        _ => text_of(class, text).len().saturating_sub(1),
+        _ => word.len().saturating_sub(1),
     }
 }
 
+#[inline(always)]
 pub(crate) fn is_opening(class: Class) -> bool
     ensures { result ≡ is_opening class }
 {
     matches!(class, Class::Open)
 }
 
+#[inline(always)]
 fn is_one_too_many(context: Context, class: Class) -> bool
     ensures { result ≡ is_one_too_many context class }
 {
     is_opening(class) && context.depth >= MOST_OPEN || context.tokens >= MOST_TOKENS
 }
 
+#[inline(always)]
 fn let_in(context: Context, text: &[u8], class: Class) -> Result<Class, FaultKind>
     ensures { result ≡ let_in context text.now class }
 {
@@ -261,13 +258,14 @@ pub(crate) fn found(context: Context, text: &[u8]) -> Result<Class, FaultKind>
     }
 }
 
-/// Whether a blank, or the end of the text, follows the token that begins it.
-pub(crate) fn blank_follows(class: Class, text: &[u8]) -> bool
-    ensures { result ≡ blank_follows class text.now }
+/// Whether a blank, or the end of the text, follows the token that begins it, where so many characters follow its first.
+#[inline(always)]
+pub(crate) fn blank_follows(text: &[u8], more: usize) -> bool
+    ensures { result ≡ blank_follows text.now more }
 {
     match text {
         [] => true,
-        [_, others @ ..] => match others.get(further(class, text)) {
+        [_, others @ ..] => match others.get(more) {
             None => true,
             Some(code) => *code == b' ',
         },

@@ -19,18 +19,21 @@ pub(crate) enum Run {
     InLiteral(u8),
 }
 
+#[inline(always)]
 pub(crate) fn is_letter(code: u8) -> bool
     ensures { result ≡ is_letter code }
 {
     code.is_ascii_alphabetic()
 }
 
+#[inline(always)]
 pub(crate) fn is_digit(code: u8) -> bool
     ensures { result ≡ is_digit code }
 {
     code.is_ascii_digit()
 }
 
+#[inline(always)]
 pub(crate) fn is_quote(code: u8) -> bool
     ensures { result ≡ is_quote code }
 {
@@ -50,12 +53,14 @@ pub(crate) fn is_line(text: &[u8]) -> bool
 }
 
 // Whether a character goes on with an identifier after its first letter.
+#[inline(always)]
 fn is_identifier_character(code: u8) -> bool
     ensures { result ≡ is_identifier_character code }
 {
     is_letter(code) || is_digit(code) || code == b'.' || code == b'_'
 }
 
+#[inline(always)]
 fn goes_on(run: Run, code: u8) -> bool
     ensures { result ≡ goes_on run code }
 {
@@ -67,6 +72,7 @@ fn goes_on(run: Run, code: u8) -> bool
     }
 }
 
+#[inline(always)]
 fn end_of(run: Run, text: &[u8]) -> Option<usize>
     ensures offset { result ≡ position (λ c. not (goes_on run c)) text.now }
     ensures within { IfSome result (λ index. index ≤ length text.now) }
@@ -74,6 +80,7 @@ fn end_of(run: Run, text: &[u8]) -> Option<usize>
     text.iter().position(|code| !goes_on(run, *code))
 }
 
+#[inline(always)]
 fn length_of(run: Run, text: &[u8]) -> usize
     ensures offset { result ≡ position_or_len (λ c. not (goes_on run c)) text.now }
     ensures within { result ≤ length text.now }
@@ -82,6 +89,7 @@ fn length_of(run: Run, text: &[u8]) -> usize
 }
 
 /// The run that begins a text.
+#[inline(always)]
 pub(crate) fn run_in(run: Run, text: &[u8]) -> &[u8]
     ensures value { result.now ≡ run_in run text.now }
     ensures within { length result.now ≤ length text.now }

@@ -1,7 +1,7 @@
 //! Why a text has no tokens.
 
 /// A fault of the token stage. Where a token has two of them, the one that stands first here counts.
-#[derive(Clone, Copy, Debug, PartialEq, Eq)]
+#[derive(Clone, Copy)]
 pub enum FaultKind {
     /// A literal that is not closed, or an integer above 9,223,372,036,854,775,807.
     BadConstant,
@@ -12,7 +12,7 @@ pub enum FaultKind {
 }
 
 /// The first fault of a text, and the offset of the character where the token begins that has it.
-#[derive(Clone, Copy, Debug, PartialEq, Eq)]
+#[derive(Clone, Copy)]
 pub struct LexFault {
     /// Counted from 0, from the beginning of the text.
     pub offset: usize,

@@ -1,8 +1,12 @@
 //! The tokens of a text.
-ghost use Rattle.std.specs.Prelude.{◌≡◌, ◌<◌, ◌≤◌, [], length, Ok, IfOk, IsOk, OnErr};
-ghost use Rattle.sno_lexer.specs.inner.Lexing.{is_colon, depth_after, after, step, lexed, counted, start, StandsBefore};
+ghost use Rattle.std.specs.Prelude.{◌≡◌, ◌<◌, ◌≤◌, [], length, IfOk, IsOk, OnErr};
+ghost use Rattle.sno_lexer.specs.inner.Lexing.{is_colon, depth_after, after, step, counted, start};
+ghost use Rattle.sno_lexer.specs.Lexed.{lexed};
+ghost use Rattle.sno_lexer.specs.Listed.{StandsBefore};
 
-use crate::begin::{Class, Context, at_goto, begins_with, found, further, is_opening};
+use crate::begin::{
+    Class, Context, MOST_TOKENS, at_goto, begins_with, found, further, is_opening, text_of,
+};
 use crate::fault::{FaultKind, LexFault};
 use crate::list::Tokens;
 use crate::make::token_of;
@@ -18,6 +22,7 @@ pub(crate) enum Action {
     Refuse(FaultKind),
 }
 
+#[inline(always)]
 fn start() -> Context
     ensures { result ≡ start }
 {
@@ -32,12 +37,14 @@ fn start() -> Context
     }
 }
 
+#[inline(always)]
 fn is_colon(class: Class) -> bool
     ensures { result ≡ is_colon class }
 {
     matches!(class, Class::Colon)
 }
 
+#[inline(always)]
 fn depth_after(depth: usize, class: Class) -> usize
     requires { depth < 1000 }
     ensures { result ≡ depth_after depth class }
@@ -49,6 +56,7 @@ fn depth_after(depth: usize, class: Class) -> usize
     }
 }
 
+#[inline(always)]
 fn inside_after(context: Context, class: Class) -> usize
     requires { context.inside < 1000 }
     ensures { result ≡ (after context class []).inside }
@@ -60,14 +68,16 @@ fn inside_after(context: Context, class: Class) -> usize
     }
 }
 
-fn after(context: Context, class: Class, text: &[u8]) -> Context
+// After the first character of a token, where so many follow it.
+#[inline(always)]
+fn after(context: Context, class: Class, more: usize) -> Context
     requires tokens { context.tokens < 1000 }
     requires depth { context.depth < 1000 }
     requires inside { context.inside < 1000 }
-    ensures { result ≡ after context class text.now }
+    ensures { result ≡ record (after context class []) { skip = more } }
 {
     Context {
-        skip: further(class, text),
+        skip: more,
         after_blank: false,
         tokens: context.tokens + 1,
         depth: depth_after(context.depth, class),
@@ -77,6 +87,7 @@ fn after(context: Context, class: Class, text: &[u8]) -> Context
     }
 }
 
+#[inline(always)]
 fn step(context: Context, text: &[u8]) -> Action
     ensures { result ≡ step context text.now }
 {
@@ -107,49 +118,65 @@ fn count_tokens(text: &[u8], from: usize) -> Result<usize, LexFault>
         let rest = &text[offset..];
         match step(context, rest) {
             Action::Pass(next) => context = next,
-            Action::Take(class) => context = after(context, class, rest),
+            Action::Take(class) => {
+                let more = further(class, rest, text_of(class, rest));
+                context = after(context, class, more);
+            }
             Action::Refuse(kind) => return Err(LexFault { offset, kind }),
         }
     }
     Ok(context.tokens)
 }
 
-// The tokens of a text that has this many from an offset on, and no fault.
-fn read_tokens(alloc: Global, text: &[u8], from: usize, count: usize) -> Result<Tokens, AllocError>
-    requires { counted (lexed text.now from) ≡ Ok count }
-    ensures { IfOk result (λ tokens. lexed text.now from ≡ Ok tokens) }
+// The tokens from an offset on, or the first fault. There is room for them all from the beginning.
+fn read_tokens(
+    alloc: Global,
+    text: &[u8],
+    from: usize,
+) -> Result<Result<Tokens<'_>, LexFault>, AllocError>
+    ensures { IfOk result (λ answer. answer ≡ lexed text.now from) }
 {
-    let mut tokens = Vec::with_capacity(alloc, count)?;
-    let mut offsets = Vec::with_capacity(alloc, count)?;
+    let most = text.len().saturating_sub(from).min(MOST_TOKENS);
+    let mut tokens = Vec::with_capacity(alloc, most)?;
+    let mut offsets = Vec::with_capacity(alloc, most)?;
     let mut context = start();
     for offset in from..text.len() {
         let rest = &text[offset..];
         match step(context, rest) {
             Action::Pass(next) => context = next,
             Action::Take(class) => {
-                let token = token_of(alloc, context, class, rest)?;
-                tokens.push(token).unwrap();
-                offsets.push(offset).unwrap();
-                context = after(context, class, rest);
+                let word = text_of(class, rest);
+                let more = further(class, rest, word);
+                let token = token_of(alloc, context, class, rest, word, more)?;
+                tokens.push(token)?;
+                offsets.push(offset)?;
+                context = after(context, class, more);
             }
-            Action::Refuse(_) => unreachable!(),
+            Action::Refuse(kind) => return Ok(Err(LexFault { offset, kind })),
         }
     }
-    Ok(Tokens::new(tokens, offsets))
+    Ok(Ok(Tokens::new(tokens, offsets)))
 }
 
 /// Reads the tokens of what stands in a text from an offset on, or its first fault.
 ///
 /// # Errors
 ///
-/// Where a growth was refused, and only for a text without fault.
-pub fn lex(alloc: Global, text: &[u8], from: usize) -> Result<Result<Tokens, LexFault>, AllocError>
+/// Where a growth was refused, and only for a text without fault: where it was, the text is gone through once more.
+pub fn lex(
+    alloc: Global,
+    text: &[u8],
+    from: usize,
+) -> Result<Result<Tokens<'_>, LexFault>, AllocError>
     ensures answer { IfOk result (λ answer. answer ≡ lexed text.now from) }
     ensures within { IfOk result (λ answer. StandsBefore (length text.now) answer) }
     ensures memory { OnErr result (IsOk (lexed text.now from)) }
 {
-    match count_tokens(text, from) {
-        Ok(count) => Ok(Ok(read_tokens(alloc, text, from, count)?)),
-        Err(fault) => Ok(Err(fault)),
+    match read_tokens(alloc, text, from) {
+        Ok(answer) => Ok(answer),
+        Err(refused) => match count_tokens(text, from) {
+            Ok(_) => Err(refused),
+            Err(fault) => Ok(Err(fault)),
+        },
     }
 }

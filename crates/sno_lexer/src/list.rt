@@ -4,16 +4,16 @@ ghost use Rattle.std.specs.Prelude.{◌≡◌, length};
 use sno_token::Token;
 use std::marker::Model;
 
-/// The tokens of a text, and for each the index of its first character.
+/// The tokens of a text, and for each the index of its first character. Their names are those of the text.
 ///
 /// A contract sees them as two lists, which have the same length.
 #[derive(Drop)]
-pub struct Tokens {
-    tokens: Vec<Token>,
+pub struct Tokens<'a> {
+    tokens: Vec<Token<'a>>,
     offsets: Vec<usize>,
 }
 
-impl Model for Tokens {
+impl<'a> Model for Tokens<'a> {
     ghost use Rattle.std.specs.Prelude.{◌≡◌, length};
     ghost use Rattle.sno_lexer.specs.Listed.{TokenList};
 
@@ -24,16 +24,16 @@ impl Model for Tokens {
     ghost invariant = { λ t. length t.tokens.items ≡ length t.offsets.items };
 }
 
-impl Tokens {
-    pub(crate) fn new(tokens: Vec<Token>, offsets: Vec<usize>) -> Tokens
+impl<'a> Tokens<'a> {
+    pub(crate) fn new(tokens: Vec<Token<'a>>, offsets: Vec<usize>) -> Tokens<'a>
         requires { length tokens.items ≡ length offsets.items }
-        ensures { result ≡ record { tokens = tokens.items; offsets = offsets.items } }
+        ensures { result ≡ record { tokens = tokens.entry.items; offsets = offsets.items } }
     {
         Tokens { tokens, offsets }
     }
 
     /// The tokens, in order.
-    pub fn tokens(&self) -> &[Token]
+    pub fn tokens(&self) -> &[Token<'a>]
         ensures value { result.now ≡ self.now.tokens }
         ensures as_many { length self.now.tokens ≡ length self.now.offsets }
     {

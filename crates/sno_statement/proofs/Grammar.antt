@@ -15,12 +15,14 @@ use Rattle.sno_statement.specs.Spelling.{Spells}
 use Rattle.sno_statement.specs.Walking.{Walk, At, take, begins, may_end, role}
 use Rattle.sno_statement.specs.Faults.{FaultAt, refused_as, then_on, refusal_from, refusal, subject_kind, is_unset, note, least, noted_at, noted_here, then_note, noted_from, noted, earlier, fault}
 use Rattle.sno_statement.specs.inner.Reading.{statement_in}
+use Rattle.sno_statement.specs.inner.Variables.{fitting}
 use Rattle.sno_statement.specs.Told.{statement_of, Parsed}
 use Rattle.sno_statement.specs.Laws.{NotesExactly, OneStatement, Taken}
 use Rattle.sno_statement.proofs.Completing.{statement_read}
 use Rattle.sno_statement.proofs.Sound.{statement_sound}
 use Rattle.sno_statement.proofs.Counts.{bad_statement, statement_good, statement_variables, count_at, count, plus, on_walk, walked, bads}
 use Rattle.sno_statement.proofs.Passing.{statement_walks}
+use Rattle.sno_statement.proofs.Tested.{fitting_read, fitting_passes}
 
 -- a statement with levels is the only one that its tokens spell
 pub one_statement : OneStatement
@@ -197,15 +199,16 @@ parsed_err ts f e = (
       cc,
 )
 
--- where there is none the statement that is read fits
-pub parsed_ok : (ts : List Token) (s : AStatement) → fault ts ≡ None → statement_in ts ≡ Some (statement_of s) → Parsed ts (Ok s)
-parsed_ok ts s e r =
-    let q = statement_sound ts (statement_of s) r in
-    let h = (notes_exactly ts (statement_of s) q.0 q.1).0 (not_noted (noted ts) (refusal ts) e) in
-    (q.0, h, q.1, λ u v p. let k = statement_read u ts v p in cc)
+-- a statement that is read and has its variables is the one that the tokens spell
+pub parsed_ok : (ts : List Token) (s : AStatement) → fitting (statement_in ts) ≡ Some (statement_of s) → Parsed ts (Ok s)
+parsed_ok ts s e =
+    let r = fitting_read (statement_in ts) (statement_of s) e in
+    let q = statement_sound ts (statement_of s) r.0 in
+    (q.0, r.1, q.1, λ u v p. let k = statement_read u ts v p in cc)
 
--- and one is read
-pub one_read : (ts : List Token) → fault ts ≡ None → statement_in ts ≡ None → ⊥
-one_read ts e d =
+-- where nothing is at fault one is read that has them
+pub one_fits : (ts : List Token) → fault ts ≡ None → fitting (statement_in ts) ≡ None → ⊥
+one_fits ts e d =
     let r = some_statement (refusal ts) (statement_in ts) (agrees ts) (not_refused (noted ts) (refusal ts) e) in
-    cc (r.1, d)
+    let q = statement_sound ts r.0 r.1 in
+    fitting_passes (statement_in ts) r.0 r.1 ((notes_exactly ts r.0 q.0 q.1).0 (not_noted (noted ts) (refusal ts) e)) d

@@ -3,6 +3,7 @@ pub mod Roles
 pub mod Completing
 pub mod Sound
 pub mod Counts
+pub mod Tested
 pub mod Strides
 pub mod Passing
 pub mod Grammar

@@ -59,7 +59,7 @@ fn subject_kind(tokens: &[Token]) -> SubjectKind
     }
 }
 
-fn can_be_set(kind: SubjectKind, pattern: bool) -> bool
+pub(crate) fn can_be_set(kind: SubjectKind, pattern: bool) -> bool
     ensures { result ≡ can_be_set kind pattern }
 {
     match kind {

@@ -3,6 +3,7 @@
 
 mod fault;
 mod finding;
+mod fitting;
 pub mod laws;
 mod parsing;
 mod reading;

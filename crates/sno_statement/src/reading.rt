@@ -10,27 +10,30 @@ ghost use Rattle.sno_statement.specs.inner.Told.{gotos_of, statements_of, aim_of
 
 use crate::statement::{Body, Goto, Object, Statement, Target};
 use crate::walking::{Role, role_of};
-use mon_text::Line;
 use sno_expression::{Expression, Found, UnaryOperator, read_expression};
-use sno_token::{Mark, Outcome, Part, Token, TokenKind};
+use sno_token::{Mark, Outcome, Part, Token, TokenKind, Word};
 use std::alloc::{AllocError, Global};
 
 /// What was read as an expression, and the tokens behind it.
 #[derive(Drop)]
-pub struct Piece<'a> {
+pub struct Piece<'a, 't> {
     pub tree: Option<Expression>,
-    pub rest: &'a [Token],
+    pub rest: &'a [Token<'t>],
 }
 
-/// A target and the tokens behind it.
+/// A target, if one is there, and the tokens behind it.
 #[derive(Drop)]
-pub struct Aim<'a> {
-    pub target: Target,
-    pub rest: &'a [Token],
+pub struct Aim<'a, 't> {
+    pub target: Option<Target>,
+    pub rest: &'a [Token<'t>],
 }
 
 // An expression, or one element alone, as far as it goes.
-fn read_piece<'a>(alloc: Global, alone: bool, tokens: &'a [Token]) -> Result<Piece<'a>, AllocError>
+fn read_piece<'a, 't>(
+    alloc: Global,
+    alone: bool,
+    tokens: &'a [Token<'t>],
+) -> Result<Piece<'a, 't>, AllocError>
     ensures { IfOk result (λ p. reading alone tokens.now ≡ Read (expressions_of p.tree) p.rest.now) }
 {
     let Found { tree, next } = read_expression(alloc, alone, tokens, 0)?;
@@ -40,30 +43,36 @@ fn read_piece<'a>(alloc: Global, alone: bool, tokens: &'a [Token]) -> Result<Pie
     })
 }
 
-fn closing<'a>(target: Target, tokens: &'a [Token]) -> Option<Aim<'a>>
+fn closing<'a, 't>(target: Target, tokens: &'a [Token<'t>]) -> Aim<'a, 't>
     ensures { aim_of result ≡ closing (target_of target) tokens.now }
 {
     match tokens.split_first() {
-        None => None,
+        None => Aim {
+            target: None,
+            rest: tokens,
+        },
         Some((token, rest)) => match &token.kind {
-            TokenKind::Close => Some(Aim { target, rest }),
-            _ => None,
+            TokenKind::Close => Aim {
+                target: Some(target),
+                rest,
+            },
+            _ => Aim { target: None, rest },
         },
     }
 }
 
-fn label_ends<'a>(
+fn label_ends<'a, 't>(
     alloc: Global,
-    label: &Line,
-    tokens: &'a [Token],
-) -> Result<Option<Aim<'a>>, AllocError>
+    label: &Word,
+    tokens: &'a [Token<'t>],
+) -> Result<Aim<'a, 't>, AllocError>
     ensures { IfOk result (λ a. aim_of a ≡ closing (the.To label.now) tokens.now) }
 {
-    let label = label.copy(alloc)?;
+    let label = label.line(alloc)?;
     Ok(closing(Target::Label(label), tokens))
 }
 
-fn indirect<'a>(tree: Expression, tokens: &'a [Token]) -> Option<Aim<'a>>
+fn indirect<'a, 't>(tree: Expression, tokens: &'a [Token<'t>]) -> Aim<'a, 't>
     ensures { aim_of result ≡ indirect (Some (expression_of tree)) tokens.now }
 {
     match tree {
@@ -71,42 +80,51 @@ fn indirect<'a>(tree: Expression, tokens: &'a [Token]) -> Option<Aim<'a>>
             Target::Computed(Box::into_inner(element)),
             tokens,
         ),
-        _ => None,
+        _ => Aim {
+            target: None,
+            rest: tokens,
+        },
     }
 }
 
-fn computed<'a>(alloc: Global, tokens: &'a [Token]) -> Result<Option<Aim<'a>>, AllocError>
+fn computed<'a, 't>(alloc: Global, tokens: &'a [Token<'t>]) -> Result<Aim<'a, 't>, AllocError>
     ensures { IfOk result (λ a. aim_of a ≡ computed (reading true tokens.now)) }
 {
     let Piece { tree, rest } = read_piece(alloc, true, tokens)?;
     match tree {
-        None => Ok(None),
+        None => Ok(Aim { target: None, rest }),
         Some(tree) => Ok(indirect(tree, rest)),
     }
 }
 
 // Behind the parenthesis of a target.
-fn inside<'a>(alloc: Global, tokens: &'a [Token]) -> Result<Option<Aim<'a>>, AllocError>
+fn inside<'a, 't>(alloc: Global, tokens: &'a [Token<'t>]) -> Result<Aim<'a, 't>, AllocError>
     ensures { IfOk result (λ a. aim_of a ≡ inside tokens.now) }
 {
     match tokens.split_first() {
-        None => Ok(None),
+        None => Ok(Aim {
+            target: None,
+            rest: tokens,
+        }),
         Some((token, rest)) => match &token.kind {
             TokenKind::Part(Part::Label(label)) => label_ends(alloc, label, rest),
             TokenKind::Mark(Mark::Dollar) => computed(alloc, tokens),
-            _ => Ok(None),
+            _ => Ok(Aim { target: None, rest }),
         },
     }
 }
 
-fn target_in<'a>(alloc: Global, tokens: &'a [Token]) -> Result<Option<Aim<'a>>, AllocError>
+fn target_in<'a, 't>(alloc: Global, tokens: &'a [Token<'t>]) -> Result<Aim<'a, 't>, AllocError>
     ensures { IfOk result (λ a. aim_of a ≡ target_in tokens.now) }
 {
     match tokens.split_first() {
-        None => Ok(None),
+        None => Ok(Aim {
+            target: None,
+            rest: tokens,
+        }),
         Some((token, rest)) => match &token.kind {
             TokenKind::Open => inside(alloc, rest),
-            _ => Ok(None),
+            _ => Ok(Aim { target: None, rest }),
         },
     }
 }
@@ -124,9 +142,10 @@ fn at_last(goto: Goto, tokens: &[Token]) -> Option<Goto>
 fn always(alloc: Global, tokens: &[Token]) -> Result<Option<Goto>, AllocError>
     ensures { IfOk result (λ g. gotos_of g ≡ always (inside tokens.now)) }
 {
-    match inside(alloc, tokens)? {
+    let Aim { target, rest } = inside(alloc, tokens)?;
+    match target {
         None => Ok(None),
-        Some(Aim { target, rest }) => Ok(at_last(Goto::Always(target), rest)),
+        Some(target) => Ok(at_last(Goto::Always(target), rest)),
     }
 }
 
@@ -147,9 +166,10 @@ fn both(
 ) -> Result<Option<Goto>, AllocError>
     ensures { IfOk result (λ g. gotos_of g ≡ both outcome (target_of first) (target_in tokens.now)) }
 {
-    match target_in(alloc, tokens)? {
+    let Aim { target, rest } = target_in(alloc, tokens)?;
+    match target {
         None => Ok(None),
-        Some(Aim { target, rest }) => Ok(at_last(on_both(outcome, first, target), rest)),
+        Some(target) => Ok(at_last(on_both(outcome, first, target), rest)),
     }
 }
 
@@ -201,9 +221,10 @@ fn next(
 fn chosen(alloc: Global, outcome: Outcome, tokens: &[Token]) -> Result<Option<Goto>, AllocError>
     ensures { IfOk result (λ g. gotos_of g ≡ chosen outcome (target_in tokens.now)) }
 {
-    match target_in(alloc, tokens)? {
+    let Aim { target, rest } = target_in(alloc, tokens)?;
+    match target {
         None => Ok(None),
-        Some(Aim { target, rest }) => next(alloc, outcome, target, rest),
+        Some(target) => next(alloc, outcome, target, rest),
     }
 }
 

@@ -15,7 +15,7 @@ use Rattle.sno_lexer.specs.declared.fault.FaultKind.{FaultKind as LexKind}
 use Rattle.sno_lexer.specs.declared.fault.FaultKind.TheVariants as lex
 use Rattle.sno_lexer.specs.declared.fault.LexFault.{LexFault}
 use Rattle.sno_lexer.specs.Listed.{TokenList}
-use Rattle.sno_lexer.specs.inner.Lexing.{lexed}
+use Rattle.sno_lexer.specs.Lexed.{lexed}
 use Rattle.sno_statement.specs.declared.fault.FaultKind.{FaultKind}
 use Rattle.sno_statement.specs.declared.fault.FaultKind.TheVariants.{MissingBlank, Unfit, NoVariable}
 use Rattle.sno_statement.specs.declared.fault.Fault.{Fault}

@@ -30,7 +30,7 @@ fn lex_refusal(text: &StatementText, fault: LexFault) -> SyntaxError
 }
 
 /// The tokens behind the label of a statement, or the first fault of theirs.
-pub(crate) fn tokens_of(alloc: Global, text: &StatementText) -> Result<Tokens, Stop<SyntaxError>>
+pub(crate) fn tokens_of(alloc: Global, text: &StatementText) -> Result<Tokens<'_>, Stop<SyntaxError>>
     ensures tokens { IfOk result (λ tokens. tokens_of text.now ≡ Ok tokens) }
     ensures refused { IfErr result (IfRefused (λ refusal. tokens_of text.now ≡ Err refusal)) }
     ensures memory { IsErrOf result Stop.Memory → IsOk (tokens_of text.now) }
@@ -51,7 +51,7 @@ pub(crate) fn tokens_of(alloc: Global, text: &StatementText) -> Result<Tokens, S
 /// a character that begins no token, and `StatementTooLarge` at the 101st open parenthesis and the 1,001st token. A label
 /// that may not stand there, as END, is told by `parse` alone. `Memory` where a growth was refused: a text that is refused
 /// takes no memory.
-pub fn lex(alloc: Global, text: &StatementText) -> Result<Tokens, Stop<SyntaxError>>
+pub fn lex(alloc: Global, text: &StatementText) -> Result<Tokens<'_>, Stop<SyntaxError>>
     ensures tokens { IfOk result (λ tokens. lexed_text text.now ≡ Ok tokens) }
     ensures refused { IfErr result (IfRefused (λ refusal. lexed_text text.now ≡ Err refusal)) }
     ensures memory { IsErrOf result Stop.Memory → IsOk (lexed_text text.now) }

@@ -4,10 +4,14 @@
 //! knows whether a blank stands before it, and whether a blank or the end of the statement follows it.
 #![tactic(auto)]
 
+pub mod word;
+
+pub use word::Word;
+
 use mon_text::Line;
 
 /// What an operator is written with.
-#[derive(Clone, Copy, Debug, PartialEq, Eq)]
+#[derive(Clone, Copy)]
 pub enum Mark {
     /// `**`
     Power,
@@ -36,7 +40,7 @@ pub enum Mark {
 }
 
 /// How a statement may end, as its goto names it: `S` or `F`.
-#[derive(Clone, Copy, Debug, PartialEq, Eq)]
+#[derive(Clone, Copy)]
 pub enum Outcome {
     Success,
     Failure,
@@ -52,7 +56,7 @@ pub enum Constant {
 
 /// What may stand in a statement and in no expression.
 #[derive(Drop)]
-pub enum Part {
+pub enum Part<'a> {
     /// `=`
     Equals,
     /// `:`
@@ -60,13 +64,13 @@ pub enum Part {
     /// The `S` or `F` of a goto.
     On(Outcome),
     /// The label of a goto's target.
-    Label(Line),
+    Label(Word<'a>),
 }
 
 /// What a token is, whatever blanks stand round it.
 #[derive(Drop)]
-pub enum TokenKind {
-    Identifier(Line),
+pub enum TokenKind<'a> {
+    Identifier(Word<'a>),
     Constant(Constant),
     Mark(Mark),
     /// `(`
@@ -74,15 +78,15 @@ pub enum TokenKind {
     /// `)`
     Close,
     Comma,
-    Part(Part),
+    Part(Part<'a>),
 }
 
-/// A token, and whether blanks stand round it.
+/// A token, and whether blanks stand round it. Its names are those of the text that it was read from.
 #[derive(Drop)]
-pub struct Token {
+pub struct Token<'a> {
     /// Does a blank stand before it? At the beginning of a statement's body there is one.
     pub blank_before: bool,
     /// Does a blank, or the end of the statement, follow it?
     pub blank_after: bool,
-    pub kind: TokenKind,
+    pub kind: TokenKind<'a>,
 }

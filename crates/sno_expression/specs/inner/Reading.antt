@@ -80,9 +80,18 @@ abbrev pub comma : Stack → Expression → Option State
 comma (InCall f args h st) t = Some (At (InCall f (Argument args t) h st) (Due Begin))
 comma _ t = None
 
+-- an argument is empty
+abbrev pub omitted : Stack → Option State
+omitted (InCall f args h st) = Some (At (InCall f (Omitted args) h st) (Due Begin))
+omitted _ = None
+
+abbrev pub omitted_last : Stack → Option State
+omitted_last (InCall f args h st) = Some (At st (Whole (fill h (Call f (Omitted args)))))
+omitted_last _ = None
+
 abbrev pub first : Stack → Bool → TokenKind → Option State
-first (InCall f args h st) a token.Comma = Some (At (InCall f (Omitted args) h st) (Due Begin))
-first (InCall f args h st) a token.Close = Some (At st (Whole (fill h (Call f (Omitted args)))))
+first st a token.Comma = omitted st
+first st a token.Close = omitted_last st
 first st a k = begin st Begin a k
 
 abbrev pub go_on : Stack → Expression → Bool → Bool → TokenKind → Option State

@@ -41,7 +41,7 @@ spot_of (spot.Named h n) = Named (hole_of h) n
 spot_of (spot.Whole t) = Whole (spine_tree t)
 
 abbrev pub state_of : AState → State
-state_of s = At (stack_of s.stack) (spot_of s.spot)
+state_of s = At (stack_of s.stack.value) (spot_of s.spot)
 
 -- what one more token leads to: a state, or where it is not taken the tree that is complete
 pub data Step : Type 0 where

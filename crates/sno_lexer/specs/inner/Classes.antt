@@ -150,10 +150,10 @@ abbrev pub is_blank_or_end : Option ℕ → Bool
 is_blank_or_end None = true
 is_blank_or_end (Some c) = is_blank c
 
--- a blank, or the end of the text, follows the token that begins a text
-abbrev pub blank_follows : Class → List ℕ → Bool
-blank_follows class [] = true
-blank_follows class (c ∷ cs) = is_blank_or_end (slice_get cs (further class (c ∷ cs)))
+-- a blank, or the end of the text, follows so many characters behind the first
+abbrev pub blank_follows : List ℕ → ℕ → Bool
+blank_follows [] more = true
+blank_follows (c ∷ cs) more = is_blank_or_end (slice_get cs more)
 
 abbrev pub kind_of : Class → List ℕ → TokenKind
 kind_of Identifier text = kind.Identifier text
@@ -171,6 +171,6 @@ kind_of (On outcome) text = kind.Part (part.On outcome)
 abbrev pub token_of : Context → Class → List ℕ → Token
 token_of s class text = record {
   blank_before = s.after_blank;
-  blank_after = blank_follows class text;
+  blank_after = blank_follows text (further class text);
   kind = kind_of class (text_of class text);
 }

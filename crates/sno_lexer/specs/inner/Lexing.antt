@@ -1,6 +1,5 @@
--- The tokens of a text, or the first fault of the token stage (own).
-use Rattle.std.specs.Prelude.{ℕ, ◌+◌, ◌-◌, ◌<◌, Bool, true, false, ◌&&◌, ◌||◌, nat_lt, List, [], ◌∷◌, length, drop, Result, Ok, Err, if◌then◌else◌}
-use Rattle.std.specs.List.{All}
+-- How the token stage goes over a text, character by character (own).
+use Rattle.std.specs.Prelude.{ℕ, ◌+◌, ◌-◌, Bool, true, false, ◌&&◌, ◌||◌, nat_lt, List, [], ◌∷◌, length, Result, Ok, Err, if◌then◌else◌}
 use Rattle.sno_token.specs.declared.Token.{Token}
 use Rattle.sno_lexer.specs.declared.begin.Class.{Class}
 use Rattle.sno_lexer.specs.declared.begin.Class.TheVariants.{Open, Close, Colon}
@@ -74,18 +73,7 @@ abbrev pub stage : Context → ℕ → List ℕ → Result TokenList LexFault
 stage s at [] = Ok no_tokens
 stage s at (c ∷ cs) = on_action s at (c ∷ cs) (step s (c ∷ cs)) (λ next. stage next (at + 1) cs)
 
--- those of a text that is read from an index on
-abbrev pub lexed : List ℕ → ℕ → Result TokenList LexFault
-lexed text from = stage start from (drop from text)
-
 -- how many they are
 abbrev pub counted : Result TokenList LexFault → Result ℕ LexFault
 counted (Ok list) = Ok (length list.tokens)
 counted (Err fault) = Err fault
-
--- WHERE TOKENS AND FAULTS STAND
-
--- all offsets stand before an index
-abbrev pub StandsBefore : ℕ → Result TokenList LexFault → Type 0
-StandsBefore end (Ok list) = All (λ at. at < end) list.offsets
-StandsBefore end (Err fault) = fault.offset < end

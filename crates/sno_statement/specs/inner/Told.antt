@@ -4,6 +4,7 @@ use Rattle.sno_token.specs.declared.Token.{Token}
 use Rattle.sno_expression.specs.declared.walking.Paren.{Paren}
 use Rattle.sno_statement.specs.declared.fault.FaultKind.{FaultKind}
 use Rattle.sno_statement.specs.declared.statement.Goto.{Goto as AGoto}
+use Rattle.sno_statement.specs.declared.statement.Target.{Target as ATarget}
 use Rattle.sno_statement.specs.declared.statement.Statement.{Statement as AStatement}
 use Rattle.sno_statement.specs.declared.walking.Parens.{Parens}
 use Rattle.sno_statement.specs.declared.walking.Parens.TheVariants as parens
@@ -36,6 +37,9 @@ gotos_of None = None
 gotos_of (Some g) = Some (goto_of g)
 
 -- a target that was read, and the tokens behind it
-abbrev pub aim_of : Option AnAim → Aim
-aim_of None = Missed
-aim_of (Some a) = Aimed (target_of a.target) a.rest.now
+abbrev pub aimed : Option ATarget → List Token → Aim
+aimed None rest = Missed
+aimed (Some t) rest = Aimed (target_of t) rest
+
+abbrev pub aim_of : AnAim → Aim
+aim_of a = aimed a.target a.rest.now

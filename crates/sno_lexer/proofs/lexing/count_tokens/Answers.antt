@@ -1,8 +1,9 @@
 use Rattle.std.proofs.Common.{◌+◌, ◌-◌, ◌∙◌, ℕ, List, ap, sym, length, drop, take, get_or}
 use Rattle.std.proofs.lemmas.List.{take_rest}
-use Rattle.sno_lexer.specs.inner.Lexing.{counted, lexed, stage}
+use Rattle.sno_lexer.specs.inner.Lexing.{counted, stage}
+use Rattle.sno_lexer.specs.Lexed.{lexed}
 use Rattle.sno_lexer.proofs.Runs.{more}
-use Rattle.sno_lexer.proofs.Loop.{counted_on, taken_fits, tokens_left, within_after, within_passed, count_pass, count_take}
+use Rattle.sno_lexer.proofs.Loop.{after_is, counted_on, taken_fits, tokens_left, within_after, within_passed, count_pass, count_take}
 use Rattle.sno_lexer.proofs.lexing.count_tokens.Goals as goal
 use Rattle.sno_lexer.proofs.lexing.count_tokens.Goals.{in-Pass, in-Take}
 
@@ -33,7 +34,8 @@ loop-offset-preserved c =
           })
       | in-Take w ↦
           let class = w.in-Take.class in
-          rw (w.context-is, w.after-context.ensures) (record {
+          let next = w.after-context.ensures ∙ after_is s class rest w.further-more.result w.further-more.ensures in
+          rw (w.context-is, next) (record {
             all = count_take s at first s.tokens rest later class all d (sym w.in-Take.ensures) so_far;
             within = within_after s class rest within (taken_fits s rest class (sym w.in-Take.ensures));
           })

@@ -1,20 +1,11 @@
-use Rattle.std.proofs.Common.{sym}
-use Rattle.sno_statement.proofs.Grammar.{parsed_ok, parsed_err, one_read}
+use Rattle.std.proofs.Common.{sym, ap, ◌∙◌}
+use Rattle.sno_statement.specs.inner.Variables.{fitting}
+use Rattle.sno_statement.proofs.Grammar.{parsed_ok, parsed_err}
 use Rattle.sno_statement.proofs.parsing.parse_statement.Goals as goal
 
 pub returns-in-Some : goal.returns-in-Some
 returns-in-Some c =
-    let e = rw c.in-Some.is at c.in_ok-fault.ensures in
-    parsed_err c.args.tokens.now c.in-Some.fault (sym e)
+    parsed_ok c.args.tokens.now c.in-Some.statement (sym (c.in-Some.ensures ∙ ap fitting c.in_ok-read_statement.ensures))
 
-pub returns-in-Some-2 : goal.returns-in-Some-2
-returns-in-Some-2 c =
-    let e = rw c.in-None.is at c.in_ok-fault.ensures in
-    let d = rw c.in-Some-2.is at c.in_ok-statement-in-None.ensures in
-    parsed_ok c.args.tokens.now c.in-Some-2.statement (sym e) (sym d)
-
-pub unreachable-requires : goal.unreachable-requires
-unreachable-requires c =
-    let e = rw c.in-None.is at c.in_ok-fault.ensures in
-    let d = rw c.in-None-2.is at c.in_ok-statement-in-None.ensures in
-    one_read c.args.tokens.now (sym e) (sym d)
+pub returns-in_ok-fault-in-None : goal.returns-in_ok-fault-in-None
+returns-in_ok-fault-in-None c = parsed_err c.args.tokens.now c.in_ok-fault-in-None.fault c.in_ok-fault-in-None.ensures
