@@ -208,19 +208,18 @@ pub counted_fault : (r : Result TokenList LexFault) (fault : LexFault) → count
 counted_fault (Ok list) fault e = cc
 counted_fault (Err other) fault e = cc
 
--- ROOM
+-- BY WHAT COMES FIRST
 
--- what follows from a call that succeeded
-pub on_ok : {X : Type 0} {E : Type 0} {Y : Type 0} (r : Result X E) (x : X) (a b y : Y) → r ≡ Ok x → y ≡ (if is_ok r then a else b) → y ≡ a
-on_ok (Ok z) x a b y e h = h
-on_ok (Err z) x a b y e h = cc
+-- what is done inside a token, at a blank, and at another character
+pub inside_token : (s : Context) (text : List ℕ) → nat_lt 0 s.skip ≡ true → step s text ≡ Pass (record s { skip = s.skip - 1 })
+inside_token s text e = ap (λ (b : Bool). if b then Pass (record s { skip = s.skip - 1 }) else if begins_with 32 text then Pass (record s { after_blank = true }) else taken (found s text)) e
 
-more_left : (n count : ℕ) (r : Result TokenList LexFault) → counted_on (n + 1) r ≡ Ok count → n < count
-more_left n count (Ok list) e = let h : n + 1 + length list.tokens ≡ count = cc in omega (arith, h)
-more_left n count (Err fault) e = cc
+pub at_blank : (s : Context) (text : List ℕ) → nat_lt 0 s.skip ≡ false → begins_with 32 text ≡ true → step s text ≡ Pass (record s { after_blank = true })
+at_blank s text e b =
+    ap (λ (a : Bool). if a then Pass (record s { skip = s.skip - 1 }) else if begins_with 32 text then Pass (record s { after_blank = true }) else taken (found s text)) e
+    ∙ ap (λ (a : Bool). if a then Pass (record s { after_blank = true }) else taken (found s text)) b
 
--- where a token is taken of a text that has so many, there are fewer before it
-pub room_left : (s : Context) (at c n count : ℕ) (text rest : List ℕ) (class : Class) → text ≡ c ∷ rest → step s text ≡ Take class
-    → counted_on n (stage s at text) ≡ Ok count → n < count
-room_left s at c n count text rest class d e h =
-    more_left n count (stage (after s class text) (at + 1) rest) (count_take s at c n text rest class (Ok count) d e h)
+pub at_other : (s : Context) (text : List ℕ) (r : Result Class FaultKind) → nat_lt 0 s.skip ≡ false → begins_with 32 text ≡ false → r ≡ found s text → step s text ≡ taken r
+at_other s text r e b f =
+    ap (λ (a : Bool). if a then Pass (record s { skip = s.skip - 1 }) else if begins_with 32 text then Pass (record s { after_blank = true }) else taken (found s text)) e
+    ∙ (ap (λ (a : Bool). if a then Pass (record s { after_blank = true }) else taken (found s text)) b ∙ ap taken (sym f))

@@ -142,17 +142,22 @@ fn read_tokens(
     let mut context = start();
     for offset in from..text.len() {
         let rest = &text[offset..];
-        match step(context, rest) {
-            Action::Pass(next) => context = next,
-            Action::Take(class) => {
-                let word = text_of(class, rest);
-                let more = further(class, rest, word);
-                let token = token_of(alloc, context, class, rest, word, more)?;
-                tokens.push(token)?;
-                offsets.push(offset)?;
-                context = after(context, class, more);
+        if context.skip > 0 {
+            context.skip -= 1;
+        } else if begins_with(b' ', rest) {
+            context.after_blank = true;
+        } else {
+            match found(context, rest) {
+                Ok(class) => {
+                    let word = text_of(class, rest);
+                    let more = further(class, rest, word);
+                    let token = token_of(alloc, context, class, rest, word, more)?;
+                    tokens.push(token)?;
+                    offsets.push(offset)?;
+                    context = after(context, class, more);
+                }
+                Err(kind) => return Ok(Err(LexFault { offset, kind })),
             }
-            Action::Refuse(kind) => return Ok(Err(LexFault { offset, kind })),
         }
     }
     Ok(Ok(Tokens::new(tokens, offsets)))

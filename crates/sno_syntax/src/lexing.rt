@@ -30,7 +30,10 @@ fn lex_refusal(text: &StatementText, fault: LexFault) -> SyntaxError
 }
 
 /// The tokens behind the label of a statement, or the first fault of theirs.
-pub(crate) fn tokens_of(alloc: Global, text: &StatementText) -> Result<Tokens<'_>, Stop<SyntaxError>>
+pub(crate) fn tokens_of(
+    alloc: Global,
+    text: &StatementText,
+) -> Result<Tokens<'_>, Stop<SyntaxError>>
     ensures tokens { IfOk result (λ tokens. tokens_of text.now ≡ Ok tokens) }
     ensures refused { IfErr result (IfRefused (λ refusal. tokens_of text.now ≡ Err refusal)) }
     ensures memory { IsErrOf result Stop.Memory → IsOk (tokens_of text.now) }

@@ -6,9 +6,8 @@
 
 pub mod word;
 
-pub use word::Word;
-
 use mon_text::Line;
+pub use word::Word;
 
 /// What an operator is written with.
 #[derive(Clone, Copy)]
