@@ -1,3 +1,4 @@
 pub mod Coded
 pub mod Lined
+pub mod Depth
 pub mod Examples

@@ -5,5 +5,6 @@ pub mod Keeping
 pub mod Lines
 pub mod Execution
 pub mod Running
+pub mod Limits
 pub mod Laws
 pub mod inner
