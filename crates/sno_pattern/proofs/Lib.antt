@@ -1,0 +1,9 @@
+pub mod Balance
+pub mod Counted
+pub mod Exact
+mod Examples
+pub mod Pushing
+pub mod Reaches
+pub mod Run
+pub mod Table
+pub mod Trying

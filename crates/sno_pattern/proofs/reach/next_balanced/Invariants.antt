@@ -1,0 +1,15 @@
+use Rattle.std.proofs.Common.{length, ◌-◌, ◌≡◌, ◌≤◌}
+use Rattle.std.specs.Prelude.{drop}
+use Rattle.sno_pattern.specs.Steps.{closes, balanced_ends}
+use Rattle.sno_pattern.proofs.Balance.{ends_where}
+use Rattle.sno_pattern.proofs.reach.next_balanced.Given as goal
+
+abbrev pub invariant-loop-at : goal.invariant-loop-at
+invariant-loop-at l = record {
+  within : l.at ≤ length l.text;
+  few : l.opened ≤ l.at;
+  same : balanced_ends l.text l.from ≡ ends_where (closes l.opened) l.at (drop l.at l.text);
+}
+
+abbrev pub decreases-loop-at : goal.decreases-loop-at
+decreases-loop-at l = length l.text - l.at

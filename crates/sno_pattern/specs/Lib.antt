@@ -1,0 +1,5 @@
+pub mod Looks
+pub mod Hosts
+pub mod Steps
+pub mod Laws
+pub mod inner

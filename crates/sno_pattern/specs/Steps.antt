@@ -1,0 +1,207 @@
+-- The step table: what a match does goal by goal, and what it asks of its host (SNOBOL4 book, chapter 2 and chapter 8; the
+-- number of steps, BAL and ARBNO are own).
+use Rattle.std.specs.Prelude.{ℕ, zero, suc, ◌+◌, ◌-◌, List, [], ◌∷◌, ◌++◌, length, take, drop, Bool, true, false, not, ◌&&◌, if◌then◌else◌, nat_eq, nat_le, nat_lt}
+use Rattle.std.specs.List.{starts_with, filter, list_any, prefix_len, position_or_len}
+use Rattle.sno_talk.specs.Talks.{Talk, Ends, Asks, ask, ◌>>=◌}
+use Rattle.sno_text.specs.declared.fault.Fault.{Fault as AFault}
+use Rattle.sno_nodes.specs.Patterns.{Pattern}
+use Rattle.sno_nodes.specs.Patterns as pattern
+use Rattle.sno_pattern.specs.declared.host.Looked.{Looked}
+use Rattle.sno_pattern.specs.declared.host.Looked.TheVariants as looked
+use Rattle.sno_pattern.specs.declared.host.Taken.TheVariants.{Part, Cursor}
+use Rattle.sno_pattern.specs.declared.ending.Pending.{Pending}
+use Rattle.sno_pattern.specs.declared.ending.MatchEnd.{MatchEnd}
+use Rattle.sno_pattern.specs.declared.ending.MatchEnd.TheVariants as end
+use Rattle.sno_pattern.specs.Looks.{Look, LookUp, Assign, Told, Found, Given, Refused, Faulty}
+
+-- what is still to be met, each from the cursor where the one before it ends
+pub data Goal : Type 0 where
+  Meet : (p : Pattern) → Goal
+  -- another turn of ARBNO(p), if the last one, from here, moved on
+  More : (p : Pattern) (from : ℕ) → Goal
+  -- the part from here on is to be assigned once the whole match succeeds
+  EndConditional : (variable : List ℕ) (from : ℕ) → Goal
+  -- the part from here on is assigned now
+  EndImmediate : (variable : List ℕ) (from : ℕ) → Goal
+
+-- how goals come out
+pub data End : Type 0 where
+  Success : (at : ℕ) (pending : List Pending) → End
+  Failure : End
+  -- the whole match fails, whatever was still to be tried
+  WholeFails : End
+  OutOfSteps : End
+  Fault : (fault : AFault) → End
+
+-- with the steps that are left
+pub record Outcome : Type 0 where
+  pub end : End
+  pub left : ℕ
+
+abbrev pub Trying : Type 0
+Trying = Talk Look Told Outcome
+
+-- how goals go on from a cursor, with the assignments that wait and the steps that are left
+abbrev pub Way : Type 0
+Way = (goals : List Goal) (at : ℕ) (pending : List Pending) (left : ℕ) → Trying
+
+abbrev pub ends : End → ℕ → Trying
+ends e n = Ends (record { end = e; left = n })
+
+-- the second attempt after an end, if that is failure, with the steps that are left
+abbrev pub after_end : End → ℕ → (ℕ → Trying) → Trying
+after_end Failure n second = second n
+after_end (Success at pending) n second = ends (Success at pending) n
+after_end WholeFails n second = ends WholeFails n
+after_end OutOfSteps n second = ends OutOfSteps n
+after_end (Fault f) n second = ends (Fault f) n
+
+abbrev pub on_failure : Trying → (ℕ → Trying) → Trying
+on_failure first second = first >>= (λ o. after_end o.end o.left second)
+
+-- the goals at one cursor after another, each tried where those before failed
+abbrev pub at_each : Way → List Goal → List ℕ → List Pending → ℕ → Trying
+at_each go rest [] pending n = ends Failure n
+at_each go rest (c ∷ cs) pending n = on_failure (go rest c pending n) (λ n'. at_each go rest cs pending n')
+
+-- so many cursors from one on
+abbrev pub upward : ℕ → ℕ → List ℕ
+upward c zero = []
+upward c (suc k) = c ∷ upward (c + 1) k
+
+-- the text between two cursors
+abbrev pub part : List ℕ → ℕ → ℕ → List ℕ
+part text from to = take (to - from) (drop from text)
+
+abbrev pub is_one_of : List ℕ → ℕ → Bool
+is_one_of characters x = list_any (λ y. nat_eq y x) characters
+
+-- there is a first character, and it passes
+abbrev pub begins_with : (ℕ → Bool) → List ℕ → Bool
+begins_with test [] = false
+begins_with test (x ∷ xs) = test x
+
+-- with so many `(` open before it, a text closes them all, and no `)` stands in it where none is open
+abbrev pub closes : ℕ → List ℕ → Bool
+closes zero [] = true
+closes (suc k) [] = false
+closes zero (x ∷ xs) = if nat_eq x 40 then closes 1 xs else if nat_eq x 41 then false else closes zero xs
+closes (suc k) (x ∷ xs) = if nat_eq x 40 then closes (suc (suc k)) xs else if nat_eq x 41 then closes k xs else closes (suc k) xs
+
+-- where a part that begins here, is not null and has its parentheses in pairs can end
+abbrev pub balanced_ends : List ℕ → ℕ → List ℕ
+balanced_ends text c = filter (λ e. closes 0 (part text c e)) (upward (c + 1) (length text - c))
+
+-- the pattern that a variable stands for
+abbrev pub pattern_found : Looked → Pattern
+pattern_found (looked.Pattern p) = p
+pattern_found (looked.Text s) = pattern.Text s
+pattern_found (looked.Defer v) = pattern.Defer v
+
+-- how it goes on with what the host told: with what was found
+abbrev pub with_found : Told → ℕ → (Pattern → Trying) → Trying
+with_found (Found looked) n go = go (pattern_found looked)
+with_found Given n go = ends Failure n
+with_found Refused n go = ends Failure n
+with_found (Faulty f) n go = ends (Fault f) n
+
+-- or once an assignment was made
+abbrev pub if_given : Told → ℕ → Trying → Trying
+if_given Given n go = go
+if_given (Found looked) n go = ends Failure n
+if_given Refused n go = ends Failure n
+if_given (Faulty f) n go = ends (Fault f) n
+
+module _ (text : List ℕ) where
+  -- THE TABLE: a goal at the cursor c, with the rest r of the goals
+  unfoldable pub row : Way → Goal → List Goal → ℕ → List Pending → ℕ → Trying
+  row go (Meet (pattern.Text s)) r c pending n =
+      if starts_with nat_eq (drop c text) s then go r (c + length s) pending n else ends Failure n
+  row go (Meet (pattern.Len k)) r c pending n =
+      if nat_le (c + k) (length text) then go r (c + k) pending n else ends Failure n
+  row go (Meet (pattern.Pos k)) r c pending n = if nat_eq c k then go r c pending n else ends Failure n
+  row go (Meet (pattern.RPos k)) r c pending n = if nat_eq (c + k) (length text) then go r c pending n else ends Failure n
+  row go (Meet (pattern.Tab k)) r c pending n =
+      if nat_le c k && nat_le k (length text) then go r k pending n else ends Failure n
+  row go (Meet (pattern.RTab k)) r c pending n =
+      if nat_le (c + k) (length text) then go r (length text - k) pending n else ends Failure n
+  row go (Meet pattern.Rem) r c pending n = go r (length text) pending n
+  row go (Meet (pattern.Any s)) r c pending n =
+      if begins_with (is_one_of s) (drop c text) then go r (c + 1) pending n else ends Failure n
+  row go (Meet (pattern.NotAny s)) r c pending n =
+      if begins_with (λ x. not (is_one_of s x)) (drop c text) then go r (c + 1) pending n else ends Failure n
+  row go (Meet (pattern.Span s)) r c pending n =
+      if begins_with (is_one_of s) (drop c text)
+      then go r (c + prefix_len (is_one_of s) (drop c text)) pending n
+      else ends Failure n
+  row go (Meet (pattern.Break s)) r c pending n =
+      if nat_lt (c + position_or_len (is_one_of s) (drop c text)) (length text)
+      then go r (c + position_or_len (is_one_of s) (drop c text)) pending n
+      else ends Failure n
+  row go (Meet pattern.Arb) r c pending n = at_each go r (upward c (length text + 1 - c)) pending n
+  row go (Meet pattern.Bal) r c pending n = at_each go r (balanced_ends text c) pending n
+  row go (Meet (pattern.Cat a b)) r c pending n = go (Meet a ∷ Meet b ∷ r) c pending n
+  row go (Meet (pattern.Alt a b)) r c pending n =
+      on_failure (go (Meet a ∷ r) c pending n) (λ n'. go (Meet b ∷ r) c pending n')
+  row go (Meet (pattern.Arbno p)) r c pending n =
+      on_failure (go r c pending n) (λ n'. go (Meet p ∷ More p c ∷ r) c pending n')
+  row go (More p d) r c pending n =
+      if nat_eq c d
+      then ends Failure n
+      else on_failure (go r c pending n) (λ n'. go (Meet p ∷ More p c ∷ r) c pending n')
+  row go (Meet (pattern.Conditional p v)) r c pending n = go (Meet p ∷ EndConditional v c ∷ r) c pending n
+  row go (EndConditional v d) r c pending n = go r c (pending ++ record { variable = v; text = part text d c } ∷ []) n
+  row go (Meet (pattern.Immediate p v)) r c pending n = go (Meet p ∷ EndImmediate v c ∷ r) c pending n
+  row go (EndImmediate v d) r c pending n = do
+    told ← ask (Assign v (Part (part text d c)))
+    if_given told n (go r c pending n)
+  row go (Meet (pattern.Cursor v)) r c pending n = do
+    told ← ask (Assign v (Cursor c))
+    if_given told n (go r c pending n)
+  row go (Meet (pattern.Defer v)) r c pending n = do
+    told ← ask (LookUp v)
+    with_found told n (λ p. go (Meet p ∷ r) c pending n)
+  row go (Meet pattern.Fail) r c pending n = ends Failure n
+  row go (Meet pattern.Abort) r c pending n = ends WholeFails n
+  row go (Meet pattern.Fence) r c pending n = on_failure (go r c pending n) (λ n'. ends WholeFails n')
+  row go (Meet pattern.Succeed) r c pending n =
+      on_failure (go r c pending n) (λ n'. go (Meet pattern.Succeed ∷ r) c pending n')
+
+  -- taking a goal off is one step, and no goal left is success and takes none. The depth bounds how deep attempts stand in
+  -- one another; as many as there are steps are enough
+  unfoldable pub attempt : (depth : ℕ) → Way
+  attempt depth [] c pending n = ends (Success c pending) n
+  attempt depth (g ∷ r) c pending zero = ends OutOfSteps zero
+  attempt zero (g ∷ r) c pending (suc n) = ends OutOfSteps zero
+  attempt (suc depth) (g ∷ r) c pending (suc n) = row (attempt depth) g r c pending n
+
+  unfoldable pub outcome : Way
+  outcome goals c pending n = attempt n goals c pending n
+
+-- how a match ends, with the steps that are left
+pub record Finish : Type 0 where
+  pub end : MatchEnd
+  pub left : ℕ
+
+-- the end of one start is the match's, but for failure, after which the next start is tried
+abbrev pub settle : ℕ → End → ℕ → (ℕ → Talk Look Told Finish) → Talk Look Told Finish
+settle from (Success to pending) n next = Ends (record { end = end.Matched from to pending; left = n })
+settle from Failure n next = next n
+settle from WholeFails n next = Ends (record { end = end.NoMatch; left = n })
+settle from OutOfSteps n next = Ends (record { end = end.Limit; left = n })
+settle from (Fault f) n next = Ends (record { end = end.Fault f; left = n })
+
+-- so many starts from one on
+abbrev pub from_starts : List ℕ → Pattern → ℕ → ℕ → ℕ → Talk Look Told Finish
+from_starts text p zero at n = Ends (record { end = end.NoMatch; left = n })
+from_starts text p (suc k) at n = do
+  o ← outcome text (Meet p ∷ []) at [] n
+  settle at o.end o.left (λ n'. from_starts text p k (at + 1) n')
+
+-- the match with the steps that it leaves
+abbrev pub counted_match : List ℕ → Pattern → (anchored : Bool) → (limit : ℕ) → Talk Look Told Finish
+counted_match text p anchored limit = from_starts text p (if anchored then 1 else (length text + 1)) 0 limit
+
+-- THE MATCH
+abbrev pub match_of : List ℕ → Pattern → (anchored : Bool) → (limit : ℕ) → Talk Look Told MatchEnd
+match_of text p anchored limit = counted_match text p anchored limit >>= (λ f. Ends f.end)

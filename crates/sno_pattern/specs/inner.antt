@@ -1,0 +1,3 @@
+pub mod Reaching
+pub mod Stack
+pub mod Running

@@ -1,0 +1,32 @@
+//! Laws over the definitions alone. Each is the contract of a function that does nothing.
+ghost use Rattle.sno_pattern.specs.Laws.{TakesOff, StepsFall, AnyDepth, NeedsSteps, StepsAreExact, MatchesAlike};
+
+/// Taking a goal off is one step, and the rest goes on as goals come out.
+pub fn takes_off()
+    ensures { TakesOff }
+{}
+
+/// Whatever the host tells, no more steps are left than there were.
+pub fn steps_fall()
+    ensures { StepsFall }
+{}
+
+/// Any two depths give the same, if there are as many as steps.
+pub fn any_depth()
+    ensures { AnyDepth }
+{}
+
+/// Each end but Limit needs some number of steps, within the limit.
+pub fn needs_steps()
+    ensures { NeedsSteps }
+{}
+
+/// With as many steps or more a match ends as it does, and with fewer by Limit.
+pub fn steps_are_exact()
+    ensures { StepsAreExact }
+{}
+
+/// Two matches whose hosts answer alike ask the same and end alike.
+pub fn matches_alike()
+    ensures { MatchesAlike }
+{}

@@ -1,0 +1,19 @@
+//! Matching of patterns, step by step as the table says, for every host.
+#![tactic(auto)]
+
+mod choices;
+pub mod ending;
+mod goals;
+pub mod host;
+pub mod laws;
+mod matching;
+mod reach;
+mod rows;
+mod running;
+mod taking;
+
+pub use ending::{Assignments, MatchEnd, Pending};
+pub use host::{Looked, MatchHost, Stop, Taken};
+pub use matching::matches;
+pub use sno_nodes::Pat;
+pub use sno_text::Fault;

@@ -1,0 +1,109 @@
+//! A whole match.
+ghost use Rattle.std.specs.Prelude.{◌≡◌, IfOk, OnErr, reverse};
+ghost use Rattle.mon_text.specs.Lines.{IsLine};
+ghost use Rattle.sno_talk.specs.Holding.{Held, Cut};
+ghost use Rattle.sno_nodes.specs.Nodes.{pattern_of};
+ghost use Rattle.sno_pattern.specs.Looks.{Fits};
+ghost use Rattle.sno_pattern.specs.Steps.{match_of};
+ghost use Rattle.sno_pattern.specs.inner.Stack.{waiting_of};
+
+use crate::choices::{Choice, Ended};
+use crate::ending::{Assignments, MatchEnd, Pending};
+use crate::goals::Waiting;
+use crate::host::MatchHost;
+use crate::running::run;
+use crate::taking::part_of;
+use sno_nodes::{Node, Pat};
+use sno_text::Text;
+use std::alloc::{AllocError, Global};
+use std::rc::Rc;
+
+/// The assignments that wait, with their texts, the newest first.
+#[tactic(auto, using(crate::proofs::Run::collect))]
+fn newest_first(alloc: Global, text: &[u8], waiting: &Waiting) -> Result<Vec<Pending>, AllocError>
+    requires { IsLine text.now }
+    ensures { IfOk result (λ list. reverse list.items ≡ waiting_of text.now waiting.now) }
+{
+    let mut list: Vec<Pending> = Vec::new(alloc);
+    let mut rest = waiting;
+    while let Waiting::And(variable, from, to, older) = rest {
+        let variable = variable.copy()?;
+        let part = part_of(alloc, text, *from, *to)?;
+        list.push(Pending {
+            variable,
+            text: part,
+        })?;
+        rest = older;
+    }
+    Ok(list)
+}
+
+/// The assignments that wait, with their texts.
+fn assignments_of(alloc: Global, text: &[u8], waiting: &Waiting) -> Result<Assignments, AllocError>
+    requires { IsLine text.now }
+    ensures { IfOk result (λ assignments. assignments ≡ waiting_of text.now waiting.now) }
+{
+    let mut list = newest_first(alloc, text, waiting)?;
+    list.reverse();
+    Ok(Assignments::of_list(list))
+}
+
+/// Matches a text from one start after the other.
+fn matches_in<H: MatchHost>(
+    alloc: Global,
+    pattern: &Rc<Node>,
+    text: &[u8],
+    anchored: bool,
+    limit: u64,
+    host: &mut H,
+) -> Result<MatchEnd, AllocError>
+    requires ready { H.ready host.old }
+    requires printable { IsLine text.now }
+    ensures held { IfOk result (λ end. Held H.tells Fits (match_of text.now (pattern_of pattern.now.value) anchored limit) host.old end host.new) }
+    ensures cut { OnErr result (Cut H.tells Fits H.broken (match_of text.now (pattern_of pattern.now.value) anchored limit) host.old host.new) }
+    ensures ready { H.ready host.new }
+{
+    let starts = if anchored { 1 } else { text.len() + 1 };
+    let mut choices: Vec<Choice> = Vec::new(alloc);
+    let mut left = limit;
+    for from in 0..starts {
+        let attempt = run(alloc, text, pattern, from, left, &mut choices, host)?;
+        match attempt.ended {
+            Ended::Success(to, waiting) => {
+                let pending = assignments_of(alloc, text, &waiting)?;
+                return Ok(MatchEnd::Matched { from, to, pending });
+            }
+            Ended::Failure => left = attempt.left,
+            Ended::WholeFails => return Ok(MatchEnd::NoMatch),
+            Ended::OutOfSteps => return Ok(MatchEnd::Limit),
+            Ended::Fault(fault) => return Ok(MatchEnd::Fault(fault)),
+        }
+    }
+    Ok(MatchEnd::NoMatch)
+}
+
+/// Matches a text, at its start alone or at each place.
+///
+/// # Errors
+///
+/// Where a growth was refused; then the host stands as its calls so far left it.
+pub fn matches<H: MatchHost>(
+    alloc: Global,
+    pattern: &Pat,
+    text: &Text,
+    anchored: bool,
+    limit: u64,
+    host: &mut H,
+) -> Result<MatchEnd, AllocError>
+    requires ready { H.ready host.old }
+    ensures held { IfOk result (λ end. Held H.tells Fits (match_of text.now pattern.now anchored limit) host.old end host.new) }
+    ensures cut { OnErr result (Cut H.tells Fits H.broken (match_of text.now pattern.now anchored limit) host.old host.new) }
+    ensures ready { H.ready host.new }
+{
+    let node = pattern.node();
+    let text = text.as_bytes();
+    match matches_in(alloc, node, text, anchored, limit, host) {
+        Ok(end) => Ok(end),
+        Err(e) => Err(e),
+    }
+}

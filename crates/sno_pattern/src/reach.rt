@@ -1,0 +1,202 @@
+//! Rows that end in one place or nowhere.
+ghost use Rattle.std.specs.Prelude.{◌≡◌, ◌≤◌, ◌<◌, ◌^◌, not, length, IfSome};
+ghost use Rattle.std.specs.List.{prefix_len, position_or_len};
+ghost use Rattle.sno_nodes.specs.Patterns as pattern;
+ghost use Rattle.sno_nodes.specs.Nodes.{pattern_of};
+ghost use Rattle.sno_pattern.specs.Steps.{is_one_of, begins_with, balanced_ends};
+ghost use Rattle.sno_pattern.specs.inner.Reaching.{reached, IsWithin, is_nowhere, open_after, next_and_on};
+
+use sno_nodes::Node;
+
+/// Where a pattern ends from a cursor on.
+#[derive(Clone, Copy)]
+pub(crate) enum Reach {
+    Here(usize),
+    Nowhere,
+    /// That depends: it has parts, several ends, or words for the host.
+    Depends,
+}
+
+/// Whether a character of the set comes first.
+fn begins_with_one_of(rest: &[u8], characters: &[u8]) -> bool
+    ensures { result ≡ begins_with (is_one_of characters.now) rest.now }
+{
+    match rest.first() {
+        Some(first) => characters.contains(first),
+        None => false,
+    }
+}
+
+/// Whether a character comes first that is not of the set.
+fn begins_with_another(rest: &[u8], characters: &[u8]) -> bool
+    ensures { result ≡ begins_with (λ x. not (is_one_of characters.now x)) rest.now }
+{
+    match rest.first() {
+        Some(first) => !characters.contains(first),
+        None => false,
+    }
+}
+
+/// How many characters of the set come first.
+fn run_of(rest: &[u8], characters: &[u8]) -> usize
+    ensures value { result ≡ prefix_len (is_one_of characters.now) rest.now }
+    ensures within { result ≤ length rest.now }
+{
+    let mut count = 0;
+    while count < rest.len() && characters.contains(&rest[count]) {
+        count += 1;
+    }
+    count
+}
+
+/// How many characters come before the first one of the set.
+fn gap_before(rest: &[u8], characters: &[u8]) -> usize
+    ensures value { result ≡ position_or_len (is_one_of characters.now) rest.now }
+    ensures within { result ≤ length rest.now }
+{
+    let mut count = 0;
+    while count < rest.len() && !characters.contains(&rest[count]) {
+        count += 1;
+    }
+    count
+}
+
+/// Here, if the number of characters from the cursor on is in the text.
+fn ahead(text: &[u8], at: usize, count: u64) -> Reach
+    requires { at ≤ length text.now }
+    ensures value { result ≡ reached text.now (pattern.Len count) at }
+    ensures within { IsWithin (length text.now) result }
+{
+    if count <= (text.len() - at) as u64 {
+        Reach::Here(at + count as usize)
+    } else {
+        Reach::Nowhere
+    }
+}
+
+/// Where a pattern ends from a cursor on.
+pub(crate) fn reached(text: &[u8], node: &Node, at: usize) -> Reach
+    requires { at ≤ length text.now }
+    ensures value { result ≡ reached text.now (pattern_of node.now) at }
+    ensures within { IsWithin (length text.now) result }
+{
+    match node {
+        Node::Text(s) => {
+            let s = s.as_bytes();
+            if text[at..].starts_with(s) {
+                Reach::Here(at + s.len())
+            } else {
+                Reach::Nowhere
+            }
+        }
+        Node::Len(n) => ahead(text, at, *n),
+        Node::Pos(n) => {
+            if at as u64 == *n {
+                Reach::Here(at)
+            } else {
+                Reach::Nowhere
+            }
+        }
+        Node::RPos(n) => {
+            if (text.len() - at) as u64 == *n {
+                Reach::Here(at)
+            } else {
+                Reach::Nowhere
+            }
+        }
+        Node::Tab(n) => {
+            if at as u64 <= *n && *n <= text.len() as u64 {
+                Reach::Here(*n as usize)
+            } else {
+                Reach::Nowhere
+            }
+        }
+        Node::RTab(n) => {
+            if *n <= (text.len() - at) as u64 {
+                Reach::Here(text.len() - *n as usize)
+            } else {
+                Reach::Nowhere
+            }
+        }
+        Node::Rem => Reach::Here(text.len()),
+        Node::Any(set) => {
+            if begins_with_one_of(&text[at..], set.as_bytes()) {
+                Reach::Here(at + 1)
+            } else {
+                Reach::Nowhere
+            }
+        }
+        Node::NotAny(set) => {
+            if begins_with_another(&text[at..], set.as_bytes()) {
+                Reach::Here(at + 1)
+            } else {
+                Reach::Nowhere
+            }
+        }
+        Node::Span(set) => {
+            let rest = &text[at..];
+            let set = set.as_bytes();
+            if begins_with_one_of(rest, set) {
+                Reach::Here(at + run_of(rest, set))
+            } else {
+                Reach::Nowhere
+            }
+        }
+        Node::Break(set) => {
+            let end = at + gap_before(&text[at..], set.as_bytes());
+            if end < text.len() {
+                Reach::Here(end)
+            } else {
+                Reach::Nowhere
+            }
+        }
+        Node::Fail => Reach::Nowhere,
+        _ => Reach::Depends,
+    }
+}
+
+/// Whether a pattern ends nowhere from a cursor on.
+pub(crate) fn misses(text: &[u8], node: &Node, at: usize) -> bool
+    requires { at ≤ length text.now }
+    ensures { result ≡ is_nowhere (reached text.now (pattern_of node.now) at) }
+{
+    match reached(text, node, at) {
+        Reach::Nowhere => true,
+        Reach::Here(_) | Reach::Depends => false,
+    }
+}
+
+/// How many parentheses are open after one more character, unless it closes one where none is open.
+fn open_after(opened: usize, character: u8) -> Option<usize>
+    requires { opened < 2 ^ 63 }
+    ensures { result ≡ open_after opened character }
+{
+    match character {
+        b'(' => Some(opened + 1),
+        b')' => opened.checked_sub(1),
+        _ => Some(opened),
+    }
+}
+
+/// The first place where a part that begins here, is not null and has its parentheses in pairs ends.
+pub(crate) fn next_balanced(text: &[u8], from: usize) -> Option<usize>
+    requires { from ≤ length text.now }
+    ensures next { balanced_ends text.now from ≡ next_and_on text.now result }
+    ensures within { IfSome result (λ e. e ≤ length text.now) }
+{
+    let mut at = from;
+    let mut opened = 0;
+    while at < text.len() {
+        match open_after(opened, text[at]) {
+            None => return None,
+            Some(now) => {
+                at += 1;
+                if now == 0 {
+                    return Some(at);
+                }
+                opened = now;
+            }
+        }
+    }
+    None
+}

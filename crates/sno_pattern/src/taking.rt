@@ -1,0 +1,186 @@
+//! Goals taken off, one a step, with what they ask of the host.
+ghost use Rattle.std.specs.Prelude.{◌≡◌, ◌≤◌, length, IfOk, OnErr};
+ghost use Rattle.mon_text.specs.Lines.{IsLine};
+ghost use Rattle.sno_talk.specs.Holding.{Cut};
+ghost use Rattle.sno_nodes.specs.Nodes.{pattern_of};
+ghost use Rattle.sno_pattern.specs.Looks.{Fits};
+ghost use Rattle.sno_pattern.specs.Steps.{part, pattern_found, row, outcome};
+ghost use Rattle.sno_pattern.specs.inner.Stack.{goal_of, goals_of, waiting_of, AllWithin, Moved, resume, assigning, looking};
+
+use crate::choices::{Choice, Ended, Turn, back, before};
+use crate::goals::{Goal, Goals, Waiting};
+use crate::host::{Looked, MatchHost, Stop, Taken};
+use crate::rows::{one_more, plain};
+use sno_nodes::Node;
+use sno_text::Text;
+use std::alloc::{AllocError, Global};
+use std::rc::Rc;
+
+/// The text between two cursors.
+#[tactic(auto, using(sno_text::proofs::Printable::line_of_take, sno_text::proofs::Printable::line_of_drop))]
+pub(crate) fn part_of(
+    alloc: Global,
+    text: &[u8],
+    from: usize,
+    to: usize,
+) -> Result<Text, AllocError>
+    requires { IsLine text.now }
+    ensures { IfOk result (λ t. t ≡ part text.now from to) }
+{
+    let last = if to <= text.len() { to } else { text.len() };
+    if from <= last {
+        Text::of_slice(alloc, &text[from..last])
+    } else {
+        Ok(Text::null())
+    }
+}
+
+/// The pattern that a variable stands for.
+fn node_found(alloc: Global, looked: Looked) -> Result<Rc<Node>, AllocError>
+    ensures { IfOk result (λ node. pattern_of node.value ≡ pattern_found looked) }
+{
+    match looked {
+        Looked::Pattern(pattern) => Ok(pattern.node().clone()?),
+        Looked::Text(text) => Ok(Rc::new(alloc, Node::Text(text))?),
+        Looked::Defer(variable) => Ok(Rc::new(alloc, Node::Defer(variable))?),
+    }
+}
+
+/// Asks for an assignment, and goes on once it is made.
+fn assigned<H: MatchHost>(
+    text: &[u8],
+    variable: &Text,
+    taken: Taken,
+    rest: &Rc<Goals>,
+    at: usize,
+    waiting: &Rc<Waiting>,
+    choices: &mut Vec<Choice>,
+    left: &mut u64,
+    host: &mut H,
+) -> Result<Turn, AllocError>
+    requires ready { H.ready host.old }
+    requires cursor { at ≤ length text.now }
+    requires all { AllWithin (length text.now) choices.old.items }
+    ensures moved { IfOk result (λ turn. Moved H.tells H.broken text.now host.old choices.old.items (assigning text.now variable.now taken (goals_of rest.now.value) at (waiting_of text.now waiting.now.value) left.old) left.old host.new turn choices.new.items left.new) }
+    ensures cut { OnErr result (Cut H.tells Fits H.broken (resume text.now choices.old.items (assigning text.now variable.now taken (goals_of rest.now.value) at (waiting_of text.now waiting.now.value) left.old)) host.old host.new) }
+    ensures ready { H.ready host.new }
+{
+    match host.assign(variable, taken) {
+        Ok(()) => Ok(Turn::Go(rest.clone()?, at, waiting.clone()?)),
+        Err(Stop::Fail) => Ok(back(text, choices, left)?),
+        Err(Stop::Fault(fault)) => Ok(Turn::Stay(Ended::Fault(fault))),
+        Err(Stop::Memory) => Err(AllocError),
+    }
+}
+
+/// Asks what a variable stands for, and goes on with that.
+fn looked<H: MatchHost>(
+    alloc: Global,
+    text: &[u8],
+    variable: &Text,
+    rest: &Rc<Goals>,
+    at: usize,
+    waiting: &Rc<Waiting>,
+    choices: &mut Vec<Choice>,
+    left: &mut u64,
+    host: &mut H,
+) -> Result<Turn, AllocError>
+    requires ready { H.ready host.old }
+    requires cursor { at ≤ length text.now }
+    requires all { AllWithin (length text.now) choices.old.items }
+    ensures moved { IfOk result (λ turn. Moved H.tells H.broken text.now host.old choices.old.items (looking text.now variable.now (goals_of rest.now.value) at (waiting_of text.now waiting.now.value) left.old) left.old host.new turn choices.new.items left.new) }
+    ensures cut { OnErr result (Cut H.tells Fits H.broken (resume text.now choices.old.items (looking text.now variable.now (goals_of rest.now.value) at (waiting_of text.now waiting.now.value) left.old)) host.old host.new) }
+    ensures ready { H.ready host.new }
+{
+    match host.look_up(variable) {
+        Ok(found) => {
+            let node = node_found(alloc, found)?;
+            let goals = before(alloc, Goal::Meet(node), rest)?;
+            Ok(Turn::Go(goals, at, waiting.clone()?))
+        }
+        Err(Stop::Fail) => Ok(back(text, choices, left)?),
+        Err(Stop::Fault(fault)) => Ok(Turn::Stay(Ended::Fault(fault))),
+        Err(Stop::Memory) => Err(AllocError),
+    }
+}
+
+/// Takes a goal off.
+pub(crate) fn take<H: MatchHost>(
+    alloc: Global,
+    text: &[u8],
+    goal: &Goal,
+    rest: &Rc<Goals>,
+    at: usize,
+    waiting: &Rc<Waiting>,
+    choices: &mut Vec<Choice>,
+    left: &mut u64,
+    host: &mut H,
+) -> Result<Turn, AllocError>
+    requires ready { H.ready host.old }
+    requires printable { IsLine text.now }
+    requires cursor { at ≤ length text.now }
+    requires all { AllWithin (length text.now) choices.old.items }
+    ensures moved { IfOk result (λ turn. Moved H.tells H.broken text.now host.old choices.old.items (row text.now (outcome text.now) (goal_of goal.now) (goals_of rest.now.value) at (waiting_of text.now waiting.now.value) left.old) left.old host.new turn choices.new.items left.new) }
+    ensures cut { OnErr result (Cut H.tells Fits H.broken (resume text.now choices.old.items (row text.now (outcome text.now) (goal_of goal.now) (goals_of rest.now.value) at (waiting_of text.now waiting.now.value) left.old)) host.old host.new) }
+    ensures ready { H.ready host.new }
+{
+    match goal {
+        Goal::Meet(shared) => {
+            let node: &Node = shared;
+            match node {
+                Node::Defer(variable) => match looked(
+                    alloc, text, variable, rest, at, waiting, choices, left, host,
+                ) {
+                    Ok(turn) => Ok(turn),
+                    Err(e) => Err(e),
+                },
+                Node::Cursor(variable) => match assigned(
+                    text,
+                    variable,
+                    Taken::Cursor(at as u64),
+                    rest,
+                    at,
+                    waiting,
+                    choices,
+                    left,
+                    host,
+                ) {
+                    Ok(turn) => Ok(turn),
+                    Err(e) => Err(e),
+                },
+                _ => match plain(alloc, text, shared, rest, at, waiting, choices, left) {
+                    Ok(turn) => Ok(turn),
+                    Err(e) => Err(e),
+                },
+            }
+        }
+        Goal::More(shared, from) => {
+            if at == *from {
+                return Ok(back(text, choices, left)?);
+            }
+            Ok(one_more(alloc, text, shared, rest, at, waiting, choices, *left)?)
+        }
+        Goal::EndConditional(variable, from) => {
+            let older = waiting.clone()?;
+            let more = Rc::new(alloc, Waiting::And(variable.copy()?, *from, at, older))?;
+            Ok(Turn::Go(rest.clone()?, at, more))
+        }
+        Goal::EndImmediate(variable, from) => {
+            let taken = part_of(alloc, text, *from, at)?;
+            match assigned(
+                text,
+                variable,
+                Taken::Part(taken),
+                rest,
+                at,
+                waiting,
+                choices,
+                left,
+                host,
+            ) {
+                Ok(turn) => Ok(turn),
+                Err(e) => Err(e),
+            }
+        }
+    }
+}
