@@ -1,5 +1,5 @@
 -- How many steps a match needs.
-use Rattle.std.specs.Prelude.{◌≡◌, ◌≢◌, ◌⊎◌, ℕ, zero, suc, ◌+◌, ◌-◌, ◌<◌, ◌≤◌, List, [], ◌∷◌, ◌++◌, Bool, length, if◌then◌else◌}
+use Rattle.std.specs.Prelude.{◌≡◌, ◌≢◌, ◌⊎◌, ℕ, zero, suc, ◌+◌, ◌-◌, ◌≤◌, List, [], ◌∷◌, ◌++◌, Bool, length, if◌then◌else◌}
 use Rattle.std.proofs.Common.{refl, sym, ap, ◌∙◌, subst, inl, inr, arith}
 use Rattle.sno_talk.specs.Talks.{Talk, Ends, Asks, ◌>>=◌}
 use Rattle.sno_talk.specs.Exchanges.{Exchange, Tells}
@@ -9,9 +9,9 @@ use Rattle.sno_nodes.specs.Patterns.{Pattern}
 use Rattle.sno_pattern.specs.declared.ending.MatchEnd.{MatchEnd}
 use Rattle.sno_pattern.specs.declared.ending.MatchEnd.TheVariants.{Limit}
 use Rattle.sno_pattern.specs.Looks.{Look, Told, Fits}
-use Rattle.sno_pattern.specs.Steps.{Meet, End, Success, Failure, WholeFails, OutOfSteps, Fault, Outcome, Trying, outcome, Finish, settle, from_starts, counted_match, match_of}
+use Rattle.sno_pattern.specs.Steps.{Meet, End, Success, Failure, WholeFails, OutOfSteps, Fault, Trying, outcome, Finish, settle, from_starts, counted_match, match_of}
 use Rattle.sno_pattern.specs.Laws.{Needs, NeedsSteps, StepsAreExact}
-use Rattle.sno_pattern.proofs.Trying.{AtMost, LeavesAtMost}
+use Rattle.sno_pattern.proofs.Trying.{AtMost}
 use Rattle.sno_pattern.proofs.Table.{outcome_falls}
 use Rattle.sno_pattern.proofs.Exact.{Longer, outcome_longer}
 

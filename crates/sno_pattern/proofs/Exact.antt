@@ -1,15 +1,14 @@
 -- With more steps a match ends as it did, with so many more of them left, unless it had run out of them.
-use Rattle.std.specs.Prelude.{◌≡◌, ◌⊎◌, ℕ, zero, suc, ◌+◌, ◌-◌, ◌<◌, ◌≤◌, List, [], ◌∷◌, ◌++◌, length, drop, Bool, true, false, not, ◌&&◌, if◌then◌else◌, nat_eq, nat_le, nat_lt}
+use Rattle.std.specs.Prelude.{◌≡◌, ◌⊎◌, ℕ, zero, suc, ◌+◌, ◌-◌, ◌≤◌, List, [], ◌∷◌, ◌++◌, length, drop, Bool, true, false, not, ◌&&◌, if◌then◌else◌, nat_eq, nat_le, nat_lt}
 use Rattle.std.proofs.Common.{refl, sym, ap, subst, inl, inr, arith}
 use Rattle.std.specs.List.{starts_with, prefix_len, position_or_len}
-use Rattle.sno_talk.specs.Talks.{Talk, Ends, Asks, ◌>>=◌}
-use Rattle.sno_talk.specs.Endings.{EndsIn}
+use Rattle.sno_talk.specs.Talks.{Ends, Asks}
 use Rattle.sno_nodes.specs.Patterns.{Pattern}
 use Rattle.sno_nodes.specs.Patterns as pattern
 use Rattle.sno_pattern.specs.declared.ending.Pending.{Pending}
-use Rattle.sno_pattern.specs.Looks.{Look, Told, Found, Given, Refused, Faulty}
-use Rattle.sno_pattern.specs.Steps.{Goal, Meet, More, EndConditional, EndImmediate, End, Success, Failure, WholeFails, OutOfSteps, Fault, Outcome, Trying, Way, ends, after_end, on_failure, at_each, upward, part, is_one_of, begins_with, balanced_ends, pattern_found, with_found, if_given, row, attempt, outcome}
-use Rattle.sno_pattern.proofs.Trying.{AtMost, LeavesAtMost, Falls, leaves_more, fails_falls}
+use Rattle.sno_pattern.specs.Looks.{Told, Found, Given, Refused, Faulty}
+use Rattle.sno_pattern.specs.Steps.{Goal, Meet, More, EndConditional, EndImmediate, End, Success, Failure, WholeFails, OutOfSteps, Fault, Trying, Way, ends, after_end, on_failure, at_each, upward, part, is_one_of, begins_with, balanced_ends, pattern_found, with_found, if_given, row, attempt, outcome}
+use Rattle.sno_pattern.proofs.Trying.{LeavesAtMost, Falls, leaves_more, fails_falls}
 use Rattle.sno_pattern.proofs.Table.{row_falls, attempt_falls}
 
 -- t' is t with j + 1 steps more

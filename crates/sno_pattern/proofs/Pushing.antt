@@ -1,19 +1,18 @@
 -- How choices are pushed and taken, row by row of the table.
-use Rattle.std.proofs.Common.{◌≡◌, ◌≢◌, ℕ, zero, suc, ◌+◌, ◌-◌, ◌<◌, ◌≤◌, List, [], ◌∷◌, ◌++◌, length, Bool, true, false, refl, sym, ap, ◌∙◌, subst, arith, inl, inr}
-use Rattle.std.specs.Prelude.{nat_eq, if◌then◌else◌}
+use Rattle.std.proofs.Common.{◌≡◌, ◌≢◌, ℕ, suc, ◌+◌, ◌-◌, ◌<◌, ◌≤◌, List, [], ◌∷◌, ◌++◌, length, true, false, refl, sym, ap, ◌∙◌, subst, arith, inl, inr}
+use Rattle.std.specs.Prelude.{nat_eq}
 use Rattle.std.specs.declared.rc.Rc.{Rc}
 use Rattle.std.specs.declared.alloc.Global.{Global}
 use Rattle.sno_text.specs.declared.fault.Fault.{Fault as AFault}
-use Rattle.sno_talk.specs.Talks.{Talk, Ends, Asks}
+use Rattle.sno_talk.specs.Talks.{Asks}
 use Rattle.sno_talk.specs.Holding.{Held, Cut}
 use Rattle.sno_talk.proofs.Held.{cut_here}
 use Rattle.sno_nodes.specs.Patterns.{Pattern}
 use Rattle.sno_nodes.specs.Patterns as pattern
 use Rattle.sno_pattern.specs.declared.ending.Pending.{Pending}
-use Rattle.sno_pattern.specs.declared.host.Taken.{Taken}
 use Rattle.sno_pattern.specs.declared.host.Taken.TheVariants.{Part, Cursor}
 use Rattle.sno_pattern.specs.Looks.{Look, Told, Fits}
-use Rattle.sno_pattern.specs.Steps.{Goal, Meet, More, EndConditional, EndImmediate, End, Success, Failure, WholeFails, OutOfSteps, Fault, Outcome, Trying, ends, on_failure, at_each, upward, part, balanced_ends, row, outcome}
+use Rattle.sno_pattern.specs.Steps.{Goal, Meet, More, EndConditional, EndImmediate, End, Failure, WholeFails, Fault, Trying, ends, on_failure, at_each, upward, part, balanced_ends, row, outcome}
 use Rattle.sno_pattern.specs.declared.goals.Goals.{Goals}
 use Rattle.sno_pattern.specs.declared.goals.Waiting.{Waiting}
 use Rattle.sno_pattern.specs.declared.choices.Choice.{Choice}
@@ -21,8 +20,8 @@ use Rattle.sno_pattern.specs.declared.choices.Choice.TheVariants.{Second, Each, 
 use Rattle.sno_pattern.specs.declared.choices.Turn.{Turn}
 use Rattle.sno_pattern.specs.declared.choices.Turn.TheVariants.{Go, Stay}
 use Rattle.sno_pattern.specs.declared.choices.Ended.TheVariants as ended
-use Rattle.sno_pattern.specs.inner.Reaching.{reached, next_and_on}
-use Rattle.sno_pattern.specs.inner.Stack.{goals_of, waiting_of, second, resume, turned, ChoiceWithin, AllWithin, TurnWithin, Led, Moved, assigning, looking}
+use Rattle.sno_pattern.specs.inner.Reaching.{reached}
+use Rattle.sno_pattern.specs.inner.Stack.{goals_of, waiting_of, second, resume, ChoiceWithin, AllWithin, Led, Moved, assigning, looking}
 use Rattle.sno_pattern.specs.declared.reach.Reach.TheVariants.{Here, Nowhere}
 use Rattle.sno_pattern.proofs.Trying.{IsLast, last_stays, then_fails}
 use Rattle.sno_pattern.proofs.Table.{takes_off}

@@ -1,10 +1,10 @@
 -- A run on the stack, step by step, and a match, start by start.
-use Rattle.std.proofs.Common.{◌≡◌, ◌≢◌, ℕ, zero, suc, ◌+◌, ◌-◌, ◌<◌, ◌≤◌, List, [], ◌∷◌, ◌++◌, length, refl, sym, ap, ◌∙◌, subst, arith}
+use Rattle.std.proofs.Common.{◌≡◌, ◌≢◌, ℕ, suc, ◌+◌, ◌-◌, ◌≤◌, List, [], ◌∷◌, ◌++◌, length, refl, sym, ap, ◌∙◌, subst, arith}
 use Rattle.std.specs.Prelude.{Result, Ok, Err, OnErr, reverse}
 use Rattle.std.proofs.lemmas.List.{append_assoc, reverse-append}
 use Rattle.std.specs.declared.rc.Rc.{Rc}
 use Rattle.std.specs.declared.alloc.Global.{Global}
-use Rattle.sno_talk.specs.Talks.{Talk, Ends, Asks, ◌>>=◌}
+use Rattle.sno_talk.specs.Talks.{Talk, Ends, ◌>>=◌}
 use Rattle.sno_talk.specs.Holding.{Held, Cut}
 use Rattle.sno_talk.proofs.Held.{held_then, cut_here, cut_first, cut_then}
 use Rattle.sno_talk.proofs.Binds.{then_then}
@@ -16,7 +16,7 @@ use Rattle.sno_pattern.specs.declared.ending.Pending.{Pending}
 use Rattle.sno_pattern.specs.declared.ending.MatchEnd.{MatchEnd}
 use Rattle.sno_pattern.specs.declared.ending.MatchEnd.TheVariants as end
 use Rattle.sno_pattern.specs.Looks.{Look, Told, Fits}
-use Rattle.sno_pattern.specs.Steps.{Goal, Meet, End, Success, Failure, WholeFails, OutOfSteps, Outcome, Trying, ends, on_failure, row, outcome, Finish, settle, from_starts}
+use Rattle.sno_pattern.specs.Steps.{Goal, Meet, End, Success, Failure, OutOfSteps, Outcome, Trying, row, outcome, Finish, settle, from_starts}
 use Rattle.sno_pattern.specs.declared.goals.Goals.{Goals}
 use Rattle.sno_pattern.specs.declared.goals.Waiting.{Waiting}
 use Rattle.sno_pattern.specs.declared.choices.Choice.{Choice}
@@ -24,7 +24,6 @@ use Rattle.sno_pattern.specs.declared.choices.Turn.TheVariants.{Go, Stay}
 use Rattle.sno_pattern.specs.declared.choices.Ended.{Ended}
 use Rattle.sno_pattern.specs.inner.Reaching.{IsQuiet}
 use Rattle.sno_pattern.specs.inner.Stack.{goals_of, waiting_of, end_of, resume, AllWithin, Moved}
-use Rattle.sno_pattern.proofs.Trying.{IsLast}
 use Rattle.sno_pattern.proofs.Table.{takes_off, none_left, no_step_left}
 use Rattle.sno_pattern.proofs.Pushing.{resume_last}
 

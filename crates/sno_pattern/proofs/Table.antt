@@ -2,13 +2,12 @@
 use Rattle.std.specs.Prelude.{◌≡◌, ℕ, zero, suc, ◌+◌, ◌-◌, ◌≤◌, List, [], ◌∷◌, ◌++◌, length, drop, Bool, true, false, not, ◌&&◌, if◌then◌else◌, nat_eq, nat_le, nat_lt}
 use Rattle.std.proofs.Common.{refl, ap, arith}
 use Rattle.std.specs.List.{starts_with, prefix_len, position_or_len}
-use Rattle.sno_talk.specs.Talks.{Talk, Asks}
 use Rattle.sno_nodes.specs.Patterns.{Pattern}
 use Rattle.sno_nodes.specs.Patterns as pattern
 use Rattle.sno_pattern.specs.declared.ending.Pending.{Pending}
 use Rattle.sno_pattern.specs.declared.host.Taken.TheVariants.{Part, Cursor}
-use Rattle.sno_pattern.specs.Looks.{Look, LookUp, Assign, Told}
-use Rattle.sno_pattern.specs.Steps.{Goal, Meet, More, EndConditional, EndImmediate, Success, Failure, WholeFails, OutOfSteps, Trying, Way, ends, on_failure, at_each, upward, part, is_one_of, begins_with, balanced_ends, with_found, if_given, row, attempt, outcome}
+use Rattle.sno_pattern.specs.Looks.{LookUp, Assign}
+use Rattle.sno_pattern.specs.Steps.{Goal, Meet, More, EndConditional, EndImmediate, Success, Failure, WholeFails, OutOfSteps, Way, ends, on_failure, at_each, upward, part, is_one_of, begins_with, balanced_ends, with_found, if_given, row, attempt, outcome}
 use Rattle.sno_pattern.proofs.Trying.{LeavesAtMost, Falls, Agree, leaves_more, fails_falls, fails_agree, if_falls, found_falls, given_falls, found_agrees, asks_same}
 
 module _ (go : Way) (falls : Falls go) where

@@ -1,7 +1,7 @@
 -- What one attempt and then another leave, and where they agree.
 use Rattle.std.specs.Prelude.{◌≡◌, ℕ, ◌≤◌, List, Bool, true, false, if◌then◌else◌}
 use Rattle.std.proofs.Common.{refl, ap, ◌∙◌, arith}
-use Rattle.sno_talk.specs.Talks.{Talk, Ends, Asks, ◌>>=◌}
+use Rattle.sno_talk.specs.Talks.{Ends, Asks}
 use Rattle.sno_talk.specs.Endings.{EndsIn}
 use Rattle.sno_talk.proofs.Binds.{funext}
 use Rattle.sno_talk.proofs.Enough.{ends_in_then, same_then}

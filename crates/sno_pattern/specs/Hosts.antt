@@ -1,9 +1,9 @@
 -- What a host's answers tell (own).
-use Rattle.std.specs.Prelude.{List, ℕ, Result, Ok, Err}
+use Rattle.std.specs.Prelude.{Result, Ok, Err}
 use Rattle.sno_pattern.specs.declared.host.Looked.{Looked}
 use Rattle.sno_pattern.specs.declared.host.Stop.{Stop}
 use Rattle.sno_pattern.specs.declared.host.Stop.TheVariants as why
-use Rattle.sno_pattern.specs.Looks.{Look, LookUp, Told, Found, Given, Refused, Faulty}
+use Rattle.sno_pattern.specs.Looks.{Look, Told, Found, Given, Refused, Faulty}
 
 module _ {S : Type 0} (tells : S → Look → Told → S → Type 0) (broken : S → Look → S → Type 0) where
   -- it told why it did not do what was asked; where memory was short, the call was broken off

@@ -2,7 +2,7 @@
 -- number of steps, BAL and ARBNO are own).
 use Rattle.std.specs.Prelude.{ℕ, zero, suc, ◌+◌, ◌-◌, List, [], ◌∷◌, ◌++◌, length, take, drop, Bool, true, false, not, ◌&&◌, if◌then◌else◌, nat_eq, nat_le, nat_lt}
 use Rattle.std.specs.List.{starts_with, filter, list_any, prefix_len, position_or_len}
-use Rattle.sno_talk.specs.Talks.{Talk, Ends, Asks, ask, ◌>>=◌}
+use Rattle.sno_talk.specs.Talks.{Talk, Ends, ask, ◌>>=◌}
 use Rattle.sno_text.specs.declared.fault.Fault.{Fault as AFault}
 use Rattle.sno_nodes.specs.Patterns.{Pattern}
 use Rattle.sno_nodes.specs.Patterns as pattern

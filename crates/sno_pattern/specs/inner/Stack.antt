@@ -1,6 +1,6 @@
 -- Goals, choices and turns of the program, by the definitions.
 use Rattle.std.specs.Prelude.{◌≡◌, ℕ, ◌+◌, ◌-◌, ◌≤◌, List, [], ◌∷◌, ◌++◌, length}
-use Rattle.sno_talk.specs.Talks.{Talk, Asks}
+use Rattle.sno_talk.specs.Talks.{Asks}
 use Rattle.sno_talk.specs.Holding.{Held, Cut}
 use Rattle.sno_nodes.specs.Nodes.{pattern_of}
 use Rattle.sno_pattern.specs.declared.goals.Goal.{Goal as AGoal}

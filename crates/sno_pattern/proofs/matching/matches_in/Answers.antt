@@ -1,10 +1,10 @@
-use Rattle.std.proofs.Common.{rules, ◌≡◌, IfOk, ℕ, suc, ◌+◌, ◌-◌, ◌<◌, ◌≤◌, length, Bool, true, false, List, [], ◌∷◌, ◌++◌, refl, sym, ap, ◌∙◌, subst, arith}
+use Rattle.std.proofs.Common.{rules, ◌≡◌, suc, ◌+◌, ◌-◌, length, refl, sym, ap, arith}
 use Rattle.std.specs.Prelude.{if◌then◌else◌}
-use Rattle.sno_pattern.specs.Steps.{match_of, Success, Failure, WholeFails, OutOfSteps, Fault}
+use Rattle.sno_pattern.specs.Steps.{match_of, Success, WholeFails, OutOfSteps, Fault}
 use Rattle.sno_pattern.specs.declared.ending.MatchEnd.TheVariants.{Matched, NoMatch, Limit, Fault as Faulted}
 use Rattle.sno_nodes.specs.Nodes.{pattern_of}
 use Rattle.sno_pattern.specs.inner.Stack.{waiting_of}
-use Rattle.sno_pattern.proofs.Run.{Came, finishing, came_stops, came_start, came_next, came_end, came_settles, came_breaks, err_holds}
+use Rattle.sno_pattern.proofs.Run.{finishing, came_stops, came_start, came_next, came_end, came_settles, came_breaks, err_holds}
 use Rattle.sno_pattern.proofs.matching.matches_in.Goals as goal
 use Rattle.sno_pattern.proofs.matching.matches_in.Goals.{then-anchored, else-anchored}
 

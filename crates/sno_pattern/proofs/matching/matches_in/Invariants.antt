@@ -1,4 +1,4 @@
-use Rattle.std.proofs.Common.{◌≡◌, ℕ, ◌+◌, ◌-◌, length}
+use Rattle.std.proofs.Common.{◌-◌}
 use Rattle.sno_pattern.specs.Steps.{match_of}
 use Rattle.sno_nodes.specs.Nodes.{pattern_of}
 use Rattle.sno_pattern.proofs.Run.{Came}

@@ -1,4 +1,4 @@
-use Rattle.std.proofs.Common.{◌≡◌, ◌≤◌, ◌+◌, length, get_or, sym, arith}
+use Rattle.std.proofs.Common.{get_or, sym, arith}
 use Rattle.sno_pattern.proofs.Balance.{balanced_is, onward, found, not_yet, few_more}
 use Rattle.sno_pattern.proofs.reach.next_balanced.Goals as goal
 

@@ -1,4 +1,4 @@
-use Rattle.std.proofs.Common.{◌≡◌, ap, sym}
+use Rattle.std.proofs.Common.{ap, sym}
 use Rattle.std.proofs.lemmas.Result.{IfOk-weaker}
 use Rattle.sno_nodes.specs.Nodes.{pattern_of}
 use Rattle.sno_pattern.specs.inner.Stack.{goals_of, waiting_of}

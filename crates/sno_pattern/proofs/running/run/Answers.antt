@@ -1,10 +1,10 @@
-use Rattle.std.proofs.Common.{rules, ◌≡◌, ◌≤◌, [], ◌∷◌, ◌++◌, suc, length, IfOk, ℕ, ◌+◌, ◌-◌, ◌<◌, List, refl, sym, ap, ◌∙◌, subst, arith}
+use Rattle.std.proofs.Common.{rules, [], ◌∷◌, sym, ◌∙◌}
 use Rattle.sno_talk.proofs.Held.{cut_here}
 use Rattle.sno_pattern.specs.Looks.{Fits}
 use Rattle.sno_pattern.specs.Steps.{Meet, outcome}
 use Rattle.sno_nodes.specs.Nodes.{pattern_of}
-use Rattle.sno_pattern.specs.inner.Stack.{goal_of, goals_of, waiting_of, end_of}
-use Rattle.sno_pattern.proofs.Run.{On, on_step, on_stays, on_success, on_out, on_breaks, err_holds}
+use Rattle.sno_pattern.specs.inner.Stack.{goal_of, goals_of, waiting_of}
+use Rattle.sno_pattern.proofs.Run.{on_step, on_stays, on_success, on_out, on_breaks, err_holds}
 use Rattle.sno_pattern.proofs.running.run.Goals as goal
 
 pub returns-in_err-done-clause-cut : goal.returns-in_err-done-clause-cut

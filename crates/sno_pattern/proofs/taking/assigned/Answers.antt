@@ -1,4 +1,4 @@
-use Rattle.std.proofs.Common.{◌≡◌, refl, ap}
+use Rattle.std.proofs.Common.{refl, ap}
 use Rattle.sno_pattern.specs.Looks.{Given, Refused, Faulty}
 use Rattle.sno_pattern.specs.inner.Stack.{goals_of, waiting_of, assigning}
 use Rattle.sno_pattern.proofs.Pushing.{went, faults, asked, asked_cut, asked_broken}
