@@ -1,0 +1,5 @@
+mod Looking
+pub mod Binding
+pub mod Leaving
+mod Steps
+mod Restoring

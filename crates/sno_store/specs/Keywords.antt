@@ -1,0 +1,91 @@
+-- Keywords (the SNOBOL4 book, chapter 6; limits, first values, ranges and faults are own).
+use Rattle.std.specs.Prelude.{ℕ, ℤ, pos, negsuc, nat_le, nat_lt, ◌+◌, ◌&&◌, Bool, true, false, not, List, codes, bytes_eq, Option, Some, None, Result, Ok, Err, if◌then◌else◌}
+use Rattle.std.specs.Ordering.{int_eq}
+use Rattle.sno_text.specs.declared.fault.Fault.{Fault}
+use Rattle.sno_text.specs.declared.fault.Fault.TheVariants as fault
+use Rattle.sno_store.specs.declared.keyword.Keyword.{Keyword}
+use Rattle.sno_store.specs.declared.keyword.Keyword.TheVariants.{Anchor, FullScan, Trim, StatementLimit, MaximumLength, StatementCount, StatementNumber, FunctionLevel}
+
+-- what keywords say
+pub record KeywordValues : Type 0 where
+  pub anchor : ℤ
+  pub full_scan : ℤ
+  pub trim : ℤ
+  -- how many statements may begin, and how many characters a string that is formed may have
+  pub statement_limit : ℕ
+  pub maximum_length : ℕ
+  -- how many statements were begun, and the one at hand
+  pub begun : ℕ
+  pub statement : ℕ
+
+-- at first, in a job that may begin so many statements
+abbrev pub first_keywords : ℕ → KeywordValues
+first_keywords limit = record { anchor = pos 0; full_scan = pos 0; trim = pos 0; statement_limit = limit; maximum_length = 5000; begun = 0; statement = 0 }
+
+-- those that are only read
+abbrev pub read_keyword_named : List ℕ → Option Keyword
+read_keyword_named name =
+    if bytes_eq name (codes "STCOUNT") then Some StatementCount
+    else if bytes_eq name (codes "STNO") then Some StatementNumber
+    else if bytes_eq name (codes "FNCLEVEL") then Some FunctionLevel
+    else None
+
+abbrev pub keyword_named : List ℕ → Option Keyword
+keyword_named name =
+    if bytes_eq name (codes "ANCHOR") then Some Anchor
+    else if bytes_eq name (codes "FULLSCAN") then Some FullScan
+    else if bytes_eq name (codes "TRIM") then Some Trim
+    else if bytes_eq name (codes "STLIMIT") then Some StatementLimit
+    else if bytes_eq name (codes "MAXLNGTH") then Some MaximumLength
+    else read_keyword_named name
+
+-- the value of a keyword, so many calls deep
+abbrev pub keyword_value : Keyword → ℕ → KeywordValues → ℤ
+keyword_value Anchor level k = k.anchor
+keyword_value FullScan level k = k.full_scan
+keyword_value Trim level k = k.trim
+keyword_value StatementLimit level k = pos k.statement_limit
+keyword_value MaximumLength level k = pos k.maximum_length
+keyword_value StatementCount level k = pos k.begun
+keyword_value StatementNumber level k = pos k.statement
+keyword_value FunctionLevel level k = pos level
+
+-- whether a program may set it
+abbrev pub is_settable : Keyword → Bool
+is_settable StatementCount = false
+is_settable StatementNumber = false
+is_settable FunctionLevel = false
+is_settable _ = true
+
+-- a limit of statements is not negative
+abbrev pub with_statement_limit : ℤ → KeywordValues → Result KeywordValues Fault
+with_statement_limit (pos n) k = Ok (record k { statement_limit = n })
+with_statement_limit (negsuc n) k = Err fault.Keyword
+
+-- and one of characters is at most 100,000
+abbrev pub with_maximum_length : ℤ → KeywordValues → Result KeywordValues Fault
+with_maximum_length (pos n) k = if nat_le n 100000 then Ok (record k { maximum_length = n }) else Err fault.Keyword
+with_maximum_length (negsuc n) k = Err fault.Keyword
+
+abbrev pub with_keyword : Keyword → ℤ → KeywordValues → Result KeywordValues Fault
+with_keyword Anchor z k = Ok (record k { anchor = z })
+with_keyword FullScan z k = Ok (record k { full_scan = z })
+with_keyword Trim z k = Ok (record k { trim = z })
+with_keyword StatementLimit z k = with_statement_limit z k
+with_keyword MaximumLength z k = with_maximum_length z k
+with_keyword _ z k = Err fault.Keyword
+
+-- whether a statement may begin, in a job that may begin so many
+abbrev pub begins : ℕ → KeywordValues → Bool
+begins limit k = nat_lt k.begun k.statement_limit && nat_lt k.begun limit
+
+abbrev pub with_begun : ℕ → KeywordValues → KeywordValues
+with_begun statement k = record k { begun = k.begun + 1; statement = statement }
+
+-- back at a statement that called
+abbrev pub at_statement : ℕ → KeywordValues → KeywordValues
+at_statement statement k = record k { statement = statement }
+
+-- blanks at the end of records that are read are dropped where &TRIM is not 0
+abbrev pub trims : KeywordValues → Bool
+trims k = not (int_eq k.trim (pos 0))

@@ -1,0 +1,116 @@
+//! Functions that were defined.
+ghost use Rattle.std.specs.Prelude.{◌≡◌, [], nat_eq, IfOk, OnOk, OnErr};
+ghost use Rattle.std.specs.Option.{option_copied};
+ghost use Rattle.std.specs.Map.{lookup};
+ghost use Rattle.std.specs.Cmp.Lexicographic.{pointwise};
+ghost use Rattle.indexmap.specs.IndexMap.{insert_entry};
+
+use indexmap::IndexMap;
+use sno_prototype::Prototype;
+use sno_text::Text;
+use std::alloc::{AllocError, Global};
+use std::marker::Model;
+use std::rc::Rc;
+
+/// What DEFINE says of a function.
+#[derive(Drop)]
+pub struct Definition {
+    pub prototype: Prototype,
+    /// The label of the statement with which a call begins.
+    pub entry: Text,
+}
+
+/// A definition that is shared, so that a call goes on with the one that it began with.
+#[derive(Drop)]
+pub struct Function {
+    definition: Rc<Definition>,
+}
+
+impl Model for Function {
+    ghost use Rattle.sno_store.specs.declared.function.Definition.{Definition};
+
+    ghost Value = { Definition };
+
+    ghost view = { λ f. f.definition.value };
+}
+
+impl Function {
+    /// A function that is defined so.
+    ///
+    /// # Errors
+    ///
+    /// Where a growth was refused.
+    pub fn new(alloc: Global, definition: Definition) -> Result<Function, AllocError>
+        ensures { IfOk result (λ f. f ≡ definition) }
+    {
+        let definition = Rc::new(alloc, definition)?;
+        Ok(Function { definition })
+    }
+
+    /// What was said of it.
+    pub fn definition(&self) -> &Definition
+        ensures { result.now ≡ self.now }
+    {
+        self.definition.as_ref()
+    }
+
+    /// The same function once more. It takes no memory.
+    ///
+    /// # Errors
+    ///
+    /// Where as many share it as can be counted.
+    pub fn copy(&self) -> Result<Function, AllocError>
+        ensures { IfOk result (λ f. f ≡ self.now) }
+    {
+        let definition = self.definition.clone()?;
+        Ok(Function { definition })
+    }
+}
+
+/// The functions of a job by their names.
+#[derive(Drop)]
+pub struct Functions {
+    functions: IndexMap<Text, Function>,
+}
+
+impl Model for Functions {
+    ghost use Rattle.std.specs.Prelude.{ℕ, List};
+    ghost use Rattle.sno_store.specs.declared.function.Definition.{Definition};
+
+    ghost Value = { List (List ℕ × Definition) };
+
+    ghost view = { λ f. f.functions.entries };
+}
+
+impl Functions {
+    /// No functions.
+    pub fn new(alloc: Global) -> Functions
+        ensures { result ≡ [] }
+    {
+        Functions {
+            functions: IndexMap::new(alloc),
+        }
+    }
+
+    /// The function of a name.
+    pub fn get(&self, name: &Text) -> Option<&Function>
+        ensures { option_copied result ≡ lookup (pointwise nat_eq name.now) self.now }
+    {
+        self.functions.get(name)
+    }
+
+    /// Defines a function, in place of one of its name.
+    ///
+    /// # Errors
+    ///
+    /// Where a growth was refused; nothing has changed then.
+    pub fn define(&mut self, name: Text, function: Function) -> Result<(), AllocError>
+        ensures defined { OnOk result (self.new ≡ insert_entry (pointwise nat_eq) self.old name function) }
+        ensures unchanged { OnErr result (self.new ≡ self.old) }
+    {
+        match self.functions.insert(name, function) {
+            Ok(_) => Ok(()),
+            Err(_) => Err(AllocError),
+        }
+    }
+}

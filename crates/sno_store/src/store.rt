@@ -1,0 +1,353 @@
+//! The state of a job.
+ghost use Rattle.std.specs.Prelude.{◌≡◌, ◌<◌, ◌^◌, length, IfOk, OnOk, OnErr, if◌then◌else◌};
+ghost use Rattle.std.specs.Option.{option_copied};
+ghost use Rattle.mon_text.specs.Stops.{Gives};
+ghost use Rattle.sno_store.specs.Variables.{variable_of, value_of, use_of, seen};
+ghost use Rattle.sno_store.specs.States.{first_state, with_value, with_name, kept_of, with_input, with_output, without_associations, prototype_in, entry_in, definition_in, with_function, function_of, value_of_keyword, with_keyword_set, may_begin, with_statement};
+ghost use Rattle.sno_store.specs.Calls.{level_of, entered, restored, left, given_back};
+ghost use Rattle.sno_store.specs.inner.Answers.{Answers};
+
+use crate::argument::{input_in, name_in, output_in};
+use crate::first::first_variables;
+use crate::function::{Definition, Function, Functions};
+use crate::keyword::{Keyword, Keywords, StatementNumber};
+use crate::level::{Level, Levels};
+use crate::variable::{Found, Input, Output};
+use crate::variables::{Variables, copy_of};
+use mon_text::{Line, Stop};
+use sno_prototype::{Prototype, read_prototype};
+use sno_text::{Fault, Named, Text};
+use sno_value::Value;
+use std::alloc::{AllocError, Global};
+
+/// The state of a job. Its fields are what statements change.
+#[derive(Drop)]
+pub struct Store {
+    variables: Variables,
+    functions: Functions,
+    keywords: Keywords,
+    levels: Levels,
+}
+
+impl Store {
+    /// The state of a job that may begin so many statements, at first.
+    ///
+    /// # Errors
+    ///
+    /// Where a growth was refused.
+    pub fn new(alloc: Global, limit: u64) -> Result<Store, AllocError>
+        requires { limit < 2 ^ 63 }
+        ensures { IfOk result (λ store. store ≡ first_state limit) }
+    {
+        let variables = first_variables(alloc)?;
+        Ok(Store {
+            variables,
+            functions: Functions::new(alloc),
+            keywords: Keywords::new(limit),
+            levels: Levels::new(alloc),
+        })
+    }
+
+    /// What using a variable meets. It takes no memory.
+    pub fn get(&self, name: &Named) -> Found<'_>
+        ensures { seen result ≡ use_of (variable_of name.now self.now.variables) }
+    {
+        self.variables.found(name)
+    }
+
+    /// Gives a variable a value, and tells where that is to be written.
+    ///
+    /// # Errors
+    ///
+    /// Where a growth was refused; nothing has changed then.
+    pub fn set(&mut self, name: &Named, value: Value) -> Result<Option<Output>, AllocError>
+        ensures stored { OnOk result (self.new ≡ with_value name.now value self.old) }
+        ensures output { IfOk result (λ output. output ≡ (variable_of name.now self.old.variables).output) }
+        ensures unchanged { OnErr result (self.new ≡ self.old) }
+    {
+        let output = self.variables.output(name);
+        self.variables.give(name, value)?;
+        Ok(output)
+    }
+
+    /// Names a variable, and tells its place.
+    ///
+    /// # Errors
+    ///
+    /// Where a growth was refused; nothing has changed then.
+    pub fn note(&mut self, name: Text) -> Result<Named, AllocError>
+        ensures name { IfOk result (λ named. named ≡ name) }
+        ensures noted { OnOk result (self.new ≡ with_name name self.old) }
+        ensures unchanged { OnErr result (self.new ≡ self.old) }
+    {
+        self.variables.note(name)
+    }
+
+    /// The function of a name. It takes no memory.
+    pub fn function(&self, name: &Text) -> Option<&Function>
+        ensures { option_copied result ≡ function_of name.now self.now }
+    {
+        self.functions.get(name)
+    }
+
+    /// What is kept of a record that is read: its first characters, without the blanks at the end of these where `&TRIM` is
+    /// not 0.
+    ///
+    /// # Errors
+    ///
+    /// Where a growth was refused.
+    #[tactic(auto, using(sno_text::proofs::Printable::line_of_take))]
+    pub fn kept(&self, alloc: Global, input: Input, line: &Line) -> Result<Text, AllocError>
+        ensures { IfOk result (λ text. text ≡ kept_of input self.now.keywords line.now) }
+    {
+        let line = line.as_bytes();
+        let most = if line.len() as u64 <= input.most {
+            line.len()
+        } else {
+            input.most as usize
+        };
+        let kept = Text::of_slice(alloc, &line[..most])?;
+        if self.keywords.trims() {
+            kept.trimmed(alloc)
+        } else {
+            Ok(kept)
+        }
+    }
+
+    /// `INPUT(name, unit, most)`.
+    ///
+    /// # Errors
+    ///
+    /// For the name `WrongType` or `Null`, then for the unit `WrongType` or `BadUnit`, then `Format`; `Memory` where a
+    /// growth was refused. Nothing has changed then.
+    pub fn associate_input(
+        &mut self,
+        alloc: Global,
+        name: &Value,
+        unit: &Value,
+        most: &Value,
+    ) -> Result<(), Stop<Fault>>
+        ensures answered { Gives (λ _. self.new) result (with_input name.now unit.now most.now self.old) }
+        ensures unchanged { OnErr result (self.new ≡ self.old) }
+    {
+        let name = name_in(alloc, name)?;
+        match input_in(unit, most) {
+            Ok(input) => {
+                self.variables.read_from(&Named::new(name, 0), input)?;
+                Ok(())
+            }
+            Err(fault) => Err(Stop::Refused(fault)),
+        }
+    }
+
+    /// `OUTPUT(name, unit, format)`.
+    ///
+    /// # Errors
+    ///
+    /// For the name `WrongType` or `Null`, then for the unit `WrongType` or `BadUnit`, then `Format`; `Memory` where a
+    /// growth was refused. Nothing has changed then.
+    pub fn associate_output(
+        &mut self,
+        alloc: Global,
+        name: &Value,
+        unit: &Value,
+        format: &Value,
+    ) -> Result<(), Stop<Fault>>
+        ensures answered { Gives (λ _. self.new) result (with_output name.now unit.now format.now self.old) }
+        ensures unchanged { OnErr result (self.new ≡ self.old) }
+    {
+        let name = name_in(alloc, name)?;
+        let output = output_in(alloc, unit, format)?;
+        self.variables.write_to(&Named::new(name, 0), output)?;
+        Ok(())
+    }
+
+    /// `DETACH(name)`: both associations of a variable are taken away.
+    ///
+    /// # Errors
+    ///
+    /// `WrongType` or `Null` for the name; `Memory` where a growth was refused. Nothing has changed then.
+    pub fn detach(&mut self, alloc: Global, name: &Value) -> Result<(), Stop<Fault>>
+        ensures answered { Gives (λ _. self.new) result (without_associations name.now self.old) }
+        ensures unchanged { OnErr result (self.new ≡ self.old) }
+    {
+        let name = name_in(alloc, name)?;
+        self.variables.detach(&Named::new(name, 0))?;
+        Ok(())
+    }
+
+    /// `DEFINE(prototype, entry)`.
+    ///
+    /// # Errors
+    ///
+    /// `WrongType` or `Prototype` for the prototype, then `WrongType` for the entry; `Memory` where a growth was refused.
+    /// Nothing has changed then.
+    pub fn define(
+        &mut self,
+        alloc: Global,
+        prototype: &Value,
+        entry: &Value,
+    ) -> Result<(), Stop<Fault>>
+        ensures answered { Gives (λ _. self.new) result (with_function prototype.now entry.now self.old) }
+        ensures unchanged { OnErr result (self.new ≡ self.old) }
+    {
+        let definition = definition_in(alloc, prototype, entry)?;
+        let name = definition.prototype.name.text().copy()?;
+        let function = Function::new(alloc, definition)?;
+        self.functions.define(name, function)?;
+        Ok(())
+    }
+
+    /// The value of a keyword. It takes no memory.
+    pub fn keyword(&self, keyword: Keyword) -> i64
+        ensures { result ≡ value_of_keyword keyword self.now }
+    {
+        self.keywords.value(keyword, self.levels.len())
+    }
+
+    /// An assignment to a keyword. It takes no memory.
+    ///
+    /// # Errors
+    ///
+    /// `Keyword` where a program may not set it, then `WrongType` where the value has no number, then `Keyword` where the
+    /// number is out of range. Nothing has changed then.
+    pub fn set_keyword(&mut self, keyword: Keyword, value: &Value) -> Result<(), Fault>
+        ensures { Answers result self.old self.new (with_keyword_set keyword value.now self.old) }
+    {
+        if !keyword.is_settable() {
+            return Err(Fault::Keyword);
+        }
+        match value.to_number() {
+            Some(number) => self.keywords.set(keyword, number),
+            None => Err(Fault::WrongType),
+        }
+    }
+
+    /// Begins a statement, if one may begin in a job that may begin so many. It tells whether it did.
+    pub fn begin(&mut self, statement: StatementNumber, limit: u64) -> bool
+        ensures begins { result ≡ may_begin limit self.old }
+        ensures begun { self.new ≡ (if result then with_statement statement self.old else self.old) }
+    {
+        self.keywords.begin(statement, limit)
+    }
+
+    /// How many statements were begun.
+    pub fn begun(&self) -> u64
+        ensures { result ≡ self.now.keywords.begun }
+    {
+        self.keywords.begun()
+    }
+
+    /// The most characters of a string that is formed.
+    pub fn maximum_length(&self) -> u64
+        ensures { result ≡ self.now.keywords.maximum_length }
+    {
+        self.keywords.maximum_length()
+    }
+
+    /// How many calls are not at their end.
+    pub fn level(&self) -> u64
+        ensures { result ≡ length self.now.levels }
+    {
+        self.levels.len()
+    }
+
+    fn level_of(&self, alloc: Global, definition: &Definition) -> Result<Level, AllocError>
+        ensures { IfOk result (λ level. level ≡ level_of definition.now self.now) }
+    {
+        let saved = self.variables.saved(alloc, &definition.prototype)?;
+        let name = copy_of(&definition.prototype.name)?;
+        Ok(Level {
+            name,
+            saved,
+            statement: self.keywords.statement(),
+        })
+    }
+
+    /// Calls a function with arguments: saves what its variables have, and gives them what the call gives them.
+    ///
+    /// # Errors
+    ///
+    /// Where a growth was refused. The job is over then: some variables may be set.
+    pub fn enter(
+        &mut self,
+        alloc: Global,
+        function: &Function,
+        arguments: &[Value],
+    ) -> Result<(), AllocError>
+        ensures { OnOk result (self.new ≡ entered function.now arguments.now self.old) }
+    {
+        let definition = function.definition();
+        let level = self.level_of(alloc, definition)?;
+        self.levels.push(level)?;
+        self.variables.start(&definition.prototype, arguments)
+    }
+
+    /// Ends the innermost call: restores what its variables had, and gives the value of the function's name. Where there is
+    /// no call nothing changes.
+    ///
+    /// # Errors
+    ///
+    /// Where a growth was refused. The job is over then: some variables may be restored.
+    #[tactic(auto, using(crate::proofs::Leaving::left_one, crate::proofs::Leaving::given_one, crate::proofs::Leaving::left_none, crate::proofs::Leaving::given_none))]
+    pub fn leave(&mut self) -> Result<Value, AllocError>
+        ensures value { IfOk result (λ v. v ≡ given_back self.old) }
+        ensures left { OnOk result (self.new ≡ left self.old) }
+    {
+        match self.levels.pop() {
+            Some(level) => self.restore(level),
+            None => Ok(Value::null()),
+        }
+    }
+
+    fn restore(&mut self, level: Level) -> Result<Value, AllocError>
+        ensures value { IfOk result (λ v. v ≡ value_of level.name self.old.variables) }
+        ensures restored { OnOk result (self.new ≡ restored level self.old) }
+    {
+        let Level {
+            name,
+            saved,
+            statement,
+        } = level;
+        let value = self.variables.value(&name)?;
+        self.variables.assign(saved)?;
+        self.keywords.go_back(statement);
+        Ok(value)
+    }
+}
+
+fn prototype_in(alloc: Global, value: &Value) -> Result<Prototype, Stop<Fault>>
+    ensures { Gives (λ prototype. prototype) result (prototype_in value.now) }
+{
+    match value.to_text(alloc)? {
+        Some(text) => match read_prototype(alloc, text.as_bytes())? {
+            Some(prototype) => Ok(prototype),
+            None => Err(Stop::Refused(Fault::Prototype)),
+        },
+        None => Err(Stop::Refused(Fault::WrongType)),
+    }
+}
+
+fn entry_in(alloc: Global, name: &Named, value: &Value) -> Result<Text, Stop<Fault>>
+    ensures { Gives (λ entry. entry) result (entry_in name.now value.now) }
+{
+    match value.to_text(alloc)? {
+        Some(text) => {
+            if text.is_null() {
+                let name = name.text().copy()?;
+                Ok(name)
+            } else {
+                Ok(text)
+            }
+        }
+        None => Err(Stop::Refused(Fault::WrongType)),
+    }
+}
+
+fn definition_in(alloc: Global, prototype: &Value, entry: &Value) -> Result<Definition, Stop<Fault>>
+    ensures { Gives (λ definition. definition) result (definition_in prototype.now entry.now) }
+{
+    let prototype = prototype_in(alloc, prototype)?;
+    let entry = entry_in(alloc, &prototype.name, entry)?;
+    Ok(Definition { prototype, entry })
+}
