@@ -2,7 +2,7 @@
 use Rattle.std.proofs.Common.{◌≡◌, refl}
 use Rattle.std.specs.Prelude.{Bool, true, false, ◌&&◌}
 use Rattle.sno_expression.specs.Marks.{needs_variable, operand_is_variable}
-use Rattle.sno_expression.specs.Expressions.{Expression, Arguments, Identifier, Constant, Keyword, Unevaluated, Group, Call, Unary, Binary, NoArguments, Omitted, Argument, is_variable, Fits, HasVariables, HaveVariables}
+use Rattle.sno_expression.specs.Expressions.{Expression, Arguments, Group, Call, Unary, Binary, NoArguments, Omitted, Argument, Fits, HasVariables, HaveVariables}
 use Rattle.sno_expression.proofs.Levels.{and_left, and_right}
 use Rattle.sno_expression.specs.inner.Variables.{is_fit, has_variables, have_variables}
 

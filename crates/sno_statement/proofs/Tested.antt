@@ -1,5 +1,5 @@
 -- The test for variables says what it should.
-use Rattle.std.proofs.Common.{◌≡◌, refl, sym, ◌∙◌}
+use Rattle.std.proofs.Common.{◌≡◌, refl, sym}
 use Rattle.std.specs.Prelude.{Bool, true, false, ◌&&◌, Option, Some, None, if◌then◌else◌}
 use Rattle.sno_expression.specs.Expressions.{Expression}
 use Rattle.sno_expression.specs.inner.Variables.{has_variables}

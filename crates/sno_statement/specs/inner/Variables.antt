@@ -1,5 +1,5 @@
 -- Whether a statement has a variable in each place that needs one, as a test.
-use Rattle.std.specs.Prelude.{Bool, true, false, ◌&&◌, Option, Some, None, if◌then◌else◌}
+use Rattle.std.specs.Prelude.{Bool, true, ◌&&◌, Option, Some, None, if◌then◌else◌}
 use Rattle.sno_expression.specs.Expressions.{Expression}
 use Rattle.sno_expression.specs.inner.Variables.{has_variables}
 use Rattle.sno_statement.specs.declared.walking.SubjectKind.{SubjectKind}

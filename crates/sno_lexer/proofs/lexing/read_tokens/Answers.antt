@@ -1,9 +1,8 @@
-use Rattle.std.proofs.Common.{arith, ◌+◌, ◌-◌, ◌<◌, ◌≡◌, ◌∙◌, ℕ, List, [], ◌∷◌, ◌++◌, Ok, Err, ap, sym, length, drop, take, get_or}
+use Rattle.std.proofs.Common.{arith, ◌+◌, ◌-◌, ◌≡◌, ◌∙◌, ℕ, List, Ok, Err, ap, sym, length, drop, take, get_or}
 use Rattle.std.specs.Prelude.{false, true, nat_lt}
 use Rattle.std.proofs.lemmas.List.{take_rest}
 use Rattle.std.proofs.lemmas.Bool.Decides.{nat_tests}
 use Rattle.sno_lexer.specs.declared.lexing.Action.TheVariants.{Take, Refuse}
-use Rattle.sno_lexer.specs.inner.Classes.{begins_with}
 use Rattle.sno_lexer.specs.inner.Lexing.{stage, step}
 use Rattle.sno_lexer.specs.Lexed.{lexed}
 use Rattle.sno_lexer.proofs.Runs.{more}
