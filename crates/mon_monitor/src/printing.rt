@@ -73,10 +73,17 @@ fn put_entries(entries: &[Entry], mask: Option<Perms>, out: &mut Vec<u8>) -> Res
     ensures { OnOk result (out.new.items ≡ out.old.items ++ flat_map (acl_line mask) entries.now) }
 {
     for entry in entries {
-        out.push(b' ')?;
-        entry.put_line(mask, out)?;
+        put_acl_line(entry, mask, out)?;
     }
     Ok(())
+}
+
+// Appends the line of an entry under a mask.
+fn put_acl_line(entry: &Entry, mask: Option<Perms>, out: &mut Vec<u8>) -> Result<(), AllocError>
+    ensures { OnOk result (out.new.items ≡ out.old.items ++ acl_line mask entry.now) }
+{
+    out.push(b' ')?;
+    entry.put_line(mask, out)
 }
 
 // Appends a data set's name, its owner, its group and the number of its records.

@@ -252,19 +252,27 @@ static CASES: [Case; 12] = [
     },
 ];
 
-/// The groups of an account beside its primary one: at most one here.
-fn groups_of(alloc: Global, further: Option<Name>) -> Option<Groups> {
-    let mut groups = Groups::new(alloc);
-    if let Some(name) = further {
-        groups.push(name).ok()?;
+/// Whether a further group is added, or none is named.
+fn is_added(groups: &mut Groups, further: &[u8]) -> bool {
+    match read_name(further) {
+        Ok(group) => groups.push(group).is_ok(),
+        Err(_) => further.is_empty(),
     }
-    Some(groups)
 }
 
-fn account(alloc: Global, (name, primary, further): Names) -> Option<Account> {
+fn groups_of(alloc: Global, further: &[u8]) -> Option<Groups> {
+    let mut groups = Groups::new(alloc);
+    if is_added(&mut groups, further) {
+        Some(groups)
+    } else {
+        None
+    }
+}
+
+pub(crate) fn account(alloc: Global, (name, primary, further): Names) -> Option<Account> {
     let name = read_name(name).ok()?;
     let primary = read_name(primary).ok()?;
-    let groups = groups_of(alloc, read_name(further).ok())?;
+    let groups = groups_of(alloc, further)?;
     Some(Account {
         name,
         primary,
@@ -273,7 +281,7 @@ fn account(alloc: Global, (name, primary, further): Names) -> Option<Account> {
 }
 
 /// An account's name, its primary group, and a further one, or nothing.
-type Names = (&'static [u8], &'static [u8], &'static [u8]);
+pub(crate) type Names = (&'static [u8], &'static [u8], &'static [u8]);
 
 fn names_of(who: Who) -> Names {
     match who {

@@ -1,20 +1,11 @@
 //! A list of the largest size, given where memory is ample. The worked requests are decks, which the program `rows` runs.
-use mon_access::{Account, Groups};
+use crate::access::account;
+use mon_access::Account;
 use mon_acl::{AclText, Bytes};
 use mon_catalogue::Catalogue;
 use mon_guard::{Guard, GuardAnswer};
 use mon_text::{Name, put_number, read_name};
 use std::alloc::Global;
-
-fn lisa(alloc: Global) -> Option<Account> {
-    let name = read_name(b"lisa").ok()?;
-    let primary = read_name(b"staff").ok()?;
-    Some(Account {
-        name,
-        primary,
-        groups: Groups::new(alloc),
-    })
-}
 
 fn put_user(number: u64, text: &mut Vec<u8>) -> bool {
     text.extend_from_slice(b",u:n").is_ok()
@@ -55,7 +46,11 @@ fn is_given(alloc: Global, lisa: &Account, name: &Name, text: &AclText, entries:
 }
 
 fn gives_hundred_users(alloc: Global) -> bool {
-    match (lisa(alloc), read_name(b"PLAN"), hundred_users(alloc)) {
+    match (
+        account(alloc, (b"lisa", b"staff", b"")),
+        read_name(b"PLAN"),
+        hundred_users(alloc),
+    ) {
         (Some(lisa), Ok(name), Some(text)) => is_given(alloc, &lisa, &name, &text, 104),
         _ => false,
     }

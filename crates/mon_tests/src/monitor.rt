@@ -1,23 +1,14 @@
 //! A growth that is refused. The worked commands are decks, which the program `rows` runs.
-use mon_access::{Account, Accounts, Groups};
+use crate::access::account;
+use mon_access::Accounts;
 use mon_catalogue::Catalogue;
 use mon_monitor::{Command, Monitor};
 use mon_text::read_name;
 use std::alloc::Global;
 
-fn anna(alloc: Global) -> Option<Account> {
-    let name = read_name(b"anna").ok()?;
-    let primary = read_name(b"admin").ok()?;
-    Some(Account {
-        name,
-        primary,
-        groups: Groups::new(alloc),
-    })
-}
-
 // A monitor with one account and no data set.
 fn monitor_of(alloc: Global) -> Option<Monitor> {
-    let anna = anna(alloc)?;
+    let anna = account(alloc, (b"anna", b"admin", b""))?;
     let mut accounts = Accounts::new(alloc);
     accounts.add(anna).ok()?;
     Some(Monitor::new(accounts, Catalogue::new(alloc), 4))

@@ -1,9 +1,9 @@
 //! A worked deck, the words that it is run with, and what a run of it has to show.
-ghost use Rattle.std.specs.Prelude.{◌≡◌, ◌≢◌, ℕ, Bool, IfSome, None};
+ghost use Rattle.std.specs.Prelude.{◌≡◌, ◌≢◌, Bool, IfSome, None};
 ghost use Rattle.rows.specs.Words.{words_for};
 
-use crate::difference::{Difference, first_difference};
-use anyhow::{Context, Result, bail};
+use crate::difference::first_difference;
+use anyhow::{Context, Result};
 use mon_deck::{MemReader, MemWriter, Options, exit_status, put_fault, run_deck};
 use std::alloc::{AllocError, Global};
 use std::fs;
@@ -84,32 +84,36 @@ fn read_part<R: Files + AllocGlobal>(rt: &R, name: &str, part: &str) -> Result<V
 }
 
 fn read_status<R: Files + AllocGlobal>(rt: &R, name: &str) -> Result<u8> {
-    let path = format!(in rt.alloc(); "cases/{name}/status")?;
-    let text = fs::read_to_string(rt, path.as_str()).context(format_args!("reading {path}"))?;
-    text.trim()
-        .parse::<u8>()
-        .context(format_args!("reading {path}"))
+    let text = read_part(rt, name, "status")?;
+    status_of(text.as_slice()).context("a status is a digit on a line of its own")
 }
 
 fn read_args<R: Files + AllocGlobal>(rt: &R, name: &str) -> Result<Options> {
-    let path = format!(in rt.alloc(); "cases/{name}/args")?;
-    let words = fs::read_to_string(rt, path.as_str()).context(format_args!("reading {path}"))?;
-    match options_of(words.as_str()) {
-        Some(options) => Ok(options),
-        None => bail!("{path} gives no options"),
+    let words = read_part(rt, name, "args")?;
+    options_of(words.as_slice()).context("args has `--check` on a line of its own, or nothing")
+}
+
+/// The exit status that a digit on a line of its own tells.
+fn status_of(text: &[u8]) -> Option<u8> {
+    match text {
+        [digit, b'\n'] => digit.checked_sub(b'0'),
+        _ => None,
     }
 }
 
 /// The options that the words of a case give: `--check` on a line of its own, or no word.
-fn options_of(words: &str) -> Option<Options>
+fn options_of(words: &[u8]) -> Option<Options>
     ensures given { IfSome result (λ options. (options.slots.number ≡ 4) × (words.now ≡ words_for options.check)) }
     ensures refused { result ≡ None → (check : Bool) → words.now ≢ words_for check }
 {
     let mut options = Options::new();
-    options.check = match words {
-        "" => false,
-        "--check\n" => true,
-        _ => return None,
-    };
-    Some(options)
+    if words == b"--check\n".as_slice() {
+        options.check = true;
+        Some(options)
+    } else if words == b"".as_slice() {
+        options.check = false;
+        Some(options)
+    } else {
+        None
+    }
 }

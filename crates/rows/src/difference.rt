@@ -5,6 +5,9 @@ ghost use Rattle.rows.specs.Outcomes.{AreSame};
 use crate::case::Outcome;
 use std::fmt;
 
+/// What stands for a line where a text ends before it.
+const NO_LINE: &[u8] = b"(no line)";
+
 /// The first difference between two outcomes.
 #[derive(Drop)]
 pub enum Difference<'a> {
@@ -36,15 +39,13 @@ impl fmt::Display for Difference<'_> {
 
 impl fmt::Display for LineDifference<'_> {
     fn fmt<W: fmt::Write>(&self, f: &mut fmt::Formatter<W>) -> fmt::Result {
-        write!(f, "{}, line {}: ", self.stream, self.number)?;
-        match self.wanted {
-            Some(line) => write!(f, "`{}` is wanted, and ", line.escape_ascii())?,
-            None => write!(f, "no line is wanted, and ")?,
-        }
-        match self.seen {
-            Some(line) => write!(f, "not `{}`", line.escape_ascii()),
-            None => write!(f, "there is none"),
-        }
+        let wanted = self.wanted.unwrap_or(NO_LINE).escape_ascii();
+        let seen = self.seen.unwrap_or(NO_LINE).escape_ascii();
+        write!(
+            f,
+            "{}, line {}: `{wanted}` is wanted, and not `{seen}`",
+            self.stream, self.number
+        )
     }
 }
 
