@@ -2,6 +2,7 @@ pub mod Balance
 pub mod Counted
 pub mod Exact
 mod Examples
+pub mod Finding
 pub mod Pushing
 pub mod Reaches
 pub mod Run

@@ -1,5 +1,5 @@
 -- What holds of every match, as statements.
-use Rattle.std.specs.Prelude.{◌≡◌, ◌≢◌, ℕ, suc, ◌<◌, ◌≤◌, List, ◌∷◌, ◌++◌, Bool}
+use Rattle.std.specs.Prelude.{◌≡◌, ◌≢◌, ℕ, suc, ◌<◌, ◌≤◌, List, ◌∷◌, [], ◌++◌, length, Bool}
 use Rattle.sno_talk.specs.Exchanges.{Exchange, replies, Tells}
 use Rattle.sno_talk.specs.Endings.{EndsIn}
 use Rattle.sno_nodes.specs.Patterns.{Pattern}
@@ -7,7 +7,8 @@ use Rattle.sno_pattern.specs.declared.ending.Pending.{Pending}
 use Rattle.sno_pattern.specs.declared.ending.MatchEnd.{MatchEnd}
 use Rattle.sno_pattern.specs.declared.ending.MatchEnd.TheVariants.{Limit}
 use Rattle.sno_pattern.specs.Looks.{Look, Told, Fits}
-use Rattle.sno_pattern.specs.Steps.{Goal, row, attempt, outcome, Finish, counted_match, match_of}
+use Rattle.sno_pattern.specs.Places.{IsSimple, ends_of, Comes}
+use Rattle.sno_pattern.specs.Steps.{Goal, Meet, row, attempt, outcome, Finish, counted_match, match_of}
 
 -- taking a goal off is one step, and the rest goes on as goals come out
 abbrev pub TakesOff : Type 0
@@ -47,3 +48,9 @@ abbrev pub MatchesAlike : Type 0
 MatchesAlike = (text : List ℕ) (p : Pattern) (anchored : Bool) (limit : ℕ) (x y more others : List (Exchange Look Told)) (a b : MatchEnd)
     → Tells Fits (match_of text p anchored limit) x a → Tells Fits (match_of text p anchored limit) y b
     → replies (x ++ more) ≡ replies (y ++ others) → (x ≡ y) × (a ≡ b)
+
+-- a pattern that asks no host and cuts nothing off comes out at the first of its ends, and fails where it has none, unless
+-- steps run out
+abbrev pub FirstEnd : Type 0
+FirstEnd = (text : List ℕ) (a : Pattern) (c : ℕ) (p : List Pending) (n : ℕ)
+    → IsSimple a → c ≤ length text → Comes (ends_of text a c) (outcome text (Meet a ∷ []) c p n)

@@ -1,5 +1,5 @@
 //! Laws over the definitions alone. Each is the contract of a function that does nothing.
-ghost use Rattle.sno_pattern.specs.Laws.{TakesOff, StepsFall, AnyDepth, NeedsSteps, StepsAreExact, MatchesAlike};
+ghost use Rattle.sno_pattern.specs.Laws.{TakesOff, StepsFall, AnyDepth, NeedsSteps, StepsAreExact, MatchesAlike, FirstEnd};
 
 /// Taking a goal off is one step, and the rest goes on as goals come out.
 pub fn takes_off()
@@ -29,4 +29,9 @@ pub fn steps_are_exact()
 /// Two matches whose hosts answer alike ask the same and end alike.
 pub fn matches_alike()
     ensures { MatchesAlike }
+{}
+
+/// A pattern that asks no host and cuts nothing off comes out at the first of its ends.
+pub fn first_end()
+    ensures { FirstEnd }
 {}
