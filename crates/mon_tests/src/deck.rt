@@ -5,7 +5,6 @@ use mon_deck::{
     Code, Counts, MemReader, MemWriter, Options, RunError, exit_status, put_fault, run_deck,
 };
 use std::alloc::{AllocError, Global};
-use std::process::Abort;
 
 /// The worked deck: records with an empty one, a denial by `other::`, a missing data set.
 const DECK: &[u8] = b"$ACCOUNTS\n\
@@ -102,6 +101,8 @@ struct Worked {
     deck: &'static [u8],
     output: &'static [u8],
     commands: u64,
+    /// Where each card with a printout ends in the deck, and where its printout ends in the output.
+    ends: &'static [(usize, usize)],
 }
 
 static WORKED: [Worked; 2] = [
@@ -109,11 +110,22 @@ static WORKED: [Worked; 2] = [
         deck: DECK,
         output: OUTPUT,
         commands: 3,
+        ends: &[(184, 48), (203, 84), (219, 118), (225, 228)],
     },
     Worked {
         deck: OWNERS_DECK,
         output: OWNERS_OUTPUT,
         commands: 7,
+        ends: &[
+            (221, 21),
+            (236, 50),
+            (254, 176),
+            (272, 198),
+            (286, 238),
+            (303, 271),
+            (336, 293),
+            (342, 441),
+        ],
     },
 ];
 
@@ -127,10 +139,9 @@ fn is_done(outcome: &Result<Counts, RunError>, worked: &Worked) -> bool {
 }
 
 fn options(check: bool) -> Options {
-    Options {
-        check,
-        ..Options::new()
-    }
+    let mut options = Options::new();
+    options.check = check;
+    options
 }
 
 // Whether a run of a worked deck in pieces answers its output.
@@ -162,33 +173,53 @@ fn pieces_of_any_size_give_the_same_output(rt: HostRuntime) {
     }
 }
 
-// Whether a run that failed so has written a beginning of the output, and nothing else.
+// How long the printouts are of the cards that are complete after so many bytes.
+fn printed_by(worked: &Worked, read: usize) -> usize {
+    let mut printed = 0;
+    for (end, length) in worked.ends {
+        if *end <= read {
+            printed = *length;
+        }
+    }
+    printed
+}
+
+// Whether a run that failed so has written this much of the output, and nothing else.
 fn has_failed_cleanly(
     outcome: &Result<Counts, RunError>,
     fault: RunError,
     worked: &Worked,
     writer: &MemWriter,
+    written: usize,
 ) -> bool {
     matches!(outcome, Err(error) if *error == fault)
         && exit_status(outcome) == 3
+        && writer.as_bytes().len() == written
         && worked.output.starts_with(writer.as_bytes())
 }
 
-// One read a byte, and this one fails.
-fn tells_a_failing_read(alloc: Global, worked: &Worked, call: usize) -> bool {
+// Reads of so many bytes, of which this one fails: the printouts of the cards that were read whole are out.
+fn tells_a_failing_read(alloc: Global, worked: &Worked, most: usize, call: usize) -> bool {
     let Ok(mut writer) = MemWriter::new(alloc, ROOM) else {
         return false;
     };
-    let mut reader = MemReader::failing_at(worked.deck, 1, call as u64);
+    let mut reader = MemReader::failing_at(worked.deck, most, call as u64);
     let outcome = run_deck(alloc, &mut reader, &mut writer, options(false));
-    has_failed_cleanly(&outcome, RunError::ReadFault, worked, &writer)
+    let written = printed_by(worked, most.saturating_mul(call));
+    has_failed_cleanly(&outcome, RunError::ReadFault, worked, &writer, written)
 }
 
 #[test]
 fn every_read_that_fails_is_told(rt: HostRuntime) {
     for worked in &WORKED {
         for call in 0..=worked.deck.len() {
-            assert!(rt; tells_a_failing_read(rt.alloc(), worked, call));
+            assert!(rt; tells_a_failing_read(rt.alloc(), worked, 1, call));
+        }
+        for call in 0..=worked.deck.len() / 7 {
+            assert!(rt; tells_a_failing_read(rt.alloc(), worked, 7, call));
+        }
+        for call in 0..=1 {
+            assert!(rt; tells_a_failing_read(rt.alloc(), worked, 1_000, call));
         }
     }
 }
@@ -199,8 +230,7 @@ fn fails_after(alloc: Global, worked: &Worked, mut writer: MemWriter, count: usi
 {
     let mut reader = MemReader::new(worked.deck);
     let outcome = run_deck(alloc, &mut reader, &mut writer, options(false));
-    has_failed_cleanly(&outcome, RunError::WriteFault, worked, &writer)
-        && writer.as_bytes().len() == count
+    has_failed_cleanly(&outcome, RunError::WriteFault, worked, &writer, count)
 }
 
 // One write a byte, and this one fails; and a writer that is full after so many bytes.
@@ -223,18 +253,28 @@ fn every_write_that_fails_is_told(rt: HostRuntime) {
     }
 }
 
+// The number of the last line of these bytes.
+fn last_line(bytes: &[u8]) -> u64 {
+    let mut line: u64 = 1;
+    for byte in bytes {
+        if *byte == b'\n' {
+            line = line.saturating_add(1);
+        }
+    }
+    line
+}
+
 // Whether this line is where a deck of these bytes may be refused with this code: behind a whole line it is truncated,
 // and a cut within a line may leave another good line there, or one that is refused.
 fn is_where_it_ends(cut: &[u8], line: u64, code: Code) -> bool {
-    let last = cut.split(|byte| *byte == b'\n').count() as u64;
+    let last = last_line(cut);
     if cut.is_empty() || cut.ends_with(b"\n") {
         return line == last && code == Code::Truncated;
     }
-    line == if code == Code::Truncated {
-        last.saturating_add(1)
-    } else {
-        last
+    if code == Code::Truncated {
+        return line == last.saturating_add(1);
     }
+    line == last
 }
 
 fn is_refused_where_it_is_cut(alloc: Global, worked: &Worked, end: usize) -> bool {
