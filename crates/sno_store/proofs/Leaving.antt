@@ -1,5 +1,5 @@
 -- The innermost call ends.
-use Rattle.std.proofs.Common.{◌≡◌, List, [], ◌∷◌, refl, sym, ap, ◌∙◌}
+use Rattle.std.proofs.Common.{◌≡◌, List, [], ◌∷◌, ap, ◌∙◌}
 use Rattle.sno_value.specs.Values.{null}
 use Rattle.sno_store.specs.declared.level.Level.{Level}
 use Rattle.sno_store.specs.declared.store.Store.{Store as State}

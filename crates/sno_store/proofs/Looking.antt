@@ -1,11 +1,11 @@
 -- What is found after a variable was put.
-use Rattle.std.proofs.Common.{◌≡◌, ℕ, Bool, true, false, cond, List, [], ◌∷◌, Option, Some, None, refl, sym, ap, ap₂, ◌∙◌, subst, nat_eq, true≢false}
+use Rattle.std.proofs.Common.{◌≡◌, ℕ, Bool, true, false, cond, List, [], ◌∷◌, Option, Some, None, refl, sym, ap, ap₂, ◌∙◌, nat_eq}
 use Rattle.std.specs.Prelude.{unwrap_or, if◌then◌else◌}
 use Rattle.std.specs.Map.{lookup}
 use Rattle.std.specs.Cmp.Lexicographic.{pointwise, nat_list_eq_equiv}
 use Rattle.sno_value.specs.Values.{null}
 use Rattle.sno_store.specs.declared.variable.Variable.{Variable}
-use Rattle.sno_store.specs.Variables.{Variables, holding, variable_of, value_of, put, given, noted}
+use Rattle.sno_store.specs.Variables.{Variables, holding, variable_of, put, noted}
 
 abbrev pub same : List ℕ → List ℕ → Bool
 same a b = pointwise nat_eq a b

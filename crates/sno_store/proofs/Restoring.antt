@@ -1,14 +1,11 @@
 -- What a call saved is there again.
-use Rattle.std.proofs.Common.{◌≡◌, ℕ, Bool, true, false, ◌||◌, List, [], ◌∷◌, refl, sym, ap, ◌∙◌, nat_eq, true≢false}
+use Rattle.std.proofs.Common.{◌≡◌, ℕ, Bool, true, false, ◌||◌, List, [], ◌∷◌, refl, sym, ap, ◌∙◌, true≢false}
 use Rattle.std.specs.List.{list_any}
-use Rattle.std.specs.Cmp.Lexicographic.{pointwise}
 use Rattle.sno_value.specs.declared.value.Value.{Value}
 use Rattle.sno_prototype.specs.Prototypes.{names_of}
 use Rattle.sno_store.specs.declared.variable.Variable.{Variable}
-use Rattle.sno_store.specs.declared.function.Definition.{Definition}
-use Rattle.sno_store.specs.declared.store.Store.{Store as State}
 use Rattle.sno_store.specs.Variables.{Variables, variable_of, value_of, given}
-use Rattle.sno_store.specs.Calls.{Bindings, saved, assigned, entered, left, left_by}
+use Rattle.sno_store.specs.Calls.{Bindings, saved, assigned, left_by}
 use Rattle.sno_store.proofs.Looking.{same, put_is_found, others_stay, one_variable}
 use Rattle.sno_store.specs.Laws.{AssociationsStay, CallRestores, CallLeavesOthers}
 

@@ -1,5 +1,5 @@
 -- What several steps come to.
-use Rattle.std.proofs.Common.{◌≡◌, ℕ, false, List, [], ◌∷◌, ◌∙◌, sym, ap, ap₂, nat_eq, Ok}
+use Rattle.std.proofs.Common.{◌≡◌, ℕ, false, List, [], ◌∙◌, sym, ap, ap₂, nat_eq, Ok}
 use Rattle.std.specs.Prelude.{Result, codes}
 use Rattle.std.specs.Cmp.Lexicographic.{pointwise}
 use Rattle.indexmap.specs.IndexMap.{insert_entry}

@@ -1,5 +1,5 @@
 -- The state of a job, and what statements do to it (the SNOBOL4 book, chapters 1, 4, 5 and 6; what is own is said where it is defined).
-use Rattle.std.specs.Prelude.{ℕ, ℤ, nat_eq, Bool, List, [], ◌∷◌, length, take, codes, Option, Some, None, Result, Ok, Err, if◌then◌else◌}
+use Rattle.std.specs.Prelude.{ℕ, ℤ, nat_eq, Bool, List, [], ◌∷◌, length, take, Option, Result, Ok, Err, if◌then◌else◌}
 use Rattle.std.specs.Map.{lookup}
 use Rattle.std.specs.Cmp.Lexicographic.{pointwise}
 use Rattle.indexmap.specs.IndexMap.{insert_entry}

@@ -2,7 +2,7 @@
 use Rattle.std.specs.Prelude.{ℕ, zero, suc, List, [], ◌∷◌, ◌++◌, if◌then◌else◌}
 use Rattle.mon_text.specs.Characters.{is_blank}
 
--- so many of a text, one after the other (the SNOBOL4 book, chapter 5, DUPL)
+-- so many of a text, one after the other (the SNOBOL4 book, chapter 3, DUPL)
 abbrev pub repeated : ℕ → List ℕ → List ℕ
 repeated zero text = []
 repeated (suc n) text = text ++ repeated n text
@@ -12,7 +12,7 @@ abbrev pub before_trimmed : ℕ → List ℕ → List ℕ
 before_trimmed c [] = if is_blank c then [] else c ∷ []
 before_trimmed c (d ∷ ds) = c ∷ d ∷ ds
 
--- a text without the blanks at its end (the SNOBOL4 book, chapter 5, TRIM)
+-- a text without the blanks at its end (the SNOBOL4 book, chapter 3, TRIM)
 abbrev pub without_trailing_blanks : List ℕ → List ℕ
 without_trailing_blanks [] = []
 without_trailing_blanks (c ∷ cs) = before_trimmed c (without_trailing_blanks cs)
