@@ -1,4 +1,4 @@
--- The arguments of DEFINE, INPUT, OUTPUT, DETACH, ENDFILE and REWIND (the SNOBOL4 book, chapters 4 and 5; units, limits, faults and
+-- The arguments of DEFINE, INPUT, OUTPUT, DETACH, ENDFILE and REWIND (the SNOBOL4 book, chapter 4, and what it says of input and output; units, limits, faults and
 -- their order are own).
 use Rattle.std.specs.Prelude.{ℕ, ℤ, pos, negsuc, nat_le, ◌&&◌, false, List, [], ◌∷◌, Option, Some, None, Result, Ok, Err, if◌then◌else◌}
 use Rattle.sno_text.specs.declared.fault.Fault.{Fault}

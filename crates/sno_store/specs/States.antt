@@ -1,4 +1,4 @@
--- The state of a job, and what statements do to it (the SNOBOL4 book, chapters 1, 4, 5 and 6; what is own is said where it is defined).
+-- The state of a job, and what statements do to it (the SNOBOL4 book, chapters 1, 4 and 6; what is own is said where it is defined).
 use Rattle.std.specs.Prelude.{ℕ, ℤ, nat_eq, Bool, List, [], ◌∷◌, length, take, Option, Result, Ok, Err, if◌then◌else◌}
 use Rattle.std.specs.Map.{lookup}
 use Rattle.std.specs.Cmp.Lexicographic.{pointwise}

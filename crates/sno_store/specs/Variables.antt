@@ -1,4 +1,4 @@
--- The variables of a job: their values, and the units that their reads and writes go to (the SNOBOL4 book, chapters 1 and 5).
+-- The variables of a job: their values, and the units that their reads and writes go to (the SNOBOL4 book, chapter 1, and what it says of input and output).
 -- A variable that was never named has the null string.
 use Rattle.std.specs.Prelude.{ℕ, nat_eq, List, Option, None, Some, unwrap_or}
 use Rattle.std.specs.Map.{lookup}
