@@ -2,6 +2,8 @@
 use Rattle.std.proofs.Common.{ap, sym, inl, inr, subst}
 use Rattle.sno_talk.specs.Talks.{Talk, Ends, Asks, through}
 use Rattle.sno_talk.specs.Holding.{Held, Cut}
+use Rattle.sno_talk.specs.Endings.{EndsIn}
+use Rattle.sno_talk.proofs.Enough.{ends_in_then}
 use Rattle.sno_talk.proofs.Held.{held_then, cut_here, cut_first, cut_then}
 
 -- a host that puts each question as a talk with someone else holds the whole as one such talk
@@ -29,3 +31,11 @@ module _ {H K S P T Q R : Type 0} (meaning : S → Q → R → S → Type 0) (fi
     cut_through (Asks q f) a b (inr (inr g)) =
         cut_then meaning fits broken (puts q (state a)) (λ p. through puts (f p.0) p.1) (other a) (g.0, state g.1) (other g.1) (other b)
         (each a q g.0 g.1 g.2) (cut_through (f g.0) g.1 b g.4)
+
+-- what the state is like after each question, it is like after all of them
+pub through_ends : {P T Q R K A : Type 0} (Good : K → Type 0) (puts : P → K → Talk Q R (T × K))
+    → ((q : P) (k : K) → Good k → EndsIn (λ p. Good p.1) (puts q k))
+    → (t : Talk P T A) (k : K) → Good k → EndsIn (λ p. Good p.1) (through puts t k)
+through_ends Good puts each (Ends a) k h = h
+through_ends Good puts each (Asks q f) k h =
+    ends_in_then (λ p. Good p.1) (λ p. Good p.1) (puts q k) (λ p. through puts (f p.0) p.1) (each q k h) (λ p g. through_ends Good puts each (f p.0) p.1 g)

@@ -3,3 +3,4 @@ pub mod Held
 pub mod Runs
 pub mod Hosts
 pub mod Enough
+pub mod Broken

@@ -1,5 +1,5 @@
 -- What holds of every talk, whatever is asked and whoever replies.
-use Rattle.std.specs.Prelude.{◌≡◌, List, ◌++◌}
+use Rattle.std.specs.Prelude.{◌≡◌, ◌⊎◌, List, [], ◌∷◌, ◌++◌}
 use Rattle.sno_talk.specs.Talks.{Talk, ◌>>=◌, through}
 use Rattle.sno_talk.specs.Exchanges.{Exchange, replies, Tells, Begins, Answered}
 use Rattle.sno_talk.specs.Holding.{Held, Cut}
@@ -57,6 +57,17 @@ module _ {S Q R : Type 0} (meaning : S → Q → R → S → Type 0) (fits : Q �
       × (Cut meaning fits broken t s s' → Cut meaning fits broken (t >>= k) s s')
       × ((a : A) (m : S) → Held meaning fits t s a m → Cut meaning fits broken (k a) m s' → Cut meaning fits broken (t >>= k) s s')
 
+  -- after these exchanges, or while the question after them was put, which was not replied to
+  abbrev pub StoppedAt : S → List (Exchange Q R) → List (Exchange Q R) → S → Type 0
+  StoppedAt s x [] s' = Answered meaning s x s'
+  StoppedAt s x (e ∷ y) s' = Answered meaning s x s' ⊎ ((m : S) × Answered meaning s x m × broken m e.asked s')
+
+  -- wherever it was broken off, what was asked begins a whole run of the talk, if each question has a reply that fits
+  abbrev pub BrokenGoesOn : (A : Type 0) → Type 0
+  BrokenGoesOn A = ((q : Q) → (r : R) × fits q r)
+      → (t : Talk Q R A) (s s' : S) → Cut meaning fits broken t s s'
+      → (x y : List (Exchange Q R)) × (a : A) × Tells fits t (x ++ y) a × StoppedAt s x y s'
+
 -- a host that puts each question as a talk with someone else, and has a state of its own, holds the whole as one such talk
 module _ {H P T S Q R : Type 0} (asked : H → P → T → H → Type 0) (suits : P → T → Type 0) (meaning : S → Q → R → S → Type 0) (fits : Q → R → Type 0) where
   abbrev pub HeldThrough : (K A : Type 0) → Type 0
@@ -64,3 +75,11 @@ module _ {H P T S Q R : Type 0} (asked : H → P → T → H → Type 0) (suits 
       → ((a : H) (q : P) (r : T) (b : H) → asked a q r b → Held meaning fits (puts q (state a)) (other a) (r, state b) (other b))
       → (t : Talk P T A) (a : H) (v : A) (b : H)
       → Held asked suits t a v b → Held meaning fits (through puts t (state a)) (other a) (v, state b) (other b)
+
+  -- and where it is broken off, the other is broken off with it
+  abbrev pub CutThrough : (broken : S → Q → S → Type 0) (unasked : H → P → H → Type 0) (K A : Type 0) → Type 0
+  CutThrough broken unasked K A = (puts : P → K → Talk Q R (T × K)) (state : H → K) (other : H → S)
+      → ((a : H) (q : P) (r : T) (b : H) → asked a q r b → Held meaning fits (puts q (state a)) (other a) (r, state b) (other b))
+      → ((a : H) (q : P) (b : H) → unasked a q b → Cut meaning fits broken (puts q (state a)) (other a) (other b))
+      → (t : Talk P T A) (a b : H)
+      → Cut asked suits unasked t a b → Cut meaning fits broken (through puts t (state a)) (other a) (other b)

@@ -1,5 +1,5 @@
 //! Laws of talks, for every talk and everyone who replies. Each is the contract of a function that does nothing.
-ghost use Rattle.sno_talk.specs.Laws.{ThenThen, RunsAlike, BegunGoesOn, PartsAreHeld, HeldIsTold, ToldIsHeld, CutHadBegun, OneRun, PartsAreCut, HeldThrough};
+ghost use Rattle.sno_talk.specs.Laws.{ThenThen, RunsAlike, BegunGoesOn, PartsAreHeld, HeldIsTold, ToldIsHeld, CutHadBegun, OneRun, PartsAreCut, BrokenGoesOn, HeldThrough, CutThrough};
 
 /// Who replies to questions: it stands for anyone.
 pub trait Replier {
@@ -62,7 +62,17 @@ pub fn parts_are_cut<S: Replier, A, B>()
     ensures { PartsAreCut S.meaning S.fits S.broken A B }
 {}
 
+/// Wherever a talk was broken off, inside a question too, what was asked begins a whole run of it.
+pub fn broken_goes_on<S: Replier, A>()
+    ensures { BrokenGoesOn S.meaning S.fits S.broken A }
+{}
+
 /// A host that puts each question as a talk with someone else holds the whole as one such talk.
 pub fn held_through<H: Replier, S: Replier, K, A>()
     ensures { HeldThrough H.meaning H.fits S.meaning S.fits K A }
+{}
+
+/// Where the talk with such a host is broken off, so is the one with who stands behind it.
+pub fn cut_through<H: Replier, S: Replier, K, A>()
+    ensures { CutThrough H.meaning H.fits S.meaning S.fits S.broken H.broken K A }
 {}
