@@ -3,6 +3,7 @@ pub mod Counted
 pub mod Exact
 mod Examples
 pub mod Finding
+pub mod Firsts
 pub mod Pushing
 pub mod Reaches
 pub mod Run

@@ -1,13 +1,16 @@
 -- What holds of every match, as statements.
 use Rattle.std.specs.Prelude.{◌≡◌, ◌≢◌, ℕ, suc, ◌<◌, ◌≤◌, List, ◌∷◌, [], ◌++◌, length, Bool}
+use Rattle.sno_talk.specs.Talks.{Ends}
 use Rattle.sno_talk.specs.Exchanges.{Exchange, replies, Tells}
+use Rattle.sno_talk.specs.Holding.{Cut}
+use Rattle.sno_talk.specs.Laws.{StoppedAt}
 use Rattle.sno_talk.specs.Endings.{EndsIn}
 use Rattle.sno_nodes.specs.Patterns.{Pattern}
 use Rattle.sno_pattern.specs.declared.ending.Pending.{Pending}
 use Rattle.sno_pattern.specs.declared.ending.MatchEnd.{MatchEnd}
 use Rattle.sno_pattern.specs.declared.ending.MatchEnd.TheVariants.{Limit}
 use Rattle.sno_pattern.specs.Looks.{Look, Told, Fits}
-use Rattle.sno_pattern.specs.Places.{IsSimple, ends_of, Comes}
+use Rattle.sno_pattern.specs.Places.{IsSimple, ends_of, Comes, starts, first_place, IsAt}
 use Rattle.sno_pattern.specs.Steps.{Goal, Meet, row, attempt, outcome, Finish, counted_match, match_of}
 
 -- taking a goal off is one step, and the rest goes on as goals come out
@@ -54,3 +57,15 @@ MatchesAlike = (text : List ℕ) (p : Pattern) (anchored : Bool) (limit : ℕ) (
 abbrev pub FirstEnd : Type 0
 FirstEnd = (text : List ℕ) (a : Pattern) (c : ℕ) (p : List Pending) (n : ℕ)
     → IsSimple a → c ≤ length text → Comes (ends_of text a c) (outcome text (Meet a ∷ []) c p n)
+
+-- and so does the whole match: from the first start that has an end to the first of its ends, or nowhere
+abbrev pub FirstMatch : Type 0
+FirstMatch = (text : List ℕ) (p : Pattern) (anchored : Bool) (limit : ℕ)
+    → IsSimple p → (e : MatchEnd) × (match_of text p anchored limit ≡ Ends e) × IsAt (first_place text p (starts text anchored)) e
+
+-- what a match was broken off after, inside a call of the host too, begins a whole match
+module _ {S : Type 0} (tells : S → Look → Told → S → Type 0) (broken : S → Look → S → Type 0) where
+  abbrev pub MatchesGoOn : Type 0
+  MatchesGoOn = (text : List ℕ) (p : Pattern) (anchored : Bool) (limit : ℕ) (s s' : S)
+      → Cut tells Fits broken (match_of text p anchored limit) s s'
+      → (x y : List (Exchange Look Told)) × (e : MatchEnd) × Tells Fits (match_of text p anchored limit) (x ++ y) e × StoppedAt tells Fits broken s x y s'

@@ -1,10 +1,12 @@
--- Where a pattern can end from a cursor on, in the order in which that is tried (SNOBOL4 book, chapter 2; own for BAL and
--- ARBNO): no steps, no goals and no backing up.
-use Rattle.std.specs.Prelude.{◌≡◌, ℕ, zero, suc, ◌+◌, ◌-◌, List, [], ◌∷◌, ◌++◌, length, drop, Bool, not, ◌&&◌, if◌then◌else◌, nat_eq, nat_le, nat_lt}
+-- Where a pattern can end from a cursor on, in the order in which that is tried, and where it matches first (SNOBOL4 book,
+-- chapter 2; own for BAL and ARBNO): no steps, no goals and no backing up.
+use Rattle.std.specs.Prelude.{◌≡◌, ℕ, zero, suc, ◌+◌, ◌-◌, List, [], ◌∷◌, ◌++◌, length, drop, Bool, not, ◌&&◌, if◌then◌else◌, nat_eq, nat_le, nat_lt, Option, Some, None}
 use Rattle.std.specs.List.{starts_with, flat_map, prefix_len, position_or_len}
 use Rattle.sno_talk.specs.Talks.{Ends, Asks}
 use Rattle.sno_nodes.specs.Patterns.{Pattern}
 use Rattle.sno_nodes.specs.Patterns as pattern
+use Rattle.sno_pattern.specs.declared.ending.MatchEnd.{MatchEnd}
+use Rattle.sno_pattern.specs.declared.ending.MatchEnd.TheVariants as end
 use Rattle.sno_pattern.specs.Steps.{End, Success, Failure, WholeFails, OutOfSteps, Fault, Trying, upward, is_one_of, begins_with, balanced_ends}
 
 -- no host is asked, and nothing cuts off what is still to be tried
@@ -61,3 +63,24 @@ Finds es (Fault f) = ⊥
 abbrev pub Comes : List ℕ → Trying → Type 0
 Comes es (Ends o) = Finds es o.end
 Comes es (Asks q f) = ⊥
+
+-- every cursor, or the first one alone
+abbrev pub starts : List ℕ → (anchored : Bool) → List ℕ
+starts text anchored = upward 0 (if anchored then 1 else (length text + 1))
+
+-- from here to the first of these ends, or else the place after
+abbrev pub place_from : ℕ → List ℕ → Option (ℕ × ℕ) → Option (ℕ × ℕ)
+place_from at [] later = later
+place_from at (to ∷ more) later = Some (at, to)
+
+-- from the first of these cursors that has an end to the first of its ends
+abbrev pub first_place : List ℕ → Pattern → List ℕ → Option (ℕ × ℕ)
+first_place text p [] = None
+first_place text p (at ∷ later) = place_from at (ends_of text p at) (first_place text p later)
+
+-- a match is at this place, and is none where there is none; that steps run out says nothing
+abbrev pub IsAt : Option (ℕ × ℕ) → MatchEnd → Type 0
+IsAt place (end.Matched from to pending) = place ≡ Some (from, to)
+IsAt place end.NoMatch = place ≡ None
+IsAt place end.Limit = Unit {0}
+IsAt place (end.Fault f) = ⊥

@@ -1,5 +1,7 @@
 //! Laws over the definitions alone. Each is the contract of a function that does nothing.
-ghost use Rattle.sno_pattern.specs.Laws.{TakesOff, StepsFall, AnyDepth, NeedsSteps, StepsAreExact, MatchesAlike, FirstEnd};
+ghost use Rattle.sno_pattern.specs.Laws.{TakesOff, StepsFall, AnyDepth, NeedsSteps, StepsAreExact, MatchesAlike, FirstEnd, FirstMatch, MatchesGoOn};
+
+use crate::host::MatchHost;
 
 /// Taking a goal off is one step, and the rest goes on as goals come out.
 pub fn takes_off()
@@ -34,4 +36,14 @@ pub fn matches_alike()
 /// A pattern that asks no host and cuts nothing off comes out at the first of its ends.
 pub fn first_end()
     ensures { FirstEnd }
+{}
+
+/// A whole match of such a pattern is from the first start that has an end to the first of its ends.
+pub fn first_match()
+    ensures { FirstMatch }
+{}
+
+/// What a match was broken off after, inside a call of the host too, begins a whole match.
+pub fn matches_go_on<H: MatchHost>()
+    ensures { MatchesGoOn H.tells H.broken }
 {}
