@@ -171,7 +171,7 @@ text_line p line more n accounts within fine =
         if b then record { accounts = accounts; catalogue = sets_of p; cards = stream_section (n + 1) None more }
         else catalogue_section (n + 1) accounts (step p line) more
 
-text_taken : (text more : List (List ℕ)) (n : ℕ) (accounts : List Account) (p : Progress) (k : ℕ) (sets : Sets) → AllByRecursion (IsLineWithin 5000) text
+pub text_taken : (text more : List (List ℕ)) (n : ℕ) (accounts : List Account) (p : Progress) (k : ℕ) (sets : Sets) → AllByRecursion (IsLineWithin 5000) text
     → after_lines p text ≡ progress.SetDue k sets → (m : ℕ) × (catalogue_section n accounts p (text ++ more) ≡ catalogue_section m accounts (progress.SetDue k sets) more)
 text_taken [] more n accounts p k sets fit is = (n, ap (λ (q : Progress). catalogue_section n accounts q more) is)
 text_taken (line ∷ text) more n accounts p k sets (fits, fit) is =

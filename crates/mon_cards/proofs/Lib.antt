@@ -5,3 +5,4 @@ pub mod Complete
 pub mod Sound
 pub mod Standing
 pub mod ComingBack
+pub mod Closing

@@ -39,13 +39,13 @@ module _ {X : Type 0} (n k : ℕ) (code : Code) where
   at_end : (says : List (List ℕ) → X) → k ≡ n → code ≡ Truncated → Stands says n [] k code
   at_end says same early = inr (omega (arith, same), early)
 
-place_of : (n k : ℕ) (c code : Code) → Refused n c ≡ Refused k code → k ≡ n
+pub place_of : (n k : ℕ) (c code : Code) → Refused n c ≡ Refused k code → k ≡ n
 place_of n k c code same = cc
 
 code_of : (n k : ℕ) (c code : Code) → Refused n c ≡ Refused k code → code ≡ c
 code_of n k c code same = cc
 
-unasked : {A : Type 0} (k : ℕ) (code : Code) → Stopped ≡ Refused k code → A
+pub unasked : {A : Type 0} (k : ℕ) (code : Code) → Stopped ≡ Refused k code → A
 unasked k code same = cc
 
 -- ---- the stream

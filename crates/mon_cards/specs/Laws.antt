@@ -1,11 +1,14 @@
 -- What holds of decks, whatever their lines: each is the contract of a function in `laws`.
-use Rattle.std.specs.Prelude.{◌≡◌, ◌↔◌, ◌⊎◌, ℕ, ◌+◌, ◌≤◌, List, [], ◌∷◌, ◌++◌, length, take, codes}
+use Rattle.std.specs.Prelude.{◌≡◌, ◌↔◌, ◌⊎◌, ℕ, ◌+◌, ◌-◌, ◌≤◌, List, [], ◌∷◌, ◌++◌, length, take, codes}
 use Rattle.std.specs.Str.Lines.{lines}
 use Rattle.mon_access.specs.declared.account.Account.{Account}
 use Rattle.mon_access.specs.Accounts.{HaveDifferentNames}
 use Rattle.mon_catalogue.specs.Sets.{Sets}
 use Rattle.mon_catalogue.specs.Stored.{IsStored, ArePrintable}
 use Rattle.mon_catalogue.specs.Text.{catalogue_lines, text_of}
+use Rattle.mon_acl.specs.declared.text.AclText.TheVariants.{Long}
+use Rattle.mon_monitor.specs.declared.command.Command.{Command}
+use Rattle.mon_monitor.specs.declared.command.Command.TheVariants as command
 use Rattle.mon_cards.specs.declared.code.Code.{Code}
 use Rattle.mon_cards.specs.declared.code.Code.TheVariants.{Truncated}
 use Rattle.mon_cards.specs.Decks.{Deck, Ending, Stopped, Refused}
@@ -33,6 +36,27 @@ pub record Decides (n : ℕ) (ls : List (List ℕ)) : Type 0 where
 abbrev pub RefusalsStand : Type 0
 RefusalsStand = (ls : List (List ℕ)) (n : ℕ) (code : Code) → ending_of (deck_of ls) ≡ Refused n code
     → Decides n ls ⊎ ((n ≡ length ls + 1) × (code ≡ Truncated))
+
+-- no command, or that of a permission list whose lines come on cards of their own
+abbrev pub IsOfOpenList : List Command → Type 0
+IsOfOpenList commands = (commands ≡ []) ⊎ ((account name text : List ℕ) × (commands ≡ command.SetAcl account name (Long text) ∷ []))
+
+-- All lines before number n, and some behind them, are this good deck. It has the accounts of the deck that is refused at
+-- line n, and its commands, over the same data sets; and then that of the permission list that stood open there, if one did.
+pub record BeginsGood (n : ℕ) (ls : List (List ℕ)) (deck : Deck) (last : List Command) : Type 0 where
+  pub counted : 1 ≤ n
+  pub rest : List (List ℕ)
+  pub good : IsDeck (take (n - 1) ls ++ rest) deck
+  pub accounts : deck.accounts ≡ (deck_of ls).accounts
+  pub commands : deck.cards.commands ≡ (deck_of ls).cards.commands ++ last
+  pub over : ((deck_of ls).cards.commands ≡ []) ⊎ (deck.catalogue ≡ (deck_of ls).catalogue)
+  pub left_open : IsOfOpenList last
+
+-- the line at which a deck is refused is the first that is wrong: the lines before it begin a good deck, which says what the
+-- refused one said up to there
+abbrev pub GoodBeginnings : Type 0
+GoodBeginnings = (ls : List (List ℕ)) (n : ℕ) (code : Code) → ending_of (deck_of ls) ≡ Refused n code
+    → (deck : Deck) × (last : List Command) × BeginsGood n ls deck last
 
 -- an account table, a catalogue as it is written, and no command
 abbrev pub deck_lines : List (List ℕ) → Sets → List (List ℕ)

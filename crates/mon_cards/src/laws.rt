@@ -1,5 +1,5 @@
 //! Laws over decks: each function's contract is one, and its body is empty.
-ghost use Rattle.mon_cards.specs.Laws.{ReadingSpells, OneDeck, RefusalsStand, CataloguesComeBack};
+ghost use Rattle.mon_cards.specs.Laws.{ReadingSpells, OneDeck, RefusalsStand, GoodBeginnings, CataloguesComeBack};
 
 /// The deck that is computed of lines comes to its `$STOP` exactly where they are a good deck, and it is that one.
 pub fn reading_spells()
@@ -15,6 +15,12 @@ pub fn one_deck()
 /// ends too early.
 pub fn refusals_stand()
     ensures { RefusalsStand }
+{}
+
+/// The lines before the one at which a deck is refused begin a good deck, of the same accounts and the same commands; and so
+/// that line is the first that is wrong.
+pub fn good_beginnings()
+    ensures { GoodBeginnings }
 {}
 
 /// What is written of a catalogue is good in the next deck, and is there the same data sets.
