@@ -1,5 +1,5 @@
 //! What a deck is read from and an output is written to: readers and writers that tell their bytes to contracts, over
-//! memory and over std's streams, and the moving of all bytes from and to one.
+//! memory and over std's streams, and the moving of all bytes to one.
 #![tactic(auto)]
 
 pub mod device;
@@ -10,4 +10,4 @@ pub mod transfer;
 pub use device::{DeckReader, DeckWriter, Failed};
 pub use memory::{MemReader, MemWriter};
 pub use streams::{StdReader, StdWriter};
-pub use transfer::{InputError, MOST_READS, OutputError, READ_SIZE, read_all, write_all};
+pub use transfer::{MOST_READS, READ_SIZE, write_all};

@@ -7,12 +7,12 @@ use Rattle.mon_catalogue.specs.Sets.{Sets}
 use Rattle.mon_cards.specs.declared.code.Code.{Code}
 use Rattle.mon_cards.specs.declared.code.Code.TheVariants.{Truncated}
 use Rattle.mon_feed.specs.declared.fault.RunError.{RunError}
-use Rattle.mon_feed.specs.declared.fault.RunError.TheVariants.{DeckRefused, Memory}
+use Rattle.mon_feed.specs.declared.fault.RunError.TheVariants.{DeckRefused}
 use Rattle.mon_feed.specs.declared.options.Counts.{Counts}
 use Rattle.mon_feed.specs.declared.stage.Stage.{Stage}
 use Rattle.mon_feed.specs.declared.stage.State.{State}
 use Rattle.mon_feed.specs.declared.stage.State.TheVariants as state
-use Rattle.mon_feed.specs.Feeds.{outcome, outcome_of, behind, refused_at, error_at, IsReadBack, Outcome, Good, Bad}
+use Rattle.mon_feed.specs.Feeds.{outcome, outcome_of, behind, refused_at, IsReadBack, Outcome, Good, Bad}
 use Rattle.mon_feed.specs.Printouts.{ReadsBack}
 use Rattle.mon_feed.specs.Told.{last_lines}
 use Rattle.mon_feed.proofs.Following.{alike, ends_here, outcome_refused}
@@ -116,10 +116,3 @@ module _ (check : Bool) (out : List ℕ) (count : ℕ) (s : State) (n : ℕ) (la
   pub none_bad : (k : ℕ) (code : Code) → ((check : Bool) → outcome check s n [] ≡ refused_at k code)
       → behind out count (outcome check s n (last_lines last)) ≡ record { written = out; conclusion = Bad k code }
   none_bad k code bad = none_left ∙ ap (behind out count) (bad check) ∙ behind_refused out count k code
-
--- nothing failed before
-pub not_refused : (s : State) → error_at s ≡ None → (n : ℕ) (code : Code) → s ≡ state.Refused n code → ⊥
-not_refused s none n code same = let some : Some (DeckRefused n code) ≡ None = ap error_at (sym same) ∙ none in cc
-
-pub not_out : (s : State) → error_at s ≡ None → s ≡ state.NoMemory → ⊥
-not_out s none same = let some : Some Memory ≡ None = ap error_at (sym same) ∙ none in cc

@@ -1,12 +1,13 @@
 -- What comes of a deck from the middle of it on: what was read so far is a stage, and the lines that are left are a deck
 -- by the same sections. The catalogue of that deck is the data sets as they stand, and its commands are those to come.
-use Rattle.std.specs.Prelude.{◌≡◌, ℕ, ◌+◌, Bool, false, List, [], ◌++◌, length, Option, Some, None, Result, Ok, Err, if◌then◌else◌}
+use Rattle.std.specs.Prelude.{◌≡◌, ℕ, ◌+◌, ◌==◌, Bool, true, false, not, List, [], ◌++◌, length, Option, Some, None, Result, Ok, Err, if◌then◌else◌}
 use Rattle.mon_catalogue.specs.Sets.{Sets}
 use Rattle.mon_catalogue.specs.Progress.{lines_taken}
 use Rattle.mon_monitor.specs.Worlds.{World}
 use Rattle.mon_cards.specs.declared.code.Code.{Code}
 use Rattle.mon_feed.specs.declared.fault.RunError.{RunError}
 use Rattle.mon_feed.specs.declared.fault.RunError.TheVariants.{DeckRefused, Memory}
+use Rattle.mon_text.specs.Feeding.{taken_of}
 use Rattle.mon_text.specs.declared.stop.Stop.{Stop}
 use Rattle.mon_text.specs.declared.stop.Stop.TheVariants as stop
 use Rattle.mon_feed.specs.declared.stage.Stage.{Stage}
@@ -71,6 +72,23 @@ abbrev pub error_at : State → Option RunError
 error_at (state.Refused n code) = Some (DeckRefused n code)
 error_at state.NoMemory = Some Memory
 error_at _ = None
+
+-- whether a deck is still read
+abbrev pub is_reading : State → Bool
+is_reading (state.Reading stage) = true
+is_reading _ = false
+
+-- whether these bytes may take memory: none may behind `$STOP` or a refusal, and want of memory is told again
+abbrev pub may_grow : State → List ℕ → Bool
+may_grow (state.Reading stage) bytes = not (length bytes == 0)
+may_grow (state.Stopped w) bytes = false
+may_grow (state.Refused n code) bytes = false
+may_grow state.NoMemory bytes = true
+
+-- how many bytes of a piece are taken at once: at most a line; behind `$STOP`, where there are no cards, all
+abbrev pub used_by : State → List ℕ → ℕ
+used_by (state.Stopped w) piece = length piece
+used_by _ piece = taken_of piece
 
 -- a refused deck, or want of memory
 abbrev pub IsOwn : RunError → Type 0

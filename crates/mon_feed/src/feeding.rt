@@ -1,11 +1,12 @@
 //! Feeding a deck: each card's event happens when the card is complete.
-ghost use Rattle.std.specs.Prelude.{◌≡◌, ℕ, List, ◌+◌, ◌-◌, ◌<◌, ◌≤◌, ◌^◌, [], ◌∷◌, ◌++◌, Bool, false, length, drop, Ok, Err, IfOk, IfErr, OnOk, OnErr};
+ghost use Rattle.std.specs.Prelude.{◌≡◌, ℕ, List, ◌+◌, ◌-◌, ◌<◌, ◌≤◌, ◌^◌, [], ◌∷◌, ◌++◌, Bool, true, false, length, drop, Ok, Err, IfOk, IfErr, OnOk, OnErr, IsTrue};
 ghost use Rattle.std.specs.Str.Lines.{lines};
 ghost use Rattle.mon_catalogue.specs.Sets.{Sets};
+ghost use Rattle.mon_text.specs.Feeding.{taken_of};
 ghost use Rattle.mon_cards.specs.declared.code.Code.{Code as AnyCode};
 ghost use Rattle.mon_feed.specs.declared.stage.State.TheVariants as states;
 ghost use Rattle.mon_cards.specs.Sections.{deck_of};
-ghost use Rattle.mon_feed.specs.Feeds.{outcome, outcome_of, behind, refused_at, Good, Bad, Begins, OnAnswer, lines_loaded, IsReadBack, IsOwn, stopped_by, error_at, fault_at};
+ghost use Rattle.mon_feed.specs.Feeds.{outcome, outcome_of, behind, refused_at, Good, Bad, Begins, OnAnswer, lines_loaded, is_reading, may_grow, used_by, IsReadBack, IsOwn, stopped_by, error_at, fault_at};
 ghost use Rattle.mon_feed.specs.Told.{told, outcome_from, last_lines};
 ghost use Rattle.mon_feed.specs.Printouts.{ReadsBack};
 
@@ -35,7 +36,7 @@ impl DeckFeed {
         }
     }
 
-    /// How many bytes were fed.
+    /// How many bytes were fed; behind a refusal, those up to the end of the line that was refused.
     pub fn fed(&self) -> u64
         ensures { result ≡ self.now.fed }
     {
@@ -49,8 +50,8 @@ impl DeckFeed {
     ///
     /// # Errors
     ///
-    /// `DeckRefused` where a card is refused; `Memory` where a growth was refused. After an error each further call answers
-    /// the same and appends nothing.
+    /// `DeckRefused` where a card is refused; `Memory` where a growth was refused, which takes at least one byte before
+    /// `$STOP`. After an error each further call answers the same and appends nothing.
     #[tactic(auto, using(crate::proofs::Beginnings::begins_further))]
     pub fn feed(&mut self, alloc: Global, piece: &[u8], out: &mut Vec<u8>) -> Result<(), RunError>
         requires { self.old.fed + length piece.now < 2 ^ 63 }
@@ -61,13 +62,20 @@ impl DeckFeed {
         ensures again { (n : ℕ) (code : AnyCode) → self.old.state ≡ states.Refused n code → (result ≡ Err (RunError.DeckRefused n code)) × (self.new ≡ self.old) × (out.new.items ≡ out.old.items) }
         ensures still { self.old.state ≡ states.NoMemory → (result ≡ Err RunError.Memory) × (self.new ≡ self.old) × (out.new.items ≡ out.old.items) }
         ensures own { IfErr result IsOwn }
+        ensures memory { result ≡ Err RunError.Memory → IsTrue (may_grow self.old.state piece.now) }
         ensures reads_back { IsReadBack self.old.options.check self.old.state → OnOk result (IsReadBack self.new.options.check self.new.state) }
         ensures options { self.new.options ≡ self.old.options }
-        ensures fed { self.new.fed ≤ self.old.fed + length piece.now }
+        ensures fed { (self.old.fed ≤ self.new.fed) × (self.new.fed ≤ self.old.fed + length piece.now) }
         ensures all { OnOk result (self.new.fed ≡ self.old.fed + length piece.now) }
     {
-        if let Some(error) = self.failed() {
-            return Err(error);
+        match &self.state {
+            State::Refused(n, code) => return Err(RunError::DeckRefused(*n, *code)),
+            State::NoMemory => return Err(RunError::Memory),
+            State::Stopped(_) => {
+                self.fed += piece.len() as u64;
+                return Ok(());
+            }
+            State::Reading(_) => {}
         }
         let mut rest = piece;
         'lines: while !rest.is_empty() {
@@ -88,8 +96,8 @@ impl DeckFeed {
         }
     }
 
-    /// Takes bytes from the front of a piece, up to the first line end in it or all of them: how many they are. It is
-    /// `feed` of them.
+    /// Takes bytes from the front of a piece, up to the first line end in it or all of them, and behind `$STOP` all: how
+    /// many they are. It is `feed` of them.
     ///
     /// # Errors
     ///
@@ -103,6 +111,7 @@ impl DeckFeed {
         requires full { 0 < length piece.now }
         requires few { self.old.fed + length piece.now < 2 ^ 63 }
         ensures used { IfOk result (λ used. (0 < used) × (used ≤ length piece.now) × (self.new.fed ≡ self.old.fed + used)) }
+        ensures line { IfOk result (λ used. used ≡ used_by self.old.state piece.now) }
         ensures told { IfOk result (λ used. (bytes : List ℕ) → told out.new.items self.new (drop used piece.now ++ bytes) ≡ told out.old.items self.old (piece.now ++ bytes)) }
         ensures refused { (n : ℕ) (code : AnyCode) → result ≡ Err (RunError.DeckRefused n code) →
             (bytes : List ℕ) → told out.new.items self.new bytes ≡ told out.old.items self.old (piece.now ++ bytes) }
@@ -112,9 +121,11 @@ impl DeckFeed {
         ensures again { (n : ℕ) (code : AnyCode) → self.old.state ≡ states.Refused n code → (result ≡ Err (RunError.DeckRefused n code)) × (self.new ≡ self.old) × (out.new.items ≡ out.old.items) }
         ensures still { self.old.state ≡ states.NoMemory → (result ≡ Err RunError.Memory) × (self.new ≡ self.old) × (out.new.items ≡ out.old.items) }
         ensures own { IfErr result IsOwn }
+        ensures memory { result ≡ Err RunError.Memory → IsTrue (may_grow self.old.state piece.now) }
         ensures reads_back { IsReadBack self.old.options.check self.old.state → OnOk result (IsReadBack self.new.options.check self.new.state) }
         ensures options { self.new.options ≡ self.old.options }
-        ensures fed { self.new.fed ≤ self.old.fed + length piece.now }
+        ensures fed { (self.old.fed ≤ self.new.fed) × (self.new.fed ≤ self.old.fed + length piece.now) }
+        ensures refused_line { (n : ℕ) (code : AnyCode) → result ≡ Err (RunError.DeckRefused n code) → is_reading self.old.state ≡ true → self.new.fed ≡ self.old.fed + taken_of piece.now }
     {
         match &self.state {
             State::Refused(n, code) => return Err(RunError::DeckRefused(*n, *code)),
@@ -195,6 +206,7 @@ impl DeckFeed {
         ensures again { (n : ℕ) (code : AnyCode) → self.state ≡ states.Refused n code → (result ≡ Err (RunError.DeckRefused n code)) × (out.new.items ≡ out.old.items) }
         ensures still { self.state ≡ states.NoMemory → (result ≡ Err RunError.Memory) × (out.new.items ≡ out.old.items) }
         ensures own { IfErr result IsOwn }
+        ensures memory { result ≡ Err RunError.Memory → IsTrue (may_grow self.state self.line) }
     {
         if let Some(error) = self.failed() {
             return Err(error);
@@ -233,6 +245,7 @@ fn end(
     ensures refused { (n : ℕ) (code : AnyCode) → result ≡ Err (RunError.DeckRefused n code) →
         behind out.old.items commands (outcome options.check state (lines_taken + 1) (last_lines last.now)) ≡ record { written = out.new.items; conclusion = Bad n code } }
     ensures own { IfErr result IsOwn }
+    ensures memory { result ≡ Err RunError.Memory → IsTrue (may_grow state last.now) }
 {
     if last.is_empty() {
         return conclude(&state, lines_taken + 1, commands);
@@ -257,6 +270,7 @@ fn conclude(state: &State, n: u64, commands: u64) -> Result<Counts, RunError>
         × ((check : Bool) → IsReadBack check state.now → check ≡ false → ReadsBack sets) × (counts.commands ≡ commands) × (counts.jobs ≡ 0)) }
     ensures refused { (m : ℕ) (code : AnyCode) → result ≡ Err (RunError.DeckRefused m code) → (check : Bool) → outcome check state.now n [] ≡ refused_at m code }
     ensures own { IfErr result IsOwn }
+    ensures memory { result ≡ Err RunError.Memory → state.now ≡ states.NoMemory }
 {
     match state {
         State::Reading(_) => Err(RunError::DeckRefused(n, Code::Truncated)),

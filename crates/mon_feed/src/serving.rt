@@ -3,7 +3,7 @@ ghost use Rattle.std.specs.Prelude.{◌≡◌, ℕ, List, Option, None, Some, �
 ghost use Rattle.mon_cards.specs.declared.list.OpenList.{OpenList};
 ghost use Rattle.mon_cards.specs.Sections.{stream_section, and_then, refused};
 ghost use Rattle.mon_cards.specs.inner.Stops.{IfRefused};
-ghost use Rattle.mon_feed.specs.Feeds.{over, outcome, outcome_of, behind, lines_loaded, IsReadBack};
+ghost use Rattle.mon_feed.specs.Feeds.{over, outcome, outcome_of, behind, lines_loaded, error_at, IsReadBack};
 ghost use Rattle.mon_feed.specs.Printouts.{closing, verdict, ReadsBack};
 ghost use Rattle.mon_cards.specs.Decks.{Stopped, Cards};
 
@@ -62,6 +62,7 @@ pub(crate) fn after_card(
     ensures goes_on { IfOk result (λ after. (n : ℕ) (ls : List (List ℕ)) → behind out.new.items commands.new (outcome check after (n + 1) ls)
         ≡ behind out.old.items commands.old (outcome_of check (over monitor (stream_section n None (text.now ∷ ls))))) }
     ensures within { IfOk result (λ after. lines_loaded after ≡ 0) }
+    ensures sound { IfOk result (λ after. error_at after ≡ None) }
     ensures reads_back { IfOk result (IsReadBack check) }
     ensures counted { commands.new ≤ commands.old + 1 }
     ensures refused { IfErr result (IfRefused (λ code. (n : ℕ) (ls : List (List ℕ)) → stream_section n None (text.now ∷ ls) ≡ refused n code)) }
@@ -103,6 +104,7 @@ pub(crate) fn after_list_line(
     ensures goes_on { IfOk result (λ after. (n : ℕ) (ls : List (List ℕ)) → behind out.new.items commands.new (outcome check after (n + 1) ls)
         ≡ behind out.old.items commands.old (outcome_of check (over monitor (stream_section n (Some list) (text.now ∷ ls))))) }
     ensures within { IfOk result (λ after. lines_loaded after ≡ 0) }
+    ensures sound { IfOk result (λ after. error_at after ≡ None) }
     ensures reads_back { IfOk result (IsReadBack check) }
     ensures counted { commands.new ≤ commands.old + 1 }
     ensures refused { IfErr result (IfRefused (λ code. (n : ℕ) (ls : List (List ℕ)) → stream_section n (Some list) (text.now ∷ ls) ≡ refused n code)) }

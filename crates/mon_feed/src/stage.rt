@@ -1,8 +1,9 @@
 //! How far the reading of a deck has come, and what the next line makes of that.
-ghost use Rattle.std.specs.Prelude.{◌≡◌, ℕ, List, true, false, OnOk, ◌+◌, ◌<◌, ◌≤◌, ◌^◌, ◌∷◌, IfOk, IfErr, OnErr};
+ghost use Rattle.std.specs.Prelude.{◌≡◌, ℕ, List, true, false, None, OnOk, IsErrOf, ◌+◌, ◌<◌, ◌≤◌, ◌^◌, ◌∷◌, IfOk, IfErr, OnErr};
 ghost use Rattle.mon_cards.specs.inner.Stops.{IfRefused};
+ghost use Rattle.mon_text.specs.declared.stop.Stop.TheVariants as stops;
 ghost use Rattle.mon_feed.specs.declared.stage.State.TheVariants as states;
-ghost use Rattle.mon_feed.specs.Feeds.{deck_from, refused_from, outcome, outcome_of, behind, refused_at, lines_loaded, IsReadBack};
+ghost use Rattle.mon_feed.specs.Feeds.{deck_from, refused_from, outcome, outcome_of, behind, refused_at, lines_loaded, is_reading, error_at, IsReadBack};
 
 use crate::options::Slots;
 use crate::reading::{after_account, after_catalogue, after_opening};
@@ -137,6 +138,8 @@ impl State {
         ensures told { IfOk result (λ after. (n : ℕ) (ls : List (List ℕ)) → behind out.new.items commands.new (outcome check after (n + 1) ls)
             ≡ behind out.old.items commands.old (outcome check self n (text.now ∷ ls))) }
         ensures within { IfOk result (λ after. lines_loaded after ≤ lines_loaded self + 1) }
+        ensures sound { IfOk result (λ after. error_at after ≡ error_at self) }
+        ensures memory { IsErrOf result stops.Memory → is_reading self ≡ true }
         ensures reads_back { IsReadBack check self → IfOk result (IsReadBack check) }
         ensures counted { commands.new ≤ commands.old + 1 }
         ensures refused { IfErr result (IfRefused (λ code. (n : ℕ) (ls : List (List ℕ)) → outcome check self n (text.now ∷ ls) ≡ refused_at n code)) }
@@ -166,6 +169,7 @@ fn after_stage(
     ensures told { IfOk result (λ after. (n : ℕ) (ls : List (List ℕ)) → behind out.new.items commands.new (outcome check after (n + 1) ls)
         ≡ behind out.old.items commands.old (outcome_of check (deck_from stage n (text.now ∷ ls)))) }
     ensures within { IfOk result (λ after. lines_loaded after ≤ lines_loaded (states.Reading stage) + 1) }
+    ensures sound { IfOk result (λ after. error_at after ≡ None) }
     ensures reads_back { IfOk result (IsReadBack check) }
     ensures counted { commands.new ≤ commands.old + 1 }
     ensures refused { IfErr result (IfRefused (λ code. (n : ℕ) (ls : List (List ℕ)) → deck_from stage n (text.now ∷ ls) ≡ refused_from stage n code)) }

@@ -2,20 +2,7 @@ use Rattle.std.proofs.Common.{sym, ap, ◌∙◌, ◌++◌}
 use Rattle.mon_feed.specs.Feeds.{Outcome}
 use Rattle.mon_feed.specs.Told.{outcome_from}
 use Rattle.mon_feed.proofs.Beginnings.{begins_further}
-use Rattle.mon_feed.proofs.Telling.{not_refused, not_out}
 use Rattle.mon_feed.proofs.feed.DeckFeed.feed.Goals as goal
-
-pub returns-in_err-used-clause-again : goal.returns-in_err-used-clause-again
-returns-in_err-used-clause-again c = λ n code same. absurd (not_refused c.args.self.now.state (sym c.failed.ensures ∙ c.in_default.is) n code same)
-
-pub returns-in_err-used-clause-still : goal.returns-in_err-used-clause-still
-returns-in_err-used-clause-still c = λ same. absurd (not_out c.args.self.now.state (sym c.failed.ensures ∙ c.in_default.is) same)
-
-pub returns-clause-again : goal.returns-clause-again
-returns-clause-again c = λ n code same. absurd (not_refused c.args.self.now.state (sym c.failed.ensures ∙ c.in_default.is) n code same)
-
-pub returns-clause-still : goal.returns-clause-still
-returns-clause-still c = λ same. absurd (not_out c.args.self.now.state (sym c.failed.ensures ∙ c.in_default.is) same)
 
 pub returns-in_err-used-clause-appends : goal.returns-in_err-used-clause-appends
 returns-in_err-used-clause-appends c = begins_further c.args.out.now.items c.lines.out.items c.feed_line.new.out.items c.lines.invariant.appends c.feed_line.ensures.appends

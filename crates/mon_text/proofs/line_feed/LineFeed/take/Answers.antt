@@ -1,7 +1,7 @@
 use Rattle.std.proofs.Common.{rules, None, Some, [], ◌+◌, sym, ◌∙◌, ap, subst, ◌≡◌, ◌==◌, List, ℕ, length}
 use Rattle.std.specs.Str.Lines.{strip_carriage_return}
-use Rattle.mon_text.specs.Feeding.{IsUnfinished, Takes}
-use Rattle.mon_text.proofs.Cutting.{takes_none, takes_some, takes_whole, nothing_kept, uncut, kept_unfinished}
+use Rattle.mon_text.specs.Feeding.{IsUnfinished, HasToKeep, Takes}
+use Rattle.mon_text.proofs.Cutting.{takes_none, takes_some, takes_whole, keeps_all, on_err, nothing_kept, uncut, kept_unfinished}
 use Rattle.mon_text.proofs.line_feed.LineFeed.take.Goals as goal
 
 pub invariant_of-self-in-None : goal.invariant_of-self-in-None
@@ -26,3 +26,8 @@ returns-in_ok-keep-in-Some-2-clause-taken c =
     let taken = takes_some c.self.inside.kept.items c.args.piece.now c.whole_line-line.result.items c.in-Some.end (search (rules, c.self.invariant.unended)) (sym c.first_end.ensures.place ∙ c.in-Some.is) line in
     subst (λ (new : List ℕ). Takes c.args.self.now c.args.piece.now (c.in-Some.end + 1) (Some c.whole_line-line.result.items) new) (sym c.whole_line-line.ensures.nothing)
     (subst (λ (old : List ℕ). Takes old c.args.piece.now (c.in-Some.end + 1) (Some c.whole_line-line.result.items) []) c.self.view_is taken)
+
+pub returns-in_err-keep-in-None-clause-memory : goal.returns-in_err-keep-in-None-clause-memory
+returns-in_err-keep-in-None-clause-memory c =
+    let kept = keeps_all c.self.inside.kept.items c.args.piece.now (sym c.first_end.ensures.place ∙ c.in-None.is) c.in_err-keep-in-None.ensures.memory.0 c.in_err-keep-in-None.ensures.memory.1 in
+    on_err c.from_residual.result (subst (λ (old : List ℕ). HasToKeep old c.args.piece.now) c.self.view_is kept)
