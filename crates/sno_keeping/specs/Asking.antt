@@ -1,0 +1,37 @@
+-- What statements ask of a service, and what they come to then (own).
+use Rattle.std.specs.Prelude.{Result, Ok, Err}
+use Rattle.sno_talk.specs.Talks.{Ends, ask, ◌>>=◌}
+use Rattle.sno_ask.specs.Asking.{Asking}
+use Rattle.sno_ask.specs.declared.request.Act.{Act}
+use Rattle.sno_ask.specs.declared.request.Request.{Request}
+use Rattle.sno_ask.specs.declared.answer.Answer.{Answer}
+use Rattle.sno_ask.specs.declared.answer.Answer.TheVariants as answer
+use Rattle.sno_text.specs.declared.fault.Fault.{Fault as AFault}
+use Rattle.sno_value.specs.Values.{null}
+use Rattle.sno_code.specs.declared.got.Halt.TheVariants.{Fault}
+use Rattle.sno_code.specs.declared.got.Got.{Got}
+use Rattle.sno_code.specs.declared.got.Got.TheVariants.{Gives, Fails, Halts}
+use Rattle.sno_store.specs.declared.store.Store.{Store as State}
+
+-- asked by the statement at hand
+abbrev pub request : Act → State → Request
+request act s = record { statement = s.keywords.statement; act = act }
+
+-- goes on where it is done, and fails where it is not
+abbrev pub if_done : Answer → State → Asking (Got × State) → Asking (Got × State)
+if_done answer.Done s go = go
+if_done (answer.Got line) s go = Ends (Fails, s)
+if_done answer.EndOfFile s go = Ends (Fails, s)
+if_done (answer.Denied reason) s go = Ends (Fails, s)
+if_done answer.Full s go = Ends (Fails, s)
+
+-- an act that gives null where it is done
+abbrev pub asked : Act → State → Asking (Got × State)
+asked act s = do
+  answer ← ask (request act s)
+  if_done answer s (Ends (Gives null, s))
+
+-- null, in the state that there is then; or a fault, and nothing has changed
+abbrev pub changed_by : Result State AFault → State → Got × State
+changed_by (Ok after) s = (Gives null, after)
+changed_by (Err f) s = (Halts (Fault f), s)

@@ -1,0 +1,10 @@
+pub mod Limits
+pub mod Asking
+pub mod Keywords
+pub mod Using
+pub mod Matching
+pub mod Calling
+pub mod Primitives
+pub mod State
+pub mod Laws
+pub mod inner

@@ -1,0 +1,31 @@
+-- The state of a job as what programs rest on (own): all that statements do to it.
+use Rattle.std.specs.Prelude.{ℕ, ◌-◌}
+use Rattle.sno_ask.specs.declared.request.Request.{Request}
+use Rattle.sno_ask.specs.declared.answer.Answer.{Answer}
+use Rattle.sno_code.specs.Keeping.{Keeping}
+use Rattle.sno_store.specs.declared.store.Store.{Store as State}
+use Rattle.sno_keeping.specs.declared.limits.Limits.{Limits}
+use Rattle.sno_keeping.specs.Using.{used, assigned}
+use Rattle.sno_keeping.specs.Keywords.{keyword, keyword_set}
+use Rattle.sno_keeping.specs.Matching.{matched}
+use Rattle.sno_keeping.specs.Calling.{begun, entered, left}
+use Rattle.sno_keeping.specs.Primitives.{primitive}
+
+-- in a job of these limits
+abbrev pub keeping : Limits → Keeping Request Answer State
+keeping limits = record {
+  used = used;
+  assigned = assigned;
+  keyword = keyword;
+  keyword_set = keyword_set;
+  most = λ s. s.keywords.maximum_length;
+  matched = matched limits.steps;
+  begun = begun limits.statements;
+  entered = entered;
+  left = left;
+  primitive = primitive;
+}
+
+-- how many statements the job's own limit still lets begin, whatever &STLIMIT says
+abbrev pub allowed : Limits → State → ℕ
+allowed limits s = limits.statements - s.keywords.begun

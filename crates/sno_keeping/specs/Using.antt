@@ -1,0 +1,68 @@
+-- A variable used, and assigned a value (the SNOBOL4 book, chapter 1, and what it says of input and output; what is kept of a
+-- record, and how records are cut, is own).
+use Rattle.std.specs.Prelude.{ℕ, List, [], ◌∷◌, Option, Some, None}
+use Rattle.sno_talk.specs.Talks.{Ends, ask, ◌>>=◌}
+use Rattle.sno_ask.specs.Asking.{Asking}
+use Rattle.sno_ask.specs.declared.request.Act.TheVariants.{Read, Write}
+use Rattle.sno_ask.specs.declared.answer.Answer.{Answer}
+use Rattle.sno_ask.specs.declared.answer.Answer.TheVariants as answer
+use Rattle.sno_text.specs.declared.fault.Fault.TheVariants.{WrongType}
+use Rattle.sno_value.specs.declared.value.Value.{Value}
+use Rattle.sno_value.specs.declared.value.Value.TheVariants.{Text}
+use Rattle.sno_value.specs.Values.{null, text_of}
+use Rattle.sno_code.specs.declared.got.Halt.TheVariants.{Fault}
+use Rattle.sno_code.specs.declared.got.Got.{Got}
+use Rattle.sno_code.specs.declared.got.Got.TheVariants.{Gives, Fails, Halts}
+use Rattle.sno_prototype.specs.Formats.{records}
+use Rattle.sno_store.specs.declared.variable.Input.{Input}
+use Rattle.sno_store.specs.declared.variable.Output.{Output}
+use Rattle.sno_store.specs.declared.store.Store.{Store as State}
+use Rattle.sno_store.specs.Variables as variables
+use Rattle.sno_store.specs.Variables.{Use, use_of, variable_of}
+use Rattle.sno_store.specs.States.{with_value, kept_of}
+use Rattle.sno_keeping.specs.Asking.{request, if_done}
+
+-- USED
+
+-- a value that is stored and given
+abbrev pub stored : List ℕ → Value → State → Got × State
+stored name v s = (Gives v, with_value name v s)
+
+-- what is kept of a record is stored, and given; where none is read nothing is stored
+abbrev pub stored_of : List ℕ → Input → Answer → State → Got × State
+stored_of name input (answer.Got line) s = stored name (Text (kept_of input s.keywords line)) s
+stored_of name input answer.Done s = (Fails, s)
+stored_of name input answer.EndOfFile s = (Fails, s)
+stored_of name input (answer.Denied reason) s = (Fails, s)
+stored_of name input answer.Full s = (Fails, s)
+
+abbrev pub used_by : List ℕ → Use → State → Asking (Got × State)
+used_by name (variables.Gives v) s = Ends (Gives v, s)
+used_by name (variables.Reads input) s = do
+  answer ← ask (request (Read input.unit) s)
+  Ends (stored_of name input answer s)
+
+-- the value of a variable is used: a record is read, where it is associated with a unit
+abbrev pub used : List ℕ → State → Asking (Got × State)
+used name s = used_by name (use_of (variable_of name s.variables)) s
+
+-- ASSIGNED
+
+-- in their order; the first that is not written makes it fail, and the rest are not tried
+abbrev pub write_all : ℕ → List (List ℕ) → State → Asking (Got × State)
+write_all unit [] s = Ends (Gives null, s)
+write_all unit (line ∷ lines) s = do
+  answer ← ask (request (Write unit line) s)
+  if_done answer s (write_all unit lines s)
+
+abbrev pub write_text : Output → Option (List ℕ) → State → Asking (Got × State)
+write_text output None s = Ends (Halts (Fault WrongType), s)
+write_text output (Some text) s = write_all output.unit (records output.format text) s
+
+abbrev pub written : Option Output → Value → State → Asking (Got × State)
+written None v s = Ends (Gives null, s)
+written (Some output) v s = write_text output (text_of v) s
+
+-- a variable is assigned a value: it is stored, and then written where the variable is associated with a unit
+abbrev pub assigned : List ℕ → Value → State → Asking (Got × State)
+assigned name v s = written (variable_of name s.variables).output v (with_value name v s)

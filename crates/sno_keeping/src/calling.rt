@@ -1,0 +1,69 @@
+//! Statements that begin, and calls of functions that the program defined.
+ghost use Rattle.std.specs.Prelude.{◌≡◌, Some, IfOk};
+ghost use Rattle.sno_keeping.specs.Calling.{begun, entered_by, entered};
+ghost use Rattle.sno_keeping.specs.inner.Answers.{Began, Comes};
+
+use sno_store::{Function, StatementNumber, Store};
+use sno_text::{Fault, Text};
+use sno_value::Value;
+use std::alloc::{AllocError, Global};
+
+/// How many calls may be in one another.
+pub const MOST_CALLS: u64 = 200;
+
+/// What a call comes to.
+#[derive(Drop)]
+pub enum Entry {
+    /// The program defined no function of that name.
+    Undefined,
+    /// The function is entered, and goes on at the statement of this label.
+    Enters(Text),
+    /// A fault.
+    Refused(Fault),
+}
+
+/// Begins the statement of a number, if one more may begin in a job that may begin so many. It tells whether it did; where
+/// it did not, nothing has changed. It takes no memory.
+pub fn begin(limit: u64, number: StatementNumber, state: &mut Store) -> bool
+    ensures { Began (begun limit number state.old) result state.old state.new }
+{
+    state.begin(number, limit)
+}
+
+fn enter_function(
+    alloc: Global,
+    function: &Function,
+    arguments: &[Value],
+    state: &mut Store,
+) -> Result<Entry, AllocError>
+    ensures { IfOk result (λ entry. Comes (entered_by (Some function.now) arguments.now state.old) entry state.old state.new) }
+{
+    if state.level() >= MOST_CALLS {
+        return Ok(Entry::Refused(Fault::Depth));
+    }
+    let label = function.definition().entry.copy()?;
+    state.enter(alloc, function, arguments)?;
+    Ok(Entry::Enters(label))
+}
+
+/// Calls the function of a name with arguments, if the program defined one.
+///
+/// There is the fault `Depth` where 200 calls are open. Nothing has changed where the function is not entered.
+///
+/// # Errors
+///
+/// Where a growth was refused. The job is over then: some variables may be set.
+pub fn enter(
+    alloc: Global,
+    name: &Text,
+    arguments: &[Value],
+    state: &mut Store,
+) -> Result<Entry, AllocError>
+    ensures { IfOk result (λ entry. Comes (entered name.now arguments.now state.old) entry state.old state.new) }
+{
+    let function = match state.function(name) {
+        Some(function) => function.copy()?,
+        None => return Ok(Entry::Undefined),
+    };
+    enter_function(alloc, &function, arguments, state)
+}

@@ -1,0 +1,34 @@
+//! Keywords in programs.
+ghost use Rattle.std.specs.Prelude.{◌≡◌};
+ghost use Rattle.sno_keeping.specs.Keywords.{keyword, keyword_set};
+
+use sno_code::{Got, Halt};
+use sno_store::{Keyword, Store};
+use sno_text::{Fault, Text};
+use sno_value::{Outcome, Value};
+
+/// The value of the keyword of a name, or the fault `Keyword`. It takes no memory.
+pub fn keyword(name: &Text, state: &Store) -> Outcome
+    ensures { result ≡ keyword name.now state.now }
+{
+    match Keyword::named(name.as_bytes()) {
+        Some(keyword) => Outcome::Gives(Value::Integer(state.keyword(keyword))),
+        None => Outcome::Faults(Fault::Keyword),
+    }
+}
+
+/// Assigns a value to the keyword of a name, and gives null. It takes no memory.
+///
+/// There is the fault `Keyword` where a program may set none of that name, then `WrongType` where the value has no number,
+/// then `Keyword` where the number is out of range. Nothing has changed then.
+pub fn set_keyword(name: &Text, value: &Value, state: &mut Store) -> Got
+    ensures { (result, state.new) ≡ keyword_set name.now value.now state.old }
+{
+    match Keyword::named(name.as_bytes()) {
+        Some(keyword) => match state.set_keyword(keyword, value) {
+            Ok(()) => Got::Gives(Value::null()),
+            Err(fault) => Got::Halts(Halt::Fault(fault)),
+        },
+        None => Got::Halts(Halt::Fault(Fault::Keyword)),
+    }
+}

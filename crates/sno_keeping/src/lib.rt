@@ -1,0 +1,15 @@
+//! What statements do to the state of a job, over whatever answers their requests.
+//!
+//! A variable that is used or assigned to may read or write records; a match uses and assigns to variables meanwhile. All
+//! of it is told without the service: the definitions say what is asked, for whatever is answered.
+#![tactic(auto)]
+
+pub mod calling;
+pub mod keywords;
+pub mod limits;
+pub mod primitives;
+
+pub use calling::{Entry, begin, enter};
+pub use keywords::{keyword, set_keyword};
+pub use limits::Limits;
+pub use primitives::StateFunction;
