@@ -2,3 +2,4 @@ mod Numbers
 mod Identifiers
 mod Listing
 mod Apart
+mod Cutting

@@ -1,10 +1,17 @@
-//! What DEFINE and OUTPUT read in their arguments: the prototypes of functions and the formats of records.
+//! What DEFINE, INPUT and OUTPUT read in their arguments: prototypes of functions, units, and the formats of records.
 #![tactic(auto)]
 
+pub mod argument;
+pub mod association;
+pub mod definition;
 pub mod format;
+pub mod laws;
 pub mod names;
 pub mod prototype;
 
+pub use argument::{input_in, name_in, output_in, unit_in};
+pub use association::{Input, Output};
+pub use definition::{Definition, definition_in};
 pub use format::{Format, read_format};
 pub use names::Names;
 pub use prototype::{Prototype, read_prototype};

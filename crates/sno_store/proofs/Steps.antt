@@ -5,20 +5,21 @@ use Rattle.std.specs.Cmp.Lexicographic.{pointwise}
 use Rattle.indexmap.specs.IndexMap.{insert_entry}
 use Rattle.sno_text.specs.declared.fault.Fault.{Fault}
 use Rattle.sno_value.specs.declared.value.Value.{Value}
-use Rattle.sno_store.specs.declared.function.Definition.{Definition}
+use Rattle.sno_prototype.specs.declared.definition.Definition.{Definition}
 use Rattle.sno_store.specs.declared.store.Store.{Store as State}
 use Rattle.sno_store.specs.Variables.{Variables, reading, writing}
 use Rattle.sno_store.specs.First.{with_patterns, first_variables}
-use Rattle.sno_store.specs.Arguments.{go_on}
-use Rattle.sno_store.specs.States.{definition_in, with_function}
+use Rattle.sno_prototype.specs.Arguments.{go_on}
+use Rattle.sno_prototype.specs.Definitions.{definition_in}
+use Rattle.sno_store.specs.States.{with_function}
 
 -- the variables that there are at first, one after the other
 pub first_by : (a b c d : Variables) → a ≡ with_patterns [] → b ≡ reading (codes "INPUT") (record { unit = 5; most = 1024 }) a
-    → c ≡ writing (codes "OUTPUT") (record { unit = 6; format = record { length = 132; blank = false } }) b
-    → d ≡ writing (codes "PUNCH") (record { unit = 7; format = record { length = 80; blank = false } }) c → d ≡ first_variables
+    → c ≡ writing (codes "OUTPUT") (record { unit = 6; format = record { characters = 132; blank = false } }) b
+    → d ≡ writing (codes "PUNCH") (record { unit = 7; format = record { characters = 80; blank = false } }) c → d ≡ first_variables
 first_by a b c d p q r s =
-    s ∙ ap (λ (vs : Variables). writing (codes "PUNCH") (record { unit = 7; format = record { length = 80; blank = false } }) vs)
-    (r ∙ ap (λ (vs : Variables). writing (codes "OUTPUT") (record { unit = 6; format = record { length = 132; blank = false } }) vs)
+    s ∙ ap (λ (vs : Variables). writing (codes "PUNCH") (record { unit = 7; format = record { characters = 80; blank = false } }) vs)
+    (r ∙ ap (λ (vs : Variables). writing (codes "OUTPUT") (record { unit = 6; format = record { characters = 132; blank = false } }) vs)
     (q ∙ ap (λ (vs : Variables). reading (codes "INPUT") (record { unit = 5; most = 1024 }) vs) p))
 
 -- a function that is defined

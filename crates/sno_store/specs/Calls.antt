@@ -4,7 +4,7 @@ use Rattle.sno_value.specs.declared.value.Value.{Value}
 use Rattle.sno_value.specs.Values.{null}
 use Rattle.sno_prototype.specs.declared.prototype.Prototype.{Prototype}
 use Rattle.sno_prototype.specs.Prototypes.{names_of}
-use Rattle.sno_store.specs.declared.function.Definition.{Definition}
+use Rattle.sno_prototype.specs.declared.definition.Definition.{Definition}
 use Rattle.sno_store.specs.declared.level.Level.{Level}
 use Rattle.sno_store.specs.declared.store.Store.{Store as State}
 use Rattle.sno_store.specs.Keywords.{at_statement}

@@ -18,6 +18,6 @@ with_patterns vs =
 -- and three are associated: INPUT with unit 5, OUTPUT with unit 6, PUNCH with unit 7
 abbrev pub first_variables : Variables
 first_variables =
-    writing (codes "PUNCH") (record { unit = 7; format = record { length = 80; blank = false } })
-    (writing (codes "OUTPUT") (record { unit = 6; format = record { length = 132; blank = false } })
+    writing (codes "PUNCH") (record { unit = 7; format = record { characters = 80; blank = false } })
+    (writing (codes "OUTPUT") (record { unit = 6; format = record { characters = 132; blank = false } })
     (reading (codes "INPUT") (record { unit = 5; most = 1024 }) (with_patterns [])))

@@ -5,7 +5,7 @@ use Rattle.std.specs.Cmp.Lexicographic.{pointwise}
 use Rattle.sno_value.specs.declared.value.Value.{Value}
 use Rattle.sno_prototype.specs.Prototypes.{names_of}
 use Rattle.sno_store.specs.declared.variable.Variable.{Variable}
-use Rattle.sno_store.specs.declared.function.Definition.{Definition}
+use Rattle.sno_prototype.specs.declared.definition.Definition.{Definition}
 use Rattle.sno_store.specs.declared.store.Store.{Store as State}
 use Rattle.sno_store.specs.Variables.{Variables, variable_of, value_of, put, noted}
 use Rattle.sno_store.specs.Calls.{Bindings, assigned, entered, left}

@@ -1,7 +1,6 @@
 pub mod Variables
 pub mod First
 pub mod Keywords
-pub mod Arguments
 pub mod States
 pub mod Calls
 pub mod Laws

@@ -1,5 +1,5 @@
 -- The state of a job, and what statements do to it (the SNOBOL4 book, chapters 1, 4 and 6; what is own is said where it is defined).
-use Rattle.std.specs.Prelude.{ℕ, ℤ, nat_eq, Bool, List, [], ◌∷◌, length, take, Option, Result, Ok, Err, if◌then◌else◌}
+use Rattle.std.specs.Prelude.{ℕ, ℤ, nat_eq, Bool, List, [], length, take, Option, Result, Ok, Err, if◌then◌else◌}
 use Rattle.std.specs.Map.{lookup}
 use Rattle.std.specs.Cmp.Lexicographic.{pointwise}
 use Rattle.indexmap.specs.IndexMap.{insert_entry}
@@ -7,17 +7,16 @@ use Rattle.sno_text.specs.declared.fault.Fault.{Fault}
 use Rattle.sno_text.specs.declared.fault.Fault.TheVariants as fault
 use Rattle.sno_text.specs.Texts.{without_trailing_blanks}
 use Rattle.sno_value.specs.declared.value.Value.{Value}
-use Rattle.sno_value.specs.Values.{text_of, number_of}
-use Rattle.sno_prototype.specs.declared.prototype.Prototype.{Prototype}
-use Rattle.sno_prototype.specs.Prototypes.{prototype_of}
-use Rattle.sno_store.specs.declared.variable.Input.{Input}
+use Rattle.sno_value.specs.Values.{number_of}
+use Rattle.sno_prototype.specs.Definitions.{definition_in}
+use Rattle.sno_prototype.specs.declared.association.Input.{Input}
 use Rattle.sno_store.specs.declared.keyword.Keyword.{Keyword}
-use Rattle.sno_store.specs.declared.function.Definition.{Definition}
+use Rattle.sno_prototype.specs.declared.definition.Definition.{Definition}
 use Rattle.sno_store.specs.declared.store.Store.{Store as State}
 use Rattle.sno_store.specs.Variables.{Variables, given, reading, writing, detached, noted}
 use Rattle.sno_store.specs.First.{first_variables}
 use Rattle.sno_store.specs.Keywords.{KeywordValues, first_keywords, keyword_value, with_keyword, is_settable, trims, begins, with_begun}
-use Rattle.sno_store.specs.Arguments.{go_on, or_fault, name_in, input_in, output_in}
+use Rattle.sno_prototype.specs.Arguments.{go_on, or_fault, name_in, input_in, output_in}
 
 -- AT FIRST
 
@@ -52,20 +51,6 @@ abbrev pub without_associations : Value → State → Result State Fault
 without_associations name s = go_on (name_in name) (λ n. Ok (with_variables (detached n s.variables) s))
 
 -- FUNCTIONS
-
--- a null entry stands for the function's name
-abbrev pub entry_or : List ℕ → List ℕ → List ℕ
-entry_or name [] = name
-entry_or name (c ∷ cs) = c ∷ cs
-
-abbrev pub prototype_in : Value → Result Prototype Fault
-prototype_in v = go_on (or_fault fault.WrongType (text_of v)) (λ text. or_fault fault.Prototype (prototype_of text))
-
-abbrev pub entry_in : List ℕ → Value → Result (List ℕ) Fault
-entry_in name v = go_on (or_fault fault.WrongType (text_of v)) (λ label. Ok (entry_or name label))
-
-abbrev pub definition_in : Value → Value → Result Definition Fault
-definition_in prototype entry = go_on (prototype_in prototype) (λ p. go_on (entry_in p.name entry) (λ label. Ok (record { prototype = p; entry = label })))
 
 -- DEFINE(prototype, entry)
 abbrev pub with_function : Value → Value → State → Result State Fault

@@ -1,14 +1,13 @@
 //! The variables that there are at first.
-ghost use Rattle.std.specs.Prelude.{◌≡◌, false, codes, IfOk, OnOk};
+ghost use Rattle.std.specs.Prelude.{◌≡◌, ◌≤◌, false, codes, IfOk, OnOk};
 ghost use Rattle.mon_text.specs.Lines.{IsLine};
 ghost use Rattle.sno_nodes.specs.Patterns as patterns;
 ghost use Rattle.sno_store.specs.First.{holding_pattern, with_patterns, first_variables};
 ghost use Rattle.sno_store.specs.Variables.{reading, writing};
 
-use crate::variable::{Input, Output};
 use crate::variables::Variables;
 use sno_nodes::Pat;
-use sno_prototype::Format;
+use sno_prototype::{Format, Input, Output};
 use sno_text::{Named, Text};
 use sno_value::Value;
 use std::alloc::{AllocError, Global};
@@ -85,16 +84,15 @@ fn write_to(
     variables: &mut Variables,
     name: &[u8],
     unit: u64,
-    length: u64,
+    characters: u64,
 ) -> Result<(), AllocError>
-    requires { IsLine name.now }
-    ensures { OnOk result (variables.new ≡ writing name.now (record { unit = unit; format = record { length = length; blank = false } }) variables.old) }
+    requires printable { IsLine name.now }
+    requires positive { 1 ≤ characters }
+    requires fits { characters ≤ 1024 }
+    ensures { OnOk result (variables.new ≡ writing name.now (record { unit = unit; format = record { characters = characters; blank = false } }) variables.old) }
 {
     let name = named(alloc, name)?;
-    let format = Format {
-        length,
-        blank: false,
-    };
+    let format = Format::new(characters, false);
     variables.write_to(&name, Output { unit, format })
 }
 

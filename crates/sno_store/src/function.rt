@@ -6,19 +6,11 @@ ghost use Rattle.std.specs.Cmp.Lexicographic.{pointwise};
 ghost use Rattle.indexmap.specs.IndexMap.{insert_entry};
 
 use indexmap::IndexMap;
-use sno_prototype::Prototype;
+use sno_prototype::Definition;
 use sno_text::Text;
 use std::alloc::{AllocError, Global};
 use std::marker::Model;
 use std::rc::Rc;
-
-/// What DEFINE says of a function.
-#[derive(Drop)]
-pub struct Definition {
-    pub prototype: Prototype,
-    /// The label of the statement with which a call begins.
-    pub entry: Text,
-}
 
 /// A definition that is shared, so that a call goes on with the one that it began with.
 #[derive(Drop)]
@@ -27,7 +19,7 @@ pub struct Function {
 }
 
 impl Model for Function {
-    ghost use Rattle.sno_store.specs.declared.function.Definition.{Definition};
+    ghost use Rattle.sno_prototype.specs.declared.definition.Definition.{Definition};
 
     ghost Value = { Definition };
 
@@ -75,7 +67,7 @@ pub struct Functions {
 
 impl Model for Functions {
     ghost use Rattle.std.specs.Prelude.{ℕ, List};
-    ghost use Rattle.sno_store.specs.declared.function.Definition.{Definition};
+    ghost use Rattle.sno_prototype.specs.declared.definition.Definition.{Definition};
 
     ghost Value = { List (List ℕ × Definition) };
 

@@ -1,7 +1,6 @@
 //! The state of a job: variables with their values and associations, functions, keywords, and the levels of calls.
 #![tactic(auto)]
 
-pub mod argument;
 mod first;
 pub mod function;
 pub mod keyword;
@@ -11,8 +10,7 @@ pub mod store;
 pub mod variable;
 pub mod variables;
 
-pub use argument::{name_in, unit_in};
-pub use function::{Definition, Function};
+pub use function::Function;
 pub use keyword::{Keyword, StatementNumber};
 pub use store::Store;
-pub use variable::{Found, Input, Output, Variable};
+pub use variable::{Found, Variable};

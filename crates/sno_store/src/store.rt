@@ -3,19 +3,18 @@ ghost use Rattle.std.specs.Prelude.{◌≡◌, ◌<◌, ◌^◌, length, IfOk, O
 ghost use Rattle.std.specs.Option.{option_copied};
 ghost use Rattle.mon_text.specs.Stops.{Gives};
 ghost use Rattle.sno_store.specs.Variables.{variable_of, value_of, use_of, seen};
-ghost use Rattle.sno_store.specs.States.{first_state, with_value, with_name, kept_of, with_input, with_output, without_associations, prototype_in, entry_in, definition_in, with_function, function_of, value_of_keyword, with_keyword_set, may_begin, with_statement};
+ghost use Rattle.sno_store.specs.States.{first_state, with_value, with_name, kept_of, with_input, with_output, without_associations, with_function, function_of, value_of_keyword, with_keyword_set, may_begin, with_statement};
 ghost use Rattle.sno_store.specs.Calls.{level_of, entered, restored, left, given_back};
 ghost use Rattle.sno_store.specs.inner.Answers.{Answers};
 
-use crate::argument::{input_in, name_in, output_in};
 use crate::first::first_variables;
-use crate::function::{Definition, Function, Functions};
+use crate::function::{Function, Functions};
 use crate::keyword::{Keyword, Keywords, StatementNumber};
 use crate::level::{Level, Levels};
-use crate::variable::{Found, Input, Output};
+use crate::variable::Found;
 use crate::variables::{Variables, copy_of};
 use mon_text::{Line, Stop};
-use sno_prototype::{Prototype, read_prototype};
+use sno_prototype::{Definition, Input, Output, definition_in, input_in, name_in, output_in};
 use sno_text::{Fault, Named, Text};
 use sno_value::Value;
 use std::alloc::{AllocError, Global};
@@ -314,40 +313,4 @@ impl Store {
         self.keywords.go_back(statement);
         Ok(value)
     }
-}
-
-fn prototype_in(alloc: Global, value: &Value) -> Result<Prototype, Stop<Fault>>
-    ensures { Gives (λ prototype. prototype) result (prototype_in value.now) }
-{
-    match value.to_text(alloc)? {
-        Some(text) => match read_prototype(alloc, text.as_bytes())? {
-            Some(prototype) => Ok(prototype),
-            None => Err(Stop::Refused(Fault::Prototype)),
-        },
-        None => Err(Stop::Refused(Fault::WrongType)),
-    }
-}
-
-fn entry_in(alloc: Global, name: &Named, value: &Value) -> Result<Text, Stop<Fault>>
-    ensures { Gives (λ entry. entry) result (entry_in name.now value.now) }
-{
-    match value.to_text(alloc)? {
-        Some(text) => {
-            if text.is_null() {
-                let name = name.text().copy()?;
-                Ok(name)
-            } else {
-                Ok(text)
-            }
-        }
-        None => Err(Stop::Refused(Fault::WrongType)),
-    }
-}
-
-fn definition_in(alloc: Global, prototype: &Value, entry: &Value) -> Result<Definition, Stop<Fault>>
-    ensures { Gives (λ definition. definition) result (definition_in prototype.now entry.now) }
-{
-    let prototype = prototype_in(alloc, prototype)?;
-    let entry = entry_in(alloc, &prototype.name, entry)?;
-    Ok(Definition { prototype, entry })
 }

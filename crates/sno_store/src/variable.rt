@@ -1,21 +1,7 @@
 //! Variables.
 
-use sno_prototype::Format;
+use sno_prototype::{Input, Output};
 use sno_value::Value;
-
-/// Where using a variable reads a record, and how many of its characters are kept.
-#[derive(Clone, Copy)]
-pub struct Input {
-    pub unit: u64,
-    pub most: u64,
-}
-
-/// Where an assignment writes records, and how the text is cut into them.
-#[derive(Clone, Copy)]
-pub struct Output {
-    pub unit: u64,
-    pub format: Format,
-}
 
 /// A variable: its value, and what it is associated with.
 #[derive(Drop)]

@@ -10,9 +10,9 @@ ghost use Rattle.sno_prototype.specs.Prototypes.{names_of};
 ghost use Rattle.sno_store.specs.Calls.{paired, value_now, saved, assigned, bindings_of};
 
 use crate::level::Bindings;
-use crate::variable::{Found, Input, Output, Variable};
+use crate::variable::{Found, Variable};
 use indexmap::IndexMap;
-use sno_prototype::Prototype;
+use sno_prototype::{Input, Output, Prototype};
 use sno_text::{Named, Text};
 use sno_value::Value;
 use std::alloc::{AllocError, Global};

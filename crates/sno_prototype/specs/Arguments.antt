@@ -5,10 +5,9 @@ use Rattle.sno_text.specs.declared.fault.Fault.{Fault}
 use Rattle.sno_text.specs.declared.fault.Fault.TheVariants as fault
 use Rattle.sno_value.specs.declared.value.Value.{Value}
 use Rattle.sno_value.specs.Values.{is_null, text_of, number_of}
-use Rattle.sno_prototype.specs.declared.format.Format.{Format}
-use Rattle.sno_prototype.specs.Formats.{format_of}
-use Rattle.sno_store.specs.declared.variable.Input.{Input}
-use Rattle.sno_store.specs.declared.variable.Output.{Output}
+use Rattle.sno_prototype.specs.Formats.{RecordFormat, format_of}
+use Rattle.sno_prototype.specs.declared.association.Input.{Input}
+use Rattle.sno_prototype.specs.declared.association.Output.{Output}
 
 -- goes on with what there is, if there is no fault before
 abbrev pub go_on : {A B : Type 0} → Result A Fault → (A → Result B Fault) → Result B Fault
@@ -48,13 +47,13 @@ most_of (Some z) = number_within 1 1024 z
 abbrev pub most_in : Value → Result ℕ Fault
 most_in v = if is_null v then Ok 1024 else or_fault fault.Format (most_of (number_of v))
 
-abbrev pub format_by : Option (List ℕ) → Option Format
+abbrev pub format_by : Option (List ℕ) → Option RecordFormat
 format_by None = None
 format_by (Some text) = format_of text
 
 -- how a text is cut into records: 1,024 characters each, if null
-abbrev pub format_in : Value → Result Format Fault
-format_in v = if is_null v then Ok (record { length = 1024; blank = false }) else or_fault fault.Format (format_by (text_of v))
+abbrev pub format_in : Value → Result RecordFormat Fault
+format_in v = if is_null v then Ok (record { characters = 1024; blank = false }) else or_fault fault.Format (format_by (text_of v))
 
 -- INPUT(name, unit, most) and OUTPUT(name, unit, format), beside the name
 abbrev pub input_in : Value → Value → Result Input Fault

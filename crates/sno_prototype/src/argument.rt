@@ -1,11 +1,11 @@
 //! The arguments of the primitive functions that change the state.
 ghost use Rattle.std.specs.Prelude.{◌≡◌};
 ghost use Rattle.mon_text.specs.Stops.{Gives};
-ghost use Rattle.sno_store.specs.Arguments.{name_in, number_within, unit_in, unit_or, most_in, format_in, input_in, output_in};
+ghost use Rattle.sno_prototype.specs.Arguments.{name_in, number_within, unit_in, unit_or, most_in, format_in, input_in, output_in};
 
-use crate::variable::{Input, Output};
+use crate::association::{Input, Output};
+use crate::format::{Format, read_format};
 use mon_text::Stop;
-use sno_prototype::{Format, read_format};
 use sno_text::{Fault, Text};
 use sno_value::Value;
 use std::alloc::Global;
@@ -91,10 +91,7 @@ fn format_in(alloc: Global, value: &Value) -> Result<Format, Stop<Fault>>
     ensures { Gives (λ format. format) result (format_in value.now) }
 {
     if value.is_null() {
-        return Ok(Format {
-            length: 1024,
-            blank: false,
-        });
+        return Ok(Format::new(1024, false));
     }
     match value.to_text(alloc)? {
         Some(text) => match read_format(text.as_bytes()) {
