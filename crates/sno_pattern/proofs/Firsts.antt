@@ -38,7 +38,7 @@ starts_arrive text p simple (suc k) at n h =
     (λ n'. starts_arrive text p simple k (at + 1) n' (omega arith))
     (outcome text (Meet p ∷ []) at [] n) (first_end text p at [] n simple (omega arith))
 
-enough_starts : (l : ℕ) (anchored : Bool) → 0 + (if anchored then 1 else (l + 1)) ≤ l + 1
+pub enough_starts : (l : ℕ) (anchored : Bool) → 0 + (if anchored then 1 else (l + 1)) ≤ l + 1
 enough_starts l true = omega arith
 enough_starts l false = omega arith
 

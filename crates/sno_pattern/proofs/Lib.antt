@@ -9,3 +9,4 @@ pub mod Reaches
 pub mod Run
 pub mod Table
 pub mod Trying
+pub mod Within

@@ -10,7 +10,7 @@ use Rattle.sno_pattern.specs.declared.ending.Pending.{Pending}
 use Rattle.sno_pattern.specs.declared.ending.MatchEnd.{MatchEnd}
 use Rattle.sno_pattern.specs.declared.ending.MatchEnd.TheVariants.{Limit}
 use Rattle.sno_pattern.specs.Looks.{Look, Told, Fits}
-use Rattle.sno_pattern.specs.Places.{IsSimple, ends_of, Comes, starts, first_place, IsAt}
+use Rattle.sno_pattern.specs.Places.{IsSimple, ends_of, Comes, starts, first_place, IsAt, MatchesWithin}
 use Rattle.sno_pattern.specs.Steps.{Goal, Meet, row, attempt, outcome, Finish, counted_match, match_of}
 
 -- taking a goal off is one step, and the rest goes on as goals come out
@@ -62,6 +62,11 @@ FirstEnd = (text : List ℕ) (a : Pattern) (c : ℕ) (p : List Pending) (n : ℕ
 abbrev pub FirstMatch : Type 0
 FirstMatch = (text : List ℕ) (p : Pattern) (anchored : Bool) (limit : ℕ)
     → IsSimple p → (e : MatchEnd) × (match_of text p anchored limit ≡ Ends e) × IsAt (first_place text p (starts text anchored)) e
+
+-- whatever the host tells, what is matched is a part of the text
+abbrev pub MatchIsWithin : Type 0
+MatchIsWithin = (text : List ℕ) (p : Pattern) (anchored : Bool) (limit : ℕ)
+    → EndsIn (MatchesWithin (length text)) (match_of text p anchored limit)
 
 -- what a match was broken off after, inside a call of the host too, begins a whole match
 module _ {S : Type 0} (tells : S → Look → Told → S → Type 0) (broken : S → Look → S → Type 0) where

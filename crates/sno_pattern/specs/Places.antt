@@ -1,6 +1,6 @@
 -- Where a pattern can end from a cursor on, in the order in which that is tried, and where it matches first (SNOBOL4 book,
 -- chapter 2; own for BAL and ARBNO): no steps, no goals and no backing up.
-use Rattle.std.specs.Prelude.{◌≡◌, ℕ, zero, suc, ◌+◌, ◌-◌, List, [], ◌∷◌, ◌++◌, length, drop, Bool, not, ◌&&◌, if◌then◌else◌, nat_eq, nat_le, nat_lt, Option, Some, None}
+use Rattle.std.specs.Prelude.{◌≡◌, ℕ, zero, suc, ◌+◌, ◌-◌, List, [], ◌∷◌, ◌++◌, length, drop, Bool, not, ◌&&◌, if◌then◌else◌, nat_eq, nat_le, nat_lt, Option, Some, None, ◌≤◌}
 use Rattle.std.specs.List.{starts_with, flat_map, prefix_len, position_or_len}
 use Rattle.sno_talk.specs.Talks.{Ends, Asks}
 use Rattle.sno_nodes.specs.Patterns.{Pattern}
@@ -84,3 +84,10 @@ IsAt place (end.Matched from to pending) = place ≡ Some (from, to)
 IsAt place end.NoMatch = place ≡ None
 IsAt place end.Limit = Unit {0}
 IsAt place (end.Fault f) = ⊥
+
+-- where it matches, that is a part of a text of this length
+abbrev pub MatchesWithin : ℕ → MatchEnd → Type 0
+MatchesWithin l (end.Matched from to pending) = (from ≤ to) × (to ≤ l)
+MatchesWithin l end.NoMatch = Unit {0}
+MatchesWithin l end.Limit = Unit {0}
+MatchesWithin l (end.Fault f) = Unit {0}

@@ -1,5 +1,5 @@
 //! Laws over the definitions alone. Each is the contract of a function that does nothing.
-ghost use Rattle.sno_pattern.specs.Laws.{TakesOff, StepsFall, AnyDepth, NeedsSteps, StepsAreExact, MatchesAlike, FirstEnd, FirstMatch, MatchesGoOn};
+ghost use Rattle.sno_pattern.specs.Laws.{TakesOff, StepsFall, AnyDepth, NeedsSteps, StepsAreExact, MatchesAlike, FirstEnd, FirstMatch, MatchIsWithin, MatchesGoOn};
 
 use crate::host::MatchHost;
 
@@ -41,6 +41,11 @@ pub fn first_end()
 /// A whole match of such a pattern is from the first start that has an end to the first of its ends.
 pub fn first_match()
     ensures { FirstMatch }
+{}
+
+/// Whatever the host tells, what is matched is a part of the text.
+pub fn matches_within()
+    ensures { MatchIsWithin }
 {}
 
 /// What a match was broken off after, inside a call of the host too, begins a whole match.

@@ -1,10 +1,11 @@
 //! A whole match.
-ghost use Rattle.std.specs.Prelude.{◌≡◌, IfOk, OnErr, reverse};
+ghost use Rattle.std.specs.Prelude.{◌≡◌, length, IfOk, OnErr, reverse};
 ghost use Rattle.mon_text.specs.Lines.{IsLine};
 ghost use Rattle.sno_talk.specs.Holding.{Held, Cut};
 ghost use Rattle.sno_nodes.specs.Nodes.{pattern_of};
 ghost use Rattle.sno_pattern.specs.Looks.{Fits};
 ghost use Rattle.sno_pattern.specs.Steps.{match_of};
+ghost use Rattle.sno_pattern.specs.Places.{MatchesWithin};
 ghost use Rattle.sno_pattern.specs.inner.Stack.{waiting_of};
 
 use crate::choices::{Choice, Ended};
@@ -82,7 +83,7 @@ fn matches_in<H: MatchHost>(
     Ok(MatchEnd::NoMatch)
 }
 
-/// Matches a text, at its start alone or at each place.
+/// Matches a text, at its start alone or at each place. A limit of as many steps as the match needs is enough.
 ///
 /// # Errors
 ///
@@ -97,6 +98,7 @@ pub fn matches<H: MatchHost>(
 ) -> Result<MatchEnd, AllocError>
     requires ready { H.ready host.old }
     ensures held { IfOk result (λ end. Held H.tells Fits (match_of text.now pattern.now anchored limit) host.old end host.new) }
+    ensures within { IfOk result (MatchesWithin (length text.now)) }
     ensures cut { OnErr result (Cut H.tells Fits H.broken (match_of text.now pattern.now anchored limit) host.old host.new) }
     ensures ready { H.ready host.new }
 {
