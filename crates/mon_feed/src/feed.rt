@@ -1,5 +1,6 @@
 //! A deck that comes in pieces.
-ghost use Rattle.std.specs.Prelude.{◌≤◌, ◌<◌, ◌^◌};
+ghost use Rattle.std.specs.Prelude.{◌≤◌, ◌<◌, ◌^◌, IsTrue};
+ghost use Rattle.mon_text.specs.Feeding.{has_no_end};
 ghost use Rattle.mon_feed.specs.Feeds.{lines_loaded};
 
 use crate::options::Options;
@@ -18,4 +19,5 @@ pub struct DeckFeed {
     pub(crate) fed: u64,
     ghost counted: { (commands ≤ lines_taken) × (lines_taken ≤ fed) × (fed < 2 ^ 63) },
     ghost within: { lines_loaded state ≤ lines_taken },
+    ghost unended: { IsTrue (has_no_end line) },
 }

@@ -31,3 +31,10 @@ pub returns-in_err-keep-in-None-clause-memory : goal.returns-in_err-keep-in-None
 returns-in_err-keep-in-None-clause-memory c =
     let kept = keeps_all c.self.inside.kept.items c.args.piece.now (sym c.first_end.ensures.place ∙ c.in-None.is) c.in_err-keep-in-None.ensures.memory.0 c.in_err-keep-in-None.ensures.memory.1 in
     on_err c.from_residual.result (subst (λ (old : List ℕ). HasToKeep old c.args.piece.now) c.self.view_is kept)
+
+pub returns-in_ok-keep-in-None-clause-unended : goal.returns-in_ok-keep-in-None-clause-unended
+returns-in_ok-keep-in-None-clause-unended c =
+    let kept : IsUnfinished c.keep.new.kept.items =
+    subst IsUnfinished (sym c.in_ok-keep-in-None.ensures.kept)
+    (kept_unfinished c.self.inside.kept.items c.args.piece.now (search (rules, c.self.invariant.unended)) (uncut c.args.piece.now (sym c.first_end.ensures.place ∙ c.in-None.is))) in
+    kept.unended
