@@ -1,4 +1,6 @@
 mod Looking
+pub mod Places
+pub mod Changing
 pub mod Binding
 pub mod Leaving
 mod Steps

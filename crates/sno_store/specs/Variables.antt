@@ -1,6 +1,6 @@
 -- The variables of a job: their values, and the units that their reads and writes go to (the SNOBOL4 book, chapter 1, and what it says of input and output).
 -- A variable that was never named has the null string.
-use Rattle.std.specs.Prelude.{ℕ, nat_eq, List, Option, None, Some, unwrap_or}
+use Rattle.std.specs.Prelude.{ℕ, nat_eq, Bool, List, Option, None, Some, is_some, unwrap_or}
 use Rattle.std.specs.Map.{lookup}
 use Rattle.std.specs.Cmp.Lexicographic.{pointwise}
 use Rattle.indexmap.specs.IndexMap.{insert_entry}
@@ -21,6 +21,9 @@ holding v = record { value = v; input = None; output = None }
 
 abbrev pub variable_of : List ℕ → Variables → Variable
 variable_of name vs = unwrap_or (lookup (pointwise nat_eq name) vs) (holding null)
+
+abbrev pub is_named : List ℕ → Variables → Bool
+is_named name vs = is_some (lookup (pointwise nat_eq name) vs)
 
 abbrev pub value_of : List ℕ → Variables → Value
 value_of name vs = (variable_of name vs).value

@@ -31,7 +31,8 @@ fn hold(
     ensures { OnOk result (variables.new ≡ holding_pattern name.now pattern variables.old) }
 {
     let name = named(alloc, name)?;
-    variables.give(&name, Value::Pattern(pattern))
+    variables.give(&name, Value::Pattern(pattern))?;
+    Ok(())
 }
 
 fn hold_abort_and_arb(alloc: Global, variables: &mut Variables) -> Result<(), AllocError>

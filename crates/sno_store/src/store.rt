@@ -1,8 +1,8 @@
 //! The state of a job.
-ghost use Rattle.std.specs.Prelude.{◌≡◌, ◌<◌, ◌^◌, length, IfOk, OnOk, OnErr, if◌then◌else◌};
+ghost use Rattle.std.specs.Prelude.{◌≡◌, ◌<◌, ◌^◌, false, length, IfOk, OnOk, OnErr, if◌then◌else◌};
 ghost use Rattle.std.specs.Option.{option_copied};
 ghost use Rattle.mon_text.specs.Stops.{Gives};
-ghost use Rattle.sno_store.specs.Variables.{variable_of, value_of, use_of, seen};
+ghost use Rattle.sno_store.specs.Variables.{variable_of, value_of, use_of, seen, is_named};
 ghost use Rattle.sno_store.specs.States.{first_state, with_value, with_name, kept_of, with_input, with_output, without_associations, with_function, function_of, value_of_keyword, with_keyword_set, may_begin, with_statement};
 ghost use Rattle.sno_store.specs.Calls.{level_of, entered, restored, left, given_back};
 ghost use Rattle.sno_store.specs.inner.Answers.{Answers};
@@ -54,7 +54,7 @@ impl Store {
         self.variables.found(name)
     }
 
-    /// Gives a variable a value, and tells where that is to be written.
+    /// Gives a variable a value, and tells where that is to be written. One that was named before takes no memory.
     ///
     /// # Errors
     ///
@@ -63,13 +63,12 @@ impl Store {
         ensures stored { OnOk result (self.new ≡ with_value name.now value self.old) }
         ensures output { IfOk result (λ output. output ≡ (variable_of name.now self.old.variables).output) }
         ensures unchanged { OnErr result (self.new ≡ self.old) }
+        ensures memory { OnErr result (is_named name.now self.old.variables ≡ false) }
     {
-        let output = self.variables.output(name);
-        self.variables.give(name, value)?;
-        Ok(output)
+        self.variables.give(name, value)
     }
 
-    /// Names a variable, and tells its place.
+    /// Names a variable, and tells its place. One that was named before takes no memory.
     ///
     /// # Errors
     ///
@@ -78,6 +77,7 @@ impl Store {
         ensures name { IfOk result (λ named. named ≡ name) }
         ensures noted { OnOk result (self.new ≡ with_name name self.old) }
         ensures unchanged { OnErr result (self.new ≡ self.old) }
+        ensures memory { OnErr result (is_named name self.old.variables ≡ false) }
     {
         self.variables.note(name)
     }
@@ -230,6 +230,14 @@ impl Store {
         self.keywords.begin(statement, limit)
     }
 
+    /// The number of the statement at hand, 0 before the first.
+    pub fn statement(&self) -> u64
+        ensures value { result ≡ self.now.keywords.statement }
+        ensures small { result < 2 ^ 63 }
+    {
+        self.keywords.statement().get()
+    }
+
     /// How many statements were begun.
     pub fn begun(&self) -> u64
         ensures { result ≡ self.now.keywords.begun }
@@ -274,7 +282,8 @@ impl Store {
         function: &Function,
         arguments: &[Value],
     ) -> Result<(), AllocError>
-        ensures { OnOk result (self.new ≡ entered function.now arguments.now self.old) }
+        ensures entered { OnOk result (self.new ≡ entered function.now arguments.now self.old) }
+        ensures counted { self.new.keywords ≡ self.old.keywords }
     {
         let definition = function.definition();
         let level = self.level_of(alloc, definition)?;
@@ -292,6 +301,7 @@ impl Store {
     pub fn leave(&mut self) -> Result<Value, AllocError>
         ensures value { IfOk result (λ v. v ≡ given_back self.old) }
         ensures left { OnOk result (self.new ≡ left self.old) }
+        ensures counted { self.new.keywords.begun ≡ self.old.keywords.begun }
     {
         match self.levels.pop() {
             Some(level) => self.restore(level),
@@ -302,6 +312,7 @@ impl Store {
     fn restore(&mut self, level: Level) -> Result<Value, AllocError>
         ensures value { IfOk result (λ v. v ≡ value_of level.name self.old.variables) }
         ensures restored { OnOk result (self.new ≡ restored level self.old) }
+        ensures counted { self.new.keywords.begun ≡ self.old.keywords.begun }
     {
         let Level {
             name,

@@ -1,4 +1,6 @@
 //! Variables.
+ghost use Rattle.std.specs.Prelude.{◌≡◌};
+ghost use Rattle.sno_store.specs.Variables.{holding};
 
 use sno_prototype::{Input, Output};
 use sno_value::Value;
@@ -9,6 +11,19 @@ pub struct Variable {
     pub value: Value,
     pub input: Option<Input>,
     pub output: Option<Output>,
+}
+
+impl Variable {
+    /// A variable of a value, which is associated with nothing.
+    pub fn holding(value: Value) -> Variable
+        ensures { result ≡ holding value }
+    {
+        Variable {
+            value,
+            input: None,
+            output: None,
+        }
+    }
 }
 
 /// What using a variable meets.

@@ -1,10 +1,12 @@
 //! The variables of a job by their names.
-ghost use Rattle.std.specs.Prelude.{◌≡◌, ◌∷◌, ◌++◌, [], slice_get, unwrap_or, OnOk, OnErr, IfOk};
-ghost use Rattle.std.specs.Option.{option_copied};
-ghost use Rattle.std.specs.Map.{lookup};
+ghost use Rattle.std.specs.Prelude.{◌≡◌, ◌∷◌, ◌++◌, [], false, position, slice_get, unwrap_or, OnOk, OnErr, IfOk};
+ghost use Rattle.std.specs.Borrow.{sem};
+ghost use Rattle.std.specs.Option.{option_copied, option_copied_mut};
+ghost use Rattle.std.specs.Map.{lookup, keys_of};
 ghost use Rattle.std.specs.Prelude.{nat_eq};
 ghost use Rattle.std.specs.Cmp.Lexicographic.{pointwise};
-ghost use Rattle.sno_store.specs.Variables.{variable_of, value_of, use_of, seen, put, given, reading, writing, detached, noted};
+ghost use Rattle.sno_store.specs.Variables.{variable_of, value_of, use_of, seen, is_named, put, given, reading, writing, detached, noted};
+ghost use Rattle.sno_store.specs.inner.Lending.{LendsVariable};
 ghost use Rattle.sno_value.specs.Values.{null};
 ghost use Rattle.sno_prototype.specs.Prototypes.{names_of};
 ghost use Rattle.sno_store.specs.Calls.{paired, value_now, saved, assigned, bindings_of};
@@ -18,7 +20,7 @@ use sno_value::Value;
 use std::alloc::{AllocError, Global};
 use std::marker::Model;
 
-/// Variables in the order in which they were first named. None is ever taken out, so that a place stays.
+/// Variables in the order in which they were first named, no two of one name. None is ever taken out, so that a place stays.
 #[derive(Drop)]
 pub struct Variables {
     variables: IndexMap<Text, Variable>,
@@ -29,12 +31,15 @@ impl Model for Variables {
     ghost use Rattle.std.specs.Coded.{codes};
     ghost use Rattle.sno_nodes.specs.inner.Codes.{pattern_code};
     ghost use Rattle.sno_store.specs.declared.variable.Variable.{Variable};
+    ghost use Rattle.sno_store.specs.inner.Places.{AreDistinct};
 
     ghost Value = { List (List ℕ × Variable) };
 
     ghost coded = { Prim.hlevel (codes, pattern_code) };
 
     ghost view = { λ v. v.variables.entries };
+
+    ghost invariant = { λ v. AreDistinct v.variables.entries };
 }
 
 impl Variables {
@@ -96,23 +101,31 @@ impl Variables {
         }
     }
 
-    fn input(&self, name: &Named) -> Option<Input>
-        ensures { result ≡ (variable_of name.now self.now).input }
+    /// The place of a name, which is looked for at its hint first.
+    fn place_of(&self, name: &Named) -> Option<usize>
+        ensures { result ≡ position (pointwise nat_eq name.now) (keys_of self.now) }
     {
-        match self.find(name) {
-            Some(variable) => variable.input,
-            None => None,
+        let hint = name.place();
+        match self.variables.get_index(hint) {
+            Some((key, _)) => {
+                if name.text() == key {
+                    Some(hint)
+                } else {
+                    self.variables.get_index_of(name.text())
+                }
+            }
+            None => self.variables.get_index_of(name.text()),
         }
     }
 
-    /// Where an assignment to a variable writes.
-    pub fn output(&self, name: &Named) -> Option<Output>
-        ensures { result ≡ (variable_of name.now self.now).output }
+    /// A variable that was named before, to be changed. It takes no memory.
+    #[tactic(auto, using(crate::proofs::Places::lending))]
+    fn find_mut(&mut self, name: &Named) -> Option<&mut Variable>
+        ensures* lends { sem 𝓛 (LendsVariable self.entry name.now result) }
+        ensures found { option_copied_mut result ≡ lookup (pointwise nat_eq name.now) self.old }
     {
-        match self.find(name) {
-            Some(variable) => variable.output,
-            None => None,
-        }
+        let place = self.place_of(name)?;
+        self.variables.get_index_mut(place)
     }
 
     fn put(&mut self, name: &Named, variable: Variable) -> Result<(), AllocError>
@@ -126,107 +139,109 @@ impl Variables {
         }
     }
 
-    /// Gives a variable a value. Nothing is written.
+    /// Gives a variable a value, and tells where that is to be written. One that was named before takes no memory.
     ///
     /// # Errors
     ///
     /// Where a growth was refused; nothing has changed then.
-    pub fn give(&mut self, name: &Named, value: Value) -> Result<(), AllocError>
+    #[tactic(auto, using(crate::proofs::Changing::giving))]
+    pub fn give(&mut self, name: &Named, value: Value) -> Result<Option<Output>, AllocError>
         ensures given { OnOk result (self.new ≡ given name.now value self.old) }
+        ensures output { IfOk result (λ output. output ≡ (variable_of name.now self.old).output) }
         ensures unchanged { OnErr result (self.new ≡ self.old) }
+        ensures memory { OnErr result (is_named name.now self.old ≡ false) }
     {
-        let input = self.input(name);
-        let output = self.output(name);
-        let variable = Variable {
-            value,
-            input,
-            output,
-        };
-        self.put(name, variable)
+        if let Some(variable) = self.find_mut(name) {
+            variable.value = value;
+            return Ok(variable.output);
+        }
+        self.put(name, Variable::holding(value))?;
+        Ok(None)
     }
 
-    /// Associates a variable with the records of a unit that its uses read.
+    /// Associates a variable with the records of a unit that its uses read. One that was named before takes no memory.
     ///
     /// # Errors
     ///
     /// Where a growth was refused; nothing has changed then.
+    #[tactic(auto, using(crate::proofs::Changing::associating))]
     pub fn read_from(&mut self, name: &Named, input: Input) -> Result<(), AllocError>
         ensures reading { OnOk result (self.new ≡ reading name.now input self.old) }
         ensures unchanged { OnErr result (self.new ≡ self.old) }
+        ensures memory { OnErr result (is_named name.now self.old ≡ false) }
     {
-        let value = self.value(name)?;
+        if let Some(variable) = self.find_mut(name) {
+            variable.input = Some(input);
+            return Ok(());
+        }
         let variable = Variable {
-            value,
+            value: Value::null(),
             input: Some(input),
-            output: self.output(name),
-        };
-        self.put(name, variable)
-    }
-
-    /// Associates a variable with the unit that assignments to it write to.
-    ///
-    /// # Errors
-    ///
-    /// Where a growth was refused; nothing has changed then.
-    pub fn write_to(&mut self, name: &Named, output: Output) -> Result<(), AllocError>
-        ensures writing { OnOk result (self.new ≡ writing name.now output self.old) }
-        ensures unchanged { OnErr result (self.new ≡ self.old) }
-    {
-        let value = self.value(name)?;
-        let variable = Variable {
-            value,
-            input: self.input(name),
-            output: Some(output),
-        };
-        self.put(name, variable)
-    }
-
-    /// Takes both associations of a variable away.
-    ///
-    /// # Errors
-    ///
-    /// Where a growth was refused; nothing has changed then.
-    pub fn detach(&mut self, name: &Named) -> Result<(), AllocError>
-        ensures detached { OnOk result (self.new ≡ detached name.now self.old) }
-        ensures unchanged { OnErr result (self.new ≡ self.old) }
-    {
-        let value = self.value(name)?;
-        let variable = Variable {
-            value,
-            input: None,
             output: None,
         };
         self.put(name, variable)
     }
 
-    /// Names a variable, and tells its place.
+    /// Associates a variable with the unit that assignments to it write to. One that was named before takes no memory.
     ///
     /// # Errors
     ///
     /// Where a growth was refused; nothing has changed then.
+    #[tactic(auto, using(crate::proofs::Changing::associating))]
+    pub fn write_to(&mut self, name: &Named, output: Output) -> Result<(), AllocError>
+        ensures writing { OnOk result (self.new ≡ writing name.now output self.old) }
+        ensures unchanged { OnErr result (self.new ≡ self.old) }
+        ensures memory { OnErr result (is_named name.now self.old ≡ false) }
+    {
+        if let Some(variable) = self.find_mut(name) {
+            variable.output = Some(output);
+            return Ok(());
+        }
+        let variable = Variable {
+            value: Value::null(),
+            input: None,
+            output: Some(output),
+        };
+        self.put(name, variable)
+    }
+
+    /// Takes both associations of a variable away. One that was named before takes no memory.
+    ///
+    /// # Errors
+    ///
+    /// Where a growth was refused; nothing has changed then.
+    #[tactic(auto, using(crate::proofs::Changing::associating))]
+    pub fn detach(&mut self, name: &Named) -> Result<(), AllocError>
+        ensures detached { OnOk result (self.new ≡ detached name.now self.old) }
+        ensures unchanged { OnErr result (self.new ≡ self.old) }
+        ensures memory { OnErr result (is_named name.now self.old ≡ false) }
+    {
+        if let Some(variable) = self.find_mut(name) {
+            variable.input = None;
+            variable.output = None;
+            return Ok(());
+        }
+        self.put(name, Variable::holding(Value::null()))
+    }
+
+    /// Names a variable, and tells its place. One that was named before takes no memory.
+    ///
+    /// # Errors
+    ///
+    /// Where a growth was refused; nothing has changed then.
+    #[tactic(auto, using(crate::proofs::Changing::naming))]
     pub fn note(&mut self, name: Text) -> Result<Named, AllocError>
         ensures name { IfOk result (λ named. named ≡ name) }
         ensures noted { OnOk result (self.new ≡ noted name self.old) }
         ensures unchanged { OnErr result (self.new ≡ self.old) }
+        ensures memory { OnErr result (is_named name self.old ≡ false) }
     {
-        let named = Named::new(name, 0);
-        let value = self.value(&named)?;
-        let variable = Variable {
-            value,
-            input: self.input(&named),
-            output: self.output(&named),
-        };
-        let name = named.text().copy()?;
-        self.put(&named, variable)?;
-        let place = self.place(&name);
-        Ok(Named::new(name, place))
-    }
-
-    fn place(&self, name: &Text) -> usize {
-        match self.variables.get_index_of(name) {
-            Some(place) => place,
-            None => 0,
+        if let Some(place) = self.variables.get_index_of(&name) {
+            return Ok(Named::new(name, place));
         }
+        let named = Named::new(name, self.variables.len());
+        self.put(&named, Variable::holding(Value::null()))?;
+        Ok(named)
     }
 
     fn save_one(&self, name: &Named, bindings: &mut Bindings) -> Result<(), AllocError>
