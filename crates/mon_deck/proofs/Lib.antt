@@ -2,3 +2,5 @@ pub mod Holdings
 pub mod Running
 pub mod ShownRecords
 mod Examples
+pub mod Beginning
+pub mod Due

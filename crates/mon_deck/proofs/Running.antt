@@ -1,12 +1,14 @@
 -- A run, read by read.
-use Rattle.std.proofs.Common.{◌≡◌, ℕ, Bool, false, List, [], ◌++◌, length, Option, Some, None, IfSome, IfOk, OnOk, OnErr, Result, Ok, Err, refl, sym, ap, ◌∙◌, subst, append_assoc, if◌then◌else◌}
+use Rattle.std.proofs.Common.{◌≡◌, ℕ, Bool, false, List, [], ◌++◌, length, Option, Some, None, IfSome, IfOk, OnOk, OnErr, Result, Ok, Err, refl, sym, ap, ◌∙◌, subst, append_assoc, if◌then◌else◌, ◌+◌, arith}
+use Rattle.std.proofs.lemmas.Bool.Decides.{nat_tests}
 use Rattle.std.specs.Str.Lines.{lines}
 use Rattle.mon_catalogue.specs.Sets.{Sets}
-use Rattle.mon_device.specs.Devices.{holding, Gives, IsAtEnd}
+use Rattle.mon_device.specs.Devices.{holding, Gives, IsAtEnd, HasRead, one_more}
 use Rattle.mon_device.proofs.Holding.{holding-nothing}
 use Rattle.mon_cards.specs.declared.code.Code.{Code}
 use Rattle.mon_feed.specs.declared.feed.DeckFeed.{DeckFeed}
 use Rattle.mon_feed.specs.declared.fault.RunError.{RunError}
+use Rattle.mon_feed.specs.declared.fault.RunError.TheVariants.{ReadFault}
 use Rattle.mon_feed.specs.declared.options.Counts.{Counts}
 use Rattle.mon_cards.specs.Decks.{Deck, Ending, Stopped, Refused}
 use Rattle.mon_cards.specs.Sections.{deck_of}
@@ -34,7 +36,21 @@ begun_at_start told held f = record { gives = gives_nothing told; begun = λ byt
 pub begins : (told held : Option (List ℕ)) (f : DeckFeed) → Runs told told held held f f []
 begins told held f = record { so_far = begun_at_start told held f; served = λ bytes. refl }
 
+-- a read fault of another call
+pub fault_so : {T U : Type 0} (error : RunError) → ◌≡◌ {A = Result T RunError} (Err error) (Err ReadFault) → ◌≡◌ {A = Result U RunError} (Err error) (Err ReadFault)
+fault_so error same = let is : error ≡ ReadFault = cc in ap Err is
+
+-- reads are counted
+pub none_read : (reads : ℕ) → HasRead 0 reads reads
+none_read reads = grind (arith, nat_tests)
+
+pub read_once : (count before now after : ℕ) → HasRead count before now → after ≡ one_more now → HasRead (count + 1) before after
+read_once count before now after so_far more = grind (arith, nat_tests, so_far, more)
+
 -- nothing more was given
+pub runs_same : (told left after held now : Option (List ℕ)) (start f : DeckFeed) (given : List ℕ) → after ≡ left → Runs told left held now start f given → Runs told after held now start f given
+runs_same told left after held now start f given same runs = subst (λ l. Runs told l held now start f given) (sym same) runs
+
 pub left_same : (told left after held now : Option (List ℕ)) (start : DeckFeed) (given : List ℕ) → after ≡ left → Begun told left held now start given → Begun told after held now start given
 left_same told left after held now start given same begun = record { gives = subst (λ l. Gives told given l) (sym same) begun.gives; begun = begun.begun }
 

@@ -1,12 +1,13 @@
 -- What a run answers for these bytes (own).
-use Rattle.std.specs.Prelude.{◌≡◌, ℕ, Bool, List, [], ◌++◌, length, Option}
+use Rattle.std.specs.Prelude.{◌≡◌, ℕ, Bool, List, [], ◌∷◌, ◌++◌, length, Option, if◌then◌else◌}
 use Rattle.std.specs.Str.Lines.{lines}
+use Rattle.mon_text.specs.Feeding.{has_no_end}
 use Rattle.mon_catalogue.specs.Sets.{Sets}
 use Rattle.mon_cards.specs.Decks.{Deck, Ending}
 use Rattle.mon_feed.specs.declared.options.Counts.{Counts}
 use Rattle.mon_cards.specs.Sections.{deck_of}
 use Rattle.mon_feed.specs.Printouts.{sets_after, output_of}
-use Rattle.mon_device.specs.Devices.{Gives, IsAtEnd, HasTaken}
+use Rattle.mon_device.specs.Devices.{Gives, IsAtEnd, HasTaken, holding}
 
 -- how the deck of these bytes ends
 abbrev pub ending_of : List ℕ → Ending
@@ -32,3 +33,13 @@ HoldsBeginning held now text = (rest : List ℕ) × HasTaken held now text rest
 abbrev pub HasBegun : Bool → Option (List ℕ) → Option (List ℕ) → Option (List ℕ) → Option (List ℕ) → Type 0
 HasBegun check told left held now = (given : List ℕ) × Gives told given left
     × ((more : List ℕ) → (IsAtEnd left → more ≡ []) → HoldsBeginning held now (output_of check (given ++ more)))
+
+-- the bytes of the lines that have their line end: all up to the last LF, and it
+abbrev pub whole_lines : List ℕ → List ℕ
+whole_lines [] = []
+whole_lines (c ∷ cs) = if has_no_end (c ∷ cs) then [] else c ∷ whole_lines cs
+
+-- What is due when a read fails: the output of the lines that were read whole, no less and no more. So no printout waits for
+-- a card that is still to come.
+abbrev pub HasPrinted : Bool → Option (List ℕ) → Option (List ℕ) → Option (List ℕ) → Option (List ℕ) → Type 0
+HasPrinted check told left held now = (given : List ℕ) × Gives told given left × (now ≡ holding held (output_of check (whole_lines given)))

@@ -4,12 +4,12 @@ ghost use Rattle.mon_cards.specs.declared.code.Code.{Code, Code as AnyCode};
 ghost use Rattle.mon_catalogue.specs.Sets.{Sets};
 ghost use Rattle.mon_cards.specs.Decks.{Stopped, Refused};
 ghost use Rattle.mon_device.specs.declared.transfer.TheConstants.{MOST_READS};
-ghost use Rattle.mon_device.specs.Devices.{IsAtEnd, holding};
+ghost use Rattle.mon_device.specs.Devices.{IsAtEnd, HasRead, holding};
 ghost use Rattle.mon_feed.specs.Feeds.{Good, refused_at, IsReadBack};
 ghost use Rattle.mon_feed.specs.Told.{told, outcome_from};
 ghost use Rattle.mon_deck.specs.inner.Writing.{holds, HasGrown, Begun, Runs};
 ghost use Rattle.mon_feed.specs.Printouts.{output_of, ReadsBack};
-ghost use Rattle.mon_deck.specs.Runs.{ending_of, catalogue_after, counts_of, HoldsBeginning, HasBegun};
+ghost use Rattle.mon_deck.specs.Runs.{ending_of, catalogue_after, counts_of, HoldsBeginning, HasBegun, HasPrinted};
 ghost use Rattle.mon_deck.specs.Faults.{status_of, fault_line};
 
 use mon_device::{DeckReader, DeckWriter, Failed, MOST_READS, READ_SIZE, write_all};
@@ -27,7 +27,7 @@ const WRITE_SIZE: usize = 65_536;
 ///
 /// `DeckRefused` at the first line that is refused: the printouts of the commands before it were written, unless the
 /// deck was only to be checked, and no catalogue. `ReadFault` where the reader failed, or where 4,294,967,295 reads did not
-/// come to its end; `WriteFault` where the writer failed; `Memory` where a growth was refused.
+/// come to its end: the output of all lines that were read whole was written. `WriteFault` where the writer failed; `Memory` where a growth was refused.
 pub fn run_deck<R: DeckReader, W: DeckWriter>(
     alloc: Global,
     reader: &mut R,
@@ -55,9 +55,12 @@ pub fn run_deck<R: DeckReader, W: DeckWriter>(
     // Whatever is answered, what was written is a beginning of the output.
     ensures begun { HasBegun options.check (R.remaining reader.old) (R.remaining reader.new) (W.written writer.old) (W.written writer.new) }
 
+    // Where the reader failed, all lines that were read whole have been answered.
+    ensures due { result ≡ Err RunError.ReadFault → HasPrinted options.check (R.remaining reader.old) (R.remaining reader.new) (W.written writer.old) (W.written writer.new) }
+
     // Faults are told only where a device failed.
     ensures read_fault { result ≡ Err RunError.ReadFault →
-        (R.has_failed reader.new ≡ true) ⊎ (MOST_READS ≤ R.reads reader.new) }
+        (R.has_failed reader.new ≡ true) ⊎ HasRead MOST_READS (R.reads reader.old) (R.reads reader.new) }
     ensures write_fault { result ≡ Err RunError.WriteFault → W.has_failed writer.new ≡ true }
 {
     let mut feed = DeckFeed::new(alloc, options);
@@ -80,6 +83,7 @@ fn feed_all<R: DeckReader, W: DeckWriter>(
     requires empty { out.old.items ≡ [] }
     ensures runs { OnOk result ((given : List ℕ) × Runs (R.remaining reader.old) (R.remaining reader.new) (W.written writer.old) (W.written writer.new) feed.old feed.new given) }
     ensures begun { OnErr result ((given : List ℕ) × Begun (R.remaining reader.old) (R.remaining reader.new) (W.written writer.old) (W.written writer.new) feed.old given) }
+    ensures due { result ≡ Err RunError.ReadFault → (given : List ℕ) × Runs (R.remaining reader.old) (R.remaining reader.new) (W.written writer.old) (W.written writer.new) feed.old feed.new given }
     ensures at_end { OnOk result (IsAtEnd (R.remaining reader.new)) }
     ensures empty { OnOk result (out.new.items ≡ []) }
     ensures reads_back { IsReadBack feed.old.options.check feed.old.state → OnOk result (IsReadBack feed.new.options.check feed.new.state) }
@@ -88,7 +92,7 @@ fn feed_all<R: DeckReader, W: DeckWriter>(
         IfSome (R.remaining reader.old) (λ bytes. holds (W.written writer.new) (refused_at n code) ≡ holds (W.written writer.old) (outcome_from feed.old bytes)) }
     ensures sound { OnOk result ((R.has_failed reader.new ≡ R.has_failed reader.old) × (W.has_failed writer.new ≡ W.has_failed writer.old)) }
     ensures read_fault { result ≡ Err RunError.ReadFault →
-        (R.has_failed reader.new ≡ true) ⊎ (MOST_READS ≤ R.reads reader.new) }
+        (R.has_failed reader.new ≡ true) ⊎ HasRead MOST_READS (R.reads reader.old) (R.reads reader.new) }
     ensures write_fault { result ≡ Err RunError.WriteFault → W.has_failed writer.new ≡ true }
 {
     let mut buffer = buffer_of(alloc, READ_SIZE)?;

@@ -40,12 +40,12 @@ ends_here (stage.Stream w) n = refl
 ends_here (stage.List w list) n = refl
 
 -- a line that is longer than any may be
-too_long : (limit : ℕ) (line : List ℕ) → limit < 5001 → 5000 < length line → line_refusal limit line ≡ Some LineTooLong
+pub too_long : (limit : ℕ) (line : List ℕ) → limit < 5001 → 5000 < length line → line_refusal limit line ≡ Some LineTooLong
 too_long limit line small long =
     let past : nat_lt limit (length line) ≡ true = grind (arith, nat_tests) in
     ap (λ b. if b then Some LineTooLong else unless (is_line line) BadCharacter) past
 
-list_too_long : (line : List ℕ) → 5000 < length line → list_line_refusal line ≡ Some LineTooLong
+pub list_too_long : (line : List ℕ) → 5000 < length line → list_line_refusal line ≡ Some LineTooLong
 list_too_long line long = by (is_dollar_line line) refl
   where
     by : (b : Bool) → is_dollar_line line ≡ b → list_line_refusal line ≡ Some LineTooLong
@@ -60,7 +60,7 @@ list_too_long line long = by (is_dollar_line line) refl
 stops_at : (refusal later : Option Code) (code : Code) (n : ℕ) (accounts : List Account) (rest : Deck) → refusal ≡ Some code → deck_goes_on (or_else refusal later) n accounts rest ≡ refused_early n code accounts
 stops_at refusal later code n accounts rest e = ap (λ r. deck_goes_on (or_else r later) n accounts rest) e
 
-long_refused : (stage : Stage) (n : ℕ) (line : List ℕ) (ls : List (List ℕ)) → 5000 < length line → deck_from stage n (line ∷ ls) ≡ refused_from stage n LineTooLong
+pub long_refused : (stage : Stage) (n : ℕ) (line : List ℕ) (ls : List (List ℕ)) → 5000 < length line → deck_from stage n (line ∷ ls) ≡ refused_from stage n LineTooLong
 long_refused stage.Opening n line ls long = stops_at _ _ LineTooLong n _ _ (too_long 200 line (omega arith) long)
 long_refused (stage.Accounts accounts) n line ls long = stops_at _ _ LineTooLong n _ _ (too_long 200 line (omega arith) long)
 long_refused (stage.Catalogue accounts progress) n line ls long = stops_at _ _ LineTooLong n _ _ (too_long 5000 line (omega arith) long)

@@ -5,6 +5,7 @@ use Rattle.mon_access.specs.declared.account.Account.{Account}
 use Rattle.mon_catalogue.specs.Sets.{Sets}
 use Rattle.mon_catalogue.specs.Text.{catalogue_text}
 use Rattle.mon_catalogue.specs.Reading.{catalogue_of}
+use Rattle.mon_catalogue.specs.Stored.{IsStored, ArePrintable}
 use Rattle.mon_monitor.specs.declared.command.Command.{Command}
 use Rattle.mon_monitor.specs.Commanded.{Commanded, commanded}
 use Rattle.mon_cards.specs.Decks.{Deck, Ending, Stopped, Refused}
@@ -34,9 +35,12 @@ abbrev pub closing : Sets → Ending → List ℕ
 closing sets Stopped = codes "$CATALOGUE\n" ++ catalogue_text sets
 closing sets (Refused n code) = []
 
--- the bytes that are written of these data sets, cut into lines, are read as these data sets
-abbrev pub ReadsBack : Sets → Type 0
-ReadsBack sets = catalogue_of (lines (catalogue_text sets)) ≡ Ok sets
+-- the bytes that are written of these data sets, cut into lines, are read as these data sets; and so they are in a deck, as
+-- each name, list and record is one, and is printable
+pub record ReadsBack (sets : Sets) : Type 0 where
+  pub same : catalogue_of (lines (catalogue_text sets)) ≡ Ok sets
+  pub stored : IsStored sets
+  pub printable : ArePrintable sets
 
 -- the output of a deck that is run
 abbrev pub output_of_deck : Deck → List ℕ

@@ -3,7 +3,7 @@ use Rattle.std.proofs.lemmas.List.{take_at}
 use Rattle.mon_feed.specs.Told.{outcome_from}
 use Rattle.mon_deck.specs.Runs.{HoldsBeginning}
 use Rattle.mon_deck.specs.inner.Writing.{holds}
-use Rattle.mon_deck.proofs.Running.{on_err, begins, begun_at_start, goes_on, begun_further, midway}
+use Rattle.mon_deck.proofs.Running.{on_err, begins, begun_at_start, goes_on, begun_further, midway, none_read, read_once}
 use Rattle.mon_feed.proofs.Telling.{refused_so}
 use Rattle.mon_deck.proofs.run.feed_all.Goals as goal
 
@@ -22,7 +22,7 @@ loop-read-preserved g c =
             (λ bytes. c.in-Ok-serve.ensures.served bytes ∙ ap (λ (b : List ℕ). holds (g.W.DeckWriter.written c.loop-read.writer) (outcome_from c.loop-read.feed (take c.in-Ok.count b ++ bytes))) same)
             (λ bytes. subst (λ (b : List ℕ). HoldsBeginning (g.W.DeckWriter.written c.loop-read.writer) (g.W.DeckWriter.written c.serve.new.writer) (outcome_from c.loop-read.feed (take c.in-Ok.count b ++ bytes)).written) same (c.serve.ensures.begun bytes)),
       );
-      counted = search rules;
+      reads = read_once c.loop-read._read _ _ _ c.loop-read.invariant.reads c.read.ensures.counted;
       few = omega (arith, c.loop-read.invariant.few, c.in-Ok-serve.ensures.fed, length-take c.in-Ok.count c.deref.result.now, within);
       reads_back = search rules;
       options = search rules;
@@ -55,7 +55,7 @@ loop-read-init g c = record {
   buffer = search rules;
   empty = search rules;
   runs = ([], begins _ _ _);
-  counted = omega arith;
+  reads = none_read _;
   few = omega (arith, c.requires.start);
   reads_back = λ back. back;
   options = refl;

@@ -4,7 +4,8 @@ use Rattle.mon_cards.specs.Decks.{Stopped, Refused}
 use Rattle.mon_feed.specs.Printouts.{output_of}
 use Rattle.mon_deck.specs.Runs.{ending_of}
 use Rattle.mon_feed.proofs.Telling.{refused_so}
-use Rattle.mon_deck.proofs.Running.{run_good, run_bad, met_bad, on_good, if_some, IsGood, broken, finished}
+use Rattle.mon_deck.proofs.Running.{run_good, run_bad, met_bad, on_good, if_some, IsGood, broken, finished, fault_so}
+use Rattle.mon_deck.proofs.Due.{due}
 use Rattle.mon_deck.proofs.run.run_deck.Goals as goal
 
 pub returns-in-Ok-clause-stopped : goal.returns-in-Ok-clause-stopped
@@ -58,3 +59,8 @@ pub returns-in-Err-clause-begun : goal.returns-in-Err-clause-begun
 returns-in-Err-clause-begun g c =
     let b = c.in-Err.ensures.begun in
     broken c.args.options.check _ _ _ _ c.new-feed.result c.new-feed.ensures.start b.0 b.1
+
+pub returns-in-Err-clause-due : goal.returns-in-Err-clause-due
+returns-in-Err-clause-due g c = λ fault.
+    let r = c.feed_all.ensures.due (c.in-Err.is ∙ fault_so c.in-Err.error fault) in
+    due c.args.options.check _ _ _ _ c.new-feed.result _ r.0 c.new-feed.ensures.start r.1

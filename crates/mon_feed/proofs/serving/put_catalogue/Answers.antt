@@ -8,3 +8,6 @@ returns-clause-written c =
     c.in_ok-put_text.ensures.written
     ∙ ap (λ text. text ++ catalogue_text c.args.catalogue.now) (c.in_ok-extend_from_slice-2.ensures.items ∙ ap (λ (t : List ℕ). t ++ codes "$CATALOGUE\n") gathered)
     ∙ append_assoc c.args.out.now.items (codes "$CATALOGUE\n") (catalogue_text c.args.catalogue.now)
+
+pub returns-clause-reads_back : goal.returns-clause-reads_back
+returns-clause-reads_back c = record { same = c.in_ok-put_text.ensures.bytes_read_back; stored = c.in_ok-put_text.ensures.stored; printable = c.in_ok-put_text.ensures.printable }

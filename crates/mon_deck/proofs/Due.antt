@@ -1,0 +1,268 @@
+-- What is due when a read fails: a line that is longer than any may be is refused wherever it stands, and prints nothing;
+-- so what comes of such a line behind bytes that were read is what is due for their whole lines.
+use Rattle.std.proofs.Common.{◌≡◌, ℕ, zero, suc, ◌+◌, ◌<◌, ◌==◌, ◌&&◌, Bool, true, false, cond, if◌then◌else◌, not, List, [], ◌∷◌, ◌++◌, length, map, Option, Some, None, refl, sym, ap, ◌∙◌, arith, append-nil, length-append}
+use borrow.Author.Tests.{ne_eqb}
+use Rattle.std.specs.List.{slice_split, onto_first}
+use Rattle.std.specs.Str.Lines.{lines, lines_of_parts, strip_carriage_return}
+use Rattle.std.proofs.lemmas.List.Splits.{slice_split-cons_no, slice_split-cons_yes}
+use Rattle.std.proofs.lemmas.List.Folds.{list_all-append}
+use Rattle.mon_text.specs.Lines.{is_blank_line}
+use Rattle.mon_text.specs.Feeding.{is_line_feed, is_inside, has_no_end}
+use Rattle.mon_text.proofs.Cutting.{last_line}
+use Rattle.mon_access.specs.declared.account.Account.{Account}
+use Rattle.mon_catalogue.specs.Progress as progress
+use Rattle.mon_catalogue.specs.Progress.{Progress, step}
+use Rattle.mon_cards.specs.declared.code.Code.{Code}
+use Rattle.mon_cards.specs.declared.code.Code.TheVariants.{LineTooLong, Truncated}
+use Rattle.mon_cards.specs.declared.list.OpenList.{OpenList}
+use Rattle.mon_cards.specs.declared.request.Request.{Request}
+use Rattle.mon_cards.specs.declared.request.Request.TheVariants.{Nothing, Asks, Opens, Stops}
+use Rattle.mon_cards.specs.Decks.{Deck, Cards, Ending, Stopped, Refused}
+use Rattle.mon_cards.specs.Refusing.{or_else, line_refusal, is_dollar_line}
+use Rattle.mon_cards.specs.Requests.{set_acl_of, with_line, list_line_refusal, stream_refusal, request_on}
+use Rattle.mon_cards.specs.Sections.{and_then, goes_on, requested, stream_section, deck_goes_on, sets_of, ends_catalogue, catalogue_refusal, catalogue_section, accounts_refusal, table_after, accounts_section, opening_refusal, opening_section, deck_of}
+use Rattle.mon_device.specs.Devices.{holding}
+use Rattle.mon_device.proofs.Holding.{holding-nothing}
+use Rattle.mon_feed.specs.declared.feed.DeckFeed.{DeckFeed}
+use Rattle.mon_feed.specs.declared.stage.State.{State}
+use Rattle.mon_feed.specs.declared.stage.State.TheVariants as state
+use Rattle.mon_feed.specs.Feeds.{outcome, outcome_of, Outcome}
+use Rattle.mon_feed.specs.Told.{outcome_from}
+use Rattle.mon_feed.specs.Printouts.{verdict, answer_to}
+use Rattle.mon_feed.proofs.Following.{too_long, list_too_long, long_refused, outcome_refused}
+use Rattle.mon_deck.specs.Runs.{whole_lines, HasPrinted}
+use Rattle.mon_deck.specs.inner.Writing.{Held, Runs}
+
+-- ---- a deck that is refused prints the same wherever and for whatever that is
+
+abbrev blunt_ending : Ending → Ending
+blunt_ending Stopped = Stopped
+blunt_ending (Refused n code) = Refused 0 Truncated
+
+abbrev blunt_cards : Cards → Cards
+blunt_cards c = record { commands = c.commands; ending = blunt_ending c.ending }
+
+abbrev blunt : Deck → Deck
+blunt d = record { accounts = d.accounts; catalogue = d.catalogue; cards = blunt_cards d.cards }
+
+same_answer : (check : Bool) (d : Deck) → answer_to check (blunt d) ≡ answer_to check d
+same_answer true d = by d.cards.ending
+  where
+    by : (ending : Ending) → verdict (blunt_ending ending) ≡ verdict ending
+    by Stopped = refl
+    by (Refused n code) = refl
+same_answer false d = by d.cards.ending
+  where
+    by : (ending : Ending) → answer_to false (record { accounts = d.accounts; catalogue = d.catalogue; cards = record { commands = d.cards.commands; ending = blunt_ending ending } })
+        ≡ answer_to false (record { accounts = d.accounts; catalogue = d.catalogue; cards = record { commands = d.cards.commands; ending = ending } })
+    by Stopped = refl
+    by (Refused n code) = refl
+
+goes_on_same : (r : Option Code) (n : ℕ) (c d : Cards) → blunt_cards c ≡ blunt_cards d → blunt_cards (goes_on r n c) ≡ blunt_cards (goes_on r n d)
+goes_on_same None n c d same = same
+goes_on_same (Some code) n c d same = refl
+
+requested_same : (request : Request) (f g : Option OpenList → Cards) → ((pending : Option OpenList) → blunt_cards (f pending) ≡ blunt_cards (g pending)) → blunt_cards (requested request f) ≡ blunt_cards (requested request g)
+requested_same Nothing f g same = same None
+requested_same (Asks command) f g same = ap (and_then command) (same None)
+requested_same (Opens account name) f g same = same (Some (record { account = account; name = name; text = [] }))
+requested_same Stops f g same = refl
+
+deck_goes_on_same : (r : Option Code) (n : ℕ) (accounts : List Account) (c d : Deck) → blunt c ≡ blunt d → blunt (deck_goes_on r n accounts c) ≡ blunt (deck_goes_on r n accounts d)
+deck_goes_on_same None n accounts c d same = same
+deck_goes_on_same (Some code) n accounts c d same = refl
+
+either_cards : (b : Bool) (c d e f : Cards) → blunt_cards c ≡ blunt_cards d → blunt_cards e ≡ blunt_cards f → blunt_cards (if b then c else e) ≡ blunt_cards (if b then d else f)
+either_cards true c d e f first second = first
+either_cards false c d e f first second = second
+
+either_deck : (b : Bool) (c d e f : Deck) → blunt c ≡ blunt d → blunt e ≡ blunt f → blunt (if b then c else e) ≡ blunt (if b then d else f)
+either_deck true c d e f first second = first
+either_deck false c d e f first second = second
+
+-- ---- one more line that is too long
+
+module _ (last : List ℕ) (long : 5000 < length last) where
+  stream_same : (ls : List (List ℕ)) (n : ℕ) (pending : Option OpenList) → blunt_cards (stream_section n pending (ls ++ last ∷ [])) ≡ blunt_cards (stream_section n pending ls)
+  stream_same [] n None =
+      ap (λ r. blunt_cards (goes_on (or_else r (stream_refusal last)) n (requested (request_on last) (λ pending. stream_section (n + 1) pending [])))) (too_long 200 last (omega arith) long)
+  stream_same [] n (Some list) =
+      ap (λ r. blunt_cards (goes_on r n (if is_dollar_line last then and_then (set_acl_of list) (stream_section (n + 1) None []) else stream_section (n + 1) (Some (with_line list last)) []))) (list_too_long last long)
+  stream_same (line ∷ ls) n None =
+      goes_on_same (or_else (line_refusal 200 line) (stream_refusal line)) n _ _
+      (requested_same (request_on line) (λ pending. stream_section (n + 1) pending (ls ++ last ∷ [])) (λ pending. stream_section (n + 1) pending ls) (λ pending. stream_same ls (n + 1) pending))
+  stream_same (line ∷ ls) n (Some list) =
+      goes_on_same (list_line_refusal line) n _ _
+      (either_cards (is_dollar_line line) _ _ _ _ (ap (and_then (set_acl_of list)) (stream_same ls (n + 1) None)) (stream_same ls (n + 1) (Some (with_line list line))))
+
+  catalogue_same : (ls : List (List ℕ)) (n : ℕ) (accounts : List Account) (p : Progress) → blunt (catalogue_section n accounts p (ls ++ last ∷ [])) ≡ blunt (catalogue_section n accounts p ls)
+  catalogue_same [] n accounts p =
+      ap (λ r. blunt (deck_goes_on (or_else r (catalogue_refusal p last)) n accounts
+      (if ends_catalogue p last then record { accounts = accounts; catalogue = sets_of p; cards = stream_section (n + 1) None [] } else catalogue_section (n + 1) accounts (step p last) [])))
+      (too_long 5000 last (omega arith) long)
+  catalogue_same (line ∷ ls) n accounts p =
+      deck_goes_on_same (or_else (line_refusal 5000 line) (catalogue_refusal p line)) n accounts _ _
+      (either_deck (ends_catalogue p line) _ _ _ _ (ap (λ (c : Cards). record { accounts = accounts; catalogue = sets_of p; cards = c }) (stream_same ls (n + 1) None)) (catalogue_same ls (n + 1) accounts (step p line)))
+
+  accounts_same : (ls : List (List ℕ)) (n : ℕ) (accounts : List Account) → blunt (accounts_section n accounts (ls ++ last ∷ [])) ≡ blunt (accounts_section n accounts ls)
+  accounts_same [] n accounts =
+      ap (λ r. blunt (deck_goes_on (or_else r (accounts_refusal accounts last)) n accounts
+      (if is_dollar_line last then catalogue_section (n + 1) accounts (progress.SetDue 0 []) [] else accounts_section (n + 1) (table_after accounts last) [])))
+      (too_long 200 last (omega arith) long)
+  accounts_same (line ∷ ls) n accounts =
+      deck_goes_on_same (or_else (line_refusal 200 line) (accounts_refusal accounts line)) n accounts _ _
+      (either_deck (is_dollar_line line) _ _ _ _ (catalogue_same ls (n + 1) accounts (progress.SetDue 0 [])) (accounts_same ls (n + 1) (table_after accounts line)))
+
+  opening_same : (ls : List (List ℕ)) (n : ℕ) → blunt (opening_section n (ls ++ last ∷ [])) ≡ blunt (opening_section n ls)
+  opening_same [] n =
+      ap (λ r. blunt (deck_goes_on (or_else r (opening_refusal last)) n [] (if is_blank_line last then opening_section (n + 1) [] else accounts_section (n + 1) [] [])))
+      (too_long 200 last (omega arith) long)
+  opening_same (line ∷ ls) n =
+      deck_goes_on_same (or_else (line_refusal 200 line) (opening_refusal line)) n [] _ _
+      (either_deck (is_blank_line line) _ _ _ _ (opening_same ls (n + 1)) (accounts_same ls (n + 1) []))
+
+  answer_same : (check : Bool) (ls : List (List ℕ)) → answer_to check (deck_of (ls ++ last ∷ [])) ≡ answer_to check (deck_of ls)
+  answer_same check ls = sym (same_answer check (deck_of (ls ++ last ∷ []))) ∙ ap (answer_to check) (opening_same ls 1) ∙ same_answer check (deck_of ls)
+
+-- ---- bytes that make such a line behind any others
+
+abbrev is_empty : List (List ℕ) → Bool
+is_empty [] = true
+is_empty (x ∷ xs) = false
+
+-- the lines of bytes, but for what follows their last LF
+record Parted (bytes more : List ℕ) : Type 0 where
+  parts : List (List ℕ)
+  last : List ℕ
+  long : 5000 < length last
+  all : slice_split is_line_feed (bytes ++ more) ≡ parts ++ last ∷ []
+  whole : slice_split is_line_feed (whole_lines bytes) ≡ parts ++ [] ∷ []
+  none : is_empty parts ≡ has_no_end bytes
+
+no_end_split : (bytes : List ℕ) → has_no_end bytes ≡ true → slice_split is_line_feed bytes ≡ bytes ∷ []
+no_end_split [] inside = refl
+no_end_split (c ∷ cs) inside = by (is_line_feed c) refl inside (no_end_split cs)
+  where
+    by : (b : Bool) → is_line_feed c ≡ b → (not (is_line_feed c) && has_no_end cs) ≡ true → (has_no_end cs ≡ true → slice_split is_line_feed cs ≡ cs ∷ []) → slice_split is_line_feed (c ∷ cs) ≡ (c ∷ cs) ∷ []
+    by false e rest later = slice_split-cons_no is_line_feed c cs e ∙ ap (onto_first c) (later (ap (λ b. not b && has_no_end cs) (sym e) ∙ rest))
+    by true e rest later = let no : false ≡ true = ap (λ b. not b && has_no_end cs) (sym e) ∙ rest in cc
+
+no_part : (parts : List (List ℕ)) → is_empty parts ≡ true → parts ≡ []
+no_part [] none = refl
+no_part (p ∷ ps) none = cc
+
+record SomeParts (parts : List (List ℕ)) : Type 0 where
+  first : List ℕ
+  others : List (List ℕ)
+  are : parts ≡ first ∷ others
+
+some_part : (parts : List (List ℕ)) → is_empty parts ≡ false → SomeParts parts
+some_part [] some = cc
+some_part (p ∷ ps) some = record { first = p; others = ps; are = refl }
+
+parted : (bytes more : List ℕ) → has_no_end more ≡ true → 5000 < length more → Parted bytes more
+parted [] more inside long = record { parts = []; last = more; long = long; all = no_end_split more inside; whole = refl; none = refl }
+parted (c ∷ cs) more inside long = by (is_line_feed c) refl (has_no_end cs) refl (parted cs more inside long)
+  where
+    kept : Bool → List ℕ
+    kept b = if b then [] else c ∷ whole_lines cs
+
+    by : (feed : Bool) → is_line_feed c ≡ feed → (open_end : Bool) → has_no_end cs ≡ open_end → Parted cs more → Parted (c ∷ cs) more
+    by true feed open_end is p =
+        let no : has_no_end (c ∷ cs) ≡ false = ap (λ b. not b && has_no_end cs) feed in
+        record {
+          parts = [] ∷ p.parts;
+          last = p.last;
+          long = p.long;
+          all = slice_split-cons_yes is_line_feed c (cs ++ more) feed ∙ ap (λ ps. [] ∷ ps) p.all;
+          whole = ap (λ b. slice_split is_line_feed (kept b)) no ∙ slice_split-cons_yes is_line_feed c (whole_lines cs) feed ∙ ap (λ ps. [] ∷ ps) p.whole;
+          none = sym no;
+        }
+    by false feed true is p =
+        let yes : has_no_end (c ∷ cs) ≡ true = ap (λ b. not b && has_no_end cs) feed ∙ is in
+        let nothing = no_part p.parts (p.none ∙ is) in
+        record {
+          parts = [];
+          last = c ∷ p.last;
+          long = omega (arith, p.long);
+          all = slice_split-cons_no is_line_feed c (cs ++ more) feed ∙ ap (onto_first c) (p.all ∙ ap (λ ps. ps ++ p.last ∷ []) nothing);
+          whole = ap (λ b. slice_split is_line_feed (kept b)) yes;
+          none = sym yes;
+        }
+    by false feed false is p =
+        let no : has_no_end (c ∷ cs) ≡ false = ap (λ b. not b && has_no_end cs) feed ∙ is in
+        let some = some_part p.parts (p.none ∙ is) in
+        record {
+          parts = (c ∷ some.first) ∷ some.others;
+          last = p.last;
+          long = p.long;
+          all = slice_split-cons_no is_line_feed c (cs ++ more) feed ∙ ap (onto_first c) (p.all ∙ ap (λ ps. ps ++ p.last ∷ []) some.are);
+          whole =
+              ap (λ b. slice_split is_line_feed (kept b)) no
+              ∙ slice_split-cons_no is_line_feed c (whole_lines cs) feed
+              ∙ ap (onto_first c) (p.whole ∙ ap (λ ps. ps ++ [] ∷ []) some.are);
+          none = sym no;
+        }
+
+lines_end : (parts : List (List ℕ)) (last : List ℕ) → lines_of_parts (parts ++ last ∷ []) ≡ map strip_carriage_return parts ++ (if length last == 0 then [] else last ∷ [])
+lines_end [] last = refl
+lines_end (p ∷ []) last = refl
+lines_end (p ∷ q ∷ ps) last = ap (λ ls. strip_carriage_return p ∷ ls) (lines_end (q ∷ ps) last)
+
+-- ---- what is due
+
+module _ (more : List ℕ) (inside : has_no_end more ≡ true) (long : 5000 < length more) where
+  -- behind any bytes there is one line more than their whole lines
+  one_line_more : (bytes : List ℕ) → (last : List ℕ) × (5000 < length last) × (lines (bytes ++ more) ≡ lines (whole_lines bytes) ++ last ∷ [])
+  one_line_more bytes =
+      let p = parted bytes more inside long in
+      let full : (length p.last == 0) ≡ false = ne_eqb (length p.last) 0 (omega (arith, p.long)) in
+      let whole : map strip_carriage_return p.parts ≡ lines (whole_lines bytes) =
+      sym (append-nil (map strip_carriage_return p.parts)) ∙ sym (lines_end p.parts []) ∙ ap lines_of_parts (sym p.whole) in (
+        p.last,
+        p.long,
+        ap lines_of_parts p.all
+            ∙ lines_end p.parts p.last
+            ∙ ap (λ b. map strip_carriage_return p.parts ++ (if b then [] else p.last ∷ [])) full
+            ∙ ap (λ ls. ls ++ p.last ∷ []) whole,
+      )
+
+  -- and a feed prints nothing of it
+  silent_line : (check : Bool) (s : State) (n : ℕ) (line : List ℕ) → 5000 < length line → (outcome check s n (line ∷ [])).written ≡ []
+  silent_line check (state.Reading stage) n line over =
+      ap (λ (o : Outcome). o.written) (ap (outcome_of check) (long_refused stage n line [] over) ∙ outcome_refused check stage n LineTooLong)
+  silent_line check (state.Stopped w) n line over = refl
+  silent_line check (state.Refused m code) n line over = refl
+  silent_line check state.NoMemory n line over = refl
+
+  silent : (f : DeckFeed) → (outcome_from f more).written ≡ []
+  silent f =
+      let line = f.line ++ more in
+      let over : 5000 < length line = omega (arith, long, length-append f.line more) in
+      let full : (length line == 0) ≡ false = ne_eqb (length line) 0 (omega (arith, over)) in
+      let one : lines line ≡ line ∷ [] = last_line line (list_all-append is_inside f.line more ∙ ap (λ b. b && has_no_end more) f.unended ∙ inside) ∙ ap (λ b. cond b [] (line ∷ [])) full in
+      ap (λ ls. (outcome f.options.check f.state (f.lines_taken + 1) ls).written) one ∙ silent_line f.options.check f.state (f.lines_taken + 1) line over
+
+  due_by : (check : Bool) (told left held now : Option (List ℕ)) (start f : DeckFeed) (given : List ℕ)
+      → ((bytes : List ℕ) → outcome_from start bytes ≡ outcome_of check (deck_of (lines bytes))) → Runs told left held now start f given → HasPrinted check told left held now
+  due_by check told left held now start f given begin runs =
+      let one = one_line_more given in (
+        given,
+        runs.so_far.gives,
+        sym (holding-nothing now)
+            ∙ ap (holding now) (sym (silent f))
+            ∙ ap (λ (h : Held). h.bytes) (runs.served more)
+            ∙ ap (λ (o : Outcome). holding held o.written) (begin (given ++ more))
+            ∙ ap (λ ls. holding held (answer_to check (deck_of ls))) one.2
+            ∙ ap (holding held) (answer_same one.0 one.1 check (lines (whole_lines given))),
+      )
+
+long_bytes : (n : ℕ) → (bytes : List ℕ) × (length bytes ≡ n) × (has_no_end bytes ≡ true)
+long_bytes zero = ([], refl, refl)
+long_bytes (suc n) = let rest = long_bytes n in (120 ∷ rest.0, omega (arith, rest.1), rest.2)
+
+pub due : (check : Bool) (told left held now : Option (List ℕ)) (start f : DeckFeed) (given : List ℕ)
+    → ((bytes : List ℕ) → outcome_from start bytes ≡ outcome_of check (deck_of (lines bytes))) → Runs told left held now start f given → HasPrinted check told left held now
+due check told left held now start f given begin runs =
+    let bytes = long_bytes 5001 in
+    due_by bytes.0 bytes.2 (omega (arith, bytes.1)) check told left held now start f given begin runs
