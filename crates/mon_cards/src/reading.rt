@@ -1,9 +1,9 @@
 //! Reading a deck up to its stream, line by line: what a line of each section adds.
-ghost use Rattle.std.specs.Prelude.{◌≡◌, ◌+◌, ◌<◌, ◌≤◌, ◌^◌, [], ◌∷◌, ◌++◌, not, true, None, drop, if◌then◌else◌, IfOk, IfErr, OnOk, OnErr};
+ghost use Rattle.std.specs.Prelude.{◌≡◌, ◌+◌, ◌<◌, ◌≤◌, ◌^◌, ◌⊎◌, [], ◌∷◌, ◌++◌, not, true, None, IsSome, IsErrOf, drop, if◌then◌else◌, IfOk, IfErr, OnOk, OnErr};
 ghost use Rattle.std.specs.List.{list_all};
 ghost use Rattle.mon_text.specs.Names.{is_name};
 ghost use Rattle.mon_text.specs.Lines.{is_blank_line, words};
-ghost use Rattle.mon_catalogue.specs.Progress.{lines_taken, step, is_due};
+ghost use Rattle.mon_catalogue.specs.Progress.{lines_taken, step, stopped, is_due};
 ghost use Rattle.mon_cards.specs.declared.card.Card.TheVariants as card;
 ghost use Rattle.mon_cards.specs.declared.code.Code.TheVariants.{BadName};
 ghost use Rattle.mon_cards.specs.Refusing.{or_else, unless, line_refusal, lone_card_refusal, is_dollar_line};
@@ -93,9 +93,11 @@ fn add_account(alloc: Global, accounts: &mut Accounts, words: &Words<'_>) -> Res
 ///
 /// # Errors
 ///
-/// The line's refusal; memory.
+/// The line's refusal; `Memory` where a growth was refused, for which a line that is too long or has a bad character has no
+/// need.
 pub fn opens_accounts(alloc: Global, text: &[u8]) -> Result<bool, Stop<Code>>
     ensures answers { Answers (or_else (line_refusal 200 text.now) (opening_refusal text.now)) result }
+    ensures memory { IsErrOf result Stop.Memory → line_refusal 200 text.now ≡ None }
     ensures value { IfOk result (λ opens. opens ≡ not (is_blank_line text.now)) }
 {
     let line = line_of(alloc, text, MOST_LINE_CHARACTERS)?;
@@ -110,7 +112,8 @@ pub fn opens_accounts(alloc: Global, text: &[u8]) -> Result<bool, Stop<Code>>
 ///
 /// # Errors
 ///
-/// The line's refusal; memory.
+/// The line's refusal; `Memory` where a growth was refused, for which a line that is too long or has a bad character has no
+/// need. The table is then unchanged.
 pub fn put_account_line(
     alloc: Global,
     accounts: &mut Accounts,
@@ -119,6 +122,8 @@ pub fn put_account_line(
     ensures answers { Answers (or_else (line_refusal 200 text.now) (accounts_refusal accounts.old text.now)) result }
     ensures ends { IfOk result (λ ends. ends ≡ is_dollar_line text.now) }
     ensures table { IfOk result (λ ends. accounts.new ≡ (if ends then accounts.old else table_after accounts.old text.now)) }
+    ensures unchanged { OnErr result (accounts.new ≡ accounts.old) }
+    ensures memory { IsErrOf result Stop.Memory → line_refusal 200 text.now ≡ None }
 {
     let line = line_of(alloc, text, MOST_LINE_CHARACTERS)?;
     let words = Words::of(alloc, &line)?;
@@ -136,7 +141,8 @@ pub fn put_account_line(
 ///
 /// # Errors
 ///
-/// The line's refusal; memory.
+/// The line's refusal; `Memory` where a growth was refused, for which a line that is too long or has a bad character has no
+/// need. The text is then as it was; or it has stopped, where it was the text that refused the line or wanted memory.
 pub fn put_catalogue_line(
     alloc: Global,
     loading: &mut Loading,
@@ -146,6 +152,8 @@ pub fn put_catalogue_line(
     ensures answers { Answers (or_else (line_refusal 5000 text.now) (catalogue_refusal loading.old text.now)) result }
     ensures ends { IfOk result (λ ends. ends ≡ ends_catalogue loading.old text.now) }
     ensures step { IfOk result (λ ends. loading.new ≡ (if ends then loading.old else step loading.old text.now)) }
+    ensures stopped { OnErr result ((loading.new ≡ loading.old) ⊎ IsSome (stopped loading.new)) }
+    ensures memory { IsErrOf result Stop.Memory → line_refusal 5000 text.now ≡ None }
     ensures counted { lines_taken loading.new ≤ lines_taken loading.old + 1 }
 {
     let line = line_of(alloc, text, MOST_CATALOGUE_LINE_CHARACTERS)?;
@@ -177,6 +185,7 @@ fn put_line(loading: &mut Loading, line: Line) -> Result<(), Stop<Code>>
     requires { lines_taken loading.old < 2 ^ 63 }
     ensures answers { Answers (text_refusal (step loading.old line)) result }
     ensures step { OnOk result (loading.new ≡ step loading.old line) }
+    ensures stopped { OnErr result (IsSome (stopped loading.new)) }
     ensures counted { lines_taken loading.new ≤ lines_taken loading.old + 1 }
 {
     match loading.line(line) {

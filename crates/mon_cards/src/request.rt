@@ -1,5 +1,6 @@
 //! What a line of the stream asks for: a command, the lines of a permission list, the deck's end, or nothing.
-ghost use Rattle.std.specs.Prelude.{◌≡◌, ◌<◌, length, IfOk};
+ghost use Rattle.std.specs.Prelude.{◌≡◌, ◌<◌, true, None, length, IfOk, IsErrOf};
+ghost use Rattle.std.specs.Result.{result_err};
 ghost use Rattle.std.specs.List.{list_all};
 ghost use Rattle.mon_text.specs.Names.{is_name};
 ghost use Rattle.mon_text.specs.Lines.{words};
@@ -51,9 +52,11 @@ pub(crate) fn name_of(word: &[u8]) -> Result<Name, Stop<Code>>
 ///
 /// # Errors
 ///
-/// The line's refusal; memory.
+/// The line's refusal; `Memory` where a growth was refused, for which a line that is too long or has a bad character has no
+/// need.
 pub fn read_request(alloc: Global, text: &[u8]) -> Result<Request, Stop<Code>>
     ensures answers { Answers (or_else (line_refusal 200 text.now) (stream_refusal text.now)) result }
+    ensures memory { IsErrOf result Stop.Memory → line_refusal 200 text.now ≡ None }
     ensures value { IfOk result (λ request. request ≡ request_on text.now) }
 {
     let line = line_of(alloc, text, MOST_LINE_CHARACTERS)?;
@@ -209,17 +212,20 @@ fn from_blank(text: &[u8]) -> &[u8]
 ///
 /// # Errors
 ///
-/// The line's refusal; memory.
+/// The line's refusal; `Memory` where a growth was refused, for which only a card has need.
 pub fn ends_list(alloc: Global, text: &[u8]) -> Result<bool, Stop<Code>>
     ensures answers { Answers (list_line_refusal text.now) result }
+    ensures memory { IsErrOf result Stop.Memory → (is_dollar_line text.now ≡ true) × (line_refusal 200 text.now ≡ None) }
     ensures value { IfOk result (λ ends. ends ≡ is_dollar_line text.now) }
 {
     if begins_with_dollar(text) {
         read_end(alloc, text)?;
         return Ok(true);
     }
-    check_list_line(text)?;
-    Ok(false)
+    match check_list_line(text) {
+        Ok(()) => Ok(false),
+        Err(code) => Err(Stop::Refused(code)),
+    }
 }
 
 pub(crate) fn begins_with_dollar(text: &[u8]) -> bool
@@ -231,6 +237,7 @@ pub(crate) fn begins_with_dollar(text: &[u8]) -> bool
 // A line of a list that is a card has to be `$ENDACL`, alone.
 fn read_end(alloc: Global, text: &[u8]) -> Result<(), Stop<Code>>
     ensures answers { Answers (or_else (line_refusal 200 text.now) (end_refusal (words text.now))) result }
+    ensures memory { IsErrOf result Stop.Memory → line_refusal 200 text.now ≡ None }
 {
     let line = line_of(alloc, text, MOST_LINE_CHARACTERS)?;
     let words = Words::of(alloc, &line)?;
@@ -247,9 +254,10 @@ fn read_end(alloc: Global, text: &[u8]) -> Result<(), Stop<Code>>
 ///
 /// # Errors
 ///
-/// The line's refusal; memory.
+/// The line's refusal; memory, where it has none.
 pub(crate) fn line_of(alloc: Global, text: &[u8], limit: usize) -> Result<Line, Stop<Code>>
     ensures answers { Answers (line_refusal limit text.now) result }
+    ensures memory { IsErrOf result Stop.Memory → line_refusal limit text.now ≡ None }
     ensures value { IfOk result (λ line. line ≡ text.now) }
 {
     match read_line(alloc, text, limit) {
@@ -259,14 +267,14 @@ pub(crate) fn line_of(alloc: Global, text: &[u8], limit: usize) -> Result<Line, 
 }
 
 // Another line of a list may have tabs.
-fn check_list_line(text: &[u8]) -> Result<(), Stop<Code>>
-    ensures answers { Answers (list_text_refusal text.now) result }
+fn check_list_line(text: &[u8]) -> Result<(), Code>
+    ensures { result_err result ≡ list_text_refusal text.now }
 {
     if text.len() > MOST_LINE_CHARACTERS {
-        return Err(Stop::Refused(Code::LineTooLong));
+        return Err(Code::LineTooLong);
     }
     if !has_list_characters(text) {
-        return Err(Stop::Refused(Code::BadCharacter));
+        return Err(Code::BadCharacter);
     }
     Ok(())
 }
