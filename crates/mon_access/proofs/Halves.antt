@@ -1,17 +1,16 @@
--- What halving finds in a list in canonical order is all that there is of a kind.
-use Rattle.std.proofs.Common.{◌≡◌, ◌∙◌, ℕ, zero, suc, ◌+◌, ◌<◌, Bool, true, false, ◌&&◌, ◌||◌, List, [], ◌∷◌, length, get_or, refl, sym, ap, arith, nat_cmp, is_eq, Ordering, Less, Equal, Greater, HoldsAt}
-use Rattle.std.specs.List.{list_any, position_or_len, AllWithin}
-use Rattle.std.specs.Option.{option_map_or}
+-- The entry that is found in a list in canonical order is all that there is of a kind.
+use Rattle.std.proofs.Common.{◌≡◌, ◌∙◌, ℕ, zero, suc, ◌+◌, ◌<◌, Bool, true, false, ◌&&◌, ◌||◌, true≢false, List, [], ◌∷◌, length, get_or, refl, sym, ap, arith, nat_cmp, is_eq, Ordering, Less, Equal, Greater, HoldsAt, IsTrue, None}
+use Rattle.std.specs.List.{list_any, position_or_len}
 use Rattle.std.specs.Cmp.{ranks}
-use Rattle.std.specs.Cmp.Lexicographic.{slice_cmp, nat_list_cmp_total}
-use Rattle.std.specs.Ordering.{ordering_reverse, MatchOrdering, ordering_index}
-use Rattle.std.specs.List.Sorted.{IsNonDecreasingBy}
-use Rattle.std.proofs.lemmas.List.Folds.{list_any_none}
-use Rattle.std.proofs.lemmas.List.Sorted.{searchable_from_sorted}
+use Rattle.std.specs.Cmp.Lexicographic.{slice_cmp, texts_ties, nat_list_cmp_total}
+use Rattle.std.specs.Ordering.{ordering_reverse, MatchOrdering}
+use Rattle.std.proofs.lemmas.List.Folds.{list_any_none, list_any_at}
 use Rattle.std.proofs.lemmas.Map.Keys.{Less-from_sorted}
 use Rattle.mon_acl.specs.declared.entries.Perms.{Perms}
+use Rattle.mon_acl.specs.declared.entries.Tag.{Tag}
+use Rattle.mon_acl.specs.declared.entries.Tag.TheVariants.{Mask}
 use Rattle.mon_acl.specs.declared.entries.Entry.{Entry}
-use Rattle.mon_acl.specs.Entries.{sort_key, compared, IsCanonical}
+use Rattle.mon_acl.specs.Entries.{rank, sort_key, compared, is_for, IsCanonical}
 use Rattle.mon_acl.specs.Permissions.{holds}
 use Rattle.mon_access.specs.declared.finding.Found.{Found}
 use Rattle.mon_access.specs.declared.finding.Found.TheVariants.{Nobody, Lacking, Holding}
@@ -67,48 +66,51 @@ only kind (x ∷ xs) request (suc i) d l at others =
     (sym (shift_judged (holds (get_or xs i d).perms request) i) ∙ ap shifted rest
     ∙ sym (shift (some_holds kind xs request) (list_any kind xs) (position_or_len kind xs)))
 
--- where the entry of a sort key would stand, and what stands there
-module _ (es : List Entry) (key : List ℕ) (sorted : IsCanonical es) where
-  pub rises : IsNonDecreasingBy (λ (y : Entry). ordering_index (slice_cmp nat_cmp (sort_key y) key)) es
-  rises =
-      searchable_from_sorted nat_list_cmp_total sort_key es key
-      (λ k d _ h.
-      let up : compared (get_or es k d) (get_or es (k + 1) d) ≡ Less = Less-from_sorted compared es k (k + 1) d sorted (omega arith) h in
-      ap Rattle.std.specs.Ordering.is_lt (nat_list_cmp_total.antisymm (sort_key (get_or es (k + 1) d)) (sort_key (get_or es k d)) ∙ ap ordering_reverse up))
+-- an entry, for the place behind a list
+some : Entry
+some = record { tag = Mask; name = None; perms = record { read = false; write = false; execute = false } }
 
-  not_equal : (o : Ordering) → (o ≡ Equal → ⊥) → is_eq o ≡ false
-  not_equal Less n = refl
-  not_equal Equal n = absurd (n refl)
-  not_equal Greater n = refl
+-- what an index in a list in canonical order says of the entries for a type and a qualifier
+module _ (es : List Entry) (t : Tag) (q : List ℕ) where
+  stands : (e : Entry) → stands_at (rank t ∷ q) e ≡ is_for t q e
+  stands e = sym (texts_ties (sort_key e) (rank t ∷ q))
 
-  apart : (i k : ℕ) (d : Entry) → i < k → k < length es → slice_cmp nat_cmp (sort_key (get_or es i d)) key ≡ Equal → slice_cmp nat_cmp (sort_key (get_or es k d)) key ≡ Equal → ⊥
-  apart i k d l h a b =
+  equal : (o : Ordering) → is_eq o ≡ true → o ≡ Equal
+  equal Less h = let k : false ≡ true = h in absurd cc
+  equal Equal h = refl
+  equal Greater h = let k : false ≡ true = h in absurd cc
+
+  apart : IsCanonical es → (i k : ℕ) (d : Entry) → i < k → k < length es → is_for t q (get_or es i d) ≡ true → is_for t q (get_or es k d) ≡ true → ⊥
+  apart sorted i k d l h a b =
+      let key = rank t ∷ q in
       let x = sort_key (get_or es i d) in
       let y = sort_key (get_or es k d) in
       let up : slice_cmp nat_cmp x y ≡ Less = Less-from_sorted compared es i k d sorted l h in
-      let same : slice_cmp nat_cmp x y ≡ slice_cmp nat_cmp key y = nat_list_cmp_total.congr x key y a in
-      let turned : slice_cmp nat_cmp key y ≡ Equal = nat_list_cmp_total.antisymm key y ∙ ap ordering_reverse b in
+      let first : slice_cmp nat_cmp x key ≡ Equal = equal _ (stands (get_or es i d) ∙ a) in
+      let second : slice_cmp nat_cmp y key ≡ Equal = equal _ (stands (get_or es k d) ∙ b) in
+      let same : slice_cmp nat_cmp x y ≡ slice_cmp nat_cmp key y = nat_list_cmp_total.congr x key y first in
+      let turned : slice_cmp nat_cmp key y ≡ Equal = nat_list_cmp_total.antisymm key y ∙ ap ordering_reverse second in
       let differ : Less ≡ Equal = sym up ∙ same ∙ turned in cc
 
-  others : (i k : ℕ) (d : Entry) → i < length es → k < length es → (k ≡ i → ⊥) → ((d : Entry) → slice_cmp nat_cmp (sort_key (get_or es i d)) key ≡ Equal) →
-      stands_at key (get_or es k d) ≡ false
-  others i k d l h n a = not_equal _ (λ b. by (nat_cmp k i) (ranks k i) b)
+  others : IsCanonical es → (i k : ℕ) (d : Entry) → i < length es → k < length es → (k ≡ i → ⊥) → is_for t q (get_or es i d) ≡ true → (b : Bool) → is_for t q (get_or es k d) ≡ b → b ≡ false
+  others sorted i k d l h n a false e = refl
+  others sorted i k d l h n a true e = absurd (by (nat_cmp k i) (ranks k i))
     where
-      by : (r : Ordering) → MatchOrdering r (k < i) (k ≡ i) (i < k) → slice_cmp nat_cmp (sort_key (get_or es k d)) key ≡ Equal → ⊥
-      by Less lt b = apart k i d lt l b (a d)
-      by Equal e b = n e
-      by Greater lt b = apart i k d lt h (a d) b
+      by : (r : Ordering) → MatchOrdering r (k < i) (k ≡ i) (i < k) → ⊥
+      by Less o = apart sorted k i d o l e a
+      by Equal o = n o
+      by Greater o = apart sorted i k d o h a e
 
-  pub found_at : (request : Perms) (i : ℕ) (d : Entry) → i < length es → HoldsAt (λ (y : Entry). slice_cmp nat_cmp (sort_key y) key ≡ Equal) es i →
-      judged (holds (get_or es i d).perms request) i ≡ found (stands_at key) es request
-  found_at request i d l a = only (stands_at key) es request i d l (ap is_eq (a d)) (λ k d h n. others i k d l h n a)
+  pub found_at : IsCanonical es → (request perms : Perms) (i : ℕ) → i < length es → HoldsAt (λ (e : Entry). IsTrue (is_for t q e)) es i → HoldsAt (λ (e : Entry). e.perms ≡ perms) es i →
+      judged (holds perms request) i ≡ found (stands_at (rank t ∷ q)) es request
+  found_at sorted request perms i l a held =
+      ap (λ (p : Perms). judged (holds p request) i) (sym (held some))
+      ∙ only (stands_at (rank t ∷ q)) es request i some l (stands (get_or es i some) ∙ a some)
+      (λ k d h n. stands (get_or es k d) ∙ others sorted i k d l h n (a d) (is_for t q (get_or es k d)) refl)
 
-  pub found_nowhere : (request : Perms) (i : ℕ) →
-      AllWithin (λ (y : Entry). slice_cmp nat_cmp (sort_key y) key ≡ Less) es 0 i × AllWithin (λ (y : Entry). slice_cmp nat_cmp (sort_key y) key ≡ Greater) es i (length es) →
-      Nobody ≡ found (stands_at key) es request
-  found_nowhere request i w = nobody (stands_at key) es request (λ k d h. by k d h (nat_cmp k i) (ranks k i))
+  pub found_nowhere : (request : Perms) → list_any (is_for t q) es ≡ false → Nobody ≡ found (stands_at (rank t ∷ q)) es request
+  found_nowhere request none = nobody (stands_at (rank t ∷ q)) es request (λ k d h. stands (get_or es k d) ∙ by k d h (is_for t q (get_or es k d)) refl)
     where
-      by : (k : ℕ) (d : Entry) → k < length es → (r : Ordering) → MatchOrdering r (k < i) (k ≡ i) (i < k) → stands_at key (get_or es k d) ≡ false
-      by k d h Less lt = ap is_eq (w.0 k d (omega arith) lt)
-      by k d h Equal e = let here : k ≡ i = e in ap is_eq (w.1 k d (omega arith) h)
-      by k d h Greater lt = let behind : i < k = lt in ap is_eq (w.1 k d (omega arith) h)
+      by : (k : ℕ) (d : Entry) → k < length es → (b : Bool) → is_for t q (get_or es k d) ≡ b → b ≡ false
+      by k d h false e = refl
+      by k d h true e = absurd (true≢false (sym (list_any_at (is_for t q) es k d h e) ∙ none))

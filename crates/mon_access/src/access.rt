@@ -9,7 +9,7 @@ ghost use Rattle.mon_access.specs.inner.Deciding.{decision_beside_owner, decisio
 
 use crate::account::Account;
 use crate::finding::{Found, of_groups, of_type, of_user, type_holds};
-use mon_acl::{Acl, Entry, Perms, Tag};
+use mon_acl::{Acl, Perms, Tag};
 use mon_text::Name;
 
 /// What the access check answers.
@@ -47,52 +47,42 @@ fn decided(granted: bool, decider: Decider) -> Decision
 }
 
 /// Whether groups are granted what some one of their entries holds, or what none does.
-fn is_granted_to_groups(entries: &[Entry], held: bool, request: Perms) -> bool
-    requires { IsAcl entries.now }
-    ensures { result ≡ (if list_any (has_tag tag.Mask) entries.now then some_holds (has_tag tag.Mask) entries.now request && held
-        else some_holds (has_tag tag.GroupObj) entries.now request) }
+fn is_granted_to_groups(acl: &Acl, held: bool, request: Perms) -> bool
+    requires { IsAcl acl.now }
+    ensures { result ≡ (if list_any (has_tag tag.Mask) acl.now then some_holds (has_tag tag.Mask) acl.now request && held
+        else some_holds (has_tag tag.GroupObj) acl.now request) }
 {
-    match of_type(entries, Tag::Mask, request) {
+    match of_type(acl, Tag::Mask, request) {
         Found::Holding => held,
         Found::Lacking(_) => false,
-        Found::Nobody => type_holds(entries, Tag::GroupObj, request),
+        Found::Nobody => type_holds(acl, Tag::GroupObj, request),
     }
 }
 
 /// What is decided of an account that is not the owner.
-fn decision_of_others(
-    account: &Account,
-    group: &Name,
-    entries: &[Entry],
-    request: Perms,
-) -> Decision
-    requires { IsAcl entries.now }
-    ensures { result ≡ decision_beside_owner account.now group.now entries.now request }
+fn decision_of_others(account: &Account, group: &Name, acl: &Acl, request: Perms) -> Decision
+    requires { IsAcl acl.now }
+    ensures { result ≡ decision_beside_owner account.now group.now acl.now request }
 {
-    match of_user(entries, account, request) {
-        Found::Holding => decided(type_holds(entries, Tag::Mask, request), Decider::Mask),
+    match of_user(acl, account, request) {
+        Found::Holding => decided(type_holds(acl, Tag::Mask, request), Decider::Mask),
         Found::Lacking(index) => Decision::Denied(Decider::User(index)),
-        Found::Nobody => decision_by_groups(account, group, entries, request),
+        Found::Nobody => decision_by_groups(account, group, acl, request),
     }
 }
 
 /// What is decided of an account that no entry names.
-fn decision_by_groups(
-    account: &Account,
-    group: &Name,
-    entries: &[Entry],
-    request: Perms,
-) -> Decision
-    requires { IsAcl entries.now }
-    ensures { result ≡ decision_beside_users account.now group.now entries.now request }
+fn decision_by_groups(account: &Account, group: &Name, acl: &Acl, request: Perms) -> Decision
+    requires { IsAcl acl.now }
+    ensures { result ≡ decision_beside_users account.now group.now acl.now request }
 {
-    match of_groups(entries, account, group, request) {
-        Found::Holding => decided(is_granted_to_groups(entries, true, request), Decider::Mask),
+    match of_groups(acl, account, group, request) {
+        Found::Holding => decided(is_granted_to_groups(acl, true, request), Decider::Mask),
         Found::Lacking(index) => {
-            let granted = is_granted_to_groups(entries, false, request);
+            let granted = is_granted_to_groups(acl, false, request);
             decided(granted, Decider::Group(index))
         }
-        Found::Nobody => decided(type_holds(entries, Tag::Other, request), Decider::Other),
+        Found::Nobody => decided(type_holds(acl, Tag::Other, request), Decider::Other),
     }
 }
 
@@ -105,10 +95,10 @@ fn decision_by_groups(
 pub fn check(account: &Account, owner: &Name, group: &Name, acl: &Acl, request: Perms) -> Decision
     ensures { result ≡ decision account.now owner.now group.now acl.now request }
 {
-    let entries = acl.entries();
+    let _entries = acl.len();
     if account.name == *owner {
-        decided(type_holds(entries, Tag::UserObj, request), Decider::UserObj)
+        decided(type_holds(acl, Tag::UserObj, request), Decider::UserObj)
     } else {
-        decision_of_others(account, group, entries, request)
+        decision_of_others(account, group, acl, request)
     }
 }

@@ -188,6 +188,28 @@ piece_stops texts left piece rest n es s r is h =
     subst (λ (r : Result (List Entry) AclError). Stops s r) (sym (sorted_rest texts left n es r ∙ ap (sorted_on n es) is) ∙ sorted_as_read 1 [] texts)
     (stops_then s (piece_added n piece es) (λ more. sorted_on (n + 1) more rest) h)
 
+sorted_longer : (n : ℕ) (es : List Entry) (ps : List (List ℕ)) (more : List Entry) → sorted_on n es ps ≡ Ok more → length more ≡ length es + length ps
+sorted_longer n es [] more h = let same : es ≡ more = (let k : Ok es ≡ Ok more = h in cc) in omega (arith, ap length same)
+sorted_longer n es (p ∷ ps) more h = at (λ all. sorted_longer (n + 1) all ps more) (piece_added n p es) refl h
+  where
+    at : ((all : List Entry) → sorted_on (n + 1) all ps ≡ Ok more → length more ≡ length all + length ps) →
+        (r : Result (List Entry) AclError) → piece_added n p es ≡ r → (r >>= λ all. sorted_on (n + 1) all ps) ≡ Ok more → length more ≡ length es + length (p ∷ ps)
+    at rest (Ok all) e h = omega (arith, rest all h, piece_longer n p es all e)
+    at rest (Err refusal) e h = absurd (let k : Err refusal ≡ Ok more = h in cc)
+
+of_sorted : (j : Result (List Entry) AclError) → IsOk (j >>= λ all. Ok (arranged all)) → IsOk j
+of_sorted (Ok all) h = refl
+of_sorted (Err refusal) h = h
+
+-- where five entries were read, the first five were
+pub five_read : (texts : List (List ℕ)) (es : List Entry) → canonical_entries_of texts ≡ Ok es → 5 ≤ length es → MayGrow texts
+five_read texts es h five =
+    let read : sorted_on 1 [] texts ≡ Ok es = sorted_as_read 1 [] texts ∙ h in
+    let whole : IsOk (sorted_on 1 [] (take 5 texts ++ drop 5 texts)) = subst (λ (ps : List (List ℕ)). IsOk (sorted_on 1 [] ps)) (sym (take-append-drop 5 texts)) (subst (λ (r : Result (List Entry) AclError). IsOk r) (sym read) refl) in (
+      omega (arith, sorted_longer 1 [] texts es read),
+      of_sorted (entries_of (take 5 texts)) (subst (λ (r : Result (List Entry) AclError). IsOk r) (sorted_as_read 1 [] (take 5 texts)) (prefix_read 1 [] (take 5 texts) (drop 5 texts) whole)),
+    )
+
 -- where one more entry than four asks for memory, the first five were read
 pub piece_grows : (texts left : List (List ℕ)) (piece : List ℕ) (rest : List (List ℕ)) (n : ℕ) (es : List Entry) →
     IsReadTo texts left n es → left ≡ piece ∷ rest → 4 ≤ length es → IsOk (piece_added n piece es) → MayGrow texts
@@ -208,7 +230,3 @@ piece_grows texts left piece rest n es r is four h =
     given : (j : Result (List Entry) AclError) → IsOk j → IsOk (j >>= λ more. Ok more)
     given (Ok more) h = refl
     given (Err refusal) h = h
-
-    of_sorted : (j : Result (List Entry) AclError) → IsOk (j >>= λ all. Ok (arranged all)) → IsOk j
-    of_sorted (Ok all) h = refl
-    of_sorted (Err refusal) h = h

@@ -1,5 +1,6 @@
 -- Entries of a permission list, which lists are valid, and in which order they stand (acl(5) "ACL ENTRIES", "VALID ACLs").
-use Rattle.std.specs.Prelude.{◌≡◌, ℕ, ◌<◌, ◌≤◌, ◌==◌, Bool, true, false, ◌&&◌, ◌||◌, List, [], ◌∷◌, count_by, All, IsTrue, Option, Some, None, nat_eq}
+use Rattle.std.specs.Prelude.{◌≡◌, ℕ, ◌<◌, ◌≤◌, ◌==◌, Bool, true, false, ◌&&◌, ◌||◌, List, [], ◌∷◌, length, count_by, All, HoldsAt, IsTrue, IsFalse, Option, MatchOption, Some, None, nat_eq}
+use Rattle.std.specs.List.{list_any}
 use Rattle.std.specs.List.Sorted.{IsStrictlySortedBy}
 use Rattle.std.specs.Cmp.Lexicographic.{pointwise, slice_cmp}
 use Rattle.std.specs.Ordering.{nat_cmp}
@@ -42,6 +43,11 @@ qualifier e = bytes_of e.name
 -- an entry of this type for this name
 abbrev pub is_for : Tag → List ℕ → Entry → Bool
 is_for t name e = has_tag t e && pointwise nat_eq (qualifier e) name
+
+-- where the entry of this type for this name stands, if there is one
+abbrev pub IsIndexOf : Tag → List ℕ → List Entry → Option ℕ → Type 0
+IsIndexOf t name es index = MatchOption index (IsFalse (list_any (is_for t name) es))
+    (λ i. (i < length es) × HoldsAt (λ e. IsTrue (is_for t name e)) es i)
 
 -- named users and groups have a name, other entries have none
 abbrev pub is_qualified : Tag → Option (List ℕ) → Bool

@@ -1,7 +1,9 @@
 //! The entries of a permission list: a type, a qualifier and permissions.
-ghost use Rattle.std.specs.Prelude.{◌≡◌, ◌++◌, OnOk};
+ghost use Rattle.std.specs.Prelude.{◌≡◌, ◌∷◌, ◌++◌, OnOk};
+ghost use Rattle.std.specs.Ordering.{nat_cmp};
+ghost use Rattle.std.specs.Cmp.Lexicographic.{slice_cmp};
 ghost use Rattle.mon_acl.specs.Permissions.{holds, common};
-ghost use Rattle.mon_acl.specs.Entries.{rank, qualifier, compared, is_named};
+ghost use Rattle.mon_acl.specs.Entries.{rank, qualifier, sort_key, compared, is_named};
 ghost use Rattle.mon_acl.specs.Texts.{tag_word};
 ghost use Rattle.mon_acl.specs.Printing.{entry_head, entry_text, letter, perms_text, is_masked, effective, effective_text, long_line};
 
@@ -210,8 +212,15 @@ impl Entry {
     pub(crate) fn compare(&self, other: &Entry) -> Ordering
         ensures { result ≡ compared self.now other.now }
     {
-        let by_type = self.tag.rank().cmp(&other.tag.rank());
-        by_type.then(self.qualifier().cmp(other.qualifier()))
+        self.compare_with(other.tag, other.qualifier())
+    }
+
+    /// Whether the entry stands before, at or behind the place of that of a type and a qualifier, in canonical order.
+    pub(crate) fn compare_with(&self, tag: Tag, qualifier: &[u8]) -> Ordering
+        ensures { result ≡ slice_cmp nat_cmp (sort_key self.now) (rank tag ∷ qualifier.now) }
+    {
+        let by_type = self.tag.rank().cmp(&tag.rank());
+        by_type.then(self.qualifier().cmp(qualifier))
     }
 }
 

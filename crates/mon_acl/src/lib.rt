@@ -11,6 +11,7 @@ pub mod list;
 mod pieces;
 mod reading;
 pub mod refusals;
+mod summaries;
 pub mod text;
 
 pub use entries::{Entry, Perms, Tag};

@@ -1,5 +1,5 @@
 //! Permission lists, and their text forms.
-ghost use Rattle.std.specs.Prelude.{◌≡◌, ◌++◌, ◌≤◌, List, length, flat_map, Some, IfOk, IsOk, IsErrOf, OnOk, slice_get, option_copied};
+ghost use Rattle.std.specs.Prelude.{◌≡◌, ◌++◌, ◌≤◌, ◌<◌, List, HoldsAt, length, flat_map, Some, Ok, IfOk, IsOk, IsErrOf, OnOk, slice_get, option_copied};
 ghost use Rattle.smallvec.specs.SmallVec.{small_vec_len};
 ghost use Rattle.mon_text.specs.Stops.{Gives};
 ghost use Rattle.mon_acl.specs.Printing.{short_form, next_text, mask_of, long_line, long_form};
@@ -7,7 +7,7 @@ ghost use Rattle.mon_acl.specs.declared.entries.Entry.{Entry};
 ghost use Rattle.mon_acl.specs.declared.refusals.AclError.{AclError};
 ghost use Rattle.mon_acl.specs.Texts.{IsShortText, IsLongText, pieces, long_pieces};
 ghost use Rattle.mon_acl.specs.Refusals.{acl_refusal, long_refusal};
-ghost use Rattle.mon_acl.specs.Entries.{IsAcl, IsCanonical};
+ghost use Rattle.mon_acl.specs.Entries.{IsAcl, IsCanonical, IsIndexOf};
 ghost use Rattle.mon_acl.specs.Reading.{MayGrow, read_pieces, read_short, read_long};
 ghost use Rattle.mon_acl.specs.inner.Building.{pieces_in, piece_added, canonical_entries_of};
 
@@ -16,6 +16,7 @@ use crate::entries::{Entry, Perms, Tag};
 use crate::pieces::Form;
 use crate::reading::entry_of;
 use crate::refusals::AclError;
+use crate::summaries::{Summary, index_of, summaries_of};
 use mon_text::Stop;
 use smallvec::SmallVec;
 use std::alloc::{AllocError, Global};
@@ -27,18 +28,21 @@ use std::marker::Model;
 #[derive(Drop)]
 pub struct Acl {
     entries: SmallVec<Entry, ENTRIES_INLINE>,
+    /// Those of the entries, at the same indexes.
+    summaries: SmallVec<Summary, ENTRIES_INLINE>,
 }
 
 impl Model for Acl {
-    ghost use Rattle.std.specs.Prelude.{List};
+    ghost use Rattle.std.specs.Prelude.{◌≡◌, List, map};
     ghost use Rattle.mon_acl.specs.declared.entries.Entry.{Entry};
     ghost use Rattle.mon_acl.specs.Entries.{IsAcl};
+    ghost use Rattle.mon_acl.specs.inner.Summaries.{summary_of};
 
     ghost Value = { List Entry };
 
     ghost view = { λ a. a.entries.items };
 
-    ghost invariant = { λ a. IsAcl a.entries.items };
+    ghost invariant = { λ a. IsAcl a.entries.items × (a.summaries.items ≡ map summary_of a.entries.items) };
 }
 
 impl Acl {
@@ -136,6 +140,23 @@ impl Acl {
         self.entries().get(i)
     }
 
+    /// The index of the entry of a type and a qualifier, which is empty for a type without names. It takes no memory, and
+    /// time with the logarithm of the number of entries.
+    pub fn index_of(&self, tag: Tag, qualifier: &[u8]) -> Option<usize>
+        ensures { IsIndexOf tag qualifier.now self.now result }
+    {
+        let summaries = self.summaries.as_slice();
+        index_of(summaries, self.entries(), tag, qualifier)
+    }
+
+    /// The permissions of the entry at an index.
+    pub fn perms_at(&self, index: usize) -> Perms
+        requires { index < length self.now }
+        ensures { HoldsAt (λ e. e.perms ≡ result) self.now index }
+    {
+        self.summaries.as_slice()[index].perms
+    }
+
     /// The same list once more.
     ///
     /// # Errors
@@ -149,7 +170,8 @@ impl Acl {
         for entry in self.entries() {
             entries.push(entry.copy())?;
         }
-        Ok(Acl { entries })
+        let summaries = SmallVec::from_slice(alloc, self.summaries.as_slice())?;
+        Ok(Acl { entries, summaries })
     }
 }
 
@@ -161,7 +183,19 @@ fn read_list(alloc: Global, form: Form, text: &[u8]) -> Result<Acl, Stop<AclErro
     let entries = read_entries(alloc, form, text)?;
     match lacking(entries.as_slice()) {
         Some(refusal) => Err(Stop::Refused(refusal)),
-        None => Ok(Acl { entries }),
+        None => listed(alloc, entries),
+    }
+}
+
+/// The list of entries that lack nothing.
+fn listed(alloc: Global, entries: SmallVec<Entry, ENTRIES_INLINE>) -> Result<Acl, Stop<AclError>>
+    requires { IsAcl entries.items }
+    ensures list { Gives (λ acl. acl) result (Ok entries.items) }
+    ensures memory { IsErrOf result Stop.Memory → 5 ≤ length entries.items }
+{
+    match summaries_of(alloc, entries.as_slice()) {
+        Ok(summaries) => Ok(Acl { entries, summaries }),
+        Err(_) => Err(Stop::Memory),
     }
 }
 

@@ -9,17 +9,17 @@ use Rattle.mon_access.proofs.access.decision_of_others.Goals as goal
 
 pub returns-in-Holding : goal.returns-in-Holding
 returns-in-Holding c =
-    let h : Holding ≡ found (is_for_user c.args.account.now) c.args.entries.now c.args.request = cc in
+    let h : Holding ≡ found (is_for_user c.args.account.now) c.args.acl.now c.args.request = cc in
     c.decided.ensures
     ∙ ap (λ (b : Bool). if b then Granted else Denied ByMask) c.type_holds.ensures
-    ∙ user_holds c.args.account.now c.args.group.now c.args.entries.now c.args.request h
+    ∙ user_holds c.args.account.now c.args.group.now c.args.acl.now c.args.request h
 
 pub returns-in-Lacking : goal.returns-in-Lacking
 returns-in-Lacking c =
-    let h : Lacking c.in-Lacking.index ≡ found (is_for_user c.args.account.now) c.args.entries.now c.args.request = cc in
-    user_lacks c.args.account.now c.args.group.now c.args.entries.now c.args.request c.in-Lacking.index h
+    let h : Lacking c.in-Lacking.index ≡ found (is_for_user c.args.account.now) c.args.acl.now c.args.request = cc in
+    user_lacks c.args.account.now c.args.group.now c.args.acl.now c.args.request c.in-Lacking.index h
 
 pub returns-in-Nobody : goal.returns-in-Nobody
 returns-in-Nobody c =
-    let h : Nobody ≡ found (is_for_user c.args.account.now) c.args.entries.now c.args.request = cc in
-    c.decision_by_groups.ensures ∙ no_user c.args.account.now c.args.group.now c.args.entries.now c.args.request h
+    let h : Nobody ≡ found (is_for_user c.args.account.now) c.args.acl.now c.args.request = cc in
+    c.decision_by_groups.ensures ∙ no_user c.args.account.now c.args.group.now c.args.acl.now c.args.request h

@@ -3,4 +3,4 @@ use Rattle.mon_access.specs.inner.Kinds.{found, is_so_far}
 use Rattle.mon_access.proofs.finding.of_groups.Given as goal
 
 abbrev pub invariant-loop-name : goal.invariant-loop-name
-invariant-loop-name l = l.so_far ≡ found (is_so_far l.account l.group (take l.name-index l.account.groups)) l.entries l.request
+invariant-loop-name l = l.so_far ≡ found (is_so_far l.account l.group (take l.name-index l.account.groups)) l.acl l.request

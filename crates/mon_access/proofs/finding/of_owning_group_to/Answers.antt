@@ -10,11 +10,11 @@ pub returns-then-is_in_group : goal.returns-then-is_in_group
 returns-then-is_in_group c =
     let is_in : is_in_group c.args.account.now c.args.group.now ≡ true = search rules in
     c.of_type.ensures
-    ∙ alike (has_tag GroupObj) (is_for_owning_group c.args.account.now c.args.group.now) c.args.entries.now c.args.request
-    (λ k d h. rw is_in (sym (and_true (has_tag GroupObj (get_or c.args.entries.now k d)))))
+    ∙ alike (has_tag GroupObj) (is_for_owning_group c.args.account.now c.args.group.now) c.args.acl.now c.args.request
+    (λ k d h. rw is_in (sym (and_true (has_tag GroupObj (get_or c.args.acl.now k d)))))
 
 pub returns-else-is_in_group : goal.returns-else-is_in_group
 returns-else-is_in_group c =
     let is_out : is_in_group c.args.account.now c.args.group.now ≡ false = search rules in
-    nobody (is_for_owning_group c.args.account.now c.args.group.now) c.args.entries.now c.args.request
-    (λ k d h. rw is_out (and_false (has_tag GroupObj (get_or c.args.entries.now k d))))
+    nobody (is_for_owning_group c.args.account.now c.args.group.now) c.args.acl.now c.args.request
+    (λ k d h. rw is_out (and_false (has_tag GroupObj (get_or c.args.acl.now k d))))

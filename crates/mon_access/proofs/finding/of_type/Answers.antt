@@ -6,6 +6,6 @@ use Rattle.mon_access.proofs.finding.of_type.Goals as goal
 
 pub returns : goal.returns
 returns c =
-    c.lone.ensures
-    ∙ alike (stands_at (rank c.args.tag ∷ [])) (has_tag c.args.tag) c.args.entries.now c.args.request
-    (λ k d h. lone_kind c.args.tag (get_or c.args.entries.now k d) c.requires.lone (c.requires.list.valid.entries k d h))
+    c.of_key.ensures
+    ∙ alike (stands_at (rank c.args.tag ∷ [])) (has_tag c.args.tag) c.args.acl.now c.args.request
+    (λ k d h. lone_kind c.args.tag (get_or c.args.acl.now k d) c.requires.lone (c.requires.list.valid.entries k d h))

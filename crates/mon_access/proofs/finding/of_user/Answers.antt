@@ -8,6 +8,6 @@ use Rattle.mon_access.proofs.finding.of_user.Goals as goal
 
 pub returns : goal.returns
 returns c =
-    c.named.ensures
-    ∙ alike (stands_at (rank User ∷ c.args.account.now.name)) (is_for_user c.args.account.now) c.args.entries.now c.args.request
-    (λ k d h. user_kind c.args.account.now.name (get_or c.args.entries.now k d) (c.requires.valid.entries k d h))
+    c.of_name.ensures
+    ∙ alike (stands_at (rank User ∷ c.args.account.now.name)) (is_for_user c.args.account.now) c.args.acl.now c.args.request
+    (λ k d h. user_kind c.args.account.now.name (get_or c.args.acl.now k d) (c.requires.valid.entries k d h))
