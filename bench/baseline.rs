@@ -1,6 +1,7 @@
 //! The work of `snomon` in plain Rust, for comparison: std alone, no contract and no proof.
 //!
-//! Written for speed: a name is compared as a number, and no entry of a list is looked at twice.
+//! Written for speed: names are numbers, an account's groups are a set of bits, and what a check reads of a list's entries
+//! lies in eight bytes of each. A user is found by halving, and no group of a list is looked at twice.
 //!
 //! Reads a whole deck from standard input, writes the printouts and the catalogue, and tells of the first refusal as
 //! `snomon` does; it takes no options. `docs/REFERENCE.md` has the rules that both follow.
@@ -266,10 +267,6 @@ impl<'a> Entry<'a> {
         !self.name.is_empty()
     }
 
-    fn holds(&self, request: u8) -> bool {
-        self.perms & request == request
-    }
-
     /// Writes the entry but for its permissions.
     fn write_head(&self, out: &mut impl Write) -> io::Result<()> {
         out.write_all(match self.tag {
@@ -313,13 +310,27 @@ fn write_perms(perms: u8, out: &mut impl Write) -> io::Result<()> {
     Ok(())
 }
 
+/// What a check reads of an entry for a name.
+#[derive(Clone, Copy)]
+struct Grant {
+    /// The name's number.
+    number: u32,
+    perms: u8,
+    /// The entry's index: a list has at most 104.
+    index: u8,
+}
+
 /// A permission list: valid, and in the order in which it is printed.
 struct Acl<'a> {
     entries: Vec<Entry<'a>>,
-    /// The numbers of the entries' names; for an entry that has none, a number that no name has.
-    numbers: Vec<u32>,
-    /// The index of the owning group's entry, which is that of the named users' end.
-    owning_group: usize,
+    /// Those of the named users, in the order of their numbers.
+    users: Vec<Grant>,
+    /// Those of the named groups, in the order of the entries.
+    groups: Vec<Grant>,
+    /// The permissions of the owning group, of the mask where there is one, and of all others.
+    group_perms: u8,
+    mask: Option<u8>,
+    other_perms: u8,
 }
 
 impl<'a> Acl<'a> {
@@ -353,36 +364,43 @@ impl<'a> Acl<'a> {
         if named > NAMED_ENTRIES || entries.windows(2).any(is_twice) {
             return Err(first_surplus(&given).expect("an entry is one too many"));
         }
-        let numbers = entries
-            .iter()
-            .map(|entry| match entry.is_named() {
-                true => numbers.of(entry.name),
-                false => u32::MAX,
-            })
-            .collect();
-        let owning_group = entries.partition_point(|entry| entry.tag < Tag::GroupObj);
-        let acl = Acl {
-            entries,
-            numbers,
-            owning_group,
+        let perms_at = |tag| {
+            entries
+                .iter()
+                .find(|entry| entry.tag == tag)
+                .map(|entry| entry.perms)
         };
-        let needed = [
-            (Tag::UserObj, "user::"),
-            (Tag::GroupObj, "group::"),
-            (Tag::Other, "other::"),
-        ];
-        match needed.iter().find(|(tag, _)| acl.find(*tag).is_none()) {
-            Some((_, text)) => Err(ListFault::Missing(text)),
-            None if named > 0 && acl.find(Tag::Mask).is_none() => Err(ListFault::NoMask),
-            None => Ok(acl),
+        let mask = perms_at(Tag::Mask);
+        perms_at(Tag::UserObj).ok_or(ListFault::Missing("user::"))?;
+        let group_perms = perms_at(Tag::GroupObj).ok_or(ListFault::Missing("group::"))?;
+        let other_perms = perms_at(Tag::Other).ok_or(ListFault::Missing("other::"))?;
+        if named > 0 && mask.is_none() {
+            return Err(ListFault::NoMask);
         }
-    }
-
-    /// The entry of a type that has no names.
-    fn find(&self, tag: Tag) -> Option<&Entry<'a>> {
-        self.entries
-            .iter()
-            .find(|entry| entry.tag == tag && !entry.is_named())
+        let mut grants = |tag| -> Vec<Grant> {
+            let grant = |(index, entry): (usize, &Entry<'a>)| Grant {
+                number: numbers.of(entry.name),
+                perms: entry.perms,
+                index: index as u8,
+            };
+            let is_of = |(_, entry): &(usize, &Entry<'a>)| entry.tag == tag;
+            entries
+                .iter()
+                .enumerate()
+                .filter(is_of)
+                .map(grant)
+                .collect()
+        };
+        let (mut users, groups) = (grants(Tag::User), grants(Tag::Group));
+        users.sort_unstable_by_key(|user| user.number);
+        Ok(Acl {
+            entries,
+            users,
+            groups,
+            group_perms,
+            mask,
+            other_perms,
+        })
     }
 
     fn write_short(&self, out: &mut impl Write) -> io::Result<()> {
@@ -397,9 +415,7 @@ impl<'a> Acl<'a> {
 
     /// Writes an entry a line, each after a blank, with what the mask leaves of those that it limits.
     fn write_long(&self, out: &mut impl Write) -> io::Result<()> {
-        let mask = self
-            .find(Tag::Mask)
-            .map_or(READ | WRITE | EXECUTE, |mask| mask.perms);
+        let mask = self.mask.unwrap_or(READ | WRITE | EXECUTE);
         for entry in &self.entries {
             out.write_all(b" ")?;
             entry.write(out)?;
@@ -441,43 +457,42 @@ struct DataSet<'a> {
 }
 
 impl DataSet<'_> {
-    /// The entry that denies a request to an account; none where it is granted. The entries are in canonical order.
-    fn denied_by(&self, account: &Account<'_>, request: u8) -> Option<&Entry<'_>> {
+    /// The index of the entry that denies a request to an account; none where it is granted. The entries are in canonical
+    /// order.
+    fn denied_by(&self, account: &Account<'_>, request: u8) -> Option<usize> {
+        let lacks = |perms: u8| perms & request != request;
+        let if_lacking = |perms, index| lacks(perms).then_some(index);
         let Acl {
             entries,
-            numbers,
-            owning_group,
+            users,
+            groups,
+            group_perms,
+            mask,
+            other_perms,
         } = &self.acl;
-        let if_lacking = |index: usize| Some(&entries[index]).filter(|entry| !entry.holds(request));
+        let (others, owning_group) = (entries.len() - 1, 1 + users.len());
         if account.number == self.owner_number {
-            return if_lacking(0);
+            return if_lacking(entries[0].perms, 0);
         }
-        let others = entries.len() - 1;
-        let has_mask = entries[others - 1].tag == Tag::Mask;
-        let users = &numbers[1..*owning_group];
-        if let Some(user) = users.iter().position(|&number| number == account.number) {
-            return if_lacking(1 + user).or_else(|| if_lacking(others - 1));
+        let if_masked = || mask.and_then(|mask| if_lacking(mask, others - 1));
+        if let Ok(user) = users.binary_search_by_key(&account.number, |user| user.number) {
+            let user = users[user];
+            return if_lacking(user.perms, user.index.into()).or_else(if_masked);
         }
-        let ends = others - usize::from(has_mask);
-        let is_for_group = |&index: &usize| {
-            let number = if index == *owning_group {
-                self.group_number
-            } else {
-                numbers[index]
-            };
-            account.groups.contains(&number)
-        };
-        let mut matching = (*owning_group..ends).filter(is_for_group);
-        match matching.next() {
-            None => if_lacking(others),
-            Some(first)
-                if entries[first].holds(request)
-                    || matching.any(|index| entries[index].holds(request)) =>
-            {
-                if_lacking(others - 1).filter(|_| has_mask)
+        let mut first = None;
+        if account.is_in(self.group_number) {
+            if !lacks(*group_perms) {
+                return if_masked();
             }
-            Some(first) => Some(&entries[first]),
+            first = Some(owning_group);
         }
+        for group in groups.iter().filter(|group| account.is_in(group.number)) {
+            if !lacks(group.perms) {
+                return if_masked();
+            }
+            first = first.or(Some(group.index.into()));
+        }
+        first.or_else(|| if_lacking(*other_perms, others))
     }
 
     /// Writes the name, the owner, the group and the number of records.
@@ -486,7 +501,7 @@ impl DataSet<'_> {
             out.write_all(word)?;
             out.write_all(b" ")?;
         }
-        writeln!(out, "{}", self.records.len())
+        write_count(self.records.len(), out)
     }
 
     fn write(&self, out: &mut impl Write) -> io::Result<()> {
@@ -580,8 +595,16 @@ struct Command<'a> {
 struct Account<'a> {
     number: u32,
     primary: &'a [u8],
-    /// The numbers of the groups, the primary one's first.
-    groups: Vec<u32>,
+    primary_number: u32,
+    /// A bit for each number of a name, up to the greatest of these groups: whether the account is in the group.
+    groups: Vec<u64>,
+}
+
+impl Account<'_> {
+    fn is_in(&self, group: u32) -> bool {
+        let word = self.groups.get(group as usize / 64).copied().unwrap_or(0);
+        word >> (group % 64) & 1 == 1
+    }
 }
 
 #[derive(Default)]
@@ -633,10 +656,18 @@ impl<'a> Deck<'a> {
         if names.len() > 1 + FURTHER_GROUPS {
             return Err(Code::TooManyGroups);
         }
+        let number = self.numbers.of(account);
+        let mut groups = Vec::new();
+        for name in &names {
+            let group = self.numbers.of(name) as usize;
+            groups.resize(groups.len().max(group / 64 + 1), 0);
+            groups[group / 64] |= 1 << (group % 64);
+        }
         let known = Account {
-            number: self.numbers.of(account),
+            number,
             primary: names[0],
-            groups: names.iter().map(|name| self.numbers.of(name)).collect(),
+            primary_number: self.numbers.of(names[0]),
+            groups,
         };
         self.accounts.insert(account, known);
         Ok(())
@@ -760,7 +791,7 @@ impl<'a> Catalogue<'a> {
                         owner: command.account,
                         group: account.primary,
                         owner_number: account.number,
-                        group_number: account.groups[0],
+                        group_number: account.primary_number,
                         acl,
                         records: Vec::new(),
                     });
@@ -788,11 +819,11 @@ impl<'a> Catalogue<'a> {
                     },
                     Act::ShowAcl if is_owner => write_list(set, out),
                     Act::ShowAcl => match set.denied_by(account, EXECUTE) {
-                        Some(entry) => write_denial(entry, out),
+                        Some(index) => write_denial(&set.acl.entries[index], out),
                         None => write_list(set, out),
                     },
                     Act::List => match set.denied_by(account, READ) {
-                        Some(entry) => write_denial(entry, out),
+                        Some(index) => write_denial(&set.acl.entries[index], out),
                         None => write_records(set, out),
                     },
                 }
@@ -810,6 +841,21 @@ impl<'a> Catalogue<'a> {
             }
         }
         writeln!(out, "NAMES {names}")
+    }
+}
+
+/// Writes a number and the line's end, without the machinery of formats.
+fn write_count(count: usize, out: &mut impl Write) -> io::Result<()> {
+    let mut digits = *b"00000000000000000000\n";
+    let mut first = digits.len() - 1;
+    let mut rest = count;
+    loop {
+        first -= 1;
+        digits[first] = b'0' + (rest % 10) as u8;
+        rest /= 10;
+        if rest == 0 {
+            return out.write_all(&digits[first..]);
+        }
     }
 }
 
