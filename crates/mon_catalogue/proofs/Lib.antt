@@ -7,6 +7,7 @@ pub mod Acls
 pub mod Blanks
 pub mod Names
 pub mod Changing
+pub mod Written
 pub mod Changed
 pub mod Complete
 pub mod Sound

@@ -2,10 +2,9 @@
 use Rattle.std.specs.Prelude.{◌≡◌, ◌≢◌, ℕ, nat_eq, not, List, [], ◌∷◌, ◌++◌, filter, None, option_map, Ok, ◌↔◌}
 use Rattle.std.specs.Cmp.Lexicographic.{pointwise}
 use Rattle.std.specs.Map.{keys_of}
-use Rattle.mon_acl.specs.declared.entries.Entry.{Entry}
 use Rattle.mon_catalogue.specs.declared.data_set.DataSet.{DataSet}
 use Rattle.mon_catalogue.specs.Sets.{Sets, find_set, NamesDiffer}
-use Rattle.mon_catalogue.specs.Changes.{without_set, with_set, with_acl, listed}
+use Rattle.mon_catalogue.specs.Changes.{without_set, with_changed}
 use Rattle.mon_catalogue.specs.Progress.{step, loaded}
 use Rattle.mon_catalogue.specs.Reading.{catalogue_of}
 use Rattle.mon_catalogue.specs.Spelling.{IsCatalogueText}
@@ -39,21 +38,18 @@ WritingIsStable = (lines : List (List ℕ)) (sets : Sets) → IsCatalogueText li
 
 -- a change of one set leaves all others: each is found as before
 abbrev pub OtherSetsStay : Type 0
-OtherSetsStay = (name other : List ℕ) (sets : Sets) (set : DataSet) (acl : List Entry) → other ≢ name
+OtherSetsStay = (name other : List ℕ) (sets : Sets) (change : DataSet → DataSet) → other ≢ name
     → (find_set other (without_set name sets) ≡ find_set other sets)
-    × (find_set other (with_set name set sets) ≡ find_set other sets)
-    × (find_set other (with_acl name acl sets) ≡ find_set other sets)
+    × (find_set other (with_changed name change sets) ≡ find_set other sets)
 
--- and the set itself is gone, or is that one, or has that list and is else what it was
+-- and the set itself is gone, or is changed so
 abbrev pub NamedSetChanges : Type 0
-NamedSetChanges = (name : List ℕ) (sets : Sets) (set : DataSet) (acl : List Entry) → NamesDiffer sets
-    → (find_set name (without_set name sets) ≡ None)
-    × (find_set name (with_set name set sets) ≡ option_map (λ _. set) (find_set name sets))
-    × (find_set name (with_acl name acl sets) ≡ option_map (listed acl) (find_set name sets))
+NamedSetChanges = (name : List ℕ) (sets : Sets) (change : DataSet → DataSet)
+    → (NamesDiffer sets → find_set name (without_set name sets) ≡ None)
+    × (find_set name (with_changed name change sets) ≡ option_map change (find_set name sets))
 
 -- the names stay in their order, but for one that is taken out
 abbrev pub OrderStays : Type 0
-OrderStays = (name : List ℕ) (sets : Sets) (set : DataSet) (acl : List Entry) → NamesDiffer sets
-    → (keys_of (without_set name sets) ≡ filter (λ other. not (pointwise nat_eq name other)) (keys_of sets))
-    × (keys_of (with_set name set sets) ≡ keys_of sets)
-    × (keys_of (with_acl name acl sets) ≡ keys_of sets)
+OrderStays = (name : List ℕ) (sets : Sets) (change : DataSet → DataSet)
+    → (NamesDiffer sets → keys_of (without_set name sets) ≡ filter (λ other. not (pointwise nat_eq name other)) (keys_of sets))
+    × (keys_of (with_changed name change sets) ≡ keys_of sets)

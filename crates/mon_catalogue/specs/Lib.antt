@@ -1,6 +1,7 @@
 pub mod Records
 pub mod Sets
 pub mod Changes
+pub mod Writing
 pub mod Lending
 pub mod Text
 pub mod Head

@@ -1,12 +1,15 @@
 //! A data set and its records.
 ghost use Rattle.std.specs.Prelude.{◌≡◌, ◌==◌, ◌<◌, ◌≤◌, [], ◌∷◌, ◌++◌, length, slice_get, OnOk, OnErr};
 ghost use Rattle.std.specs.Option.{option_copied};
+ghost use Rattle.mon_text.specs.Stops.{refused_as};
 ghost use Rattle.mon_catalogue.specs.Records.{AreRecords};
+ghost use Rattle.mon_catalogue.specs.Writing.{Put, Cut, put_at, cut_at, put_refusal, recorded};
 
 use mon_acl::Acl;
-use mon_text::{Line, Name};
+use mon_text::{Line, Name, Stop};
 use std::alloc::{AllocError, Global};
 use std::marker::Model;
+use thiserror::Error;
 
 /// How many records a data set has at the most.
 pub const MOST_RECORDS: u64 = 100_000;
@@ -43,6 +46,11 @@ pub struct DataSet {
     pub acl: Acl,
     pub records: Records,
 }
+
+/// No record can be put there: 100,000 stand before the position.
+#[derive(Clone, Copy, Debug, Error)]
+#[error("K3 SET FULL")]
+pub struct SetFull;
 
 impl Records {
     /// No records.
@@ -90,6 +98,36 @@ impl Records {
         self.lines.push(line)?;
         Ok(())
     }
+
+    // Puts a line at a position, and cuts off what stands behind it.
+    #[tactic(auto, using(crate::proofs::Written::still_records_put))]
+    fn put_at(&mut self, position: u64, line: Line) -> Result<(), Stop<SetFull>>
+        requires short { length line ≤ MOST_RECORD_CHARACTERS }
+        ensures put { OnOk result (self.new ≡ put_at position line self.old) }
+        ensures refused { refused_as result ≡ put_refusal position self.old }
+        ensures unchanged { OnErr result (self.new ≡ self.old) }
+    {
+        if position < self.len() {
+            self.lines[position as usize] = line;
+            self.lines.truncate(position as usize + 1);
+            return Ok(());
+        }
+        if self.len() >= MOST_RECORDS {
+            return Err(Stop::Refused(SetFull));
+        }
+        self.push(line)?;
+        Ok(())
+    }
+
+    // Cuts off what stands at a position and behind it.
+    #[tactic(auto, using(crate::proofs::Written::still_records))]
+    fn cut_at(&mut self, position: u64)
+        ensures { self.new ≡ cut_at position self.old }
+    {
+        if position < self.len() {
+            self.lines.truncate(position as usize);
+        }
+    }
 }
 
 impl DataSet {
@@ -98,5 +136,28 @@ impl DataSet {
         ensures { option_copied result ≡ slice_get self.now.records index }
     {
         self.records.lines.get(index as usize)
+    }
+
+    /// Puts a record of at most 1,024 characters at a position, counted from 0, or at the end where fewer stand before it.
+    /// What stood there and behind it is gone. Memory is taken at the end alone.
+    ///
+    /// # Errors
+    ///
+    /// `SetFull` where 100,000 records stand before the position, whatever memory there is; `Memory` where a growth was
+    /// refused. The set is then unchanged.
+    pub fn put_at(&mut self, position: u64, line: Line) -> Result<(), Stop<SetFull>>
+        requires short { length line ≤ MOST_RECORD_CHARACTERS }
+        ensures put { OnOk result (self.new ≡ recorded (Put position line) self.old) }
+        ensures refused { refused_as result ≡ put_refusal position self.old.records }
+        ensures unchanged { OnErr result (self.new ≡ self.old) }
+    {
+        self.records.put_at(position, line)
+    }
+
+    /// Cuts off the records at a position, counted from 0, and behind it. It takes no memory.
+    pub fn cut_at(&mut self, position: u64)
+        ensures { self.new ≡ recorded (Cut position) self.old }
+    {
+        self.records.cut_at(position);
     }
 }

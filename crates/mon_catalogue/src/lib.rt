@@ -12,5 +12,5 @@ pub mod loading;
 pub mod text;
 
 pub use catalogue::{Catalogue, CreateError, MOST_SETS, NoSet};
-pub use data_set::{DataSet, MOST_RECORD_CHARACTERS, MOST_RECORDS, Records};
+pub use data_set::{DataSet, MOST_RECORD_CHARACTERS, MOST_RECORDS, Records, SetFull};
 pub use loading::{CatalogueError, Loading, read_text};

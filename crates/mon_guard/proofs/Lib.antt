@@ -3,3 +3,4 @@ mod Kept
 pub mod Lent
 pub mod Owned
 pub mod Denials
+pub mod Acting

@@ -11,7 +11,7 @@ use Rattle.mon_catalogue.specs.declared.data_set.DataSet.{DataSet}
 use Rattle.mon_catalogue.specs.declared.catalogue.CreateError.{CreateError}
 use Rattle.mon_catalogue.specs.declared.catalogue.CreateError.TheVariants.{NameTaken, CatalogueFull}
 use Rattle.mon_catalogue.specs.Sets.{Sets, find_set, create_refusal}
-use Rattle.mon_catalogue.specs.Changes.{without_set, with_acl}
+use Rattle.mon_catalogue.specs.Changes.{without_set, with_acl, listed}
 use Rattle.mon_catalogue.specs.Laws as catalogue
 use Rattle.mon_guard.specs.declared.answer.Reason.{Reason}
 use Rattle.mon_guard.specs.declared.answer.Reason.TheVariants.{NoSet, NotOwner}
@@ -19,6 +19,8 @@ use Rattle.mon_guard.specs.declared.answer.AclAnswer.TheVariants as acl
 use Rattle.mon_acl.specs.declared.text.AclText.{AclText}
 use Rattle.mon_acl.specs.Forms.{list_of_text}
 use Rattle.mon_guard.specs.Owning.{owner_denial_of, owner_denial, removed_unless, removed, given, acl_set_unless, acl_set, new_set, new_list, created_unless, created}
+use Rattle.mon_catalogue.specs.Writing.{Change, recorded}
+use Rattle.mon_guard.specs.Acting.{acted, changed}
 use Rattle.mon_guard.specs.Laws.{OwnsNamed, Removes, SetsList, Creates, HappensExactly, OwnersRemove, OwnersSetLists, MakersOwn, OtherSetsStay}
 use Rattle.mon_guard.proofs.Owners.{is_owner_true, owns_from}
 
@@ -135,15 +137,23 @@ behind other name set not [] = by (pointwise nat_eq other name) refl
 behind other name set not (first ∷ sets) = ap (λ o. if pointwise nat_eq other first.0 then Some first.1 else o) (behind other name set not sets)
 
 pub other_sets_stay : catalogue.OtherSetsStay → OtherSetsStay
-other_sets_stay stays account sets name other text differ =
-    (removed_stays (owner_denial account sets name), set_stays (owner_denial account sets name), created_stays (create_refusal name sets))
+other_sets_stay stays account sets name other text differ = (
+  removed_stays (owner_denial account sets name),
+  set_stays (owner_denial account sets name),
+  created_stays (create_refusal name sets),
+  λ act. changed_stays (acted account act sets name).change,
+)
   where
+    changed_stays : (o : Option Change) → find_set other (changed name o sets) ≡ find_set other sets
+    changed_stays None = refl
+    changed_stays (Some change) = (stays name other sets (recorded change) differ).1
+
     removed_stays : (r : Option Reason) → find_set other (removed_unless r sets name).1 ≡ find_set other sets
     removed_stays (Some reason) = refl
-    removed_stays None = (stays name other sets (new_set account) new_list differ).0
+    removed_stays None = (stays name other sets (listed new_list) differ).0
 
     given_stays : (l : Result (List Entry) AclError) → find_set other (given l sets name).1 ≡ find_set other sets
-    given_stays (Ok list) = (stays name other sets (new_set account) list differ).2
+    given_stays (Ok list) = (stays name other sets (listed list) differ).1
     given_stays (Err error) = refl
 
     set_stays : (r : Option Reason) → find_set other (acl_set_unless r sets name text).1 ≡ find_set other sets

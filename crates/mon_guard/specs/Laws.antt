@@ -20,6 +20,8 @@ use Rattle.mon_guard.specs.Deciding.{decision_on, to_read, to_execute}
 use Rattle.mon_guard.specs.Reasons.{reason_of}
 use Rattle.mon_guard.specs.Lending.{AclPart, acl_part, records_lent, acl_lent, names_shown, names_lent}
 use Rattle.mon_guard.specs.Owning.{owner_denial, removed, acl_set, new_set, created}
+use Rattle.mon_guard.specs.Acting.{Act, asks, done, acted, only_answered, changed}
+use Rattle.mon_guard.specs.declared.answer.GuardAnswer.TheVariants as answer
 
 -- there is a data set of this name, and it is this one
 abbrev pub IsThere : List ℕ → Sets → DataSet → Type 0
@@ -151,9 +153,27 @@ abbrev pub MakersOwn : Type 0
 MakersOwn = (account : Account) (sets : Sets) (name : List ℕ)
     → HappensExactly (Ok tt) sets (created account sets name) (Creates account sets name)
 
+-- Why an act on the records of a set is denied: what is missing, or the entry that decides.
+abbrev pub WhyNotAct : Account → Act → Sets → List ℕ → Reason → Type 0
+WhyNotAct account act sets name reason =
+    LacksSet name sets reason ⊎ ((set : DataSet) × IsThere name sets set × DecidedBy account set (asks act) reason)
+
+-- An act on records is done exactly where its request is granted on the set that is named, as that set stands; else it is
+-- denied, says why, moves nothing and changes nothing.
+pub record ActsExactly (account : Account) (act : Act) (sets : Sets) (name : List ℕ) : Type 0 where
+  pub done_where : (set : DataSet) → IsThere name sets set → IsGranted account set (asks act)
+      → acted account act sets name ≡ done act set.records
+  pub denied_where : (reason : Reason) → (acted account act sets name ≡ only_answered (answer.Denied reason)) ↔ WhyNotAct account act sets name reason
+  pub one_of_both : ((set : DataSet) × IsThere name sets set × IsGranted account set (asks act))
+      ⊎ ((reason : Reason) × WhyNotAct account act sets name reason)
+
+abbrev pub ActsWhereGranted : Type 0
+ActsWhereGranted = (account : Account) (act : Act) (sets : Sets) (name : List ℕ) → ActsExactly account act sets name
+
 -- no call changes another set than the one that it names
 abbrev pub OtherSetsStay : Type 0
 OtherSetsStay = (account : Account) (sets : Sets) (name other : List ℕ) (text : AclText) → other ≢ name
     → (find_set other (removed account sets name).1 ≡ find_set other sets)
     × (find_set other (acl_set account sets name text).1 ≡ find_set other sets)
     × (find_set other (created account sets name).1 ≡ find_set other sets)
+    × ((act : Act) → find_set other (changed name (acted account act sets name).change sets) ≡ find_set other sets)

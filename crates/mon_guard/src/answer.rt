@@ -3,6 +3,7 @@ ghost use Rattle.std.specs.Prelude.{◌≡◌};
 ghost use Rattle.std.specs.Option.{option_copied};
 ghost use Rattle.mon_guard.specs.Reasons.{reason_at, reason_of};
 ghost use Rattle.mon_guard.specs.Answers.{guard_answer};
+ghost use Rattle.mon_guard.specs.Acting.{told, only_answered};
 
 use mon_access::Decider;
 use mon_acl::{Acl, AclError, Entry, Tag};
@@ -49,6 +50,15 @@ pub enum GuardAnswer {
     Denied(Reason),
     /// The data set has no room for a further record, and nothing has changed.
     Full,
+}
+
+/// What is answered to a request for a record, and the position then.
+#[derive(Drop)]
+pub struct Answered {
+    /// What is answered.
+    pub answer: GuardAnswer,
+    /// How many records stand before the place that the next request is for.
+    pub position: u64,
 }
 
 /// What giving a data set another permission list is answered.
@@ -113,6 +123,39 @@ impl GuardAnswer {
         match done {
             Ok(()) => GuardAnswer::Done,
             Err(reason) => GuardAnswer::Denied(reason),
+        }
+    }
+}
+
+impl Answered {
+    // Denied: nothing moves.
+    pub(crate) fn denied(reason: Reason, position: u64) -> Answered
+        ensures { result ≡ told position (only_answered (GuardAnswer.Denied reason)) }
+    {
+        Answered {
+            answer: GuardAnswer::Denied(reason),
+            position,
+        }
+    }
+
+    // There is no room: nothing moves.
+    pub(crate) fn full(position: u64) -> Answered
+        ensures { result ≡ told position (only_answered GuardAnswer.Full) }
+    {
+        Answered {
+            answer: GuardAnswer::Full,
+            position,
+        }
+    }
+
+    // Done, and the position is this one.
+    pub(crate) fn done(position: u64) -> Answered
+        ensures answer { result.answer ≡ GuardAnswer.Done }
+        ensures position { result.position ≡ position }
+    {
+        Answered {
+            answer: GuardAnswer::Done,
+            position,
         }
     }
 }

@@ -1,22 +1,25 @@
 //! The guard: what an account asks, done exactly where it is granted.
-ghost use Rattle.std.specs.Prelude.{◌≡◌, ◌↔◌, Some, Ok, IfOk, OnOk, OnErr, is_some, IsErrOf, IsOkAnd};
+ghost use Rattle.std.specs.Prelude.{◌≡◌, ◌≤◌, ◌↔◌, length, slice_get, Some, Ok, IfOk, OnOk, OnErr, is_some, IsSome, IsErrOf, IsOkAnd};
 ghost use Rattle.std.specs.Result.{result_map_both};
 ghost use Rattle.mon_text.specs.Stops.{Gives, refused_as};
 ghost use Rattle.mon_acl.specs.Forms.{MayTakeMemory};
 ghost use Rattle.mon_access.specs.Matches.{is_owner};
 ghost use Rattle.mon_catalogue.specs.Sets.{create_refusal};
 ghost use Rattle.mon_guard.specs.declared.answer.Reason.{Reason};
-ghost use Rattle.mon_guard.specs.Deciding.{to_read, to_execute, decision_on, decided, where_granted};
+ghost use Rattle.mon_guard.specs.Deciding.{to_read, to_write, to_execute, decision_on, decided, where_granted};
 ghost use Rattle.mon_guard.specs.Lending.{records_lent, acl_lent, name_lent};
 ghost use Rattle.mon_guard.specs.Owning.{owner_denial, removed, acl_set, created, new_list};
+ghost use Rattle.mon_guard.specs.Acting.{Read, Write, End, acted, changed, told, read_at};
 ghost use Rattle.mon_guard.specs.Answers.{guard_answer, acl_answer};
 
-use crate::answer::{AclAnswer, Decided, GuardAnswer, Reason};
+use crate::answer::{AclAnswer, Answered, Decided, GuardAnswer, Reason};
 use crate::shown::{ShownAcl, ShownName};
 use mon_access::{Account, Decision, check};
 use mon_acl::{Acl, AclError, AclText, Perms};
-use mon_catalogue::{Catalogue, CreateError, DataSet, NoSet, Records};
-use mon_text::{Name, Stop};
+use mon_catalogue::{
+    Catalogue, CreateError, DataSet, MOST_RECORD_CHARACTERS, NoSet, Records, SetFull,
+};
+use mon_text::{Line, Name, Stop};
 use std::alloc::{AllocError, Global};
 
 /// Answers requests on data sets, each by the set's owner, group and permission list as they stand at that moment.
@@ -238,6 +241,87 @@ impl Guard {
         GuardAnswer::of(self.try_remove(account, catalogue, name))
     }
 
+    /// Reads the record at a position, counted from 0, of the set of a name, where r is granted on it. The position is then
+    /// behind the record; past the end it is `EndOfFile`, and the position stays.
+    ///
+    /// # Errors
+    ///
+    /// Where a growth was refused, which only a record that is read needs.
+    pub fn read(
+        &mut self,
+        alloc: Global,
+        account: &Account,
+        catalogue: &Catalogue,
+        name: &Name,
+        position: u64,
+    ) -> Result<Answered, AllocError>
+        ensures answer { IfOk result (λ answered. answered ≡ told position (acted account.now (Read position) catalogue.now name.now)) }
+        ensures memory { OnErr result (IsSome (acted account.now (Read position) catalogue.now name.now).position) }
+    {
+        match self.records(account, catalogue, name) {
+            Ok(records) => read_at(alloc, records, position),
+            Err(reason) => Ok(Answered::denied(reason, position)),
+        }
+    }
+
+    /// Writes a record of at most 1,024 characters at a position, counted from 0, of the set of a name, where w is granted on
+    /// it. What stood there and behind it is gone, and the position is then behind the record. Where 100,000 records stand
+    /// before it it is `Full`, and nothing changes.
+    ///
+    /// # Errors
+    ///
+    /// Where a growth was refused, which only a record that is written needs; the catalogue is then unchanged.
+    #[tactic(auto, using(crate::proofs::Acting::changes))]
+    pub fn write(
+        &mut self,
+        account: &Account,
+        catalogue: &mut Catalogue,
+        name: &Name,
+        position: u64,
+        line: Line,
+    ) -> Result<Answered, AllocError>
+        requires short { length line ≤ MOST_RECORD_CHARACTERS }
+        ensures answer { IfOk result (λ answered. answered ≡ told position (acted account.now (Write position line) catalogue.old name.now)) }
+        ensures sets { OnOk result (catalogue.new ≡ changed name.now (acted account.now (Write position line) catalogue.old name.now).change catalogue.old) }
+        ensures unchanged { OnErr result (catalogue.new ≡ catalogue.old) }
+        ensures memory { OnErr result (IsSome (acted account.now (Write position line) catalogue.old name.now).position) }
+    {
+        let Some(set) = catalogue.find_mut(name) else {
+            return Ok(Answered::denied(Reason::NoSet, position));
+        };
+        if let Err(reason) = permit(account, set, to_write()) {
+            return Ok(Answered::denied(reason, position));
+        }
+        match set.put_at(position, line) {
+            Ok(()) => Ok(Answered::done(set.records.len())),
+            Err(Stop::Refused(SetFull)) => Ok(Answered::full(position)),
+            Err(Stop::Memory) => Err(AllocError),
+        }
+    }
+
+    /// Cuts off the records at a position, counted from 0, and behind it, of the set of a name, where w is granted on it. The
+    /// position is then behind the last record that is left. It takes no memory.
+    #[tactic(auto, using(crate::proofs::Acting::changes))]
+    pub fn end(
+        &mut self,
+        account: &Account,
+        catalogue: &mut Catalogue,
+        name: &Name,
+        position: u64,
+    ) -> Answered
+        ensures answer { result ≡ told position (acted account.now (End position) catalogue.old name.now) }
+        ensures sets { catalogue.new ≡ changed name.now (acted account.now (End position) catalogue.old name.now).change catalogue.old }
+    {
+        let Some(set) = catalogue.find_mut(name) else {
+            return Answered::denied(Reason::NoSet, position);
+        };
+        if let Err(reason) = permit(account, set, to_write()) {
+            return Answered::denied(reason, position);
+        }
+        set.cut_at(position);
+        Answered::done(set.records.len())
+    }
+
     /// Creates a data set with no records, which every account may do: it is the account's, of the account's primary
     /// group, grants all to its owner and nothing to others, and is put last.
     ///
@@ -289,10 +373,36 @@ fn to_read() -> Perms
     Perms::new(true, false, false)
 }
 
+fn to_write() -> Perms
+    ensures { result ≡ to_write }
+{
+    Perms::new(false, true, false)
+}
+
 fn to_execute() -> Perms
     ensures { result ≡ to_execute }
 {
     Perms::new(false, false, true)
+}
+
+// The record at a position, and the position behind it.
+fn read_at(alloc: Global, records: &Records, position: u64) -> Result<Answered, AllocError>
+    ensures answer { IfOk result (λ answered. answered ≡ told position (read_at position (slice_get records.now position))) }
+    ensures memory { OnErr result (IsSome (read_at position (slice_get records.now position)).position) }
+{
+    match records.as_slice().get(position as usize) {
+        Some(line) => {
+            let line = line.copy(alloc)?;
+            Ok(Answered {
+                answer: GuardAnswer::Got(line),
+                position: position + 1,
+            })
+        }
+        None => Ok(Answered {
+            answer: GuardAnswer::EndOfFile,
+            position,
+        }),
+    }
 }
 
 // The access check on a set.

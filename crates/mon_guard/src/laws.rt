@@ -1,5 +1,5 @@
 //! Laws of the guard. Each is the contract of a function that does nothing, or only cites a law that it rests on.
-ghost use Rattle.mon_guard.specs.Laws.{LendsWhereGranted, HiddenSetsLeaveNoTrace, DenialsSayWhy, DenialsNameAnEntry, OwnersRemove, OwnersSetLists, MakersOwn, OtherSetsStay};
+ghost use Rattle.mon_guard.specs.Laws.{LendsWhereGranted, HiddenSetsLeaveNoTrace, DenialsSayWhy, DenialsNameAnEntry, OwnersRemove, OwnersSetLists, MakersOwn, ActsWhereGranted, OtherSetsStay};
 
 use mon_access::laws::deciders_lack_the_part;
 
@@ -39,6 +39,11 @@ pub fn owners_set_lists()
 /// A set is created exactly where its name is free and there is room, and is then its maker's; else nothing changes.
 pub fn makers_own()
     ensures { MakersOwn }
+{}
+
+/// An act on records is done exactly where its request is granted; else it is denied, says why, and changes nothing.
+pub fn acts_where_granted()
+    ensures { ActsWhereGranted }
 {}
 
 /// No call changes another set than the one that it names.

@@ -10,6 +10,6 @@ pub mod guard;
 pub mod laws;
 pub mod shown;
 
-pub use answer::{AclAnswer, Decided, GuardAnswer, Reason};
+pub use answer::{AclAnswer, Answered, Decided, GuardAnswer, Reason};
 pub use guard::Guard;
 pub use shown::{ShownAcl, ShownName};
