@@ -148,7 +148,10 @@ impl DeckFeed {
             Ok((used, Some(line))) => {
                 self.fed += used as u64;
                 match self.take_line(alloc, line.text(), out) {
-                    Ok(()) => Ok(used),
+                    Ok(()) => {
+                        self.line.reuse(line);
+                        Ok(used)
+                    }
                     Err(error) => Err(error),
                 }
             }

@@ -114,6 +114,31 @@ impl State {
                 return Ok(());
             }
         }
+        self.move_on(alloc, check, slots, text, commands, out)
+    }
+
+    // Takes a whole line, for what comes of it. It stays a call, since the room for a state is cleared where a function
+    // begins, and most lines take none.
+    #[inline(never)]
+    fn move_on(
+        &mut self,
+        alloc: Global,
+        check: bool,
+        slots: Slots,
+        text: &[u8],
+        commands: &mut u64,
+        out: &mut Vec<u8>,
+    ) -> Result<(), Stop<Code>>
+        requires few { commands.old < 2 ^ 63 }
+        requires within { lines_loaded self.old < 2 ^ 63 }
+        ensures told { OnOk result ((n : ℕ) (ls : List (List ℕ)) → behind out.new.items commands.new (outcome check self.new (n + 1) ls)
+            ≡ behind out.old.items commands.old (outcome check self.old n (text.now ∷ ls))) }
+        ensures within { lines_loaded self.new ≤ lines_loaded self.old + 1 }
+        ensures reads_back { IsReadBack check self.old → OnOk result (IsReadBack check self.new) }
+        ensures counted { commands.new ≤ commands.old + 1 }
+        ensures refused { IfErr result (IfRefused (λ code. (n : ℕ) (ls : List (List ℕ)) → outcome check self.old n (text.now ∷ ls) ≡ refused_at n code)) }
+        ensures nothing { OnErr result (out.new.items ≡ out.old.items) }
+    {
         let before = mem::replace(self, State::NoMemory);
         *self = before.after_line(alloc, check, slots, text, commands, out)?;
         Ok(())

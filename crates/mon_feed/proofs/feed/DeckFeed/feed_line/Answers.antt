@@ -20,13 +20,13 @@ pub returns-in-Ok-clause-told : goal.returns-in-Ok-clause-told
 returns-in-Ok-clause-told c = λ bytes.
     let after = c.take_line.new.self in
     let taken = subst (λ (o : Option EndedLine). Takes c.args.self.now.line c.args.piece.now c.in-Ok-default-Some.used (option_map text_of o) c.take.new.self) c.in-Ok-default-Some.field-0-1-is c.in-Ok-default-Some.ensures.taken in
-    ap (λ (kept : List ℕ). behind c.take_line.new.out.items after.commands (outcome after.options.check after.state (after.lines_taken + 1) (lines (kept ++ (drop c.in-Ok-default-Some.used c.args.piece.now ++ bytes))))) c.take_line.ensures.stays.1
+    ap (λ (kept : List ℕ). behind c.take_line.new.out.items after.commands (outcome after.options.check after.state (after.lines_taken + 1) (lines (kept ++ (drop c.in-Ok-default-Some.used c.args.piece.now ++ bytes))))) (c.reuse.ensures ∙ c.take_line.ensures.stays.1)
     ∙ told_some c.args.self.now.options.check c.args.self.now.state (c.args.self.now.lines_taken + 1) c.args.out.now.items c.args.self.now.commands c.args.self.now.line c.args.piece.now c.in-Ok-default-Some.used (text_of c.in-Ok-default-Some.line) c.take.new.self taken
     c.take_line.new.out.items after.commands (λ ls. outcome after.options.check after.state (after.lines_taken + 1) ls)
     (λ ls. c.in-Ok.ensures.told ls ∙ ap (λ text. behind c.args.out.now.items c.args.self.now.commands (outcome c.args.self.now.options.check c.args.self.now.state (c.args.self.now.lines_taken + 1) (text ∷ ls))) c.text.ensures) bytes
 
-pub returns-clause-refused : goal.returns-clause-refused
-returns-clause-refused c = λ n code same bytes.
+pub returns-in-Err-take_line-clause-refused : goal.returns-in-Err-take_line-clause-refused
+returns-in-Err-take_line-clause-refused c = λ n code same bytes.
     let after = c.take_line.new.self in
     let taken = subst (λ (o : Option EndedLine). Takes c.args.self.now.line c.args.piece.now c.in-Ok-default-Some.used (option_map text_of o) c.take.new.self) c.in-Ok-default-Some.field-0-1-is c.in-Ok-default-Some.ensures.taken in
     let failed = subst (λ (e : Result (Unit {0}) RunError). IfErr e (λ error. after.state ≡ stopped_by error)) (c.in-Err-take_line.is ∙ refused_so c.in-Err-take_line.error n code same) c.take_line.ensures.failed in
@@ -39,10 +39,12 @@ returns-clause-refused c = λ n code same bytes.
 
 pub returns-in-Ok-clause-begun : goal.returns-in-Ok-clause-begun
 returns-in-Ok-clause-begun c = λ bytes.
-    ((outcome_from c.take_line.new.self (drop c.in-Ok-default-Some.used c.args.piece.now ++ bytes)).written, sym (ap (λ (o : Outcome). o.written) (returns-in-Ok-clause-told c bytes)))
+    let after = c.take_line.new.self in
+    let later = outcome after.options.check after.state (after.lines_taken + 1) (lines (c.reuse.new.self ++ (drop c.in-Ok-default-Some.used c.args.piece.now ++ bytes))) in
+    (later.written, sym (ap (λ (o : Outcome). o.written) (returns-in-Ok-clause-told c bytes)))
 
-pub returns-clause-begun : goal.returns-clause-begun
-returns-clause-begun c = λ bytes.
+pub returns-in-Err-take_line-clause-begun : goal.returns-in-Err-take_line-clause-begun
+returns-in-Err-take_line-clause-begun c = λ bytes.
     let later = (outcome_from c.args.self.now (c.args.piece.now ++ bytes)).written in
     let same : c.take_line.new.out.items ≡ c.args.out.now.items = search rules in
     (later, ap (λ (out : List ℕ). out ++ later) (sym same))
