@@ -86,6 +86,28 @@ pub(crate) fn after_card(
     }
 }
 
+/// Takes a line where a permission list is open, unless it ends the list: whether it was one of the list. Else nothing has
+/// changed.
+///
+/// # Errors
+///
+/// The line's refusal; memory.
+pub(crate) fn take_list_line(
+    alloc: Global,
+    list: &mut OpenList,
+    text: &[u8],
+) -> Result<bool, Stop<Code>>
+    ensures taken { IfOk result (λ taken. taken ≡ true → (n : ℕ) (ls : List (List ℕ)) → stream_section (n + 1) (Some list.new) ls ≡ stream_section n (Some list.old) (text.now ∷ ls)) }
+    ensures left { IfOk result (λ taken. taken ≡ false → list.new ≡ list.old) }
+    ensures refused { IfErr result (IfRefused (λ code. (n : ℕ) (ls : List (List ℕ)) → stream_section n (Some list.old) (text.now ∷ ls) ≡ refused n code)) }
+{
+    if ends_list(alloc, text)? {
+        return Ok(false);
+    }
+    list.text.push_line(text)?;
+    Ok(true)
+}
+
 /// A line where a permission list is open: one of the list, or `$ENDACL`.
 ///
 /// # Errors

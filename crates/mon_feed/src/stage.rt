@@ -7,7 +7,7 @@ ghost use Rattle.mon_feed.specs.Feeds.{deck_from, refused_from, outcome, outcome
 
 use crate::options::Slots;
 use crate::reading::{after_account, after_catalogue, after_opening};
-use crate::serving::{after_card, after_list_line, take_card};
+use crate::serving::{after_card, after_list_line, take_card, take_list_line};
 use mon_access::Accounts;
 use mon_cards::{Code, OpenList, put_catalogue_line};
 use mon_catalogue::Loading;
@@ -79,7 +79,8 @@ impl Stage {
         match self {
             Stage::Catalogue(_, loading) => Ok(!put_catalogue_line(alloc, loading, text)?),
             Stage::Stream(monitor) => take_card(alloc, check, monitor, text, commands, out),
-            Stage::Opening | Stage::Accounts(_) | Stage::List(..) => Ok(false),
+            Stage::List(_, list) => take_list_line(alloc, list, text),
+            Stage::Opening | Stage::Accounts(_) => Ok(false),
         }
     }
 }
