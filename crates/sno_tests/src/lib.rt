@@ -6,6 +6,8 @@ mod asking;
 #[cfg(test)]
 mod coding;
 #[cfg(test)]
+mod matching;
+#[cfg(test)]
 mod syntax;
 #[cfg(test)]
 mod values;
