@@ -4,7 +4,7 @@ use Rattle.std.specs.Prelude.{â„•, nat_lt, List, length, Option, Some, None, ifâ
 use Rattle.sno_text.specs.declared.fault.Fault.TheVariants.{Depth}
 use Rattle.sno_value.specs.declared.value.Value.{Value}
 use Rattle.sno_code.specs.Keeping.{Entered, Undefined, Enters, Refused}
-use Rattle.sno_store.specs.declared.function.Definition.{Definition}
+use Rattle.sno_prototype.specs.declared.definition.Definition.{Definition}
 use Rattle.sno_store.specs.declared.store.Store.{Store as State}
 use Rattle.sno_store.specs.States.{function_of, may_begin, with_statement}
 use Rattle.sno_store.specs.Calls as calls

@@ -1,5 +1,5 @@
 -- A match within a statement: what it looks up and assigns meanwhile is done to the state of the job (own).
-use Rattle.std.specs.Prelude.{ℕ, pos, List, map, Bool, not}
+use Rattle.std.specs.Prelude.{ℕ, ◌^◌, ℤ, pos, nat_lt, List, map, Bool, not, if◌then◌else◌}
 use Rattle.std.specs.Fmt.{signed_decimal}
 use Rattle.std.specs.Ordering.{int_eq}
 use Rattle.sno_talk.specs.Talks.{Ends, ◌>>=◌, through}
@@ -30,10 +30,14 @@ looked_at (Integer i) = looked.Text (signed_decimal i)
 looked_at (Pattern p) = looked.Pattern p
 looked_at (Unevaluated name) = looked.Defer name
 
--- what a variable is assigned: a part of the text, or the number of characters before the cursor
+-- the number of characters before a cursor; no text has as many as 2 ^ 63
+abbrev pub place_of : ℕ → ℤ
+place_of at = if nat_lt at (2 ^ 63) then pos at else pos 0
+
+-- what a variable is assigned: a part of the text, or the place of the cursor
 abbrev pub value_taken : Taken → Value
 value_taken (Part text) = Text text
-value_taken (Cursor at) = Integer (pos at)
+value_taken (Cursor at) = Integer (place_of at)
 
 -- neither using a variable nor assigning to one begins a statement or a match, so that only a fault ends the job in it
 abbrev pub halted_by : Halt → Told

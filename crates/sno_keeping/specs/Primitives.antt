@@ -14,36 +14,42 @@ use Rattle.sno_code.specs.declared.got.Halt.TheVariants.{Fault}
 use Rattle.sno_code.specs.declared.got.Got.{Got}
 use Rattle.sno_code.specs.declared.got.Got.TheVariants.{Halts}
 use Rattle.sno_code.specs.Outcomes.{got_of}
+use Rattle.sno_prototype.specs.Arguments.{unit_in}
 use Rattle.sno_store.specs.declared.store.Store.{Store as State}
-use Rattle.sno_store.specs.Arguments.{unit_in}
 use Rattle.sno_store.specs.States.{with_function, with_input, with_output, without_associations}
+use Rattle.sno_keeping.specs.declared.primitives.Change.{Change}
+use Rattle.sno_keeping.specs.declared.primitives.Change.TheVariants.{Define, Input, Output, Detach}
 use Rattle.sno_keeping.specs.declared.primitives.StateFunction.{StateFunction}
-use Rattle.sno_keeping.specs.declared.primitives.StateFunction.TheVariants.{Define, Input, Output, Detach, Endfile, Rewind}
+use Rattle.sno_keeping.specs.declared.primitives.StateFunction.TheVariants.{Changes, Endfile, Rewind}
 use Rattle.sno_keeping.specs.Asking.{asked, changed_by}
 
 -- ON THE STATE OF THE JOB
 
 abbrev pub state_function_named : List ℕ → Option StateFunction
 state_function_named name =
-    if bytes_eq name (codes "DEFINE") then Some Define
-    else if bytes_eq name (codes "INPUT") then Some Input
-    else if bytes_eq name (codes "OUTPUT") then Some Output
-    else if bytes_eq name (codes "DETACH") then Some Detach
+    if bytes_eq name (codes "DEFINE") then Some (Changes Define)
+    else if bytes_eq name (codes "INPUT") then Some (Changes Input)
+    else if bytes_eq name (codes "OUTPUT") then Some (Changes Output)
+    else if bytes_eq name (codes "DETACH") then Some (Changes Detach)
     else if bytes_eq name (codes "ENDFILE") then Some Endfile
     else if bytes_eq name (codes "REWIND") then Some Rewind
     else None
+
+-- the state after a change, or a fault
+abbrev pub changed : Change → Value → Value → Value → State → Result State AFault
+changed Define a b c s = with_function a b s
+changed Input a b c s = with_input a b c s
+changed Output a b c s = with_output a b c s
+changed Detach a b c s = without_associations a s
 
 -- an act on the unit that an argument tells
 abbrev pub on_unit : (ℕ → Act) → Result ℕ AFault → State → Asking (Got × State)
 on_unit acts (Ok unit) s = asked (acts unit) s
 on_unit acts (Err f) s = Ends (Halts (Fault f), s)
 
--- for its first three arguments
+-- what such a function does for its first three arguments
 abbrev pub done : StateFunction → Value → Value → Value → State → Asking (Got × State)
-done Define a b c s = Ends (changed_by (with_function a b s) s)
-done Input a b c s = Ends (changed_by (with_input a b c s) s)
-done Output a b c s = Ends (changed_by (with_output a b c s) s)
-done Detach a b c s = Ends (changed_by (without_associations a s) s)
+done (Changes which) a b c s = Ends (changed_by (changed which a b c s) s)
 done Endfile a b c s = on_unit act.Endfile (unit_in a) s
 done Rewind a b c s = on_unit act.Rewind (unit_in a) s
 

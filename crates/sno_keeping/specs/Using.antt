@@ -14,8 +14,8 @@ use Rattle.sno_code.specs.declared.got.Halt.TheVariants.{Fault}
 use Rattle.sno_code.specs.declared.got.Got.{Got}
 use Rattle.sno_code.specs.declared.got.Got.TheVariants.{Gives, Fails, Halts}
 use Rattle.sno_prototype.specs.Formats.{records}
-use Rattle.sno_store.specs.declared.variable.Input.{Input}
-use Rattle.sno_store.specs.declared.variable.Output.{Output}
+use Rattle.sno_prototype.specs.declared.association.Input.{Input}
+use Rattle.sno_prototype.specs.declared.association.Output.{Output}
 use Rattle.sno_store.specs.declared.store.Store.{Store as State}
 use Rattle.sno_store.specs.Variables as variables
 use Rattle.sno_store.specs.Variables.{Use, use_of, variable_of}

@@ -5,11 +5,17 @@
 #![tactic(auto)]
 
 pub mod calling;
+pub mod host;
 pub mod keywords;
+pub mod laws;
 pub mod limits;
+pub mod matching;
 pub mod primitives;
+pub mod using;
 
-pub use calling::{Entry, begin, enter};
+pub use calling::{Entry, MOST_CALLS, begin, enter};
 pub use keywords::{keyword, set_keyword};
 pub use limits::Limits;
-pub use primitives::StateFunction;
+pub use matching::matched;
+pub use primitives::{Change, StateFunction, primitive};
+pub use using::{assigned, used};

@@ -1,26 +1,29 @@
 //! The functions that a program does not define.
-ghost use Rattle.std.specs.Prelude.{◌≡◌, bytes_eq, Result, IfOk, OnErr};
-ghost use Rattle.mon_text.specs.Stops.{Gives as Answers};
-ghost use Rattle.sno_text.specs.declared.fault.Fault.{Fault as AFault};
+ghost use Rattle.std.specs.Prelude.{◌≡◌, bytes_eq, IfOk, OnErr};
+ghost use Rattle.mon_text.specs.Stops.{Gives};
 ghost use Rattle.sno_value.specs.Values.{null};
-ghost use Rattle.sno_value.specs.Primitives.{argument};
-ghost use Rattle.sno_store.specs.declared.store.Store.{Store as State};
+ghost use Rattle.sno_value.specs.Primitives.{argument, primitive_named};
 ghost use Rattle.sno_code.specs.Outcomes.{got_of};
 ghost use Rattle.sno_ask.specs.Asking.{Held, Cut};
+ghost use Rattle.sno_ask.specs.Fitting.{IsShort};
+ghost use Rattle.sno_ask.specs.declared.request.Act.TheVariants.{Endfile as Ending, Rewind as Rewinding};
+ghost use Rattle.sno_talk.specs.Talks.{Ends};
+ghost use Rattle.sno_prototype.specs.Arguments.{unit_in};
 ghost use Rattle.sno_keeping.specs.Asking.{asked, changed_by};
-ghost use Rattle.sno_keeping.specs.Primitives.{state_function_named, done, on_values, primitive};
+ghost use Rattle.sno_keeping.specs.Primitives.{state_function_named, changed, on_unit, done, on_values, primitive};
 
 use mon_text::Stop;
 use sno_ask::{Act, Answer, Request, Service};
 use sno_code::{Got, Halt};
-use sno_store::{Store, unit_in};
+use sno_prototype::unit_in;
+use sno_store::Store;
 use sno_text::{Fault, Text};
-use sno_value::{Outcome, Value};
+use sno_value::{Outcome, Value, primitive_named};
 use std::alloc::{AllocError, Global};
 
-/// A function on the state of the job.
+/// A function that changes the state of the job and asks nothing.
 #[derive(Clone, Copy)]
-pub enum StateFunction {
+pub enum Change {
     /// DEFINE
     Define,
     /// INPUT
@@ -29,6 +32,12 @@ pub enum StateFunction {
     Output,
     /// DETACH
     Detach,
+}
+
+/// A function on the state of the job or on its units.
+#[derive(Clone, Copy)]
+pub enum StateFunction {
+    Changes(Change),
     /// ENDFILE
     Endfile,
     /// REWIND
@@ -47,13 +56,13 @@ impl StateFunction {
         ensures { result ≡ state_function_named name.now }
     {
         if is_word(name, b"DEFINE") {
-            Some(StateFunction::Define)
+            Some(StateFunction::Changes(Change::Define))
         } else if is_word(name, b"INPUT") {
-            Some(StateFunction::Input)
+            Some(StateFunction::Changes(Change::Input))
         } else if is_word(name, b"OUTPUT") {
-            Some(StateFunction::Output)
+            Some(StateFunction::Changes(Change::Output))
         } else if is_word(name, b"DETACH") {
-            Some(StateFunction::Detach)
+            Some(StateFunction::Changes(Change::Detach))
         } else if is_word(name, b"ENDFILE") {
             Some(StateFunction::Endfile)
         } else if is_word(name, b"REWIND") {
@@ -72,5 +81,188 @@ fn got_of(outcome: Outcome) -> Got
         Outcome::Gives(value) => Got::Gives(value),
         Outcome::Fails => Got::Fails,
         Outcome::Faults(fault) => Got::Halts(Halt::Fault(fault)),
+    }
+}
+
+/// The argument at a place, or what stands for one that is missing.
+fn argument<'a>(given: &'a [Value], at: usize, missing: &'a Value) -> &'a Value
+    requires { missing.now ≡ null }
+    ensures { result.now ≡ argument at given.now }
+{
+    match given.get(at) {
+        Some(value) => value,
+        None => missing,
+    }
+}
+
+fn make_change(
+    alloc: Global,
+    which: Change,
+    first: &Value,
+    second: &Value,
+    third: &Value,
+    state: &mut Store,
+) -> Result<(), Stop<Fault>>
+    ensures answered { Gives (λ _. state.new) result (changed which first.now second.now third.now state.old) }
+    ensures unchanged { OnErr result (state.new ≡ state.old) }
+{
+    match which {
+        Change::Define => state.define(alloc, first, second),
+        Change::Input => state.associate_input(alloc, first, second, third),
+        Change::Output => state.associate_output(alloc, first, second, third),
+        Change::Detach => state.detach(alloc, first),
+    }
+}
+
+/// Changes the state, and gives null or a fault.
+fn change_state(
+    alloc: Global,
+    which: Change,
+    first: &Value,
+    second: &Value,
+    third: &Value,
+    state: &mut Store,
+) -> Result<Got, AllocError>
+    ensures { IfOk result (λ got. (got, state.new) ≡ changed_by (changed which first.now second.now third.now state.old) state.old) }
+{
+    match make_change(alloc, which, first, second, third, state) {
+        Ok(()) => Ok(Got::Gives(Value::null())),
+        Err(Stop::Refused(fault)) => Ok(Got::Halts(Halt::Fault(fault))),
+        Err(Stop::Memory) => Err(AllocError),
+    }
+}
+
+/// Asks for an act, and gives null where it is done.
+#[tactic(auto, using(sno_talk::proofs::Held::talking))]
+fn ask_for<S: Service>(act: Act, state: &Store, service: &mut S) -> Result<Got, AllocError>
+    requires ready { S.ready service.old }
+    requires short { IsShort act }
+    ensures held { IfOk result (λ got. Held S.answers (asked act state.now) service.old (got, state.now) service.new) }
+    ensures cut { OnErr result (Cut S.answers (asked act state.now) service.old service.new) }
+    ensures ready { S.ready service.new }
+{
+    let request = Request {
+        statement: state.statement(),
+        act,
+    };
+    match service.ask(&request)? {
+        Answer::Done => Ok(Got::Gives(Value::null())),
+        _ => Ok(Got::Fails),
+    }
+}
+
+/// Asks for an act on the unit that an argument tells.
+#[tactic(auto, using(sno_talk::proofs::Held::talking))]
+fn endfile<S: Service>(unit: &Value, state: &Store, service: &mut S) -> Result<Got, AllocError>
+    requires { S.ready service.old }
+    ensures held { IfOk result (λ got. Held S.answers (on_unit Ending (unit_in unit.now) state.now) service.old (got, state.now) service.new) }
+    ensures cut { OnErr result (Cut S.answers (on_unit Ending (unit_in unit.now) state.now) service.old service.new) }
+    ensures ready { S.ready service.new }
+{
+    match unit_in(unit) {
+        Ok(unit) => match ask_for(Act::Endfile(unit), state, service) {
+            Ok(got) => Ok(got),
+            Err(e) => Err(e),
+        },
+        Err(fault) => Ok(Got::Halts(Halt::Fault(fault))),
+    }
+}
+
+#[tactic(auto, using(sno_talk::proofs::Held::talking))]
+fn rewind<S: Service>(unit: &Value, state: &Store, service: &mut S) -> Result<Got, AllocError>
+    requires { S.ready service.old }
+    ensures held { IfOk result (λ got. Held S.answers (on_unit Rewinding (unit_in unit.now) state.now) service.old (got, state.now) service.new) }
+    ensures cut { OnErr result (Cut S.answers (on_unit Rewinding (unit_in unit.now) state.now) service.old service.new) }
+    ensures ready { S.ready service.new }
+{
+    match unit_in(unit) {
+        Ok(unit) => match ask_for(Act::Rewind(unit), state, service) {
+            Ok(got) => Ok(got),
+            Err(e) => Err(e),
+        },
+        Err(fault) => Ok(Got::Halts(Halt::Fault(fault))),
+    }
+}
+
+/// Calls a function on the state of the job.
+#[tactic(auto, using(sno_talk::proofs::Held::talking))]
+fn on_state<S: Service>(
+    alloc: Global,
+    which: StateFunction,
+    arguments: &[Value],
+    state: &mut Store,
+    service: &mut S,
+) -> Result<Got, AllocError>
+    requires { S.ready service.old }
+    ensures held { IfOk result (λ got. Held S.answers (done which (argument 0 arguments.now) (argument 1 arguments.now) (argument 2 arguments.now) state.old) service.old (got, state.new) service.new) }
+    ensures cut { OnErr result (Cut S.answers (done which (argument 0 arguments.now) (argument 1 arguments.now) (argument 2 arguments.now) state.old) service.old service.new) }
+    ensures ready { S.ready service.new }
+{
+    let null = Value::null();
+    let first = argument(arguments, 0, &null);
+    let second = argument(arguments, 1, &null);
+    let third = argument(arguments, 2, &null);
+    match which {
+        StateFunction::Changes(which) => {
+            let got = change_state(alloc, which, first, second, third, state)?;
+            Ok(got)
+        }
+        StateFunction::Endfile => match endfile(first, state, service) {
+            Ok(got) => Ok(got),
+            Err(e) => Err(e),
+        },
+        StateFunction::Rewind => match rewind(first, state, service) {
+            Ok(got) => Ok(got),
+            Err(e) => Err(e),
+        },
+    }
+}
+
+/// Calls a function on values alone, if there is one of that name.
+fn on_values(
+    alloc: Global,
+    name: &Text,
+    arguments: &[Value],
+    state: &Store,
+) -> Result<Got, AllocError>
+    ensures { IfOk result (λ got. Ends (got, state.now) ≡ on_values (primitive_named name.now) arguments.now state.now) }
+{
+    match primitive_named(name.as_bytes()) {
+        Some(primitive) => {
+            let outcome = primitive.call(alloc, arguments, state.maximum_length())?;
+            Ok(got_of(outcome))
+        }
+        None => Ok(Got::Halts(Halt::Fault(Fault::Function))),
+    }
+}
+
+/// Calls a function that the program did not define: one on the state of the job, or one on values alone. There is the fault
+/// `Function` where there is none of that name.
+///
+/// # Errors
+///
+/// Where a growth was refused.
+#[tactic(auto, using(sno_talk::proofs::Held::talking, crate::proofs::Ending::ended_so))]
+pub fn primitive<S: Service>(
+    alloc: Global,
+    name: &Text,
+    arguments: &[Value],
+    state: &mut Store,
+    service: &mut S,
+) -> Result<Got, AllocError>
+    requires { S.ready service.old }
+    ensures held { IfOk result (λ got. Held S.answers (primitive name.now arguments.now state.old) service.old (got, state.new) service.new) }
+    ensures cut { OnErr result (Cut S.answers (primitive name.now arguments.now state.old) service.old service.new) }
+    ensures ready { S.ready service.new }
+{
+    match StateFunction::named(name.as_bytes()) {
+        Some(which) => match on_state(alloc, which, arguments, state, service) {
+            Ok(got) => Ok(got),
+            Err(e) => Err(e),
+        },
+        None => {
+            let got = on_values(alloc, name, arguments, state)?;
+            Ok(got)
+        }
     }
 }

@@ -1,0 +1,40 @@
+-- What a host that holds loans leaves.
+use Rattle.std.proofs.Common.{refl, ◌∙◌}
+use Rattle.sno_talk.specs.Talks.{Talk, through}
+use Rattle.sno_talk.specs.Holding as holding
+use Rattle.sno_talk.proofs.Held.{held_keeps, cut_keeps}
+use Rattle.sno_talk.proofs.Hosts.{held_through, cut_through}
+use Rattle.sno_ask.specs.declared.request.Request.{Request}
+use Rattle.sno_ask.specs.declared.answer.Answer.{Answer}
+use Rattle.sno_ask.specs.Fitting.{Fits as Suits}
+use Rattle.sno_ask.specs.Asking.{Held, Cut}
+use Rattle.sno_pattern.specs.Looks.{Look, Told, Fits}
+use Rattle.sno_keeping.specs.declared.host.Host.{Host}
+use Rattle.sno_keeping.specs.Matching.{looking}
+use Rattle.sno_keeping.specs.inner.Lent.{SameLoans, HostTells, HostBroken}
+
+module _ {S : Type 0} (answers : S → Request → Answer → S → Type 0) where
+  same_here : (h : Host S) → SameLoans h h
+  same_here h = record { state = refl; service = refl }
+
+  same_then : (h k l : Host S) → SameLoans h k → SameLoans k l → SameLoans h l
+  same_then h k l p q = record { state = q.state ∙ p.state; service = q.service ∙ p.service }
+
+  pub held_loans : {A : Type 0} (t : Talk Look Told A) (h : Host S) (v : A) (k : Host S)
+      → holding.Held (HostTells answers) Fits t h v k → SameLoans h k
+  held_loans = held_keeps (HostTells answers) Fits (HostBroken answers) SameLoans same_here same_then (λ a q r b x. x.0) (λ a q b x. x.0)
+
+  pub cut_loans : {A : Type 0} (t : Talk Look Told A) (h k : Host S)
+      → holding.Cut (HostTells answers) Fits (HostBroken answers) t h k → SameLoans h k
+  cut_loans = cut_keeps (HostTells answers) Fits (HostBroken answers) SameLoans same_here same_then (λ a q r b x. x.0) (λ a q b x. x.0)
+
+  -- the match with the host is a talk with the service
+  pub held_service : {A : Type 0} (t : Talk Look Told A) (h : Host S) (v : A) (k : Host S)
+      → holding.Held (HostTells answers) Fits t h v k
+      → Held answers (through looking t h.state.now) h.service.now (v, k.state.now) k.service.now
+  held_service = held_through answers Suits looking (λ h. h.state.now) (λ h. h.service.now) (HostTells answers) Fits (λ a q r b x. x.1)
+
+  pub cut_service : {A : Type 0} (t : Talk Look Told A) (h k : Host S)
+      → holding.Cut (HostTells answers) Fits (HostBroken answers) t h k
+      → Cut answers (through looking t h.state.now) h.service.now k.service.now
+  cut_service = cut_through answers Suits looking (λ h. h.state.now) (λ h. h.service.now) (HostTells answers) Fits (λ a q r b x. x.1) (λ _ _ _. ⊥) (HostBroken answers) (λ a q b x. x.1)

@@ -1,0 +1,78 @@
+//! A match within a statement.
+ghost use Rattle.std.specs.Prelude.{◌≡◌, length, IfOk, OnErr};
+ghost use Rattle.sno_talk.specs.Talks.{through};
+ghost use Rattle.sno_ask.specs.Asking.{Held, Cut};
+ghost use Rattle.sno_pattern.specs.Places.{MatchesWithin};
+ghost use Rattle.sno_pattern.specs.Steps.{match_of};
+ghost use Rattle.sno_keeping.specs.Matching.{looking, is_anchored, ended_by, matched};
+
+use crate::host::Host;
+use sno_ask::Service;
+use sno_pattern::{MatchEnd, Pat, matches};
+use sno_store::{Keyword, Store};
+use sno_text::Text;
+use sno_value::Value;
+use std::alloc::{AllocError, Global};
+
+fn is_anchored(state: &Store) -> bool
+    ensures { result ≡ is_anchored state.now }
+{
+    state.keyword(Keyword::Anchor) != 0
+}
+
+/// Matches with the state of the job and its service for the host.
+fn match_in<S: Service>(
+    alloc: Global,
+    pattern: &Pat,
+    text: &Text,
+    anchored: bool,
+    steps: u64,
+    state: &mut Store,
+    service: &mut S,
+) -> Result<MatchEnd, AllocError>
+    requires { S.ready service.old }
+    ensures held { IfOk result (λ end. Held S.answers (through looking (match_of text.now pattern.now anchored steps) state.old) service.old (end, state.new) service.new) }
+    ensures within { IfOk result (MatchesWithin (length text.now)) }
+    ensures cut { OnErr result (Cut S.answers (through looking (match_of text.now pattern.now anchored steps) state.old) service.old service.new) }
+    ensures ready { S.ready service.new }
+{
+    let mut host = Host {
+        alloc,
+        state,
+        service,
+    };
+    match matches(alloc, pattern, text, anchored, steps, &mut host) {
+        Ok(end) => Ok(end),
+        Err(e) => Err(e),
+    }
+}
+
+/// Matches a text by what a value stands for as a pattern, within so many steps: at its start alone where `&ANCHOR` is not 0,
+/// and else at each place. Variables are used and assigned to meanwhile.
+///
+/// # Errors
+///
+/// Where a growth was refused; what the match asked so far stands then.
+#[inline(never)]
+#[tactic(auto, using(sno_talk::proofs::Held::talking))]
+pub fn matched<S: Service>(
+    alloc: Global,
+    steps: u64,
+    text: &Text,
+    pattern: &Value,
+    state: &mut Store,
+    service: &mut S,
+) -> Result<MatchEnd, AllocError>
+    requires { S.ready service.old }
+    ensures held { IfOk result (λ end. Held S.answers (matched steps text.now pattern.now state.old) service.old (ended_by end, state.new) service.new) }
+    ensures within { IfOk result (MatchesWithin (length text.now)) }
+    ensures cut { OnErr result (Cut S.answers (matched steps text.now pattern.now state.old) service.old service.new) }
+    ensures ready { S.ready service.new }
+{
+    let pattern = pattern.to_pattern(alloc)?;
+    let anchored = is_anchored(state);
+    match match_in(alloc, &pattern, text, anchored, steps, state, service) {
+        Ok(end) => Ok(end),
+        Err(e) => Err(e),
+    }
+}

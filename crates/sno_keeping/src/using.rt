@@ -1,0 +1,196 @@
+//! A variable used, and assigned a value.
+ghost use Rattle.std.specs.Prelude.{◌≡◌, ◌≤◌, length, IfOk, OnErr};
+ghost use Rattle.sno_talk.specs.Talks.{ask};
+ghost use Rattle.sno_value.specs.Values.{text_of};
+ghost use Rattle.sno_value.specs.declared.value.Value.TheVariants as value;
+ghost use Rattle.sno_ask.specs.Asking.{Held, Cut};
+ghost use Rattle.sno_ask.specs.declared.request.Act.TheVariants.{Write as Writing};
+ghost use Rattle.sno_prototype.specs.Formats.{records};
+ghost use Rattle.sno_store.specs.Variables.{Reads};
+ghost use Rattle.sno_store.specs.States.{kept_of};
+ghost use Rattle.sno_keeping.specs.Asking.{request};
+ghost use Rattle.sno_keeping.specs.Using.{stored, used_by, used, write_all, write_text, assigned};
+
+use mon_text::Line;
+use sno_ask::{Act, Answer, Request, Service};
+use sno_code::{Got, Halt};
+use sno_prototype::laws::records_follow;
+use sno_prototype::{Input, Output};
+use sno_store::{Found, Store};
+use sno_text::{Fault, Named, Text};
+use sno_value::Value;
+use std::alloc::{AllocError, Global};
+
+/// Stores what is kept of a record, and gives it.
+fn store_record(
+    alloc: Global,
+    name: &Named,
+    input: Input,
+    line: &Line,
+    state: &mut Store,
+) -> Result<Got, AllocError>
+    ensures { IfOk result (λ got. (got, state.new) ≡ stored name.now (value.Text (kept_of input state.old.keywords line.now)) state.old) }
+{
+    let text = state.kept(alloc, input, line)?;
+    let copy = text.copy()?;
+    state.set(name, Value::Text(copy))?;
+    Ok(Got::Gives(Value::Text(text)))
+}
+
+/// Reads a record for a variable.
+#[tactic(auto, using(sno_talk::proofs::Held::talking))]
+fn read<S: Service>(
+    alloc: Global,
+    name: &Named,
+    input: Input,
+    state: &mut Store,
+    service: &mut S,
+) -> Result<Got, AllocError>
+    requires { S.ready service.old }
+    ensures held { IfOk result (λ got. Held S.answers (used_by name.now (Reads input) state.old) service.old (got, state.new) service.new) }
+    ensures cut { OnErr result (Cut S.answers (used_by name.now (Reads input) state.old) service.old service.new) }
+    ensures ready { S.ready service.new }
+{
+    let request = Request {
+        statement: state.statement(),
+        act: Act::Read(input.unit),
+    };
+    match service.ask(&request)? {
+        Answer::Got(line) => store_record(alloc, name, input, &line, state),
+        _ => Ok(Got::Fails),
+    }
+}
+
+/// Uses the value of a variable: a record is read, where it is associated with a unit. Where none is, it takes no memory.
+///
+/// # Errors
+///
+/// Where a growth was refused; the record may have been read then.
+#[tactic(auto, using(sno_talk::proofs::Held::talking))]
+pub fn used<S: Service>(
+    alloc: Global,
+    name: &Named,
+    state: &mut Store,
+    service: &mut S,
+) -> Result<Got, AllocError>
+    requires { S.ready service.old }
+    ensures held { IfOk result (λ got. Held S.answers (used name.now state.old) service.old (got, state.new) service.new) }
+    ensures cut { OnErr result (Cut S.answers (used name.now state.old) service.old service.new) }
+    ensures ready { S.ready service.new }
+{
+    let input = match state.get(name) {
+        Found::Null => return Ok(Got::Gives(Value::null())),
+        Found::Plain(value) => return Ok(Got::Gives(value.copy()?)),
+        Found::Reads(input) => input,
+    };
+    match read(alloc, name, input, state, service) {
+        Ok(got) => Ok(got),
+        Err(e) => Err(e),
+    }
+}
+
+/// Writes a record, and tells the answer.
+fn write<S: Service>(
+    unit: u64,
+    line: Line,
+    state: &Store,
+    service: &mut S,
+) -> Result<Answer, AllocError>
+    requires ready { S.ready service.old }
+    requires short { length line ≤ 1024 }
+    ensures held { IfOk result (λ answer. Held S.answers (ask (request (Writing unit line) state.now)) service.old answer service.new) }
+    ensures cut { OnErr result (service.new ≡ service.old) }
+    ensures ready { S.ready service.new }
+{
+    let request = Request {
+        statement: state.statement(),
+        act: Act::Write(unit, line),
+    };
+    match service.ask(&request) {
+        Ok(answer) => Ok(answer),
+        Err(e) => Err(e),
+    }
+}
+
+/// Writes the records of a text in their order, up to the first that is not written.
+#[tactic(auto, using(sno_talk::proofs::Held::talking))]
+fn write_records<S: Service>(
+    alloc: Global,
+    output: Output,
+    text: &Text,
+    state: &Store,
+    service: &mut S,
+) -> Result<Got, AllocError>
+    requires { S.ready service.old }
+    ensures held { IfOk result (λ got. Held S.answers (write_all output.unit (records output.format text.now) state.now) service.old (got, state.now) service.new) }
+    ensures cut { OnErr result (Cut S.answers (write_all output.unit (records output.format text.now) state.now) service.old service.new) }
+    ensures ready { S.ready service.new }
+{
+    records_follow();
+    let characters = output.format.characters() as usize;
+    let mut from = 0;
+    loop {
+        let line = output.format.record(alloc, text, from)?;
+        match write(output.unit, line, state, service)? {
+            Answer::Done => {}
+            _ => return Ok(Got::Fails),
+        }
+        if text.len() - from <= characters {
+            return Ok(Got::Gives(Value::null()));
+        }
+        from += characters;
+    }
+}
+
+/// Writes a value, which has to have a text.
+#[tactic(auto, using(sno_talk::proofs::Held::talking))]
+fn write_value<S: Service>(
+    alloc: Global,
+    output: Output,
+    value: &Value,
+    state: &Store,
+    service: &mut S,
+) -> Result<Got, AllocError>
+    requires { S.ready service.old }
+    ensures held { IfOk result (λ got. Held S.answers (write_text output (text_of value.now) state.now) service.old (got, state.now) service.new) }
+    ensures cut { OnErr result (Cut S.answers (write_text output (text_of value.now) state.now) service.old service.new) }
+    ensures ready { S.ready service.new }
+{
+    match value.to_text(alloc)? {
+        Some(text) => match write_records(alloc, output, &text, state, service) {
+            Ok(got) => Ok(got),
+            Err(e) => Err(e),
+        },
+        None => Ok(Got::Halts(Halt::Fault(Fault::WrongType))),
+    }
+}
+
+/// Assigns a value to a variable: it is stored, and its records are written where the variable is associated with a unit.
+///
+/// It fails where a record is not written, and those behind it are not tried; the variable has the value then too.
+///
+/// # Errors
+///
+/// Where a growth was refused; some records may have been written then.
+#[tactic(auto, using(sno_talk::proofs::Held::talking))]
+pub fn assigned<S: Service>(
+    alloc: Global,
+    name: &Named,
+    value: Value,
+    state: &mut Store,
+    service: &mut S,
+) -> Result<Got, AllocError>
+    requires { S.ready service.old }
+    ensures held { IfOk result (λ got. Held S.answers (assigned name.now value state.old) service.old (got, state.new) service.new) }
+    ensures cut { OnErr result (Cut S.answers (assigned name.now value state.old) service.old service.new) }
+    ensures ready { S.ready service.new }
+{
+    let kept = value.copy()?;
+    match state.set(name, value)? {
+        Some(output) => match write_value(alloc, output, &kept, state, service) {
+            Ok(got) => Ok(got),
+            Err(e) => Err(e),
+        },
+        None => Ok(Got::Gives(Value::null())),
+    }
+}
