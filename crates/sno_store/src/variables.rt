@@ -52,10 +52,17 @@ impl Variables {
         }
     }
 
-    fn find_named(&self, name: &Text) -> Option<&Variable>
+    /// The variable of a name, which is told its place.
+    fn find_named(&self, name: &Named) -> Option<&Variable>
         ensures { option_copied result ≡ lookup (pointwise nat_eq name.now) self.now }
     {
-        self.variables.get(name)
+        match self.variables.get_full(name.text()) {
+            Some((place, _, variable)) => {
+                name.stands_at(place);
+                Some(variable)
+            }
+            None => None,
+        }
     }
 
     /// The variable of a name, which is looked for at its place first.
@@ -67,10 +74,10 @@ impl Variables {
                 if key == name.text() {
                     Some(variable)
                 } else {
-                    self.find_named(name.text())
+                    self.find_named(name)
                 }
             }
-            None => self.find_named(name.text()),
+            None => self.find_named(name),
         }
     }
 
@@ -101,6 +108,19 @@ impl Variables {
         }
     }
 
+    /// The place of a name, which is told it.
+    fn place_named(&self, name: &Named) -> Option<usize>
+        ensures { result ≡ position (pointwise nat_eq name.now) (keys_of self.now) }
+    {
+        match self.variables.get_index_of(name.text()) {
+            Some(place) => {
+                name.stands_at(place);
+                Some(place)
+            }
+            None => None,
+        }
+    }
+
     /// The place of a name, which is looked for at its hint first.
     fn place_of(&self, name: &Named) -> Option<usize>
         ensures { result ≡ position (pointwise nat_eq name.now) (keys_of self.now) }
@@ -111,10 +131,10 @@ impl Variables {
                 if name.text() == key {
                     Some(hint)
                 } else {
-                    self.variables.get_index_of(name.text())
+                    self.place_named(name)
                 }
             }
-            None => self.variables.get_index_of(name.text()),
+            None => self.place_named(name),
         }
     }
 

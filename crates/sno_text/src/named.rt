@@ -2,15 +2,17 @@
 ghost use Rattle.std.specs.Prelude.{◌≡◌};
 
 use crate::text::Text;
+use std::cell::Cell;
 use std::marker::Model;
 
 /// A name, with the place where its variable probably is.
 ///
-/// A contract sees the name alone: a wrong place costs time and nothing else.
+/// A contract sees the name alone: a wrong place costs time and nothing else. So a look-up that finds the variable
+/// elsewhere tells the place to a name that is only read.
 #[derive(Drop)]
 pub struct Named {
     text: Text,
-    place: usize,
+    place: Cell<usize>,
 }
 
 impl Model for Named {
@@ -26,7 +28,10 @@ impl Named {
     pub fn new(text: Text, place: usize) -> Named
         ensures { result ≡ text }
     {
-        Named { text, place }
+        Named {
+            text,
+            place: Cell::new(place),
+        }
     }
 
     /// The name.
@@ -36,8 +41,20 @@ impl Named {
         &self.text
     }
 
+    /// The name, without its place.
+    pub fn into_text(self) -> Text
+        ensures { result ≡ self }
+    {
+        self.text
+    }
+
     /// Where it is looked for first.
     pub fn place(&self) -> usize {
-        self.place
+        self.place.get()
+    }
+
+    /// From now on it is looked for at a place first.
+    pub fn stands_at(&self, place: usize) {
+        self.place.set(place);
     }
 }

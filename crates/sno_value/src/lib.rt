@@ -18,5 +18,7 @@ pub mod value;
 pub use calculating::{Operation, affirm, arith, negate};
 pub use joining::{alternate, concat};
 pub use outcome::Outcome;
-pub use primitive::{CharacterPattern, Comparison, NumberPattern, Primitive, primitive_named};
+pub use primitive::{
+    CharacterPattern, Comparison, NumberPattern, Primitive, argument, primitive_named,
+};
 pub use value::Value;

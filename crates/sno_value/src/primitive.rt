@@ -128,8 +128,8 @@ impl Primitive {
     }
 }
 
-// The argument at a place, or what stands for one that is missing.
-fn argument<'a>(given: &'a [Value], at: usize, missing: &'a Value) -> &'a Value
+/// The argument of a call at a place, or the null string that stands for one that is missing.
+pub fn argument<'a>(given: &'a [Value], at: usize, missing: &'a Value) -> &'a Value
     requires { missing.now ≡ null }
     ensures { result.now ≡ argument at given.now }
 {
