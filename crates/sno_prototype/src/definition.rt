@@ -1,5 +1,5 @@
 //! Functions as DEFINE says them.
-ghost use Rattle.std.specs.Prelude.{◌≡◌};
+ghost use Rattle.std.specs.Prelude.{◌≡◌, IfOk};
 ghost use Rattle.mon_text.specs.Stops.{Gives};
 ghost use Rattle.sno_prototype.specs.Definitions.{prototype_in, entry_in, definition_in};
 
@@ -7,7 +7,9 @@ use crate::prototype::{Prototype, read_prototype};
 use mon_text::Stop;
 use sno_text::{Fault, Named, Text};
 use sno_value::Value;
-use std::alloc::Global;
+use std::alloc::{AllocError, Global};
+use std::marker::Model;
+use std::rc::Rc;
 
 /// What DEFINE says of a function.
 #[derive(Drop)]
@@ -15,6 +17,53 @@ pub struct Definition {
     pub prototype: Prototype,
     /// The label of the statement with which a call begins.
     pub entry: Text,
+}
+
+/// A definition that is shared, so that a call goes on with the one that it began with.
+#[derive(Drop)]
+pub struct Function {
+    definition: Rc<Definition>,
+}
+
+impl Model for Function {
+    ghost use Rattle.sno_prototype.specs.declared.definition.Definition.{Definition};
+
+    ghost Value = { Definition };
+
+    ghost view = { λ f. f.definition.value };
+}
+
+impl Function {
+    /// A function that is defined so.
+    ///
+    /// # Errors
+    ///
+    /// Where a growth was refused.
+    pub fn new(alloc: Global, definition: Definition) -> Result<Function, AllocError>
+        ensures { IfOk result (λ f. f ≡ definition) }
+    {
+        let definition = Rc::new(alloc, definition)?;
+        Ok(Function { definition })
+    }
+
+    /// What was said of it.
+    pub fn definition(&self) -> &Definition
+        ensures { result.now ≡ self.now }
+    {
+        self.definition.as_ref()
+    }
+
+    /// The same function once more. It takes no memory.
+    ///
+    /// # Errors
+    ///
+    /// Where as many share it as can be counted.
+    pub fn copy(&self) -> Result<Function, AllocError>
+        ensures { IfOk result (λ f. f ≡ self.now) }
+    {
+        let definition = self.definition.clone()?;
+        Ok(Function { definition })
+    }
 }
 
 fn prototype_in(alloc: Global, value: &Value) -> Result<Prototype, Stop<Fault>>

@@ -3,6 +3,7 @@
 
 pub mod argument;
 pub mod association;
+pub mod binding;
 pub mod definition;
 pub mod format;
 pub mod laws;
@@ -11,7 +12,8 @@ pub mod prototype;
 
 pub use argument::{input_in, name_in, output_in, unit_in};
 pub use association::{Input, Output};
-pub use definition::{Definition, definition_in};
+pub use binding::Bindings;
+pub use definition::{Definition, Function, definition_in};
 pub use format::{Format, read_format};
 pub use names::Names;
 pub use prototype::{Prototype, read_prototype};

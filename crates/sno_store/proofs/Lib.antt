@@ -1,6 +1,7 @@
 mod Looking
 pub mod Places
 pub mod Changing
+pub mod Written
 pub mod Binding
 pub mod Leaving
 mod Steps

@@ -1,5 +1,5 @@
 -- Calls of functions that were defined (the SNOBOL4 book, chapter 4; that setting and restoring reads and writes nothing is own).
-use Rattle.std.specs.Prelude.{ℕ, List, [], ◌∷◌, ◌++◌, map}
+use Rattle.std.specs.Prelude.{ℕ, List, [], ◌∷◌, ◌++◌, map, Option, None, Some}
 use Rattle.sno_value.specs.declared.value.Value.{Value}
 use Rattle.sno_value.specs.Values.{null}
 use Rattle.sno_prototype.specs.declared.prototype.Prototype.{Prototype}
@@ -46,6 +46,19 @@ entered d arguments s = record s { variables = assigned (bindings_of d.prototype
 -- back at the statement that called, with the values of before
 abbrev pub restored : Level → State → State
 restored level s = record s { variables = assigned level.saved s.variables; keywords = at_statement level.statement s.keywords }
+
+-- what the innermost call is of, what it saved, and the statement that called
+abbrev pub name_of : List Level → Option (List ℕ)
+name_of [] = None
+name_of (level ∷ levels) = Some level.name
+
+abbrev pub saved_by : List Level → Bindings
+saved_by [] = []
+saved_by (level ∷ levels) = level.saved
+
+abbrev pub statement_of : List Level → Option ℕ
+statement_of [] = None
+statement_of (level ∷ levels) = Some level.statement
 
 abbrev pub left_by : List Level → State → State
 left_by [] s = s

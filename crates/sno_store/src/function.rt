@@ -1,63 +1,15 @@
 //! Functions that were defined.
-ghost use Rattle.std.specs.Prelude.{◌≡◌, [], nat_eq, IfOk, OnOk, OnErr};
+ghost use Rattle.std.specs.Prelude.{◌≡◌, [], nat_eq, OnOk, OnErr};
 ghost use Rattle.std.specs.Option.{option_copied};
 ghost use Rattle.std.specs.Map.{lookup};
 ghost use Rattle.std.specs.Cmp.Lexicographic.{pointwise};
 ghost use Rattle.indexmap.specs.IndexMap.{insert_entry};
 
 use indexmap::IndexMap;
-use sno_prototype::Definition;
+use sno_prototype::Function;
 use sno_text::Text;
 use std::alloc::{AllocError, Global};
 use std::marker::Model;
-use std::rc::Rc;
-
-/// A definition that is shared, so that a call goes on with the one that it began with.
-#[derive(Drop)]
-pub struct Function {
-    definition: Rc<Definition>,
-}
-
-impl Model for Function {
-    ghost use Rattle.sno_prototype.specs.declared.definition.Definition.{Definition};
-
-    ghost Value = { Definition };
-
-    ghost view = { λ f. f.definition.value };
-}
-
-impl Function {
-    /// A function that is defined so.
-    ///
-    /// # Errors
-    ///
-    /// Where a growth was refused.
-    pub fn new(alloc: Global, definition: Definition) -> Result<Function, AllocError>
-        ensures { IfOk result (λ f. f ≡ definition) }
-    {
-        let definition = Rc::new(alloc, definition)?;
-        Ok(Function { definition })
-    }
-
-    /// What was said of it.
-    pub fn definition(&self) -> &Definition
-        ensures { result.now ≡ self.now }
-    {
-        self.definition.as_ref()
-    }
-
-    /// The same function once more. It takes no memory.
-    ///
-    /// # Errors
-    ///
-    /// Where as many share it as can be counted.
-    pub fn copy(&self) -> Result<Function, AllocError>
-        ensures { IfOk result (λ f. f ≡ self.now) }
-    {
-        let definition = self.definition.clone()?;
-        Ok(Function { definition })
-    }
-}
 
 /// The functions of a job by their names.
 #[derive(Drop)]

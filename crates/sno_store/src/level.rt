@@ -1,61 +1,14 @@
 //! What a call has to restore.
-ghost use Rattle.std.specs.Prelude.{◌≡◌, ◌<◌, ◌^◌, ◌∷◌, [], length, OnOk, OnErr, MatchOption};
+ghost use Rattle.std.specs.Prelude.{◌≡◌, ◌<◌, ◌^◌, ◌∷◌, [], length, drop, IfOk, OnOk, OnErr, MatchOption};
+ghost use Rattle.std.specs.Option.{option_copied};
+ghost use Rattle.sno_store.specs.Calls.{assigned, name_of, saved_by, statement_of};
 
 use crate::keyword::StatementNumber;
+use crate::variables::Variables;
+use sno_prototype::Bindings;
 use sno_text::Named;
-use sno_value::Value;
 use std::alloc::{AllocError, Global};
 use std::marker::Model;
-
-/// Values of variables, as a stack.
-#[derive(Drop)]
-pub struct Bindings {
-    // The first one stands last.
-    bindings: Vec<(Named, Value)>,
-}
-
-impl Model for Bindings {
-    ghost use Rattle.std.specs.Prelude.{ℕ, List, reverse};
-    ghost use Rattle.std.specs.Coded.{codes};
-    ghost use Rattle.sno_nodes.specs.inner.Codes.{pattern_code};
-    ghost use Rattle.sno_value.specs.declared.value.Value.{Value as Held};
-
-    ghost Value = { List (List ℕ × Held) };
-
-    ghost coded = { Prim.hlevel (codes, pattern_code) };
-
-    ghost view = { λ b. reverse b.bindings.items };
-}
-
-impl Bindings {
-    /// No values.
-    pub fn new(alloc: Global) -> Bindings
-        ensures { result ≡ [] }
-    {
-        Bindings {
-            bindings: Vec::new(alloc),
-        }
-    }
-
-    /// Puts a variable's value before the others.
-    ///
-    /// # Errors
-    ///
-    /// Where a growth was refused.
-    pub fn push(&mut self, name: Named, value: Value) -> Result<(), AllocError>
-        ensures { OnOk result (self.new ≡ (name, value) ∷ self.old) }
-    {
-        self.bindings.push((name, value))?;
-        Ok(())
-    }
-
-    /// Takes the first one.
-    pub fn pop(&mut self) -> Option<(Named, Value)>
-        ensures { MatchOption result (self.old ≡ []) (λ b. self.old ≡ b ∷ self.new) }
-    {
-        self.bindings.pop()
-    }
-}
 
 /// A call: the function's name, the values of its variables before, and the statement that called.
 #[derive(Drop)]
@@ -121,5 +74,50 @@ impl Levels {
         ensures { MatchOption result ((self.old ≡ []) × (self.new ≡ [])) (λ level. self.old ≡ level ∷ self.new) }
     {
         self.levels.pop()
+    }
+
+    /// The name of the function that was called last.
+    pub fn name(&self) -> Option<&Named>
+        ensures { option_copied result ≡ name_of self.now }
+    {
+        match self.levels.last() {
+            Some(level) => Some(&level.name),
+            None => None,
+        }
+    }
+
+    /// Ends the innermost call: its variables have again what they had. It tells the statement that called.
+    ///
+    /// # Errors
+    ///
+    /// Where a growth was refused; nothing has changed then.
+    pub fn end(&mut self, variables: &mut Variables) -> Result<Option<StatementNumber>, AllocError>
+        ensures statement { IfOk result (λ statement. statement ≡ statement_of self.old) }
+        ensures ended { OnOk result (self.new ≡ drop 1 self.old) }
+        ensures assigned { OnOk result (variables.new ≡ assigned (saved_by self.old) variables.old) }
+        ensures unchanged { OnErr result ((self.new ≡ self.old) × (variables.new ≡ variables.old)) }
+    {
+        let Some(
+            Level {
+                name,
+                saved,
+                statement,
+            },
+        ) = self.levels.pop()
+        else {
+            return Ok(None);
+        };
+        match variables.assign(saved) {
+            Ok(()) => Ok(Some(statement)),
+            Err(saved) => {
+                let level = Level {
+                    name,
+                    saved,
+                    statement,
+                };
+                let _pushed = self.levels.push(level);
+                Err(AllocError)
+            }
+        }
     }
 }

@@ -1,6 +1,7 @@
 //! The state of a job: variables with their values and associations, functions, keywords, and the levels of calls.
 #![tactic(auto)]
 
+mod assigning;
 mod first;
 pub mod function;
 pub mod keyword;
@@ -10,7 +11,7 @@ pub mod store;
 pub mod variable;
 pub mod variables;
 
-pub use function::Function;
 pub use keyword::{Keyword, StatementNumber};
+pub use sno_prototype::Function;
 pub use store::Store;
 pub use variable::{Found, Variable};

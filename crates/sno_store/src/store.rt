@@ -4,17 +4,19 @@ ghost use Rattle.std.specs.Option.{option_copied};
 ghost use Rattle.mon_text.specs.Stops.{Gives};
 ghost use Rattle.sno_store.specs.Variables.{variable_of, value_of, use_of, seen, is_named};
 ghost use Rattle.sno_store.specs.States.{first_state, with_value, with_name, kept_of, with_input, with_output, without_associations, with_function, function_of, value_of_keyword, with_keyword_set, may_begin, with_statement};
-ghost use Rattle.sno_store.specs.Calls.{level_of, entered, restored, left, given_back};
+ghost use Rattle.sno_store.specs.Calls.{level_of, entered, left, given_back};
 ghost use Rattle.sno_store.specs.inner.Answers.{Answers};
 
 use crate::first::first_variables;
-use crate::function::{Function, Functions};
+use crate::function::Functions;
 use crate::keyword::{Keyword, Keywords, StatementNumber};
 use crate::level::{Level, Levels};
 use crate::variable::Found;
 use crate::variables::{Variables, copy_of};
 use mon_text::{Line, Stop};
-use sno_prototype::{Definition, Input, Output, definition_in, input_in, name_in, output_in};
+use sno_prototype::{
+    Definition, Function, Input, Output, definition_in, input_in, name_in, output_in,
+};
 use sno_text::{Fault, Named, Text};
 use sno_value::Value;
 use std::alloc::{AllocError, Global};
@@ -275,7 +277,7 @@ impl Store {
     ///
     /// # Errors
     ///
-    /// Where a growth was refused. The job is over then: some variables may be set.
+    /// Where a growth was refused; nothing has changed then.
     pub fn enter(
         &mut self,
         alloc: Global,
@@ -283,12 +285,33 @@ impl Store {
         arguments: &[Value],
     ) -> Result<(), AllocError>
         ensures entered { OnOk result (self.new ≡ entered function.now arguments.now self.old) }
+        ensures unchanged { OnErr result (self.new ≡ self.old) }
         ensures counted { self.new.keywords ≡ self.old.keywords }
     {
         let definition = function.definition();
         let level = self.level_of(alloc, definition)?;
         self.levels.push(level)?;
-        self.variables.start(&definition.prototype, arguments)
+        match self
+            .variables
+            .start(alloc, &definition.prototype, arguments)
+        {
+            Ok(()) => Ok(()),
+            Err(_) => {
+                let _level = self.levels.pop();
+                Err(AllocError)
+            }
+        }
+    }
+
+    /// The value of the function that was called last, which is the null string where there is no call.
+    #[tactic(auto, using(crate::proofs::Leaving::leaving))]
+    fn result(&self) -> Result<Value, AllocError>
+        ensures { IfOk result (λ v. v ≡ given_back self.now) }
+    {
+        match self.levels.name() {
+            Some(name) => self.variables.value(name),
+            None => Ok(Value::null()),
+        }
     }
 
     /// Ends the innermost call: restores what its variables had, and gives the value of the function's name. Where there is
@@ -296,32 +319,18 @@ impl Store {
     ///
     /// # Errors
     ///
-    /// Where a growth was refused. The job is over then: some variables may be restored.
-    #[tactic(auto, using(crate::proofs::Leaving::left_one, crate::proofs::Leaving::given_one, crate::proofs::Leaving::left_none, crate::proofs::Leaving::given_none))]
+    /// Where a growth was refused; nothing has changed then.
+    #[tactic(auto, using(crate::proofs::Leaving::leaving))]
     pub fn leave(&mut self) -> Result<Value, AllocError>
         ensures value { IfOk result (λ v. v ≡ given_back self.old) }
         ensures left { OnOk result (self.new ≡ left self.old) }
+        ensures unchanged { OnErr result (self.new ≡ self.old) }
         ensures counted { self.new.keywords.begun ≡ self.old.keywords.begun }
     {
-        match self.levels.pop() {
-            Some(level) => self.restore(level),
-            None => Ok(Value::null()),
+        let value = self.result()?;
+        if let Some(statement) = self.levels.end(&mut self.variables)? {
+            self.keywords.go_back(statement);
         }
-    }
-
-    fn restore(&mut self, level: Level) -> Result<Value, AllocError>
-        ensures value { IfOk result (λ v. v ≡ value_of level.name self.old.variables) }
-        ensures restored { OnOk result (self.new ≡ restored level self.old) }
-        ensures counted { self.new.keywords.begun ≡ self.old.keywords.begun }
-    {
-        let Level {
-            name,
-            saved,
-            statement,
-        } = level;
-        let value = self.variables.value(&name)?;
-        self.variables.assign(saved)?;
-        self.keywords.go_back(statement);
         Ok(value)
     }
 }

@@ -1,5 +1,5 @@
 //! The variables of a job by their names.
-ghost use Rattle.std.specs.Prelude.{◌≡◌, ◌∷◌, ◌++◌, [], false, position, slice_get, unwrap_or, OnOk, OnErr, IfOk};
+ghost use Rattle.std.specs.Prelude.{◌≡◌, ◌∷◌, ◌++◌, [], false, position, slice_get, unwrap_or, OnOk, OnErr, IfOk, IfErr};
 ghost use Rattle.std.specs.Borrow.{sem};
 ghost use Rattle.std.specs.Option.{option_copied, option_copied_mut};
 ghost use Rattle.std.specs.Map.{lookup, keys_of};
@@ -11,10 +11,10 @@ ghost use Rattle.sno_value.specs.Values.{null};
 ghost use Rattle.sno_prototype.specs.Prototypes.{names_of};
 ghost use Rattle.sno_store.specs.Calls.{paired, value_now, saved, assigned, bindings_of};
 
-use crate::level::Bindings;
+use crate::assigning::{assign_all, place_of};
 use crate::variable::{Found, Variable};
 use indexmap::IndexMap;
-use sno_prototype::{Input, Output, Prototype};
+use sno_prototype::{Bindings, Input, Output, Prototype};
 use sno_text::{Named, Text};
 use sno_value::Value;
 use std::alloc::{AllocError, Global};
@@ -108,43 +108,13 @@ impl Variables {
         }
     }
 
-    /// The place of a name, which is told it.
-    fn place_named(&self, name: &Named) -> Option<usize>
-        ensures { result ≡ position (pointwise nat_eq name.now) (keys_of self.now) }
-    {
-        match self.variables.get_index_of(name.text()) {
-            Some(place) => {
-                name.stands_at(place);
-                Some(place)
-            }
-            None => None,
-        }
-    }
-
-    /// The place of a name, which is looked for at its hint first.
-    fn place_of(&self, name: &Named) -> Option<usize>
-        ensures { result ≡ position (pointwise nat_eq name.now) (keys_of self.now) }
-    {
-        let hint = name.place();
-        match self.variables.get_index(hint) {
-            Some((key, _)) => {
-                if name.text() == key {
-                    Some(hint)
-                } else {
-                    self.place_named(name)
-                }
-            }
-            None => self.place_named(name),
-        }
-    }
-
     /// A variable that was named before, to be changed. It takes no memory.
     #[tactic(auto, using(crate::proofs::Places::lending))]
     fn find_mut(&mut self, name: &Named) -> Option<&mut Variable>
         ensures* lends { sem 𝓛 (LendsVariable self.entry name.now result) }
         ensures found { option_copied_mut result ≡ lookup (pointwise nat_eq name.now) self.old }
     {
-        let place = self.place_of(name)?;
+        let place = place_of(&self.variables, name)?;
         self.variables.get_index_mut(place)
     }
 
@@ -305,41 +275,78 @@ impl Variables {
     ///
     /// # Errors
     ///
-    /// Where a growth was refused; some have theirs then.
-    pub fn assign(&mut self, bindings: Bindings) -> Result<(), AllocError>
-        ensures { OnOk result (self.new ≡ assigned bindings self.old) }
+    /// The values, where a growth was refused; nothing has changed then.
+    pub fn assign(&mut self, bindings: Bindings) -> Result<(), Bindings>
+        ensures assigned { OnOk result (self.new ≡ assigned bindings self.old) }
+        ensures unchanged { OnErr result (self.new ≡ self.old) }
+        ensures given_back { IfErr result (λ back. back ≡ bindings) }
     {
-        let mut left = bindings;
-        while let Some((name, value)) = left.pop() {
-            self.give(&name, value)?;
+        match self.variables.reserve(bindings.len()) {
+            Ok(()) => {
+                assign_all(&mut self.variables, bindings);
+                Ok(())
+            }
+            Err(_) => Err(bindings),
         }
-        Ok(())
-    }
-
-    #[tactic(auto, using(crate::proofs::Binding::bound_more, crate::proofs::Binding::none_bound))]
-    fn bind(&mut self, names: &[Named], values: &[Value]) -> Result<(), AllocError>
-        ensures { OnOk result (self.new ≡ assigned (paired names.now values.now) self.old) }
-    {
-        for (place, name) in names.iter().enumerate() {
-            let value = value_at(values, place)?;
-            self.give(name, value)?;
-        }
-        Ok(())
     }
 
     /// Gives a function's variables what a call gives them.
     ///
     /// # Errors
     ///
-    /// Where a growth was refused; some have theirs then.
-    #[tactic(auto, using(crate::proofs::Binding::assigned_append))]
-    pub fn start(&mut self, prototype: &Prototype, arguments: &[Value]) -> Result<(), AllocError>
-        ensures { OnOk result (self.new ≡ assigned (bindings_of prototype.now arguments.now) self.old) }
+    /// Where a growth was refused; nothing has changed then.
+    pub fn start(
+        &mut self,
+        alloc: Global,
+        prototype: &Prototype,
+        arguments: &[Value],
+    ) -> Result<(), AllocError>
+        ensures started { OnOk result (self.new ≡ assigned (bindings_of prototype.now arguments.now) self.old) }
+        ensures unchanged { OnErr result (self.new ≡ self.old) }
     {
-        self.give(&prototype.name, Value::null())?;
-        self.bind(prototype.parameters.as_slice(), arguments)?;
-        self.bind(prototype.locals.as_slice(), &[])
+        let bindings = bindings_of(alloc, prototype, arguments)?;
+        match self.assign(bindings) {
+            Ok(()) => Ok(()),
+            Err(_) => Err(AllocError),
+        }
     }
+}
+
+fn bind_one(name: &Named, value: Value, bindings: &mut Bindings) -> Result<(), AllocError>
+    ensures { OnOk result (bindings.new ≡ (name.now, value) ∷ bindings.old) }
+{
+    let name = copy_of(name)?;
+    bindings.push(name, value)
+}
+
+/// Puts names with the values for them before others.
+#[tactic(auto, using(crate::proofs::Binding::paired_before, crate::proofs::Binding::none_paired))]
+fn bind(names: &[Named], values: &[Value], bindings: &mut Bindings) -> Result<(), AllocError>
+    ensures { OnOk result (bindings.new ≡ paired names.now values.now ++ bindings.old) }
+{
+    let mut left = names.len();
+    while left > 0 {
+        left -= 1;
+        let value = value_at(values, left)?;
+        bind_one(&names[left], value, bindings)?;
+    }
+    Ok(())
+}
+
+/// What a call gives the function's variables.
+#[tactic(auto, using(crate::proofs::Binding::bound_all))]
+fn bindings_of(
+    alloc: Global,
+    prototype: &Prototype,
+    arguments: &[Value],
+) -> Result<Bindings, AllocError>
+    ensures { IfOk result (λ b. b ≡ bindings_of prototype.now arguments.now) }
+{
+    let mut bindings = Bindings::new(alloc);
+    bind(prototype.locals.as_slice(), &[], &mut bindings)?;
+    bind(prototype.parameters.as_slice(), arguments, &mut bindings)?;
+    bind_one(&prototype.name, Value::null(), &mut bindings)?;
+    Ok(bindings)
 }
 
 /// The same name once more.

@@ -2,9 +2,9 @@
 use Rattle.std.proofs.Common.{rules, ◌≡◌, true, nat_eq}
 use Rattle.std.specs.Cmp.Lexicographic.{pointwise}
 use Rattle.sno_store.proofs.Places.{place_hinted}
-use Rattle.sno_store.proofs.variables.Variables.place_of.Goals as goal
+use Rattle.sno_store.proofs.assigning.place_of.Goals as goal
 
 pub returns-then-eq : goal.returns-then-eq
 returns-then-eq c =
     let same_name : pointwise nat_eq c.args.name.now c.in-Some.key.now ≡ true = search rules in
-    rw (← c.self.view_is) (place_hinted c.args.name.now c.self.inside.variables.entries c.place-hint.result (c.in-Some.key.now, c.in-Some.field-0-1.now) c.self.invariant c.in-Some.ensures.entry same_name)
+    place_hinted c.args.name.now c.args.variables.now.entries c.place-hint.result (c.in-Some.key.now, c.in-Some.field-0-1.now) c.requires c.in-Some.ensures.entry same_name
