@@ -4,6 +4,7 @@ pub mod Exact
 mod Examples
 pub mod Finding
 pub mod Firsts
+pub mod Missing
 pub mod Pushing
 pub mod Reaches
 pub mod Run

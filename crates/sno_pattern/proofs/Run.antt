@@ -1,6 +1,6 @@
 -- A run on the stack, step by step, and a match, start by start.
 use Rattle.std.proofs.Common.{◌≡◌, ◌≢◌, ℕ, suc, ◌+◌, ◌-◌, ◌≤◌, List, [], ◌∷◌, ◌++◌, length, refl, sym, ap, ◌∙◌, subst, arith}
-use Rattle.std.specs.Prelude.{Result, Ok, Err, OnErr, reverse}
+use Rattle.std.specs.Prelude.{Result, Ok, Err, OnErr, reverse, Bool, if◌then◌else◌}
 use Rattle.std.proofs.lemmas.List.{append_assoc, reverse-append}
 use Rattle.std.specs.declared.rc.Rc.{Rc}
 use Rattle.std.specs.declared.alloc.Global.{Global}
@@ -16,13 +16,14 @@ use Rattle.sno_pattern.specs.declared.ending.Pending.{Pending}
 use Rattle.sno_pattern.specs.declared.ending.MatchEnd.{MatchEnd}
 use Rattle.sno_pattern.specs.declared.ending.MatchEnd.TheVariants as end
 use Rattle.sno_pattern.specs.Looks.{Look, Told, Fits}
-use Rattle.sno_pattern.specs.Steps.{Goal, Meet, End, Success, Failure, OutOfSteps, Outcome, Trying, row, outcome, Finish, settle, from_starts}
+use Rattle.sno_pattern.specs.Steps.{Goal, Meet, End, Success, Failure, OutOfSteps, Outcome, Trying, row, outcome, Finish, settle, from_starts, match_of}
 use Rattle.sno_pattern.specs.declared.goals.Goals.{Goals}
 use Rattle.sno_pattern.specs.declared.goals.Waiting.{Waiting}
 use Rattle.sno_pattern.specs.declared.choices.Choice.{Choice}
 use Rattle.sno_pattern.specs.declared.choices.Turn.TheVariants.{Go, Stay}
 use Rattle.sno_pattern.specs.declared.choices.Ended.{Ended}
 use Rattle.sno_pattern.specs.inner.Reaching.{IsQuiet}
+use Rattle.sno_pattern.specs.inner.Running.{finishing}
 use Rattle.sno_pattern.specs.inner.Stack.{goals_of, waiting_of, end_of, resume, AllWithin, Moved}
 use Rattle.sno_pattern.proofs.Table.{takes_off, none_left, no_step_left}
 use Rattle.sno_pattern.proofs.Pushing.{resume_last}
@@ -66,8 +67,8 @@ pub record On {S : Type 0} (tells : S → Look → Told → S → Type 0) (broke
   pub here : c ≤ length text
 
 module _ {S : Type 0} (tells : S → Look → Told → S → Type 0) (broken : S → Look → S → Type 0) (text : List ℕ) (s : S) (whole : Trying) where
-  pub on_start : (gs : List Goal) (c n : ℕ) → whole ≡ outcome text gs c [] n → c ≤ length text → On tells broken text s whole s gs c [] [] n
-  on_start gs c n e h = record {
+  pub on_start : (gs : List Goal) (c : ℕ) (p : List Pending) (n : ℕ) → whole ≡ outcome text gs c p n → c ≤ length text → On tells broken text s whole s gs c p [] n
+  on_start gs c p n e h = record {
     held = λ b v k. subst (λ (z : Trying). Held tells Fits z s b v) (sym e) k;
     cut = λ v k. subst (λ (z : Trying). Cut tells Fits broken z s v) (sym e) k;
     all = tt;
@@ -107,21 +108,26 @@ module _ {S : Type 0} (tells : S → Look → Told → S → Type 0) (broken : S
       let o : Outcome = record { end = OutOfSteps; left = 0 } in
       k.held o t (subst (λ (z : Trying). Held tells Fits z t o t) (sym (ap (resume text choices) (no_step_left text g r c p) ∙ resume_last text choices OutOfSteps 0 tt)) (refl, refl))
 
--- what so many starts from one on come to
-abbrev pub finishing : List ℕ → Pattern → ℕ → ℕ → ℕ → Talk Look Told MatchEnd
-finishing text a k at n = from_starts text a k at n >>= (λ f. Ends f.end)
-
 -- so far: whatever the starts that are left come to, the match comes to
 pub record Came {S : Type 0} (tells : S → Look → Told → S → Type 0) (broken : S → Look → S → Type 0) (text : List ℕ) (a : Pattern) (s : S) (whole : Talk Look Told MatchEnd) (t : S) (k at n : ℕ) : Type 0 where
   pub held : (b : MatchEnd) (v : S) → Held tells Fits (finishing text a k at n) t b v → Held tells Fits whole s b v
   pub cut : (v : S) → Cut tells Fits broken (finishing text a k at n) t v → Cut tells Fits broken whole s v
 
 module _ {S : Type 0} (tells : S → Look → Told → S → Type 0) (broken : S → Look → S → Type 0) (text : List ℕ) (a : Pattern) (s : S) (whole : Talk Look Told MatchEnd) where
-  pub came_start : (k n : ℕ) → whole ≡ finishing text a k 0 n → Came tells broken text a s whole s k 0 n
-  came_start k n e = record {
+  pub came_start : (k at n : ℕ) → whole ≡ finishing text a k at n → Came tells broken text a s whole s k at n
+  came_start k at n e = record {
     held = λ b v h. subst (λ (z : Talk Look Told MatchEnd). Held tells Fits z s b v) (sym e) h;
     cut = λ v h. subst (λ (z : Talk Look Told MatchEnd). Cut tells Fits broken z s v) (sym e) h;
   }
+
+  -- starts that come to the same
+  pub came_as : (t : S) (k at n k' at' n' : ℕ) → from_starts text a k at n ≡ from_starts text a k' at' n' → Came tells broken text a s whole t k at n → Came tells broken text a s whole t k' at' n'
+  came_as t k at n k' at' n' e c =
+      let same : finishing text a k at n ≡ finishing text a k' at' n' = ap (λ z. z >>= (λ f. Ends f.end)) e in
+      record {
+        held = λ b v h. c.held b v (subst (λ (z : Talk Look Told MatchEnd). Held tells Fits z t b v) (sym same) h);
+        cut = λ v h. c.cut v (subst (λ (z : Talk Look Told MatchEnd). Cut tells Fits broken z t v) (sym same) h);
+      }
 
   pub came_end : (k at n : ℕ) (t : S) → k ≡ 0 → Came tells broken text a s whole t k at n → Held tells Fits whole s end.NoMatch t
   came_end k at n t e c = c.held end.NoMatch t (subst (λ (j : ℕ). Held tells Fits (finishing text a j at n) t end.NoMatch t) (sym e) (refl, refl))
@@ -165,3 +171,12 @@ collect ws list p = append_assoc ws (p ∷ []) (reverse list) ∙ ap (λ xs. ws 
 
 abbrev pub pending : List ℕ → List ℕ → Pending
 pending v t = record { variable = v; text = t }
+
+-- a match is what its starts come to, from the first that is not missed at once
+pub match_is : (text : List ℕ) (a : Pattern) (anchored : Bool) (limit starts first left : ℕ) → (if anchored then 1 else (length text + 1)) ≡ starts → from_starts text a (starts - 0) 0 limit ≡ from_starts text a (starts - first) first left → match_of text a anchored limit ≡ finishing text a (starts - first) first left
+match_is text a anchored limit starts first left all same =
+    let all_of_them : starts ≡ starts - 0 = omega arith in
+    ap (λ k. finishing text a k 0 limit) (all ∙ all_of_them) ∙ ap (λ z. z >>= (λ f. Ends f.end)) same
+
+pub no_start : (text : List ℕ) (a : Pattern) (starts first left : ℕ) → first ≡ starts → finishing text a (starts - first) first left ≡ Ends end.NoMatch
+no_start text a starts first left e = let none : starts - first ≡ 0 = omega arith in ap (λ k. finishing text a k first left) none

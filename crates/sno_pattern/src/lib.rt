@@ -10,6 +10,7 @@ mod matching;
 mod reach;
 mod rows;
 mod running;
+mod starting;
 mod taking;
 
 pub use ending::{Assignments, MatchEnd, Pending};

@@ -1,11 +1,12 @@
 //! A whole match.
-ghost use Rattle.std.specs.Prelude.{◌≡◌, length, IfOk, OnErr, reverse};
+ghost use Rattle.std.specs.Prelude.{◌≡◌, ◌≤◌, ◌+◌, ◌-◌, length, IfOk, OnErr, reverse};
 ghost use Rattle.mon_text.specs.Lines.{IsLine};
 ghost use Rattle.sno_talk.specs.Holding.{Held, Cut};
 ghost use Rattle.sno_nodes.specs.Nodes.{pattern_of};
 ghost use Rattle.sno_pattern.specs.Looks.{Fits};
 ghost use Rattle.sno_pattern.specs.Steps.{match_of};
 ghost use Rattle.sno_pattern.specs.Places.{MatchesWithin};
+ghost use Rattle.sno_pattern.specs.inner.Running.{finishing};
 ghost use Rattle.sno_pattern.specs.inner.Stack.{waiting_of};
 
 use crate::choices::{Choice, Ended};
@@ -13,6 +14,7 @@ use crate::ending::{Assignments, MatchEnd, Pending};
 use crate::goals::Waiting;
 use crate::host::MatchHost;
 use crate::running::run;
+use crate::starting::{Start, skip_starts};
 use crate::taking::part_of;
 use sno_nodes::{Node, Pat};
 use sno_text::Text;
@@ -50,6 +52,49 @@ fn assignments_of(alloc: Global, text: &[u8], waiting: &Waiting) -> Result<Assig
 }
 
 /// Matches a text from one start after the other.
+fn matches_from<H: MatchHost>(
+    alloc: Global,
+    pattern: &Rc<Node>,
+    text: &[u8],
+    first: usize,
+    starts: usize,
+    limit: u64,
+    host: &mut H,
+) -> Result<MatchEnd, AllocError>
+    requires ready { H.ready host.old }
+    requires printable { IsLine text.now }
+    requires within { starts ≤ length text.now + 1 }
+    requires begins { first ≤ starts }
+    ensures held { IfOk result (λ end. Held H.tells Fits (finishing text.now (pattern_of pattern.now.value) (starts - first) first limit) host.old end host.new) }
+    ensures cut { OnErr result (Cut H.tells Fits H.broken (finishing text.now (pattern_of pattern.now.value) (starts - first) first limit) host.old host.new) }
+    ensures ready { H.ready host.new }
+{
+    let node: &Node = pattern;
+    let start = Start::new(alloc, pattern)?;
+    let mut choices: Vec<Choice> = Vec::new(alloc);
+    let mut left = limit;
+    let mut from = first;
+    while from < starts {
+        let attempt = run(alloc, text, &start, from, left, &mut choices, host)?;
+        match attempt.ended {
+            Ended::Success(to, waiting) => {
+                let pending = assignments_of(alloc, text, &waiting)?;
+                return Ok(MatchEnd::Matched { from, to, pending });
+            }
+            Ended::Failure => {
+                left = attempt.left;
+                let later = skip_starts(text, node, from + 1, starts, &mut left);
+                from = later;
+            }
+            Ended::WholeFails => return Ok(MatchEnd::NoMatch),
+            Ended::OutOfSteps => return Ok(MatchEnd::Limit),
+            Ended::Fault(fault) => return Ok(MatchEnd::Fault(fault)),
+        }
+    }
+    Ok(MatchEnd::NoMatch)
+}
+
+/// Matches a text. Where each start is missed at once, no memory is taken.
 fn matches_in<H: MatchHost>(
     alloc: Global,
     pattern: &Rc<Node>,
@@ -65,22 +110,16 @@ fn matches_in<H: MatchHost>(
     ensures ready { H.ready host.new }
 {
     let starts = if anchored { 1 } else { text.len() + 1 };
-    let mut choices: Vec<Choice> = Vec::new(alloc);
     let mut left = limit;
-    for from in 0..starts {
-        let attempt = run(alloc, text, pattern, from, left, &mut choices, host)?;
-        match attempt.ended {
-            Ended::Success(to, waiting) => {
-                let pending = assignments_of(alloc, text, &waiting)?;
-                return Ok(MatchEnd::Matched { from, to, pending });
-            }
-            Ended::Failure => left = attempt.left,
-            Ended::WholeFails => return Ok(MatchEnd::NoMatch),
-            Ended::OutOfSteps => return Ok(MatchEnd::Limit),
-            Ended::Fault(fault) => return Ok(MatchEnd::Fault(fault)),
-        }
+    let node: &Node = pattern;
+    let first = skip_starts(text, node, 0, starts, &mut left);
+    if first == starts {
+        return Ok(MatchEnd::NoMatch);
     }
-    Ok(MatchEnd::NoMatch)
+    match matches_from(alloc, pattern, text, first, starts, left, host) {
+        Ok(end) => Ok(end),
+        Err(e) => Err(e),
+    }
 }
 
 /// Matches a text, at its start alone or at each place. A limit of as many steps as the match needs is enough.

@@ -1,19 +1,18 @@
 //! Goals taken one after the other until they come out.
-ghost use Rattle.std.specs.Prelude.{◌≤◌, ◌∷◌, [], length, IfOk, OnErr};
+ghost use Rattle.std.specs.Prelude.{◌≤◌, length, IfOk, OnErr};
 ghost use Rattle.mon_text.specs.Lines.{IsLine};
 ghost use Rattle.sno_talk.specs.Holding.{Held, Cut};
-ghost use Rattle.sno_nodes.specs.Nodes.{pattern_of};
 ghost use Rattle.sno_pattern.specs.Looks.{Fits};
-ghost use Rattle.sno_pattern.specs.Steps.{Meet, outcome};
+ghost use Rattle.sno_pattern.specs.Steps.{outcome};
 ghost use Rattle.sno_pattern.specs.inner.Running.{outcome_of};
+ghost use Rattle.sno_pattern.specs.inner.Stack.{goals_of, waiting_of};
 
-use crate::choices::{Choice, Ended, Turn, before};
-use crate::goals::{Goal, Goals, Waiting};
+use crate::choices::{Choice, Ended, Turn};
+use crate::goals::Goals;
 use crate::host::MatchHost;
+use crate::starting::Start;
 use crate::taking::take;
-use sno_nodes::Node;
 use std::alloc::{AllocError, Global};
-use std::rc::Rc;
 
 /// How goals come out, and the steps that are left.
 #[derive(Drop)]
@@ -22,11 +21,11 @@ pub(crate) struct Attempt {
     pub(crate) left: u64,
 }
 
-/// Takes goals until they come out, from a pattern at a cursor on.
+/// Takes goals until they come out, from a start at a cursor on.
 pub(crate) fn run<H: MatchHost>(
     alloc: Global,
     text: &[u8],
-    pattern: &Rc<Node>,
+    from: &Start,
     start: usize,
     limit: u64,
     choices: &mut Vec<Choice>,
@@ -35,14 +34,13 @@ pub(crate) fn run<H: MatchHost>(
     requires ready { H.ready host.old }
     requires printable { IsLine text.now }
     requires within { start ≤ length text.now }
-    ensures held { IfOk result (λ a. Held H.tells Fits (outcome text.now (Meet (pattern_of pattern.now.value) ∷ []) start [] limit) host.old (outcome_of text.now a) host.new) }
-    ensures cut { OnErr result (Cut H.tells Fits H.broken (outcome text.now (Meet (pattern_of pattern.now.value) ∷ []) start [] limit) host.old host.new) }
+    ensures held { IfOk result (λ a. Held H.tells Fits (outcome text.now (goals_of from.now.goals.value) start (waiting_of text.now from.now.waiting.value) limit) host.old (outcome_of text.now a) host.new) }
+    ensures cut { OnErr result (Cut H.tells Fits H.broken (outcome text.now (goals_of from.now.goals.value) start (waiting_of text.now from.now.waiting.value) limit) host.old host.new) }
     ensures ready { H.ready host.new }
 {
     choices.clear();
-    let done = Rc::new(alloc, Goals::Done)?;
-    let mut goals = before(alloc, Goal::Meet(pattern.clone()?), &done)?;
-    let mut waiting = Rc::new(alloc, Waiting::Empty)?;
+    let mut goals = from.goals.clone()?;
+    let mut waiting = from.waiting.clone()?;
     let mut at = start;
     let mut left = limit;
     loop {

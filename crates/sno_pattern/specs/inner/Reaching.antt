@@ -66,3 +66,10 @@ abbrev pub IsWithin : ℕ → Reach → Type 0
 IsWithin l (Here c) = c ≤ l
 IsWithin l Nowhere = Unit {0}
 IsWithin l Depends = Unit {0}
+
+-- the part of a pattern that is met right after it, at the same cursor, where there is one such part
+abbrev pub first_part : Pattern → Option Pattern
+first_part (pattern.Cat a b) = Some a
+first_part (pattern.Conditional a v) = Some a
+first_part (pattern.Immediate a v) = Some a
+first_part _ = None
