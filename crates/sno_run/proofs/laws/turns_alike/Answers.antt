@@ -1,0 +1,7 @@
+use Rattle.sno_talk.proofs.Runs.{alike_first}
+use Rattle.sno_ask.specs.Fitting.{Fits}
+use Rattle.sno_run.specs.Jobs.{turn_of}
+use Rattle.sno_run.proofs.laws.turns_alike.Goals as goal
+
+pub returns : goal.returns
+returns c = λ job x y more others p q h k same. alike_first Fits (turn_of job) x y more others p q h k same

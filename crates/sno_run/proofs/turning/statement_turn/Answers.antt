@@ -1,0 +1,17 @@
+use Rattle.std.proofs.Common.{Some, refl, ◌∙◌}
+use Rattle.sno_run.specs.declared.ending.Ending.TheVariants.{Memory}
+use Rattle.sno_run.specs.declared.ending.Step.TheVariants.{Ended}
+use Rattle.sno_run.specs.Told.{job_of}
+use Rattle.sno_run.specs.inner.Turning.{turned_of}
+use Rattle.sno_run.proofs.Turns.{stepped_mid, turn_told, turn_broken}
+use Rattle.sno_run.proofs.turning.statement_turn.Goals as goal
+
+pub returns-in-Ok-clause-turn : goal.returns-in-Ok-clause-turn
+returns-in-Ok-clause-turn g c =
+    turn_told g.S.Service.answers c.args.job.now c.in-None.is c.args.service.now c.turn_at.new.service (turned_of c.in-Ok.turned) c.turn_at.new.state c.in-Ok.ensures.held c.step.result (job_of c.step.new.self)
+    (c.step.ensures ∙ stepped_mid (job_of c.args.job.now) c.turn_at.new.state (turned_of c.in-Ok.turned) c.turn_at.new.state)
+
+pub returns-in-Err-clause-turn : goal.returns-in-Err-clause-turn
+returns-in-Err-clause-turn g c =
+    turn_broken g.S.Service.answers c.args.job.now c.in-None.is c.args.service.now c.turn_at.new.service c.in-Err.ensures.cut (Ended Memory)
+    (record (job_of c.args.job.now) { state = c.turn_at.new.state; ended = Some Memory }) refl refl refl refl

@@ -1,0 +1,4 @@
+pub mod Jobs
+pub mod Told
+pub mod Laws
+pub mod inner

@@ -1,0 +1,23 @@
+//! Jobs and their turns, over whoever answers what a program asks.
+//!
+//! A job is a program with the state that its statements change. A turn is one statement with all calls in it. No
+//! statement is evaluated by recursion over its tree: a loop goes over its code, and only calls of functions nest.
+#![tactic(auto)]
+
+pub mod doing;
+pub mod ending;
+pub mod going;
+pub mod joining;
+pub mod laws;
+pub mod line;
+pub mod loaded;
+pub mod loading;
+pub mod machine;
+pub mod moving;
+pub mod resting;
+pub mod stack;
+pub mod turning;
+
+pub use ending::{Ending, Step};
+pub use sno_keeping::Limits;
+pub use turning::{Job, statement_turn};
