@@ -1,9 +1,10 @@
 //! Whole runs over memory: worked decks in pieces, with each call that fails, cut anywhere; and decks that are refused.
-ghost use Rattle.std.specs.Prelude.{◌≡◌, false};
+ghost use Rattle.std.specs.Prelude.{◌≡◌, None, false};
 
 use mon_deck::{
     Code, Counts, MemReader, MemWriter, Options, RunError, exit_status, put_fault, run_deck,
 };
+use mon_device::{DeckReader, DeckWriter, Failed};
 use std::alloc::{AllocError, Global};
 
 /// The worked deck: records with an empty one, a denial by `other::`, a missing data set.
@@ -249,6 +250,106 @@ fn every_write_that_fails_is_told(rt: HostRuntime) {
     for worked in &WORKED {
         for call in 0..worked.output.len() {
             assert!(rt; tells_a_failing_write(rt.alloc(), worked, call));
+        }
+    }
+}
+
+/// A reader over memory of which the call of this number fails, counted from 0, and no later one.
+#[derive(Drop)]
+struct FailsToReadOnce<'a> {
+    inner: MemReader<'a>,
+    call: u64,
+    reads: u64,
+    has_failed: bool,
+}
+
+impl DeckReader for FailsToReadOnce<'_> {
+    ghost remaining = { λ _. None };
+
+    ghost has_failed = { λ s. s.has_failed };
+
+    ghost reads = { λ s. s.reads };
+
+    fn read(&mut self, buffer: &mut [u8]) -> Result<usize, Failed> {
+        let fails = self.reads == self.call;
+        self.reads = self.reads.saturating_add(1);
+        if !fails {
+            if let Ok(count) = self.inner.read(buffer) {
+                return Ok(count);
+            }
+        }
+        self.has_failed = true;
+        Err(Failed)
+    }
+}
+
+/// A writer to memory of which the call of this number fails, counted from 0, and no later one.
+#[derive(Drop)]
+struct FailsToWriteOnce {
+    inner: MemWriter,
+    call: u64,
+    writes: u64,
+    has_failed: bool,
+}
+
+impl DeckWriter for FailsToWriteOnce {
+    ghost written = { λ _. None };
+
+    ghost has_failed = { λ s. s.has_failed };
+
+    fn write(&mut self, piece: &[u8]) -> Result<usize, Failed> {
+        let fails = self.writes == self.call;
+        self.writes = self.writes.saturating_add(1);
+        if !fails {
+            if let Ok(count) = self.inner.write(piece) {
+                return Ok(count);
+            }
+        }
+        self.has_failed = true;
+        Err(Failed)
+    }
+}
+
+// One read a byte, of which this one alone fails.
+fn stops_at_a_read(alloc: Global, worked: &Worked, call: usize) -> bool {
+    let Ok(mut writer) = MemWriter::new(alloc, ROOM) else {
+        return false;
+    };
+    let mut reader = FailsToReadOnce {
+        inner: MemReader::in_pieces(worked.deck, 1),
+        call: call as u64,
+        reads: 0,
+        has_failed: false,
+    };
+    let outcome = run_deck(alloc, &mut reader, &mut writer, options(false));
+    let written = printed_by(worked, call);
+    has_failed_cleanly(&outcome, RunError::ReadFault, worked, &writer, written)
+}
+
+// One write a byte, of which this one alone fails.
+fn stops_at_a_write(alloc: Global, worked: &Worked, call: usize) -> bool {
+    let Ok(inner) = MemWriter::in_pieces(alloc, ROOM, 1) else {
+        return false;
+    };
+    let mut writer = FailsToWriteOnce {
+        inner,
+        call: call as u64,
+        writes: 0,
+        has_failed: false,
+    };
+    let mut reader = MemReader::new(worked.deck);
+    let outcome = run_deck(alloc, &mut reader, &mut writer, options(false));
+    has_failed_cleanly(&outcome, RunError::WriteFault, worked, &writer.inner, call)
+}
+
+#[test]
+fn a_run_ends_at_the_first_call_that_fails(rt: HostRuntime) {
+    for worked in &WORKED {
+        for call in 0..=worked.deck.len() {
+            assert!(rt; stops_at_a_read(rt.alloc(), worked, call));
+        }
+        for call in 0..worked.output.len() {
+            assert!(rt; stops_at_a_write(rt.alloc(), worked, call));
         }
     }
 }
