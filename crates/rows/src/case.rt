@@ -2,6 +2,7 @@
 ghost use Rattle.std.specs.Prelude.{◌≡◌, ◌≢◌, Bool, IfSome, None};
 ghost use Rattle.rows.specs.Words.{words_for};
 
+use crate::cuts::first_bad_cut;
 use crate::difference::first_difference;
 use anyhow::{Context, Result};
 use mon_deck::{MemReader, MemWriter, Options, exit_status, put_fault, run_deck};
@@ -52,6 +53,10 @@ impl Case {
                 println!(rt; "FAILED {name}: {difference}")?;
                 return Ok(false);
             }
+        }
+        if let Some(end) = first_bad_cut(rt.alloc(), self.deck.as_slice(), self.options)? {
+            println!(rt; "FAILED {name}: cut behind {end} bytes")?;
+            return Ok(false);
         }
         println!(rt; "ok {name}")?;
         Ok(true)

@@ -1,8 +1,10 @@
 //! Runs the worked decks of `data/` through `run_deck`, from memory to memory, and prints a line for each: whether
-//! the output, the line for standard error and the exit status are those that were worked out by hand.
+//! the output, the line for standard error and the exit status are those that were worked out by hand, in pieces of any size;
+//! and whether the deck cut anywhere shows a beginning of that.
 #![tactic(auto)]
 
 mod case;
+mod cuts;
 mod difference;
 
 use anyhow::Result;

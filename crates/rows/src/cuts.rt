@@ -1,0 +1,149 @@
+//! A deck that is cut anywhere, or whose reader fails there: what the whole lines before that print is out, and no more.
+ghost use Rattle.std.specs.Prelude.{◌≡◌, ◌<◌, false};
+
+use mon_deck::{Code, Counts, MemReader, MemWriter, Options, RunError, run_deck};
+use std::alloc::{AllocError, Global};
+
+/// Room for the longest output of a case, and for some more.
+const ROOM: usize = 131_072;
+
+/// About how many bytes the cuts of one deck have together. A deck of up to 1,224 bytes is cut at each of them, a longer
+/// one at as many places as this allows.
+const MOST_CUT_BYTES: usize = 1_500_000;
+
+/// A run, and what it wrote.
+#[derive(Drop)]
+struct Run {
+    outcome: Result<Counts, RunError>,
+    writer: MemWriter,
+}
+
+fn run_of(alloc: Global, reader: MemReader<'_>, options: Options) -> Result<Run, AllocError>
+    requires { reader.has_failed ≡ false }
+{
+    let mut reader = reader;
+    let mut writer = MemWriter::new(alloc, ROOM)?;
+    let outcome = run_deck(alloc, &mut reader, &mut writer, options);
+    Ok(Run { outcome, writer })
+}
+
+/// The place of the first cut at which a run shows something else than it must, if there is one.
+pub fn first_bad_cut(
+    alloc: Global,
+    deck: &[u8],
+    options: Options,
+) -> Result<Option<usize>, AllocError> {
+    let whole = run_of(alloc, MemReader::new(deck), options)?;
+    let step = step_of(deck.len());
+    for end in 0..deck.len() {
+        if end % step == 0 && !shows_what_is_due(alloc, deck, end, options, &whole)? {
+            return Ok(Some(end));
+        }
+    }
+    Ok(None)
+}
+
+// Whether runs of a deck that is cut there, or whose read fails there, show what they must.
+fn shows_what_is_due(
+    alloc: Global,
+    deck: &[u8],
+    end: usize,
+    options: Options,
+    whole: &Run,
+) -> Result<bool, AllocError> {
+    let cut = &deck[..end.min(deck.len())];
+    let lines = whole_lines(cut);
+    let number = lines.iter().filter(|byte| **byte == b'\n').count() as u64;
+    let due = run_of(alloc, MemReader::new(lines), options)?;
+    Ok(
+        is_begun(&due, whole, number)
+            && ends_there(alloc, cut, options, &due, number)?
+            && fails_there(alloc, deck, end, 1, options, &due, number)?
+            && fails_there(alloc, deck, end, 7, options, &due, number)?,
+    )
+}
+
+// How many bytes lie between two cuts of a deck of so many bytes.
+fn step_of(length: usize) -> usize
+    ensures { 0 < result }
+{
+    (length.saturating_mul(length) / MOST_CUT_BYTES).max(1)
+}
+
+// The lines of these bytes that have their line end.
+fn whole_lines(bytes: &[u8]) -> &[u8] {
+    let rest = bytes.rsplit(|byte| *byte == b'\n').next();
+    let left = rest.map_or(0, <[u8]>::len);
+    &bytes[..bytes.len().saturating_sub(left)]
+}
+
+fn is_same(a: &Run, b: &Run) -> bool {
+    let is_same_outcome = match (&a.outcome, &b.outcome) {
+        (Ok(a), Ok(b)) => a.commands == b.commands,
+        (Err(a), Err(b)) => a == b,
+        _ => false,
+    };
+    is_same_outcome && a.writer.as_bytes() == b.writer.as_bytes()
+}
+
+// Whether a deck was cut off behind so many lines.
+fn is_cut_behind(run: &Run, lines: u64) -> bool {
+    matches!(run.outcome, Err(RunError::DeckRefused(line, Code::Truncated)) if line == lines.saturating_add(1))
+}
+
+// Whole lines from the front of a deck: they are all that counts in it, or it goes on behind them, and what they print is
+// the beginning of what the deck does.
+fn is_begun(due: &Run, whole: &Run, lines: u64) -> bool {
+    is_same(due, whole)
+        || is_cut_behind(due, lines) && whole.writer.as_bytes().starts_with(due.writer.as_bytes())
+}
+
+// Whether the deck that ends there is refused in the line of the cut, or behind it, or ends with `$STOP`.
+fn ends_there(
+    alloc: Global,
+    cut: &[u8],
+    options: Options,
+    due: &Run,
+    lines: u64,
+) -> Result<bool, AllocError> {
+    let seen = run_of(alloc, MemReader::new(cut), options)?;
+    if !is_cut_behind(due, lines) {
+        return Ok(is_same(&seen, due));
+    }
+    let is_refused =
+        matches!(seen.outcome, Err(RunError::DeckRefused(line, _)) if line == lines.saturating_add(1));
+    let begins = seen.writer.as_bytes().starts_with(due.writer.as_bytes());
+    let is_stopped = seen.outcome.is_ok() && cut.trim_ascii_end().ends_with(b"$STOP");
+    Ok((is_refused || is_cut_behind(&seen, lines.saturating_add(1)) || is_stopped) && begins)
+}
+
+// Whether what is due is out where reads give so many bytes, and the one fails that would give what stands there.
+fn fails_there(
+    alloc: Global,
+    deck: &[u8],
+    end: usize,
+    most: usize,
+    options: Options,
+    due: &Run,
+    lines: u64,
+) -> Result<bool, AllocError>
+    requires { 0 < most }
+{
+    if end % most != 0 {
+        return Ok(true);
+    }
+    let reader = MemReader::failing_at(deck, most, (end / most) as u64);
+    let seen = run_of(alloc, reader, options)?;
+    Ok(is_told(&seen, due, lines))
+}
+
+// A read fault is told, unless the deck was refused before.
+fn is_told(seen: &Run, due: &Run, lines: u64) -> bool {
+    let is_refused = matches!(due.outcome, Err(RunError::DeckRefused(..)))
+        && !is_cut_behind(due, lines);
+    if is_refused {
+        return is_same(seen, due);
+    }
+    matches!(seen.outcome, Err(RunError::ReadFault))
+        && seen.writer.as_bytes() == due.writer.as_bytes()
+}
