@@ -1,0 +1,104 @@
+//! Runs the worked programs of `data/`, and prints a line for each: whether what it asks and how it ends are as was
+//! worked out by hand.
+//!
+//! `files.txt` names the files. Behind a title each has its cases, with blank lines between them:
+//!
+//! ```text
+//! $CASE a-name ST=50000 MATCH=1000000
+//!   OUTPUT = INPUT '!'
+//! END
+//! $ANSWERS
+//! GOT ADA
+//! $WANTED
+//! 1 READ 5
+//! 1 WRITE 6 'ADA!'
+//! END NORMAL AFTER 1 IN 1 TURNS
+//! ```
+//!
+//! `ST` and `MATCH` are how many statements may begin, and how many steps a match may take; the case has those of jobs that
+//! name none. The service gives the answers in order: `DONE`, `GOT` with a record, `EOF`, `DENIED` or `FULL`. One that does
+//! not fit what is asked waits; where none is left a read meets the end of file, and anything else is done. What is wanted is
+//! a line for each request, with the statement that asks, and a last one: how the job ends, how many statements had begun,
+//! at every level, and how many turns there were.
+#![tactic(auto)]
+
+ghost use Rattle.sno_keeping.specs.Limits.{AreLimits};
+
+mod case;
+mod difference;
+mod run;
+mod script;
+mod seen;
+
+use anyhow::{Context, Result};
+use case::{Case, HEAD};
+use difference::first_difference;
+use run::seen_of;
+use std::fs::{self, Files};
+use std::process::ExitCode;
+
+/// How many cases there were, and how many of them failed.
+#[derive(Clone, Copy)]
+struct Tally {
+    cases: u64,
+    failed: u64,
+}
+
+impl Tally {
+    fn note(&mut self, holds: bool) {
+        self.cases = self.cases.saturating_add(1);
+        if !holds {
+            self.failed = self.failed.saturating_add(1);
+        }
+    }
+}
+
+fn holds<R: Print + AllocGlobal>(rt: &R, case: &Case<'_>) -> Result<bool>
+    requires { AreLimits case.now.limits }
+{
+    let name = case.name;
+    let seen = match seen_of(rt.alloc(), case) {
+        Ok(seen) => seen,
+        Err(error) => {
+            println!(rt; "FAILED {name}: {error}")?;
+            return Ok(false);
+        }
+    };
+    match first_difference(case.wanted.as_bytes(), &seen) {
+        Some(difference) => {
+            println!(rt; "FAILED {name}: {difference}")?;
+            Ok(false)
+        }
+        None => {
+            println!(rt; "ok {name}")?;
+            Ok(true)
+        }
+    }
+}
+
+fn run_file<R: Files + Print + AllocGlobal>(rt: &R, file: &str, tally: &mut Tally) -> Result<()> {
+    let text = fs::read_to_string(rt, file).context(format_args!("reading {file}"))?;
+    for part in text.split(HEAD).skip(1) {
+        let case = Case::read(part).context(format_args!("{file} has a bad case"))?;
+        tally.note(holds(rt, &case)?);
+    }
+    Ok(())
+}
+
+fn main(rt: HostRuntime) -> Result<ExitCode> {
+    let mut tally = Tally {
+        cases: 0,
+        failed: 0,
+    };
+    let files = fs::read_to_string(&rt, "files.txt")?;
+    for file in files.lines() {
+        run_file(&rt, file, &mut tally)?;
+    }
+    let Tally { cases, failed } = tally;
+    println!(rt; "{cases} cases, {failed} failed")?;
+    Ok(if failed == 0 {
+        ExitCode::SUCCESS
+    } else {
+        ExitCode::FAILURE
+    })
+}

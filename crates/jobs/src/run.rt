@@ -1,0 +1,41 @@
+//! The run of a case.
+ghost use Rattle.sno_keeping.specs.Limits.{AreLimits};
+
+use crate::case::Case;
+use crate::script::{answers_of, program_of};
+use crate::seen::{End, put_end, put_requests};
+use anyhow::{Context, Result};
+use sno_ask::Script;
+use sno_run::{Job, Step, statement_turn};
+use std::alloc::Global;
+
+/// More turns than a job can have: each but the last begins a statement.
+const MOST_TURNS: u64 = 10_000_001;
+
+/// Runs the program of a case on the answers of its service, and tells what is seen.
+pub fn seen_of(alloc: Global, case: &Case<'_>) -> Result<Vec<u8>>
+    requires { AreLimits case.now.limits }
+{
+    let program = program_of(alloc, case.program)?;
+    let answers = answers_of(alloc, case.answers)?;
+    let mut script = Script::new(alloc, answers);
+    let mut job = Job::new(alloc, program, case.limits)?;
+    let end = run(alloc, &mut job, &mut script).context("it goes on for ever")?;
+    let mut out = Vec::new(alloc);
+    put_requests(script.asked(), &mut out)?;
+    put_end(end, &mut out)?;
+    Ok(out)
+}
+
+fn run(alloc: Global, job: &mut Job, script: &mut Script) -> Option<End> {
+    for turns in 1..=MOST_TURNS {
+        if let Step::Ended(ending) = statement_turn(alloc, job, script) {
+            return Some(End {
+                ending,
+                statements: job.statements(),
+                turns,
+            });
+        }
+    }
+    None
+}
