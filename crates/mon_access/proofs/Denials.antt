@@ -1,5 +1,5 @@
 -- What a grant to a member of a group rests on, and what a denial names.
-use Rattle.std.proofs.Common.{◌≡◌, ◌≢◌, ℕ, ◌<◌, Bool, true, false, ◌||◌, ◌&&◌, ◌⊎◌, inl, inr, List, length, get_or, Option, None, Some, refl, sym, ap, subst, nat_cmp, Ordering, Less, Equal, Greater, ◌∙◌, true≢false, arith, nat_lt}
+use Rattle.std.proofs.Common.{◌≡◌, ◌≢◌, ℕ, ◌<◌, Bool, true, false, ◌||◌, ◌&&◌, inl, inr, List, length, get_or, Option, None, Some, refl, sym, ap, subst, nat_cmp, Ordering, Less, Equal, Greater, ◌∙◌, true≢false, arith, nat_lt}
 use Rattle.std.specs.Prelude.{Any, Decides, IsSomeAnd, IfSome, slice_get, if◌then◌else◌}
 use Rattle.std.specs.List.{list_any, position_or_len}
 use Rattle.std.specs.Cmp.{ranks}

@@ -1,5 +1,5 @@
 //! An account and its groups.
-ghost use Rattle.std.specs.Prelude.{◌≡◌, ◌==◌, [], ◌∷◌, ◌++◌, length, OnOk, OnErr};
+ghost use Rattle.std.specs.Prelude.{◌≡◌, ◌==◌, [], ◌∷◌, ◌++◌, length, IfOk, OnOk, OnErr};
 ghost use Rattle.mon_access.specs.Groups.{is_among};
 
 use mon_text::Name;
@@ -76,10 +76,43 @@ impl Groups {
         Ok(())
     }
 
+    /// The same groups once more.
+    ///
+    /// # Errors
+    ///
+    /// Where a growth was refused.
+    pub fn copy(&self, alloc: Global) -> Result<Groups, AllocError>
+        ensures { IfOk result (λ groups. groups ≡ self.now) }
+    {
+        let mut groups = Groups::new(alloc);
+        for name in self.names() {
+            groups.push(name.copy())?;
+        }
+        Ok(groups)
+    }
+
     /// Whether a group is one of these.
     pub fn contains(&self, group: &Name) -> bool
         ensures { result ≡ is_among group.now self.now }
     {
         self.names.contains(group)
+    }
+}
+
+impl Account {
+    /// The same account once more.
+    ///
+    /// # Errors
+    ///
+    /// Where a growth was refused.
+    pub fn copy(&self, alloc: Global) -> Result<Account, AllocError>
+        ensures { IfOk result (λ account. account ≡ self.now) }
+    {
+        let groups = self.groups.copy(alloc)?;
+        Ok(Account {
+            name: self.name.copy(),
+            primary: self.primary.copy(),
+            groups,
+        })
     }
 }

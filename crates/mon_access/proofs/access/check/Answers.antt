@@ -1,12 +1,8 @@
-use Rattle.std.proofs.Common.{rules, ◌≡◌, ◌∙◌, Bool, true, false, List, ap, if◌then◌else◌}
-use Rattle.mon_acl.specs.declared.entries.Tag.TheVariants.{UserObj}
-use Rattle.mon_acl.specs.declared.entries.Entry.{Entry}
-use Rattle.mon_acl.specs.Entries.{has_tag}
+use Rattle.std.proofs.Common.{rules, ◌≡◌, ◌∙◌, Bool, true, false, ap, if◌then◌else◌}
 use Rattle.mon_access.specs.declared.access.Decision.TheVariants.{Granted, Denied}
 use Rattle.mon_access.specs.declared.access.Decider.TheVariants.{UserObj as ByUserObj}
-use Rattle.mon_access.specs.Matches.{is_owner, some_holds}
+use Rattle.mon_access.specs.Matches.{is_owner}
 use Rattle.mon_access.specs.AccessCheck.{decision}
-use Rattle.mon_access.specs.inner.Deciding.{decision_beside_owner}
 use Rattle.mon_access.proofs.access.check.Goals as goal
 
 pub returns-then-eq : goal.returns-then-eq
