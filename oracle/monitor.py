@@ -1,0 +1,478 @@
+"""A plain, slow monitor: whole decks, with owner commands and jobs, written from their rules alone.
+
+python3 monitor.py [--slots N] < deck       prints what snomon has to print
+
+Programs are run by snobol.py, which says of a program that is refused only that it is; `REFUSED ?` stands for its code."""
+import re
+import sys
+import snobol
+from snobol import in_a_large_stack
+
+NAME = re.compile(r'[A-Za-z][A-Za-z0-9._-]{0,30}\Z')
+CARDS = {'$' + c for c in ('ACCOUNTS CATALOGUE SET STREAM CREATE DELETE SETACL ENDACL SHOWACL LIST CATALOG JOB UNIT EOJ '
+                           'TURN DRAIN STOP').split()}
+
+
+class Refused(Exception):
+    """The deck is refused at the line at hand."""
+
+
+def unless(test, code):
+    if not test:
+        raise Refused(code)
+
+
+def is_name(word):
+    return bool(NAME.match(word))
+
+
+def number(word):
+    unless(re.match(r'[0-9]{1,19}\Z', word), 'T2 BAD NUMBER')
+    return int(word)
+
+
+# ---- permission lists -------------------------------------------------------------------------------------------
+
+ORDER = ['user', 'group', 'mask', 'other']
+TAGS = {'user': 'user', 'u': 'user', 'group': 'group', 'g': 'group', 'mask': 'mask', 'm': 'mask', 'other': 'other',
+        'o': 'other'}
+
+
+class BadList(Exception):
+    pass
+
+
+def read_entry(text, n, entries):
+    fields = [f.strip(' \t') for f in text.split(':')]
+    tag = TAGS.get(fields[0])
+    if tag is None:
+        raise BadList('A1 BAD TAG ENTRY %d' % n)
+    if len(fields) == 2 and tag in ('mask', 'other'):
+        fields.insert(1, '')
+    if len(fields) != 3:
+        raise BadList('A3 BAD PERMS ENTRY %d' % n)
+    if fields[1] and (tag in ('mask', 'other') or not is_name(fields[1])):
+        raise BadList('A2 BAD QUALIFIER ENTRY %d' % n)
+    perms = fields[2]
+    if any(c not in 'rwx-' for c in perms) or any(perms.count(c) > 1 for c in 'rwx'):
+        raise BadList('A3 BAD PERMS ENTRY %d' % n)
+    if (tag, fields[1]) in entries:
+        raise BadList('A5 TWICE ENTRY %d' % n)
+    if fields[1] and sum(1 for k in entries if k[1]) == 100:
+        raise BadList('A7 TOO MANY ENTRY %d' % n)
+    entries[tag, fields[1]] = frozenset(perms) - {'-'}
+
+
+def read_list(pieces):
+    entries = {}
+    for n, piece in enumerate(pieces):
+        read_entry(piece, n + 1, entries)
+    for tag in ('user', 'group', 'other'):
+        if (tag, '') not in entries:
+            raise BadList('A4 MISSING %s::' % tag)
+    if any(q for t, q in entries) and ('mask', '') not in entries:
+        raise BadList('A6 NO MASK')
+    return entries
+
+
+def read_short(text):
+    return read_list(text.split(','))
+
+
+def read_long(lines):
+    return read_list([t for t in (line.split('#')[0].strip(' \t') for line in lines) if t])
+
+
+def canonical(entries):
+    return sorted(entries, key=lambda e: (ORDER.index(e[0]), e[1]))
+
+
+def shown(perms):
+    return ''.join(c if c in perms else '-' for c in 'rwx')
+
+
+def long_lines(entries):
+    for tag, who in canonical(entries):
+        perms, line = entries[tag, who], '%s:%s:' % (tag, who)
+        line += shown(perms)
+        mask = entries.get(('mask', ''))
+        if mask is not None and (tag == 'group' or tag == 'user' and who) and perms - mask:
+            line += '\t#effective:' + shown(perms & mask)
+        yield line
+
+
+def decider(account, data_set, request):
+    """None where the request is granted, else the entry that decides."""
+    name, groups = account
+    entries, mask = data_set.acl, data_set.acl.get(('mask', ''))
+    spelled = lambda e: '%s:%s:' % e
+    if name == data_set.owner:
+        return None if request in entries['user', ''] else 'user::'
+    if ('user', name) in entries:
+        if request not in entries['user', name]:
+            return spelled(('user', name))
+        return None if request in mask else 'mask::'
+    matching = [e for e in canonical(entries) if e[0] == 'group' and (e[1] or data_set.group) in groups]
+    if matching:
+        if not any(request in entries[e] for e in matching):
+            return spelled(matching[0])
+        return None if mask is None or request in mask else 'mask::'
+    return None if request in entries['other', ''] else 'other::'
+
+
+# ---- data sets and units ----------------------------------------------------------------------------------------
+
+class DataSet:
+    def __init__(self, owner, group, acl, records):
+        self.owner, self.group, self.acl, self.records = owner, group, acl, records
+
+
+class Unit:
+    def __init__(self, kind, name=None):
+        self.kind, self.name, self.position = kind, name, 0
+
+
+class Running(snobol.Job):
+    """A job in a slot: its requests are served by the monitor's data sets."""
+
+    def __init__(self, monitor, number, account, program, data, units, statements, steps):
+        super().__init__(program, (), statements, steps)
+        self.monitor, self.number, self.account, self.data, self.units = monitor, number, account, data, units
+        self.spool, self.notes, self.point = [], [], program.start
+
+    def denied(self, act, target, why):
+        self.notes.append('DENIED STATEMENT %d %s %s %s' % (self.stno, act, target, why))
+        return 'DENIED'
+
+    def ask(self, act, number, text=None):
+        unit = self.units.get(number)
+        if unit is None:
+            return self.denied(act, 'UNIT %d' % number, 'NO UNIT')
+        if unit.kind == 'set':
+            return self.ask_set(act, unit, text)
+        if act == 'REWIND':
+            unit.position = 0
+            return 'DONE'
+        if unit.kind == 'data':
+            if act != 'READ':
+                return self.denied(act, 'UNIT %d' % number, 'IN STREAM')
+            return self.next_of(self.data, unit)
+        if act != 'WRITE':
+            return self.denied(act, 'UNIT %d' % number, 'SPOOL UNIT')
+        self.spool.append(text)
+        return 'DONE'
+
+    def next_of(self, records, unit):
+        if unit.position >= len(records):
+            return 'EOF'
+        unit.position += 1
+        return 'GOT ' + records[unit.position - 1]
+
+    def ask_set(self, act, unit, text):
+        if act == 'REWIND':
+            unit.position = 0
+            return 'DONE'
+        data_set = self.monitor.sets.get(unit.name)
+        if data_set is None:
+            return self.denied(act, unit.name, 'NO DATA SET')
+        by = decider(self.account, data_set, 'r' if act == 'READ' else 'w')
+        if by is not None:
+            return self.denied(act, unit.name, 'BY ' + by)
+        if act == 'READ':
+            return self.next_of(data_set.records, unit)
+        kept = data_set.records[:unit.position]
+        if act == 'WRITE':
+            if len(kept) == 100000:
+                self.notes.append('FULL STATEMENT %d WRITE %s' % (self.stno, unit.name))
+                return 'FULL'
+            kept.append(text)
+        data_set.records, unit.position = kept, len(kept)
+        return 'DONE'
+
+    def turn(self):
+        """None where it goes on, else its ending."""
+        try:
+            if self.point != 'END':
+                self.point = self.statement(self.point)
+            return 'NORMAL' if self.point == 'END' else None
+        except snobol.Over as over:
+            return str(over) + (' AT %d' % self.stno if str(over) == 'MATCH LIMIT' else '')
+        except snobol.Fault as fault:
+            return 'FAULT %s AT %d' % (fault, self.stno)
+
+    def printout(self, ending):
+        return (['JOB %d %s' % (self.number, self.account[0])] + [' ' + line for line in self.spool] + self.notes
+                + ['END %s AFTER %d' % (ending, self.stcount)])
+
+
+# ---- the deck ---------------------------------------------------------------------------------------------------
+
+class Monitor:
+    def __init__(self, slots):
+        self.accounts, self.sets, self.slots = {}, {}, [None] * slots
+        self.out, self.jobs = [], 0
+
+    def turn(self, s):
+        if s < len(self.slots) and self.slots[s] is not None:
+            ending = self.slots[s].turn()
+            if ending is not None:
+                self.out += self.slots[s].printout(ending)
+                self.slots[s] = None
+
+    def rounds(self, enough):
+        while True:
+            for s in range(len(self.slots)):
+                if enough():
+                    return
+                self.turn(s)
+
+    def drain(self):
+        self.rounds(lambda: not any(self.slots))
+
+    def load(self, job):
+        self.rounds(lambda: None in self.slots)
+        number, account, statements, steps, ties, lines = job
+        head = 'JOB %d %s' % (number, account)
+        if account not in self.accounts:
+            self.out += [head, 'REFUSED M2 NO ACCOUNT']
+            return
+        units = {5: Unit('data'), 6: Unit('spool')}
+        for u, name in ties:
+            code = 'U2' if not 1 <= u <= 99 else 'U1' if u in units and units[u].kind == 'set' else None
+            if code:
+                self.out += [head, 'REFUSED %s UNIT %d' % (code, u)]
+                return
+            units[u] = Unit('set', name)
+        end = next((i for i, line in enumerate(lines) if line[:1] != '*' and snobol.is_end_line(line)), len(lines))
+        try:
+            program = snobol.Program(lines[:end + 1])
+        except (SyntaxError, IndexError, KeyError):
+            self.out += [head, 'REFUSED ?']
+            return
+        self.slots[self.slots.index(None)] = Running(
+            self, number, (account, self.accounts[account]), program, lines[end + 1:], units, statements, steps)
+
+    def command(self, word, account, name, text):
+        self.out.append(' '.join([word, account] + ([name] if name else [])))
+        self.out += self.served(word, account, name, text)
+
+    def served(self, word, account, name, text):
+        if account not in self.accounts:
+            return ['REFUSED M2 NO ACCOUNT']
+        who, data_set = (account, self.accounts[account]), self.sets.get(name)
+        if word == 'CREATE':
+            if data_set:
+                return ['REFUSED K1 NAME TAKEN']
+            if len(self.sets) == 1000:
+                return ['REFUSED K4 CATALOGUE FULL']
+            self.sets[name] = DataSet(account, self.accounts[account][0], read_short('u::rwx,g::---,o::---'), [])
+            return ['DONE']
+        if word == 'CATALOG':
+            names = [' %s %s %s %d' % (n, s.owner, s.group, len(s.records)) for n, s in self.sets.items()
+                     if decider(who, s, 'x') is None]
+            return names + ['NAMES %d' % len(names)]
+        if data_set is None:
+            return ['DENIED NO DATA SET']
+        if word in ('DELETE', 'SETACL') and data_set.owner != account:
+            return ['DENIED NOT OWNER']
+        if word == 'DELETE':
+            del self.sets[name]
+            return ['DONE']
+        if word == 'SETACL':
+            try:
+                data_set.acl = text()
+            except BadList as bad:
+                return ['REFUSED %s' % bad]
+            return ['DONE']
+        by = decider(who, data_set, 'r' if word == 'LIST' else 'x')
+        if by is not None and not (word == 'SHOWACL' and data_set.owner == account):
+            return ['DENIED BY ' + by]
+        if word == 'LIST':
+            return [' ' + r for r in data_set.records] + ['RECORDS %d' % len(data_set.records)]
+        return (['OWNER %s GROUP %s' % (data_set.owner, data_set.group)] + [' ' + e for e in long_lines(data_set.acl)]
+                + ['ENTRIES %d' % len(data_set.acl)])
+
+    def catalogue(self):
+        out = ['$CATALOGUE']
+        for name, s in self.sets.items():
+            out.append('$SET %s %s %s %d' % (name, s.owner, s.group, len(s.records)))
+            out.append(','.join('%s:%s:%s' % (t, q, shown(s.acl[t, q])) for t, q in canonical(s.acl)))
+            out += s.records
+        return out
+
+
+class Deck:
+    """The lines of a deck, taken one by one; what each causes is done at once."""
+
+    def __init__(self, monitor):
+        self.monitor, self.section, self.job, self.list, self.due = monitor, self.opening, None, None, None
+        self.limit = 200
+
+    def take(self, raw):
+        unless(len(raw) <= self.limit, 'T4 LINE TOO LONG')
+        in_list = self.list is not None and raw[:1] != b'$'
+        unless(all(32 <= c <= 126 or in_list and c == 9 for c in raw), 'T3 BAD CHARACTER')
+        self.section(raw.decode('ascii'))
+
+    def lone(self, line, due):
+        words = line.split()
+        unless(words[0] in CARDS, 'E1 UNKNOWN CARD')
+        unless(words[0] == due, 'E3 OUT OF PLACE')
+        unless(len(words) == 1, 'E2 BAD CARD')
+
+    def opening(self, line):
+        if line.strip(' '):
+            self.lone(line, '$ACCOUNTS')
+            self.section = self.table
+
+    def table(self, line):
+        if line[:1] == '$':
+            self.lone(line, '$CATALOGUE')
+            self.section, self.limit = self.sets, 5000
+            return
+        words = line.split()
+        if words:
+            unless(len(words) >= 2, 'E2 BAD CARD')
+            unless(all(map(is_name, words)), 'T1 BAD NAME')
+            unless(words[0] not in self.monitor.accounts, 'C1 ACCOUNT TWICE')
+            unless(len(words) <= 18, 'C2 TOO MANY GROUPS')
+            self.monitor.accounts[words[0]] = words[1:]
+
+    def sets(self, line):
+        if self.due is None:
+            words = line.split()
+            if not words:
+                return
+            if words[0] != '$SET':
+                self.lone(line, '$STREAM')
+                self.section, self.limit = self.stream, 200
+                return
+            bad = 'K5 BAD TEXT'
+            unless(len(words) == 5 and all(map(is_name, words[1:4])) and re.match(r'[0-9]{1,19}\Z', words[4]), bad)
+            unless(int(words[4]) <= 100000, 'K3 SET FULL')
+            unless(words[1] not in self.monitor.sets, 'K1 NAME TAKEN')
+            unless(len(self.monitor.sets) < 1000, 'K4 CATALOGUE FULL')
+            self.due = words
+        elif isinstance(self.due, list):
+            try:
+                acl = read_short(line)
+            except BadList:
+                raise Refused('K5 BAD TEXT')
+            name, owner, group, count = self.due[1:]
+            self.monitor.sets[name] = DataSet(owner, group, acl, [])
+            self.due = (self.monitor.sets[name].records, int(count)) if int(count) else None
+        else:
+            unless(len(line) <= 1024, 'K5 BAD TEXT')
+            self.due[0].append(line)
+            if len(self.due[0]) == self.due[1]:
+                self.due = None
+
+    def stream(self, line):
+        if self.list is not None:
+            self.list_line(line)
+        elif self.job is not None:
+            self.job_line(line)
+        elif line.strip(' '):
+            self.card(line, line.split())
+
+    def card(self, line, words):
+        card, monitor = words[0], self.monitor
+        unless(card in CARDS, 'E1 UNKNOWN CARD')
+        unless(card not in ('$ACCOUNTS', '$CATALOGUE', '$SET', '$STREAM', '$ENDACL', '$UNIT', '$EOJ'), 'E3 OUT OF PLACE')
+        if card in ('$STOP', '$DRAIN'):
+            unless(len(words) == 1, 'E2 BAD CARD')
+            monitor.drain()
+            if card == '$STOP':
+                raise EOFError
+        elif card == '$TURN':
+            unless(len(words) == 3, 'E2 BAD CARD')
+            s, k = number(words[1]), number(words[2])
+            unless(1 <= s <= 8 and 1 <= k <= 1000000, 'E2 BAD CARD')
+            for _ in range(k):
+                if s > len(monitor.slots) or monitor.slots[s - 1] is None:
+                    break
+                monitor.turn(s - 1)
+        elif card == '$JOB':
+            self.open_job(words)
+        else:
+            n = 2 if card == '$CATALOG' else 3
+            unless(len(words) == n or card == '$SETACL' and len(words) > 3, 'E2 BAD CARD')
+            unless(all(map(is_name, words[1:n])), 'T1 BAD NAME')
+            if card == '$SETACL' and len(words) == 3:
+                self.list = (words[1], words[2], [])
+                return
+            rest = line.split(None, 3)[3] if card == '$SETACL' else None
+            monitor.command(card[1:], words[1], words[2] if n == 3 else None, lambda: read_short(rest))
+
+    def list_line(self, line):
+        account, name, lines = self.list
+        if line[:1] == '$':
+            unless(line.split()[0] == '$ENDACL', 'E3 OUT OF PLACE')
+            unless(len(line.split()) == 1, 'E2 BAD CARD')
+            self.list = None
+            self.monitor.command('SETACL', account, name, lambda: read_long(lines))
+        else:
+            lines.append(line)
+
+    def open_job(self, words):
+        options = {'ST': 50000, 'MATCH': 1000000}
+        unless(len(words) >= 2, 'E2 BAD CARD')
+        found = [re.match(r'(ST|MATCH)=(.*)', w) for w in words[2:]]
+        unless(all(found) and len({m.group(1) for m in found}) == len(found), 'E2 BAD CARD')
+        unless(is_name(words[1]), 'T1 BAD NAME')
+        for m in found:
+            options[m.group(1)] = number(m.group(2))
+        unless(all(1 <= n <= 10000000 for n in options.values()), 'E2 BAD CARD')
+        self.monitor.jobs += 1
+        self.job = [self.monitor.jobs, words[1], options['ST'], options['MATCH'], [], []]
+        self.begun = False
+
+    def job_line(self, line):
+        if line[:1] == '$' and line[:2] != '$$':
+            words = line.split()
+            unless(words[0] in CARDS or self.begun, 'E1 UNKNOWN CARD')
+            unless(words[0] == '$EOJ' or words[0] == '$UNIT' and not self.begun, 'E3 OUT OF PLACE')
+            unless(len(words) == (1 if words[0] == '$EOJ' else 3), 'E2 BAD CARD')
+            if words[0] == '$EOJ':
+                job, self.job = self.job, None
+                self.monitor.load(job)
+                return
+            n = number(words[1])
+            unless(is_name(words[2]), 'T1 BAD NAME')
+            self.job[4].append((n, words[2]))
+            return
+        self.begun = True
+        self.job[5].append(line[1:] if line[:2] == '$$' else line)
+
+
+def run(data, slots=4):
+    """(output, standard error, exit status)"""
+    lines = data.split(b'\n')
+    last = lines.pop()
+    lines = [l[:-1] if l.endswith(b'\r') else l for l in lines] + ([last] if last else [])
+    monitor = Monitor(slots)
+    deck = Deck(monitor)
+    try:
+        for n, line in enumerate(lines):
+            deck.take(line)
+        n = len(lines)
+        raise Refused('E4 TRUNCATED')
+    except EOFError:
+        return ''.join(line + '\n' for line in monitor.out + monitor.catalogue()), '', 0
+    except Refused as code:
+        return ''.join(line + '\n' for line in monitor.out), 'snomon: line %d: %s\n' % (n + 1, code), 1
+
+
+def main():
+    words = sys.argv[1:]
+    slots = int(words[words.index('--slots') + 1]) if '--slots' in words else 4
+    out, err, status = in_a_large_stack(lambda: run(sys.stdin.buffer.read(), slots))
+    if '--check' in words:
+        out = 'DECK OK\n' if status == 0 else ''
+    sys.stdout.write(out)
+    sys.stderr.write(err)
+    sys.exit(status)
+
+
+if __name__ == '__main__':
+    main()

@@ -1,0 +1,124 @@
+"""Random decks with commands and jobs, and what they have to print.
+
+python3 random_decks.py COUNT SEED FOLDER [SLOTS] writes FOLDER/N.deck, FOLDER/N.stdout and FOLDER/N.status;
+python3 random_decks.py --compare FOLDER SLOTS COMMAND.. runs the command on each and tells what differs."""
+import os
+import random
+import subprocess
+import sys
+import monitor
+from snobol import in_a_large_stack
+
+ACCOUNTS = {'anna': ['admin'], 'lisa': ['staff'], 'hugo': ['ops', 'staff'], 'eve': ['guest', 'admin', 'ops']}
+GROUPS = ['admin', 'staff', 'ops', 'guest', 'none']
+SETS = ['PAY', 'LOG', 'FIVE', 'BOX.1']
+TEXTS = ['A', 'BB', '', 'ADA 100', 'X' * 40, ' Z ', '$JOB', '7']
+
+
+def perms(r):
+    return ''.join(c if r.random() < 0.6 else '-' for c in 'rwx')
+
+
+def acl(r):
+    named = ['user:%s:%s' % (n, perms(r)) for n in r.sample(sorted(ACCOUNTS), r.randint(0, 2))]
+    groups = ['group:%s:%s' % (g, perms(r)) for g in r.sample(GROUPS, r.randint(0, 3))]
+    mask = ['mask::' + perms(r)] if named or groups or r.random() < 0.2 else []
+    return ['user::' + perms(r), 'group::' + perms(r), 'other::' + perms(r)] + named + groups + mask
+
+
+def act(r, reads, writes):
+    u, v = r.choice([5, 6, 7, 8, 9, 9, 8, 20]), r.choice('ABC')
+    q = lambda: "'%s'" % r.choice(TEXTS)
+    goto = r.choice(['', '', '', ' :F(END)', ' :S(L)', ' :F(L)'])
+    kind = r.randrange(9)
+    if kind == 0:
+        reads.append(v)
+        return "  INPUT('%s',%d%s)" % (v, u, r.choice(['', ',3', ',40']))
+    if kind == 1:
+        writes.append(v + 'W')
+        return "  OUTPUT('%sW',%d%s)" % (v, u, r.choice(['', ",'(2A1)'", ",'(1X,5A1)'"]))
+    if kind in (2, 3):
+        return '  X = %s%s' % (r.choice(reads), goto)
+    if kind in (4, 5):
+        return '  %s = %s%s' % (r.choice(writes), r.choice([q(), 'X', "X '.' N"]), goto)
+    if kind == 6:
+        return '  %s(%d)%s' % (r.choice(['REWIND', 'ENDFILE', 'REWIND']), u, goto)
+    if kind == 7:
+        return '  OUTPUT = %s%s' % (r.choice(['X', q(), 'INPUT', 'N', '&STNO', "F('Y')"]), goto)
+    return '  N = N + 1'
+
+
+def job(r):
+    reads, writes = ['INPUT'], ['OUTPUT']
+    body = [act(r, reads, writes) for _ in range(r.randint(1, 9))]
+    body.insert(r.randint(0, len(body)), 'L N = N + 1')
+    body.append('  %s' % r.choice(["GT(N,%d) :F(L)" % r.randint(1, 4), 'X = X', "X 'A' = 'B'"]))
+    if r.random() < 0.3:
+        body = ["  DEFINE('F(P)A') :(G)", "F F = P A INPUT; A = 'K' :(RETURN)", 'G'] + body
+    options = [' ST=%d' % r.choice([1, 3, 9, 30, 200])] if r.random() < 0.7 else [' ST=500']
+    ties = ['$UNIT %d %s' % (r.choice([5, 6, 7, 8, 9, 9, 8]), r.choice(SETS + ['GONE'])) for _ in range(r.randint(0, 3))]
+    data = [('$' if t[:1] == '$' else '') + t for t in r.choices(TEXTS, k=r.randint(0, 4))]
+    return (['$JOB %s%s' % (r.choice(sorted(ACCOUNTS)), ''.join(options))] + ties + body
+            + [r.choice(['END', 'END', 'END L'])] + data + ['$EOJ'])
+
+
+def card(r, slots):
+    who, name = r.choice(sorted(ACCOUNTS) + ['nobody']), r.choice(SETS + ['GONE'])
+    kind = r.randrange(14)
+    if kind < 6:
+        return job(r)
+    if kind < 8:
+        return ['$TURN %d %d' % (r.randint(1, min(8, slots + 1)), r.randint(1, 6))]
+    if kind == 8:
+        return ['$DRAIN']
+    if kind == 9:
+        return ['$SETACL %s %s %s' % (who, name, ','.join(acl(r)))]
+    if kind == 10:
+        return ['$SETACL %s %s' % (who, name)] + acl(r) + ['$ENDACL']
+    if kind == 11:
+        return ['$CATALOG ' + who]
+    return ['$%s %s %s' % (r.choice(['CREATE', 'DELETE', 'SHOWACL', 'LIST', 'LIST']), who, name)]
+
+
+def deck(r, slots):
+    lines = ['$ACCOUNTS'] + [' '.join([a] + g) for a, g in ACCOUNTS.items()] + ['$CATALOGUE']
+    for name in SETS[:r.randint(1, 4)]:
+        records = r.choices(TEXTS, k=r.randint(0, 5))
+        lines += ['$SET %s %s %s %d' % (name, r.choice(sorted(ACCOUNTS)), r.choice(GROUPS), len(records)), ','.join(acl(r))]
+        lines += records
+    lines.append('$STREAM')
+    for _ in range(r.randint(1, 12)):
+        lines += card(r, slots)
+    return '\n'.join(lines + ['$STOP', ''])
+
+
+def write(count, seed, folder, slots):
+    r = random.Random(seed)
+    os.makedirs(folder, exist_ok=True)
+    for n in range(count):
+        text = deck(r, slots)
+        out, err, status = monitor.run(text.encode(), slots)
+        for what, it in (('deck', text), ('stdout', out), ('status', '%d\n%s' % (status, err))):
+            with open('%s/%d.%s' % (folder, n, what), 'w') as f:
+                f.write(it)
+
+
+def compare(folder, slots, command):
+    decks = sorted((f for f in os.listdir(folder) if f.endswith('.deck')), key=lambda f: int(f[:-5]))
+    different = 0
+    for f in decks:
+        base = folder + '/' + f[:-5]
+        got = subprocess.run(command + ['--slots', slots], stdin=open(base + '.deck'), capture_output=True, text=True)
+        wanted = open(base + '.stdout').read(), open(base + '.status').read()
+        if (got.stdout, '%d\n%s' % (got.returncode, got.stderr)) != wanted:
+            different += 1
+            print('DIFFERENT', base)
+    print('%d decks, %d different' % (len(decks), different))
+
+
+if __name__ == '__main__':
+    if sys.argv[1] == '--compare':
+        compare(sys.argv[2], sys.argv[3], sys.argv[4:])
+    else:
+        slots = int(sys.argv[4]) if len(sys.argv) > 4 else 4
+        in_a_large_stack(lambda: write(int(sys.argv[1]), int(sys.argv[2]), sys.argv[3], slots))
