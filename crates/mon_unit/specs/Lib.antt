@@ -1,0 +1,5 @@
+pub mod State
+pub mod Tying
+pub mod Serving
+pub mod Lent
+pub mod Runs

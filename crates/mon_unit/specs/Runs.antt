@@ -1,0 +1,20 @@
+-- Talks with who replies by a function (own).
+use Rattle.std.specs.Prelude.{ℕ, zero, suc, List, [], ◌∷◌}
+use Rattle.sno_talk.specs.Talks.{Talk, Ends, Asks}
+use Rattle.sno_talk.specs.Exchanges.{Exchange}
+
+-- the whole talk: what it ends with, and where it leaves the other
+abbrev pub run : {S Q R A : Type 0} → (S → Q → R × S) → Talk Q R A → S → A × S
+run reply (Ends a) s = (a, s)
+run reply (Asks q f) s = run reply (f (reply s q).0) (reply s q).1
+
+-- where it leaves the other if it is broken off after so many replies
+abbrev pub run_cut : {S Q R A : Type 0} → (S → Q → R × S) → ℕ → Talk Q R A → S → S
+run_cut reply zero t s = s
+run_cut reply (suc k) (Ends a) s = s
+run_cut reply (suc k) (Asks q f) s = run_cut reply k (f (reply s q).0) (reply s q).1
+
+-- what was asked and replied
+abbrev pub exchanges : {S Q R A : Type 0} → (S → Q → R × S) → Talk Q R A → S → List (Exchange Q R)
+exchanges reply (Ends a) s = []
+exchanges reply (Asks q f) s = record { asked = q; reply = (reply s q).0 } ∷ exchanges reply (f (reply s q).0) (reply s q).1

@@ -1,0 +1,169 @@
+-- How a request is answered (own). It looks at one data set at the most, as that stands then, and changes that one at the most.
+use Rattle.std.specs.Prelude.{ℕ, List, [], ◌∷◌, ◌++◌, Option, Some, None, slice_get}
+use Rattle.mon_access.specs.declared.account.Account.{Account}
+use Rattle.mon_catalogue.specs.declared.data_set.DataSet.{DataSet}
+use Rattle.mon_catalogue.specs.Sets.{Sets, find_set}
+use Rattle.mon_catalogue.specs.Writing.{Change}
+use Rattle.mon_guard.specs.declared.answer.Reason.TheVariants.{NoUnit, InStream, SpoolUnit}
+use Rattle.mon_guard.specs.declared.answer.GuardAnswer.{GuardAnswer}
+use Rattle.mon_guard.specs.declared.answer.GuardAnswer.TheVariants as guard
+use Rattle.mon_guard.specs.Acting as acting
+use Rattle.mon_guard.specs.Acting.{Acted, only_answered, read_at, acted_on, changed}
+use Rattle.sno_ask.specs.declared.request.Act.{Act}
+use Rattle.sno_ask.specs.declared.request.Act.TheVariants.{Read, Write, Endfile, Rewind}
+use Rattle.sno_ask.specs.declared.request.Request.{Request}
+use Rattle.sno_ask.specs.declared.answer.Answer.{Answer}
+use Rattle.sno_ask.specs.declared.answer.Answer.TheVariants.{Done, Got, EndOfFile, Denied, Full}
+use Rattle.mon_unit.specs.declared.tie.Target.{Target}
+use Rattle.mon_unit.specs.declared.tie.Target.TheVariants.{Untied, Data, Spool, Set}
+use Rattle.mon_unit.specs.declared.tie.Tie.{Tie}
+use Rattle.mon_unit.specs.declared.note.NoteAct.{NoteAct}
+use Rattle.mon_unit.specs.declared.note.NoteAct.TheVariants as act
+use Rattle.mon_unit.specs.declared.note.NoteTarget.{NoteTarget}
+use Rattle.mon_unit.specs.declared.note.NoteTarget.TheVariants as of
+use Rattle.mon_unit.specs.declared.note.Why.TheVariants as why
+use Rattle.mon_unit.specs.declared.note.Note.{Note}
+use Rattle.mon_unit.specs.State.{UnitState}
+use Rattle.mon_unit.specs.Tying.{tie_at, with_tie}
+
+-- what a job's requests reach: the data sets, and its own units
+pub record Reach : Type 0 where
+  pub sets : Sets
+  pub units : UnitState
+
+abbrev pub unit_of : Act → ℕ
+unit_of (Read u) = u
+unit_of (Write u line) = u
+unit_of (Endfile u) = u
+unit_of (Rewind u) = u
+
+abbrev pub note_act : Act → NoteAct
+note_act (Read u) = act.Read
+note_act (Write u line) = act.Write
+note_act (Endfile u) = act.Endfile
+note_act (Rewind u) = act.Rewind
+
+-- a note names the data set, or the unit where that is tied to none
+abbrev pub note_target : ℕ → Target → NoteTarget
+note_target u Untied = of.Unit u
+note_target u Data = of.Unit u
+note_target u Spool = of.Unit u
+note_target u (Set name) = of.Set name
+
+abbrev pub with_note : Note → UnitState → UnitState
+with_note note units = record units { notes = units.notes ++ note ∷ [] }
+
+-- what is denied and what there is no room for adds one note
+abbrev pub noted : ℕ → NoteAct → NoteTarget → Answer → UnitState → UnitState
+noted statement act target (Denied reason) units = with_note (record { statement = statement; act = act; target = target; why = why.Denied reason }) units
+noted statement act target Full units = with_note (record { statement = statement; act = act; target = target; why = why.Full }) units
+noted statement act target Done units = units
+noted statement act target (Got line) units = units
+noted statement act target EndOfFile units = units
+
+-- the unit's position, where it moves
+abbrev pub moved : ℕ → Option ℕ → UnitState → UnitState
+moved u None units = units
+moved u (Some position) units = with_tie u (record (tie_at units u) { position = position }) units
+
+-- a line that is written to the spool is its last one
+abbrev pub spooled : Act → Target → UnitState → UnitState
+spooled (Write u line) Spool units = record units { spool = units.spool ++ line ∷ [] }
+spooled (Write u line) Untied units = units
+spooled (Write u line) Data units = units
+spooled (Write u line) (Set name) units = units
+spooled (Read u) target units = units
+spooled (Endfile u) target units = units
+spooled (Rewind u) target units = units
+
+-- back to the first record
+abbrev pub rewound : Acted
+rewound = record { answer = guard.Done; position = Some 0; change = None }
+
+-- the deck's data are read alone
+abbrev pub on_data : Act → ℕ → List (List ℕ) → Acted
+on_data (Read u) position deck = read_at position (slice_get deck position)
+on_data (Write u line) position deck = only_answered (guard.Denied InStream)
+on_data (Endfile u) position deck = only_answered (guard.Denied InStream)
+on_data (Rewind u) position deck = rewound
+
+-- the spool is written alone
+abbrev pub on_spool : Act → Acted
+on_spool (Read u) = only_answered (guard.Denied SpoolUnit)
+on_spool (Write u line) = only_answered guard.Done
+on_spool (Endfile u) = only_answered (guard.Denied SpoolUnit)
+on_spool (Rewind u) = only_answered guard.Done
+
+-- a data set is asked for by the guard; to go back it isn't looked up
+abbrev pub on_set : Account → Act → ℕ → Option DataSet → Acted
+on_set account (Read u) position set = acted_on account (acting.Read position) set
+on_set account (Write u line) position set = acted_on account (acting.Write position line) set
+on_set account (Endfile u) position set = acted_on account (acting.End position) set
+on_set account (Rewind u) position set = rewound
+
+-- what an act comes to, by what its unit is tied to
+abbrev pub acted_at : Account → Act → UnitState → ℕ → Target → Option DataSet → Acted
+acted_at account act units position Untied set = only_answered (guard.Denied NoUnit)
+acted_at account act units position Data set = on_data act position units.deck
+acted_at account act units position Spool set = on_spool act
+acted_at account act units position (Set name) set = on_set account act position set
+
+-- the guard's answer, as programs see it
+abbrev pub answer_of : GuardAnswer → Answer
+answer_of guard.Done = Done
+answer_of (guard.Got line) = Got line
+answer_of guard.EndOfFile = EndOfFile
+answer_of (guard.Denied reason) = Denied reason
+answer_of guard.Full = Full
+
+-- what a request does: the answer, the units then, and the change of the data set that it looked at
+pub record Effect : Type 0 where
+  pub answer : Answer
+  pub units : UnitState
+  pub change : Option Change
+
+abbrev pub effect_of : Request → Target → UnitState → Acted → Effect
+effect_of q target units acted = record {
+  answer = answer_of acted.answer;
+  units = noted q.statement (note_act q.act) (note_target (unit_of q.act) target) (answer_of acted.answer)
+      (moved (unit_of q.act) acted.position (spooled q.act target units));
+  change = acted.change;
+}
+
+-- by the tie of its unit
+abbrev pub by_tie : Account → UnitState → Request → Tie → Option DataSet → Effect
+by_tie account units q tie set = effect_of q tie.target units (acted_at account q.act units tie.position tie.target set)
+
+-- what a request does, by the data set that it looks at
+abbrev pub effect : Account → UnitState → Request → Option DataSet → Effect
+effect account units q set = by_tie account units q (tie_at units (unit_of q.act)) set
+
+-- the one data set that a request looks at
+abbrev pub set_at : Act → Target → Option (List ℕ)
+set_at act Untied = None
+set_at act Data = None
+set_at act Spool = None
+set_at (Rewind u) (Set name) = None
+set_at (Read u) (Set name) = Some name
+set_at (Write u line) (Set name) = Some name
+set_at (Endfile u) (Set name) = Some name
+
+abbrev pub set_of : UnitState → Request → Option (List ℕ)
+set_of units q = set_at q.act (tie_at units (unit_of q.act)).target
+
+abbrev pub looked : Option (List ℕ) → Sets → Option DataSet
+looked None sets = None
+looked (Some name) sets = find_set name sets
+
+-- that data set alone is changed
+abbrev pub changed_at : Option (List ℕ) → Option Change → Sets → Sets
+changed_at None change sets = sets
+changed_at (Some name) change sets = changed name change sets
+
+abbrev pub done_by : Option (List ℕ) → Effect → Sets → Answer × Reach
+done_by name e sets = (e.answer, record { sets = changed_at name e.change sets; units = e.units })
+
+-- AN EXCHANGE: the answer to an account's request, and what the requests reach then
+abbrev pub serve : Account → Reach → Request → Answer × Reach
+serve account reach q =
+    done_by (set_of reach.units q) (effect account reach.units q (looked (set_of reach.units q) reach.sets)) reach.sets
