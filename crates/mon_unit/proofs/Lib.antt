@@ -1,1 +1,3 @@
 mod Ties
+pub mod Runs
+pub mod Loans

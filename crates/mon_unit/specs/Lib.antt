@@ -3,3 +3,4 @@ pub mod Tying
 pub mod Serving
 pub mod Lent
 pub mod Runs
+pub mod inner
