@@ -1,3 +1,4 @@
 mod Ties
+mod Acting
 pub mod Runs
 pub mod Loans

@@ -1,5 +1,5 @@
 -- What a service that holds loans leaves, and that what it answered is the run by `serve`.
-use Rattle.std.proofs.Common.{◌≡◌, List, [], ◌∷◌, length, refl, sym, ap, ◌∙◌, subst}
+use Rattle.std.proofs.Common.{◌≡◌, List, [], ◌∷◌, length, sym, ap, ◌∙◌, subst}
 use Rattle.sno_talk.specs.Talks.{Ends, Asks}
 use Rattle.sno_talk.specs.Exchanges.{Answered}
 use Rattle.sno_ask.specs.declared.request.Request.{Request}

@@ -1,12 +1,23 @@
 //! The service that answers a program's requests from units and data sets.
+ghost use Rattle.std.specs.Prelude.{◌≡◌, ◌≤◌, length, slice_get, IfOk, OnOk, OnErr};
+ghost use Rattle.mon_guard.specs.Acting.{read_at};
+ghost use Rattle.mon_unit.specs.Serving.{serve, answer_of, moved};
+ghost use Rattle.mon_unit.specs.inner.Settling.{reach, asked};
 
+use crate::note::{NoteAct, NoteTarget};
+use crate::tie::{Target, Tie};
 use crate::units::Units;
 use mon_access::Account;
-use mon_catalogue::Catalogue;
-use mon_guard::Guard;
-use std::alloc::Global;
+use mon_catalogue::{Catalogue, MOST_RECORD_CHARACTERS};
+use mon_guard::{Guard, Reason};
+use mon_text::Line;
+use sno_ask::{Act, Answer, Request, Service};
+use std::alloc::{AllocError, Global};
 
 /// Answers an account's requests from the data sets and the units that it is lent.
+///
+/// Each request on a data set is decided by the set's owner, group and permission list as they stand then. What is denied
+/// and what there is no room for is noted.
 #[derive(Drop)]
 pub struct UnitService<'a> {
     pub alloc: Global,
@@ -14,4 +25,180 @@ pub struct UnitService<'a> {
     pub guard: &'a mut Guard,
     pub catalogue: &'a mut Catalogue,
     pub units: &'a mut Units,
+}
+
+impl Service for UnitService<'_> {
+    ghost use Rattle.mon_unit.specs.Lent.{UnitAnswers};
+
+    ghost ready = { λ s. Unit {0} };
+
+    ghost answers = { UnitAnswers };
+
+    fn ask(&mut self, request: &Request) -> Result<Answer, AllocError> {
+        match &request.act {
+            Act::Read(unit) => read(
+                self.alloc,
+                self.account,
+                self.guard,
+                self.catalogue,
+                self.units,
+                request.statement,
+                *unit,
+            ),
+            Act::Write(unit, line) => write(
+                self.alloc,
+                self.account,
+                self.guard,
+                self.catalogue,
+                self.units,
+                request.statement,
+                *unit,
+                line,
+            ),
+            Act::Endfile(unit) => end(
+                self.account,
+                self.guard,
+                self.catalogue,
+                self.units,
+                request.statement,
+                *unit,
+            ),
+            Act::Rewind(unit) => rewind(
+                self.account,
+                self.catalogue,
+                self.units,
+                request.statement,
+                *unit,
+            ),
+        }
+    }
+}
+
+fn read(
+    alloc: Global,
+    account: &Account,
+    guard: &mut Guard,
+    catalogue: &Catalogue,
+    units: &mut Units,
+    statement: u64,
+    unit: u64,
+) -> Result<Answer, AllocError>
+    ensures served { IfOk result (λ answer. serve account.now (reach catalogue.now units.old) (asked statement (Act.Read unit)) ≡ (answer, reach catalogue.now units.new)) }
+    ensures unchanged { OnErr result (units.new ≡ units.old) }
+    ensures guard { guard.new ≡ guard.old }
+{
+    let Tie { target, position } = units.tie_at(unit);
+    match target {
+        Target::Untied => units.denied(statement, NoteAct::Read, unit, Reason::NoUnit),
+        Target::Data => read_deck(alloc, units, unit, position),
+        Target::Spool => units.denied(statement, NoteAct::Read, unit, Reason::SpoolUnit),
+        Target::Set(name) => {
+            let told = guard.read(alloc, account, catalogue, &name, position)?;
+            units.settle(statement, NoteAct::Read, NoteTarget::Set(name), unit, told)
+        }
+    }
+}
+
+fn write(
+    alloc: Global,
+    account: &Account,
+    guard: &mut Guard,
+    catalogue: &mut Catalogue,
+    units: &mut Units,
+    statement: u64,
+    unit: u64,
+    line: &Line,
+) -> Result<Answer, AllocError>
+    requires short { length line.now ≤ MOST_RECORD_CHARACTERS }
+    ensures served { IfOk result (λ answer. serve account.now (reach catalogue.old units.old) (asked statement (Act.Write unit line.now)) ≡ (answer, reach catalogue.new units.new)) }
+    ensures sets { OnErr result (catalogue.new ≡ catalogue.old) }
+    ensures unchanged { OnErr result (units.new ≡ units.old) }
+    ensures guard { guard.new ≡ guard.old }
+{
+    let Tie { target, position } = units.tie_at(unit);
+    match target {
+        Target::Untied => units.denied(statement, NoteAct::Write, unit, Reason::NoUnit),
+        Target::Data => units.denied(statement, NoteAct::Write, unit, Reason::InStream),
+        Target::Spool => {
+            let line = line.copy(alloc)?;
+            units.put_spool(line)
+        }
+        Target::Set(name) => {
+            let line = line.copy(alloc)?;
+            let told = guard.write(account, catalogue, &name, position, line)?;
+            units.settle(statement, NoteAct::Write, NoteTarget::Set(name), unit, told)
+        }
+    }
+}
+
+fn end(
+    account: &Account,
+    guard: &mut Guard,
+    catalogue: &mut Catalogue,
+    units: &mut Units,
+    statement: u64,
+    unit: u64,
+) -> Result<Answer, AllocError>
+    ensures served { IfOk result (λ answer. serve account.now (reach catalogue.old units.old) (asked statement (Act.Endfile unit)) ≡ (answer, reach catalogue.new units.new)) }
+    ensures sets { OnErr result (catalogue.new ≡ catalogue.old) }
+    ensures unchanged { OnErr result (units.new ≡ units.old) }
+    ensures guard { guard.new ≡ guard.old }
+{
+    let Tie { target, position } = units.tie_at(unit);
+    match target {
+        Target::Untied => units.denied(statement, NoteAct::Endfile, unit, Reason::NoUnit),
+        Target::Data => units.denied(statement, NoteAct::Endfile, unit, Reason::InStream),
+        Target::Spool => units.denied(statement, NoteAct::Endfile, unit, Reason::SpoolUnit),
+        Target::Set(name) => {
+            let told = guard.end(account, catalogue, &name, position);
+            units.settle(
+                statement,
+                NoteAct::Endfile,
+                NoteTarget::Set(name),
+                unit,
+                told,
+            )
+        }
+    }
+}
+
+fn rewind(
+    account: &Account,
+    catalogue: &Catalogue,
+    units: &mut Units,
+    statement: u64,
+    unit: u64,
+) -> Result<Answer, AllocError>
+    ensures served { IfOk result (λ answer. serve account.now (reach catalogue.now units.old) (asked statement (Act.Rewind unit)) ≡ (answer, reach catalogue.now units.new)) }
+    ensures unchanged { OnErr result (units.new ≡ units.old) }
+{
+    let Tie { target, position } = units.tie_at(unit);
+    match target {
+        Target::Untied => units.denied(statement, NoteAct::Rewind, unit, Reason::NoUnit),
+        Target::Spool => Ok(Answer::Done),
+        Target::Data | Target::Set(_) => {
+            units.place(unit, 0);
+            Ok(Answer::Done)
+        }
+    }
+}
+
+// The line at a position of the deck's data, and the position behind it.
+fn read_deck(
+    alloc: Global,
+    units: &mut Units,
+    unit: u64,
+    position: u64,
+) -> Result<Answer, AllocError>
+    ensures answer { IfOk result (λ answer. answer ≡ answer_of (read_at position (slice_get units.old.deck position)).answer) }
+    ensures read { OnOk result (units.new ≡ moved unit (read_at position (slice_get units.old.deck position)).position units.old) }
+    ensures unchanged { OnErr result (units.new ≡ units.old) }
+{
+    match units.deck_line(alloc, position)? {
+        Some(line) => {
+            units.place(unit, position + 1);
+            Ok(Answer::Got(line))
+        }
+        None => Ok(Answer::EndOfFile),
+    }
 }

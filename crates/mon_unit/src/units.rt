@@ -1,12 +1,17 @@
 //! A job's units.
-ghost use Rattle.std.specs.Prelude.{◌≡◌, OnOk, OnErr, IfOk};
+ghost use Rattle.std.specs.Prelude.{◌≡◌, ◌<◌, ◌-◌, ◌^◌, [], ◌∷◌, ◌++◌, OnOk, OnErr, OnSome, IfOk, slice_get};
+ghost use Rattle.std.specs.List.{list_any};
 ghost use Rattle.std.specs.Result.{result_err};
-ghost use Rattle.mon_unit.specs.Tying.{new_units, tie_refusal, tie_at, tied_to, first_target, with_tie, is_a_set};
+ghost use Rattle.mon_unit.specs.Tying.{new_units, tie_refusal, tie_at, tied_to, first_target, with_tie, is_a_set, share, meets, is_set};
+ghost use Rattle.mon_unit.specs.Serving.{answer_of, noted, with_note};
+ghost use Rattle.mon_unit.specs.inner.Settling.{placed, settled, IsNoted};
 
 use crate::lists::{Lines, Notes};
-use crate::note::Note;
+use crate::note::{Note, NoteAct, NoteTarget, Why};
 use crate::tie::{Target, Tie};
+use mon_guard::{Answered, GuardAnswer, Reason};
 use mon_text::{Line, Name};
+use sno_ask::Answer;
 use std::alloc::{AllocError, Global};
 use std::marker::Model;
 use thiserror::Error;
@@ -115,6 +120,133 @@ impl Units {
         (self.spool, self.notes)
     }
 
+    /// Whether some data set is tied in both. It takes no memory.
+    pub fn shares(&self, other: &Units) -> bool
+        ensures { result ≡ share self.now other.now }
+    {
+        shares_in(&self.ties, &other.ties)
+    }
+
+    // The tie of a unit.
+    pub(crate) fn tie_at(&self, unit: u64) -> Tie
+        ensures { result ≡ tie_at self.now unit }
+    {
+        match self.ties.get(unit as usize) {
+            Some(tie) => tie.copy(),
+            None => Tie {
+                target: Target::Untied,
+                position: 0,
+            },
+        }
+    }
+
+    // The line at a position of the deck's data, where there is one: then the next position is a number, too.
+    pub(crate) fn deck_line(&self, alloc: Global, position: u64) -> Result<Option<Line>, AllocError>
+        ensures line { IfOk result (λ line. line ≡ slice_get self.now.deck position) }
+        ensures within { IfOk result (λ line. OnSome line (position < 2 ^ 64 - 1)) }
+    {
+        match self.deck.as_slice().get(position as usize) {
+            Some(line) => {
+                let line = line.copy(alloc)?;
+                Ok(Some(line))
+            }
+            None => Ok(None),
+        }
+    }
+
+    // The unit's next record is at the position.
+    pub(crate) fn place(&mut self, unit: u64, position: u64)
+        ensures { self.new ≡ placed unit position self.old }
+    {
+        if unit < TIES {
+            self.ties[unit as usize].position = position;
+        }
+    }
+
+    // Adds a line to the spool.
+    pub(crate) fn put_spool(&mut self, line: Line) -> Result<Answer, AllocError>
+        ensures answer { IfOk result (λ answer. answer ≡ Answer.Done) }
+        ensures spooled { OnOk result (self.new ≡ record self.old { spool = self.old.spool ++ line ∷ [] }) }
+        ensures unchanged { OnErr result (self.new ≡ self.old) }
+    {
+        self.spool.push(line)?;
+        Ok(Answer::Done)
+    }
+
+    // Notes what was not done.
+    fn note(
+        &mut self,
+        statement: u64,
+        act: NoteAct,
+        target: NoteTarget,
+        why: Why,
+    ) -> Result<(), AllocError>
+        ensures noted { OnOk result (self.new ≡ with_note (record { statement = statement; act = act; target = target; why = why }) self.old) }
+        ensures unchanged { OnErr result (self.new ≡ self.old) }
+    {
+        self.notes.push(Note {
+            statement,
+            act,
+            target,
+            why,
+        })?;
+        Ok(())
+    }
+
+    // What is denied at a unit that is tied to no data set.
+    pub(crate) fn denied(
+        &mut self,
+        statement: u64,
+        act: NoteAct,
+        unit: u64,
+        reason: Reason,
+    ) -> Result<Answer, AllocError>
+        ensures answer { IfOk result (λ answer. answer ≡ Answer.Denied reason) }
+        ensures noted { OnOk result (self.new ≡ noted statement act (NoteTarget.Unit unit) (Answer.Denied reason) self.old) }
+        ensures unchanged { OnErr result (self.new ≡ self.old) }
+    {
+        let why = Why::Denied(reason.copy());
+        self.note(statement, act, NoteTarget::Unit(unit), why)?;
+        Ok(Answer::Denied(reason))
+    }
+
+    // What the guard told: it is noted where it was not done, and else the position is kept.
+    pub(crate) fn settle(
+        &mut self,
+        statement: u64,
+        act: NoteAct,
+        target: NoteTarget,
+        unit: u64,
+        told: Answered,
+    ) -> Result<Answer, AllocError>
+        ensures answer { IfOk result (λ answer. answer ≡ answer_of told.answer) }
+        ensures settled { OnOk result (self.new ≡ settled statement act target unit told self.old) }
+        ensures unchanged { OnErr result (self.new ≡ self.old) }
+        ensures memory { OnErr result (IsNoted told.answer) }
+    {
+        let Answered { answer, position } = told;
+        match answer {
+            GuardAnswer::Done => {
+                self.place(unit, position);
+                Ok(Answer::Done)
+            }
+            GuardAnswer::Got(line) => {
+                self.place(unit, position);
+                Ok(Answer::Got(line))
+            }
+            GuardAnswer::EndOfFile => Ok(Answer::EndOfFile),
+            GuardAnswer::Denied(reason) => {
+                let why = Why::Denied(reason.copy());
+                self.note(statement, act, target, why)?;
+                Ok(Answer::Denied(reason))
+            }
+            GuardAnswer::Full => {
+                self.note(statement, act, target, Why::Full)?;
+                Ok(Answer::Full)
+            }
+        }
+    }
+
     // Whether a unit is tied to a data set.
     fn is_tied(&self, unit: u64) -> bool
         ensures { result ≡ is_a_set (tie_at self.now unit).target }
@@ -137,5 +269,35 @@ fn first_target(unit: u64) -> Target
         5 => Target::Data,
         6 => Target::Spool,
         _ => Target::Untied,
+    }
+}
+
+fn shares_in(ties: &[Tie], others: &[Tie]) -> bool
+    ensures { result ≡ list_any (λ tie. meets tie.target others.now) ties.now }
+{
+    ties.iter().any(|tie| meets(&tie.target, others))
+}
+
+fn meets(target: &Target, ties: &[Tie]) -> bool
+    ensures { result ≡ meets target.now ties.now }
+{
+    match target {
+        Target::Set(name) => is_tied_in(name, ties),
+        _ => false,
+    }
+}
+
+fn is_tied_in(name: &Name, ties: &[Tie]) -> bool
+    ensures { result ≡ list_any (λ tie. is_set name.now tie.target) ties.now }
+{
+    ties.iter().any(|tie| is_set(name, &tie.target))
+}
+
+fn is_set(name: &Name, target: &Target) -> bool
+    ensures { result ≡ is_set name.now target.now }
+{
+    match target {
+        Target::Set(other) => name == other,
+        _ => false,
     }
 }
