@@ -7,7 +7,7 @@
 pub mod command;
 pub mod laws;
 pub mod monitor;
-mod printing;
+pub mod printing;
 pub mod printout;
 pub mod reply;
 mod serving;

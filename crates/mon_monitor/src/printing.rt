@@ -10,24 +10,36 @@ use mon_guard::{ShownAcl, ShownName};
 use mon_text::{Name, put_number};
 use std::alloc::AllocError;
 
-// Appends a word behind another.
-pub(crate) fn put_word(text: &[u8], out: &mut Vec<u8>) -> Result<(), AllocError>
+/// Appends a word behind another.
+///
+/// # Errors
+///
+/// Where a growth was refused; `out` may then hold a part of the text.
+pub fn put_word(text: &[u8], out: &mut Vec<u8>) -> Result<(), AllocError>
     ensures { OnOk result (out.new.items ≡ out.old.items ++ word text.now) }
 {
     out.push(b' ')?;
     out.extend_from_slice(text)
 }
 
-// Appends a number behind a word.
-fn put_number_word(value: u64, out: &mut Vec<u8>) -> Result<(), AllocError>
+/// Appends a number behind a word.
+///
+/// # Errors
+///
+/// Where a growth was refused; `out` may then hold a part of the text.
+pub fn put_number_word(value: u64, out: &mut Vec<u8>) -> Result<(), AllocError>
     ensures { OnOk result (out.new.items ≡ out.old.items ++ number value) }
 {
     out.push(b' ')?;
     put_number(value, out)
 }
 
-// Appends a line that shows stored text.
-pub(crate) fn put_stored(text: &[u8], out: &mut Vec<u8>) -> Result<(), AllocError>
+/// Appends a line that shows stored text.
+///
+/// # Errors
+///
+/// Where a growth was refused; `out` may then hold a part of the line.
+pub fn put_stored(text: &[u8], out: &mut Vec<u8>) -> Result<(), AllocError>
     ensures { OnOk result (out.new.items ≡ out.old.items ++ stored_line text.now) }
 {
     put_word(text, out)?;

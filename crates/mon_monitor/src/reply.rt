@@ -26,7 +26,11 @@ pub enum Reply {
 
 impl Reply {
     /// Appends the line.
-    pub(crate) fn put_line(self, out: &mut Vec<u8>) -> Result<(), AllocError>
+    ///
+    /// # Errors
+    ///
+    /// Where a growth was refused; `out` may then hold a part of the line.
+    pub fn put_line(self, out: &mut Vec<u8>) -> Result<(), AllocError>
         ensures { OnOk result (out.new.items ≡ out.old.items ++ reply_line self) }
     {
         self.put(out)?;
@@ -54,8 +58,12 @@ impl Reply {
     }
 }
 
-// Appends why something is denied.
-fn put_reason(reason: Reason, out: &mut Vec<u8>) -> Result<(), AllocError>
+/// Appends why something is denied.
+///
+/// # Errors
+///
+/// Where a growth was refused; `out` may then hold a part of the text.
+pub fn put_reason(reason: Reason, out: &mut Vec<u8>) -> Result<(), AllocError>
     ensures { OnOk result (out.new.items ≡ out.old.items ++ reason_text reason) }
 {
     match reason {
