@@ -1,5 +1,6 @@
 pub mod Balance
 pub mod Counted
+pub mod Entering
 pub mod Exact
 mod Examples
 pub mod Finding

@@ -51,7 +51,7 @@ within_front l [] x h = (tt, h.0)
 within_front l (y ∷ ys) x h = let k = within_front l ys x h.1 in ((h.0, k.0), k.1)
 
 -- what a choice tries, with its goals and pending list as they are
-second_is : (text : List ℕ) (gs : Rc Goals Global) (c : ℕ) (w : Rc Waiting Global) (gs' : List Goal) (p' : List Pending) → goals_of gs.value ≡ gs' → waiting_of text w.value ≡ p' → (t : Trying) → on_failure t (second text (Second gs c w)) ≡ on_failure t (λ n. outcome text gs' c p' n)
+pub second_is : (text : List ℕ) (gs : Rc Goals Global) (c : ℕ) (w : Rc Waiting Global) (gs' : List Goal) (p' : List Pending) → goals_of gs.value ≡ gs' → waiting_of text w.value ≡ p' → (t : Trying) → on_failure t (second text (Second gs c w)) ≡ on_failure t (λ n. outcome text gs' c p' n)
 second_is text gs c w gs' p' eg ew t = ap (λ l. on_failure t (λ n. outcome text l c (waiting_of text w.value) n)) eg ∙ ap (λ l. on_failure t (λ n. outcome text gs' c l n)) ew
 
 each_is : (text : List ℕ) (gs : Rc Goals Global) (c : ℕ) (w : Rc Waiting Global) (gs' : List Goal) (p' : List Pending) → goals_of gs.value ≡ gs' → waiting_of text w.value ≡ p' → (t : Trying) → on_failure t (second text (Each gs c w)) ≡ on_failure t (λ n. at_each (outcome text) gs' (upward c (length text + 1 - c)) p' n)
@@ -196,25 +196,9 @@ module _ (text : List ℕ) (r : List Goal) (c : ℕ) (p : List Pending) (old : L
   unfolding row
   bal_fails e b = same_as (ap (λ cs. at_each (outcome text) r cs p n) e) b
 
-  pub cat : (a b : Pattern) (gs : Rc Goals Global) (w : Rc Waiting Global) → goals_of gs.value ≡ Meet a ∷ Meet b ∷ r → waiting_of text w.value ≡ p → c ≤ length text → Led text old (row text (outcome text) (Meet (pattern.Cat a b)) r c p n) n (Go gs c w) old n
-  unfolding row
-  cat a b gs w eg ew h = went gs c w (Meet a ∷ Meet b ∷ r) p eg ew h refl
-
-  pub alt : (a b : Pattern) (gs gs' : Rc Goals Global) (w w' : Rc Waiting Global) → goals_of gs.value ≡ Meet a ∷ r → waiting_of text w.value ≡ p → goals_of gs'.value ≡ Meet b ∷ r → waiting_of text w'.value ≡ p → c ≤ length text → Led text old (row text (outcome text) (Meet (pattern.Alt a b)) r c p n) n (Go gs c w) (old ++ Second gs' c w' ∷ []) n
-  unfolding row
-  alt a b gs gs' w w' eg ew eg' ew' h = left_choice gs c w (Second gs' c w') (Meet a ∷ r) p eg ew h h (sym (second_is text gs' c w' (Meet b ∷ r) p eg' ew' (outcome text (Meet a ∷ r) c p n)))
-
   pub arbno : (a : Pattern) (gs gs' : Rc Goals Global) (w w' : Rc Waiting Global) → goals_of gs.value ≡ r → waiting_of text w.value ≡ p → goals_of gs'.value ≡ Meet a ∷ More a c ∷ r → waiting_of text w'.value ≡ p → c ≤ length text → Led text old (row text (outcome text) (Meet (pattern.Arbno a)) r c p n) n (Go gs c w) (old ++ Second gs' c w' ∷ []) n
   unfolding row
   arbno a gs gs' w w' eg ew eg' ew' h = left_choice gs c w (Second gs' c w') r p eg ew h h (sym (second_is text gs' c w' (Meet a ∷ More a c ∷ r) p eg' ew' (outcome text r c p n)))
-
-  pub conditional : (a : Pattern) (name : List ℕ) (gs : Rc Goals Global) (w : Rc Waiting Global) → goals_of gs.value ≡ Meet a ∷ EndConditional name c ∷ r → waiting_of text w.value ≡ p → c ≤ length text → Led text old (row text (outcome text) (Meet (pattern.Conditional a name)) r c p n) n (Go gs c w) old n
-  unfolding row
-  conditional a name gs w eg ew h = went gs c w (Meet a ∷ EndConditional name c ∷ r) p eg ew h refl
-
-  pub immediate : (a : Pattern) (name : List ℕ) (gs : Rc Goals Global) (w : Rc Waiting Global) → goals_of gs.value ≡ Meet a ∷ EndImmediate name c ∷ r → waiting_of text w.value ≡ p → c ≤ length text → Led text old (row text (outcome text) (Meet (pattern.Immediate a name)) r c p n) n (Go gs c w) old n
-  unfolding row
-  immediate a name gs w eg ew h = went gs c w (Meet a ∷ EndImmediate name c ∷ r) p eg ew h refl
 
   pub fence : (gs : Rc Goals Global) (w : Rc Waiting Global) → goals_of gs.value ≡ r → waiting_of text w.value ≡ p → c ≤ length text → Led text old (row text (outcome text) (Meet pattern.Fence) r c p n) n (Go gs c w) (old ++ Whole ∷ []) n
   unfolding row

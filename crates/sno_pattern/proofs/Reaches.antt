@@ -8,7 +8,7 @@ use Rattle.sno_pattern.specs.declared.ending.Pending.{Pending}
 use Rattle.sno_pattern.specs.declared.reach.Reach.{Reach}
 use Rattle.sno_pattern.specs.declared.reach.Reach.TheVariants.{Here, Nowhere, Depends}
 use Rattle.sno_pattern.specs.Steps.{Goal, Meet, Failure, Trying, Way, ends, is_one_of, begins_with, row}
-use Rattle.sno_pattern.specs.inner.Reaching.{here_if, reached, is_nowhere, IsQuiet, IsParted}
+use Rattle.sno_pattern.specs.inner.Reaching.{here_if, reached, is_nowhere, IsQuiet, IsEntered, IsParted}
 
 abbrev IsHere : Reach → Type 0
 IsHere (Here c) = Unit {0}
@@ -105,31 +105,31 @@ module _ (text : List ℕ) (go : Way) (r : List Goal) (c : ℕ) (w : List Pendin
 pub missed : (text : List ℕ) (p : Pattern) (c : ℕ) → reached text p c ≡ Nowhere → IsNowhere (reached text p c)
 missed text p c h = subst IsNowhere (sym h) tt
 
-parted_if : (text : List ℕ) (p : Pattern) (c : ℕ) → IsDepends (reached text p c) → IsQuiet p → IsParted p
-parted_if text (pattern.Text s) c h q = if_depends (starts_with nat_eq (drop c text) s) (c + length s) h
-parted_if text (pattern.Len k) c h q = if_depends (nat_le (c + k) (length text)) (c + k) h
-parted_if text (pattern.Pos k) c h q = if_depends (nat_eq c k) c h
-parted_if text (pattern.RPos k) c h q = if_depends (nat_eq (c + k) (length text)) c h
-parted_if text (pattern.Tab k) c h q = if_depends (nat_le c k && nat_le k (length text)) k h
-parted_if text (pattern.RTab k) c h q = if_depends (nat_le (c + k) (length text)) (length text - k) h
-parted_if text (pattern.Any s) c h q = if_depends (begins_with (is_one_of s) (drop c text)) (c + 1) h
-parted_if text (pattern.NotAny s) c h q = if_depends (begins_with (λ x. not (is_one_of s x)) (drop c text)) (c + 1) h
-parted_if text (pattern.Span s) c h q = if_depends (begins_with (is_one_of s) (drop c text)) (c + prefix_len (is_one_of s) (drop c text)) h
-parted_if text (pattern.Break s) c h q = if_depends (nat_lt (c + position_or_len (is_one_of s) (drop c text)) (length text)) (c + position_or_len (is_one_of s) (drop c text)) h
-parted_if text pattern.Fail c h q = h
-parted_if text pattern.Rem c h q = h
-parted_if text (pattern.Cursor v) c h q = q
-parted_if text (pattern.Defer v) c h q = q
-parted_if text pattern.Arb c h q = tt
-parted_if text pattern.Bal c h q = tt
-parted_if text (pattern.Cat a b) c h q = tt
-parted_if text (pattern.Alt a b) c h q = tt
-parted_if text (pattern.Arbno a) c h q = tt
-parted_if text (pattern.Conditional a v) c h q = tt
-parted_if text (pattern.Immediate a v) c h q = tt
-parted_if text pattern.Abort c h q = tt
-parted_if text pattern.Fence c h q = tt
-parted_if text pattern.Succeed c h q = tt
+parted_if : (text : List ℕ) (p : Pattern) (c : ℕ) → IsDepends (reached text p c) → IsQuiet p → (IsEntered p → ⊥) → IsParted p
+parted_if text (pattern.Text s) c h q e = if_depends (starts_with nat_eq (drop c text) s) (c + length s) h
+parted_if text (pattern.Len k) c h q e = if_depends (nat_le (c + k) (length text)) (c + k) h
+parted_if text (pattern.Pos k) c h q e = if_depends (nat_eq c k) c h
+parted_if text (pattern.RPos k) c h q e = if_depends (nat_eq (c + k) (length text)) c h
+parted_if text (pattern.Tab k) c h q e = if_depends (nat_le c k && nat_le k (length text)) k h
+parted_if text (pattern.RTab k) c h q e = if_depends (nat_le (c + k) (length text)) (length text - k) h
+parted_if text (pattern.Any s) c h q e = if_depends (begins_with (is_one_of s) (drop c text)) (c + 1) h
+parted_if text (pattern.NotAny s) c h q e = if_depends (begins_with (λ x. not (is_one_of s x)) (drop c text)) (c + 1) h
+parted_if text (pattern.Span s) c h q e = if_depends (begins_with (is_one_of s) (drop c text)) (c + prefix_len (is_one_of s) (drop c text)) h
+parted_if text (pattern.Break s) c h q e = if_depends (nat_lt (c + position_or_len (is_one_of s) (drop c text)) (length text)) (c + position_or_len (is_one_of s) (drop c text)) h
+parted_if text pattern.Fail c h q e = h
+parted_if text pattern.Rem c h q e = h
+parted_if text (pattern.Cursor v) c h q e = q
+parted_if text (pattern.Defer v) c h q e = q
+parted_if text pattern.Arb c h q e = tt
+parted_if text pattern.Bal c h q e = tt
+parted_if text (pattern.Cat a b) c h q e = absurd (e tt)
+parted_if text (pattern.Alt a b) c h q e = absurd (e tt)
+parted_if text (pattern.Arbno a) c h q e = tt
+parted_if text (pattern.Conditional a v) c h q e = absurd (e tt)
+parted_if text (pattern.Immediate a v) c h q e = absurd (e tt)
+parted_if text pattern.Abort c h q e = tt
+parted_if text pattern.Fence c h q e = tt
+parted_if text pattern.Succeed c h q e = tt
 
-pub parted_of : (text : List ℕ) (p : Pattern) (c : ℕ) → reached text p c ≡ Depends → IsQuiet p → IsParted p
-parted_of text p c h q = parted_if text p c (subst IsDepends (sym h) tt) q
+pub parted_of : (text : List ℕ) (p : Pattern) (c : ℕ) → reached text p c ≡ Depends → IsQuiet p → (IsEntered p → ⊥) → IsParted p
+parted_of text p c h q e = parted_if text p c (subst IsDepends (sym h) tt) q e

@@ -43,11 +43,22 @@ pub(crate) enum Turn {
 }
 
 /// A goal in front of others.
-pub(crate) fn before(alloc: Global, goal: Goal, rest: &Rc<Goals>) -> Result<Rc<Goals>, AllocError>
+pub(crate) fn before(alloc: Global, goal: Goal, rest: Rc<Goals>) -> Result<Rc<Goals>, AllocError>
+    ensures { IfOk result (λ gs. goals_of gs.value ≡ goal_of goal ∷ goals_of rest.value) }
+{
+    Ok(Rc::new(alloc, Goals::Next(goal, rest))?)
+}
+
+/// A goal in front of others that are shared.
+pub(crate) fn before_shared(
+    alloc: Global,
+    goal: Goal,
+    rest: &Rc<Goals>,
+) -> Result<Rc<Goals>, AllocError>
     ensures { IfOk result (λ gs. goals_of gs.value ≡ goal_of goal ∷ goals_of rest.now.value) }
 {
     let rest = rest.clone()?;
-    Ok(Rc::new(alloc, Goals::Next(goal, rest))?)
+    before(alloc, goal, rest)
 }
 
 /// The first cursor from here on where this pattern is not missed at once, or the last one, or where no step is left.

@@ -7,6 +7,7 @@ mod goals;
 pub mod host;
 pub mod laws;
 mod matching;
+mod meeting;
 mod reach;
 mod rows;
 mod running;

@@ -1,10 +1,10 @@
 //! Rows that end in one place or nowhere.
-ghost use Rattle.std.specs.Prelude.{◌≡◌, ◌≤◌, ◌<◌, ◌^◌, not, length, IfSome};
-ghost use Rattle.std.specs.List.{prefix_len, position_or_len};
+ghost use Rattle.std.specs.Prelude.{◌≡◌, ◌≤◌, ◌<◌, ◌^◌, not, length, drop, nat_eq, true, IfSome};
+ghost use Rattle.std.specs.List.{starts_with, prefix_len, position_or_len};
 ghost use Rattle.sno_nodes.specs.Patterns as pattern;
 ghost use Rattle.sno_nodes.specs.Nodes.{pattern_of};
 ghost use Rattle.sno_pattern.specs.Steps.{is_one_of, begins_with, balanced_ends};
-ghost use Rattle.sno_pattern.specs.inner.Reaching.{reached, IsWithin, is_nowhere, open_after, next_and_on};
+ghost use Rattle.sno_pattern.specs.inner.Reaching.{reached, IsWithin, is_nowhere, IsQuiet, open_after, next_and_on};
 
 use sno_nodes::Node;
 
@@ -15,6 +15,17 @@ pub(crate) enum Reach {
     Nowhere,
     /// That depends: it has parts, several ends, or words for the host.
     Depends,
+}
+
+/// Whether a text begins with a part. Most often the first character tells.
+#[inline(always)]
+fn stands_first(rest: &[u8], part: &[u8]) -> bool
+    ensures { result ≡ starts_with nat_eq rest.now part.now }
+{
+    match (rest.first(), part.first()) {
+        (Some(one), Some(other)) if *one != *other => false,
+        _ => rest.starts_with(part),
+    }
 }
 
 /// Whether a character of the set comes first.
@@ -83,7 +94,7 @@ pub(crate) fn reached(text: &[u8], node: &Node, at: usize) -> Reach
     match node {
         Node::Text(s) => {
             let s = s.as_bytes();
-            if text[at..].starts_with(s) {
+            if stands_first(&text[at..], s) {
                 Reach::Here(at + s.len())
             } else {
                 Reach::Nowhere
@@ -160,9 +171,22 @@ pub(crate) fn misses(text: &[u8], node: &Node, at: usize) -> bool
     requires { at ≤ length text.now }
     ensures { result ≡ is_nowhere (reached text.now (pattern_of node.now) at) }
 {
-    match reached(text, node, at) {
-        Reach::Nowhere => true,
-        Reach::Here(_) | Reach::Depends => false,
+    match node {
+        Node::Text(part) => !stands_first(&text[at..], part.as_bytes()),
+        _ => match reached(text, node, at) {
+            Reach::Nowhere => true,
+            Reach::Here(_) | Reach::Depends => false,
+        },
+    }
+}
+
+/// Whether a pattern has no word for the host when it is taken.
+pub(crate) fn is_quiet(node: &Node) -> bool
+    ensures { result ≡ true → IsQuiet (pattern_of node.now) }
+{
+    match node {
+        Node::Cursor(_) | Node::Defer(_) => false,
+        _ => true,
     }
 }
 

@@ -26,7 +26,7 @@ impl Start {
         ensures { IfOk result (λ start. (goals_of start.goals.value ≡ Meet (pattern_of pattern.now.value) ∷ []) × (start.waiting.value ≡ Empty)) }
     {
         let done = Rc::new(alloc, Goals::Done)?;
-        let goals = before(alloc, Goal::Meet(pattern.clone()?), &done)?;
+        let goals = before(alloc, Goal::Meet(pattern.clone()?), done)?;
         let waiting = Rc::new(alloc, Waiting::Empty)?;
         Ok(Start { goals, waiting })
     }

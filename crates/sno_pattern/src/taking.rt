@@ -7,10 +7,11 @@ ghost use Rattle.sno_pattern.specs.Looks.{Fits};
 ghost use Rattle.sno_pattern.specs.Steps.{part, pattern_found, row, outcome};
 ghost use Rattle.sno_pattern.specs.inner.Stack.{goal_of, goals_of, waiting_of, AllWithin, Moved, resume, assigning, looking};
 
-use crate::choices::{Choice, Ended, Turn, back, before};
+use crate::choices::{Choice, Ended, Turn, back, before_shared};
 use crate::goals::{Goal, Goals, Waiting};
 use crate::host::{Looked, MatchHost, Stop, Taken};
-use crate::rows::{one_more, plain};
+use crate::meeting::meet;
+use crate::rows::one_more;
 use sno_nodes::Node;
 use sno_text::Text;
 use std::alloc::{AllocError, Global};
@@ -95,7 +96,7 @@ fn looked<H: MatchHost>(
     match host.look_up(variable) {
         Ok(found) => {
             let node = node_found(alloc, found)?;
-            let goals = before(alloc, Goal::Meet(node), rest)?;
+            let goals = before_shared(alloc, Goal::Meet(node), rest)?;
             Ok(Turn::Go(goals, at, waiting.clone()?))
         }
         Err(Stop::Fail) => Ok(back(text, choices, left)?),
@@ -148,7 +149,7 @@ pub(crate) fn take<H: MatchHost>(
                     Ok(turn) => Ok(turn),
                     Err(e) => Err(e),
                 },
-                _ => match plain(alloc, text, shared, rest, at, waiting, choices, left) {
+                _ => match meet(alloc, text, shared, rest, at, waiting, choices, left) {
                     Ok(turn) => Ok(turn),
                     Err(e) => Err(e),
                 },

@@ -43,15 +43,19 @@ IsQuiet (pattern.Cursor v) = ⊥
 IsQuiet (pattern.Defer v) = ⊥
 IsQuiet _ = Unit {0}
 
--- one of those that ask nothing and yet are not met at one place alone
+-- one whose first part is met at once
+abbrev pub IsEntered : Pattern → Type 0
+IsEntered (pattern.Cat a b) = Unit {0}
+IsEntered (pattern.Alt a b) = Unit {0}
+IsEntered (pattern.Conditional p v) = Unit {0}
+IsEntered (pattern.Immediate p v) = Unit {0}
+IsEntered _ = ⊥
+
+-- one of the others that ask nothing and yet are not met at one place alone
 abbrev pub IsParted : Pattern → Type 0
 IsParted pattern.Arb = Unit {0}
 IsParted pattern.Bal = Unit {0}
-IsParted (pattern.Cat a b) = Unit {0}
-IsParted (pattern.Alt a b) = Unit {0}
 IsParted (pattern.Arbno p) = Unit {0}
-IsParted (pattern.Conditional p v) = Unit {0}
-IsParted (pattern.Immediate p v) = Unit {0}
 IsParted pattern.Abort = Unit {0}
 IsParted pattern.Fence = Unit {0}
 IsParted pattern.Succeed = Unit {0}

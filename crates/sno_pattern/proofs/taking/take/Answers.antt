@@ -79,6 +79,6 @@ unfolding row
 returns-in-Err-assigned-2-clause-cut g c =
     rw (c.in-EndImmediate.is, sym c.in_ok-taken-in-EndImmediate.ensures) c.in-Err-assigned-2.ensures.cut
 
-pub returns-in-Err-plain : goal.returns-in-Err-plain
-returns-in-Err-plain g c =
+pub returns-in-Err-meet : goal.returns-in-Err-meet
+returns-in-Err-meet g c =
     record { moved = tt; cut = cut_here g.H.MatchHost.tells Fits g.H.MatchHost.broken (resume c.args.text.now c.args.choices.now.items (row c.args.text.now (outcome c.args.text.now) (goal_of c.args.goal.now) (goals_of c.args.rest.now.value) c.args.at (waiting_of c.args.text.now c.args.waiting.now.value) c.args.left.now)) c.args.host.now; ready = c.requires.ready }
