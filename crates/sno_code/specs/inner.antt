@@ -2,3 +2,6 @@ pub mod Code
 pub mod Machine
 pub mod Coding
 pub mod Laws
+pub mod Seen
+pub mod Codes
+pub mod Loading

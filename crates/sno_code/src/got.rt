@@ -1,6 +1,9 @@
 //! What comes of an expression.
+ghost use Rattle.std.specs.Prelude.{◌≡◌};
+ghost use Rattle.sno_code.specs.Outcomes.{got_of};
+
 use sno_text::Fault;
-use sno_value::Value;
+use sno_value::{Outcome, Value};
 
 /// How a job ends in the middle of a statement.
 #[derive(Clone, Copy)]
@@ -24,4 +27,15 @@ pub enum Got {
     Fails,
     /// The end of the job.
     Halts(Halt),
+}
+
+/// What an operator or a primitive function gave: a fault ends the job.
+pub fn got_of(outcome: Outcome) -> Got
+    ensures { result ≡ got_of outcome }
+{
+    match outcome {
+        Outcome::Gives(value) => Got::Gives(value),
+        Outcome::Fails => Got::Fails,
+        Outcome::Faults(fault) => Got::Halts(Halt::Fault(fault)),
+    }
 }

@@ -9,9 +9,13 @@ pub mod compile;
 pub mod got;
 pub mod instr;
 pub mod laws;
+pub mod line;
+pub mod loading;
 pub mod stack;
 
 pub use compile::{code_of, code_of_name};
-pub use got::{Got, Halt};
+pub use got::{Got, Halt, got_of};
 pub use instr::{Instr, Nest};
-pub use stack::Item;
+pub use line::{Act, Line, Next, Point, Target, Variable, point_of};
+pub use loading::lines_of;
+pub use stack::{Item, Stack, stuck};

@@ -229,6 +229,13 @@ module _ (n : ℕ) where
   pub left_stays : (s : State) → Stays s → Stays (left s).1
   left_stays s h = left_by_stays s.levels s h
 
+-- what a change, or an assignment to a keyword, leaves
+pub changed_counts : (which : Change) (a b c : Value) (s t : State) → changed which a b c s ≡ Ok t → t.keywords.begun ≡ s.keywords.begun
+changed_counts which a b c s t is = subst (λ (r : Result State AFault). Changed s.keywords.begun r) is (changed_stays s.keywords.begun which a b c s refl)
+
+pub keyword_counts : (keyword : Keyword) (v : Value) (s t : State) → with_keyword_set keyword v s ≡ Ok t → t.keywords.begun ≡ s.keywords.begun
+keyword_counts keyword v s t is = subst (λ (r : Result State AFault). Changed s.keywords.begun r) is (keyword_changed s.keywords.begun keyword v s refl)
+
 -- STATEMENTS
 
 -- after a statement that begins fewer may

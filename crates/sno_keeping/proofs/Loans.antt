@@ -15,10 +15,10 @@ use Rattle.sno_keeping.specs.inner.Lent.{SameLoans, HostTells, HostBroken}
 
 module _ {S : Type 0} (answers : S → Request → Answer → S → Type 0) where
   same_here : (h : Host S) → SameLoans h h
-  same_here h = record { state = refl; service = refl }
+  same_here h = record { state = refl; service = refl; counted = refl }
 
   same_then : (h k l : Host S) → SameLoans h k → SameLoans k l → SameLoans h l
-  same_then h k l p q = record { state = q.state ∙ p.state; service = q.service ∙ p.service }
+  same_then h k l p q = record { state = q.state ∙ p.state; service = q.service ∙ p.service; counted = q.counted ∙ p.counted }
 
   pub held_loans : {A : Type 0} (t : Talk Look Told A) (h : Host S) (v : A) (k : Host S)
       → holding.Held (HostTells answers) Fits t h v k → SameLoans h k

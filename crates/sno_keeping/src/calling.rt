@@ -1,5 +1,6 @@
 //! Statements that begin, and calls of functions that the program defined.
-ghost use Rattle.std.specs.Prelude.{◌≡◌, Some, IfOk};
+ghost use Rattle.std.specs.Prelude.{◌≡◌, ◌+◌, Some, IfOk, OnErr, if◌then◌else◌};
+ghost use Rattle.sno_store.specs.States.{may_begin};
 ghost use Rattle.sno_keeping.specs.Calling.{begun, entered_by, entered};
 ghost use Rattle.sno_keeping.specs.inner.Answers.{Began, Comes};
 
@@ -22,10 +23,12 @@ pub enum Entry {
     Refused(Fault),
 }
 
-/// Begins the statement of a number, if one more may begin in a job that may begin so many. It tells whether it did; where
-/// it did not, nothing has changed. It takes no memory.
+/// Begins the statement of a number, if one more may begin in a job that may begin so many, and then the state has counted
+/// it. It tells whether it did; where it did not, nothing has changed. It takes no memory.
 pub fn begin(limit: u64, number: StatementNumber, state: &mut Store) -> bool
-    ensures { Began (begun limit number state.old) result state.old state.new }
+    ensures begun { Began (begun limit number state.old) result state.old state.new }
+    ensures may { result ≡ may_begin limit state.old }
+    ensures counted { state.new.keywords.begun ≡ (if result then state.old.keywords.begun + 1 else state.old.keywords.begun) }
 {
     state.begin(number, limit)
 }
@@ -36,7 +39,9 @@ fn enter_function(
     arguments: &[Value],
     state: &mut Store,
 ) -> Result<Entry, AllocError>
-    ensures { IfOk result (λ entry. Comes (entered_by (Some function.now) arguments.now state.old) entry state.old state.new) }
+    ensures entered { IfOk result (λ entry. Comes (entered_by (Some function.now) arguments.now state.old) entry state.old state.new) }
+    ensures unchanged { OnErr result (state.new ≡ state.old) }
+    ensures counted { state.new.keywords.begun ≡ state.old.keywords.begun }
 {
     if state.level() >= MOST_CALLS {
         return Ok(Entry::Refused(Fault::Depth));
@@ -52,14 +57,16 @@ fn enter_function(
 ///
 /// # Errors
 ///
-/// Where a growth was refused. The job is over then: some variables may be set.
+/// Where a growth was refused; nothing has changed then.
 pub fn enter(
     alloc: Global,
     name: &Text,
     arguments: &[Value],
     state: &mut Store,
 ) -> Result<Entry, AllocError>
-    ensures { IfOk result (λ entry. Comes (entered name.now arguments.now state.old) entry state.old state.new) }
+    ensures entered { IfOk result (λ entry. Comes (entered name.now arguments.now state.old) entry state.old state.new) }
+    ensures unchanged { OnErr result (state.new ≡ state.old) }
+    ensures counted { state.new.keywords.begun ≡ state.old.keywords.begun }
 {
     let function = match state.function(name) {
         Some(function) => function.copy()?,

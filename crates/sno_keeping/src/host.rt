@@ -96,6 +96,7 @@ fn use_variable<S: Service>(
     requires { S.ready service.old }
     ensures held { IfOk result (λ got. Held S.answers (used variable.now state.old) service.old (got, state.new) service.new) }
     ensures cut { OnErr result (Cut S.answers (used variable.now state.old) service.old service.new) }
+    ensures counted { state.new.keywords.begun ≡ state.old.keywords.begun }
     ensures ready { S.ready service.new }
 {
     let name = Named::new(variable.copy()?, 0);
@@ -115,6 +116,7 @@ fn assign_variable<S: Service>(
     requires { S.ready service.old }
     ensures held { IfOk result (λ got. Held S.answers (assigned variable.now value state.old) service.old (got, state.new) service.new) }
     ensures cut { OnErr result (Cut S.answers (assigned variable.now value state.old) service.old service.new) }
+    ensures counted { state.new.keywords.begun ≡ state.old.keywords.begun }
     ensures ready { S.ready service.new }
 {
     let name = Named::new(variable.copy()?, 0);
@@ -133,6 +135,7 @@ fn look_up<S: Service>(
 ) -> Result<Looked, Stop>
     requires { S.ready service.old }
     ensures told { WasFound (StateTells S.answers) (StateBroken S.answers) (state.old, service.old) (LookUp variable.now) result (state.new, service.new) }
+    ensures counted { state.new.keywords.begun ≡ state.old.keywords.begun }
     ensures ready { S.ready service.new }
 {
     match use_variable(alloc, variable, state, service) {
@@ -157,6 +160,7 @@ fn assign<S: Service>(
 ) -> Result<(), Stop>
     requires { S.ready service.old }
     ensures told { WasGiven (StateTells S.answers) (StateBroken S.answers) (state.old, service.old) (Assign variable.now taken) result (state.new, service.new) }
+    ensures counted { state.new.keywords.begun ≡ state.old.keywords.begun }
     ensures ready { S.ready service.new }
 {
     match assign_variable(alloc, variable, value_taken(taken), state, service) {

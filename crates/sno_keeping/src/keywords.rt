@@ -22,7 +22,8 @@ pub fn keyword(name: &Text, state: &Store) -> Outcome
 /// There is the fault `Keyword` where a program may set none of that name, then `WrongType` where the value has no number,
 /// then `Keyword` where the number is out of range. Nothing has changed then.
 pub fn set_keyword(name: &Text, value: &Value, state: &mut Store) -> Got
-    ensures { (result, state.new) ≡ keyword_set name.now value.now state.old }
+    ensures set { (result, state.new) ≡ keyword_set name.now value.now state.old }
+    ensures counted { state.new.keywords.begun ≡ state.old.keywords.begun }
 {
     match Keyword::named(name.as_bytes()) {
         Some(keyword) => match state.set_keyword(keyword, value) {

@@ -34,6 +34,7 @@ fn match_in<S: Service>(
     ensures held { IfOk result (λ end. Held S.answers (through looking (match_of text.now pattern.now anchored steps) state.old) service.old (end, state.new) service.new) }
     ensures within { IfOk result (MatchesWithin (length text.now)) }
     ensures cut { OnErr result (Cut S.answers (through looking (match_of text.now pattern.now anchored steps) state.old) service.old service.new) }
+    ensures counted { state.new.keywords.begun ≡ state.old.keywords.begun }
     ensures ready { S.ready service.new }
 {
     let mut host = Host {
@@ -67,6 +68,7 @@ pub fn matched<S: Service>(
     ensures held { IfOk result (λ end. Held S.answers (matched steps text.now pattern.now state.old) service.old (ended_by end, state.new) service.new) }
     ensures within { IfOk result (MatchesWithin (length text.now)) }
     ensures cut { OnErr result (Cut S.answers (matched steps text.now pattern.now state.old) service.old service.new) }
+    ensures counted { state.new.keywords.begun ≡ state.old.keywords.begun }
     ensures ready { S.ready service.new }
 {
     let pattern = pattern.to_pattern(alloc)?;

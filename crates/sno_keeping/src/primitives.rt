@@ -3,7 +3,6 @@ ghost use Rattle.std.specs.Prelude.{◌≡◌, bytes_eq, IfOk, OnErr};
 ghost use Rattle.mon_text.specs.Stops.{Gives};
 ghost use Rattle.sno_value.specs.Values.{null};
 ghost use Rattle.sno_value.specs.Primitives.{argument, primitive_named};
-ghost use Rattle.sno_code.specs.Outcomes.{got_of};
 ghost use Rattle.sno_ask.specs.Asking.{Held, Cut};
 ghost use Rattle.sno_ask.specs.Fitting.{IsShort};
 ghost use Rattle.sno_ask.specs.declared.request.Act.TheVariants.{Endfile as Ending, Rewind as Rewinding};
@@ -14,11 +13,11 @@ ghost use Rattle.sno_keeping.specs.Primitives.{state_function_named, changed, on
 
 use mon_text::Stop;
 use sno_ask::{Act, Answer, Request, Service};
-use sno_code::{Got, Halt};
+use sno_code::{Got, Halt, got_of};
 use sno_prototype::unit_in;
 use sno_store::Store;
 use sno_text::{Fault, Text};
-use sno_value::{Outcome, Value, primitive_named};
+use sno_value::{Value, primitive_named};
 use std::alloc::{AllocError, Global};
 
 /// A function that changes the state of the job and asks nothing.
@@ -73,17 +72,6 @@ impl StateFunction {
     }
 }
 
-/// What an operator or a primitive function gave.
-fn got_of(outcome: Outcome) -> Got
-    ensures { result ≡ got_of outcome }
-{
-    match outcome {
-        Outcome::Gives(value) => Got::Gives(value),
-        Outcome::Fails => Got::Fails,
-        Outcome::Faults(fault) => Got::Halts(Halt::Fault(fault)),
-    }
-}
-
 /// The argument at a place, or what stands for one that is missing.
 fn argument<'a>(given: &'a [Value], at: usize, missing: &'a Value) -> &'a Value
     requires { missing.now ≡ null }
@@ -123,7 +111,8 @@ fn change_state(
     third: &Value,
     state: &mut Store,
 ) -> Result<Got, AllocError>
-    ensures { IfOk result (λ got. (got, state.new) ≡ changed_by (changed which first.now second.now third.now state.old) state.old) }
+    ensures changed { IfOk result (λ got. (got, state.new) ≡ changed_by (changed which first.now second.now third.now state.old) state.old) }
+    ensures counted { state.new.keywords.begun ≡ state.old.keywords.begun }
 {
     match make_change(alloc, which, first, second, third, state) {
         Ok(()) => Ok(Got::Gives(Value::null())),
@@ -196,6 +185,7 @@ fn on_state<S: Service>(
     requires { S.ready service.old }
     ensures held { IfOk result (λ got. Held S.answers (done which (argument 0 arguments.now) (argument 1 arguments.now) (argument 2 arguments.now) state.old) service.old (got, state.new) service.new) }
     ensures cut { OnErr result (Cut S.answers (done which (argument 0 arguments.now) (argument 1 arguments.now) (argument 2 arguments.now) state.old) service.old service.new) }
+    ensures counted { state.new.keywords.begun ≡ state.old.keywords.begun }
     ensures ready { S.ready service.new }
 {
     let null = Value::null();
@@ -253,6 +243,7 @@ pub fn primitive<S: Service>(
     requires { S.ready service.old }
     ensures held { IfOk result (λ got. Held S.answers (primitive name.now arguments.now state.old) service.old (got, state.new) service.new) }
     ensures cut { OnErr result (Cut S.answers (primitive name.now arguments.now state.old) service.old service.new) }
+    ensures counted { state.new.keywords.begun ≡ state.old.keywords.begun }
     ensures ready { S.ready service.new }
 {
     match StateFunction::named(name.as_bytes()) {

@@ -29,7 +29,8 @@ fn store_record(
     line: &Line,
     state: &mut Store,
 ) -> Result<Got, AllocError>
-    ensures { IfOk result (λ got. (got, state.new) ≡ stored name.now (value.Text (kept_of input state.old.keywords line.now)) state.old) }
+    ensures stored { IfOk result (λ got. (got, state.new) ≡ stored name.now (value.Text (kept_of input state.old.keywords line.now)) state.old) }
+    ensures counted { state.new.keywords.begun ≡ state.old.keywords.begun }
 {
     let text = state.kept(alloc, input, line)?;
     let copy = text.copy()?;
@@ -49,6 +50,7 @@ fn read<S: Service>(
     requires { S.ready service.old }
     ensures held { IfOk result (λ got. Held S.answers (used_by name.now (Reads input) state.old) service.old (got, state.new) service.new) }
     ensures cut { OnErr result (Cut S.answers (used_by name.now (Reads input) state.old) service.old service.new) }
+    ensures counted { state.new.keywords.begun ≡ state.old.keywords.begun }
     ensures ready { S.ready service.new }
 {
     let request = Request {
@@ -76,6 +78,7 @@ pub fn used<S: Service>(
     requires { S.ready service.old }
     ensures held { IfOk result (λ got. Held S.answers (used name.now state.old) service.old (got, state.new) service.new) }
     ensures cut { OnErr result (Cut S.answers (used name.now state.old) service.old service.new) }
+    ensures counted { state.new.keywords.begun ≡ state.old.keywords.begun }
     ensures ready { S.ready service.new }
 {
     let input = match state.get(name) {
@@ -183,6 +186,7 @@ pub fn assigned<S: Service>(
     requires { S.ready service.old }
     ensures held { IfOk result (λ got. Held S.answers (assigned name.now value state.old) service.old (got, state.new) service.new) }
     ensures cut { OnErr result (Cut S.answers (assigned name.now value state.old) service.old service.new) }
+    ensures counted { state.new.keywords.begun ≡ state.old.keywords.begun }
     ensures ready { S.ready service.new }
 {
     let kept = value.copy()?;

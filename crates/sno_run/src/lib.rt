@@ -4,19 +4,9 @@
 //! statement is evaluated by recursion over its tree: a loop goes over its code, and only calls of functions nest.
 #![tactic(auto)]
 
-pub mod doing;
-pub mod ending;
-pub mod going;
-pub mod joining;
+mod ending;
 pub mod laws;
-pub mod line;
-pub mod loaded;
-pub mod loading;
-pub mod machine;
-pub mod moving;
-pub mod resting;
-pub mod stack;
-pub mod turning;
+mod turning;
 
 pub use ending::{Ending, Step};
 pub use sno_keeping::Limits;

@@ -7,18 +7,15 @@ ghost use Rattle.sno_keeping.specs.Limits.{AreLimits};
 ghost use Rattle.sno_code.specs.Execution.{On};
 ghost use Rattle.sno_run.specs.Jobs.{first_job, first_point, ending_of, stepped, statements_begun, TurnIs};
 ghost use Rattle.sno_run.specs.Told.{job_of};
-ghost use Rattle.sno_run.specs.inner.Seen.{point_seen, next_seen};
-ghost use Rattle.sno_run.specs.inner.Turning.{turned_of, turn_coded, settled_coded};
+ghost use Rattle.sno_code.specs.inner.Seen.{point_seen, next_seen};
+ghost use Rattle.sno_machine.specs.inner.Counting.{Started};
+ghost use Rattle.sno_run.specs.inner.Turning.{turned_of, HasLine, turn_coded, settled_coded};
 
 use crate::ending::{Ending, Step};
-use crate::line::{Next, Point};
-use crate::loaded::Loaded;
-use crate::loading::load;
-use crate::machine::run_line;
-use crate::stack::Stack;
 use sno_ask::Service;
-use sno_code::Halt;
+use sno_code::{Halt, Next, Point, Stack};
 use sno_keeping::Limits;
+use sno_machine::{Loaded, run_line};
 use sno_store::Store;
 use sno_syntax::{Program, Start};
 use sno_text::Fault;
@@ -102,6 +99,8 @@ fn turn_at<S: Service>(
     requires { S.ready service.old }
     ensures held { IfOk result (λ turned. Held S.answers (turn_coded program.now (point_seen point) state.old) service.old (turned_of turned, state.new) service.new) }
     ensures cut { OnErr result (Cut S.answers (turn_coded program.now (point_seen point) state.old) service.old service.new) }
+    ensures line { OnErr result (HasLine program.now (point_seen point)) }
+    ensures started { OnErr result (Started program.now.limits state.old state.new) }
     ensures ready { S.ready service.new }
 {
     match point {
@@ -131,7 +130,7 @@ impl Job {
     {
         let point = first_point(program.start);
         let store = Store::new(alloc, limits.statements)?;
-        let program = load(alloc, program, limits)?;
+        let program = Loaded::new(alloc, program, limits)?;
         Ok(Job {
             program,
             point,
@@ -168,7 +167,7 @@ impl Job {
 
 /// Gives a job a turn: one statement with all calls in it. A job that has ended answers its ending again, and asks nothing.
 ///
-/// After `Memory` what was asked stands, and the job has ended.
+/// After `Memory` what was asked stands, and the job has ended. Memory is taken by a statement that has begun alone.
 #[tactic(auto, using(sno_talk::proofs::Held::talking))]
 pub fn statement_turn<S: Service>(alloc: Global, job: &mut Job, service: &mut S) -> Step
     requires { S.ready service.old }

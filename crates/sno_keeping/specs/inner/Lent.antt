@@ -6,10 +6,11 @@ use Rattle.sno_pattern.specs.Looks.{Look, Told}
 use Rattle.sno_keeping.specs.declared.host.Host.{Host}
 use Rattle.sno_keeping.specs.inner.Telling.{StateTells, StateBroken}
 
--- it holds the same loans
+-- it holds the same loans, and no statement has begun meanwhile
 pub record SameLoans {S : Type 0} (h k : Host S) : Type 0 where
   pub state : k.state.ghost_name ≡ h.state.ghost_name
   pub service : k.service.ghost_name ≡ h.service.ghost_name
+  pub counted : k.state.now.keywords.begun ≡ h.state.now.keywords.begun
 
 abbrev pub HostTells : {S : Type 0} → (S → Request → Answer → S → Type 0) → Host S → Look → Told → Host S → Type 0
 HostTells answers h look told k = SameLoans h k × StateTells answers (h.state.now, h.service.now) look told (k.state.now, k.service.now)

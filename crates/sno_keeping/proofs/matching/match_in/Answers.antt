@@ -28,3 +28,17 @@ returns-in-Err-clause-ready g c =
     let m = match_of c.args.text.now c.args.pattern.now c.args.anchored c.args.steps in
     let same = cut_loans g.S.Service.answers m _ _ c.in-Err.ensures.cut in
     search rules
+
+pub returns-in-Ok-clause-counted : goal.returns-in-Ok-clause-counted
+returns-in-Ok-clause-counted g c =
+    let m = match_of c.args.text.now c.args.pattern.now c.args.anchored c.args.steps in
+    let same = held_loans g.S.Service.answers m _ _ _ c.in-Ok.ensures.held in
+    let counted = same.counted in
+    search rules
+
+pub returns-in-Err-clause-counted : goal.returns-in-Err-clause-counted
+returns-in-Err-clause-counted g c =
+    let m = match_of c.args.text.now c.args.pattern.now c.args.anchored c.args.steps in
+    let same = cut_loans g.S.Service.answers m _ _ c.in-Err.ensures.cut in
+    let counted = same.counted in
+    search rules

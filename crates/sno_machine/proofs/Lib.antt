@@ -1,0 +1,7 @@
+pub mod Counted
+pub mod Naming
+pub mod Falling
+pub mod Stepping
+pub mod Parts
+pub mod Standing
+pub mod Assigning

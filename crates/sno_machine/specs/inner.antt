@@ -1,0 +1,4 @@
+pub mod Moves
+pub mod Resting
+pub mod Counting
+pub mod Doing

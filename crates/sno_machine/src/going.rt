@@ -1,0 +1,118 @@
+//! Where statements go on.
+ghost use Rattle.std.specs.Prelude.{◌≡◌, ◌<◌, ◌+◌, ◌^◌, option_map, IfOk};
+ghost use Rattle.sno_code.specs.Lines.{At};
+ghost use Rattle.sno_value.specs.Values.{text_of};
+ghost use Rattle.sno_code.specs.Lines.{point_of};
+ghost use Rattle.sno_code.specs.Execution.{label_next, computed_next};
+ghost use Rattle.sno_code.specs.Execution.{On};
+ghost use Rattle.sno_code.specs.inner.Seen.{point_seen, next_seen};
+ghost use Rattle.sno_machine.specs.inner.Counting.{Counts};
+ghost use Rattle.sno_machine.specs.inner.Doing.{statement_in, next_by, returned_by};
+
+use crate::resting::leave;
+use sno_code::{Got, Halt, Next, Point, point_of};
+use sno_keeping::Limits;
+use sno_store::{StatementNumber, Store};
+use sno_syntax::Labels;
+use sno_text::Fault;
+use sno_value::Value;
+use std::alloc::{AllocError, Global};
+
+/// Where a target leads that is known.
+pub(crate) fn label_next(point: Option<Point>) -> Next
+    ensures { next_seen result ≡ label_next (option_map point_seen point) }
+{
+    match point {
+        Some(point) => Next::On(point),
+        None => Next::Over(Halt::Fault(Fault::Label)),
+    }
+}
+
+/// Where the text of a value leads.
+///
+/// # Errors
+///
+/// Where a growth was refused.
+pub(crate) fn computed_next(
+    alloc: Global,
+    labels: &Labels,
+    value: &Value,
+) -> Result<Next, AllocError>
+    ensures { IfOk result (λ next. next_seen next ≡ computed_next labels.now (text_of value.now)) }
+{
+    match value.to_text(alloc)? {
+        Some(text) => {
+            if text.is_null() {
+                Ok(Next::Over(Halt::Fault(Fault::Null)))
+            } else {
+                Ok(label_next(point_of(labels, text.as_bytes())))
+            }
+        }
+        None => Ok(Next::Over(Halt::Fault(Fault::Goto))),
+    }
+}
+
+/// The index of the statement of a label, if the label is a statement's.
+pub(crate) fn statement_of(labels: &Labels, label: &[u8]) -> Option<usize>
+    ensures { result ≡ statement_in (point_of labels.now label.now) }
+{
+    match point_of(labels, label) {
+        Some(Point::At(index)) => Some(index),
+        _ => None,
+    }
+}
+
+/// Where what was got of a computed target leads.
+///
+/// # Errors
+///
+/// Where a growth was refused.
+pub(crate) fn next_by(alloc: Global, labels: &Labels, got: Got) -> Result<Next, AllocError>
+    ensures { IfOk result (λ next. next_seen next ≡ next_by labels.now got) }
+{
+    match got {
+        Got::Gives(value) => computed_next(alloc, labels, &value),
+        Got::Fails => Ok(Next::Over(Halt::Fault(Fault::Goto))),
+        Got::Halts(halt) => Ok(Next::Over(halt)),
+    }
+}
+
+/// Behind the statement of an index.
+pub(crate) fn following(index: usize) -> Next
+    requires { index + 1 < 2 ^ 63 }
+    ensures { next_seen result ≡ On (At (index + 1)) }
+{
+    Next::On(Point::At(index + 1))
+}
+
+/// The number of the statement of an index: statements are counted from 1.
+pub(crate) fn number_of(index: usize) -> StatementNumber
+    requires { index + 1 < 2 ^ 63 }
+    ensures { result ≡ index + 1 }
+{
+    let number = index + 1;
+    StatementNumber::new(number as u64)
+}
+
+/// What a call gives that came to this: the call is left.
+///
+/// # Errors
+///
+/// Where a growth was refused.
+#[tactic(auto, using(crate::proofs::Counted::counting))]
+pub(crate) fn returned(limits: Limits, got: Got, state: &mut Store) -> Result<Got, AllocError>
+    ensures returned { IfOk result (λ after. (after, state.new) ≡ returned_by limits (got, state.old)) }
+    ensures counted { Counts limits state.old state.new }
+{
+    match got {
+        Got::Gives(_) => {
+            let value = leave(limits, state)?;
+            Ok(Got::Gives(value))
+        }
+        Got::Fails => {
+            leave(limits, state)?;
+            Ok(Got::Fails)
+        }
+        Got::Halts(halt) => Ok(Got::Halts(halt)),
+    }
+}
