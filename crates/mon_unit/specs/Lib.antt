@@ -3,4 +3,5 @@ pub mod Tying
 pub mod Serving
 pub mod Lent
 pub mod Runs
+pub mod Laws
 pub mod inner

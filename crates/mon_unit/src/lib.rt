@@ -4,6 +4,7 @@
 //! one account's program from the units and the data sets that it is lent; what a request means is the function `serve`.
 #![tactic(auto)]
 
+pub mod laws;
 pub mod lists;
 pub mod note;
 pub mod service;
