@@ -1,5 +1,5 @@
-//! Runs the worked programs of `data/`, and prints a line for each: whether what it asks and how it ends are as was
-//! worked out by hand.
+//! Runs the worked programs of `data/`, and prints a line for each where what it asks or how it ends is not as was worked
+//! out by hand, and then how many there were.
 //!
 //! `files.txt` names the files. Behind a title each has its cases, with blank lines between them:
 //!
@@ -69,10 +69,7 @@ fn holds<R: Print + AllocGlobal>(rt: &R, case: &Case<'_>) -> Result<bool>
             println!(rt; "FAILED {name}: {difference}")?;
             Ok(false)
         }
-        None => {
-            println!(rt; "ok {name}")?;
-            Ok(true)
-        }
+        None => Ok(true),
     }
 }
 

@@ -42,8 +42,11 @@ fn answer_of(alloc: Global, line: &str) -> Result<Answer> {
 }
 
 fn record_of(alloc: Global, line: &str) -> Result<Line> {
-    let text = line.strip_prefix("GOT").context("an unknown answer")?;
-    let record = text.strip_prefix(' ').unwrap_or(text);
+    let record = if line == "GOT" {
+        ""
+    } else {
+        line.strip_prefix("GOT ").context("an unknown answer")?
+    };
     Ok(line_of(alloc, record, RECORD_LIMIT)??)
 }
 
