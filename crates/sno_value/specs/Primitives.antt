@@ -1,6 +1,6 @@
 -- The primitive functions that depend on nothing but their arguments (the SNOBOL4 book, chapters 2 and 3; the faults, their
 -- order, REPLACE of nothing by nothing and IDENT of patterns are own).
-use Rattle.std.specs.Prelude.{ℕ, ℤ, pos, negsuc, int_lt, int_le, Bool, false, not, ◌==◌, nat_eq, List, [], ◌∷◌, length, map, reverse, find, zip, codes, Option, Some, None, is_some, slice_get, if◌then◌else◌}
+use Rattle.std.specs.Prelude.{ℕ, ℤ, pos, negsuc, int_lt, int_le, Bool, true, false, not, ◌==◌, nat_eq, List, [], ◌∷◌, length, map, reverse, find, zip, codes, Option, Some, None, is_some, slice_get, if◌then◌else◌}
 use Rattle.std.specs.Option.{option_map_or, unwrap_or}
 use Rattle.std.specs.Ordering.{nat_cmp, int_eq, is_gt}
 use Rattle.std.specs.Cmp.Lexicographic.{pointwise, slice_cmp}
@@ -159,6 +159,16 @@ applied primitive.DataType a b c most = data_type a
 applied (primitive.OfNumber kind) a b c most = of_number kind a
 applied (primitive.OfCharacters kind) a b c most = of_characters kind a
 applied primitive.Arbno a b c most = any_number_of a
+
+-- whether it takes memory: a text, a pattern
+abbrev pub takes_memory : Primitive → Bool
+takes_memory primitive.Size = false
+takes_memory (primitive.Compare comparison) = false
+takes_memory primitive.LexicallyGreater = false
+takes_memory primitive.Identical = false
+takes_memory primitive.Different = false
+takes_memory primitive.Numeric = false
+takes_memory _ = true
 
 -- what it gives for a call's arguments; those beyond what it has are dropped
 abbrev pub primitive_gives : Primitive → List Value → ℕ → Outcome

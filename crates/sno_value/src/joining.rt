@@ -1,8 +1,8 @@
 //! Concatenation and alternation.
-ghost use Rattle.std.specs.Prelude.{◌≡◌, ◌++◌, IfOk};
+ghost use Rattle.std.specs.Prelude.{◌≡◌, ◌++◌, false, IfOk, OnErr};
 ghost use Rattle.mon_text.specs.Lines.{IsLine};
 ghost use Rattle.sno_nodes.specs.Patterns.{Cat};
-ghost use Rattle.sno_value.specs.Values.{text_of, pattern_of};
+ghost use Rattle.sno_value.specs.Values.{is_null, text_of, pattern_of};
 ghost use Rattle.sno_value.specs.Outcomes.{string, pattern};
 ghost use Rattle.sno_value.specs.Operators.{joined, concatenation, alternation};
 
@@ -50,13 +50,15 @@ fn join(alloc: Global, left: &Value, right: &Value, most: u64) -> Result<Outcome
     }
 }
 
-/// Two values one after the other: a string of at most `most` characters, or a pattern. The null string changes nothing.
+/// Two values one after the other: a string of at most `most` characters, or a pattern. The null string changes nothing, and
+/// takes no memory.
 ///
 /// # Errors
 ///
 /// Where a growth was refused.
 pub fn concat(alloc: Global, left: Value, right: Value, most: u64) -> Result<Outcome, AllocError>
-    ensures { IfOk result (λ outcome. outcome ≡ concatenation most left right) }
+    ensures value { IfOk result (λ outcome. outcome ≡ concatenation most left right) }
+    ensures memory { OnErr result ((is_null left ≡ false) × (is_null right ≡ false)) }
 {
     if left.is_null() {
         Ok(Outcome::Gives(right))

@@ -1,7 +1,7 @@
 //! The primitive functions that depend on nothing but their arguments.
-ghost use Rattle.std.specs.Prelude.{◌≡◌, IfOk};
+ghost use Rattle.std.specs.Prelude.{◌≡◌, true, IfOk, OnErr};
 ghost use Rattle.sno_value.specs.Values.{null};
-ghost use Rattle.sno_value.specs.Primitives.{argument, applied, primitive_gives, pattern_function, comparison_function, primitive_named};
+ghost use Rattle.sno_value.specs.Primitives.{argument, applied, takes_memory, primitive_gives, pattern_function, comparison_function, primitive_named};
 
 use crate::outcome::Outcome;
 use crate::patterns::{any_number_of, of_characters, of_number};
@@ -93,7 +93,8 @@ impl Primitive {
         third: &Value,
         most: u64,
     ) -> Result<Outcome, AllocError>
-        ensures { IfOk result (λ outcome. outcome ≡ applied self first.now second.now third.now most) }
+        ensures value { IfOk result (λ outcome. outcome ≡ applied self first.now second.now third.now most) }
+        ensures memory { OnErr result (takes_memory self ≡ true) }
     {
         match self {
             Primitive::Size => Ok(size(first)),
@@ -118,7 +119,8 @@ impl Primitive {
     ///
     /// Where a growth was refused.
     pub fn call(self, alloc: Global, given: &[Value], most: u64) -> Result<Outcome, AllocError>
-        ensures { IfOk result (λ outcome. outcome ≡ primitive_gives self given.now most) }
+        ensures value { IfOk result (λ outcome. outcome ≡ primitive_gives self given.now most) }
+        ensures memory { OnErr result (takes_memory self ≡ true) }
     {
         let null = Value::null();
         let first = argument(given, 0, &null);
