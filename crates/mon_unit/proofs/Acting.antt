@@ -79,11 +79,11 @@ plain_done position change = record { denied = λ reason h. absurd cc; full = λ
 
 plain_on : (account : Account) (act : acting.Act) (set : Option DataSet) → IsPlain (acted_on account act set)
 plain_on account act set = acted_cases IsPlain account act plain_denied (done_cases IsPlain (record {
-      past = plain_past;
-      full = plain_full;
-      got = plain_got;
-      changes = λ position change. plain_done (Some position) (Some change);
-    }) act) set
+  past = plain_past;
+  full = plain_full;
+  got = plain_got;
+  changes = λ position change. plain_done (Some position) (Some change);
+}) act) set
 
 plain_read : (p : ℕ) (o : Option (List ℕ)) → IsPlain (read_at p o)
 plain_read p None = plain_past

@@ -140,8 +140,14 @@ module _ (account : Account) (units : UnitState) (sets : Sets) (p : ℕ) where
   by_guard : (act : Act) (name : List ℕ) (reason : Reason) (a : acting.Act) → AsksGuard act p a → came act (Set name) ≡ acted account a sets name
       → IsDenied act (Set name) reason → Why act (Set name) reason
   by_guard act name reason a asks same h =
-      inr (inr (inr (name, a, refl, asks, ((acts_where_granted account a sets name).denied_where reason).0
-      (sym same ∙ (is_plain account units p (looked (set_at act (Set name)) sets) act (Set name)).denied reason h))))
+      inr (inr (inr (
+        name,
+        a,
+        refl,
+        asks,
+        ((acts_where_granted account a sets name).denied_where reason).0
+            (sym same ∙ (is_plain account units p (looked (set_at act (Set name)) sets) act (Set name)).denied reason h),
+      )))
 
   why : (act : Act) (target : Target) (reason : Reason) → IsDenied act target reason → Why act target reason
   why act Untied reason h = inl (refl, same_reason NoUnit reason h)

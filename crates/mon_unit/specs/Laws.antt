@@ -115,7 +115,7 @@ DenialsSayWhy = (account : Account) (reach : Reach) (q : Request) (reason : Reas
 -- one note more, and nothing else
 abbrev pub IsNotedAlone : Account → Reach → Request → Why → Type 0
 IsNotedAlone account reach q why = (serve account reach q).1 ≡ record reach {
-  units = with_note (record { statement = q.statement; act = note_act q.act; target = note_target (unit_of q.act) (target_of reach.units q); why = why }) reach.units
+  units = with_note (record { statement = q.statement; act = note_act q.act; target = note_target (unit_of q.act) (target_of reach.units q); why = why }) reach.units;
 }
 
 -- what is denied, what there is no room for and what is past the end changes nothing; the first two are noted
