@@ -1,10 +1,11 @@
 -- What is due when a read fails: a line that is longer than any may be is refused wherever it stands, and prints nothing;
 -- so what comes of such a line behind bytes that were read is what is due for their whole lines.
-use Rattle.std.proofs.Common.{◌≡◌, ℕ, zero, suc, ◌+◌, ◌<◌, ◌==◌, ◌&&◌, Bool, true, false, cond, if◌then◌else◌, not, List, [], ◌∷◌, ◌++◌, length, map, Option, Some, None, refl, sym, ap, ◌∙◌, arith, append-nil, length-append}
+use Rattle.std.proofs.Common.{◌≡◌, ℕ, zero, suc, ◌+◌, ◌<◌, ◌==◌, ◌&&◌, Bool, true, false, cond, if◌then◌else◌, not, List, [], ◌∷◌, ◌++◌, length, map, Option, Some, None, ◌⊎◌, inl, inr, take, drop, refl, sym, ap, ◌∙◌, arith, append_assoc, append-nil, length-append}
 use borrow.Author.Tests.{ne_eqb}
 use Rattle.std.specs.List.{slice_split, onto_first}
 use Rattle.std.specs.Str.Lines.{lines, lines_of_parts, strip_carriage_return}
 use Rattle.std.proofs.lemmas.List.Splits.{slice_split-cons_no, slice_split-cons_yes}
+use Rattle.std.proofs.lemmas.List.{length-map, take-append-drop}
 use Rattle.std.proofs.lemmas.List.Folds.{list_all-append}
 use Rattle.mon_text.specs.Lines.{is_blank_line}
 use Rattle.mon_text.specs.Feeding.{is_line_feed, is_inside, has_no_end}
@@ -17,7 +18,10 @@ use Rattle.mon_cards.specs.declared.code.Code.TheVariants.{LineTooLong, Truncate
 use Rattle.mon_cards.specs.declared.list.OpenList.{OpenList}
 use Rattle.mon_cards.specs.declared.request.Request.{Request}
 use Rattle.mon_cards.specs.declared.request.Request.TheVariants.{Nothing, Asks, Opens, Stops}
+use Rattle.mon_catalogue.specs.Sets.{Sets}
 use Rattle.mon_cards.specs.Decks.{Deck, Cards, Ending, Stopped, Refused}
+use Rattle.mon_cards.specs.Laws.{Decides}
+use Rattle.mon_cards.proofs.Standing.{refusals_stand}
 use Rattle.mon_cards.specs.Refusing.{or_else, line_refusal, is_dollar_line}
 use Rattle.mon_cards.specs.Requests.{set_acl_of, with_line, list_line_refusal, stream_refusal, request_on}
 use Rattle.mon_cards.specs.Sections.{and_then, goes_on, requested, stream_section, deck_goes_on, sets_of, ends_catalogue, catalogue_refusal, catalogue_section, accounts_refusal, table_after, accounts_section, opening_refusal, opening_section, deck_of}
@@ -26,12 +30,15 @@ use Rattle.mon_device.proofs.Holding.{holding-nothing}
 use Rattle.mon_feed.specs.declared.feed.DeckFeed.{DeckFeed}
 use Rattle.mon_feed.specs.declared.stage.State.{State}
 use Rattle.mon_feed.specs.declared.stage.State.TheVariants as state
-use Rattle.mon_feed.specs.Feeds.{outcome, outcome_of, Outcome}
+use Rattle.mon_feed.specs.Feeds.{outcome, outcome_of, error_at, is_reading, concluded, sets_left, Outcome, Conclusion, Good, Bad}
+use Rattle.mon_feed.specs.Feeds.{more as after}
 use Rattle.mon_feed.specs.Told.{outcome_from}
-use Rattle.mon_feed.specs.Printouts.{verdict, answer_to}
+use Rattle.mon_feed.specs.Printouts.{verdict, answer_to, output_of}
+use Rattle.mon_feed.specs.declared.stage.Stage.{Stage}
+use Rattle.mon_feed.specs.inner.Counting.{lines_ended}
 use Rattle.mon_feed.proofs.Following.{too_long, list_too_long, long_refused, outcome_refused}
-use Rattle.mon_deck.specs.Runs.{whole_lines, HasPrinted}
-use Rattle.mon_deck.specs.inner.Writing.{Held, Runs}
+use Rattle.mon_deck.specs.Runs.{ending_of, whole_lines, HasAnswered, HasPrinted, HasBrokenOff}
+use Rattle.mon_deck.specs.inner.Writing.{Held, Runs, Stands, Broke}
 
 -- ---- a deck that is refused prints the same wherever and for whatever that is
 
@@ -138,6 +145,7 @@ record Parted (bytes more : List ℕ) : Type 0 where
   all : slice_split is_line_feed (bytes ++ more) ≡ parts ++ last ∷ []
   whole : slice_split is_line_feed (whole_lines bytes) ≡ parts ++ [] ∷ []
   none : is_empty parts ≡ has_no_end bytes
+  count : length parts ≡ lines_ended bytes
 
 no_end_split : (bytes : List ℕ) → has_no_end bytes ≡ true → slice_split is_line_feed bytes ≡ bytes ∷ []
 no_end_split [] inside = refl
@@ -161,7 +169,7 @@ some_part [] some = cc
 some_part (p ∷ ps) some = record { first = p; others = ps; are = refl }
 
 parted : (bytes more : List ℕ) → has_no_end more ≡ true → 5000 < length more → Parted bytes more
-parted [] more inside long = record { parts = []; last = more; long = long; all = no_end_split more inside; whole = refl; none = refl }
+parted [] more inside long = record { parts = []; last = more; long = long; all = no_end_split more inside; whole = refl; none = refl; count = refl }
 parted (c ∷ cs) more inside long = by (is_line_feed c) refl (has_no_end cs) refl (parted cs more inside long)
   where
     kept : Bool → List ℕ
@@ -177,6 +185,7 @@ parted (c ∷ cs) more inside long = by (is_line_feed c) refl (has_no_end cs) re
           all = slice_split-cons_yes is_line_feed c (cs ++ more) feed ∙ ap (λ ps. [] ∷ ps) p.all;
           whole = ap (λ b. slice_split is_line_feed (kept b)) no ∙ slice_split-cons_yes is_line_feed c (whole_lines cs) feed ∙ ap (λ ps. [] ∷ ps) p.whole;
           none = sym no;
+          count = let one = ap (λ b. if b then lines_ended cs + 1 else lines_ended cs) feed in omega (arith, p.count, one);
         }
     by false feed true is p =
         let yes : has_no_end (c ∷ cs) ≡ true = ap (λ b. not b && has_no_end cs) feed ∙ is in
@@ -188,6 +197,7 @@ parted (c ∷ cs) more inside long = by (is_line_feed c) refl (has_no_end cs) re
           all = slice_split-cons_no is_line_feed c (cs ++ more) feed ∙ ap (onto_first c) (p.all ∙ ap (λ ps. ps ++ p.last ∷ []) nothing);
           whole = ap (λ b. slice_split is_line_feed (kept b)) yes;
           none = sym yes;
+          count = let same = ap (λ b. if b then lines_ended cs + 1 else lines_ended cs) feed in omega (arith, p.count, ap length nothing, same);
         }
     by false feed false is p =
         let no : has_no_end (c ∷ cs) ≡ false = ap (λ b. not b && has_no_end cs) feed ∙ is in
@@ -202,6 +212,7 @@ parted (c ∷ cs) more inside long = by (is_line_feed c) refl (has_no_end cs) re
               ∙ slice_split-cons_no is_line_feed c (whole_lines cs) feed
               ∙ ap (onto_first c) (p.whole ∙ ap (λ ps. ps ++ [] ∷ []) some.are);
           none = sym no;
+          count = let same = ap (λ b. if b then lines_ended cs + 1 else lines_ended cs) feed in omega (arith, p.count, ap length some.are, same);
         }
 
 lines_end : (parts : List (List ℕ)) (last : List ℕ) → lines_of_parts (parts ++ last ∷ []) ≡ map strip_carriage_return parts ++ (if length last == 0 then [] else last ∷ [])
@@ -209,11 +220,42 @@ lines_end [] last = refl
 lines_end (p ∷ []) last = refl
 lines_end (p ∷ q ∷ ps) last = ap (λ ls. strip_carriage_return p ∷ ls) (lines_end (q ∷ ps) last)
 
+-- ---- how a deck comes out at such a line
+
+bad_before : (count : ℕ) (c : Conclusion) (n : ℕ) (code : Code) → after count c ≡ Bad n code → c ≡ Bad n code
+bad_before count (Good others sets) n code e = cc
+bad_before count (Bad m other) n code e = e
+
+abbrev place_in : Conclusion → ℕ
+place_in (Good count sets) = 0
+place_in (Bad n code) = n
+
+refused_at_line : (check : Bool) (stage : Stage) (k : ℕ) (line : List ℕ) → 5000 < length line → (outcome check (state.Reading stage) k (line ∷ [])).conclusion ≡ Bad k LineTooLong
+refused_at_line check stage k line over = ap (λ (o : Outcome). o.conclusion) (ap (outcome_of check) (long_refused stage k line [] over) ∙ outcome_refused check stage k LineTooLong)
+
+refused_there : (check : Bool) (s : State) (k : ℕ) (line : List ℕ) → 5000 < length line → error_at s ≡ None → (n : ℕ) (code : Code) → (outcome check s k (line ∷ [])).conclusion ≡ Bad n code
+    → (is_reading s ≡ true) × (n ≡ k)
+refused_there check (state.Reading stage) k line over sound n code bad = (refl, ap place_in (sym bad ∙ refused_at_line check stage k line over))
+refused_there check (state.Stopped w) k line over sound n code bad = cc
+refused_there check (state.Refused m other) k line over sound n code bad = cc
+refused_there check state.NoMemory k line over sound n code bad = cc
+
+never_good : (check : Bool) (s : State) (k : ℕ) (line : List ℕ) → 5000 < length line → is_reading s ≡ true → (count others : ℕ) (sets : Sets) → after count (outcome check s k (line ∷ [])).conclusion ≡ Good others sets → ⊥
+never_good check (state.Reading stage) k line over reading count others sets good =
+    let never : Bad k LineTooLong ≡ Good others sets = sym (ap (after count) (refused_at_line check stage k line over)) ∙ good in cc
+never_good check (state.Stopped w) k line over reading count others sets good = cc
+never_good check (state.Refused m code) k line over reading count others sets good = cc
+never_good check state.NoMemory k line over reading count others sets good = cc
+
+was_stopped : (e : Ending) → blunt_ending e ≡ Stopped → e ≡ Stopped
+was_stopped Stopped same = refl
+was_stopped (Refused n code) same = cc
+
 -- ---- what is due
 
 module _ (more : List ℕ) (inside : has_no_end more ≡ true) (long : 5000 < length more) where
   -- behind any bytes there is one line more than their whole lines
-  one_line_more : (bytes : List ℕ) → (last : List ℕ) × (5000 < length last) × (lines (bytes ++ more) ≡ lines (whole_lines bytes) ++ last ∷ [])
+  one_line_more : (bytes : List ℕ) → (last : List ℕ) × (5000 < length last) × (lines (bytes ++ more) ≡ lines (whole_lines bytes) ++ last ∷ []) × (length (lines (whole_lines bytes)) ≡ lines_ended bytes)
   one_line_more bytes =
       let p = parted bytes more inside long in
       let full : (length p.last == 0) ≡ false = ne_eqb (length p.last) 0 (omega (arith, p.long)) in
@@ -225,6 +267,7 @@ module _ (more : List ℕ) (inside : has_no_end more ≡ true) (long : 5000 < le
             ∙ lines_end p.parts p.last
             ∙ ap (λ b. map strip_carriage_return p.parts ++ (if b then [] else p.last ∷ [])) full
             ∙ ap (λ ls. ls ++ p.last ∷ []) whole,
+        omega (arith, ap length whole, length-map p.parts strip_carriage_return, p.count),
       )
 
   -- and a feed prints nothing of it
@@ -235,34 +278,95 @@ module _ (more : List ℕ) (inside : has_no_end more ≡ true) (long : 5000 < le
   silent_line check (state.Refused m code) n line over = refl
   silent_line check state.NoMemory n line over = refl
 
+  -- the line that a feed has then
+  one_last : (f : DeckFeed) → lines (f.line ++ more) ≡ (f.line ++ more) ∷ []
+  one_last f =
+      let line = f.line ++ more in
+      let full : (length line == 0) ≡ false = ne_eqb (length line) 0 (omega (arith, long, length-append f.line more)) in
+      last_line line (list_all-append is_inside f.line more ∙ ap (λ b. b && has_no_end more) f.unended ∙ inside) ∙ ap (λ b. cond b [] (line ∷ [])) full
+
+  too_many : (f : DeckFeed) → 5000 < length (f.line ++ more)
+  too_many f = omega (arith, long, length-append f.line more)
+
   silent : (f : DeckFeed) → (outcome_from f more).written ≡ []
   silent f =
-      let line = f.line ++ more in
-      let over : 5000 < length line = omega (arith, long, length-append f.line more) in
-      let full : (length line == 0) ≡ false = ne_eqb (length line) 0 (omega (arith, over)) in
-      let one : lines line ≡ line ∷ [] = last_line line (list_all-append is_inside f.line more ∙ ap (λ b. b && has_no_end more) f.unended ∙ inside) ∙ ap (λ b. cond b [] (line ∷ [])) full in
-      ap (λ ls. (outcome f.options.check f.state (f.lines_taken + 1) ls).written) one ∙ silent_line f.options.check f.state (f.lines_taken + 1) line over
+      ap (λ ls. (outcome f.options.check f.state (f.lines_taken + 1) ls).written) (one_last f) ∙ silent_line f.options.check f.state (f.lines_taken + 1) (f.line ++ more) (too_many f)
 
-  due_by : (check : Bool) (told left held now : Option (List ℕ)) (start f : DeckFeed) (given : List ℕ)
-      → ((bytes : List ℕ) → outcome_from start bytes ≡ outcome_of check (deck_of (lines bytes))) → Runs told left held now start f given → HasPrinted check told left held now
-  due_by check told left held now start f given begin runs =
-      let one = one_line_more given in (
-        given,
-        runs.so_far.gives,
+  -- how it comes out
+  last_conclusion : (f : DeckFeed) → (outcome_from f more).conclusion ≡ after f.commands (outcome f.options.check f.state (f.lines_taken + 1) ((f.line ++ more) ∷ [])).conclusion
+  last_conclusion f = ap (λ ls. after f.commands (outcome f.options.check f.state (f.lines_taken + 1) ls).conclusion) (one_last f)
+
+  module _ (check : Bool) (held now : Option (List ℕ)) (start f : DeckFeed) (given : List ℕ) (begin : (bytes : List ℕ) → outcome_from start bytes ≡ outcome_of check (deck_of (lines bytes)))
+      (stands : Stands held now [] start f given) where
+    abbrev whole : List (List ℕ)
+    whole = lines (whole_lines given)
+
+    abbrev longer : Deck
+    longer = deck_of (lines (given ++ more))
+
+    printed : now ≡ holding held (output_of check (whole_lines given))
+    printed =
+        let one = one_line_more given in
         sym (holding-nothing now)
-            ∙ ap (holding now) (sym (silent f))
-            ∙ ap (λ (h : Held). h.bytes) (runs.served more)
-            ∙ ap (λ (o : Outcome). holding held o.written) (begin (given ++ more))
-            ∙ ap (λ ls. holding held (answer_to check (deck_of ls))) one.2
-            ∙ ap (holding held) (answer_same one.0 one.1 check (lines (whole_lines given))),
-      )
+        ∙ ap (holding now) (sym (silent f))
+        ∙ ap (λ (h : Held). h.bytes) (stands.served more)
+        ∙ ap (λ (o : Outcome). holding held o.written) (begin (given ++ more))
+        ∙ ap (λ ls. holding held (answer_to check (deck_of ls))) one.2
+        ∙ ap (holding held) (answer_same one.0 one.1 check whole)
+
+    comes_out : (outcome_from f more).conclusion ≡ concluded (length longer.cards.commands) (sets_left check longer) longer.cards.ending
+    comes_out = ap (λ (h : Held). h.conclusion) (stands.served more) ∙ ap (λ (o : Outcome). o.conclusion) (begin (given ++ more))
+
+    -- a line that was read whole was not refused
+    never_refused : (n : ℕ) (code : Code) → ending_of (whole_lines given) ≡ Refused n code → Decides n whole → ⊥
+    never_refused n code refused decides =
+        let one = one_line_more given in
+        let apart : whole ++ one.0 ∷ [] ≡ take n whole ++ (drop n whole ++ one.0 ∷ []) =
+        ap (λ ls. ls ++ one.0 ∷ []) (sym (take-append-drop n whole)) ∙ append_assoc (take n whole) (drop n whole) (one.0 ∷ []) in
+        let same : longer ≡ deck_of whole = ap deck_of (one.2 ∙ apart) ∙ decides.whatever_follows (drop n whole ++ one.0 ∷ []) in
+        let bad : (outcome_from f more).conclusion ≡ Bad n code =
+        comes_out ∙ ap (λ (e : Ending). concluded (length longer.cards.commands) (sets_left check longer) e) (ap (λ (d : Deck). d.cards.ending) same ∙ refused) in
+        let at = refused_there f.options.check f.state (f.lines_taken + 1) (f.line ++ more) (too_many f) stands.sound n code (bad_before f.commands _ n code (sym (last_conclusion f) ∙ bad)) in
+        let count = (stands.counted at.0).1 in
+        absurd (omega (arith, count, at.1, decides.within, one.3))
+
+    answered : HasAnswered check held now given
+    answered = record { written = printed; unrefused = λ n code refused. by n code refused (refusals_stand whole n code refused) }
+      where
+        by : (n : ℕ) (code : Code) → ending_of (whole_lines given) ≡ Refused n code → Decides n whole ⊎ ((n ≡ length whole + 1) × (code ≡ Truncated)) → code ≡ Truncated
+        by n code refused (inl decides) = absurd (never_refused n code refused decides)
+        by n code refused (inr last) = last.1
+
+    -- where a deck is still read, its `$STOP` was not
+    not_stopped : is_reading f.state ≡ true → ending_of (whole_lines given) ≡ Stopped → ⊥
+    not_stopped reading stopped =
+        let one = one_line_more given in
+        let blunt_same : blunt_ending longer.cards.ending ≡ Stopped =
+        ap (λ ls. blunt_ending (deck_of ls).cards.ending) one.2 ∙ ap (λ (d : Deck). d.cards.ending) (opening_same one.0 one.1 whole 1) ∙ ap blunt_ending stopped in
+        let good : (outcome_from f more).conclusion ≡ Good (length longer.cards.commands) (sets_left check longer) =
+        comes_out ∙ ap (λ (e : Ending). concluded (length longer.cards.commands) (sets_left check longer) e) (was_stopped longer.cards.ending blunt_same) in
+        never_good f.options.check f.state (f.lines_taken + 1) (f.line ++ more) (too_many f) reading f.commands _ _ (sym (last_conclusion f) ∙ good)
 
 long_bytes : (n : ℕ) → (bytes : List ℕ) × (length bytes ≡ n) × (has_no_end bytes ≡ true)
 long_bytes zero = ([], refl, refl)
 long_bytes (suc n) = let rest = long_bytes n in (120 ∷ rest.0, omega (arith, rest.1), rest.2)
 
-pub due : (check : Bool) (told left held now : Option (List ℕ)) (start f : DeckFeed) (given : List ℕ)
-    → ((bytes : List ℕ) → outcome_from start bytes ≡ outcome_of check (deck_of (lines bytes))) → Runs told left held now start f given → HasPrinted check told left held now
-due check told left held now start f given begin runs =
-    let bytes = long_bytes 5001 in
-    due_by bytes.0 bytes.2 (omega (arith, bytes.1)) check told left held now start f given begin runs
+module _ (check : Bool) (told left held now : Option (List ℕ)) (start : DeckFeed) (given : List ℕ) (begin : (bytes : List ℕ) → outcome_from start bytes ≡ outcome_of check (deck_of (lines bytes))) where
+  pub due : (f : DeckFeed) → Runs told left held now start f given → HasPrinted check told left held now
+  due f runs =
+      let bytes = long_bytes 5001 in
+      (given, runs.so_far.gives, answered bytes.0 bytes.2 (omega (arith, bytes.1)) check held now start f given begin runs.stands)
+
+  pub broken_off : Broke told left held now start given → HasBrokenOff check told left held now
+  broken_off broke =
+      let bytes = long_bytes 5001 in
+      let b = broke.broke in
+      let long : 5000 < length bytes.0 = omega (arith, bytes.1) in (
+        given,
+        b.front,
+        b.back,
+        broke.gives,
+        b.are,
+        answered bytes.0 bytes.2 long check held now start b.feed b.front begin b.stands,
+        not_stopped bytes.0 bytes.2 long check held now start b.feed b.front begin b.stands b.reading,
+      )

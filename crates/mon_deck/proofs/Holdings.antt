@@ -1,15 +1,18 @@
 -- What a writer holds after what was gathered, and what is still to come.
-use Rattle.std.proofs.Common.{◌≡◌, ℕ, List, [], ◌++◌, Option, Some, None, refl, sym, ap, ◌∙◌, append_assoc}
-use Rattle.std.proofs.lemmas.List.{append_cancel_left}
+use Rattle.std.proofs.Common.{◌≡◌, ◌≤◌, ◌+◌, ℕ, true, List, [], ◌++◌, take, drop, Option, Some, None, refl, sym, ap, subst, ◌∙◌, arith, append_assoc, append-nil}
+use Rattle.std.proofs.lemmas.List.{append_cancel_left, take-append-drop}
 use Rattle.mon_device.specs.Devices.{holding}
 use Rattle.mon_device.proofs.Holding.{holding-append, holding-nothing}
 use Rattle.mon_cards.specs.declared.code.Code.{Code}
 use Rattle.mon_feed.specs.declared.feed.DeckFeed.{DeckFeed}
-use Rattle.mon_feed.specs.Feeds.{Outcome, behind, refused_at, Bad}
-use Rattle.mon_feed.specs.Told.{told}
-use Rattle.mon_feed.specs.Feeds.{Begins}
+use Rattle.mon_feed.specs.Feeds.{Outcome, behind, refused_at, Bad, Begins, is_reading, error_at, may_grow}
+use Rattle.mon_feed.specs.declared.stage.State.{State}
+use Rattle.mon_feed.specs.declared.stage.State.TheVariants as state
+use Rattle.mon_feed.specs.Told.{told, outcome_from}
+use Rattle.mon_feed.specs.inner.Counting.{lines_ended}
+use Rattle.mon_feed.proofs.Parts.{ended_further}
 use Rattle.mon_deck.specs.Runs.{HoldsBeginning}
-use Rattle.mon_deck.specs.inner.Writing.{Held, holds, HasGrown}
+use Rattle.mon_deck.specs.inner.Writing.{Held, holds, HasGrown, Stands, BrokeOff}
 
 pub kept : (w w' : Option (List ℕ)) (out out' x : List ℕ) → holding w' out' ≡ holding w out → holding w' (out' ++ x) ≡ holding w (out ++ x)
 kept w w' out out' x same = sym (holding-append w' out' x) ∙ ap (λ h. holding h x) same ∙ holding-append w out x
@@ -83,3 +86,106 @@ pub grown_held : (held mid now : Option (List ℕ)) (before later : Outcome) →
 grown_held held mid now before later grown same further =
     let bytes = ap (λ (h : Held). h.bytes) same in
     held_further held mid now before.written later.written (grown_begins held mid before.written later.written grown bytes) bytes further
+
+-- ---- where a feed stands
+
+pub no_error : (s : State) → is_reading s ≡ true → error_at s ≡ None
+no_error (state.Reading stage) reading = refl
+no_error (state.Stopped w) reading = cc
+no_error (state.Refused n code) reading = cc
+no_error state.NoMemory reading = cc
+
+-- where memory ran out, the deck was still read
+pub still_read : (s : State) (bytes : List ℕ) → error_at s ≡ None → may_grow s bytes ≡ true → is_reading s ≡ true
+still_read (state.Reading stage) bytes sound grows = refl
+still_read (state.Stopped w) bytes sound grows = cc
+still_read (state.Refused n code) bytes sound grows = cc
+still_read state.NoMemory bytes sound grows = cc
+
+pub stands_at_start : (held : Option (List ℕ)) (gathered : List ℕ) (f : DeckFeed) → gathered ≡ [] → error_at f.state ≡ None → Stands held held gathered f f []
+stands_at_start held gathered f empty sound = record {
+  served = λ bytes. ap (λ (out : List ℕ). holds held (told out f bytes)) empty;
+  counted = λ reading. (reading, omega arith);
+  sound = sound;
+}
+
+-- another part was taken
+pub stands_further : (held mid now : Option (List ℕ)) (gathered : List ℕ) (start f g : DeckFeed) (given piece : List ℕ)
+    → Stands held mid [] start f given → Stands mid now gathered f g piece → Stands held now gathered start g (given ++ piece)
+stands_further held mid now gathered start f g given piece first then = record {
+  served = λ bytes. then.served bytes ∙ first.served (piece ++ bytes) ∙ ap (λ (v : List ℕ). holds held (outcome_from start v)) (sym (append_assoc given piece bytes));
+  counted = λ reading.
+      let here = then.counted reading in
+      let before = first.counted here.0 in
+      (before.0, omega (arith, here.1, before.1, ended_further given piece));
+  sound = then.sound;
+}
+
+-- a line was taken, with what was gathered
+pub stands_on : (held mid now : Option (List ℕ)) (out out' : List ℕ) (start f g : DeckFeed) (front part : List ℕ)
+    → Stands held mid out start f front
+    → ((bytes : List ℕ) → holds now (told out' g bytes) ≡ holds mid (told out f (part ++ bytes)))
+    → (is_reading g.state ≡ true → (is_reading f.state ≡ true) × (f.lines_taken + lines_ended part ≤ g.lines_taken))
+    → error_at g.state ≡ None → Stands held now out' start g (front ++ part)
+stands_on held mid now out out' start f g front part first served counted sound = record {
+  served = λ bytes. served bytes ∙ first.served (part ++ bytes) ∙ ap (λ (v : List ℕ). holds held (outcome_from start v)) (sym (append_assoc front part bytes));
+  counted = λ reading.
+      let here = counted reading in
+      let before = first.counted here.0 in
+      (before.0, omega (arith, here.1, before.1, ended_further front part));
+  sound = sound;
+}
+
+-- what was gathered was written
+pub stands_written : (held mid now : Option (List ℕ)) (out out' : List ℕ) (start f : DeckFeed) (front : List ℕ) → holding now out' ≡ holding mid out
+    → Stands held mid out start f front → Stands held now out' start f front
+stands_written held mid now out out' start f front put stands = record {
+  served = λ bytes. kept_told mid now out out' put f bytes ∙ stands.served bytes;
+  counted = stands.counted;
+  sound = stands.sound;
+}
+
+-- so much of a piece was taken, and the rest is to come
+pub record Far (held now : Option (List ℕ)) (out : List ℕ) (start f : DeckFeed) (piece rest : List ℕ) : Type 0 where
+  pub front : List ℕ
+  pub are : piece ≡ front ++ rest
+  pub stands : Stands held now out start f front
+
+pub far_at_start : (held : Option (List ℕ)) (out : List ℕ) (f : DeckFeed) (piece : List ℕ) → out ≡ [] → error_at f.state ≡ None → Far held held out f f piece piece
+far_at_start held out f piece empty sound = record { front = []; are = refl; stands = stands_at_start held out f empty sound }
+
+pub far_served : (held now : Option (List ℕ)) (out : List ℕ) (start f : DeckFeed) (piece rest : List ℕ) → Far held now out start f piece rest
+    → (bytes : List ℕ) → holds now (told out f (rest ++ bytes)) ≡ holds held (outcome_from start (piece ++ bytes))
+far_served held now out start f piece rest far bytes =
+    far.stands.served (rest ++ bytes)
+    ∙ ap (λ (v : List ℕ). holds held (outcome_from start v)) (sym (append_assoc far.front rest bytes) ∙ ap (λ v. v ++ bytes) (sym far.are))
+
+pub further : (held mid now : Option (List ℕ)) (out out' : List ℕ) (start f g : DeckFeed) (piece rest : List ℕ) (used : ℕ) → Far held mid out start f piece rest
+    → ((bytes : List ℕ) → holds now (told out' g bytes) ≡ holds mid (told out f (take used rest ++ bytes)))
+    → (is_reading g.state ≡ true → (is_reading f.state ≡ true) × (f.lines_taken + lines_ended (take used rest) ≤ g.lines_taken))
+    → error_at g.state ≡ None → Far held now out' start g piece (drop used rest)
+further held mid now out out' start f g piece rest used far served counted sound = record {
+  front = far.front ++ take used rest;
+  are = far.are ∙ ap (λ v. far.front ++ v) (sym (take-append-drop used rest)) ∙ sym (append_assoc far.front (take used rest) (drop used rest));
+  stands = stands_on held mid now out out' start f g far.front (take used rest) far.stands served counted sound;
+}
+
+-- the whole piece was taken, and all that was gathered is written
+pub all_taken : (held mid now : Option (List ℕ)) (out out' : List ℕ) (start f : DeckFeed) (piece rest : List ℕ) → Far held mid out start f piece rest → rest ≡ []
+    → holding now out' ≡ holding mid out → out' ≡ [] → Stands held now [] start f piece
+all_taken held mid now out out' start f piece rest far none put empty =
+    let same : piece ≡ far.front = far.are ∙ ap (λ v. far.front ++ v) none ∙ append-nil far.front in
+    subst (λ (v : List ℕ). Stands held now [] start f v) (sym same)
+    (subst (λ (o : List ℕ). Stands held now o start f far.front) empty (stands_written held mid now out out' start f far.front put far.stands))
+
+-- memory ran out at a line
+pub breaks_off : (held mid now : Option (List ℕ)) (out : List ℕ) (start f : DeckFeed) (piece rest : List ℕ) → Far held mid out start f piece rest
+    → is_reading f.state ≡ true → now ≡ holding mid out → BrokeOff held now start piece
+breaks_off held mid now out start f piece rest far reading all = record {
+  front = far.front;
+  back = rest;
+  are = far.are;
+  feed = f;
+  stands = stands_written held mid now out [] start f far.front (holding-nothing now ∙ all) far.stands;
+  reading = reading;
+}

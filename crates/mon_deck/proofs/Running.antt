@@ -1,5 +1,5 @@
 -- A run, read by read.
-use Rattle.std.proofs.Common.{◌≡◌, ℕ, Bool, false, List, [], ◌++◌, length, Option, Some, None, IfSome, IfOk, OnOk, OnErr, Result, Ok, Err, refl, sym, ap, ◌∙◌, subst, append_assoc, if◌then◌else◌, ◌+◌, arith}
+use Rattle.std.proofs.Common.{◌≡◌, ℕ, Bool, true, false, List, [], ◌++◌, length, Option, Some, None, IfSome, IfOk, OnOk, OnErr, Result, Ok, Err, refl, sym, ap, ◌∙◌, subst, append_assoc, append-nil, if◌then◌else◌, ◌+◌, arith}
 use Rattle.std.proofs.lemmas.Bool.Decides.{nat_tests}
 use Rattle.std.specs.Str.Lines.{lines}
 use Rattle.mon_catalogue.specs.Sets.{Sets}
@@ -8,16 +8,16 @@ use Rattle.mon_device.proofs.Holding.{holding-nothing}
 use Rattle.mon_cards.specs.declared.code.Code.{Code}
 use Rattle.mon_feed.specs.declared.feed.DeckFeed.{DeckFeed}
 use Rattle.mon_feed.specs.declared.fault.RunError.{RunError}
-use Rattle.mon_feed.specs.declared.fault.RunError.TheVariants.{ReadFault}
+use Rattle.mon_feed.specs.declared.fault.RunError.TheVariants.{ReadFault, Memory}
 use Rattle.mon_feed.specs.declared.options.Counts.{Counts}
 use Rattle.mon_cards.specs.Decks.{Deck, Ending, Stopped, Refused}
 use Rattle.mon_cards.specs.Sections.{deck_of}
 use Rattle.mon_feed.specs.Printouts.{output_of, sets_after, ReadsBack}
 use Rattle.mon_deck.specs.Runs.{ending_of, catalogue_after, counts_of, HoldsBeginning, HasBegun}
-use Rattle.mon_feed.specs.Feeds.{outcome_of, refused_at, IsReadBack, concluded, sets_left, Outcome, Conclusion, Good, Bad}
+use Rattle.mon_feed.specs.Feeds.{outcome_of, refused_at, is_reading, IsReadBack, concluded, sets_left, Outcome, Conclusion, Good, Bad}
 use Rattle.mon_feed.specs.Told.{outcome_from}
-use Rattle.mon_deck.specs.inner.Writing.{Held, holds, Begun, Runs}
-use Rattle.mon_deck.proofs.Holdings.{nothing_held, held_further}
+use Rattle.mon_deck.specs.inner.Writing.{Held, holds, Begun, Runs, Stands, BrokeOff, Broke}
+use Rattle.mon_deck.proofs.Holdings.{nothing_held, held_further, no_error, stands_at_start, stands_further}
 
 gives_nothing : (told : Option (List ℕ)) → Gives told [] told
 gives_nothing None = tt
@@ -33,12 +33,26 @@ gives_more (Some all) (Some left) (Some after) given piece a b = a ∙ ap (λ v.
 pub begun_at_start : (told held : Option (List ℕ)) (f : DeckFeed) → Begun told told held held f []
 begun_at_start told held f = record { gives = gives_nothing told; begun = λ bytes. nothing_held held (outcome_from f bytes).written }
 
-pub begins : (told held : Option (List ℕ)) (f : DeckFeed) → Runs told told held held f f []
-begins told held f = record { so_far = begun_at_start told held f; served = λ bytes. refl }
+pub begins : (told held : Option (List ℕ)) (f : DeckFeed) → is_reading f.state ≡ true → Runs told told held held f f []
+begins told held f reading = record { so_far = begun_at_start told held f; stands = stands_at_start held [] f refl (no_error f.state reading) }
 
 -- a read fault of another call
 pub fault_so : {T U : Type 0} (error : RunError) → ◌≡◌ {A = Result T RunError} (Err error) (Err ReadFault) → ◌≡◌ {A = Result U RunError} (Err error) (Err ReadFault)
 fault_so error same = let is : error ≡ ReadFault = cc in ap Err is
+
+-- nothing was read, and the run broke off
+pub broke_at_start : (told held : Option (List ℕ)) (f : DeckFeed) → is_reading f.state ≡ true → (all : List ℕ) × Broke told told held held f all
+broke_at_start told held f reading = (
+  [],
+  record {
+    gives = gives_nothing told;
+    broke = record { front = []; back = []; are = refl; feed = f; stands = stands_at_start held [] f refl (no_error f.state reading); reading = reading };
+  },
+)
+
+-- want of memory in another call
+pub memory_so : {T U : Type 0} (error : RunError) → ◌≡◌ {A = Result T RunError} (Err error) (Err Memory) → ◌≡◌ {A = Result U RunError} (Err error) (Err Memory)
+memory_so error same = let is : error ≡ Memory = cc in ap Err is
 
 -- reads are counted
 pub none_read : (reads : ℕ) → HasRead 0 reads reads
@@ -47,12 +61,25 @@ none_read reads = grind (arith, nat_tests)
 pub read_once : (count before now after : ℕ) → HasRead count before now → after ≡ one_more now → HasRead (count + 1) before after
 read_once count before now after so_far more = grind (arith, nat_tests, so_far, more)
 
--- nothing more was given
-pub runs_same : (told left after held now : Option (List ℕ)) (start f : DeckFeed) (given : List ℕ) → after ≡ left → Runs told left held now start f given → Runs told after held now start f given
-runs_same told left after held now start f given same runs = subst (λ l. Runs told l held now start f given) (sym same) runs
+-- what a device tells of itself stays
+pub at_read : (told left held now now' : Option (List ℕ)) (start f : DeckFeed) (given : List ℕ) → now' ≡ now → Runs told left held now start f given → Runs told left held now' start f given
+at_read told left held now now' start f given same runs = subst (λ (n : Option (List ℕ)). Runs told left held n start f given) (sym same) runs
 
-pub left_same : (told left after held now : Option (List ℕ)) (start : DeckFeed) (given : List ℕ) → after ≡ left → Begun told left held now start given → Begun told after held now start given
-left_same told left after held now start given same begun = record { gives = subst (λ l. Gives told given l) (sym same) begun.gives; begun = begun.begun }
+pub runs_same : (told left after held now : Option (List ℕ)) (start f : DeckFeed) (given : List ℕ) → after ≡ left → Runs told left held now start f given → Runs told after held now start f given
+runs_same told left after held now start f given same runs = subst (λ (l : Option (List ℕ)). Runs told l held now start f given) (sym same) runs
+
+-- the reader gave nothing more
+pub none_given : (told left after held now : Option (List ℕ)) (start f : DeckFeed) (given piece : List ℕ) → piece ≡ [] → Gives left piece after → Runs told left held now start f given → Runs told after held now start f given
+none_given told left after held now start f given piece none gives runs = record {
+  so_far = record {
+    gives = subst (λ v. Gives told v after) (ap (λ p. given ++ p) none ∙ append-nil given) (gives_more told left after given piece runs.so_far.gives gives);
+    begun = runs.so_far.begun;
+  };
+  stands = runs.stands;
+}
+
+pub given_same : (told left after : Option (List ℕ)) (given : List ℕ) → after ≡ left → Gives told given left → Gives told given after
+given_same told left after given same gives = subst (λ (l : Option (List ℕ)). Gives told given l) (sym same) gives
 
 module _ (told left held now : Option (List ℕ)) (start f : DeckFeed) (given : List ℕ) (runs : Runs told left held now start f given) where
   -- another piece was read, and a beginning of what comes of it was written
@@ -65,17 +92,52 @@ module _ (told left held now : Option (List ℕ)) (start f : DeckFeed) (given : 
         let text = λ (v : List ℕ). (outcome_from start v).written in
         subst (λ v. HoldsBeginning held now' (text v)) (sym (append_assoc given piece bytes))
         (held_further held now now' (text (given ++ (piece ++ bytes))) (outcome_from f (piece ++ bytes)).written (runs.so_far.begun (piece ++ bytes))
-        (ap (λ (h : Held). h.bytes) (runs.served (piece ++ bytes))) (step bytes));
+        (ap (λ (h : Held). h.bytes) (runs.stands.served (piece ++ bytes))) (step bytes));
   }
 
   pub goes_on : (piece : List ℕ) (after now' : Option (List ℕ)) (f' : DeckFeed) → Gives left piece after
-      → ((bytes : List ℕ) → holds now' (outcome_from f' bytes) ≡ holds now (outcome_from f (piece ++ bytes)))
+      → Stands now now' [] f f' piece
       → ((bytes : List ℕ) → HoldsBeginning now now' (outcome_from f (piece ++ bytes)).written)
       → Runs told after held now' start f' (given ++ piece)
   goes_on piece after now' f' gives step written = record {
     so_far = begun_further piece after now' gives written;
-    served = λ bytes. step bytes ∙ runs.served (piece ++ bytes) ∙ ap (λ v. holds held (outcome_from start v)) (sym (append_assoc given piece bytes));
+    stands = stands_further held now now' [] start f f' given piece runs.stands step;
   }
+
+  -- the run broke off within another piece
+  pub broke_within : (piece : List ℕ) (after now' : Option (List ℕ)) → Gives left piece after → BrokeOff now now' f piece
+      → (all : List ℕ) × Broke told after held now' start all
+  broke_within piece after now' gives broke = (
+    given ++ piece,
+    record {
+      gives = gives_more told left after given piece runs.so_far.gives gives;
+      broke = record {
+        front = given ++ broke.front;
+        back = broke.back;
+        are = ap (λ v. given ++ v) broke.are ∙ sym (append_assoc given broke.front broke.back);
+        feed = broke.feed;
+        stands = stands_further held now now' [] start f broke.feed given broke.front runs.stands broke.stands;
+        reading = broke.reading;
+      };
+    },
+  )
+
+  -- or behind all that was given
+  pub broke_behind : (now' : Option (List ℕ)) → now' ≡ now → is_reading f.state ≡ true → (all : List ℕ) × Broke told left held now' start all
+  broke_behind now' same reading = (
+    given,
+    record {
+      gives = runs.so_far.gives;
+      broke = record {
+        front = given;
+        back = [];
+        are = sym (append-nil given);
+        feed = f;
+        stands = subst (λ (n : Option (List ℕ)). Stands held n [] start f given) (sym same) runs.stands;
+        reading = reading;
+      };
+    },
+  )
 
   -- the reader is at its end
   pub whole : IsAtEnd left → (o : Held) → o ≡ holds now (outcome_from f []) → IfSome told (λ bytes. o ≡ holds held (outcome_from start bytes))
@@ -84,7 +146,7 @@ module _ (told left held now : Option (List ℕ)) (start f : DeckFeed) (given : 
       by : (t l : Option (List ℕ)) → Gives t given l → IsAtEnd l → IfSome t (λ bytes. o ≡ holds held (outcome_from start bytes))
       by None l g e = tt
       by (Some all) None g e = absurd g
-      by (Some all) (Some rest) g e = is ∙ runs.served [] ∙ ap (λ v. holds held (outcome_from start v)) (ap (λ v. given ++ v) (sym e) ∙ sym g)
+      by (Some all) (Some rest) g e = is ∙ runs.stands.served [] ∙ ap (λ v. holds held (outcome_from start v)) (ap (λ v. given ++ v) (sym e) ∙ sym g)
 
   -- the deck is refused in the middle, whatever follows
   pub midway : (piece : List ℕ) (after : Option (List ℕ)) → Gives left piece after → (o : Held) → ((bytes : List ℕ) → o ≡ holds now (outcome_from f (piece ++ bytes)))
@@ -96,7 +158,7 @@ module _ (told left held now : Option (List ℕ)) (start f : DeckFeed) (given : 
       by (Some all) None a g h = absurd g
       by (Some all) (Some rest) None g h = absurd h
       by (Some all) (Some rest) (Some more) g h =
-          is more ∙ runs.served (piece ++ more) ∙ ap (λ v. holds held (outcome_from start v)) (ap (λ v. given ++ v) (sym h) ∙ sym g)
+          is more ∙ runs.stands.served (piece ++ more) ∙ ap (λ v. holds held (outcome_from start v)) (ap (λ v. given ++ v) (sym h) ∙ sym g)
 
 -- how a deck came out
 abbrev count_of : Conclusion → ℕ
@@ -197,7 +259,7 @@ module _ (check : Bool) (told left held now : Option (List ℕ)) (start : DeckFe
     runs.so_far.gives,
     λ more none.
         let last : HoldsBeginning held now' (outcome_from start (given ++ [])).written =
-        held_further held now now' (outcome_from start (given ++ [])).written (outcome_from f []).written (runs.so_far.begun []) (ap (λ (h : Held). h.bytes) (runs.served [])) written in
+        held_further held now now' (outcome_from start (given ++ [])).written (outcome_from f []).written (runs.so_far.begun []) (ap (λ (h : Held). h.bytes) (runs.stands.served [])) written in
         subst (λ v. HoldsBeginning held now' (output_of check (given ++ v))) (sym (none end))
         (subst (λ (o : Outcome). HoldsBeginning held now' o.written) (begin (given ++ [])) last),
   )

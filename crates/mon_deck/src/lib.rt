@@ -5,6 +5,9 @@ pub mod laws;
 pub mod run;
 
 pub use mon_cards::Code;
-pub use mon_device::{DeckReader, DeckWriter, Failed, MemReader, MemWriter, StdReader, StdWriter};
+pub use mon_device::{
+    DeckDevices, DeckReader, DeckWriter, Devices, Failed, MemReader, MemWriter, StdReader,
+    StdWriter,
+};
 pub use mon_feed::{Counts, DeckFeed, Options, RunError, Slots};
 pub use run::{exit_status, put_fault, run_deck};

@@ -1,18 +1,19 @@
 //! A whole run: a deck is read piece by piece, and answered card by card.
-ghost use Rattle.std.specs.Prelude.{◌≡◌, ◌++◌, ◌<◌, ◌≤◌, ◌+◌, ◌^◌, drop, ◌⊎◌, ◌||◌, ℕ, List, [], true, false, length, vec_len, is_err, IfSome, IfOk, OnOk, OnErr};
+ghost use Rattle.std.specs.Prelude.{◌≡◌, ◌++◌, ◌<◌, ◌≤◌, ◌+◌, ◌^◌, take, ◌⊎◌, ℕ, List, [], None, true, false, length, vec_len, is_err, IfSome, IfOk, OnOk, OnErr};
 ghost use Rattle.mon_cards.specs.declared.code.Code.{Code, Code as AnyCode};
 ghost use Rattle.mon_catalogue.specs.Sets.{Sets};
 ghost use Rattle.mon_cards.specs.Decks.{Stopped, Refused};
 ghost use Rattle.mon_device.specs.declared.transfer.TheConstants.{MOST_READS};
 ghost use Rattle.mon_device.specs.Devices.{IsAtEnd, HasRead, holding};
-ghost use Rattle.mon_feed.specs.Feeds.{Good, refused_at, IsReadBack};
+ghost use Rattle.mon_feed.specs.Feeds.{Good, refused_at, error_at, is_reading, IsReadBack};
 ghost use Rattle.mon_feed.specs.Told.{told, outcome_from};
-ghost use Rattle.mon_deck.specs.inner.Writing.{holds, HasGrown, Begun, Runs};
+ghost use Rattle.mon_feed.specs.inner.Counting.{lines_ended};
+ghost use Rattle.mon_deck.specs.inner.Writing.{holds, HasGrown, Begun, Runs, Broke, Stands, BrokeOff};
 ghost use Rattle.mon_feed.specs.Printouts.{output_of, ReadsBack};
-ghost use Rattle.mon_deck.specs.Runs.{ending_of, catalogue_after, counts_of, HoldsBeginning, HasBegun, HasPrinted};
+ghost use Rattle.mon_deck.specs.Runs.{ending_of, catalogue_after, counts_of, HoldsBeginning, HasBegun, HasPrinted, HasBrokenOff};
 ghost use Rattle.mon_deck.specs.Faults.{status_of, fault_line};
 
-use mon_device::{DeckReader, DeckWriter, Failed, MOST_READS, READ_SIZE, write_all};
+use mon_device::{DeckDevices, Failed, MOST_READS, READ_SIZE, write_all};
 use mon_feed::{Counts, DeckFeed, Options, RunError};
 use mon_text::put_number;
 use std::alloc::{AllocError, Global};
@@ -23,84 +24,92 @@ const WRITE_SIZE: usize = 65_536;
 /// Runs a deck: reads all of it, serves its commands in order, and writes the printout of each and then the catalogue as
 /// it stands. Where the deck is only to be checked, no command is served, and `DECK OK` is written in place of all that.
 ///
+/// The reader and the writer come as one, of which no call is made once one has failed.
+///
 /// # Errors
 ///
 /// `DeckRefused` at the first line that is refused: the printouts of the commands before it were written, unless the
 /// deck was only to be checked, and no catalogue. `ReadFault` where the reader failed, or where 4,294,967,295 reads did not
-/// come to its end: the output of all lines that were read whole was written. `WriteFault` where the writer failed; `Memory` where a growth was refused.
-pub fn run_deck<R: DeckReader, W: DeckWriter>(
+/// come to its end: the output of all lines that were read whole was written. `WriteFault` where the writer failed; `Memory`
+/// where a growth was refused: the output of the lines before that was written.
+pub fn run_deck<D: DeckDevices>(
     alloc: Global,
-    reader: &mut R,
-    writer: &mut W,
+    devices: &mut D,
     options: Options,
 ) -> Result<Counts, RunError>
-    requires reader { R.has_failed reader.old ≡ false }
-    requires writer { W.has_failed writer.old ≡ false }
+    requires sound { (D.read_failed devices.old ≡ false) × (D.write_failed devices.old ≡ false) }
 
     // A good deck was read to its end, and its output was written.
-    ensures at_end { OnOk result (IsAtEnd (R.remaining reader.new)) }
-    ensures stopped { OnOk result (IfSome (R.remaining reader.old) (λ bytes. ending_of bytes ≡ Stopped)) }
-    ensures output { OnOk result (IfSome (R.remaining reader.old) (λ bytes.
-        W.written writer.new ≡ holding (W.written writer.old) (output_of options.check bytes))) }
-    ensures reads_back { OnOk result (options.check ≡ false → IfSome (R.remaining reader.old) (λ bytes. ReadsBack (catalogue_after bytes))) }
-    ensures counts { IfOk result (λ counts. IfSome (R.remaining reader.old) (λ bytes. counts ≡ counts_of bytes)) }
-    ensures sound { OnOk result ((R.has_failed reader.new ≡ false) × (W.has_failed writer.new ≡ false)) }
+    ensures at_end { OnOk result (IsAtEnd (D.remaining devices.new)) }
+    ensures stopped { OnOk result (IfSome (D.remaining devices.old) (λ bytes. ending_of bytes ≡ Stopped)) }
+    ensures output { OnOk result (IfSome (D.remaining devices.old) (λ bytes.
+        D.written devices.new ≡ holding (D.written devices.old) (output_of options.check bytes))) }
+    ensures reads_back { OnOk result (options.check ≡ false → IfSome (D.remaining devices.old) (λ bytes. ReadsBack (catalogue_after bytes))) }
+    ensures counts { IfOk result (λ counts. IfSome (D.remaining devices.old) (λ bytes. counts ≡ counts_of bytes)) }
 
     // A refused deck is refused at its first refusal, and what came before that was written.
     ensures refused { (line : ℕ) (code : Code) → result ≡ Err (RunError.DeckRefused line code) →
-        IfSome (R.remaining reader.old) (λ bytes. ending_of bytes ≡ Refused line code) }
+        IfSome (D.remaining devices.old) (λ bytes. ending_of bytes ≡ Refused line code) }
     ensures refused_output { (line : ℕ) (code : Code) → result ≡ Err (RunError.DeckRefused line code) →
-        IfSome (R.remaining reader.old) (λ bytes. W.written writer.new ≡ holding (W.written writer.old) (output_of options.check bytes)) }
+        IfSome (D.remaining devices.old) (λ bytes. D.written devices.new ≡ holding (D.written devices.old) (output_of options.check bytes)) }
 
     // Whatever is answered, what was written is a beginning of the output.
-    ensures begun { HasBegun options.check (R.remaining reader.old) (R.remaining reader.new) (W.written writer.old) (W.written writer.new) }
+    ensures begun { HasBegun options.check (D.remaining devices.old) (D.remaining devices.new) (D.written devices.old) (D.written devices.new) }
 
-    // Where the reader failed, all lines that were read whole have been answered.
-    ensures due { result ≡ Err RunError.ReadFault → HasPrinted options.check (R.remaining reader.old) (R.remaining reader.new) (W.written writer.old) (W.written writer.new) }
+    // Where the reader failed, all lines that were read whole have been answered, and none was refused. They had been before
+    // that read, since nothing may be written after it.
+    ensures due { result ≡ Err RunError.ReadFault → HasPrinted options.check (D.remaining devices.old) (D.remaining devices.new) (D.written devices.old) (D.written devices.new) }
 
-    // Faults are told only where a device failed.
+    // Where memory ran out, it did at a line: those before it have been answered, none was refused, and no `$STOP` was among them.
+    ensures short { result ≡ Err RunError.Memory → HasBrokenOff options.check (D.remaining devices.old) (D.remaining devices.new) (D.written devices.old) (D.written devices.new) }
+
+    // Where a device failed, that is told; and only there.
+    ensures faults { (D.read_failed devices.new ≡ true → result ≡ Err RunError.ReadFault) × (D.write_failed devices.new ≡ true → result ≡ Err RunError.WriteFault) }
     ensures read_fault { result ≡ Err RunError.ReadFault →
-        (R.has_failed reader.new ≡ true) ⊎ HasRead MOST_READS (R.reads reader.old) (R.reads reader.new) }
-    ensures write_fault { result ≡ Err RunError.WriteFault → W.has_failed writer.new ≡ true }
+        (D.read_failed devices.new ≡ true) ⊎ HasRead MOST_READS (D.reads devices.old) (D.reads devices.new) }
+    ensures write_fault { result ≡ Err RunError.WriteFault → D.write_failed devices.new ≡ true }
 {
     let mut feed = DeckFeed::new(alloc, options);
     let mut out = Vec::new(alloc);
-    match feed_all(alloc, reader, &mut feed, &mut out, writer) {
-        Ok(()) => finish(alloc, feed, &mut out, writer),
+    match feed_all(alloc, devices, &mut feed, &mut out) {
+        Ok(()) => finish(alloc, feed, &mut out, devices),
         Err(error) => Err(error),
     }
 }
 
-// Feeds all that the reader gives, read by read, and writes what is printed.
-fn feed_all<R: DeckReader, W: DeckWriter>(
+// Feeds all that is read, read by read, and writes what is printed.
+fn feed_all<D: DeckDevices>(
     alloc: Global,
-    reader: &mut R,
+    devices: &mut D,
     feed: &mut DeckFeed,
     out: &mut Vec<u8>,
-    writer: &mut W,
 ) -> Result<(), RunError>
+    requires sound { (D.read_failed devices.old ≡ false) × (D.write_failed devices.old ≡ false) }
     requires start { feed.old.fed ≡ 0 }
+    requires reading { is_reading feed.old.state ≡ true }
     requires empty { out.old.items ≡ [] }
-    ensures runs { OnOk result ((given : List ℕ) × Runs (R.remaining reader.old) (R.remaining reader.new) (W.written writer.old) (W.written writer.new) feed.old feed.new given) }
-    ensures begun { OnErr result ((given : List ℕ) × Begun (R.remaining reader.old) (R.remaining reader.new) (W.written writer.old) (W.written writer.new) feed.old given) }
-    ensures due { result ≡ Err RunError.ReadFault → (given : List ℕ) × Runs (R.remaining reader.old) (R.remaining reader.new) (W.written writer.old) (W.written writer.new) feed.old feed.new given }
-    ensures at_end { OnOk result (IsAtEnd (R.remaining reader.new)) }
+    ensures runs { OnOk result ((given : List ℕ) × Runs (D.remaining devices.old) (D.remaining devices.new) (D.written devices.old) (D.written devices.new) feed.old feed.new given) }
+    ensures begun { OnErr result ((given : List ℕ) × Begun (D.remaining devices.old) (D.remaining devices.new) (D.written devices.old) (D.written devices.new) feed.old given) }
+    ensures due { result ≡ Err RunError.ReadFault → (given : List ℕ) × Runs (D.remaining devices.old) (D.remaining devices.new) (D.written devices.old) (D.written devices.new) feed.old feed.new given }
+    ensures short { result ≡ Err RunError.Memory → (given : List ℕ) × Broke (D.remaining devices.old) (D.remaining devices.new) (D.written devices.old) (D.written devices.new) feed.old given }
+    ensures at_end { OnOk result (IsAtEnd (D.remaining devices.new)) }
     ensures empty { OnOk result (out.new.items ≡ []) }
     ensures reads_back { IsReadBack feed.old.options.check feed.old.state → OnOk result (IsReadBack feed.new.options.check feed.new.state) }
     ensures options { feed.new.options ≡ feed.old.options }
     ensures refused { (n : ℕ) (code : AnyCode) → result ≡ Err (RunError.DeckRefused n code) →
-        IfSome (R.remaining reader.old) (λ bytes. holds (W.written writer.new) (refused_at n code) ≡ holds (W.written writer.old) (outcome_from feed.old bytes)) }
-    ensures sound { OnOk result ((R.has_failed reader.new ≡ R.has_failed reader.old) × (W.has_failed writer.new ≡ W.has_failed writer.old)) }
+        IfSome (D.remaining devices.old) (λ bytes. holds (D.written devices.new) (refused_at n code) ≡ holds (D.written devices.old) (outcome_from feed.old bytes)) }
+    ensures sound { OnOk result ((D.read_failed devices.new ≡ false) × (D.write_failed devices.new ≡ false)) }
+    ensures faults { (D.read_failed devices.new ≡ true → result ≡ Err RunError.ReadFault) × (D.write_failed devices.new ≡ true → result ≡ Err RunError.WriteFault) }
     ensures read_fault { result ≡ Err RunError.ReadFault →
-        (R.has_failed reader.new ≡ true) ⊎ HasRead MOST_READS (R.reads reader.old) (R.reads reader.new) }
-    ensures write_fault { result ≡ Err RunError.WriteFault → W.has_failed writer.new ≡ true }
+        (D.read_failed devices.new ≡ true) ⊎ HasRead MOST_READS (D.reads devices.old) (D.reads devices.new) }
+    ensures write_fault { result ≡ Err RunError.WriteFault → D.write_failed devices.new ≡ true }
 {
     let mut buffer = buffer_of(alloc, READ_SIZE)?;
     for _read in 0..MOST_READS {
-        match reader.read(&mut buffer) {
+        match devices.read(&mut buffer) {
             Err(Failed) => return Err(RunError::ReadFault),
             Ok(0) => return Ok(()),
-            Ok(count) => match serve(alloc, feed, &buffer[..count], out, writer) {
+            Ok(count) => match serve(alloc, feed, &buffer[..count], out, devices) {
                 Ok(()) => {}
                 Err(error) => return Err(error),
             },
@@ -117,66 +126,78 @@ fn buffer_of(alloc: Global, size: usize) -> Result<Vec<u8>, AllocError>
 }
 
 // Feeds what a read gave, line by line, and writes what is printed.
-fn serve<W: DeckWriter>(
+fn serve<D: DeckDevices>(
     alloc: Global,
     feed: &mut DeckFeed,
     piece: &[u8],
     out: &mut Vec<u8>,
-    writer: &mut W,
+    devices: &mut D,
 ) -> Result<(), RunError>
+    requires sound { (D.read_failed devices.old ≡ false) × (D.write_failed devices.old ≡ false) }
     requires few { feed.old.fed + length piece.now < 2 ^ 63 }
+    requires reading { error_at feed.old.state ≡ None }
     requires empty { out.old.items ≡ [] }
-    ensures served { OnOk result ((bytes : List ℕ) → holds (W.written writer.new) (outcome_from feed.new bytes) ≡ holds (W.written writer.old) (outcome_from feed.old (piece.now ++ bytes))) }
+    ensures served { OnOk result (Stands (D.written devices.old) (D.written devices.new) [] feed.old feed.new piece.now) }
     ensures refused { (n : ℕ) (code : AnyCode) → result ≡ Err (RunError.DeckRefused n code) →
-        (bytes : List ℕ) → holds (W.written writer.new) (refused_at n code) ≡ holds (W.written writer.old) (outcome_from feed.old (piece.now ++ bytes)) }
-    ensures begun { (bytes : List ℕ) → HoldsBeginning (W.written writer.old) (W.written writer.new) (outcome_from feed.old (piece.now ++ bytes)).written }
+        (bytes : List ℕ) → holds (D.written devices.new) (refused_at n code) ≡ holds (D.written devices.old) (outcome_from feed.old (piece.now ++ bytes)) }
+    ensures begun { (bytes : List ℕ) → HoldsBeginning (D.written devices.old) (D.written devices.new) (outcome_from feed.old (piece.now ++ bytes)).written }
+    ensures short { result ≡ Err RunError.Memory → BrokeOff (D.written devices.old) (D.written devices.new) feed.old piece.now }
     ensures empty { OnOk result (out.new.items ≡ []) }
     ensures fed { OnOk result (feed.new.fed ≡ feed.old.fed + length piece.now) }
     ensures reads_back { IsReadBack feed.old.options.check feed.old.state → OnOk result (IsReadBack feed.new.options.check feed.new.state) }
     ensures options { feed.new.options ≡ feed.old.options }
-    ensures sound { OnOk result (W.has_failed writer.new ≡ W.has_failed writer.old) }
+    ensures apart { (D.remaining devices.new ≡ D.remaining devices.old) × (D.reads devices.new ≡ D.reads devices.old) × (D.read_failed devices.new ≡ false) }
+    ensures sound { OnOk result (D.write_failed devices.new ≡ false) }
+    ensures faults { D.write_failed devices.new ≡ true → result ≡ Err RunError.WriteFault }
     ensures read_fault { result ≡ Err RunError.ReadFault → ⊥ }
-    ensures write_fault { result ≡ Err RunError.WriteFault → W.has_failed writer.new ≡ true }
+    ensures write_fault { result ≡ Err RunError.WriteFault → D.write_failed devices.new ≡ true }
 {
     let mut rest = piece;
     'lines: while !rest.is_empty() {
-        let used = serve_line(alloc, feed, rest, out, writer)?;
+        let used = serve_line(alloc, feed, rest, out, devices)?;
         rest = &rest[used..];
     }
-    match flush(out, writer) {
+    match flush(out, devices) {
         Ok(()) => Ok(()),
         Err(_) => Err(RunError::WriteFault),
     }
 }
 
 // Feeds up to the first line end, and writes what is gathered if it is much, or if the deck is refused there.
-fn serve_line<W: DeckWriter>(
+fn serve_line<D: DeckDevices>(
     alloc: Global,
     feed: &mut DeckFeed,
     piece: &[u8],
     out: &mut Vec<u8>,
-    writer: &mut W,
+    devices: &mut D,
 ) -> Result<usize, RunError>
+    requires sound { (D.read_failed devices.old ≡ false) × (D.write_failed devices.old ≡ false) }
     requires full { 0 < length piece.now }
     requires few { feed.old.fed + length piece.now < 2 ^ 63 }
+    requires reading { error_at feed.old.state ≡ None }
     ensures used { IfOk result (λ used. (0 < used) × (used ≤ length piece.now) × (feed.new.fed ≡ feed.old.fed + used)) }
-    ensures served { IfOk result (λ used. (bytes : List ℕ) → holds (W.written writer.new) (told out.new.items feed.new (drop used piece.now ++ bytes)) ≡ holds (W.written writer.old) (told out.old.items feed.old (piece.now ++ bytes))) }
+    ensures served { IfOk result (λ used. (bytes : List ℕ) → holds (D.written devices.new) (told out.new.items feed.new bytes) ≡ holds (D.written devices.old) (told out.old.items feed.old (take used piece.now ++ bytes))) }
     ensures refused { (n : ℕ) (code : AnyCode) → result ≡ Err (RunError.DeckRefused n code) →
-        (bytes : List ℕ) → holds (W.written writer.new) (refused_at n code) ≡ holds (W.written writer.old) (told out.old.items feed.old (piece.now ++ bytes)) }
-    ensures begun { (bytes : List ℕ) → HoldsBeginning (W.written writer.old) (W.written writer.new) (told out.old.items feed.old (piece.now ++ bytes)).written }
-    ensures grown { HasGrown (W.written writer.old) (W.written writer.new) }
+        (bytes : List ℕ) → holds (D.written devices.new) (refused_at n code) ≡ holds (D.written devices.old) (told out.old.items feed.old (piece.now ++ bytes)) }
+    ensures begun { (bytes : List ℕ) → HoldsBeginning (D.written devices.old) (D.written devices.new) (told out.old.items feed.old (piece.now ++ bytes)).written }
+    ensures short { result ≡ Err RunError.Memory → (is_reading feed.old.state ≡ true) × (D.written devices.new ≡ holding (D.written devices.old) out.old.items) }
+    ensures counted { IfOk result (λ used. is_reading feed.new.state ≡ true → (is_reading feed.old.state ≡ true) × (feed.old.lines_taken + lines_ended (take used piece.now) ≤ feed.new.lines_taken)) }
+    ensures reading { OnOk result (error_at feed.new.state ≡ None) }
+    ensures grown { HasGrown (D.written devices.old) (D.written devices.new) }
     ensures reads_back { IsReadBack feed.old.options.check feed.old.state → OnOk result (IsReadBack feed.new.options.check feed.new.state) }
     ensures options { feed.new.options ≡ feed.old.options }
-    ensures sound { OnOk result (W.has_failed writer.new ≡ W.has_failed writer.old) }
+    ensures apart { (D.remaining devices.new ≡ D.remaining devices.old) × (D.reads devices.new ≡ D.reads devices.old) × (D.read_failed devices.new ≡ false) }
+    ensures sound { OnOk result (D.write_failed devices.new ≡ false) }
+    ensures faults { D.write_failed devices.new ≡ true → result ≡ Err RunError.WriteFault }
     ensures read_fault { result ≡ Err RunError.ReadFault → ⊥ }
-    ensures write_fault { result ≡ Err RunError.WriteFault → W.has_failed writer.new ≡ true }
+    ensures write_fault { result ≡ Err RunError.WriteFault → D.write_failed devices.new ≡ true }
 {
     match feed.feed_line(alloc, piece, out) {
-        Ok(used) => match flush_large(out, writer) {
+        Ok(used) => match flush_large(out, devices) {
             Ok(()) => Ok(used),
             Err(_) => Err(RunError::WriteFault),
         },
-        Err(error) => match write_all(writer, out) {
+        Err(error) => match write_all(devices, out) {
             Ok(()) => Err(error),
             Err(_) => Err(RunError::WriteFault),
         },
@@ -184,36 +205,42 @@ fn serve_line<W: DeckWriter>(
 }
 
 // Writes what is gathered, if it is much.
-fn flush_large<W: DeckWriter>(out: &mut Vec<u8>, writer: &mut W) -> Result<(), Failed>
-    ensures put { OnOk result (holding (W.written writer.new) out.new.items ≡ holding (W.written writer.old) out.old.items) }
-    ensures begun { HoldsBeginning (W.written writer.old) (W.written writer.new) out.old.items }
-    ensures failed { W.has_failed writer.new ≡ (W.has_failed writer.old || is_err result) }
+fn flush_large<D: DeckDevices>(out: &mut Vec<u8>, devices: &mut D) -> Result<(), Failed>
+    requires sound { (D.read_failed devices.old ≡ false) × (D.write_failed devices.old ≡ false) }
+    ensures put { OnOk result (holding (D.written devices.new) out.new.items ≡ holding (D.written devices.old) out.old.items) }
+    ensures begun { HoldsBeginning (D.written devices.old) (D.written devices.new) out.old.items }
+    ensures failed { D.write_failed devices.new ≡ is_err result }
+    ensures apart { (D.remaining devices.new ≡ D.remaining devices.old) × (D.reads devices.new ≡ D.reads devices.old) × (D.read_failed devices.new ≡ false) }
 {
     if out.len() < WRITE_SIZE {
         return Ok(());
     }
-    flush(out, writer)
+    flush(out, devices)
 }
 
 // The reader is at its end.
-fn finish<W: DeckWriter>(
+fn finish<D: DeckDevices>(
     alloc: Global,
     feed: DeckFeed,
     out: &mut Vec<u8>,
-    writer: &mut W,
+    devices: &mut D,
 ) -> Result<Counts, RunError>
+    requires sound { (D.read_failed devices.old ≡ false) × (D.write_failed devices.old ≡ false) }
+    requires reading { error_at feed.state ≡ None }
     requires empty { out.old.items ≡ [] }
-    ensures ended { IfOk result (λ counts. (sets : Sets) × (holds (W.written writer.new) (record { written = []; conclusion = Good counts.commands sets }) ≡ holds (W.written writer.old) (outcome_from feed []))
+    ensures ended { IfOk result (λ counts. (sets : Sets) × (holds (D.written devices.new) (record { written = []; conclusion = Good counts.commands sets }) ≡ holds (D.written devices.old) (outcome_from feed []))
         × (IsReadBack feed.options.check feed.state → feed.options.check ≡ false → ReadsBack sets) × (counts.jobs ≡ 0)) }
     ensures refused { (n : ℕ) (code : AnyCode) → result ≡ Err (RunError.DeckRefused n code) →
-        holds (W.written writer.new) (refused_at n code) ≡ holds (W.written writer.old) (outcome_from feed []) }
-    ensures begun { HoldsBeginning (W.written writer.old) (W.written writer.new) (outcome_from feed []).written }
-    ensures sound { OnOk result (W.has_failed writer.new ≡ W.has_failed writer.old) }
+        holds (D.written devices.new) (refused_at n code) ≡ holds (D.written devices.old) (outcome_from feed []) }
+    ensures begun { HoldsBeginning (D.written devices.old) (D.written devices.new) (outcome_from feed []).written }
+    ensures short { result ≡ Err RunError.Memory → (is_reading feed.state ≡ true) × (D.written devices.new ≡ D.written devices.old) }
+    ensures apart { (D.remaining devices.new ≡ D.remaining devices.old) × (D.reads devices.new ≡ D.reads devices.old) × (D.read_failed devices.new ≡ false) }
+    ensures faults { D.write_failed devices.new ≡ true → result ≡ Err RunError.WriteFault }
     ensures read_fault { result ≡ Err RunError.ReadFault → ⊥ }
-    ensures write_fault { result ≡ Err RunError.WriteFault → W.has_failed writer.new ≡ true }
+    ensures write_fault { result ≡ Err RunError.WriteFault → D.write_failed devices.new ≡ true }
 {
     let answer = feed.finish(alloc, out);
-    match write_all(writer, out) {
+    match write_all(devices, out) {
         Ok(()) => answer,
         Err(_) => Err(RunError::WriteFault),
     }
@@ -221,14 +248,16 @@ fn finish<W: DeckWriter>(
 
 // Writes what is gathered.
 #[tactic(auto, using(mon_device::proofs::Holding::holds))]
-fn flush<W: DeckWriter>(out: &mut Vec<u8>, writer: &mut W) -> Result<(), Failed>
-    ensures written { OnOk result (W.written writer.new ≡ holding (W.written writer.old) out.old.items) }
-    ensures put { OnOk result (holding (W.written writer.new) out.new.items ≡ holding (W.written writer.old) out.old.items) }
-    ensures begun { HoldsBeginning (W.written writer.old) (W.written writer.new) out.old.items }
+fn flush<D: DeckDevices>(out: &mut Vec<u8>, devices: &mut D) -> Result<(), Failed>
+    requires sound { (D.read_failed devices.old ≡ false) × (D.write_failed devices.old ≡ false) }
+    ensures written { OnOk result (D.written devices.new ≡ holding (D.written devices.old) out.old.items) }
+    ensures put { OnOk result (holding (D.written devices.new) out.new.items ≡ holding (D.written devices.old) out.old.items) }
+    ensures begun { HoldsBeginning (D.written devices.old) (D.written devices.new) out.old.items }
     ensures empty { OnOk result (out.new.items ≡ []) }
-    ensures failed { W.has_failed writer.new ≡ (W.has_failed writer.old || is_err result) }
+    ensures failed { D.write_failed devices.new ≡ is_err result }
+    ensures apart { (D.remaining devices.new ≡ D.remaining devices.old) × (D.reads devices.new ≡ D.reads devices.old) × (D.read_failed devices.new ≡ false) }
 {
-    write_all(writer, out)?;
+    write_all(devices, out)?;
     out.clear();
     Ok(())
 }

@@ -4,10 +4,12 @@
 
 pub mod device;
 pub mod memory;
+pub mod pair;
 pub mod streams;
 pub mod transfer;
 
-pub use device::{DeckReader, DeckWriter, Failed};
+pub use device::{DeckDevices, DeckReader, DeckWriter, Failed};
 pub use memory::{MemReader, MemWriter};
+pub use pair::Devices;
 pub use streams::{StdReader, StdWriter};
 pub use transfer::{MOST_READS, READ_SIZE, write_all};

@@ -2,3 +2,4 @@ pub mod Commanding
 pub mod Following
 pub mod Telling
 pub mod Beginnings
+pub mod Parts

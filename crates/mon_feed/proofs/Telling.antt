@@ -1,7 +1,6 @@
 -- What a feed tells, step by step.
 use Rattle.std.proofs.Common.{◌≡◌, ℕ, ◌+◌, Bool, true, false, List, [], ◌∷◌, ◌++◌, length, drop, Some, None, Result, Ok, Err, sym, ap, ◌∙◌, arith, append-nil, IfOk, ◌==◌, if◌then◌else◌}
 use Rattle.std.specs.Str.Lines.{lines}
-use Rattle.std.proofs.lemmas.List.{drop_all}
 use Rattle.mon_text.specs.Feeding.{Takes}
 use Rattle.mon_catalogue.specs.Sets.{Sets}
 use Rattle.mon_cards.specs.declared.code.Code.{Code}
@@ -20,18 +19,17 @@ use Rattle.mon_feed.proofs.Following.{alike, ends_here, outcome_refused}
 module _ (check : Bool) (s : State) (n : ℕ) (out : List ℕ) (count : ℕ) (old piece : List ℕ) (used : ℕ) where
   -- no line ended
   pub told_none : (new : List ℕ) → Takes old piece used None new → (bytes : List ℕ)
-      → behind out count (outcome check s n (lines (new ++ (drop used piece ++ bytes)))) ≡ behind out count (outcome check s n (lines (old ++ (piece ++ bytes))))
-  told_none new taken bytes =
-      ap (λ cs. behind out count (outcome check s n (lines (new ++ (cs ++ bytes))))) (ap (λ k. drop k piece) taken.0 ∙ drop_all (length piece) piece (omega arith))
-      ∙ ap (behind out count) (alike check s n _ _ (taken.1 bytes))
+      → behind out count (outcome check s n (lines (new ++ bytes))) ≡ behind out count (outcome check s n (lines (old ++ (piece ++ bytes))))
+  told_none new taken bytes = ap (behind out count) (alike check s n _ _ (taken.1 bytes))
 
-  -- a line ended, and was taken
-  pub told_some : (line new : List ℕ) → Takes old piece used (Some line) new
+  -- a line ended where the piece did, and was taken
+  pub told_some : (line new : List ℕ) → drop used piece ≡ [] → Takes old piece used (Some line) new
       → (out' : List ℕ) (count' : ℕ) (later : List (List ℕ) → Outcome) → ((ls : List (List ℕ)) → behind out' count' (later ls) ≡ behind out count (outcome check s n (line ∷ ls)))
-      → (bytes : List ℕ) → behind out' count' (later (lines (new ++ (drop used piece ++ bytes)))) ≡ behind out count (outcome check s n (lines (old ++ (piece ++ bytes))))
-  told_some line new taken out' count' later step bytes =
-      ap (λ v. behind out' count' (later (lines (v ++ (drop used piece ++ bytes))))) taken.2
-      ∙ step (lines (drop used piece ++ bytes))
+      → (bytes : List ℕ) → behind out' count' (later (lines (new ++ bytes))) ≡ behind out count (outcome check s n (lines (old ++ (piece ++ bytes))))
+  told_some line new all taken out' count' later step bytes =
+      ap (λ v. behind out' count' (later (lines (v ++ bytes)))) taken.2
+      ∙ step (lines bytes)
+      ∙ ap (λ v. behind out count (outcome check s n (line ∷ lines (v ++ bytes)))) (sym all)
       ∙ ap (behind out count) (alike check s n _ _ (taken.3 bytes))
 
   -- a line ended, and was refused

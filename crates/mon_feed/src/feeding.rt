@@ -1,13 +1,15 @@
 //! Feeding a deck: each card's event happens when the card is complete.
-ghost use Rattle.std.specs.Prelude.{◌≡◌, ℕ, List, ◌+◌, ◌-◌, ◌<◌, ◌≤◌, ◌^◌, [], ◌∷◌, ◌++◌, Bool, true, false, length, drop, Ok, Err, IfOk, IfErr, OnOk, OnErr, IsTrue};
+ghost use Rattle.std.specs.Prelude.{◌≡◌, ℕ, List, ◌+◌, ◌-◌, ◌<◌, ◌≤◌, ◌^◌, [], ◌∷◌, ◌++◌, Bool, true, false, None, length, position, take, Ok, Err, IfSome, IfOk, IfErr, OnOk, OnErr, IsTrue};
 ghost use Rattle.std.specs.Str.Lines.{lines};
 ghost use Rattle.mon_catalogue.specs.Sets.{Sets};
-ghost use Rattle.mon_text.specs.Feeding.{taken_of};
+ghost use Rattle.mon_text.specs.Feeding.{is_line_feed, taken_of};
 ghost use Rattle.mon_cards.specs.declared.code.Code.{Code as AnyCode};
+ghost use Rattle.mon_cards.specs.declared.code.Code.TheVariants.{LineTooLong};
 ghost use Rattle.mon_feed.specs.declared.stage.State.TheVariants as states;
 ghost use Rattle.mon_cards.specs.Sections.{deck_of};
 ghost use Rattle.mon_feed.specs.Feeds.{outcome, outcome_of, behind, refused_at, Good, Bad, Begins, OnAnswer, lines_loaded, is_reading, may_grow, used_by, IsReadBack, IsOwn, stopped_by, error_at, fault_at};
 ghost use Rattle.mon_feed.specs.Told.{told, outcome_from, last_lines};
+ghost use Rattle.mon_feed.specs.inner.Counting.{lines_ended};
 ghost use Rattle.mon_feed.specs.Printouts.{ReadsBack};
 
 use crate::fault::RunError;
@@ -24,6 +26,7 @@ impl DeckFeed {
         ensures start { (bytes : List ℕ) → outcome_from result bytes ≡ outcome_of options.check (deck_of (lines bytes)) }
         ensures reads_back { IsReadBack result.options.check result.state }
         ensures options { result.options ≡ options }
+        ensures reading { is_reading result.state ≡ true }
         ensures fed { result.fed ≡ 0 }
     {
         DeckFeed {
@@ -112,7 +115,7 @@ impl DeckFeed {
         requires few { self.old.fed + length piece.now < 2 ^ 63 }
         ensures used { IfOk result (λ used. (0 < used) × (used ≤ length piece.now) × (self.new.fed ≡ self.old.fed + used)) }
         ensures line { IfOk result (λ used. used ≡ used_by self.old.state piece.now) }
-        ensures told { IfOk result (λ used. (bytes : List ℕ) → told out.new.items self.new (drop used piece.now ++ bytes) ≡ told out.old.items self.old (piece.now ++ bytes)) }
+        ensures told { IfOk result (λ used. (bytes : List ℕ) → told out.new.items self.new bytes ≡ told out.old.items self.old (take used piece.now ++ bytes)) }
         ensures refused { (n : ℕ) (code : AnyCode) → result ≡ Err (RunError.DeckRefused n code) →
             (bytes : List ℕ) → told out.new.items self.new bytes ≡ told out.old.items self.old (piece.now ++ bytes) }
         ensures appends { Begins out.old.items out.new.items }
@@ -126,6 +129,9 @@ impl DeckFeed {
         ensures options { self.new.options ≡ self.old.options }
         ensures fed { (self.old.fed ≤ self.new.fed) × (self.new.fed ≤ self.old.fed + length piece.now) }
         ensures refused_line { (n : ℕ) (code : AnyCode) → result ≡ Err (RunError.DeckRefused n code) → is_reading self.old.state ≡ true → self.new.fed ≡ self.old.fed + taken_of piece.now }
+        ensures nothing { OnErr result (out.new.items ≡ out.old.items) }
+        ensures sound { OnOk result (error_at self.new.state ≡ None) }
+        ensures counted { IfOk result (λ used. is_reading self.new.state ≡ true → (is_reading self.old.state ≡ true) × (self.old.lines_taken + lines_ended (take used piece.now) ≤ self.new.lines_taken)) }
     {
         match &self.state {
             State::Refused(n, code) => return Err(RunError::DeckRefused(*n, *code)),
@@ -136,16 +142,11 @@ impl DeckFeed {
             }
             State::Reading(_) => {}
         }
-        match self.line.take(piece) {
-            Err(_) => {
-                self.state = State::NoMemory;
-                Err(RunError::Memory)
-            }
-            Ok((used, None)) => {
-                self.fed += used as u64;
-                Ok(used)
-            }
-            Ok((used, Some(line))) => {
+        let used = to_line_end(piece);
+        let part = &piece[..used];
+        match self.line.take(part) {
+            Err(_) => Err(self.run_short()),
+            Ok((_, Some(line))) => {
                 self.fed += used as u64;
                 match self.take_line(alloc, line.text(), out) {
                     Ok(()) => {
@@ -155,10 +156,43 @@ impl DeckFeed {
                     Err(error) => Err(error),
                 }
             }
+            Ok((_, None)) => {
+                self.fed += used as u64;
+                if part.contains(&b'\n') {
+                    return Err(self.refuse_long());
+                }
+                Ok(used)
+            }
         }
     }
 
-    // Takes a whole line: its event happens, and what that prints is appended.
+    // Memory ran out. It stays a call, since the room for a state is cleared where a function begins.
+    #[inline(never)]
+    fn run_short(&mut self) -> RunError
+        ensures error { result ≡ RunError.Memory }
+        ensures state { self.new.state ≡ states.NoMemory }
+        ensures stays { (self.new.options ≡ self.old.options) × (self.new.fed ≡ self.old.fed) }
+    {
+        self.state = State::NoMemory;
+        RunError::Memory
+    }
+
+    // A line has ended that is longer than any may be: such a line need not be told by itself. It stays a call, too.
+    #[inline(never)]
+    fn refuse_long(&mut self) -> RunError
+        requires { self.old.lines_taken < self.old.fed }
+        ensures error { result ≡ RunError.DeckRefused (self.old.lines_taken + 1) LineTooLong }
+        ensures state { self.new.state ≡ states.Refused (self.old.lines_taken + 1) LineTooLong }
+        ensures stays { (self.new.options ≡ self.old.options) × (self.new.fed ≡ self.old.fed) × (self.new.commands ≡ self.old.commands) }
+    {
+        self.lines_taken += 1;
+        self.state = State::Refused(self.lines_taken, Code::LineTooLong);
+        RunError::DeckRefused(self.lines_taken, Code::LineTooLong)
+    }
+
+    // Takes a whole line: its event happens, and what that prints is appended. It stays a call, so that what it needs costs
+    // nothing where no line ends.
+    #[inline(never)]
     fn take_line(&mut self, alloc: Global, text: &[u8], out: &mut Vec<u8>) -> Result<(), RunError>
         requires { self.old.lines_taken < self.old.fed }
         ensures told { OnOk result ((ls : List (List ℕ)) → behind out.new.items self.new.commands (outcome self.new.options.check self.new.state (self.new.lines_taken + 1) ls)
@@ -171,6 +205,8 @@ impl DeckFeed {
         ensures appends { Begins out.old.items out.new.items }
         ensures nothing { OnErr result (out.new.items ≡ out.old.items) }
         ensures stays { (self.new.options ≡ self.old.options) × (self.new.line ≡ self.old.line) × (self.new.fed ≡ self.old.fed) }
+        ensures sound { OnOk result (error_at self.new.state ≡ error_at self.old.state) }
+        ensures counted { self.new.lines_taken ≡ self.old.lines_taken + 1 }
     {
         self.lines_taken += 1;
         let answer = self.state.take_line(
@@ -210,6 +246,7 @@ impl DeckFeed {
         ensures still { self.state ≡ states.NoMemory → (result ≡ Err RunError.Memory) × (out.new.items ≡ out.old.items) }
         ensures own { IfErr result IsOwn }
         ensures memory { result ≡ Err RunError.Memory → IsTrue (may_grow self.state self.line) }
+        ensures short { result ≡ Err RunError.Memory → out.new.items ≡ out.old.items }
     {
         if let Some(error) = self.failed() {
             return Err(error);
@@ -227,6 +264,26 @@ impl DeckFeed {
     }
 }
 
+// Where the first LF stands, if one does.
+fn first_end(piece: &[u8]) -> Option<usize>
+    ensures place { result ≡ position is_line_feed piece.now }
+    ensures within { IfSome result (λ place. place < length piece.now) }
+{
+    piece.iter().position(|byte| *byte == b'\n')
+}
+
+// How many bytes there are up to the first line end, and with it; all, where no line ends.
+fn to_line_end(piece: &[u8]) -> usize
+    requires { 0 < length piece.now }
+    ensures taken { result ≡ taken_of piece.now }
+    ensures some { (0 < result) × (result ≤ length piece.now) }
+{
+    match first_end(piece) {
+        Some(end) => end + 1,
+        None => piece.len(),
+    }
+}
+
 // The end of a deck: a last line without LF is taken too, and then `$STOP` has come, or never comes.
 fn end(
     alloc: Global,
@@ -240,6 +297,7 @@ fn end(
     requires few { commands < 2 ^ 63 }
     requires short { lines_taken < 2 ^ 63 }
     requires within { lines_loaded state < 2 ^ 63 }
+    requires sound { error_at state ≡ None }
     ensures appends { Begins out.old.items out.new.items }
     ensures begun { Begins out.new.items (behind out.old.items commands (outcome options.check state (lines_taken + 1) (last_lines last.now))).written }
     ensures ended { IfOk result (λ counts. (sets : Sets) × (behind out.old.items commands (outcome options.check state (lines_taken + 1) (last_lines last.now))
@@ -249,6 +307,7 @@ fn end(
         behind out.old.items commands (outcome options.check state (lines_taken + 1) (last_lines last.now)) ≡ record { written = out.new.items; conclusion = Bad n code } }
     ensures own { IfErr result IsOwn }
     ensures memory { result ≡ Err RunError.Memory → IsTrue (may_grow state last.now) }
+    ensures short { result ≡ Err RunError.Memory → out.new.items ≡ out.old.items }
 {
     if last.is_empty() {
         return conclude(&state, lines_taken + 1, commands);

@@ -109,6 +109,7 @@ impl State {
         ensures counted { commands.new ≤ commands.old + 1 }
         ensures refused { IfErr result (IfRefused (λ code. (n : ℕ) (ls : List (List ℕ)) → outcome check self.old n (text.now ∷ ls) ≡ refused_at n code)) }
         ensures nothing { OnErr result (out.new.items ≡ out.old.items) }
+        ensures sound { OnOk result (error_at self.new ≡ error_at self.old) }
     {
         if let State::Reading(stage) = self {
             if stage.take_in_place(alloc, check, text, commands, out)? {
@@ -139,6 +140,7 @@ impl State {
         ensures counted { commands.new ≤ commands.old + 1 }
         ensures refused { IfErr result (IfRefused (λ code. (n : ℕ) (ls : List (List ℕ)) → outcome check self.old n (text.now ∷ ls) ≡ refused_at n code)) }
         ensures nothing { OnErr result (out.new.items ≡ out.old.items) }
+        ensures sound { OnOk result (error_at self.new ≡ error_at self.old) }
     {
         let before = mem::replace(self, State::NoMemory);
         *self = before.after_line(alloc, check, slots, text, commands, out)?;

@@ -2,7 +2,8 @@
 ghost use Rattle.std.specs.Prelude.{◌≡◌, None, false};
 
 use mon_deck::{
-    Code, Counts, MemReader, MemWriter, Options, RunError, exit_status, put_fault, run_deck,
+    Code, Counts, Devices, MemReader, MemWriter, Options, RunError, exit_status, put_fault,
+    run_deck,
 };
 use mon_device::{DeckReader, DeckWriter, Failed};
 use std::alloc::{AllocError, Global};
@@ -147,21 +148,21 @@ fn options(check: bool) -> Options {
 
 // Whether a run of a worked deck in pieces answers its output.
 fn is_answered_in_pieces(alloc: Global, worked: &Worked, read: usize, write: usize) -> bool {
-    let Ok(mut writer) = MemWriter::in_pieces(alloc, ROOM, write) else {
+    let Ok(writer) = MemWriter::in_pieces(alloc, ROOM, write) else {
         return false;
     };
-    let mut reader = MemReader::in_pieces(worked.deck, read);
-    let outcome = run_deck(alloc, &mut reader, &mut writer, options(false));
-    is_done(&outcome, worked) && writer.as_bytes() == worked.output
+    let mut devices = Devices::new(MemReader::in_pieces(worked.deck, read), writer);
+    let outcome = run_deck(alloc, &mut devices, options(false));
+    is_done(&outcome, worked) && devices.writer.as_bytes() == worked.output
 }
 
 fn is_only_checked(alloc: Global, worked: &Worked) -> bool {
-    let Ok(mut writer) = MemWriter::new(alloc, ROOM) else {
+    let Ok(writer) = MemWriter::new(alloc, ROOM) else {
         return false;
     };
-    let mut reader = MemReader::new(worked.deck);
-    let outcome = run_deck(alloc, &mut reader, &mut writer, options(true));
-    is_done(&outcome, worked) && writer.as_bytes() == b"DECK OK\n".as_slice()
+    let mut devices = Devices::new(MemReader::new(worked.deck), writer);
+    let outcome = run_deck(alloc, &mut devices, options(true));
+    is_done(&outcome, worked) && devices.writer.as_bytes() == b"DECK OK\n".as_slice()
 }
 
 #[test]
@@ -201,13 +202,20 @@ fn has_failed_cleanly(
 
 // Reads of so many bytes, of which this one fails: the printouts of the cards that were read whole are out.
 fn tells_a_failing_read(alloc: Global, worked: &Worked, most: usize, call: usize) -> bool {
-    let Ok(mut writer) = MemWriter::new(alloc, ROOM) else {
+    let Ok(writer) = MemWriter::new(alloc, ROOM) else {
         return false;
     };
-    let mut reader = MemReader::failing_at(worked.deck, most, call as u64);
-    let outcome = run_deck(alloc, &mut reader, &mut writer, options(false));
+    let reader = MemReader::failing_at(worked.deck, most, call as u64);
+    let mut devices = Devices::new(reader, writer);
+    let outcome = run_deck(alloc, &mut devices, options(false));
     let written = printed_by(worked, most.saturating_mul(call));
-    has_failed_cleanly(&outcome, RunError::ReadFault, worked, &writer, written)
+    has_failed_cleanly(
+        &outcome,
+        RunError::ReadFault,
+        worked,
+        &devices.writer,
+        written,
+    )
 }
 
 #[test]
@@ -225,31 +233,38 @@ fn every_read_that_fails_is_told(rt: HostRuntime) {
     }
 }
 
-// Whether a run to this writer fails after so many bytes.
-fn fails_after(alloc: Global, worked: &Worked, mut writer: MemWriter, count: usize) -> bool
+// Whether a run to this writer, by reads of so many bytes, fails after so many.
+fn fails_after(alloc: Global, worked: &Worked, read: usize, writer: MemWriter, count: usize) -> bool
     requires { writer.has_failed ≡ false }
 {
-    let mut reader = MemReader::new(worked.deck);
-    let outcome = run_deck(alloc, &mut reader, &mut writer, options(false));
-    has_failed_cleanly(&outcome, RunError::WriteFault, worked, &writer, count)
+    let mut devices = Devices::new(MemReader::in_pieces(worked.deck, read), writer);
+    let outcome = run_deck(alloc, &mut devices, options(false));
+    has_failed_cleanly(
+        &outcome,
+        RunError::WriteFault,
+        worked,
+        &devices.writer,
+        count,
+    )
 }
 
 // One write a byte, and this one fails; and a writer that is full after so many bytes.
-fn tells_a_failing_write(alloc: Global, worked: &Worked, call: usize) -> bool {
+fn tells_a_failing_write(alloc: Global, worked: &Worked, read: usize, call: usize) -> bool {
     let Ok(failing) = MemWriter::failing_at(alloc, ROOM, 1, call as u64) else {
         return false;
     };
     let Ok(full) = MemWriter::new(alloc, call) else {
         return false;
     };
-    fails_after(alloc, worked, failing, call) && fails_after(alloc, worked, full, call)
+    fails_after(alloc, worked, read, failing, call) && fails_after(alloc, worked, read, full, call)
 }
 
 #[test]
 fn every_write_that_fails_is_told(rt: HostRuntime) {
     for worked in &WORKED {
         for call in 0..worked.output.len() {
-            assert!(rt; tells_a_failing_write(rt.alloc(), worked, call));
+            assert!(rt; tells_a_failing_write(rt.alloc(), worked, 1_000, call));
+            assert!(rt; tells_a_failing_write(rt.alloc(), worked, 7, call));
         }
     }
 }
@@ -312,18 +327,25 @@ impl DeckWriter for FailsToWriteOnce {
 
 // One read a byte, of which this one alone fails.
 fn stops_at_a_read(alloc: Global, worked: &Worked, call: usize) -> bool {
-    let Ok(mut writer) = MemWriter::new(alloc, ROOM) else {
+    let Ok(writer) = MemWriter::new(alloc, ROOM) else {
         return false;
     };
-    let mut reader = FailsToReadOnce {
+    let reader = FailsToReadOnce {
         inner: MemReader::in_pieces(worked.deck, 1),
         call: call as u64,
         reads: 0,
         has_failed: false,
     };
-    let outcome = run_deck(alloc, &mut reader, &mut writer, options(false));
+    let mut devices = Devices::new(reader, writer);
+    let outcome = run_deck(alloc, &mut devices, options(false));
     let written = printed_by(worked, call);
-    has_failed_cleanly(&outcome, RunError::ReadFault, worked, &writer, written)
+    has_failed_cleanly(
+        &outcome,
+        RunError::ReadFault,
+        worked,
+        &devices.writer,
+        written,
+    )
 }
 
 // One write a byte, of which this one alone fails.
@@ -331,15 +353,21 @@ fn stops_at_a_write(alloc: Global, worked: &Worked, call: usize) -> bool {
     let Ok(inner) = MemWriter::in_pieces(alloc, ROOM, 1) else {
         return false;
     };
-    let mut writer = FailsToWriteOnce {
+    let writer = FailsToWriteOnce {
         inner,
         call: call as u64,
         writes: 0,
         has_failed: false,
     };
-    let mut reader = MemReader::new(worked.deck);
-    let outcome = run_deck(alloc, &mut reader, &mut writer, options(false));
-    has_failed_cleanly(&outcome, RunError::WriteFault, worked, &writer.inner, call)
+    let mut devices = Devices::new(MemReader::new(worked.deck), writer);
+    let outcome = run_deck(alloc, &mut devices, options(false));
+    has_failed_cleanly(
+        &outcome,
+        RunError::WriteFault,
+        worked,
+        &devices.writer.inner,
+        call,
+    )
 }
 
 #[test]
@@ -379,14 +407,15 @@ fn is_where_it_ends(cut: &[u8], line: u64, code: Code) -> bool {
 }
 
 fn is_refused_where_it_is_cut(alloc: Global, worked: &Worked, end: usize) -> bool {
-    let Ok(mut writer) = MemWriter::new(alloc, ROOM) else {
+    let Ok(writer) = MemWriter::new(alloc, ROOM) else {
         return false;
     };
     let cut = &worked.deck[..end.min(worked.deck.len())];
-    let outcome = run_deck(alloc, &mut MemReader::new(cut), &mut writer, options(false));
+    let mut devices = Devices::new(MemReader::new(cut), writer);
+    let outcome = run_deck(alloc, &mut devices, options(false));
     matches!(outcome, Err(RunError::DeckRefused(line, code)) if is_where_it_ends(cut, line, code))
         && exit_status(&outcome) == 1
-        && !writer.as_bytes().contains(&b'$')
+        && !devices.writer.as_bytes().contains(&b'$')
 }
 
 #[test]
@@ -632,17 +661,13 @@ static REFUSALS: [Refusal<'static>; 36] = [
 ];
 
 fn is_refused(alloc: Global, refusal: &Refusal<'_>, check: bool, wanted: &[u8]) -> bool {
-    let Ok(mut writer) = MemWriter::new(alloc, ROOM) else {
+    let Ok(writer) = MemWriter::new(alloc, ROOM) else {
         return false;
     };
-    let outcome = run_deck(
-        alloc,
-        &mut MemReader::new(refusal.deck),
-        &mut writer,
-        options(check),
-    );
+    let mut devices = Devices::new(MemReader::new(refusal.deck), writer);
+    let outcome = run_deck(alloc, &mut devices, options(check));
     matches!(outcome, Err(RunError::DeckRefused(line, code)) if line == refusal.line && code == refusal.code)
-        && writer.as_bytes() == wanted
+        && devices.writer.as_bytes() == wanted
 }
 
 #[test]
@@ -709,17 +734,13 @@ fn serves_many_commands(alloc: Global) -> bool {
     let Ok((deck, output)) = many_commands(alloc) else {
         return false;
     };
-    let Ok(mut writer) = MemWriter::new(alloc, output.len()) else {
+    let Ok(writer) = MemWriter::new(alloc, output.len()) else {
         return false;
     };
-    let outcome = run_deck(
-        alloc,
-        &mut MemReader::new(&deck),
-        &mut writer,
-        options(false),
-    );
+    let mut devices = Devices::new(MemReader::new(&deck), writer);
+    let outcome = run_deck(alloc, &mut devices, options(false));
     matches!(outcome, Ok(counts) if counts.commands == MANY as u64)
-        && writer.as_bytes() == output.as_slice()
+        && devices.writer.as_bytes() == output.as_slice()
 }
 
 #[test]

@@ -5,7 +5,7 @@ ghost use Rattle.rows.specs.Words.{words_for};
 use crate::cuts::first_bad_cut;
 use crate::difference::first_difference;
 use anyhow::{Context, Result};
-use mon_deck::{MemReader, MemWriter, Options, exit_status, put_fault, run_deck};
+use mon_deck::{Devices, MemReader, MemWriter, Options, exit_status, put_fault, run_deck};
 use std::alloc::{AllocError, Global};
 use std::fs;
 use std::rt::Files;
@@ -68,15 +68,16 @@ impl Case {
         most_read: usize,
         most_written: usize,
     ) -> Result<Outcome, AllocError> {
-        let mut reader = MemReader::in_pieces(self.deck.as_slice(), most_read);
-        let mut writer = MemWriter::in_pieces(alloc, ROOM, most_written)?;
-        let counts = run_deck(alloc, &mut reader, &mut writer, self.options);
+        let reader = MemReader::in_pieces(self.deck.as_slice(), most_read);
+        let writer = MemWriter::in_pieces(alloc, ROOM, most_written)?;
+        let mut devices = Devices::new(reader, writer);
+        let counts = run_deck(alloc, &mut devices, self.options);
         let mut stderr = Vec::new(alloc);
         if let Err(fault) = &counts {
             put_fault(fault, &mut stderr)?;
         }
         Ok(Outcome {
-            stdout: Vec::from_slice(alloc, writer.as_bytes())?,
+            stdout: Vec::from_slice(alloc, devices.writer.as_bytes())?,
             stderr,
             status: exit_status(&counts),
         })

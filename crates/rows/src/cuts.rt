@@ -1,15 +1,20 @@
 //! A deck that is cut anywhere, or whose reader fails there: what the whole lines before that print is out, and no more.
 ghost use Rattle.std.specs.Prelude.{◌≡◌, ◌<◌, false};
 
-use mon_deck::{Code, Counts, MemReader, MemWriter, Options, RunError, run_deck};
+use mon_deck::{
+    Code, Counts, DeckFeed, Devices, MemReader, MemWriter, Options, RunError, run_deck,
+};
 use std::alloc::{AllocError, Global};
 
 /// Room for the longest output of a case, and for some more.
 const ROOM: usize = 131_072;
 
-/// About how many bytes the cuts of one deck have together. A deck of up to 1,224 bytes is cut at each of them, a longer
-/// one at as many places as this allows.
+/// About how many bytes the cuts of one deck have together, at which it is run. A deck of up to 1,731 bytes is run cut at each
+/// of them, a longer one at as many places as this allows; what is out behind each byte is looked at of every deck.
 const MOST_CUT_BYTES: usize = 1_500_000;
+
+/// More bytes than any deck has here, and fewer than a feed may be given.
+const MANY_BYTES: u64 = 4_294_967_296;
 
 /// A run, and what it wrote.
 #[derive(Drop)]
@@ -21,9 +26,10 @@ struct Run {
 fn run_of(alloc: Global, reader: MemReader<'_>, options: Options) -> Result<Run, AllocError>
     requires { reader.has_failed ≡ false }
 {
-    let mut reader = reader;
-    let mut writer = MemWriter::new(alloc, ROOM)?;
-    let outcome = run_deck(alloc, &mut reader, &mut writer, options);
+    let writer = MemWriter::new(alloc, ROOM)?;
+    let mut devices = Devices::new(reader, writer);
+    let outcome = run_deck(alloc, &mut devices, options);
+    let Devices { reader: _, writer } = devices;
     Ok(Run { outcome, writer })
 }
 
@@ -34,6 +40,9 @@ pub fn first_bad_cut(
     options: Options,
 ) -> Result<Option<usize>, AllocError> {
     let whole = run_of(alloc, MemReader::new(deck), options)?;
+    if let Some(end) = first_bad_byte(alloc, deck, options, &whole) {
+        return Ok(Some(end));
+    }
     let step = step_of(deck.len());
     for end in 0..deck.len() {
         if end % step == 0 && !shows_what_is_due(alloc, deck, end, options, &whole)? {
@@ -63,6 +72,60 @@ fn shows_what_is_due(
     )
 }
 
+// Feeds a byte: how many were fed then.
+fn feed_byte(
+    alloc: Global,
+    feed: &mut DeckFeed,
+    byte: u8,
+    out: &mut Vec<u8>,
+) -> Result<u64, RunError> {
+    if feed.fed() < MANY_BYTES {
+        feed.feed(alloc, &[byte], out)?;
+    }
+    Ok(feed.fed())
+}
+
+// The place of the first byte behind which a deck that is fed byte by byte shows something else than it must: something is
+// printed only where a line ends, all of it is what the whole run wrote, and the deck comes out as it did there.
+fn first_bad_byte(alloc: Global, deck: &[u8], options: Options, whole: &Run) -> Option<usize> {
+    let mut feed = DeckFeed::new(alloc, options);
+    let mut out = Vec::new(alloc);
+    for at in 0..deck.len() {
+        let printed = out.len();
+        match feed_byte(alloc, &mut feed, deck[at], &mut out) {
+            Ok(fed) => {
+                if fed != at as u64 + 1 || !goes_on(whole, &out, printed, deck[at] == b'\n') {
+                    return Some(at);
+                }
+            }
+            Err(error) => return if came_out(whole, &Err(error), &out) {
+                None
+            } else {
+                Some(at)
+            },
+        }
+    }
+    let outcome = feed.finish(alloc, &mut out);
+    if came_out(whole, &outcome, &out) {
+        None
+    } else {
+        Some(deck.len())
+    }
+}
+
+// Whether what was printed behind so many bytes goes on as the whole run did; nothing is printed within a line.
+fn goes_on(whole: &Run, out: &[u8], printed: usize, ends_line: bool) -> bool {
+    if !ends_line {
+        return out.len() == printed;
+    }
+    whole.writer.as_bytes().get(printed..out.len()) == out.get(printed..)
+}
+
+// Whether a feed came out as the whole run did.
+fn came_out(whole: &Run, outcome: &Result<Counts, RunError>, out: &[u8]) -> bool {
+    is_same_outcome(&whole.outcome, outcome) && whole.writer.as_bytes() == out
+}
+
 // How many bytes lie between two cuts of a deck of so many bytes.
 fn step_of(length: usize) -> usize
     ensures { 0 < result }
@@ -77,13 +140,16 @@ fn whole_lines(bytes: &[u8]) -> &[u8] {
     &bytes[..bytes.len().saturating_sub(left)]
 }
 
-fn is_same(a: &Run, b: &Run) -> bool {
-    let is_same_outcome = match (&a.outcome, &b.outcome) {
+fn is_same_outcome(a: &Result<Counts, RunError>, b: &Result<Counts, RunError>) -> bool {
+    match (a, b) {
         (Ok(a), Ok(b)) => a.commands == b.commands,
         (Err(a), Err(b)) => a == b,
         _ => false,
-    };
-    is_same_outcome && a.writer.as_bytes() == b.writer.as_bytes()
+    }
+}
+
+fn is_same(a: &Run, b: &Run) -> bool {
+    is_same_outcome(&a.outcome, &b.outcome) && a.writer.as_bytes() == b.writer.as_bytes()
 }
 
 // Whether a deck was cut off behind so many lines.
@@ -112,9 +178,12 @@ fn ends_there(
     }
     let is_refused =
         matches!(seen.outcome, Err(RunError::DeckRefused(line, _)) if line == lines.saturating_add(1));
+    if is_refused {
+        return Ok(seen.writer.as_bytes() == due.writer.as_bytes());
+    }
     let begins = seen.writer.as_bytes().starts_with(due.writer.as_bytes());
     let is_stopped = seen.outcome.is_ok() && cut.trim_ascii_end().ends_with(b"$STOP");
-    Ok((is_refused || is_cut_behind(&seen, lines.saturating_add(1)) || is_stopped) && begins)
+    Ok((is_cut_behind(&seen, lines.saturating_add(1)) || is_stopped) && begins)
 }
 
 // Whether what is due is out where reads give so many bytes, and the one fails that would give what stands there.

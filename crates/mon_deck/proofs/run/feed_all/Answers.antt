@@ -2,14 +2,17 @@ use Rattle.std.proofs.Common.{rules, refl, [], arith, ◌≡◌, ◌≤◌, ◌+
 use Rattle.std.proofs.lemmas.List.{take_at}
 use Rattle.mon_feed.specs.Told.{outcome_from}
 use Rattle.mon_deck.specs.Runs.{HoldsBeginning}
-use Rattle.mon_deck.specs.inner.Writing.{holds}
-use Rattle.mon_deck.proofs.Running.{on_err, begins, begun_at_start, goes_on, begun_further, midway, none_read, read_once}
+use Rattle.mon_deck.specs.inner.Writing.{holds, Stands, BrokeOff}
+use Rattle.mon_deck.proofs.Running.{on_err, begins, begun_at_start, broke_at_start, goes_on, begun_further, broke_within, midway, none_given, none_read, at_read, given_same, memory_so}
 use Rattle.mon_feed.proofs.Telling.{refused_so}
 use Rattle.mon_deck.proofs.run.feed_all.Goals as goal
 
 pub loop-read-preserved : goal.loop-read-preserved
 loop-read-preserved g c =
     let so_far = c.loop-read.invariant.runs in
+    let now = g.D.DeckDevices.written c.read.new.self in
+    let after = g.D.DeckDevices.written c.serve.new.devices in
+    let runs = at_read _ _ _ _ now _ _ _ c.read.ensures.apart.0 so_far.1 in
     let same : c.deref.result.now ≡ c.read.new.buffer = c.deref.ensures.value ∙ take_at _ _ _ (c.read.auto.buffer ∙ c.deref_mut.ensures.len) in
     let size : length c.read.new.buffer ≡ 65536 = c.read.auto.buffer ∙ c.deref_mut.ensures.len ∙ c.loop-read.invariant.buffer in
     let within : c.in-Ok.count ≤ 65536 = omega (arith, c.in-Ok.ensures.within, size) in
@@ -18,11 +21,11 @@ loop-read-preserved g c =
       empty = search rules;
       runs = (
         so_far.0 ++ take c.in-Ok.count c.read.new.buffer,
-        goes_on _ _ _ _ _ _ _ so_far.1 (take c.in-Ok.count c.read.new.buffer) _ _ _ c.in-Ok.ensures.given
-            (λ bytes. c.in-Ok-serve.ensures.served bytes ∙ ap (λ (b : List ℕ). holds (g.W.DeckWriter.written c.loop-read.writer) (outcome_from c.loop-read.feed (take c.in-Ok.count b ++ bytes))) same)
-            (λ bytes. subst (λ (b : List ℕ). HoldsBeginning (g.W.DeckWriter.written c.loop-read.writer) (g.W.DeckWriter.written c.serve.new.writer) (outcome_from c.loop-read.feed (take c.in-Ok.count b ++ bytes)).written) same (c.serve.ensures.begun bytes)),
+        goes_on _ _ _ _ _ _ _ runs (take c.in-Ok.count c.read.new.buffer) _ after _ (given_same _ _ _ _ c.serve.ensures.apart.0 c.in-Ok.ensures.given)
+            (subst (λ (b : List ℕ). Stands now after [] c.loop-read.feed c.serve.new.feed (take c.in-Ok.count b)) same c.in-Ok-serve.ensures.served)
+            (λ bytes. subst (λ (b : List ℕ). HoldsBeginning now after (outcome_from c.loop-read.feed (take c.in-Ok.count b ++ bytes)).written) same (c.serve.ensures.begun bytes)),
       );
-      reads = read_once c.loop-read._read _ _ _ c.loop-read.invariant.reads c.read.ensures.counted;
+      reads = search rules;
       few = omega (arith, c.loop-read.invariant.few, c.in-Ok-serve.ensures.fed, length-take c.in-Ok.count c.deref.result.now, within);
       reads_back = search rules;
       options = search rules;
@@ -33,32 +36,57 @@ loop-read-preserved g c =
 pub returns-in-Err-serve-clause-refused : goal.returns-in-Err-serve-clause-refused
 returns-in-Err-serve-clause-refused g c = λ n code refused.
     let so_far = c.loop-read.invariant.runs in
+    let now = g.D.DeckDevices.written c.read.new.self in
+    let runs = at_read _ _ _ _ now _ _ _ c.read.ensures.apart.0 so_far.1 in
     let same : c.deref.result.now ≡ c.read.new.buffer = c.deref.ensures.value ∙ take_at _ _ _ (c.read.auto.buffer ∙ c.deref_mut.ensures.len) in
-    midway _ _ _ _ _ _ _ so_far.1 (take c.in-Ok.count c.read.new.buffer) _ c.in-Ok.ensures.given _
+    midway _ _ _ _ _ _ _ runs (take c.in-Ok.count c.read.new.buffer) _ c.in-Ok.ensures.given _
     (λ bytes. c.serve.ensures.refused n code (c.in-Err-serve.is ∙ refused_so c.in-Err-serve.error n code refused) bytes
-    ∙ ap (λ (b : List ℕ). holds (g.W.DeckWriter.written c.loop-read.writer) (outcome_from c.loop-read.feed (take c.in-Ok.count b ++ bytes))) same)
+    ∙ ap (λ (b : List ℕ). holds now (outcome_from c.loop-read.feed (take c.in-Ok.count b ++ bytes))) same)
 
 pub returns-in-Err-serve-clause-begun : goal.returns-in-Err-serve-clause-begun
 returns-in-Err-serve-clause-begun g c =
     let so_far = c.loop-read.invariant.runs in
+    let now = g.D.DeckDevices.written c.read.new.self in
+    let after = g.D.DeckDevices.written c.serve.new.devices in
+    let runs = at_read _ _ _ _ now _ _ _ c.read.ensures.apart.0 so_far.1 in
     let same : c.deref.result.now ≡ c.read.new.buffer = c.deref.ensures.value ∙ take_at _ _ _ (c.read.auto.buffer ∙ c.deref_mut.ensures.len) in (
       so_far.0 ++ take c.in-Ok.count c.read.new.buffer,
-      begun_further _ _ _ _ _ _ _ so_far.1 (take c.in-Ok.count c.read.new.buffer) _ _ c.in-Ok.ensures.given
-          (λ bytes. subst (λ (b : List ℕ). HoldsBeginning (g.W.DeckWriter.written c.loop-read.writer) (g.W.DeckWriter.written c.serve.new.writer) (outcome_from c.loop-read.feed (take c.in-Ok.count b ++ bytes)).written) same (c.serve.ensures.begun bytes)),
+      begun_further _ _ _ _ _ _ _ runs (take c.in-Ok.count c.read.new.buffer) _ after (given_same _ _ _ _ c.serve.ensures.apart.0 c.in-Ok.ensures.given)
+          (λ bytes. subst (λ (b : List ℕ). HoldsBeginning now after (outcome_from c.loop-read.feed (take c.in-Ok.count b ++ bytes)).written) same (c.serve.ensures.begun bytes)),
     )
+
+pub returns-in-Err-serve-clause-short : goal.returns-in-Err-serve-clause-short
+returns-in-Err-serve-clause-short g c = λ short.
+    let so_far = c.loop-read.invariant.runs in
+    let now = g.D.DeckDevices.written c.read.new.self in
+    let after = g.D.DeckDevices.written c.serve.new.devices in
+    let runs = at_read _ _ _ _ now _ _ _ c.read.ensures.apart.0 so_far.1 in
+    let same : c.deref.result.now ≡ c.read.new.buffer = c.deref.ensures.value ∙ take_at _ _ _ (c.read.auto.buffer ∙ c.deref_mut.ensures.len) in
+    broke_within _ _ _ _ _ _ _ runs (take c.in-Ok.count c.read.new.buffer) _ after (given_same _ _ _ _ c.serve.ensures.apart.0 c.in-Ok.ensures.given)
+    (subst (λ (b : List ℕ). BrokeOff now after c.loop-read.feed (take c.in-Ok.count b)) same (c.serve.ensures.short (c.in-Err-serve.is ∙ memory_so c.in-Err-serve.error short)))
 
 pub returns-in_err-buffer-clause-begun : goal.returns-in_err-buffer-clause-begun
 returns-in_err-buffer-clause-begun g c = on_err c.from_residual.result ([], begun_at_start _ _ _)
+
+pub returns-in_err-buffer-clause-short : goal.returns-in_err-buffer-clause-short
+returns-in_err-buffer-clause-short g c = λ short. broke_at_start _ _ _ c.requires.reading
 
 pub loop-read-init : goal.loop-read-init
 loop-read-init g c = record {
   buffer = search rules;
   empty = search rules;
-  runs = ([], begins _ _ _);
+  runs = ([], begins _ _ _ c.requires.reading);
   reads = none_read _;
   few = omega (arith, c.requires.start);
   reads_back = λ back. back;
   options = refl;
-  read = refl;
-  write = refl;
+  read = search rules;
+  write = search rules;
 }
+
+pub returns-in-Ok-eq0-clause-runs : goal.returns-in-Ok-eq0-clause-runs
+returns-in-Ok-eq0-clause-runs g c =
+    let so_far = c.loop-read.invariant.runs in
+    let runs = at_read _ _ _ _ (g.D.DeckDevices.written c.read.new.self) _ _ _ c.read.ensures.apart.0 so_far.1 in
+    let none : take c.in-Ok-eq0.field-0 c.read.new.buffer ≡ [] = ap (λ k. take k c.read.new.buffer) c.in-Ok-eq0.field-0-test in
+    (so_far.0, none_given _ _ _ _ _ _ _ so_far.0 (take c.in-Ok-eq0.field-0 c.read.new.buffer) none c.in-Ok-eq0.ensures.given runs)

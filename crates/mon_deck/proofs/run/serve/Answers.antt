@@ -1,42 +1,63 @@
-use Rattle.std.proofs.Common.{List, ℕ, ◌++◌, ◌+◌, ◌≡◌, ◌∙◌, length, drop, ap, refl, arith}
+use Rattle.std.proofs.Common.{rules, Result, Err, List, ℕ, ◌++◌, ◌+◌, ◌≡◌, ◌∙◌, length, drop, ap, sym, subst, refl, arith}
 use Rattle.std.proofs.lemmas.List.{take_rest, length-drop}
-use Rattle.mon_deck.specs.inner.Writing.{holds}
+use Rattle.mon_text.proofs.Cutting.{nothing_kept}
+use Rattle.mon_feed.specs.declared.fault.RunError.{RunError}
+use Rattle.mon_feed.specs.declared.fault.RunError.TheVariants.{DeckRefused, Memory}
 use Rattle.mon_feed.specs.Told.{told, outcome_from}
-use Rattle.mon_deck.proofs.Holdings.{not_grown, grown_further, held_begins, grown_held}
+use Rattle.mon_deck.proofs.Holdings.{Far, not_grown, grown_further, held_begins, grown_held, far_at_start, far_served, further, all_taken, breaks_off}
 use Rattle.mon_deck.proofs.run.serve.Goals as goal
 
 pub returns-in_err-used-clause-begun : goal.returns-in_err-used-clause-begun
 returns-in_err-used-clause-begun g c = λ bytes.
-    grown_held (g.W.DeckWriter.written c.args.writer.now) (g.W.DeckWriter.written c.lines.writer) (g.W.DeckWriter.written c.serve_line.new.writer)
+    grown_held (g.D.DeckDevices.written c.args.devices.now) (g.D.DeckDevices.written c.lines.devices) (g.D.DeckDevices.written c.serve_line.new.devices)
     (outcome_from c.args.feed.now (c.args.piece.now ++ bytes)) (told c.lines.out.items c.lines.feed (c.lines.rest.now ++ bytes))
-    c.lines.invariant.grown (c.lines.invariant.served bytes) (c.serve_line.ensures.begun bytes)
+    c.lines.invariant.grown (far_served _ _ _ _ _ _ _ c.lines.invariant.far bytes) (c.serve_line.ensures.begun bytes)
+
+pub returns-in_err-used-clause-refused : goal.returns-in_err-used-clause-refused
+returns-in_err-used-clause-refused g c = λ n code same bytes.
+    let so : ◌≡◌ {A = Result ℕ RunError} c.serve_line.result (Err (DeckRefused n code)) = search (rules, same) in
+    c.serve_line.ensures.refused n code so bytes ∙ far_served _ _ _ _ _ _ _ c.lines.invariant.far bytes
+
+pub returns-in_err-used-clause-short : goal.returns-in_err-used-clause-short
+returns-in_err-used-clause-short g c = λ short.
+    let so : ◌≡◌ {A = Result ℕ RunError} c.serve_line.result (Err Memory) = search (rules, short) in
+    let at = c.serve_line.ensures.short so in
+    breaks_off _ _ _ _ _ _ _ _ c.lines.invariant.far at.0 at.1
 
 pub returns-in-Ok-clause-begun : goal.returns-in-Ok-clause-begun
 returns-in-Ok-clause-begun g c = λ bytes.
     let later = told c.lines.out.items c.lines.feed (c.lines.rest.now ++ bytes) in
-    grown_held (g.W.DeckWriter.written c.args.writer.now) (g.W.DeckWriter.written c.lines.writer) (g.W.DeckWriter.written c.flush.new.writer)
+    grown_held (g.D.DeckDevices.written c.args.devices.now) (g.D.DeckDevices.written c.lines.devices) (g.D.DeckDevices.written c.flush.new.devices)
     (outcome_from c.args.feed.now (c.args.piece.now ++ bytes)) later
-    c.lines.invariant.grown (c.lines.invariant.served bytes)
-    (held_begins (g.W.DeckWriter.written c.lines.writer) (g.W.DeckWriter.written c.flush.new.writer) c.lines.out.items later.written c.flush.ensures.begun
+    c.lines.invariant.grown (far_served _ _ _ _ _ _ _ c.lines.invariant.far bytes)
+    (held_begins (g.D.DeckDevices.written c.lines.devices) (g.D.DeckDevices.written c.flush.new.devices) c.lines.out.items later.written c.flush.ensures.begun
     ((outcome_from c.lines.feed (c.lines.rest.now ++ bytes)).written, refl))
 
 pub returns-in-Err-clause-begun : goal.returns-in-Err-clause-begun
 returns-in-Err-clause-begun g c = λ bytes.
     let later = told c.lines.out.items c.lines.feed (c.lines.rest.now ++ bytes) in
-    grown_held (g.W.DeckWriter.written c.args.writer.now) (g.W.DeckWriter.written c.lines.writer) (g.W.DeckWriter.written c.flush.new.writer)
+    grown_held (g.D.DeckDevices.written c.args.devices.now) (g.D.DeckDevices.written c.lines.devices) (g.D.DeckDevices.written c.flush.new.devices)
     (outcome_from c.args.feed.now (c.args.piece.now ++ bytes)) later
-    c.lines.invariant.grown (c.lines.invariant.served bytes)
-    (held_begins (g.W.DeckWriter.written c.lines.writer) (g.W.DeckWriter.written c.flush.new.writer) c.lines.out.items later.written c.flush.ensures.begun
+    c.lines.invariant.grown (far_served _ _ _ _ _ _ _ c.lines.invariant.far bytes)
+    (held_begins (g.D.DeckDevices.written c.lines.devices) (g.D.DeckDevices.written c.flush.new.devices) c.lines.out.items later.written c.flush.ensures.begun
     ((outcome_from c.lines.feed (c.lines.rest.now ++ bytes)).written, refl))
+
+pub returns-in-Ok-clause-served : goal.returns-in-Ok-clause-served
+returns-in-Ok-clause-served g c =
+    all_taken _ (g.D.DeckDevices.written c.lines.devices) _ c.lines.out.items c.flush.new.out.items _ _ _ c.lines.rest.now c.lines.invariant.far
+    (nothing_kept c.lines.rest.now (sym c.is_empty.ensures ∙ c.lines-test.false)) c.in-Ok.ensures.put c.in-Ok.ensures.empty
 
 pub lines-init : goal.lines-init
 lines-init g c = record {
-  served = λ bytes. ap (λ (out : List ℕ). holds (g.W.DeckWriter.written c.args.writer.now) (told out c.args.feed.now (c.args.piece.now ++ bytes))) c.requires.empty;
-  grown = not_grown (g.W.DeckWriter.written c.args.writer.now);
+  far = far_at_start _ _ _ _ c.requires.empty c.requires.reading;
+  grown = not_grown (g.D.DeckDevices.written c.args.devices.now);
   fed = refl;
   reads_back = λ back. back;
   options = refl;
-  sound = refl;
+  remaining = refl;
+  reads = refl;
+  read = search rules;
+  write = search rules;
 }
 
 pub lines-preserved : goal.lines-preserved
@@ -44,16 +65,20 @@ lines-preserved g c =
     let rest = c.lines.rest.now in
     let used = c.in_ok-used.used in
     let feed = c.serve_line.new.feed in
+    let held = g.D.DeckDevices.written c.args.devices.now in
+    let now = g.D.DeckDevices.written c.serve_line.new.devices in
     let there : feed.fed + length (drop used rest) ≡ c.args.feed.now.fed + length c.args.piece.now =
     omega (arith, c.in_ok-used.ensures.used.1, c.in_ok-used.ensures.used.2, length-drop used rest, c.lines.invariant.fed) in
     record {
-      served = λ bytes.
-          ap (λ (v : List ℕ). holds (g.W.DeckWriter.written c.serve_line.new.writer) (told c.serve_line.new.out.items feed (v ++ bytes))) (take_rest rest used)
-          ∙ c.in_ok-used.ensures.served bytes
-          ∙ c.lines.invariant.served bytes;
+      far = subst (λ (v : List ℕ). Far held now c.serve_line.new.out.items c.args.feed.now feed c.args.piece.now v) (sym (take_rest rest used))
+          (further held (g.D.DeckDevices.written c.lines.devices) now c.lines.out.items c.serve_line.new.out.items c.args.feed.now c.lines.feed feed c.args.piece.now rest used c.lines.invariant.far
+          c.in_ok-used.ensures.served c.in_ok-used.ensures.counted c.in_ok-used.ensures.reading);
       grown = grown_further _ _ _ c.lines.invariant.grown c.serve_line.ensures.grown;
       fed = ap (λ (v : List ℕ). feed.fed + length v) (take_rest rest used) ∙ there;
       reads_back = λ back. c.in_ok-used.ensures.reads_back (c.lines.invariant.reads_back back);
       options = c.serve_line.ensures.options ∙ c.lines.invariant.options;
-      sound = c.in_ok-used.ensures.sound ∙ c.lines.invariant.sound;
+      remaining = c.serve_line.ensures.apart.0 ∙ c.lines.invariant.remaining;
+      reads = c.serve_line.ensures.apart.1 ∙ c.lines.invariant.reads;
+      read = c.serve_line.ensures.apart.2;
+      write = c.in_ok-used.ensures.sound;
     }

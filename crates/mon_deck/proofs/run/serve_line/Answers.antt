@@ -1,4 +1,4 @@
-use Rattle.std.proofs.Common.{◌≡◌, sym, ap, subst, ◌∙◌, ◌++◌, ◌+◌, drop, List, ℕ, Result, IfErr}
+use Rattle.std.proofs.Common.{◌≡◌, sym, ap, subst, ◌∙◌, ◌++◌, ◌+◌, List, ℕ, Result, IfErr}
 use Rattle.std.specs.Str.Lines.{lines}
 use Rattle.mon_device.specs.Devices.{holding}
 use Rattle.mon_feed.specs.declared.fault.RunError.{RunError}
@@ -7,21 +7,22 @@ use Rattle.mon_feed.specs.Feeds.{behind, outcome, stopped_by}
 use Rattle.mon_deck.specs.Runs.{HoldsBeginning}
 use Rattle.mon_deck.specs.inner.Writing.{holds}
 use Rattle.mon_feed.proofs.Telling.{refused_so}
-use Rattle.mon_deck.proofs.Holdings.{kept_told, refused_holds, held_begins, has_grown}
+use Rattle.mon_deck.proofs.Holdings.{still_read, kept_told, refused_holds, held_begins, has_grown}
+use Rattle.mon_deck.proofs.Running.{memory_so}
 use Rattle.mon_deck.proofs.run.serve_line.Goals as goal
 
 pub returns-in-Ok-flush_large-clause-served : goal.returns-in-Ok-flush_large-clause-served
 returns-in-Ok-flush_large-clause-served g c = λ bytes.
-    kept_told (g.W.DeckWriter.written c.args.writer.now) (g.W.DeckWriter.written c.flush_large.new.writer) c.feed_line.new.out.items c.flush_large.new.out.items c.in-Ok-flush_large.ensures.put c.feed_line.new.self (drop c.in-Ok.used c.args.piece.now ++ bytes)
-    ∙ ap (holds (g.W.DeckWriter.written c.args.writer.now)) (c.in-Ok.ensures.told bytes)
+    kept_told (g.D.DeckDevices.written c.args.devices.now) (g.D.DeckDevices.written c.flush_large.new.devices) c.feed_line.new.out.items c.flush_large.new.out.items c.in-Ok-flush_large.ensures.put c.feed_line.new.self bytes
+    ∙ ap (holds (g.D.DeckDevices.written c.args.devices.now)) (c.in-Ok.ensures.told bytes)
 
 pub returns-in-Ok-write_all-clause-refused : goal.returns-in-Ok-write_all-clause-refused
 returns-in-Ok-write_all-clause-refused g c = λ n code same bytes.
     let after = c.feed_line.new.self in
     let so : ◌≡◌ {A = Result ℕ RunError} c.feed_line.result _ = c.in-Err.is ∙ refused_so c.in-Err.error n code same in
     let failed = subst (λ (e : Result ℕ RunError). IfErr e (λ error. after.state ≡ stopped_by error)) so c.feed_line.ensures.failed in
-    refused_holds (g.W.DeckWriter.written c.args.writer.now) (g.W.DeckWriter.written c.write_all.new.writer) c.feed_line.new.out.items after.commands n code _
-    (c.in-Ok-write_all.ensures.all ∙ ap (λ (items : List ℕ). holding (g.W.DeckWriter.written c.args.writer.now) items) c.deref.ensures.value)
+    refused_holds (g.D.DeckDevices.written c.args.devices.now) (g.D.DeckDevices.written c.write_all.new.devices) c.feed_line.new.out.items after.commands n code _
+    (c.in-Ok-write_all.ensures.all ∙ ap (λ (items : List ℕ). holding (g.D.DeckDevices.written c.args.devices.now) items) c.deref.ensures.value)
     (sym (ap (λ (s : State). behind c.feed_line.new.out.items after.commands (outcome after.options.check s (after.lines_taken + 1) (lines (after.line ++ bytes)))) failed) ∙ c.feed_line.ensures.refused n code so bytes)
 
 pub returns-in-Ok-flush_large-clause-begun : goal.returns-in-Ok-flush_large-clause-begun
@@ -33,13 +34,13 @@ returns-in-Err-flush_large-clause-begun g c = λ bytes. held_begins _ _ c.feed_l
 pub returns-in-Ok-write_all-clause-begun : goal.returns-in-Ok-write_all-clause-begun
 returns-in-Ok-write_all-clause-begun g c = λ bytes.
     held_begins _ _ c.feed_line.new.out.items _
-    (subst (λ (v : List ℕ). HoldsBeginning (g.W.DeckWriter.written c.args.writer.now) (g.W.DeckWriter.written c.write_all.new.writer) v) c.deref.ensures.value c.write_all.ensures.taken)
+    (subst (λ (v : List ℕ). HoldsBeginning (g.D.DeckDevices.written c.args.devices.now) (g.D.DeckDevices.written c.write_all.new.devices) v) c.deref.ensures.value c.write_all.ensures.taken)
     (c.feed_line.ensures.begun bytes)
 
 pub returns-in-Err-write_all-clause-begun : goal.returns-in-Err-write_all-clause-begun
 returns-in-Err-write_all-clause-begun g c = λ bytes.
     held_begins _ _ c.feed_line.new.out.items _
-    (subst (λ (v : List ℕ). HoldsBeginning (g.W.DeckWriter.written c.args.writer.now) (g.W.DeckWriter.written c.write_all.new.writer) v) c.deref.ensures.value c.write_all.ensures.taken)
+    (subst (λ (v : List ℕ). HoldsBeginning (g.D.DeckDevices.written c.args.devices.now) (g.D.DeckDevices.written c.write_all.new.devices) v) c.deref.ensures.value c.write_all.ensures.taken)
     (c.feed_line.ensures.begun bytes)
 
 pub returns-in-Ok-flush_large-clause-grown : goal.returns-in-Ok-flush_large-clause-grown
@@ -53,3 +54,10 @@ returns-in-Ok-write_all-clause-grown g c = has_grown _ _ c.deref.result.now c.wr
 
 pub returns-in-Err-write_all-clause-grown : goal.returns-in-Err-write_all-clause-grown
 returns-in-Err-write_all-clause-grown g c = has_grown _ _ c.deref.result.now c.write_all.ensures.taken
+
+pub returns-in-Ok-write_all-clause-short : goal.returns-in-Ok-write_all-clause-short
+returns-in-Ok-write_all-clause-short g c = λ short.
+    let so : ◌≡◌ {A = Result ℕ RunError} c.feed_line.result _ = c.in-Err.is ∙ memory_so c.in-Err.error short in (
+      still_read c.args.feed.now.state c.args.piece.now c.requires.reading (c.feed_line.ensures.memory so),
+      c.in-Ok-write_all.ensures.all ∙ ap (λ (items : List ℕ). holding (g.D.DeckDevices.written c.args.devices.now) items) (c.deref.ensures.value ∙ c.in-Err.ensures.nothing),
+    )
