@@ -16,7 +16,7 @@ use sno_ask::{Act, Answer, Request, Service};
 use sno_code::{Got, Halt, got_of};
 use sno_prototype::unit_in;
 use sno_store::Store;
-use sno_text::{Fault, Text};
+use sno_text::{Fault, Named, Text};
 use sno_value::{Value, primitive_named};
 use std::alloc::{AllocError, Global};
 
@@ -235,7 +235,7 @@ fn on_values(
 #[tactic(auto, using(sno_talk::proofs::Held::talking, crate::proofs::Ending::ended_so))]
 pub fn primitive<S: Service>(
     alloc: Global,
-    name: &Text,
+    name: &Named,
     arguments: &[Value],
     state: &mut Store,
     service: &mut S,
@@ -246,13 +246,13 @@ pub fn primitive<S: Service>(
     ensures counted { state.new.keywords.begun ≡ state.old.keywords.begun }
     ensures ready { S.ready service.new }
 {
-    match StateFunction::named(name.as_bytes()) {
+    match StateFunction::named(name.text().as_bytes()) {
         Some(which) => match on_state(alloc, which, arguments, state, service) {
             Ok(got) => Ok(got),
             Err(e) => Err(e),
         },
         None => {
-            let got = on_values(alloc, name, arguments, state)?;
+            let got = on_values(alloc, name.text(), arguments, state)?;
             Ok(got)
         }
     }

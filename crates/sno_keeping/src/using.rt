@@ -63,11 +63,11 @@ fn read<S: Service>(
     }
 }
 
-/// Uses the value of a variable: a record is read, where it is associated with a unit. Where none is, it takes no memory.
+/// Uses the value of a variable: a record is read, where it is associated with a unit.
 ///
 /// # Errors
 ///
-/// Where a growth was refused; the record may have been read then.
+/// Where a growth was refused, and the record may have been read then; or where as many share the value as can be counted.
 #[tactic(auto, using(sno_talk::proofs::Held::talking))]
 pub fn used<S: Service>(
     alloc: Global,

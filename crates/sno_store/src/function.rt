@@ -7,7 +7,7 @@ ghost use Rattle.indexmap.specs.IndexMap.{insert_entry};
 
 use indexmap::IndexMap;
 use sno_prototype::Function;
-use sno_text::Text;
+use sno_text::{Named, Text};
 use std::alloc::{AllocError, Global};
 use std::marker::Model;
 
@@ -18,12 +18,17 @@ pub struct Functions {
 }
 
 impl Model for Functions {
-    ghost use Rattle.std.specs.Prelude.{ℕ, List};
+    ghost use Rattle.std.specs.Prelude.{ℕ, List, nat_eq};
+    ghost use Rattle.std.specs.List.{IsDistinct};
+    ghost use Rattle.std.specs.Map.{keys_of};
+    ghost use Rattle.std.specs.Cmp.Lexicographic.{pointwise};
     ghost use Rattle.sno_prototype.specs.declared.definition.Definition.{Definition};
 
     ghost Value = { List (List ℕ × Definition) };
 
     ghost view = { λ f. f.functions.entries };
+
+    ghost invariant = { λ f. IsDistinct (pointwise nat_eq) (keys_of f.functions.entries) };
 }
 
 impl Functions {
@@ -36,11 +41,33 @@ impl Functions {
         }
     }
 
-    /// The function of a name.
-    pub fn get(&self, name: &Text) -> Option<&Function>
+    /// The function of a name, which is told its place.
+    fn get_named(&self, name: &Named) -> Option<&Function>
         ensures { option_copied result ≡ lookup (pointwise nat_eq name.now) self.now }
     {
-        self.functions.get(name)
+        match self.functions.get_full(name.text()) {
+            Some((place, _, function)) => {
+                name.stands_at(place);
+                Some(function)
+            }
+            None => None,
+        }
+    }
+
+    /// The function of a name, which is looked for at its place first.
+    pub fn get(&self, name: &Named) -> Option<&Function>
+        ensures { option_copied result ≡ lookup (pointwise nat_eq name.now) self.now }
+    {
+        match self.functions.get_index(name.place()) {
+            Some((key, function)) => {
+                if key == name.text() {
+                    Some(function)
+                } else {
+                    self.get_named(name)
+                }
+            }
+            None => self.get_named(name),
+        }
     }
 
     /// Defines a function, in place of one of its name.

@@ -85,7 +85,7 @@ impl Store {
     }
 
     /// The function of a name. It takes no memory.
-    pub fn function(&self, name: &Text) -> Option<&Function>
+    pub fn function(&self, name: &Named) -> Option<&Function>
         ensures { option_copied result ≡ function_of name.now self.now }
     {
         self.functions.get(name)
