@@ -57,6 +57,7 @@ pub(crate) fn meet(
     loop {
         let top: &Node = node;
         match top {
+            // A first part that ends in one place is passed at once, and what is behind one that fails is not kept.
             Node::Cat(_, a, b) => match reached(text, a, at) {
                 Reach::Here(end) if *left > 0 => {
                     *left -= 1;
@@ -69,6 +70,7 @@ pub(crate) fn meet(
                     node = a;
                 }
             },
+            // No choice is left for one that fails.
             Node::Alt(_, a, b) => {
                 if *left > 0 && misses(text, a, at) {
                     *left -= 1;
@@ -88,6 +90,7 @@ pub(crate) fn meet(
             }
             _ => return plain(alloc, text, node, rest, at, waiting, choices, left),
         }
+        // Its step can't be taken here: it waits as a goal.
         if *left == 0 || !is_quiet(node) {
             let goals = before(alloc, Goal::Meet(node.clone()?), rest)?;
             return Ok(Turn::Go(goals, at, waiting));
