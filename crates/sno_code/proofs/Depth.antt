@@ -287,7 +287,7 @@ module _ {Q R K : Type 0} (allowed : K → ℕ) (keeping : Keeping Q R K) (count
   call_same : (b : ℕ) (go go' : Go) → SameFrom b go go' → (f : List ℕ) (vs : List Value) (st : K) → allowed st ≤ b → Alike {Q = Q} {R = R} allowed b (calls_of go f vs st) (calls_of go' f vs st)
   call_same b go go' g f vs st h = entered_same b go go' g f vs st h (keeping.entered f vs st) refl
 
-  executed_same : (b : ℕ) (go go' : Go) → SameFrom b go go' → (line : Line Expression Expression) (i : ℕ) (st : K) → allowed st ≤ b
+  pub executed_same : (b : ℕ) (go go' : Go) → SameFrom b go go' → (line : Line Expression Expression) (i : ℕ) (st : K) → allowed st ≤ b
       → Alike {Q = Q} {R = R} allowed b (executed keeping evaluate name_of program go line i st) (executed keeping evaluate name_of program go' line i st)
   executed_same b go go' g line i st h =
       executes allowed b keeping counts (evaluate (setting_of keeping (calls_of go))) (evaluate (setting_of keeping (calls_of go'))) (name_of (setting_of keeping (calls_of go))) (name_of (setting_of keeping (calls_of go')))

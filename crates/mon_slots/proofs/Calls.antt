@@ -1,0 +1,195 @@
+-- What the calls do is what the definitions say.
+use Rattle.std.proofs.Common.{◌≡◌, ℕ, zero, suc, ◌+◌, ◌-◌, ◌<◌, ◌≤◌, Bool, true, List, [], ◌∷◌, length, Option, Some, None, refl, ap, sym, ◌∙◌, subst, inl, inr, arith}
+use Rattle.std.specs.Prelude.{◌⊎◌, ◌&&◌, min, option_map, is_some, is_none, IsSome, slice_get, slice_set}
+use Rattle.sno_talk.specs.Exchanges.{Answered}
+use Rattle.sno_ask.specs.Asking.{Exchange}
+use Rattle.sno_run.specs.declared.ending.Step.{Step}
+use Rattle.sno_run.specs.declared.ending.Step.TheVariants as step
+use Rattle.sno_run.specs.declared.ending.Ending.TheVariants.{Memory}
+use Rattle.sno_store.specs.States.{may_begin}
+use Rattle.sno_run.specs.declared.ending.Ending.{Ending}
+use Rattle.sno_run.specs.Jobs.{Job, turn_of, TurnIs, MayBegin, statements_begun, statement_at}
+use Rattle.mon_access.specs.declared.account.Account.{Account}
+use Rattle.mon_catalogue.specs.Sets.{Sets}
+use Rattle.mon_unit.specs.declared.service.UnitService.{UnitService}
+use Rattle.mon_unit.specs.Runs.{run, run_cut}
+use Rattle.mon_unit.specs.Serving.{Reach, serve}
+use Rattle.mon_unit.specs.Lent.{UnitAnswers, reach_of}
+use Rattle.mon_unit.proofs.Loans.{served_run, served_cut}
+use Rattle.mon_job.specs.declared.job_end.JobEnd.{JobEnd}
+use Rattle.mon_slots.specs.declared.slot.Slot.{Slot}
+use Rattle.mon_slots.specs.declared.turned.Turned.{Turned}
+use Rattle.mon_slots.specs.declared.turned.Turned.TheVariants.{Empty, Goes, Ended}
+use Rattle.mon_slots.specs.Told.{slot_of, seat_of, seats_of}
+use Rattle.mon_slots.specs.Floors.{SlotState, Floor, floor, seated, seat_at, with_seat, job_in}
+use Rattle.mon_slots.specs.Turns.{reached, after_turn, job_end, seat, told, turned}
+use Rattle.mon_slots.specs.Marks.{Mark, counted, may_break, broken_by, ran_as, turn_as_by, turn_as}
+use Rattle.mon_slots.specs.Turning.{TurnOr, ended_in}
+use Rattle.mon_slots.specs.inner.Stepping.{BrokenOff, Stepped, SeatTurn, one_in, jobs_in}
+use Rattle.mon_slots.proofs.Seats.{set_length, set_get, map_get, map_set, map_length}
+
+-- a statement may begin where a turn is broken off
+pub may_break_is : (job : Job) → job.ended ≡ None → MayBegin job → may_break job ≡ true
+may_break_is job none may =
+    ap (λ (o : Option Ending). is_none o && (is_some (statement_at job.point job.program.lines) && may_begin job.limits.statements job.state)) none
+    ∙ ap (λ (b : Bool). b && may_begin job.limits.statements job.state) (is_some_of (statement_at job.point job.program.lines) may.0)
+    ∙ may.1
+  where
+    is_some_of : {A : Type 0} (o : Option A) → IsSome o → is_some o ≡ true
+    is_some_of None h = absurd cc
+    is_some_of (Some x) h = refl
+
+-- what a turn that was broken off leaves
+pub record Cut (a : Account) (job : Job) (s : UnitService) (st : Step) (job' : Job) (s' : UnitService) : Type 0 where
+  pub exchanges : ℕ
+  pub started : may_break job ≡ true
+  pub begun : (statements_begun job < statements_begun job') × (statements_begun job' ≤ job.limits.statements)
+  pub memory : st ≡ step.Ended Memory
+  pub left : run_cut (serve a) exchanges (turn_of job) (reach_of s) ≡ reach_of s'
+
+-- a turn with who is lent the sets is that of the definitions, or was broken off
+pub turn_done : (a : Account) (job : Job) (s : UnitService) (x : List Exchange) (s' : UnitService) (st : Step) (job' : Job) → s.account.now ≡ a
+    → Answered UnitAnswers s x s' → TurnIs job x st job'
+    → (run (serve a) (turn_of job) (reach_of s) ≡ ((st, job'), reach_of s')) ⊎ Cut a job s st job' s'
+turn_done a job s x s' st job' is h (inl t) = inl (served_run a (turn_of job) s x (st, job') s' is h t)
+turn_done a job s x s' st job' is h (inr b) = inr (record {
+  exchanges = length x;
+  started = may_break_is job b.going b.started;
+  begun = b.begun;
+  memory = b.memory;
+  left = served_cut a (turn_of job) s x s' is h b.begins;
+})
+
+-- how many statements had begun
+at_most : (n limit : ℕ) → n ≤ limit → min n limit ≡ n
+at_most n limit h = omega (arith, h)
+
+count_is : (before after limit : ℕ) → before < after → after ≤ limit → min (suc (before + (after - suc before))) limit ≡ after
+count_is before after limit h g =
+    let e : suc (before + (after - suc before)) ≡ after = omega (arith, h) in
+    ap (λ (n : ℕ). min n limit) e ∙ at_most after limit g
+
+-- the seat is there that a job is in
+module _ (s : ℕ) (sets sets' : Sets) (slots : List (Option SlotState)) (slot slot' : SlotState) (is : seat_at s slots ≡ Some slot) where
+  -- a turn of the job in a slot
+  pub stepped_turn : (st : Step) → Stepped slot sets st slot' sets' → TurnOr s (floor sets slots) (told st slot') (floor sets' (with_seat s (seat st slot') slots))
+  stepped_turn st h = by (h.is)
+    where
+      by : (ran_as None slot sets ≡ ((st, slot'.job), reached sets' slot')) ⊎ BrokenOff slot sets st slot' sets'
+          → TurnOr s (floor sets slots) (told st slot') (floor sets' (with_seat s (seat st slot') slots))
+      by (inl e) =
+          let who : after_turn slot ((st, slot'.job), reached sets' slot') ≡ slot' =
+          ap (λ (n : ℕ). let x : SlotState = record { number = n; account = slot.account; job = slot'.job; units = slot'.units } in x) (sym h.number)
+          ∙ ap (λ (a : Account). let x : SlotState = record { number = slot'.number; account = a; job = slot'.job; units = slot'.units } in x) (sym h.account) in
+          record {
+            mark = None;
+            is = ap (λ (o : Option SlotState). turn_as_by None s o (floor sets slots)) is
+                ∙ ap (λ (r : (Step × Job) × Reach). turned s r slot (floor sets slots)) e
+                ∙ ap (λ (x : SlotState). let p : Turned × Floor = (told st x, floor sets' (with_seat s (seat st x) slots)) in p) who;
+          }
+      by (inr b) =
+          let m : Mark = record { exchanges = b.exchanges; nested = statements_begun slot'.job - suc (statements_begun slot.job) } in
+          let none : List (Option SlotState) = with_seat s None slots in
+          let end : ℕ → List ℕ → ℕ → Turned × Floor = λ n a c. (let e : JobEnd = record { number = n; account = a; spool = slot'.units.spool; notes = slot'.units.notes; ending = Memory; statements = c } in let p : Turned × Floor = (Ended e, floor sets' none) in p) in
+          let count = count_is (statements_begun slot.job) (statements_begun slot'.job) slot.job.limits.statements b.begun.0 b.begun.1 in
+          let one : turn_as (Some m) s (floor sets slots) ≡ (told (step.Ended Memory) slot', floor sets' (with_seat s (seat (step.Ended Memory) slot') slots)) =
+          ap (λ (o : Option SlotState). turn_as_by (Some m) s o (floor sets slots)) is
+          ∙ ap (λ (t : Bool). turned s (broken_by t m slot sets) slot (floor sets slots)) b.started
+          ∙ ap (λ (v : Reach). turned s ((step.Ended Memory, counted m.nested slot.job), v) slot (floor sets slots)) b.left
+          ∙ ap (λ (n : ℕ). end n slot.account.name (statements_begun (counted m.nested slot.job))) (sym h.number)
+          ∙ ap (λ (a : Account). end slot'.number a.name (statements_begun (counted m.nested slot.job))) (sym h.account)
+          ∙ ap (λ (n : ℕ). end slot'.number slot'.account.name n) count in
+          subst (λ (k : Step). TurnOr s (floor sets slots) (told k slot') (floor sets' (with_seat s (seat k slot') slots))) (sym b.memory) (record { mark = Some m; is = one })
+
+pub empty_turn : (s : ℕ) (w : Floor) → job_in s w ≡ None → TurnOr s w Empty w
+empty_turn s w none = record { mark = None; is = ap (λ (o : Option SlotState). turn_as_by None s o w) none }
+
+-- a turn of the seat in its place
+seat_by : (i : ℕ) (sets sets' : Sets) (slots : List (Option SlotState)) (o seat' : Option SlotState) (t : Turned) → slice_get slots i ≡ Some o
+    → SeatTurn o sets t seat' sets' → TurnOr (suc i) (floor sets slots) t (floor sets' (slice_set slots i seat'))
+seat_by i sets sets' slots None seat' t is h =
+    let same : slice_set slots i seat' ≡ slots = ap (slice_set slots i) h.1 ∙ set_get slots i None is in
+    let one = empty_turn (suc i) (floor sets slots) (ap seated is) in
+    subst (λ (u : Turned). TurnOr (suc i) (floor sets slots) u (floor sets' (slice_set slots i seat'))) (sym h.0)
+    (subst (λ (l : List (Option SlotState)). TurnOr (suc i) (floor sets slots) Empty (floor sets' l)) (sym same)
+    (subst (λ (v : Sets). TurnOr (suc i) (floor sets slots) Empty (floor v slots)) (sym h.2) one))
+seat_by i sets sets' slots (Some slot) seat' t is h =
+    let one = stepped_turn (suc i) sets sets' slots slot h.after (ap seated is) h.step h.stepped in
+    subst (λ (u : Turned). TurnOr (suc i) (floor sets slots) u (floor sets' (slice_set slots i seat'))) (sym h.tells)
+    (subst (λ (o : Option SlotState). TurnOr (suc i) (floor sets slots) (told h.step h.after) (floor sets' (slice_set slots i o))) (sym h.leaves) one)
+
+pub seat_turn : (i s : ℕ) (sets sets' : Sets) (slots : List (Option SlotState)) (o seat' : Option SlotState) (t : Turned) → s ≡ suc i → slice_get slots i ≡ Some o
+    → SeatTurn o sets t seat' sets' → TurnOr s (floor sets slots) t (floor sets' (slice_set slots i seat'))
+seat_turn i s sets sets' slots o seat' t e is h =
+    subst (λ (n : ℕ). TurnOr n (floor sets slots) t (floor sets' (slice_set slots i seat'))) (sym e) (seat_by i sets sets' slots o seat' t is h)
+
+-- how many jobs there are
+set_jobs : (slots : List (Option SlotState)) (i : ℕ) (slot : SlotState) (o : Option SlotState) → seated (slice_get slots i) ≡ Some slot
+    → suc (jobs_in (slice_set slots i o)) ≡ one_in o + jobs_in slots
+set_jobs [] i slot o h = absurd cc
+set_jobs (x ∷ slots) zero slot o h =
+    let e : x ≡ Some slot = h in
+    subst (λ (y : Option SlotState). suc (one_in o + jobs_in slots) ≡ one_in o + (one_in y + jobs_in slots)) (sym e) (omega arith)
+set_jobs (x ∷ slots) (suc i) slot o h = let k = set_jobs slots i slot o h in omega (arith, k)
+
+with_jobs : (s : ℕ) (slots : List (Option SlotState)) (slot : SlotState) (o : Option SlotState) → seat_at s slots ≡ Some slot
+    → suc (jobs_in (with_seat s o slots)) ≡ one_in o + jobs_in slots
+with_jobs zero slots slot o h = absurd cc
+with_jobs (suc i) slots slot o h = set_jobs slots i slot o h
+
+step_jobs : (st : Step) (slot : SlotState) → one_in (seat st slot) + length (ended_in (told st slot)) ≡ 1
+step_jobs step.Goes slot = refl
+step_jobs (step.Ended e) slot = refl
+
+jobs_by : (m : Option Mark) (s : ℕ) (w : Floor) (o : Option SlotState) → job_in s w ≡ o
+    → jobs_in (turn_as_by m s o w).1.slots + length (ended_in (turn_as_by m s o w).0) ≡ jobs_in w.slots
+jobs_by m s w None is = omega arith
+jobs_by m s w (Some slot) is =
+    let r = ran_as m slot w.sets in
+    let slot' = after_turn slot r in
+    let one = step_jobs r.0.0 slot' in
+    let all = with_jobs s w.slots slot (seat r.0.0 slot') is in
+    omega (arith, one, all)
+
+-- as many as before, but for the one that ended
+pub turn_jobs : (s : ℕ) (w w' : Floor) (t : Turned) → TurnOr s w t w' → jobs_in w'.slots + length (ended_in t) ≡ jobs_in w.slots
+turn_jobs s w w' t h =
+    subst (λ (p : Turned × Floor). jobs_in p.1.slots + length (ended_in p.0) ≡ jobs_in w.slots) h.is (jobs_by h.mark s w (job_in s w) refl)
+
+pub jobs_few : (slots : List (Option SlotState)) → jobs_in slots ≤ length slots
+jobs_few [] = omega arith
+jobs_few (None ∷ slots) = let k = jobs_few slots in omega (arith, k)
+jobs_few (Some x ∷ slots) = let k = jobs_few slots in omega (arith, k)
+
+-- a turn of what a slot holds
+pub seat_none : (o o' : Option Slot) (sets : Sets) → o ≡ None → o' ≡ None → SeatTurn (seat_of o) sets Empty (seat_of o') sets
+seat_none None o' sets h g = (refl, ap seat_of g, refl)
+seat_none (Some x) o' sets h g = absurd cc
+
+pub seat_went : (o o' : Option Slot) (slot slot' : Slot) (st : Step) (sets sets' : Sets) (t : Turned) → o ≡ Some slot
+    → Stepped (slot_of slot) sets st (slot_of slot') sets' → t ≡ told st (slot_of slot') → seat_of o' ≡ seat st (slot_of slot')
+    → SeatTurn (seat_of o) sets t (seat_of o') sets'
+seat_went o o' slot slot' st sets sets' t is h tells leaves =
+    subst (λ (x : Option Slot). SeatTurn (seat_of x) sets t (seat_of o') sets') (sym is)
+    (record { step = st; after = slot_of slot'; stepped = h; tells = tells; leaves = leaves })
+
+pub went_on : (o o' : Option Slot) (slot slot' : Slot) (st : Step) (sets sets' : Sets) → o ≡ Some slot
+    → Stepped (slot_of slot) sets st (slot_of slot') sets' → st ≡ step.Goes → o' ≡ Some slot' → SeatTurn (seat_of o) sets Goes (seat_of o') sets'
+went_on o o' slot slot' st sets sets' is h goes after =
+    seat_went o o' slot slot' st sets sets' Goes is h (ap (λ (k : Step). told k (slot_of slot')) (sym goes)) (ap seat_of after ∙ ap (λ (k : Step). seat k (slot_of slot')) (sym goes))
+
+pub went_out : (o o' : Option Slot) (slot slot' : Slot) (st : Step) (e : Ending) (end : JobEnd) (sets sets' : Sets) → o ≡ Some slot
+    → Stepped (slot_of slot) sets st (slot_of slot') sets' → st ≡ step.Ended e → end ≡ job_end (slot_of slot') e → o' ≡ None → SeatTurn (seat_of o) sets (Ended end) (seat_of o') sets'
+went_out o o' slot slot' st e end sets sets' is h ended over after =
+    seat_went o o' slot slot' st sets sets' (Ended end) is h (ap (λ (x : JobEnd). Ended x) over ∙ ap (λ (k : Step). told k (slot_of slot')) (sym ended))
+    (ap seat_of after ∙ ap (λ (k : Step). seat k (slot_of slot')) (sym ended))
+
+-- the slots of the program
+pub slots_turn : (i s : ℕ) (sets sets' : Sets) (slots : List (Option Slot)) (o o' : Option Slot) (t : Turned) → s ≡ suc i → slice_get slots i ≡ Some o
+    → SeatTurn (seat_of o) sets t (seat_of o') sets' → TurnOr s (floor sets (seats_of slots)) t (floor sets' (seats_of (slice_set slots i o')))
+slots_turn i s sets sets' slots o o' t e is h =
+    subst (λ (l : List (Option SlotState)). TurnOr s (floor sets (seats_of slots)) t (floor sets' l)) (sym (map_set seat_of slots i o'))
+    (seat_turn i s sets sets' (seats_of slots) (seat_of o) (seat_of o') t e (map_get seat_of slots i ∙ ap (option_map seat_of) is) h)
+
+pub seats_length : (slots : List (Option Slot)) (i : ℕ) (o : Option Slot) → length (seats_of (slice_set slots i o)) ≡ length (seats_of slots)
+seats_length slots i o = map_length seat_of (slice_set slots i o) ∙ set_length slots i o ∙ sym (map_length seat_of slots)

@@ -1,0 +1,5 @@
+pub mod Seats
+pub mod Begun
+pub mod Past
+pub mod Rounding
+pub mod Calls

@@ -1,0 +1,273 @@
+-- Turns until a floor is one to stop at, and rounds of them.
+use Rattle.std.proofs.Common.{◌≡◌, ◌≢◌, ℕ, zero, suc, ◌+◌, ◌≤◌, Bool, true, false, List, [], ◌∷◌, ◌++◌, length, Option, Some, None, refl, ap, sym, ◌∙◌, subst, inl, inr, arith, append_assoc}
+use Rattle.std.specs.Prelude.{◌⊎◌, if◌then◌else◌, slice_get, slice_set, is_some}
+use Rattle.std.specs.List.{AllByRecursion}
+use Rattle.mon_catalogue.specs.Sets.{Sets}
+use Rattle.sno_run.specs.declared.ending.Ending.TheVariants.{Memory}
+use Rattle.sno_run.specs.declared.ending.Step.{Step}
+use Rattle.sno_run.specs.declared.ending.Step.TheVariants as step
+use Rattle.mon_unit.specs.Serving.{serve}
+use Rattle.mon_job.specs.declared.job_end.JobEnd.{JobEnd}
+use Rattle.mon_slots.specs.declared.turned.Turned.{Turned}
+use Rattle.mon_slots.specs.declared.turned.Turned.TheVariants.{Ended}
+use Rattle.mon_slots.specs.Floors.{SlotState, Floor, seated, seat_at, with_seat, job_in, all_empty, first_free}
+use Rattle.mon_slots.specs.Turns.{reached, ran, after_turn, seat, turned, turn_by, turn, ends_by}
+use Rattle.mon_slots.specs.Marks.{Mark, Marks, mark_of, later, may_break, broken_by, ran_as, turn_as_by, turn_as, Past, nothing, and_then, until, marked, from, rounds, left, turns_left, is_done, has_room, drain, room}
+use Rattle.mon_slots.specs.Rounds.{Unmarked, NoneByMemory, AtLast, Enough}
+use Rattle.mon_slots.proofs.Begun.{Less, job_less}
+use Rattle.mon_slots.proofs.Seats.{seat_length, none_at}
+
+pub either_way : (b : Bool) → (b ≡ true) ⊎ (b ≡ false)
+either_way true = inl refl
+either_way false = inr refl
+
+broken_less : (b : Bool) (m : Mark) (slot : SlotState) (sets : Sets) → Less slot.job (broken_by b m slot sets).0.0 (broken_by b m slot sets).0.1
+broken_less false m slot sets = job_less (serve slot.account) slot.job (reached sets slot)
+broken_less true m slot sets = inl (Memory, refl)
+
+slot_less : (m : Option Mark) (slot : SlotState) (sets : Sets) → Less slot.job (ran_as m slot sets).0.0 (ran_as m slot sets).0.1
+slot_less None slot sets = job_less (serve slot.account) slot.job (reached sets slot)
+slot_less (Some m) slot sets = broken_less (may_break slot.job) m slot sets
+
+seat_less : (st : Step) (slot slot' : SlotState) → Less slot.job st slot'.job → suc (left (seat st slot')) ≤ left (Some slot)
+seat_less step.Goes slot slot' (inl h) = absurd (let k : step.Goes ≡ step.Ended h.0 = h.1 in cc (k))
+seat_less step.Goes slot slot' (inr h) = omega (arith, h)
+seat_less (step.Ended e) slot slot' h = omega arith
+
+set_less : (slots : List (Option SlotState)) (i : ℕ) (slot : SlotState) (o : Option SlotState) → seated (slice_get slots i) ≡ Some slot → suc (left o) ≤ left (Some slot)
+    → suc (turns_left (slice_set slots i o)) ≤ turns_left slots
+set_less [] i slot o h g = absurd cc
+set_less (x ∷ slots) zero slot o h g =
+    let e : x ≡ Some slot = h in
+    subst (λ (y : Option SlotState). suc (left o + turns_left slots) ≤ left y + turns_left slots) (sym e) (omega (arith, g))
+set_less (x ∷ slots) (suc i) slot o h g = omega (arith, (set_less slots i slot o h g))
+
+with_less : (s : ℕ) (slots : List (Option SlotState)) (slot : SlotState) (o : Option SlotState) → seat_at s slots ≡ Some slot → suc (left o) ≤ left (Some slot)
+    → suc (turns_left (with_seat s o slots)) ≤ turns_left slots
+with_less zero slots slot o h g = absurd cc
+with_less (suc i) slots slot o h g = set_less slots i slot o h g
+
+-- one turn: of an empty slot, or it leaves fewer
+abbrev pub Falls : ℕ → Floor → Floor → Type 0
+Falls s w w' = ((job_in s w ≡ None) × (w' ≡ w)) ⊎ (suc (turns_left w'.slots) ≤ turns_left w.slots)
+
+falls_by : (m : Option Mark) (s : ℕ) (w : Floor) (o : Option SlotState) → job_in s w ≡ o → Falls s w (turn_as_by m s o w).1
+falls_by m s w None e = inl (e, refl)
+falls_by m s w (Some slot) e =
+    let r = ran_as m slot w.sets in
+    inr (with_less s w.slots slot (seat r.0.0 (after_turn slot r)) e (seat_less r.0.0 slot (after_turn slot r) (slot_less m slot w.sets)))
+
+pub falls : (m : Option Mark) (s : ℕ) (w : Floor) → Falls s w (turn_as m s w).1
+falls m s w = falls_by m s w (job_in s w) refl
+
+length_by : (m : Option Mark) (s : ℕ) (w : Floor) (o : Option SlotState) → length (turn_as_by m s o w).1.slots ≡ length w.slots
+length_by m s w None = refl
+length_by m s w (Some slot) = seat_length s (seat (ran_as m slot w.sets).0.0 (after_turn slot (ran_as m slot w.sets))) w.slots
+
+pub turn_length : (m : Option Mark) (s : ℕ) (w : Floor) → length (turn_as m s w).1.slots ≡ length w.slots
+turn_length m s w = length_by m s w (job_in s w)
+
+module _ (stop : Floor → Bool) where
+  pub until_stops : (E : List ℕ) (m : Marks) (w : Floor) → stop w ≡ true → until stop E m w ≡ nothing m w
+  until_stops [] m w h = refl
+  until_stops (s ∷ E) m w h = ap (λ (b : Bool). if b then nothing m w
+      else and_then (ends_by s (turn_as (mark_of m) s w).0) (until stop E (later m) (turn_as (mark_of m) s w).1)) h
+
+  pub until_goes : (s : ℕ) (E : List ℕ) (m : Marks) (w : Floor) → stop w ≡ false
+      → until stop (s ∷ E) m w ≡ and_then (ends_by s (turn_as (mark_of m) s w).0) (until stop E (later m) (turn_as (mark_of m) s w).1)
+  until_goes s E m w h = ap (λ (b : Bool). if b then nothing m w
+      else and_then (ends_by s (turn_as (mark_of m) s w).0) (until stop E (later m) (turn_as (mark_of m) s w).1)) h
+
+  abbrev pub after_past : List ℕ → Past → Past
+  after_past F p = and_then p.ends (until stop F p.marks p.after)
+
+  pub until_append : (E F : List ℕ) (m : Marks) (w : Floor) → until stop (E ++ F) m w ≡ after_past F (until stop E m w)
+  until_append [] F m w = refl
+  until_append (s ∷ E) F m w = elim (either_way (stop w)) [
+    | inl h ↦
+        until_stops (s ∷ E ++ F) m w h
+        ∙ sym (ap (after_past F) (until_stops (s ∷ E) m w h) ∙ ap (λ (p : Past). and_then [] p) (until_stops F m w h))
+    | inr h ↦
+        let t = turn_as (mark_of m) s w in
+        let e = ends_by s t.0 in
+        let p = until stop E (later m) t.1 in
+        until_goes s (E ++ F) m w h
+        ∙ ap (and_then e) (until_append E F (later m) t.1)
+        ∙ ap (λ (l : List (ℕ × JobEnd)). let q : Past = record { ends = l; after = (until stop F p.marks p.after).after; marks = (until stop F p.marks p.after).marks } in q)
+        (sym (append_assoc e p.ends (until stop F p.marks p.after).ends))
+        ∙ sym (ap (after_past F) (until_goes s E m w h))
+  ]
+
+  pub until_length : (E : List ℕ) (m : Marks) (w : Floor) → length (until stop E m w).after.slots ≡ length w.slots
+  until_length [] m w = refl
+  until_length (s ∷ E) m w = elim (either_way (stop w)) [
+    | inl h ↦ ap (λ (p : Past). length p.after.slots) (until_stops (s ∷ E) m w h)
+    | inr h ↦
+        ap (λ (p : Past). length p.after.slots) (until_goes s E m w h) ∙ until_length E (later m) (turn_as (mark_of m) s w).1
+        ∙ turn_length (mark_of m) s w
+  ]
+
+  -- some turns: fewer are left, or nothing has changed, as it was one to stop at or these slots were empty
+  abbrev pub Went : List ℕ → Floor → Floor → Type 0
+  Went E w w' = (suc (turns_left w'.slots) ≤ turns_left w.slots) ⊎ ((w' ≡ w) × ((stop w ≡ true) ⊎ AllByRecursion (λ s. job_in s w ≡ None) E))
+
+  pub went : (E : List ℕ) (m : Marks) (w : Floor) → Went E w (until stop E m w).after
+  went [] m w = inr (refl, inr tt)
+  went (s ∷ E) m w = elim (either_way (stop w)) [
+    | inl h ↦ inr (ap (λ (p : Past). p.after) (until_stops (s ∷ E) m w h), inl h)
+    | inr h ↦
+        subst (λ (p : Past). Went (s ∷ E) w p.after) (sym (until_goes s E m w h))
+        (more (turn_as (mark_of m) s w).1 (until stop E (later m) (turn_as (mark_of m) s w).1).after (falls (mark_of m) s w) (went E (later m) (turn_as (mark_of m) s w).1))
+  ]
+    where
+      empty_too : (v : Floor) → v ≡ w → job_in s w ≡ None → (stop v ≡ true) ⊎ AllByRecursion (λ t. job_in t v ≡ None) E → (stop w ≡ true) ⊎ AllByRecursion (λ t. job_in t w ≡ None) (s ∷ E)
+      empty_too v is none (inl h) = inl (sym (ap stop is) ∙ h)
+      empty_too v is none (inr h) = inr (none, subst (λ (x : Floor). AllByRecursion (λ t. job_in t x ≡ None) E) is h)
+
+      more : (v w' : Floor) → Falls s w v → Went E v w' → Went (s ∷ E) w w'
+      more v w' (inl f) (inl h) = inl (subst (λ (x : Floor). suc (turns_left w'.slots) ≤ turns_left x.slots) f.1 h)
+      more v w' (inr f) (inl h) = inl (omega (arith, f, h))
+      more v w' (inl f) (inr h) = inr (h.0 ∙ f.1, empty_too v f.1 f.0 h.1)
+      more v w' (inr f) (inr h) = inl (subst (λ (x : Floor). suc (turns_left x.slots) ≤ turns_left w.slots) (sym h.0) f)
+
+-- slots that are all empty
+shift : (P : ℕ → Type 0) (i n : ℕ) → AllByRecursion P (from (suc i) n) → AllByRecursion (λ k. P (suc k)) (from i n)
+shift P i zero h = tt
+shift P i (suc n) h = (h.0, shift P (suc i) n h.1)
+
+empties : (slots : List (Option SlotState)) → AllByRecursion (λ i. seated (slice_get slots i) ≡ None) (from 0 (length slots)) → all_empty slots ≡ true
+empties [] h = refl
+empties (None ∷ slots) h = empties slots (shift (λ i. seated (slice_get (None ∷ slots) i) ≡ None) 0 (length slots) h.1)
+empties (Some x ∷ slots) h = absurd (let k : Some x ≡ None = h.0 in cc (k))
+
+all_in : (slots : List (Option SlotState)) → AllByRecursion (λ s. seat_at s slots ≡ None) (from 1 (length slots)) → all_empty slots ≡ true
+all_in slots h = empties slots (shift (λ s. seat_at s slots ≡ None) 0 (length slots) h)
+
+pub none_left : (slots : List (Option SlotState)) → turns_left slots ≤ 0 → all_empty slots ≡ true
+none_left [] h = refl
+none_left (None ∷ slots) h = none_left slots (omega (arith, h))
+none_left (Some x ∷ slots) h = absurd (omega (arith, h))
+
+module _ (stop : Floor → Bool) (size : ℕ) (at_last : (v : Floor) → length v.slots ≡ size → is_done v ≡ true → stop v ≡ true) where
+  -- a round leaves fewer turns
+  pub round_falls : (m : Marks) (w : Floor) → length w.slots ≡ size → stop w ≡ false → suc (turns_left (until stop (from 1 size) m w).after.slots) ≤ turns_left w.slots
+  round_falls m w is busy = by (went stop (from 1 size) m w)
+    where
+      not_stopped : {A : Type 0} → stop w ≡ true → A
+      not_stopped h = absurd (let k : true ≡ false = sym h ∙ busy in cc (k))
+
+      by : Went stop (from 1 size) w (until stop (from 1 size) m w).after → suc (turns_left (until stop (from 1 size) m w).after.slots) ≤ turns_left w.slots
+      by (inl h) = h
+      by (inr (e, inl h)) = not_stopped h
+      by (inr (e, inr h)) = not_stopped (at_last w is (all_in w.slots (subst (λ (n : ℕ). AllByRecursion (λ s. job_in s w ≡ None) (from 1 n)) (sym is) h)))
+
+  pub rounds_stop : (n : ℕ) (m : Marks) (w : Floor) → length w.slots ≡ size → turns_left w.slots ≤ n → stop (until stop (rounds n size) m w).after ≡ true
+  rounds_stop zero m w is h = at_last w is (none_left w.slots h)
+  rounds_stop (suc n) m w is h = elim (either_way (stop w)) [
+    | inl k ↦ ap (λ (q : Past). stop q.after) (until_stops stop (rounds (suc n) size) m w k) ∙ k
+    | inr k ↦
+        let p = until stop (from 1 size) m w in
+        let less = round_falls m w is k in
+        ap (λ (q : Past). stop q.after) (until_append stop (from 1 size) (rounds n size) m w)
+        ∙ rounds_stop n p.marks p.after (until_length stop (from 1 size) m w ∙ is) (omega (arith, h, less))
+  ]
+
+  pub rounds_same : (n k : ℕ) (m : Marks) (w : Floor) → length w.slots ≡ size → turns_left w.slots ≤ n → turns_left w.slots ≤ k
+      → until stop (rounds n size) m w ≡ until stop (rounds k size) m w
+  rounds_same zero k m w is h g =
+      let now = at_last w is (none_left w.slots h) in
+      sym (until_stops stop (rounds k size) m w now)
+  rounds_same (suc n) zero m w is h g =
+      let now = at_last w is (none_left w.slots g) in
+      until_stops stop (rounds (suc n) size) m w now
+  rounds_same (suc n) (suc k) m w is h g = elim (either_way (stop w)) [
+    | inl e ↦ until_stops stop (rounds (suc n) size) m w e ∙ sym (until_stops stop (rounds (suc k) size) m w e)
+    | inr e ↦
+        let p = until stop (from 1 size) m w in
+        let less = round_falls m w is e in
+        until_append stop (from 1 size) (rounds n size) m w
+        ∙ ap (and_then p.ends) (rounds_same n k p.marks p.after (until_length stop (from 1 size) m w ∙ is) (omega (arith, h, less)) (omega (arith, g, less)))
+        ∙ sym (until_append stop (from 1 size) (rounds k size) m w)
+  ]
+
+pub enough : (stop : Floor → Bool) (w : Floor) → AtLast stop w → (m : Marks) → Enough stop w m
+enough stop w at_last m = record {
+  stops = rounds_stop stop (length w.slots) at_last (turns_left w.slots) m w refl (omega arith);
+  same = λ n h. rounds_same stop (length w.slots) at_last n (turns_left w.slots) m w refl h (omega arith);
+}
+
+pub drain_empties : (w : Floor) (m : Marks) (s : ℕ) → job_in s (drain m w).after ≡ None
+drain_empties w m s = none_at (drain m w).after.slots (enough is_done w (λ v is h. h) m).stops s
+
+pub first_is_free : (slots : List (Option SlotState)) → length slots ≢ 0 → all_empty slots ≡ true → is_some (first_free slots) ≡ true
+first_is_free [] h g = absurd (h refl)
+first_is_free (None ∷ slots) h g = refl
+first_is_free (Some x ∷ slots) h g = absurd cc
+
+pub room_at_last : (size : ℕ) → size ≢ 0 → (v : Floor) → length v.slots ≡ size → is_done v ≡ true → has_room v ≡ true
+room_at_last size some v is h = first_is_free v.slots (λ e. some (sym is ∙ e)) h
+
+pub room_is_made : (w : Floor) (m : Marks) → length w.slots ≢ 0 → has_room (room m w).after ≡ true
+room_is_made w m some = (enough has_room w (room_at_last (length w.slots) some) m).stops
+
+-- without marks
+turn_unmarked_by : (s : ℕ) (o : Option SlotState) (w : Floor) → turn_as_by None s o w ≡ turn_by s o w
+turn_unmarked_by s None w = refl
+turn_unmarked_by s (Some slot) w = refl
+
+pub turn_unmarked : (s : ℕ) (w : Floor) → turn_as None s w ≡ turn s w
+turn_unmarked s w = turn_unmarked_by s (job_in s w) w
+
+pub unmarked : (w : Floor) (E : List ℕ) → Unmarked w E
+unmarked w [] = record { ends = refl; after = refl; marks = refl }
+unmarked w (s ∷ E) =
+    let one = turn_unmarked s w in
+    let rest = unmarked (turn s w).1 E in
+    record {
+      ends = ap (λ (t : Turned × Floor). ends_by s t.0 ++ (marked E [] t.1).ends) one ∙ ap (λ (l : List (ℕ × JobEnd)). ends_by s (turn s w).0 ++ l) rest.ends;
+      after = ap (λ (t : Turned × Floor). (marked E [] t.1).after) one ∙ rest.after;
+      marks = ap (λ (t : Turned × Floor). (marked E [] t.1).marks) one ∙ rest.marks;
+    }
+
+-- a mark ends a job, or has no effect
+pub mark_ends_by : (m : Option Mark) (s : ℕ) (o : Option SlotState) (w : Floor)
+    → (turn_as_by m s o w ≡ turn_as_by None s o w) ⊎ ((e : JobEnd) × ((turn_as_by m s o w).0 ≡ Ended e) × (e.ending ≡ Memory))
+mark_ends_by m s None w = inl refl
+mark_ends_by None s (Some slot) w = inl refl
+mark_ends_by (Some k) s (Some slot) w = by (may_break slot.job)
+  where
+    by : (b : Bool) → (turned s (broken_by b k slot w.sets) slot w ≡ turned s (ran slot w.sets) slot w)
+        ⊎ ((e : JobEnd) × ((turned s (broken_by b k slot w.sets) slot w).0 ≡ Ended e) × (e.ending ≡ Memory))
+    by false = inl refl
+    by true = inr (_, refl, refl)
+
+parted : (xs ys : List (ℕ × JobEnd)) → NoneByMemory (xs ++ ys) → NoneByMemory xs × NoneByMemory ys
+parted [] ys h = (tt, h)
+parted (x ∷ xs) ys h = let rest = parted xs ys h.1 in ((h.0, rest.0), rest.1)
+
+-- turns in which no job ends for want of memory are those without marks
+pub marks_end_jobs : (stop : Floor → Bool) (w : Floor) (E : List ℕ) (m : Marks) → NoneByMemory (until stop E m w).ends
+    → ((until stop E m w).ends ≡ (until stop E [] w).ends) × ((until stop E m w).after ≡ (until stop E [] w).after)
+marks_end_jobs stop w [] m none = (refl, refl)
+marks_end_jobs stop w (s ∷ E) m none = elim (either_way (stop w)) [
+  | inl h ↦
+      let e = until_stops stop (s ∷ E) m w h in
+      let f = until_stops stop (s ∷ E) [] w h in
+      (ap (λ (p : Past). p.ends) e ∙ sym (ap (λ (p : Past). p.ends) f), ap (λ (p : Past). p.after) e ∙ sym (ap (λ (p : Past). p.after) f))
+  | inr h ↦
+      let t = turn_as (mark_of m) s w in
+      let e = until_goes stop s E m w h in
+      let f = until_goes stop s E [] w h in
+      let parts = parted (ends_by s t.0) (until stop E (later m) t.1).ends (subst (λ (p : Past). NoneByMemory p.ends) e none) in
+      elim (mark_ends_by (mark_of m) s (job_in s w) w) [
+        | inl k ↦
+            let one : t ≡ turn_as None s w = k in
+            let rest = marks_end_jobs stop t.1 E (later m) parts.1 in (
+              ap (λ (p : Past). p.ends) e ∙ ap (λ (l : List (ℕ × JobEnd)). ends_by s t.0 ++ l) rest.0
+                  ∙ ap (λ (u : Turned × Floor). ends_by s u.0 ++ (until stop E [] u.1).ends) one ∙ sym (ap (λ (p : Past). p.ends) f),
+              ap (λ (p : Past). p.after) e ∙ rest.1
+                  ∙ ap (λ (u : Turned × Floor). (until stop E [] u.1).after) one ∙ sym (ap (λ (p : Past). p.after) f),
+            )
+        | inr b ↦ absurd ((subst (λ (u : Turned). NoneByMemory (ends_by s u)) b.1 parts.0).0 b.2)
+      ]
+]

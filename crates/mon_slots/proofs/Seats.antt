@@ -1,0 +1,63 @@
+-- Seats that are looked at after one was changed.
+use Rattle.std.proofs.Common.{◌≡◌, ℕ, zero, suc, true, List, [], ◌∷◌, length, Option, Some, None, refl, ap}
+use Rattle.std.specs.Prelude.{replicate, map, option_map, slice_get, slice_set, is_some, is_none}
+use Rattle.std.specs.List.{list_any, list_all}
+use Rattle.mon_slots.specs.declared.slot.Slot.{Slot}
+use Rattle.mon_slots.specs.Floors.{SlotState, seated, seat_at, with_seat, all_empty, free_from, first_free}
+use Rattle.mon_slots.specs.Told.{seats_of}
+
+pub set_length : {A : Type 0} (xs : List A) (i : ℕ) (v : A) → length (slice_set xs i v) ≡ length xs
+set_length [] i v = refl
+set_length (x ∷ xs) zero v = refl
+set_length (x ∷ xs) (suc i) v = ap suc (set_length xs i v)
+
+pub set_get : {A : Type 0} (xs : List A) (i : ℕ) (v : A) → slice_get xs i ≡ Some v → slice_set xs i v ≡ xs
+set_get [] i v h = refl
+set_get (x ∷ xs) zero v h = cc (h)
+set_get {A} (x ∷ xs) (suc i) v h = ap (λ (ys : List A). x ∷ ys) (set_get xs i v h)
+
+pub map_get : {A B : Type 0} (f : A → B) (xs : List A) (i : ℕ) → slice_get (map f xs) i ≡ option_map f (slice_get xs i)
+map_get f [] i = refl
+map_get f (x ∷ xs) zero = refl
+map_get f (x ∷ xs) (suc i) = map_get f xs i
+
+pub map_set : {A B : Type 0} (f : A → B) (xs : List A) (i : ℕ) (v : A) → map f (slice_set xs i v) ≡ slice_set (map f xs) i (f v)
+map_set f [] i v = refl
+map_set f (x ∷ xs) zero v = refl
+map_set {A} {B} f (x ∷ xs) (suc i) v = ap (λ (ys : List B). f x ∷ ys) (map_set f xs i v)
+
+pub map_length : {A B : Type 0} (f : A → B) (xs : List A) → length (map f xs) ≡ length xs
+map_length f [] = refl
+map_length f (x ∷ xs) = ap suc (map_length f xs)
+
+pub seat_length : (s : ℕ) (o : Option SlotState) (slots : List (Option SlotState)) → length (with_seat s o slots) ≡ length slots
+seat_length zero o slots = refl
+seat_length (suc i) o slots = set_length slots i o
+
+-- where all are empty, each is
+none_seated : (slots : List (Option SlotState)) → all_empty slots ≡ true → (i : ℕ) → seated (slice_get slots i) ≡ None
+none_seated [] h i = refl
+none_seated (None ∷ slots) h zero = refl
+none_seated (None ∷ slots) h (suc i) = none_seated slots h i
+none_seated (Some x ∷ slots) h i = absurd cc
+
+pub none_at : (slots : List (Option SlotState)) → all_empty slots ≡ true → (s : ℕ) → seat_at s slots ≡ None
+none_at slots h zero = refl
+none_at slots h (suc i) = none_seated slots h i
+
+pub none_of : (slots : List (Option Slot)) → list_all (λ seat. is_none seat) slots ≡ all_empty (seats_of slots)
+none_of [] = refl
+none_of (None ∷ slots) = none_of slots
+none_of (Some x ∷ slots) = refl
+
+some_from : (n : ℕ) (slots : List (Option Slot)) → list_any (λ seat. is_none seat) slots ≡ is_some (free_from n (seats_of slots))
+some_from n [] = refl
+some_from n (None ∷ slots) = refl
+some_from n (Some x ∷ slots) = some_from (suc n) slots
+
+pub some_free : (slots : List (Option Slot)) → list_any (λ seat. is_none seat) slots ≡ is_some (first_free (seats_of slots))
+some_free slots = some_from 1 slots
+
+pub empty_seats : (n : ℕ) → seats_of (replicate n None) ≡ replicate n None
+empty_seats zero = refl
+empty_seats (suc n) = ap (λ (l : List (Option SlotState)). None ∷ l) (empty_seats n)

@@ -1,0 +1,122 @@
+-- What turns do where memory may break some off, and rounds of turns (own).
+use Rattle.std.specs.Prelude.{ℕ, zero, suc, ◌-◌, ◌+◌, Bool, true, false, List, [], ◌∷◌, ◌++◌, length, min, ◌&&◌, if◌then◌else◌, Option, Some, None, is_some, is_none}
+use Rattle.mon_catalogue.specs.Sets.{Sets}
+use Rattle.sno_run.specs.declared.ending.Step.{Step}
+use Rattle.sno_run.specs.declared.ending.Step.TheVariants as step
+use Rattle.sno_run.specs.declared.ending.Ending.TheVariants.{Memory}
+use Rattle.sno_store.specs.States.{may_begin}
+use Rattle.sno_run.specs.Jobs.{Job, turn_of, statements_begun, statement_at}
+use Rattle.mon_unit.specs.Runs.{run_cut}
+use Rattle.mon_unit.specs.Serving.{Reach, serve}
+use Rattle.mon_job.specs.declared.job_end.JobEnd.{JobEnd}
+use Rattle.mon_slots.specs.declared.turned.Turned.{Turned}
+use Rattle.mon_slots.specs.declared.turned.Turned.TheVariants.{Empty}
+use Rattle.mon_slots.specs.Floors.{SlotState, Floor, job_in, all_empty, first_free}
+use Rattle.mon_slots.specs.Turns.{reached, ran, turned, ends_by}
+
+-- where memory breaks a turn off: after how many exchanges, and how many statements its calls had begun
+pub record Mark : Type 0 where
+  pub exchanges : ℕ
+  pub nested : ℕ
+
+-- for each turn, where memory breaks it off, if it does; no turn beyond the list is broken off
+abbrev pub Marks : Type 0
+Marks = List (Option Mark)
+
+abbrev pub mark_of : Marks → Option Mark
+mark_of [] = None
+mark_of (m ∷ marks) = m
+
+abbrev pub later : Marks → Marks
+later [] = []
+later (m ∷ marks) = marks
+
+-- the turn's own statement has begun, and so many more; never more than may
+abbrev pub counted : ℕ → Job → Job
+counted n job =
+    record job { state = record (job.state) { keywords = record (job.state.keywords) { begun = min (suc (statements_begun job + n)) job.limits.statements } } }
+
+-- a turn takes memory only where it begins a statement
+abbrev pub may_break : Job → Bool
+may_break job = is_none job.ended && (is_some (statement_at job.point job.program.lines) && may_begin job.limits.statements job.state)
+
+abbrev pub broken_by : Bool → Mark → SlotState → Sets → (Step × Job) × Reach
+broken_by false m slot sets = ran slot sets
+broken_by true m slot sets =
+    ((step.Ended Memory, counted m.nested slot.job), run_cut (serve slot.account) m.exchanges (turn_of slot.job) (reached sets slot))
+
+-- one turn of a job; where it is broken off, its exchanges stand and the job has ended
+abbrev pub ran_as : Option Mark → SlotState → Sets → (Step × Job) × Reach
+ran_as None slot sets = ran slot sets
+ran_as (Some m) slot sets = broken_by (may_break slot.job) m slot sets
+
+abbrev pub turn_as_by : Option Mark → ℕ → Option SlotState → Floor → Turned × Floor
+turn_as_by m s None w = (Empty, w)
+turn_as_by m s (Some slot) w = turned s (ran_as m slot w.sets) slot w
+
+-- one turn of the job in a slot, if there is one
+abbrev pub turn_as : Option Mark → ℕ → Floor → Turned × Floor
+turn_as m s w = turn_as_by m s (job_in s w) w
+
+-- the jobs that ended, in order, each with its slot; what is left; and the marks that no turn took
+pub record Past : Type 0 where
+  pub ends : List (ℕ × JobEnd)
+  pub after : Floor
+  pub marks : Marks
+
+abbrev pub nothing : Marks → Floor → Past
+nothing m w = record { ends = []; after = w; marks = m }
+
+abbrev pub and_then : List (ℕ × JobEnd) → Past → Past
+and_then ends p = record { ends = ends ++ p.ends; after = p.after; marks = p.marks }
+
+-- turns of the jobs in these slots, in this order, until a floor is one to stop at
+abbrev pub until : (Floor → Bool) → List ℕ → Marks → Floor → Past
+until stop [] m w = nothing m w
+until stop (s ∷ E) m w =
+    if stop w then nothing m w
+    else and_then (ends_by s (turn_as (mark_of m) s w).0) (until stop E (later m) (turn_as (mark_of m) s w).1)
+
+abbrev pub never : Floor → Bool
+never w = false
+
+-- all of these turns
+abbrev pub marked : List ℕ → Marks → Floor → Past
+marked E m w = until never E m w
+
+-- the slots from i on, n of them
+abbrev pub from : ℕ → ℕ → List ℕ
+from i zero = []
+from i (suc n) = i ∷ from (suc i) n
+
+-- k rounds of one turn for each of n slots, from the first upward
+abbrev pub rounds : ℕ → ℕ → List ℕ
+rounds zero n = []
+rounds (suc k) n = from 1 n ++ rounds k n
+
+-- how many turns a job can have, as each begins a statement or is its last
+abbrev pub left : Option SlotState → ℕ
+left None = 0
+left (Some slot) = suc (slot.job.limits.statements - statements_begun slot.job)
+
+abbrev pub turns_left : List (Option SlotState) → ℕ
+turns_left [] = 0
+turns_left (seat ∷ seats) = left seat + turns_left seats
+
+-- round and round, until a floor is one to stop at: no more rounds than there are turns that the jobs can have
+abbrev pub rounds_until : (Floor → Bool) → Marks → Floor → Past
+rounds_until stop m w = until stop (rounds (turns_left w.slots) (length w.slots)) m w
+
+abbrev pub is_done : Floor → Bool
+is_done w = all_empty w.slots
+
+abbrev pub has_room : Floor → Bool
+has_room w = is_some (first_free w.slots)
+
+-- until all slots are empty
+abbrev pub drain : Marks → Floor → Past
+drain m w = rounds_until is_done m w
+
+-- until a slot is free
+abbrev pub room : Marks → Floor → Past
+room m w = rounds_until has_room m w

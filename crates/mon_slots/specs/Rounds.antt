@@ -1,0 +1,43 @@
+-- What holds of turns, of rounds, and of marks, as statements.
+use Rattle.std.specs.Prelude.{◌≡◌, ◌≢◌, ℕ, ◌≤◌, Bool, true, None, List, [], length}
+use Rattle.std.specs.List.{AllByRecursion}
+use Rattle.sno_run.specs.declared.ending.Ending.TheVariants.{Memory}
+use Rattle.mon_job.specs.declared.job_end.JobEnd.{JobEnd}
+use Rattle.mon_slots.specs.Floors.{Floor, job_in}
+use Rattle.mon_slots.specs.Turns.{turns}
+use Rattle.mon_slots.specs.Marks.{Marks, until, marked, rounds, turns_left, rounds_until, is_done, has_room, drain, room}
+
+-- without marks they are the turns of the definitions, and no mark is left
+pub record Unmarked (w : Floor) (E : List ℕ) : Type 0 where
+  pub ends : (marked E [] w).ends ≡ (turns E w).ends
+  pub after : (marked E [] w).after ≡ (turns E w).after
+  pub marks : (marked E [] w).marks ≡ []
+
+abbrev pub WithoutMarks : Type 0
+WithoutMarks = (w : Floor) (E : List ℕ) → Unmarked w E
+
+abbrev pub NoneByMemory : List (ℕ × JobEnd) → Type 0
+NoneByMemory ends = AllByRecursion (λ e. e.1.ending ≢ Memory) ends
+
+-- and so they are where no job has ended for want of memory
+abbrev pub MarksEndJobs : Type 0
+MarksEndJobs = (stop : Floor → Bool) (w : Floor) (E : List ℕ) (m : Marks) → NoneByMemory (until stop E m w).ends
+    → ((until stop E m w).ends ≡ (until stop E [] w).ends) × ((until stop E m w).after ≡ (until stop E [] w).after)
+
+-- a test that says yes at the latest when all slots are empty
+abbrev pub AtLast : (Floor → Bool) → Floor → Type 0
+AtLast stop w = (v : Floor) → length v.slots ≡ length w.slots → is_done v ≡ true → stop v ≡ true
+
+-- so many rounds are enough, and more change nothing
+pub record Enough (stop : Floor → Bool) (w : Floor) (m : Marks) : Type 0 where
+  pub stops : stop (rounds_until stop m w).after ≡ true
+  pub same : (n : ℕ) → turns_left w.slots ≤ n → until stop (rounds n (length w.slots)) m w ≡ rounds_until stop m w
+
+abbrev pub RoundsEnd : Type 0
+RoundsEnd = (stop : Floor → Bool) (w : Floor) → AtLast stop w → (m : Marks) → Enough stop w m
+
+abbrev pub DrainEmpties : Type 0
+DrainEmpties = (w : Floor) (m : Marks) (s : ℕ) → job_in s (drain m w).after ≡ None
+
+abbrev pub RoomIsMade : Type 0
+RoomIsMade = (w : Floor) (m : Marks) → length w.slots ≢ 0 → has_room (room m w).after ≡ true

@@ -1,0 +1,32 @@
+-- Turns on the way to a goal.
+use Rattle.std.specs.Prelude.{◌≡◌, ◌++◌, Bool, ℕ, List, map, length}
+use Rattle.mon_job.specs.declared.job_end.JobEnd.{JobEnd}
+use Rattle.mon_slots.specs.declared.rounds.Goal.{Goal}
+use Rattle.mon_slots.specs.declared.rounds.Goal.TheVariants as goal
+use Rattle.mon_slots.specs.Floors.{Floor}
+use Rattle.mon_slots.specs.Marks.{Marks, until, and_then, from, rounds_until, is_done, has_room}
+
+-- where turns stop that go to a goal
+abbrev pub stop_of : Goal → Floor → Bool
+stop_of goal.Empty = is_done
+stop_of goal.Room = has_room
+
+-- with some marks it has come from w by the turns E as far as this: these jobs have ended, and the turns F are left
+pub record Ahead (stop : Floor → Bool) (E : List ℕ) (w : Floor) (ends : List JobEnd) (F : List ℕ) (now : Floor) : Type 0 where
+  pub marks : Marks
+  pub numbered : List (ℕ × JobEnd)
+  pub ended : map (λ e. e.1) numbered ≡ ends
+  pub is : (rest : Marks) → until stop E (marks ++ rest) w ≡ and_then numbered (until stop F rest now)
+
+-- some turns of a round: more jobs have ended, and the turns F of the round are left
+pub record RoundTo (stop : Floor → Bool) (w : Floor) (before ends : List JobEnd) (F : List ℕ) (now : Floor) : Type 0 where
+  pub more : List JobEnd
+  pub grown : ends ≡ before ++ more
+  pub is : Ahead stop (from 1 (length w.slots)) w more F now
+
+-- some rounds
+pub record Going (stop : Floor → Bool) (w : Floor) (ends : List JobEnd) (now : Floor) : Type 0 where
+  pub marks : Marks
+  pub numbered : List (ℕ × JobEnd)
+  pub ended : map (λ e. e.1) numbered ≡ ends
+  pub is : (rest : Marks) → rounds_until stop (marks ++ rest) w ≡ and_then numbered (rounds_until stop rest now)

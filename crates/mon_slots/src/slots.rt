@@ -1,0 +1,86 @@
+//! Slots.
+ghost use Rattle.std.specs.Prelude.{◌≡◌, ◌≤◌, length, None, IfOk, is_some, is_none, replicate};
+ghost use Rattle.std.specs.List.{list_any, list_all};
+ghost use Rattle.mon_slots.specs.Told.{slots_in};
+ghost use Rattle.mon_slots.specs.Floors.{floor, all_empty, first_free};
+ghost use Rattle.mon_slots.specs.Turning.{TurnOr};
+
+use crate::slot::{Slot, turn_at};
+use crate::turned::Turned;
+use mon_catalogue::Catalogue;
+use mon_guard::Guard;
+use std::alloc::{AllocError, Global};
+
+/// One to eight slots, each with a job or none.
+///
+/// Contracts see them by `slots_in` as the list of what they hold. They are counted from 1.
+#[derive(Drop)]
+pub struct Slots {
+    items: Vec<Option<Slot>>,
+}
+
+impl Slots {
+    /// So many empty slots.
+    ///
+    /// # Errors
+    ///
+    /// Where a growth was refused.
+    #[tactic(auto, using(crate::proofs::Seats::empty_seats))]
+    pub fn new(alloc: Global, count: u8) -> Result<Slots, AllocError>
+        requires { (1 ≤ count) × (count ≤ 8) }
+        ensures { IfOk result (λ slots. slots_in slots ≡ replicate count None) }
+    {
+        let mut items = Vec::new(alloc);
+        for _ in 0..count {
+            items.push(None)?;
+        }
+        Ok(Slots { items })
+    }
+
+    /// Whether a slot is empty.
+    pub fn has_room(&self) -> bool
+        ensures { result ≡ is_some (first_free (slots_in self.now)) }
+    {
+        has_room_in(&self.items)
+    }
+
+    // Whether all slots are empty.
+    pub(crate) fn are_empty(&self) -> bool
+        ensures { result ≡ all_empty (slots_in self.now) }
+    {
+        are_empty(&self.items)
+    }
+
+    /// One turn of the job in a slot. Slots are counted from 1; one that there isn't is empty.
+    pub fn turn(
+        &mut self,
+        alloc: Global,
+        guard: &mut Guard,
+        catalogue: &mut Catalogue,
+        slot: u8,
+    ) -> Turned
+        ensures turn { TurnOr slot (floor catalogue.old (slots_in self.old)) result (floor catalogue.new (slots_in self.new)) }
+        ensures size { length (slots_in self.new) ≡ length (slots_in self.old) }
+    {
+        let index = match slot.checked_sub(1) {
+            Some(before) => before as usize,
+            None => return Turned::Empty,
+        };
+        if index >= self.items.len() {
+            return Turned::Empty;
+        }
+        turn_at(alloc, guard, catalogue, &mut self.items[index])
+    }
+}
+
+fn has_room_in(slots: &[Option<Slot>]) -> bool
+    ensures { result ≡ list_any (λ seat. is_none seat) slots.now }
+{
+    slots.iter().any(|seat| seat.is_none())
+}
+
+fn are_empty(slots: &[Option<Slot>]) -> bool
+    ensures { result ≡ list_all (λ seat. is_none seat) slots.now }
+{
+    slots.iter().all(|seat| seat.is_none())
+}
