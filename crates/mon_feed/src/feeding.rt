@@ -4,7 +4,6 @@ ghost use Rattle.std.specs.Str.Lines.{lines};
 ghost use Rattle.mon_catalogue.specs.Sets.{Sets};
 ghost use Rattle.mon_text.specs.Feeding.{is_line_feed, taken_of};
 ghost use Rattle.mon_cards.specs.declared.code.Code.{Code as AnyCode};
-ghost use Rattle.mon_cards.specs.declared.code.Code.TheVariants.{LineTooLong};
 ghost use Rattle.mon_feed.specs.declared.stage.State.TheVariants as states;
 ghost use Rattle.mon_cards.specs.Sections.{deck_of};
 ghost use Rattle.mon_feed.specs.Feeds.{outcome, outcome_of, behind, refused_at, Good, Bad, Begins, OnAnswer, lines_loaded, is_reading, may_grow, used_by, IsReadBack, IsOwn, stopped_by, error_at, fault_at};
@@ -158,8 +157,10 @@ impl DeckFeed {
             }
             Ok((_, None)) => {
                 self.fed += used as u64;
+                // A line that is longer than any may be need not be told by itself.
                 if part.contains(&b'\n') {
-                    return Err(self.refuse_long());
+                    self.lines_taken += 1;
+                    return Err(self.refuse(Code::LineTooLong));
                 }
                 Ok(used)
             }
@@ -171,23 +172,21 @@ impl DeckFeed {
     fn run_short(&mut self) -> RunError
         ensures error { result ≡ RunError.Memory }
         ensures state { self.new.state ≡ states.NoMemory }
-        ensures stays { (self.new.options ≡ self.old.options) × (self.new.fed ≡ self.old.fed) }
+        ensures stays { (self.new.options ≡ self.old.options) × (self.new.line ≡ self.old.line) × (self.new.fed ≡ self.old.fed) × (self.new.lines_taken ≡ self.old.lines_taken) }
     {
         self.state = State::NoMemory;
         RunError::Memory
     }
 
-    // A line has ended that is longer than any may be: such a line need not be told by itself. It stays a call, too.
+    // The line that was counted last is refused. It stays a call, too.
     #[inline(never)]
-    fn refuse_long(&mut self) -> RunError
-        requires { self.old.lines_taken < self.old.fed }
-        ensures error { result ≡ RunError.DeckRefused (self.old.lines_taken + 1) LineTooLong }
-        ensures state { self.new.state ≡ states.Refused (self.old.lines_taken + 1) LineTooLong }
-        ensures stays { (self.new.options ≡ self.old.options) × (self.new.fed ≡ self.old.fed) × (self.new.commands ≡ self.old.commands) }
+    fn refuse(&mut self, code: Code) -> RunError
+        ensures error { result ≡ RunError.DeckRefused self.old.lines_taken code }
+        ensures state { self.new.state ≡ states.Refused self.old.lines_taken code }
+        ensures stays { (self.new.options ≡ self.old.options) × (self.new.line ≡ self.old.line) × (self.new.fed ≡ self.old.fed) × (self.new.commands ≡ self.old.commands) × (self.new.lines_taken ≡ self.old.lines_taken) }
     {
-        self.lines_taken += 1;
-        self.state = State::Refused(self.lines_taken, Code::LineTooLong);
-        RunError::DeckRefused(self.lines_taken, Code::LineTooLong)
+        self.state = State::Refused(self.lines_taken, code);
+        RunError::DeckRefused(self.lines_taken, code)
     }
 
     // Takes a whole line: its event happens, and what that prints is appended. It stays a call, so that what it needs costs
@@ -219,14 +218,8 @@ impl DeckFeed {
         );
         match answer {
             Ok(()) => Ok(()),
-            Err(Stop::Refused(code)) => {
-                self.state = State::Refused(self.lines_taken, code);
-                Err(RunError::DeckRefused(self.lines_taken, code))
-            }
-            Err(Stop::Memory) => {
-                self.state = State::NoMemory;
-                Err(RunError::Memory)
-            }
+            Err(Stop::Refused(code)) => Err(self.refuse(code)),
+            Err(Stop::Memory) => Err(self.run_short()),
         }
     }
 

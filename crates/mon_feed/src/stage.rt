@@ -119,8 +119,8 @@ impl State {
         self.move_on(alloc, check, slots, text, commands, out)
     }
 
-    // Takes a whole line, for what comes of it. It stays a call, since the room for a state is cleared where a function
-    // begins, and most lines take none.
+    // Takes a whole line, for what comes of it. It stays a call, since the room for a state is cleared wherever this stands, and
+    // most lines take none.
     #[inline(never)]
     fn move_on(
         &mut self,

@@ -26,13 +26,13 @@ returns-else-contains-clause-counted c = λ reading.
 
 pub returns-then-contains-clause-refused : goal.returns-then-contains-clause-refused
 returns-then-contains-clause-refused c = λ n code same bytes.
-    let after = c.refuse_long.new.self in
+    let after = c.refuse.new.self in
     let before = c.args.self.now in
     let out = c.args.out.now.items in
     let part = take c.to_line_end-used.result c.args.piece.now in
     let taken = subst (λ (o : Option EndedLine). Takes before.line part c.in-Ok-default-None.field-0-0 (option_map text_of o) c.take.new.self) c.in-Ok-default-None.field-0-1-is c.in-Ok-default-None.ensures.taken in
-    ap (λ (s : State). behind out after.commands (outcome after.options.check s (after.lines_taken + 1) (lines (after.line ++ bytes)))) c.refuse_long.ensures.state
-    ∙ ap (λ k. behind out k (refused_at (before.lines_taken + 1) LineTooLong)) c.refuse_long.ensures.stays.2
+    ap (λ (s : State). behind out after.commands (outcome after.options.check s (after.lines_taken + 1) (lines (after.line ++ bytes)))) c.refuse.ensures.state
+    ∙ ap (λ k. behind out k (refused_at (before.lines_taken + 1) LineTooLong)) c.refuse.ensures.stays.3
     ∙ told_late before.options.check c.in-Reading.field-0 before.state (before.lines_taken + 1) before.commands out before.line c.args.piece.now c.take.new.self c.to_line_end-used.result c.in-Ok-default-None.field-0-0
     c.in-Reading.is before.unended c.in-Ok-default-None.ensures.unended (parted_at c.args.piece.now c.to_line_end-used.result c.to_line_end-used.ensures.taken)
     (ended_where part _ c.contains.ensures.value c.if-contains.true) taken bytes
