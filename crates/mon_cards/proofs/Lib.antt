@@ -6,3 +6,9 @@ pub mod Sound
 pub mod Standing
 pub mod ComingBack
 pub mod Closing
+pub mod Options
+pub mod JobLimits
+pub mod JobLines
+pub mod JobReading
+pub mod JobsSpelled
+mod JobExamples

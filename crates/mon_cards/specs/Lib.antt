@@ -6,4 +6,7 @@ pub mod Requests
 pub mod Sections
 pub mod Spelling
 pub mod Laws
+pub mod Jobs
+pub mod JobSpelling
+pub mod JobLaws
 pub mod inner

@@ -1,0 +1,205 @@
+-- The cards of jobs and of turns (own): what each asks for, and what a line says where a job is open.
+use Rattle.std.specs.Prelude.{ℕ, ◌+◌, ◌==◌, ◌&&◌, ◌||◌, Bool, true, false, not, nat_lt, nat_le, nat_eq, List, [], ◌∷◌, ◌++◌, length, drop, Option, Some, None, is_some, if◌then◌else◌, codes}
+use Rattle.std.specs.List.{starts_with}
+use Rattle.mon_text.specs.Names.{is_name}
+use Rattle.mon_text.specs.Counts.{is_count, value_of}
+use Rattle.mon_text.specs.Lines.{words}
+use Rattle.sno_keeping.specs.declared.limits.Limits.{Limits}
+use Rattle.mon_job.specs.declared.deck.UnitCard.{UnitCard}
+use Rattle.mon_job.specs.declared.deck.JobDeck.{JobDeck}
+use Rattle.mon_cards.specs.declared.code.Code.{Code}
+use Rattle.mon_cards.specs.declared.code.Code.TheVariants.{BadName, BadNumber, UnknownCard, BadCard, OutOfPlace}
+use Rattle.mon_cards.specs.declared.job_card.JobCard.{JobCard}
+use Rattle.mon_cards.specs.declared.job_card.JobCard.TheVariants as job_card
+use Rattle.mon_cards.specs.declared.job.OpenJob.{OpenJob}
+use Rattle.mon_cards.specs.declared.turn.Turn.{Turn}
+use Rattle.mon_cards.specs.declared.turn.JobRequest.{JobRequest}
+use Rattle.mon_cards.specs.declared.turn.JobRequest.TheVariants.{Opens, Turns, Drains}
+use Rattle.mon_cards.specs.Cards.{is_text, card_among, word_at}
+use Rattle.mon_cards.specs.Refusing.{or_else, unless, line_refusal, is_dollar_line}
+
+-- ---- the cards, by their first words
+
+abbrev pub job_card_of : List ℕ → Option JobCard
+job_card_of word =
+    if is_text (codes "$JOB") word then Some job_card.Job
+    else if is_text (codes "$UNIT") word then Some job_card.Tie
+    else if is_text (codes "$EOJ") word then Some job_card.EndJob
+    else if is_text (codes "$TURN") word then Some job_card.Turn
+    else if is_text (codes "$DRAIN") word then Some job_card.Drain
+    else None
+
+abbrev pub job_card_among : List (List ℕ) → Option JobCard
+job_card_among ws = job_card_of (word_at 0 ws)
+
+abbrev pub is_end_job : Option JobCard → Bool
+is_end_job (Some job_card.EndJob) = true
+is_end_job _ = false
+
+-- from 1 to so many
+abbrev pub is_within : ℕ → ℕ → Bool
+is_within most n = nat_le 1 n && nat_le n most
+
+-- ---- `$JOB`: the account, and at most one option of each kind
+
+-- how many statements may begin
+abbrev pub sets_statements : List ℕ → Bool
+sets_statements word = starts_with nat_eq word (codes "ST=")
+
+-- how many steps a match may take
+abbrev pub sets_steps : List ℕ → Bool
+sets_steps word = starts_with nat_eq word (codes "MATCH=")
+
+abbrev pub are_options : List (List ℕ) → Bool
+are_options [] = true
+are_options (word ∷ []) = sets_statements word || sets_steps word
+are_options (word ∷ other ∷ []) = sets_statements word && sets_steps other || sets_steps word && sets_statements other
+are_options _ = false
+
+-- what stands behind the `=` of an option
+abbrev pub option_text : List ℕ → List ℕ
+option_text word = if sets_statements word then drop 3 word else drop 6 word
+
+abbrev pub has_number : List ℕ → Bool
+has_number word = is_count (option_text word)
+
+abbrev pub is_limit : List ℕ → Bool
+is_limit word = is_within 10000000 (value_of (option_text word))
+
+-- the numbers of all options, and then how large they are
+abbrev pub limits_refusal : List (List ℕ) → Option Code
+limits_refusal [] = None
+limits_refusal (word ∷ []) = or_else (unless (has_number word) BadNumber) (unless (is_limit word) BadCard)
+limits_refusal (word ∷ other ∷ _) =
+    or_else (unless (has_number word && has_number other) BadNumber) (unless (is_limit word && is_limit other) BadCard)
+
+-- the number of words and the options; a name; and then the numbers
+abbrev pub job_refusal : List (List ℕ) → Option Code
+job_refusal ws =
+    or_else (unless (nat_lt 1 (length ws) && are_options (drop 2 ws)) BadCard)
+    (or_else (unless (is_name (word_at 1 ws)) BadName) (limits_refusal (drop 2 ws)))
+
+abbrev pub usual_limits : Limits
+usual_limits = record { statements = 50000; steps = 1000000 }
+
+abbrev pub with_option : Limits → List ℕ → Limits
+with_option limits word =
+    if sets_statements word then record limits { statements = value_of (option_text word) }
+    else record limits { steps = value_of (option_text word) }
+
+abbrev pub with_options : Limits → List (List ℕ) → Limits
+with_options limits [] = limits
+with_options limits (word ∷ others) = with_options (with_option limits word) others
+
+-- a job that is open has no line at first
+abbrev pub opened_job : List ℕ → Limits → OpenJob
+opened_job account limits = record { account = account; limits = limits; ties = []; lines = [] }
+
+abbrev pub job_on : List (List ℕ) → OpenJob
+job_on ws = opened_job (word_at 1 ws) (with_options usual_limits (drop 2 ws))
+
+-- ---- `$TURN`: a slot, and how many turns it is given
+
+abbrev pub turn_refusal : List (List ℕ) → Option Code
+turn_refusal ws =
+    or_else (unless (length ws == 3) BadCard)
+    (or_else (unless (is_count (word_at 1 ws) && is_count (word_at 2 ws)) BadNumber)
+    (unless (is_within 8 (value_of (word_at 1 ws)) && is_within 1000000 (value_of (word_at 2 ws))) BadCard))
+
+abbrev pub turn_on : List (List ℕ) → Turn
+turn_on ws = record { slot = value_of (word_at 1 ws); count = value_of (word_at 2 ws) }
+
+-- ---- in the stream
+
+abbrev pub drain_refusal : List (List ℕ) → Option Code
+drain_refusal ws = unless (length ws == 1) BadCard
+
+-- the words of a line that is no command
+abbrev pub job_request_refusal : Option JobCard → List (List ℕ) → Option Code
+job_request_refusal None ws = Some UnknownCard
+job_request_refusal (Some job_card.Job) ws = job_refusal ws
+job_request_refusal (Some job_card.Turn) ws = turn_refusal ws
+job_request_refusal (Some job_card.Drain) ws = drain_refusal ws
+job_request_refusal (Some _) ws = Some OutOfPlace
+
+-- what a good one asks for
+abbrev pub job_request : Option JobCard → List (List ℕ) → JobRequest
+job_request (Some job_card.Job) ws = Opens (job_on ws)
+job_request (Some job_card.Turn) ws = Turns (turn_on ws)
+job_request _ ws = Drains
+
+-- ---- where a job is open
+
+-- a card begins with a dollar sign, and not with two
+abbrev pub is_job_card_line : List ℕ → Bool
+is_job_card_line line = is_dollar_line line && not (is_dollar_line (drop 1 line))
+
+-- any other line is one of the program, or of the data behind it: two dollar signs at its front stand for one
+abbrev pub program_text : List ℕ → List ℕ
+program_text line = if is_dollar_line line then drop 1 line else line
+
+abbrev pub has_begun : OpenJob → Bool
+has_begun job = not (length job.lines == 0)
+
+-- `$UNIT`: a unit, and a data set. Whether there is such a unit is tried where the job is loaded.
+abbrev pub unit_refusal : List (List ℕ) → Option Code
+unit_refusal ws =
+    or_else (unless (length ws == 3) BadCard)
+    (or_else (unless (is_count (word_at 1 ws)) BadNumber) (unless (is_name (word_at 2 ws)) BadName))
+
+abbrev pub unit_on : List (List ℕ) → UnitCard
+unit_on ws = record { unit = value_of (word_at 1 ws); set = word_at 2 ws }
+
+-- a unit card stands before the program; behind its first line all but `$EOJ` are out of place, cards or not
+abbrev pub job_card_refusal : Option JobCard → Bool → List (List ℕ) → Option Code
+job_card_refusal (Some job_card.EndJob) begun ws = unless (length ws == 1) BadCard
+job_card_refusal (Some job_card.Tie) begun ws = or_else (unless (not begun) OutOfPlace) (unit_refusal ws)
+job_card_refusal (Some _) begun ws = Some OutOfPlace
+job_card_refusal None begun ws = Some (if begun || is_some (card_among ws) then OutOfPlace else UnknownCard)
+
+abbrev pub job_line_refusal : OpenJob → List ℕ → Option Code
+job_line_refusal job line =
+    or_else (line_refusal 200 line)
+    (if is_job_card_line line then job_card_refusal (job_card_among (words line)) (has_begun job) (words line) else None)
+
+-- whether a good line ends the job
+abbrev pub ends_job : List ℕ → Bool
+ends_job line = is_job_card_line line && is_end_job (job_card_among (words line))
+
+abbrev pub with_unit : OpenJob → UnitCard → OpenJob
+with_unit job card = record job { ties = job.ties ++ card ∷ [] }
+
+abbrev pub with_program_line : OpenJob → List ℕ → OpenJob
+with_program_line job text = record job { lines = job.lines ++ text ∷ [] }
+
+-- the job after a good line that does not end it
+abbrev pub after_job_line : OpenJob → List ℕ → OpenJob
+after_job_line job line =
+    if is_job_card_line line then with_unit job (unit_on (words line)) else with_program_line job (program_text line)
+
+-- a job that has ended, and its number
+abbrev pub job_deck_of : ℕ → OpenJob → JobDeck
+job_deck_of number job =
+    record { number = number; account = job.account; limits = job.limits; ties = job.ties; lines = job.lines }
+
+-- ---- the lines behind a job's card
+
+-- what they come to
+pub data Behind : Type 0 where
+  -- the job is whole, and these lines follow
+  Whole : OpenJob → List (List ℕ) → Behind
+  -- line n is refused
+  Refused : ℕ → Code → Behind
+  -- they end before the job does
+  LeftOpen : Behind
+
+abbrev pub or_refused : Option Code → ℕ → Behind → Behind
+or_refused None n rest = rest
+or_refused (Some code) n rest = Refused n code
+
+-- the first of these lines has number n
+abbrev pub job_behind : ℕ → OpenJob → List (List ℕ) → Behind
+job_behind n job [] = LeftOpen
+job_behind n job (line ∷ lines) =
+    or_refused (job_line_refusal job line) n
+    (if ends_job line then Whole job lines else job_behind (n + 1) (after_job_line job line) lines)

@@ -1,0 +1,87 @@
+//! The options of a job's card: how many statements may begin, and how many steps a match may take.
+ghost use Rattle.std.specs.Prelude.{◌≡◌, ◌≤◌, ◌||◌, true, length, IfOk};
+ghost use Rattle.mon_text.specs.Counts.{is_count, value_of};
+ghost use Rattle.mon_cards.specs.declared.code.Code.TheVariants.{BadNumber, BadCard};
+ghost use Rattle.mon_cards.specs.Refusing.{unless};
+ghost use Rattle.mon_cards.specs.Jobs.{is_within, sets_statements, sets_steps, option_text, has_number, is_limit, with_option};
+ghost use Rattle.mon_cards.specs.inner.Stops.{Answers};
+
+use crate::code::Code;
+use mon_job::JobLimits;
+use mon_text::{Stop, read_count};
+
+/// How much a limit of a job may be.
+const MOST_LIMIT: u64 = 10_000_000;
+
+// Whether an option says how many statements may begin.
+pub(crate) fn sets_statements(word: &[u8]) -> bool
+    ensures { result ≡ sets_statements word.now }
+{
+    word.starts_with(b"ST=".as_slice())
+}
+
+// Whether an option says how many steps a match may take.
+pub(crate) fn sets_steps(word: &[u8]) -> bool
+    ensures { result ≡ sets_steps word.now }
+{
+    word.starts_with(b"MATCH=".as_slice())
+}
+
+// What stands behind the `=` of an option.
+fn option_text(word: &[u8]) -> &[u8]
+    requires { (sets_statements word.now || sets_steps word.now) ≡ true }
+    ensures { result.now ≡ option_text word.now }
+{
+    if sets_statements(word) {
+        &word[3..]
+    } else {
+        &word[6..]
+    }
+}
+
+// A word that has to be a number.
+pub(crate) fn number_of(word: &[u8]) -> Result<u64, Stop<Code>>
+    ensures answers { Answers (unless (is_count word.now) BadNumber) result }
+    ensures value { IfOk result (λ number. number ≡ value_of word.now) }
+{
+    match read_count(word) {
+        Ok(number) => Ok(number),
+        Err(_) => Err(Stop::Refused(Code::BadNumber)),
+    }
+}
+
+// Whether a number is from 1 to so many.
+pub(crate) fn is_within(most: u64, number: u64) -> bool
+    ensures { result ≡ is_within most number }
+{
+    (1..=most).contains(&number)
+}
+
+// The number of an option.
+pub(crate) fn option_number(word: &[u8]) -> Result<u64, Stop<Code>>
+    requires { (sets_statements word.now || sets_steps word.now) ≡ true }
+    ensures answers { Answers (unless (has_number word.now) BadNumber) result }
+    ensures value { IfOk result (λ number. number ≡ value_of (option_text word.now)) }
+{
+    number_of(option_text(word))
+}
+
+// Limits, where this option has this number.
+pub(crate) fn with_option(
+    limits: JobLimits,
+    word: &[u8],
+    number: u64,
+) -> Result<JobLimits, Stop<Code>>
+    requires { number ≡ value_of (option_text word.now) }
+    ensures answers { Answers (unless (is_limit word.now) BadCard) result }
+    ensures value { IfOk result (λ after. after ≡ with_option limits word.now) }
+{
+    if !is_within(MOST_LIMIT, number) {
+        return Err(Stop::Refused(Code::BadCard));
+    }
+    if sets_statements(word) {
+        Ok(limits.with_statements(number))
+    } else {
+        Ok(limits.with_steps(number))
+    }
+}
