@@ -1,5 +1,5 @@
 -- The canonical order of entries, and the place of one more.
-use Rattle.std.proofs.Common.{◌≡◌, ◌∙◌, ap, sym, subst, refl, ℕ, ◌+◌, ◌<◌, Bool, true, false, cond, List, [], ◌∷◌, ◌++◌, length, take, drop, get_or, arith, length-take, length-drop, Option, Some, nat_cmp}
+use Rattle.std.proofs.Common.{◌≡◌, ◌∙◌, ap, sym, subst, refl, ℕ, ◌+◌, ◌<◌, Bool, true, false, cond, List, [], ◌∷◌, ◌++◌, length, take, drop, get_or, arith, length-take, length-drop, Some, nat_cmp}
 use Rattle.std.specs.Prelude.{All, HoldsAt, insert, count_by, IsPermutation, ◌||◌}
 use Rattle.std.specs.List.{list_any, AllWithin, AllByRecursion}
 use Rattle.std.specs.List.Sorted.{IsNonDecreasingBy, IsStrictlySortedBy}

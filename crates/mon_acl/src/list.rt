@@ -16,7 +16,7 @@ use crate::entries::{Entry, Perms, Tag};
 use crate::pieces::Form;
 use crate::reading::entry_of;
 use crate::refusals::AclError;
-use crate::summaries::{Summary, index_of, summaries_of};
+use crate::summaries::{MOST_ENTRIES, fingerprints_of, index_of, perms_in, summaries_of};
 use mon_text::Stop;
 use smallvec::SmallVec;
 use std::alloc::{AllocError, Global};
@@ -29,20 +29,21 @@ use std::marker::Model;
 pub struct Acl {
     entries: SmallVec<Entry, ENTRIES_INLINE>,
     /// Those of the entries, at the same indexes.
-    summaries: SmallVec<Summary, ENTRIES_INLINE>,
+    summaries: SmallVec<u64, ENTRIES_INLINE>,
+    fingerprints: [u16; MOST_ENTRIES],
 }
 
 impl Model for Acl {
     ghost use Rattle.std.specs.Prelude.{◌≡◌, List, map};
     ghost use Rattle.mon_acl.specs.declared.entries.Entry.{Entry};
     ghost use Rattle.mon_acl.specs.Entries.{IsAcl};
-    ghost use Rattle.mon_acl.specs.inner.Summaries.{summary_of};
+    ghost use Rattle.mon_acl.specs.inner.Summaries.{summary_of, fingerprints_of};
 
     ghost Value = { List Entry };
 
     ghost view = { λ a. a.entries.items };
 
-    ghost invariant = { λ a. IsAcl a.entries.items × (a.summaries.items ≡ map summary_of a.entries.items) };
+    ghost invariant = { λ a. IsAcl a.entries.items × (a.summaries.items ≡ map summary_of a.entries.items) × (a.fingerprints ≡ fingerprints_of a.entries.items) };
 }
 
 impl Acl {
@@ -140,13 +141,18 @@ impl Acl {
         self.entries().get(i)
     }
 
-    /// The index of the entry of a type and a qualifier, which is empty for a type without names. It takes no memory, and
-    /// time with the logarithm of the number of entries.
+    /// The index of the entry of a type and a qualifier, which is empty for a type without names. It takes no memory.
     pub fn index_of(&self, tag: Tag, qualifier: &[u8]) -> Option<usize>
         ensures { IsIndexOf tag qualifier.now self.now result }
     {
         let summaries = self.summaries.as_slice();
-        index_of(summaries, self.entries(), tag, qualifier)
+        index_of(
+            &self.fingerprints,
+            summaries,
+            self.entries(),
+            tag,
+            qualifier,
+        )
     }
 
     /// The permissions of the entry at an index.
@@ -154,7 +160,7 @@ impl Acl {
         requires { index < length self.now }
         ensures { HoldsAt (λ e. e.perms ≡ result) self.now index }
     {
-        self.summaries.as_slice()[index].perms
+        perms_in(self.summaries.as_slice()[index], &self.entries()[index])
     }
 
     /// The same list once more.
@@ -171,7 +177,11 @@ impl Acl {
             entries.push(entry.copy())?;
         }
         let summaries = SmallVec::from_slice(alloc, self.summaries.as_slice())?;
-        Ok(Acl { entries, summaries })
+        Ok(Acl {
+            entries,
+            summaries,
+            fingerprints: self.fingerprints,
+        })
     }
 }
 
@@ -188,13 +198,22 @@ fn read_list(alloc: Global, form: Form, text: &[u8]) -> Result<Acl, Stop<AclErro
 }
 
 /// The list of entries that lack nothing.
-fn listed(alloc: Global, entries: SmallVec<Entry, ENTRIES_INLINE>) -> Result<Acl, Stop<AclError>>
+fn listed(
+    alloc: Global,
+    mut entries: SmallVec<Entry, ENTRIES_INLINE>,
+) -> Result<Acl, Stop<AclError>>
     requires { IsAcl entries.items }
     ensures list { Gives (λ acl. acl) result (Ok entries.items) }
     ensures memory { IsErrOf result Stop.Memory → 5 ≤ length entries.items }
 {
+    entries.shrink_to_fit();
+    let fingerprints = fingerprints_of(entries.as_slice());
     match summaries_of(alloc, entries.as_slice()) {
-        Ok(summaries) => Ok(Acl { entries, summaries }),
+        Ok(summaries) => Ok(Acl {
+            entries,
+            summaries,
+            fingerprints,
+        }),
         Err(_) => Err(Stop::Memory),
     }
 }

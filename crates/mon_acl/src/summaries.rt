@@ -1,28 +1,28 @@
-//! What a search among entries reads: sixteen bytes of each, side by side, so that those of a long list lie in few lines
-//! of a processor's cache.
-ghost use Rattle.std.specs.Prelude.{◌≡◌, ◌≢◌, ℕ, ◌≤◌, ◌<◌, ◌∷◌, All, HoldsAt, IsTrue, IfOk, IsOk, MatchOption, length, map, slice_index};
-ghost use Rattle.std.specs.List.Sorted.{IsNonDecreasingBy};
+//! What a search among entries reads: eight bytes of each side by side, and before them two bytes of each, so that the whole
+//! of a long list lies in few lines of a processor's cache.
+//!
+//! The two bytes are looked at all together, whatever they are: a processor waits longer for a jump that it can't foresee
+//! than for some ten comparisons of several at once.
+ghost use Rattle.std.specs.Prelude.{◌≡◌, ◌≢◌, ℕ, ◌+◌, ◌*◌, ◌%◌, ◌≤◌, ◌<◌, All, HoldsAt, IsTrue, IfOk, IsOk, MatchOption, length, map, slice_index};
 ghost use Rattle.mon_acl.specs.Entries.{rank, qualifier, is_for, IsEntry, IsCanonical, IsAcl, IsIndexOf};
-ghost use Rattle.mon_acl.specs.inner.Summaries.{head_of, summary_of};
+ghost use Rattle.mon_acl.specs.inner.Summaries.{word_of, code_of, summary_of, fingerprint_of, fingerprints_of};
 
 use crate::arranging::ENTRIES_INLINE;
 use crate::entries::{Entry, Perms, Tag};
 use smallvec::SmallVec;
 use std::alloc::{AllocError, Global};
 
-/// The longest qualifier that a head holds whole, in characters.
-const MOST_IN_HEAD: usize = 7;
+/// How many entries a list has at the most: 100 for names, and one of each of the other types.
+pub(crate) const MOST_ENTRIES: usize = 104;
 
-/// What a search reads of an entry.
-#[derive(Clone, Copy, Default)]
-pub(crate) struct Summary {
-    /// The first eight bytes of the sort key as a number, the first of them the greatest part, with zeros behind a shorter
-    /// key.
-    head: u64,
-    /// How many characters the qualifier has.
-    length: u8,
-    pub(crate) perms: Perms,
-}
+/// The longest qualifier that a word holds whole, in characters.
+const MOST_IN_WORD: usize = 6;
+
+/// A prime number, so that each bit of a word counts in what is left by it.
+const PRIME: u64 = 8147;
+
+/// What is no entry's fingerprint: the last three bits of one are its type.
+const NO_FINGERPRINT: u16 = 7;
 
 /// The byte of a text at an index; 0 past its end.
 fn byte_at(text: &[u8], i: usize) -> u8
@@ -31,40 +31,56 @@ fn byte_at(text: &[u8], i: usize) -> u8
     text.get(i).copied().unwrap_or(0)
 }
 
-/// The head of the sort key of a type and a qualifier.
-fn head_of(tag: Tag, qualifier: &[u8]) -> u64
-    ensures { result ≡ head_of (rank tag ∷ qualifier.now) }
+/// The length of a qualifier, its first six characters, and a byte: all that a word of the machine holds.
+fn word_of(qualifier: &[u8], last: u8) -> u64
+    ensures { result ≡ word_of qualifier.now last }
 {
     u64::from_be_bytes([
-        tag.rank(),
+        qualifier.len().min(MOST_IN_WORD + 1) as u8,
         byte_at(qualifier, 0),
         byte_at(qualifier, 1),
         byte_at(qualifier, 2),
         byte_at(qualifier, 3),
         byte_at(qualifier, 4),
         byte_at(qualifier, 5),
-        byte_at(qualifier, 6),
+        last,
     ])
 }
 
-/// How many characters the qualifier of an entry has.
-fn length_of(entry: &Entry) -> u8
-    ensures { result ≡ length (qualifier entry.now) }
+/// Permissions as a number below 8.
+fn code_of(perms: Perms) -> u8
+    ensures { result ≡ code_of perms }
 {
-    match &entry.name {
-        Some(name) => name.as_bytes().len() as u8,
-        None => 0,
+    let read = if perms.read { 4 } else { 0 };
+    let write = if perms.write { 2 } else { 0 };
+    let execute = if perms.execute { 1 } else { 0 };
+    read + write + execute
+}
+
+fn summary_of(entry: &Entry) -> u64
+    ensures { result ≡ summary_of entry.now }
+{
+    word_of(entry.qualifier(), code_of(entry.perms))
+}
+
+/// The permissions of the entry of a summary.
+pub(crate) fn perms_in(summary: u64, entry: &Entry) -> Perms
+    requires { summary ≡ summary_of entry.now }
+    ensures { result ≡ entry.now.perms }
+{
+    let code = (summary % 256) as u8;
+    Perms {
+        read: code >= 4,
+        write: code % 4 >= 2,
+        execute: code % 2 == 1,
     }
 }
 
-fn summary_of(entry: &Entry) -> Summary
-    ensures { result ≡ summary_of entry.now }
+/// The fingerprint of a type and a qualifier, by the word of the qualifier.
+fn fingerprint_of(tag: Tag, word: u64) -> u16
+    ensures { result ≡ (word % 8147) * 8 + rank tag }
 {
-    Summary {
-        head: head_of(entry.tag, entry.qualifier()),
-        length: length_of(entry),
-        perms: entry.perms,
-    }
+    (word % PRIME) as u16 * 8 + u16::from(tag.rank())
 }
 
 /// The summaries of entries, in their order.
@@ -75,7 +91,7 @@ fn summary_of(entry: &Entry) -> Summary
 pub(crate) fn summaries_of(
     alloc: Global,
     entries: &[Entry],
-) -> Result<SmallVec<Summary, ENTRIES_INLINE>, AllocError>
+) -> Result<SmallVec<u64, ENTRIES_INLINE>, AllocError>
     ensures summaries { IfOk result (λ summaries. summaries.items ≡ map summary_of entries.now) }
     ensures few { length entries.now ≤ 4 → IsOk result }
 {
@@ -86,31 +102,75 @@ pub(crate) fn summaries_of(
     Ok(summaries)
 }
 
-/// The index of a summary with a head, where there is one.
-fn index_of_head(summaries: &[Summary], head: u64) -> Option<usize>
-    requires { IsNonDecreasingBy (λ s. s.head) summaries.now }
-    ensures { MatchOption result (All (λ s. s.head ≢ head) summaries.now)
-        (λ i. (i < length summaries.now) × HoldsAt (λ s. s.head ≡ head) summaries.now i) }
+/// The fingerprints of entries, in their order.
+pub(crate) fn fingerprints_of(entries: &[Entry]) -> [u16; MOST_ENTRIES]
+    requires { length entries.now ≤ 104 }
+    ensures { result ≡ fingerprints_of entries.now }
 {
-    match summaries.binary_search_by(|summary| summary.head.cmp(&head)) {
-        Ok(index) => Some(index),
-        Err(_) => None,
+    let mut fingerprints = [NO_FINGERPRINT; MOST_ENTRIES];
+    for (i, entry) in entries.iter().enumerate() {
+        fingerprints[i] = fingerprint_of(entry.tag, word_of(entry.qualifier(), 0));
+    }
+    fingerprints
+}
+
+/// The last index of a fingerprint among others, where it is there.
+fn last_index_of(fingerprints: &[u16; MOST_ENTRIES], fingerprint: u16) -> Option<usize>
+    ensures { MatchOption result (All (λ f. f ≢ fingerprint) fingerprints.now)
+        (λ i. (i < 104) × HoldsAt (λ f. f ≡ fingerprint) fingerprints.now i) }
+{
+    let mut behind = 0;
+    for i in 0..MOST_ENTRIES as u16 {
+        if fingerprints[i as usize] == fingerprint {
+            behind = i + 1;
+        }
+    }
+    if behind == 0 {
+        None
+    } else {
+        Some(behind as usize - 1)
     }
 }
 
-/// Whether an entry with the head of a type and a qualifier is the entry for these. It is read only where its qualifier
-/// is longer than a head.
-fn is_for(summary: Summary, entry: &Entry, tag: Tag, qualifier: &[u8]) -> bool
+/// Where the entry of a type without names stands in each list that has one, but for that of the owning group.
+fn likely_index(tag: Tag, count: usize) -> usize {
+    match tag {
+        Tag::Mask => count.saturating_sub(2),
+        Tag::Other => count.saturating_sub(1),
+        _ => 0,
+    }
+}
+
+/// An index of a fingerprint among those of entries, where it is there.
+fn index_of_fingerprint(
+    fingerprints: &[u16; MOST_ENTRIES],
+    fingerprint: u16,
+    likely: usize,
+) -> Option<usize>
+    ensures { MatchOption result (All (λ f. f ≢ fingerprint) fingerprints.now)
+        (λ i. (i < 104) × HoldsAt (λ f. f ≡ fingerprint) fingerprints.now i) }
+{
+    if likely < MOST_ENTRIES && fingerprints[likely] == fingerprint {
+        Some(likely)
+    } else {
+        last_index_of(fingerprints, fingerprint)
+    }
+}
+
+/// Whether an entry of a type is the entry for a qualifier, by its summary and by the word of the qualifier. The entry is
+/// read only where the qualifier is longer than a word holds.
+fn is_for(summary: u64, entry: &Entry, word: u64, tag: Tag, qualifier: &[u8]) -> bool
     requires summary { summary ≡ summary_of entry.now }
-    requires head { summary.head ≡ head_of (rank tag ∷ qualifier.now) }
+    requires word { word ≡ word_of qualifier.now 0 }
+    requires tag { rank entry.now.tag ≡ rank tag }
     requires valid { IsEntry entry.now }
     requires bytes { (i : ℕ) → slice_index qualifier.now i < 256 }
     ensures { IsTrue result → IsTrue (is_for tag qualifier.now entry.now) }
 {
-    if qualifier.len() <= MOST_IN_HEAD {
-        usize::from(summary.length) == qualifier.len()
+    if qualifier.len() <= MOST_IN_WORD {
+        summary / 256 == word / 256
     } else {
-        entry.tag == tag && entry.qualifier() == qualifier
+        entry.qualifier() == qualifier
     }
 }
 
@@ -125,21 +185,27 @@ fn index_by_entries(entries: &[Entry], tag: Tag, qualifier: &[u8]) -> Option<usi
     }
 }
 
-/// The index of the entry of a type and a qualifier, found by halving over the summaries. Where several entries have the
-/// same head, it is found among the entries themselves.
+/// The index of the entry of a type and a qualifier, found by its fingerprint. Where another entry has the same, it is found
+/// among the entries themselves.
 pub(crate) fn index_of(
-    summaries: &[Summary],
+    fingerprints: &[u16; MOST_ENTRIES],
+    summaries: &[u64],
     entries: &[Entry],
     tag: Tag,
     qualifier: &[u8],
 ) -> Option<usize>
     requires list { IsAcl entries.now }
+    requires fingerprints { fingerprints.now ≡ fingerprints_of entries.now }
     requires summaries { summaries.now ≡ map summary_of entries.now }
     ensures { IsIndexOf tag qualifier.now entries.now result }
 {
-    match index_of_head(summaries, head_of(tag, qualifier)) {
+    let word = word_of(qualifier, 0);
+    let likely = likely_index(tag, entries.len());
+    match index_of_fingerprint(fingerprints, fingerprint_of(tag, word), likely) {
         None => None,
-        Some(index) if is_for(summaries[index], &entries[index], tag, qualifier) => Some(index),
+        Some(index) if is_for(summaries[index], &entries[index], word, tag, qualifier) => Some(
+            index,
+        ),
         Some(_) => index_by_entries(entries, tag, qualifier),
     }
 }
