@@ -1,4 +1,4 @@
-//! The entries of a list that are for someone, found by halving: they stand in canonical order.
+//! The entries of a list that are for someone, each found by its type and its name.
 ghost use Rattle.std.specs.Prelude.{◌≡◌, ◌∷◌, None, true};
 ghost use Rattle.mon_acl.specs.Entries.{rank, has_tag, is_qualified, IsCanonical, IsAcl};
 ghost use Rattle.mon_acl.specs.Permissions.{holds};
@@ -114,7 +114,7 @@ fn of_owning_group_to(acl: &Acl, account: &Account, group: &Name, request: Perms
     }
 }
 
-/// What the entries of the account's groups say: each is found by halving.
+/// What the entries of the account's groups say.
 pub(crate) fn of_groups(acl: &Acl, account: &Account, group: &Name, request: Perms) -> Found
     requires { IsAcl acl.now }
     ensures { result ≡ found (is_for_group account.now group.now) acl.now request }
