@@ -1,6 +1,6 @@
 -- What fingerprints and summaries tell of entries.
 use Rattle.std.proofs.Common.{◌≡◌, ◌≢◌, ◌∙◌, ap, ap₂, sym, subst, refl, ℕ, zero, suc, ◌+◌, ◌*◌, ◌<◌, ◌≤◌, Bool, true, false, cond, ◌&&◌, ◌||◌, List, [], ◌∷◌, length, get_or, arith, true≢false, nat_eq, Option, Some, None, All, ◌⊎◌, inl, inr, replicate, set, take}
-use Rattle.std.specs.Prelude.{map, HoldsAt, count_by, min, ◌%◌, ◌/◌}
+use Rattle.std.specs.Prelude.{map, HoldsAt, count_by, min, ◌/◌}
 use Rattle.std.specs.List.{list_any, list_all}
 use Rattle.std.specs.Cmp.Lexicographic.{pointwise, nat_list_eq_equiv, bytes_decides}
 use Rattle.std.specs.Slice.Scan.{big_endian}
@@ -15,7 +15,7 @@ use Rattle.mon_acl.specs.declared.entries.Tag.{Tag}
 use Rattle.mon_acl.specs.declared.entries.Tag.TheVariants.{UserObj, User, GroupObj, Group, Mask, Other}
 use Rattle.mon_acl.specs.declared.entries.Entry.{Entry}
 use Rattle.mon_acl.specs.Entries.{rank, is_tag, has_tag, is_named, sort_key, is_for, qualifier, bytes_of, is_qualified, IsEntry, IsValidAcl}
-use Rattle.mon_acl.specs.inner.Summaries.{filled, word_of, code_of, summary_of, fingerprint_of, fingerprints_of}
+use Rattle.mon_acl.specs.inner.Summaries.{filled, word_of, code_of, summary_of, fingerprint_of, fingerprints_of, mixed}
 use Rattle.mon_acl.proofs.Valid.{counted}
 
 -- ---- names are bytes
@@ -201,12 +201,12 @@ within es t q i l h = by (cases_lt i (length es))
 pub same_type : (es : List Entry) (t : Tag) (q : List ℕ) (i : ℕ) (d : Entry) → i < length es → i < 104 → HoldsAt (λ f. f ≡ fingerprint_of t q) (fingerprints_of es) i →
     rank (get_or es i d).tag ≡ rank t
 same_type es t q i d w l h =
-    by_rank (word_of (qualifier (get_or es i d)) 0 % 8147) (word_of q 0 % 8147) (rank (get_or es i d).tag) (rank t) (sym (print_at es i d 0 w l) ∙ h 0)
+    by_rank (mixed (word_of (qualifier (get_or es i d)) 0)) (mixed (word_of q 0)) (rank (get_or es i d).tag) (rank t) (sym (print_at es i d 0 w l) ∙ h 0)
     (ranks_small (get_or es i d).tag) (ranks_small t)
 
 print_of : List ℕ → ℕ
 print_of [] = 0
-print_of (r ∷ q) = (word_of q 0 % 8147) * 8 + r
+print_of (r ∷ q) = mixed (word_of q 0) * 8 + r
 
 -- where none has the fingerprint, no entry is for the type and the name
 pub untold : (es : List Entry) (t : Tag) (q : List ℕ) → length es ≤ 104 → All (λ f. f ≢ fingerprint_of t q) (fingerprints_of es) → list_any (is_for t q) es ≡ false
@@ -256,6 +256,6 @@ one_more es i d fs v h l e k =
     ap₂ (λ (gs : List ℕ) (w : ℕ). set gs i w) e k ∙ grown 7 104 (λ e. fingerprint_of e.tag (qualifier e)) es i d h l ∙ ap (λ (j : ℕ). fingerprints_of (take j es)) next
 
 -- what a search finds, by what the code has of it
-pub placed : (es : List Entry) (t : Tag) (q fs : List ℕ) (i f w : ℕ) → fs ≡ fingerprints_of es → w ≡ word_of q 0 → f ≡ (w % 8147) * 8 + rank t →
+pub placed : (es : List Entry) (t : Tag) (q fs : List ℕ) (i f w : ℕ) → fs ≡ fingerprints_of es → w ≡ word_of q 0 → f ≡ mixed w * 8 + rank t →
     (i < 104) × HoldsAt (λ g. g ≡ f) fs i → (i < 104) × HoldsAt (λ g. g ≡ fingerprint_of t q) (fingerprints_of es) i
-placed es t q fs i f w e k m p = (p.0, λ d. ap (λ (gs : List ℕ). get_or gs i d) (sym e) ∙ p.1 d ∙ m ∙ ap (λ (x : ℕ). (x % 8147) * 8 + rank t) k)
+placed es t q fs i f w e k m p = (p.0, λ d. ap (λ (gs : List ℕ). get_or gs i d) (sym e) ∙ p.1 d ∙ m ∙ ap (λ (x : ℕ). mixed x * 8 + rank t) k)

@@ -5,7 +5,7 @@
 //! than for some ten comparisons of several at once.
 ghost use Rattle.std.specs.Prelude.{◌≡◌, ◌≢◌, ℕ, ◌+◌, ◌*◌, ◌%◌, ◌≤◌, ◌<◌, All, HoldsAt, IsTrue, IfOk, IsOk, MatchOption, length, map, slice_index};
 ghost use Rattle.mon_acl.specs.Entries.{rank, qualifier, is_for, IsEntry, IsCanonical, IsAcl, IsIndexOf};
-ghost use Rattle.mon_acl.specs.inner.Summaries.{word_of, code_of, summary_of, fingerprint_of, fingerprints_of};
+ghost use Rattle.mon_acl.specs.inner.Summaries.{word_of, code_of, summary_of, fingerprint_of, fingerprints_of, mixed};
 
 use crate::arranging::ENTRIES_INLINE;
 use crate::entries::{Entry, Perms, Tag};
@@ -18,8 +18,11 @@ pub(crate) const MOST_ENTRIES: usize = 104;
 /// The longest qualifier that a word holds whole, in characters.
 const MOST_IN_WORD: usize = 6;
 
-/// A prime number, so that each bit of a word counts in what is left by it.
-const PRIME: u64 = 8147;
+/// 2^64 over the golden ratio: each bit of a word counts in the highest bits of its product with this.
+const MULTIPLIER: u64 = 11_400_714_819_323_198_485;
+
+/// 2^51: a word over it has thirteen bits.
+const THIRTEEN_BITS: u64 = 2_251_799_813_685_248;
 
 /// What is no entry's fingerprint: the last three bits of one are its type.
 const NO_FINGERPRINT: u16 = 7;
@@ -78,9 +81,9 @@ pub(crate) fn perms_in(summary: u64, entry: &Entry) -> Perms
 
 /// The fingerprint of a type and a qualifier, by the word of the qualifier.
 fn fingerprint_of(tag: Tag, word: u64) -> u16
-    ensures { result ≡ (word % 8147) * 8 + rank tag }
+    ensures { result ≡ mixed word * 8 + rank tag }
 {
-    (word % PRIME) as u16 * 8 + u16::from(tag.rank())
+    (word.wrapping_mul(MULTIPLIER) / THIRTEEN_BITS) as u16 * 8 + u16::from(tag.rank())
 }
 
 /// The summaries of entries, in their order.

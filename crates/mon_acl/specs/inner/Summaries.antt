@@ -1,5 +1,5 @@
 -- What is kept of each entry beside it, for the search.
-use Rattle.std.specs.Prelude.{ℕ, zero, suc, ◌+◌, ◌*◌, ◌%◌, List, [], ◌∷◌, length, map, min, if◌then◌else◌}
+use Rattle.std.specs.Prelude.{ℕ, zero, suc, ◌+◌, ◌*◌, ◌%◌, ◌/◌, List, [], ◌∷◌, length, map, min, if◌then◌else◌}
 use Rattle.std.specs.Slice.Scan.{big_endian}
 use Rattle.mon_acl.specs.declared.entries.Perms.{Perms}
 use Rattle.mon_acl.specs.declared.entries.Tag.{Tag}
@@ -23,9 +23,13 @@ code_of p = (if p.read then 4 else 0) + (if p.write then 2 else 0) + (if p.execu
 abbrev pub summary_of : Entry → ℕ
 summary_of e = word_of (qualifier e) (code_of e.perms)
 
+-- thirteen bits of a word in which each bit of it counts: the highest of a product (own, after Fibonacci hashing)
+abbrev pub mixed : ℕ → ℕ
+mixed word = word * 11400714819323198485 % 18446744073709551616 / 2251799813685248
+
 -- few of the entries of a list have the same, and only those of one type
 abbrev pub fingerprint_of : Tag → List ℕ → ℕ
-fingerprint_of t name = (word_of name 0 % 8147) * 8 + rank t
+fingerprint_of t name = mixed (word_of name 0) * 8 + rank t
 
 -- those of the entries, with 7, which is that of none, behind them
 abbrev pub fingerprints_of : List Entry → List ℕ

@@ -1,9 +1,8 @@
 use Rattle.std.proofs.Common.{rules, ◌≡◌, ◌∙◌, ◌<◌, length, ap, sym, arith, List, ℕ, subst, All, ◌≢◌, ◌+◌, ◌*◌, get_or, IsTrue, refl}
-use Rattle.std.specs.Prelude.{◌%◌}
 use Rattle.std.proofs.lemmas.List.{get_or-map, get_or_default, length-map}
 use Rattle.mon_acl.specs.Entries.{rank, is_for}
 use Rattle.mon_acl.specs.declared.entries.Entry.{Entry}
-use Rattle.mon_acl.specs.inner.Summaries.{summary_of, fingerprint_of}
+use Rattle.mon_acl.specs.inner.Summaries.{summary_of, fingerprint_of, mixed}
 use Rattle.mon_acl.proofs.Fingerprints.{few, placed, within, same_type, untold}
 use Rattle.mon_acl.proofs.summaries.index_of.Goals as goal
 
@@ -41,7 +40,7 @@ returns-in-None c =
     let none : All (λ f. f ≢ c.fingerprint_of.result) c.args.fingerprints.now = search rules in
     untold c.args.entries.now c.args.tag c.args.qualifier.now (few c.args.entries.now c.requires.list.valid)
     (subst (λ (fs : List ℕ). All (λ f. f ≢ fingerprint_of c.args.tag c.args.qualifier.now) fs) c.requires.fingerprints
-    (λ k d l e. none k d l (e ∙ sym (c.fingerprint_of.ensures ∙ ap (λ (x : ℕ). (x % 8147) * 8 + rank c.args.tag) c.word_of-word.ensures))))
+    (λ k d l e. none k d l (e ∙ sym (c.fingerprint_of.ensures ∙ ap (λ (x : ℕ). mixed x * 8 + rank c.args.tag) c.word_of-word.ensures))))
 
 pub returns-in-Some : goal.returns-in-Some
 returns-in-Some c =
