@@ -1,5 +1,5 @@
 -- What the loops over turns and rounds come to.
-use Rattle.std.proofs.Common.{◌≡◌, ◌≢◌, ℕ, suc, ◌+◌, ◌-◌, ◌<◌, ◌≤◌, Bool, true, false, List, [], ◌∷◌, ◌++◌, length, refl, ap, sym, ◌∙◌, subst, arith, append_assoc}
+use Rattle.std.proofs.Common.{◌≡◌, ◌≢◌, ℕ, suc, ◌+◌, ◌-◌, ◌<◌, ◌≤◌, Bool, true, false, List, [], ◌∷◌, ◌++◌, length, refl, ap, sym, ◌∙◌, subst, inl, inr, arith, append_assoc}
 use Rattle.std.specs.Prelude.{map}
 use Rattle.mon_job.specs.declared.job_end.JobEnd.{JobEnd}
 use Rattle.mon_slots.specs.declared.turned.Turned.{Turned}
@@ -10,7 +10,7 @@ use Rattle.mon_slots.specs.Floors.{Floor}
 use Rattle.mon_slots.specs.Turns.{ends_by}
 use Rattle.mon_slots.specs.Marks.{Marks, Past, nothing, and_then, until, from, rounds, turns_left, rounds_until, is_done}
 use Rattle.mon_slots.specs.Turning.{TurnOr, UntilIs, RoundsAre, ended_in}
-use Rattle.mon_slots.specs.inner.Rounding.{Ahead, RoundTo, Going, stop_of}
+use Rattle.mon_slots.specs.inner.Rounding.{Ahead, RoundTo, Going, Unless, stop_of}
 use Rattle.mon_slots.proofs.Past.{until_stops, until_goes, until_append, until_length, after_past, rounds_same, round_falls, room_at_last}
 
 append_empty : {A : Type 0} (xs : List A) → xs ++ [] ≡ xs
@@ -104,6 +104,15 @@ module _ (stop : Floor → Bool) where
       let e : n - s ≡ 0 = omega (arith, h) in
       subst (λ (k : ℕ). RoundTo stop w before ends (from (s + 1) k) now) e r
 
+  pub round_step : (w : Floor) (before ends ends' : List JobEnd) (s n : ℕ) (now now' : Floor) → s < n
+      → RoundTo stop w before ends (from (s + 1) (n - s)) now → Unless stop (s + 1) now ends ends' now'
+      → RoundTo stop w before ends' (from (s + 1 + 1) (n - (s + 1))) now'
+  round_step w before ends ends' s n now now' below r (inl u) =
+      let same = round_skip w before ends s n now below u.0 r in
+      subst (λ (l : List JobEnd). RoundTo stop w before l (from (s + 1 + 1) (n - (s + 1))) now') (sym u.1)
+      (subst (λ (v : Floor). RoundTo stop w before ends (from (s + 1 + 1) (n - (s + 1))) v) (sym u.2) same)
+  round_step w before ends ends' s n now now' below r (inr u) = round_turn w before ends ends' s n now now' u.1.told below u.0 r u.1.is u.1.kept
+
 -- a whole round
 module _ (stop : Floor → Bool) (size : ℕ) (at_last : (v : Floor) → length v.slots ≡ size → is_done v ≡ true → stop v ≡ true)
     (w : Floor) (ends : List JobEnd) (now : Floor) (is_size : length w.slots ≡ size) (h : Ahead stop (from 1 size) w ends [] now) where
@@ -160,3 +169,6 @@ module _ (stop : Floor → Bool) where
 pub goal_at_last : (g : Goal) (size : ℕ) → size ≢ 0 → (v : Floor) → length v.slots ≡ size → is_done v ≡ true → stop_of g v ≡ true
 goal_at_last goal.Empty size some v is h = h
 goal_at_last goal.Room size some v is h = room_at_last size some v is h
+
+pub below : (a b : ℕ) → suc a ≤ b → a < b
+below a b h = omega (arith, h)

@@ -1,4 +1,18 @@
-//! Rounds of turns.
+//! Turns in an order, and rounds of turns.
+ghost use Rattle.std.specs.Prelude.{◌≡◌, ◌≤◌, ◌+◌, ◌++◌, [], length, vec_len, vec_capacity, IfOk, OnErr};
+ghost use Rattle.mon_catalogue.specs.Sets.{Sets};
+ghost use Rattle.mon_slots.specs.Told.{slots_in, AreSlots};
+ghost use Rattle.mon_slots.specs.Floors.{floor};
+ghost use Rattle.mon_slots.specs.Turning.{MarkedIs, RoundsAre, DrainIs, RoomIs, ended_in};
+ghost use Rattle.mon_slots.specs.inner.Stepping.{jobs_in};
+ghost use Rattle.mon_slots.specs.inner.Rounding.{RoundTo, Unless, stop_of};
+
+use crate::slots::Slots;
+use crate::turned::Turned;
+use mon_catalogue::Catalogue;
+use mon_guard::Guard;
+use mon_job::JobEnd;
+use std::alloc::{AllocError, Global};
 
 /// Where rounds of turns stop.
 #[derive(Clone, Copy)]
@@ -7,4 +21,157 @@ pub enum Goal {
     Empty,
     /// Some slot is empty.
     Room,
+}
+
+impl Goal {
+    fn is_met(self, slots: &Slots) -> bool
+        ensures { (sets : Sets) → result ≡ stop_of self (floor sets (slots_in slots.now)) }
+    {
+        match self {
+            Goal::Empty => slots.are_empty(),
+            Goal::Room => slots.has_room(),
+        }
+    }
+}
+
+// Keeps the job that a turn has ended, if it has.
+fn keep_end(ends: &mut Vec<JobEnd>, turned: Turned)
+    requires { vec_len ends.old + length (ended_in turned) ≤ vec_capacity ends.old }
+    ensures items { ends.new.items ≡ ends.old.items ++ ended_in turned }
+    ensures len { vec_len ends.new ≡ vec_len ends.old + length (ended_in turned) }
+    ensures room { vec_capacity ends.old ≤ vec_capacity ends.new }
+{
+    match turned {
+        Turned::Ended(end) => ends.push(end).unwrap(),
+        Turned::Goes | Turned::Empty => (),
+    }
+}
+
+impl Slots {
+    /// Turns of the jobs in these slots, in this order, and the jobs that ended.
+    ///
+    /// # Errors
+    ///
+    /// Where a growth was refused, before the first turn; nothing has changed then.
+    pub fn turns(
+        &mut self,
+        alloc: Global,
+        guard: &mut Guard,
+        catalogue: &mut Catalogue,
+        order: &[u8],
+    ) -> Result<Vec<JobEnd>, AllocError>
+        ensures marked { IfOk result (λ ends. MarkedIs order.now (floor catalogue.old (slots_in self.old)) ends.items (floor catalogue.new (slots_in self.new))) }
+        ensures size { length (slots_in self.new) ≡ length (slots_in self.old) }
+        ensures unchanged { OnErr result (self.new ≡ self.old) }
+        ensures sets { OnErr result (catalogue.new ≡ catalogue.old) }
+    {
+        let mut ends = Vec::with_capacity(alloc, self.len())?;
+        for number in order {
+            let turned = self.turn(alloc, guard, catalogue, *number);
+            keep_end(&mut ends, turned);
+        }
+        Ok(ends)
+    }
+
+    // A turn of the job in a slot, unless the goal is met.
+    fn turn_unless(
+        &mut self,
+        alloc: Global,
+        guard: &mut Guard,
+        catalogue: &mut Catalogue,
+        goal: Goal,
+        slot: u8,
+        ends: &mut Vec<JobEnd>,
+    )
+        requires room { vec_len ends.old + jobs_in (slots_in self.old) ≤ vec_capacity ends.old }
+        ensures turn { Unless (stop_of goal) slot (floor catalogue.old (slots_in self.old)) ends.old.items ends.new.items (floor catalogue.new (slots_in self.new)) }
+        ensures room { vec_len ends.new + jobs_in (slots_in self.new) ≤ vec_capacity ends.new }
+        ensures size { length (slots_in self.new) ≡ length (slots_in self.old) }
+    {
+        if !goal.is_met(self) {
+            let turned = self.turn(alloc, guard, catalogue, slot);
+            keep_end(ends, turned);
+        }
+    }
+
+    // One turn for each slot, unless the goal is met.
+    fn round(
+        &mut self,
+        alloc: Global,
+        guard: &mut Guard,
+        catalogue: &mut Catalogue,
+        goal: Goal,
+        ends: &mut Vec<JobEnd>,
+    )
+        requires few { length (slots_in self.old) ≤ 8 }
+        requires room { vec_len ends.old + jobs_in (slots_in self.old) ≤ vec_capacity ends.old }
+        ensures round { RoundTo (stop_of goal) (floor catalogue.old (slots_in self.old)) ends.old.items ends.new.items [] (floor catalogue.new (slots_in self.new)) }
+        ensures room { vec_len ends.new + jobs_in (slots_in self.new) ≤ vec_capacity ends.new }
+    {
+        let count = self.len() as u8;
+        for number in 0..count {
+            self.turn_unless(alloc, guard, catalogue, goal, number + 1, ends);
+        }
+    }
+
+    // Rounds of turns until the goal is met, and the jobs that ended.
+    fn rounds(
+        &mut self,
+        alloc: Global,
+        guard: &mut Guard,
+        catalogue: &mut Catalogue,
+        goal: Goal,
+    ) -> Result<Vec<JobEnd>, AllocError>
+        requires { AreSlots (slots_in self.old) }
+        ensures rounds { IfOk result (λ ends. RoundsAre (stop_of goal) (floor catalogue.old (slots_in self.old)) ends.items (floor catalogue.new (slots_in self.new))) }
+        ensures size { length (slots_in self.new) ≡ length (slots_in self.old) }
+        ensures unchanged { OnErr result (self.new ≡ self.old) }
+        ensures sets { OnErr result (catalogue.new ≡ catalogue.old) }
+    {
+        let mut ends = Vec::with_capacity(alloc, self.len())?;
+        'rounds: while !goal.is_met(self) {
+            self.round(alloc, guard, catalogue, goal, &mut ends);
+        }
+        Ok(ends)
+    }
+
+    /// Rounds of turns, from slot 1 upward, until all slots are empty, and the jobs that ended.
+    ///
+    /// # Errors
+    ///
+    /// Where a growth was refused, before the first turn; nothing has changed then.
+    pub fn drain(
+        &mut self,
+        alloc: Global,
+        guard: &mut Guard,
+        catalogue: &mut Catalogue,
+    ) -> Result<Vec<JobEnd>, AllocError>
+        requires { AreSlots (slots_in self.old) }
+        ensures drain { IfOk result (λ ends. DrainIs (floor catalogue.old (slots_in self.old)) ends.items (floor catalogue.new (slots_in self.new))) }
+        ensures size { length (slots_in self.new) ≡ length (slots_in self.old) }
+        ensures unchanged { OnErr result (self.new ≡ self.old) }
+        ensures sets { OnErr result (catalogue.new ≡ catalogue.old) }
+    {
+        self.rounds(alloc, guard, catalogue, Goal::Empty)
+    }
+
+    /// Rounds of turns, from slot 1 upward, until a slot is empty, and the jobs that ended.
+    ///
+    /// # Errors
+    ///
+    /// Where a growth was refused, before the first turn; nothing has changed then.
+    pub fn room(
+        &mut self,
+        alloc: Global,
+        guard: &mut Guard,
+        catalogue: &mut Catalogue,
+    ) -> Result<Vec<JobEnd>, AllocError>
+        requires { AreSlots (slots_in self.old) }
+        ensures room { IfOk result (λ ends. RoomIs (floor catalogue.old (slots_in self.old)) ends.items (floor catalogue.new (slots_in self.new))) }
+        ensures size { length (slots_in self.new) ≡ length (slots_in self.old) }
+        ensures unchanged { OnErr result (self.new ≡ self.old) }
+        ensures sets { OnErr result (catalogue.new ≡ catalogue.old) }
+    {
+        self.rounds(alloc, guard, catalogue, Goal::Room)
+    }
 }

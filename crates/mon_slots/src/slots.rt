@@ -37,6 +37,13 @@ impl Slots {
         Ok(Slots { items })
     }
 
+    // How many slots there are.
+    pub(crate) fn len(&self) -> usize
+        ensures { result ≡ length (slots_in self.now) }
+    {
+        self.items.len()
+    }
+
     /// Whether a slot is empty.
     pub fn has_room(&self) -> bool
         ensures { result ≡ is_some (first_free (slots_in self.now)) }

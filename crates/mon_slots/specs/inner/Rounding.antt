@@ -1,10 +1,12 @@
 -- Turns on the way to a goal.
-use Rattle.std.specs.Prelude.{◌≡◌, ◌++◌, Bool, ℕ, List, map, length}
+use Rattle.std.specs.Prelude.{◌≡◌, ◌⊎◌, ◌++◌, Bool, true, false, ℕ, List, map, length}
 use Rattle.mon_job.specs.declared.job_end.JobEnd.{JobEnd}
 use Rattle.mon_slots.specs.declared.rounds.Goal.{Goal}
 use Rattle.mon_slots.specs.declared.rounds.Goal.TheVariants as goal
+use Rattle.mon_slots.specs.declared.turned.Turned.{Turned}
 use Rattle.mon_slots.specs.Floors.{Floor}
 use Rattle.mon_slots.specs.Marks.{Marks, until, and_then, from, rounds_until, is_done, has_room}
+use Rattle.mon_slots.specs.Turning.{TurnOr, ended_in}
 
 -- where turns stop that go to a goal
 abbrev pub stop_of : Goal → Floor → Bool
@@ -30,3 +32,13 @@ pub record Going (stop : Floor → Bool) (w : Floor) (ends : List JobEnd) (now :
   pub numbered : List (ℕ × JobEnd)
   pub ended : map (λ e. e.1) numbered ≡ ends
   pub is : (rest : Marks) → rounds_until stop (marks ++ rest) w ≡ and_then numbered (rounds_until stop rest now)
+
+-- a turn, whose end is kept
+pub record OneTurn (s : ℕ) (w : Floor) (ends ends' : List JobEnd) (w' : Floor) : Type 0 where
+  pub told : Turned
+  pub is : TurnOr s w told w'
+  pub kept : ends' ≡ ends ++ ended_in told
+
+-- a turn, unless it is a floor to stop at
+abbrev pub Unless : (Floor → Bool) → ℕ → Floor → List JobEnd → List JobEnd → Floor → Type 0
+Unless stop s w ends ends' w' = ((stop w ≡ true) × (ends' ≡ ends) × (w' ≡ w)) ⊎ ((stop w ≡ false) × OneTurn s w ends ends' w')
