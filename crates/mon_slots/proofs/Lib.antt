@@ -3,3 +3,4 @@ pub mod Begun
 pub mod Past
 pub mod Rounding
 pub mod Calls
+pub mod Loads

@@ -4,4 +4,5 @@ pub mod Turns
 pub mod Marks
 pub mod Rounds
 pub mod Turning
+pub mod Loads
 pub mod inner

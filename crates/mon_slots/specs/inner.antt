@@ -1,3 +1,4 @@
 -- What only the code's proofs need.
 pub mod Stepping
 pub mod Rounding
+pub mod Spelling

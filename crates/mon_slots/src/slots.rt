@@ -1,14 +1,20 @@
 //! Slots.
-ghost use Rattle.std.specs.Prelude.{◌≡◌, ◌≤◌, length, None, IfOk, is_some, is_none, replicate};
+ghost use Rattle.std.specs.Prelude.{◌≡◌, ◌≤◌, length, None, Ok, Err, IfOk, IfErr, OnErr, position, is_some, is_none, replicate};
 ghost use Rattle.std.specs.List.{list_any, list_all};
-ghost use Rattle.mon_slots.specs.Told.{slots_in};
+ghost use Rattle.mon_slots.specs.Told.{slots_in, AreSlots};
+ghost use Rattle.mon_slots.specs.Loads.{loaded};
+ghost use Rattle.sno_cards.specs.Answers.{IfRefused};
 ghost use Rattle.mon_slots.specs.Floors.{floor, all_empty, first_free};
 ghost use Rattle.mon_slots.specs.Turning.{TurnOr};
 
+use crate::loading::slot_for;
 use crate::slot::{Slot, turn_at};
 use crate::turned::Turned;
+use mon_access::Accounts;
 use mon_catalogue::Catalogue;
 use mon_guard::Guard;
+use mon_job::{JobDeck, LoadError};
+use mon_text::Stop;
 use std::alloc::{AllocError, Global};
 
 /// One to eight slots, each with a job or none.
@@ -58,6 +64,33 @@ impl Slots {
         are_empty(&self.items)
     }
 
+    /// Loads a job into the lowest free slot, and tells its number.
+    ///
+    /// # Errors
+    ///
+    /// `NoSlot` where each slot has a job; else `NoAccount` where there is no account of the deck's name; else `Cards` where a
+    /// unit card ties a unit that there is not, or once more, card by card; else `Syntax` where the program is refused. `Memory`
+    /// where a growth was refused. The slots are then unchanged.
+    pub fn load(
+        &mut self,
+        alloc: Global,
+        accounts: &Accounts,
+        deck: JobDeck,
+    ) -> Result<u8, Stop<LoadError>>
+        requires { AreSlots (slots_in self.old) }
+        ensures loaded { IfOk result (λ n. loaded accounts.now deck (slots_in self.old) ≡ (Ok n, slots_in self.new)) }
+        ensures refused { IfErr result (IfRefused (λ refusal. loaded accounts.now deck (slots_in self.old) ≡ (Err refusal, slots_in self.old))) }
+        ensures unchanged { OnErr result (self.new ≡ self.old) }
+        ensures size { length (slots_in self.new) ≡ length (slots_in self.old) }
+    {
+        let Some(index) = free_in(&self.items) else {
+            return Err(Stop::Refused(LoadError::NoSlot));
+        };
+        let slot = slot_for(alloc, accounts, deck)?;
+        self.items[index] = Some(slot);
+        Ok(index as u8 + 1)
+    }
+
     /// One turn of the job in a slot. Slots are counted from 1; one that there isn't is empty.
     pub fn turn(
         &mut self,
@@ -78,6 +111,12 @@ impl Slots {
         }
         turn_at(alloc, guard, catalogue, &mut self.items[index])
     }
+}
+
+fn free_in(slots: &[Option<Slot>]) -> Option<usize>
+    ensures { result ≡ position (λ seat. is_none seat) slots.now }
+{
+    slots.iter().position(|seat| seat.is_none())
 }
 
 fn has_room_in(slots: &[Option<Slot>]) -> bool

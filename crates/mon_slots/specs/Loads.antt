@@ -1,0 +1,139 @@
+-- What loading a job does (own).
+use Rattle.std.specs.Prelude.{◌≡◌, ℕ, List, [], ◌∷◌, drop, Option, Some, None, option_map, Result, Ok, Err}
+use Rattle.sno_cards.specs.declared.refusal.SyntaxError.{SyntaxError}
+use Rattle.sno_cards.specs.Programs.{ProgramText}
+use Rattle.sno_cards.specs.Statements.{statements_of}
+use Rattle.sno_cards.specs.Texts.{Placed}
+use Rattle.sno_lexer.specs.Listed.{TokenList}
+use Rattle.sno_statement.specs.Statements.{Statement}
+use Rattle.sno_statement.specs.inner.Reading.{statement_in}
+use Rattle.sno_syntax.specs.declared.start.Start.{Start}
+use Rattle.sno_syntax.specs.Labels.{LabelList}
+use Rattle.sno_syntax.specs.Refusals.{tokens_of, labels_in, start_in, syntax_refusal}
+use Rattle.sno_syntax.specs.Programs.{Program, IsProgram}
+use Rattle.sno_run.specs.Jobs.{first_job}
+use Rattle.mon_access.specs.declared.account.Account.{Account}
+use Rattle.mon_access.specs.Accounts.{find_account}
+use Rattle.mon_unit.specs.declared.tie.Target.TheVariants.{Set}
+use Rattle.mon_unit.specs.declared.units.UnitError.{UnitError}
+use Rattle.mon_unit.specs.State.{UnitState}
+use Rattle.mon_unit.specs.Tying.{new_units, tie_refusal, tied_to, with_tie}
+use Rattle.mon_job.specs.declared.deck.UnitCard.{UnitCard}
+use Rattle.mon_job.specs.declared.deck.JobDeck.{JobDeck}
+use Rattle.mon_job.specs.declared.refusal.LoadError.{LoadError}
+use Rattle.mon_job.specs.declared.refusal.LoadError.TheVariants.{NoSlot, NoAccount, Cards, Syntax}
+use Rattle.mon_slots.specs.Floors.{SlotState, with_seat, first_free}
+
+abbrev pub first_of : {R : Type 0} → Option R → Option R → Option R
+first_of (Some refusal) later = Some refusal
+first_of None later = later
+
+-- THE UNITS
+
+-- a job's data are the lines behind its program; there are none where its cards are refused
+abbrev pub data_of : List (List ℕ) → Result ProgramText SyntaxError → List (List ℕ)
+data_of lines (Ok cards) = drop cards.data_from lines
+data_of lines (Err refusal) = []
+
+abbrev pub first_units : List (List ℕ) → UnitState
+first_units lines = new_units (data_of lines (statements_of lines))
+
+abbrev pub tied_by : UnitCard → UnitState → UnitState
+tied_by card units = with_tie card.unit (tied_to (Set card.set)) units
+
+-- card by card
+abbrev pub with_ties : List UnitCard → UnitState → UnitState
+with_ties [] units = units
+with_ties (card ∷ cards) units = with_ties cards (tied_by card units)
+
+abbrev pub ties_refusal : List UnitCard → UnitState → Option UnitError
+ties_refusal [] units = None
+ties_refusal (card ∷ cards) units = first_of (tie_refusal card.unit units) (ties_refusal cards (tied_by card units))
+
+-- THE PROGRAM
+
+abbrev pub program_refusal : Result ProgramText SyntaxError → Option LoadError
+program_refusal (Ok cards) = option_map Syntax (syntax_refusal cards)
+program_refusal (Err refusal) = Some (Syntax refusal)
+
+-- the statement that the tokens spell, where there is one
+abbrev pub statement_on : Result TokenList SyntaxError → Option Statement
+statement_on (Ok list) = statement_in list.tokens
+statement_on (Err refusal) = None
+
+abbrev pub before : Option Statement → Option (List Statement) → Option (List Statement)
+before (Some s) (Some ss) = Some (s ∷ ss)
+before (Some s) None = None
+before None ss = None
+
+abbrev pub statements_on : List (List Placed) → Option (List Statement)
+statements_on [] = Some []
+statements_on (text ∷ texts) = before (statement_on (tokens_of text)) (statements_on texts)
+
+abbrev pub program_by : Option (List Statement) → LabelList → Option Start → Option Program
+program_by (Some ss) labels (Some start) = Some (record { statements = ss; labels = labels; start = start })
+program_by (Some ss) labels None = None
+program_by None labels start = None
+
+-- the program that the cards spell, where they spell one
+abbrev pub program_on : ProgramText → Option Program
+program_on cards = program_by (statements_on cards.statements) (labels_in cards.statements) (start_in cards)
+
+abbrev pub program_in : Result ProgramText SyntaxError → Option Program
+program_in (Ok cards) = program_on cards
+program_in (Err refusal) = None
+
+-- where cards spell a program, it is this one
+abbrev pub ReadsPrograms : Type 0
+ReadsPrograms = (cards : ProgramText) (p : Program) → IsProgram cards p → program_on cards ≡ Some p
+
+-- and cards that are not refused spell one
+abbrev pub SpellsOne : Type 0
+SpellsOne = (cards : ProgramText) → syntax_refusal cards ≡ None → (p : Program) × IsProgram cards p
+
+-- THE JOB
+
+abbrev pub slot_refusal : Option ℕ → Option LoadError
+slot_refusal (Some n) = None
+slot_refusal None = Some NoSlot
+
+abbrev pub account_refusal : Option Account → Option LoadError
+account_refusal (Some account) = None
+account_refusal None = Some NoAccount
+
+-- why a job is not loaded where a slot is free: its account, its unit cards, its program
+abbrev pub deck_refusal : List Account → JobDeck → Option LoadError
+deck_refusal accounts deck =
+    first_of (account_refusal (find_account accounts deck.account))
+    (first_of (option_map Cards (ties_refusal deck.ties (first_units deck.lines))) (program_refusal (statements_of deck.lines)))
+
+-- why a job is not loaded
+abbrev pub load_refusal : List Account → JobDeck → List (Option SlotState) → Option LoadError
+load_refusal accounts deck slots = first_of (slot_refusal (first_free slots)) (deck_refusal accounts deck)
+
+-- what a slot holds when the job has been loaded
+abbrev pub loaded_slot : Account → JobDeck → Program → SlotState
+loaded_slot account deck p = record {
+  number = deck.number;
+  account = account;
+  job = first_job p deck.limits;
+  units = with_ties deck.ties (first_units deck.lines);
+}
+
+abbrev pub slot_by : JobDeck → Option Account → Option Program → Option SlotState
+slot_by deck (Some account) (Some p) = Some (loaded_slot account deck p)
+slot_by deck (Some account) None = None
+slot_by deck None p = None
+
+-- the job of a deck that is not refused
+abbrev pub slot_in : List Account → JobDeck → Option SlotState
+slot_in accounts deck = slot_by deck (find_account accounts deck.account) (program_in (statements_of deck.lines))
+
+abbrev pub loaded_by : Option LoadError → Option ℕ → Option SlotState → List (Option SlotState) → Result ℕ LoadError × List (Option SlotState)
+loaded_by (Some refusal) n slot slots = (Err refusal, slots)
+loaded_by None (Some n) slot slots = (Ok n, with_seat n slot slots)
+loaded_by None None slot slots = (Err NoSlot, slots)
+
+-- a job is loaded into the lowest free slot, which has this number; or it is refused, and nothing has changed
+abbrev pub loaded : List Account → JobDeck → List (Option SlotState) → Result ℕ LoadError × List (Option SlotState)
+loaded accounts deck slots = loaded_by (load_refusal accounts deck slots) (first_free slots) (slot_in accounts deck) slots
