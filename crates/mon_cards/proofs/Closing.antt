@@ -18,7 +18,7 @@ use Rattle.mon_catalogue.specs.Records.{is_record}
 use Rattle.mon_catalogue.specs.Sets.{Sets, empty_set}
 use Rattle.mon_catalogue.specs.Progress as progress
 use Rattle.mon_catalogue.specs.Progress.{Progress, step, after_lines, with_due, with_record, after_acl, after_head, after_words}
-use Rattle.mon_monitor.specs.declared.command.Command.{Command}
+use Rattle.mon_command.specs.declared.command.Command.{Command}
 use Rattle.mon_cards.specs.declared.card.Card.TheVariants as card
 use Rattle.mon_cards.specs.declared.code.Code.{Code}
 use Rattle.mon_cards.specs.declared.code.Code.TheVariants.{Truncated}

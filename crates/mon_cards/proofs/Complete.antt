@@ -21,8 +21,8 @@ use Rattle.mon_catalogue.proofs.Heads.{head_words}
 use Rattle.mon_catalogue.proofs.Names.{none_before}
 use Rattle.mon_catalogue.proofs.Steps.{refused_stays}
 use Rattle.mon_catalogue.proofs.Whole.{text_read}
-use Rattle.mon_monitor.specs.declared.command.Command.{Command}
-use Rattle.mon_monitor.specs.declared.command.Command.TheVariants as command
+use Rattle.mon_command.specs.declared.command.Command.{Command}
+use Rattle.mon_command.specs.declared.command.Command.TheVariants as command
 use Rattle.mon_cards.specs.declared.card.Card.{Card}
 use Rattle.mon_cards.specs.declared.card.Card.TheVariants as card
 use Rattle.mon_cards.specs.declared.code.Code.TheVariants.{BadName, BadCharacter, LineTooLong, BadCard, OutOfPlace, AccountTwice, TooManyGroups}

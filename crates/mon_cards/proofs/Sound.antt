@@ -17,8 +17,8 @@ use Rattle.mon_catalogue.specs.Progress.{Progress, step, after_lines, is_due, fi
 use Rattle.mon_catalogue.specs.Text.{text_of}
 use Rattle.mon_catalogue.proofs.Blanks.{both}
 use Rattle.mon_catalogue.proofs.Whole.{text_spells}
-use Rattle.mon_monitor.specs.declared.command.Command.{Command}
-use Rattle.mon_monitor.specs.declared.command.Command.TheVariants as command
+use Rattle.mon_command.specs.declared.command.Command.{Command}
+use Rattle.mon_command.specs.declared.command.Command.TheVariants as command
 use Rattle.mon_cards.specs.declared.card.Card.{Card}
 use Rattle.mon_cards.specs.declared.card.Card.TheVariants as card
 use Rattle.mon_cards.specs.declared.code.Code.{Code}

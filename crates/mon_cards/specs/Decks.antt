@@ -2,7 +2,7 @@
 use Rattle.std.specs.Prelude.{ℕ, List}
 use Rattle.mon_access.specs.declared.account.Account.{Account}
 use Rattle.mon_catalogue.specs.Sets.{Sets}
-use Rattle.mon_monitor.specs.declared.command.Command.{Command}
+use Rattle.mon_command.specs.declared.command.Command.{Command}
 use Rattle.mon_cards.specs.declared.code.Code.{Code}
 
 pub data Ending : Type 0 where

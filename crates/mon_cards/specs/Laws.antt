@@ -7,8 +7,8 @@ use Rattle.mon_catalogue.specs.Sets.{Sets}
 use Rattle.mon_catalogue.specs.Stored.{IsStored, ArePrintable}
 use Rattle.mon_catalogue.specs.Text.{catalogue_lines, text_of}
 use Rattle.mon_acl.specs.declared.text.AclText.TheVariants.{Long}
-use Rattle.mon_monitor.specs.declared.command.Command.{Command}
-use Rattle.mon_monitor.specs.declared.command.Command.TheVariants as command
+use Rattle.mon_command.specs.declared.command.Command.{Command}
+use Rattle.mon_command.specs.declared.command.Command.TheVariants as command
 use Rattle.mon_cards.specs.declared.code.Code.{Code}
 use Rattle.mon_cards.specs.declared.code.Code.TheVariants.{Truncated}
 use Rattle.mon_cards.specs.Decks.{Deck, Ending, Stopped, Refused}

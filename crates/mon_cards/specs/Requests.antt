@@ -5,8 +5,8 @@ use Rattle.mon_text.specs.Names.{is_name}
 use Rattle.mon_text.specs.Characters.{is_printable, is_blank}
 use Rattle.mon_text.specs.Lines.{is_blank_line, words}
 use Rattle.mon_acl.specs.declared.text.AclText.TheVariants.{Short, Long}
-use Rattle.mon_monitor.specs.declared.command.Command.{Command}
-use Rattle.mon_monitor.specs.declared.command.Command.TheVariants as command
+use Rattle.mon_command.specs.declared.command.Command.{Command}
+use Rattle.mon_command.specs.declared.command.Command.TheVariants as command
 use Rattle.mon_cards.specs.declared.card.Card.{Card}
 use Rattle.mon_cards.specs.declared.card.Card.TheVariants.{Create, Delete, SetAcl, EndAcl, ShowAcl, List as Listing, Catalog, Stop}
 use Rattle.mon_cards.specs.declared.code.Code.{Code}

@@ -17,7 +17,7 @@ use Rattle.mon_cards.specs.Decks.{Deck, Cards, Stopped, Refused}
 use Rattle.mon_cards.specs.declared.list.OpenList.{OpenList}
 use Rattle.mon_cards.specs.declared.request.Request.{Request}
 use Rattle.mon_cards.specs.declared.request.Request.TheVariants.{Nothing, Asks, Opens, Stops}
-use Rattle.mon_monitor.specs.declared.command.Command.{Command}
+use Rattle.mon_command.specs.declared.command.Command.{Command}
 use Rattle.mon_cards.specs.Refusing.{or_else, unless, line_refusal, lone_card_refusal, is_dollar_line}
 use Rattle.mon_cards.specs.Requests.{opened, with_line, set_acl_of, stream_refusal, request_on, list_line_refusal}
 use Rattle.mon_cards.specs.Cards.{card_among, is_card, word_at}

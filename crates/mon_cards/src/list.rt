@@ -3,7 +3,7 @@ ghost use Rattle.std.specs.Prelude.{◌≡◌, [], ◌++◌, codes, OnOk};
 ghost use Rattle.mon_cards.specs.Requests.{opened, set_acl_of};
 
 use mon_acl::{AclText, Bytes};
-use mon_monitor::Command;
+use mon_command::Command;
 use mon_text::Name;
 use std::alloc::{AllocError, Global};
 use std::marker::Model;

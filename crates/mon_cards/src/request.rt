@@ -5,7 +5,7 @@ ghost use Rattle.std.specs.List.{list_all};
 ghost use Rattle.mon_text.specs.Names.{is_name};
 ghost use Rattle.mon_text.specs.Lines.{words};
 ghost use Rattle.mon_acl.specs.declared.text.AclText.TheVariants.{Short};
-ghost use Rattle.mon_monitor.specs.declared.command.Command.TheVariants as command;
+ghost use Rattle.mon_command.specs.declared.command.Command.TheVariants as command;
 ghost use Rattle.mon_cards.specs.declared.code.Code.TheVariants.{BadName};
 ghost use Rattle.mon_cards.specs.declared.request.Request.TheVariants.{Asks, Stops};
 ghost use Rattle.mon_cards.specs.Cards.{card_among, word_at};
@@ -17,7 +17,7 @@ use crate::card::Card;
 use crate::code::{Code, stop_of_line};
 use crate::words::Words;
 use mon_acl::{AclText, Bytes};
-use mon_monitor::Command;
+use mon_command::Command;
 use mon_text::{Line, Name, Stop, read_line, read_name};
 use std::alloc::{AllocError, Global};
 

@@ -6,8 +6,8 @@ use Rattle.std.proofs.lemmas.Grind.{flat_map-append}
 use Rattle.mon_access.specs.declared.account.Account.{Account}
 use Rattle.mon_catalogue.specs.Sets.{Sets}
 use Rattle.mon_catalogue.specs.Text.{text_of, catalogue_lines, catalogue_text}
-use Rattle.mon_monitor.specs.Commanded.{commanded}
-use Rattle.mon_monitor.specs.declared.command.Command.{Command}
+use Rattle.mon_command.specs.Commanded.{commanded}
+use Rattle.mon_command.specs.declared.command.Command.{Command}
 use Rattle.mon_cards.specs.declared.code.Code.{Code}
 use Rattle.mon_cards.specs.Decks.{Deck, Ending, Stopped, Refused}
 use Rattle.mon_cards.specs.Laws.{deck_lines, deck_over}

@@ -15,7 +15,7 @@ use Rattle.mon_cards.specs.Sections.{account_refusal, deck_of}
 use Rattle.mon_cards.specs.Requests.{two_names_refusal, request_on}
 use Rattle.mon_deck.specs.Laws.{printout}
 use Rattle.mon_acl.specs.declared.text.AclText.TheVariants.{Short, Long}
-use Rattle.mon_monitor.specs.declared.command.Command.TheVariants as command
+use Rattle.mon_command.specs.declared.command.Command.TheVariants as command
 use Rattle.mon_cards.specs.declared.request.Request.TheVariants.{Asks, Opens}
 use Rattle.std.specs.Str.Lines.{lines}
 use Rattle.mon_deck.specs.Runs.{ending_of}

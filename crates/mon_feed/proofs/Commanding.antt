@@ -1,9 +1,9 @@
 -- A command before those that are still to come.
 use Rattle.std.proofs.Common.{◌≡◌, ℕ, ◌+◌, Bool, true, false, List, [], ◌∷◌, ◌++◌, length, refl, sym, ap, ◌∙◌, arith, append_assoc, append-nil}
 use Rattle.mon_catalogue.specs.Sets.{Sets}
-use Rattle.mon_monitor.specs.Commanded.{commanded}
-use Rattle.mon_monitor.specs.declared.command.Command.{Command}
-use Rattle.mon_monitor.specs.Worlds.{World}
+use Rattle.mon_command.specs.Commanded.{commanded}
+use Rattle.mon_command.specs.declared.command.Command.{Command}
+use Rattle.mon_command.specs.Worlds.{World}
 use Rattle.mon_cards.specs.Decks.{Cards, Ending, Stopped, Refused}
 use Rattle.mon_cards.specs.Sections.{and_then}
 use Rattle.mon_feed.specs.Printouts.{all_commanded, closing, verdict}

@@ -6,8 +6,8 @@ use Rattle.mon_catalogue.specs.Sets.{Sets}
 use Rattle.mon_catalogue.specs.Text.{catalogue_text}
 use Rattle.mon_catalogue.specs.Reading.{catalogue_of}
 use Rattle.mon_catalogue.specs.Stored.{IsStored, ArePrintable}
-use Rattle.mon_monitor.specs.declared.command.Command.{Command}
-use Rattle.mon_monitor.specs.Commanded.{Commanded, commanded}
+use Rattle.mon_command.specs.declared.command.Command.{Command}
+use Rattle.mon_command.specs.Commanded.{Commanded, commanded}
 use Rattle.mon_cards.specs.Decks.{Deck, Ending, Stopped, Refused}
 use Rattle.mon_cards.specs.Sections.{deck_of}
 

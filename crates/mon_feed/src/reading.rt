@@ -11,7 +11,7 @@ use crate::stage::Stage;
 use mon_access::Accounts;
 use mon_cards::{Code, finish_catalogue, opens_accounts, put_account_line, put_catalogue_line};
 use mon_catalogue::Loading;
-use mon_monitor::Monitor;
+use mon_command::Monitor;
 use mon_text::Stop;
 use std::alloc::Global;
 

@@ -10,7 +10,7 @@ ghost use Rattle.mon_cards.specs.Decks.{Stopped, Cards};
 use crate::stage::{Stage, State};
 use mon_cards::{Code, OpenList, Request, ends_list, read_request};
 use mon_catalogue::Catalogue;
-use mon_monitor::{Command, Monitor};
+use mon_command::{Command, Monitor};
 use mon_text::Stop;
 use std::alloc::{AllocError, Global};
 

@@ -11,7 +11,7 @@ use crate::serving::{after_card, after_list_line, take_card, take_list_line};
 use mon_access::Accounts;
 use mon_cards::{Code, OpenList, put_catalogue_line};
 use mon_catalogue::Loading;
-use mon_monitor::Monitor;
+use mon_command::Monitor;
 use mon_text::Stop;
 use std::alloc::Global;
 use std::mem;

@@ -6,9 +6,9 @@ use Rattle.sno_cards.specs.Codes.{code_symbol}
 use Rattle.sno_cards.specs.declared.refusal.SyntaxError.{SyntaxError}
 use Rattle.sno_run.specs.declared.ending.Ending.{Ending}
 use Rattle.sno_run.specs.declared.ending.Ending.TheVariants as ending
-use Rattle.mon_monitor.specs.declared.reply.Reply.TheVariants as reply
-use Rattle.mon_monitor.specs.Printouts.{word, number, stored_line}
-use Rattle.mon_monitor.specs.Replies.{reason_text, reply_line}
+use Rattle.mon_command.specs.declared.reply.Reply.TheVariants as reply
+use Rattle.mon_command.specs.Printouts.{word, number, stored_line}
+use Rattle.mon_command.specs.Replies.{reason_text, reply_line}
 use Rattle.mon_unit.specs.declared.note.Note.{Note}
 use Rattle.mon_unit.specs.declared.note.NoteAct.{NoteAct}
 use Rattle.mon_unit.specs.declared.note.NoteAct.TheVariants.{Read, Write, Endfile, Rewind}

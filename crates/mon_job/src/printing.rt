@@ -1,12 +1,12 @@
 //! What a job that has ended prints.
 ghost use Rattle.std.specs.Prelude.{◌≡◌, ◌++◌, codes, OnOk, OnErr};
 ghost use Rattle.std.specs.List.{flat_map};
-ghost use Rattle.mon_monitor.specs.Printouts.{word, number, stored_line};
+ghost use Rattle.mon_command.specs.Printouts.{word, number, stored_line};
 ghost use Rattle.mon_job.specs.Printouts.{job_line, act_word, target_words, exchange_words, note_words, note_line, at_statement, ending_words, ending_line, printout};
 
 use crate::job_end::JobEnd;
-use mon_monitor::printing::{put_number_word, put_stored, put_word};
-use mon_monitor::reply::put_reason;
+use mon_command::printing::{put_number_word, put_stored, put_word};
+use mon_command::reply::put_reason;
 use mon_text::{Line, Name};
 use mon_unit::{Note, NoteAct, NoteTarget, Why};
 use sno_run::Ending;

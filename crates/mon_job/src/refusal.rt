@@ -3,8 +3,8 @@ ghost use Rattle.std.specs.Prelude.{◌≡◌, ◌++◌, codes, OnOk, OnErr};
 ghost use Rattle.mon_job.specs.Printouts.{unit_refusal, syntax_words, refused_words, refusal_text};
 
 use crate::printing::put_job_line;
-use mon_monitor::Reply;
-use mon_monitor::printing::put_number_word;
+use mon_command::Reply;
+use mon_command::printing::put_number_word;
 use mon_text::Name;
 use mon_unit::UnitError;
 use sno_syntax::SyntaxError;

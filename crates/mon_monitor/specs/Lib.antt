@@ -1,7 +1,4 @@
-pub mod Printouts
-pub mod Commands
-pub mod Replies
-pub mod Commanded
-pub mod inner
 pub mod Worlds
-pub mod Laws
+pub mod Events
+pub mod Papers
+pub mod Played

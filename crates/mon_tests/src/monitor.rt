@@ -2,7 +2,7 @@
 use crate::access::account;
 use mon_access::Accounts;
 use mon_catalogue::Catalogue;
-use mon_monitor::{Command, Monitor};
+use mon_command::{Command, Monitor};
 use mon_text::read_name;
 use std::alloc::Global;
 

@@ -1,7 +1,7 @@
 -- The lines so far are written.
 use Rattle.std.proofs.Common.{◌≡◌, ◌++◌, take}
 use Rattle.std.specs.List.{flat_map}
-use Rattle.mon_monitor.specs.Printouts.{stored_line}
+use Rattle.mon_command.specs.Printouts.{stored_line}
 use Rattle.mon_job.proofs.printing.put_spool.Given as goal
 
 abbrev pub invariant-loop-line : goal.invariant-loop-line

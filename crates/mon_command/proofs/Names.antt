@@ -1,0 +1,60 @@
+-- The names that are shown of one set more.
+use Rattle.std.proofs.Common.{◌≡◌, ℕ, ◌+◌, ◌<◌, ◌≤◌, Bool, true, false, List, [], ◌∷◌, ◌++◌, length, map, take, Option, Some, None, slice_get, sym, ap, ◌∙◌, refl, append_assoc, inl, inr, arith, length-append, lit≤, cond, if◌then◌else◌}
+use Rattle.std.specs.List.{flat_map}
+use Rattle.std.proofs.lemmas.List.{take_more, map-append}
+use Rattle.std.proofs.lemmas.List.Concat.{flat_map-append}
+use Rattle.std.proofs.lemmas.List.Elements.{filter-append}
+use Rattle.std.proofs.lemmas.Option.{slice_get_cases}
+use Rattle.mon_access.specs.declared.account.Account.{Account}
+use Rattle.mon_catalogue.specs.declared.data_set.DataSet.{DataSet}
+use Rattle.mon_catalogue.specs.Sets.{Sets}
+use Rattle.mon_guard.specs.Deciding.{may_be_shown}
+use Rattle.mon_guard.specs.Lending.{NamePart, name_part, name_of, names_shown, names_lent}
+use Rattle.mon_command.specs.Printouts.{name_line}
+use Rattle.mon_command.specs.inner.Names.{one_or_none, shown_at}
+
+-- one set shows its name, or none
+one_shown : (account : Account) (named : List ℕ × DataSet) → names_lent account (named ∷ []) ≡ one_or_none (name_of account (Some named))
+one_shown account named = by (may_be_shown account named)
+  where
+    by : (b : Bool) → map name_part (cond b (named ∷ []) []) ≡ one_or_none (if b then Some (name_part named) else None)
+    by true = refl
+    by false = refl
+
+names_append : (account : Account) (sets others : Sets) → names_lent account (sets ++ others) ≡ names_lent account sets ++ names_lent account others
+names_append account sets others =
+    ap (map name_part) (filter-append (may_be_shown account) sets others)
+    ∙ map-append name_part (names_shown account sets) (names_shown account others)
+
+module _ (account : Account) (sets : Sets) (index : ℕ) (inside : index < length sets) where
+  shown_more : names_lent account (take (index + 1) sets) ≡ names_lent account (take index sets) ++ shown_at account sets index
+  shown_more = elim (slice_get_cases sets index).1 [
+    | inl w ↦
+        ap (names_lent account) (take_more sets index w.0 inside ∙ ap (λ x. take index sets ++ x ∷ []) w.3)
+        ∙ names_append account (take index sets) (w.0 ∷ [])
+        ∙ ap (λ shown. names_lent account (take index sets) ++ shown) (one_shown account w.0)
+        ∙ ap (λ o. names_lent account (take index sets) ++ one_or_none (name_of account o)) (sym w.2)
+    | inr w ↦ absurd (omega arith)
+  ]
+
+  pub names_more : (start before after : List ℕ) → before ≡ start ++ flat_map name_line (names_lent account (take index sets))
+      → after ≡ before ++ flat_map name_line (shown_at account sets index)
+      → after ≡ start ++ flat_map name_line (names_lent account (take (index + 1) sets))
+  names_more start before after so_far put =
+      put ∙ ap (λ text. text ++ flat_map name_line (shown_at account sets index)) so_far
+      ∙ append_assoc start (flat_map name_line (names_lent account (take index sets))) (flat_map name_line (shown_at account sets index))
+      ∙ ap (λ text. start ++ text) (sym (flat_map-append name_line (names_lent account (take index sets)) (shown_at account sets index)))
+      ∙ ap (λ shown. start ++ flat_map name_line shown) (sym shown_more)
+
+  pub count_more : (count more : ℕ) → count ≡ length (names_lent account (take index sets)) → more ≡ length (shown_at account sets index)
+      → count + more ≡ length (names_lent account (take (index + 1) sets))
+  count_more count more so_far here =
+      let whole : length (names_lent account (take (index + 1) sets)) ≡ length (names_lent account (take index sets) ++ shown_at account sets index) = ap length shown_more in
+      omega (arith, length-append (names_lent account (take index sets)) (shown_at account sets index))
+
+at_most_one : (shown : Option NamePart) → length (one_or_none shown) ≤ 1
+at_most_one None = lit≤ tt
+at_most_one (Some shown) = lit≤ tt
+
+pub few_more : (account : Account) (sets : Sets) (index count more : ℕ) → count ≤ index → more ≡ length (shown_at account sets index) → count + more ≤ index + 1
+few_more account sets index count more few here = omega (arith, at_most_one (name_of account (slice_get sets index)))

@@ -1,0 +1,100 @@
+-- What a command is answered, and what the data sets are after it (own).
+-- It is refused where its account is unknown. Else the guard does what is granted, or says why not.
+use Rattle.std.specs.Prelude.{ℕ, List, ◌++◌, Option, Some, None, Result, Ok, Err}
+use Rattle.mon_access.specs.declared.account.Account.{Account}
+use Rattle.mon_access.specs.Accounts.{find_account}
+use Rattle.mon_catalogue.specs.declared.catalogue.CreateError.{CreateError}
+use Rattle.mon_catalogue.specs.declared.catalogue.CreateError.TheVariants as create
+use Rattle.mon_catalogue.specs.Sets.{Sets}
+use Rattle.mon_guard.specs.declared.answer.Reason.{Reason}
+use Rattle.mon_guard.specs.declared.answer.AclAnswer.{AclAnswer}
+use Rattle.mon_guard.specs.declared.answer.AclAnswer.TheVariants as acl
+use Rattle.mon_guard.specs.Lending.{AclPart, NamePart, records_lent, acl_lent, names_lent}
+use Rattle.mon_guard.specs.Owning.{removed, acl_set, created}
+use Rattle.mon_command.specs.declared.command.Command.{Command}
+use Rattle.mon_command.specs.declared.command.Command.TheVariants.{Create, Delete, SetAcl, ShowAcl, List as Listing, Catalog}
+use Rattle.mon_command.specs.declared.reply.Reply.{Reply}
+use Rattle.mon_command.specs.declared.reply.Reply.TheVariants.{Done, NoAccount, Denied, NameTaken, CatalogueFull, BadList}
+use Rattle.mon_command.specs.Commands.{account_of, heading}
+use Rattle.mon_command.specs.Printouts.{records_text, acl_text, names_text}
+use Rattle.mon_command.specs.Replies.{reply_line}
+
+-- what is printed below the command's own line
+pub data Answer : Type 0 where
+  -- one line: done, denied or refused
+  Told : Reply → Answer
+  -- these records
+  Records : List (List ℕ) → Answer
+  -- this owner, this group and this permission list
+  Shown : AclPart → Answer
+  -- these names
+  Names : List NamePart → Answer
+
+-- an answer, and the data sets after it
+pub record Served : Type 0 where
+  pub answer : Answer
+  pub sets : Sets
+
+-- an act is told by one line, and leaves these data sets
+abbrev pub told_by : {A : Type 0} → (A → Reply) → A × Sets → Served
+told_by reply outcome = record { answer = Told (reply outcome.0); sets = outcome.1 }
+
+abbrev pub creation_reply : Result (Unit {0}) CreateError → Reply
+creation_reply (Ok _) = Done
+creation_reply (Err create.NameTaken) = NameTaken
+creation_reply (Err create.CatalogueFull) = CatalogueFull
+
+abbrev pub removal_reply : Result (Unit {0}) Reason → Reply
+removal_reply (Ok _) = Done
+removal_reply (Err reason) = Denied reason
+
+abbrev pub acl_reply : AclAnswer → Reply
+acl_reply acl.Done = Done
+acl_reply (acl.Denied reason) = Denied reason
+acl_reply (acl.BadList error) = BadList error
+
+-- what the guard lends is shown, or it is told why it is denied; the data sets stay
+abbrev pub shown_as : {A : Type 0} → (A → Answer) → Result A Reason → Answer
+shown_as show (Ok lent) = show lent
+shown_as show (Err reason) = Told (Denied reason)
+
+abbrev pub only_shown : Answer → Sets → Served
+only_shown answer sets = record { answer = answer; sets = sets }
+
+-- what a known account is answered
+abbrev pub served : Account → Command → Sets → Served
+served account (Create _ name) sets = told_by creation_reply (created account sets name)
+served account (Delete _ name) sets = told_by removal_reply (removed account sets name)
+served account (SetAcl _ name text) sets = told_by acl_reply (acl_set account sets name text)
+served account (ShowAcl _ name) sets = only_shown (shown_as Shown (acl_lent account sets name)) sets
+served account (Listing _ name) sets = only_shown (shown_as Records (records_lent account sets name)) sets
+served account (Catalog _) sets = only_shown (Names (names_lent account sets)) sets
+
+abbrev pub served_if_known : Option Account → Command → Sets → Served
+served_if_known None command sets = record { answer = Told NoAccount; sets = sets }
+served_if_known (Some account) command sets = served account command sets
+
+-- what a command is answered, and the data sets after it
+abbrev pub answered : List Account → Sets → Command → Served
+answered accounts sets command = served_if_known (find_account accounts (account_of command)) command sets
+
+-- what is printed below the command's own line
+abbrev pub answer_text : Answer → List ℕ
+answer_text (Told reply) = reply_line reply
+answer_text (Records records) = records_text records
+answer_text (Shown list) = acl_text list
+answer_text (Names names) = names_text names
+
+abbrev pub printed : Command → Answer → List ℕ
+printed command answer = heading command ++ answer_text answer
+
+-- the printout of a command, and the data sets after it
+pub record Commanded : Type 0 where
+  pub printout : List ℕ
+  pub sets : Sets
+
+abbrev pub printed_as : Command → Served → Commanded
+printed_as command s = record { printout = printed command s.answer; sets = s.sets }
+
+abbrev pub commanded : List Account → Sets → Command → Commanded
+commanded accounts sets command = printed_as command (answered accounts sets command)

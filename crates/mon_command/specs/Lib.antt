@@ -1,0 +1,7 @@
+pub mod Printouts
+pub mod Commands
+pub mod Replies
+pub mod Commanded
+pub mod inner
+pub mod Worlds
+pub mod Laws

@@ -1,0 +1,170 @@
+//! The words and lines of printouts.
+ghost use Rattle.std.specs.Prelude.{◌≡◌, ◌++◌, None, OnOk};
+ghost use Rattle.std.specs.List.{flat_map};
+ghost use Rattle.mon_command.specs.Commands.{card_line};
+ghost use Rattle.mon_command.specs.Printouts.{word, number, stored_line, count_line, records_text, name_line, acl_text, acl_line, entry_words, list_refusal};
+
+use mon_acl::{AclError, Entry, Perms, Tag};
+use mon_catalogue::Records;
+use mon_guard::{ShownAcl, ShownName};
+use mon_text::{Name, put_number};
+use std::alloc::AllocError;
+
+/// Appends a word behind another.
+///
+/// # Errors
+///
+/// Where a growth was refused; `out` may then hold a part of the text.
+pub fn put_word(text: &[u8], out: &mut Vec<u8>) -> Result<(), AllocError>
+    ensures { OnOk result (out.new.items ≡ out.old.items ++ word text.now) }
+{
+    out.push(b' ')?;
+    out.extend_from_slice(text)
+}
+
+/// Appends a number behind a word.
+///
+/// # Errors
+///
+/// Where a growth was refused; `out` may then hold a part of the text.
+pub fn put_number_word(value: u64, out: &mut Vec<u8>) -> Result<(), AllocError>
+    ensures { OnOk result (out.new.items ≡ out.old.items ++ number value) }
+{
+    out.push(b' ')?;
+    put_number(value, out)
+}
+
+/// Appends a line that shows stored text.
+///
+/// # Errors
+///
+/// Where a growth was refused; `out` may then hold a part of the line.
+pub fn put_stored(text: &[u8], out: &mut Vec<u8>) -> Result<(), AllocError>
+    ensures { OnOk result (out.new.items ≡ out.old.items ++ stored_line text.now) }
+{
+    put_word(text, out)?;
+    out.push(b'\n')?;
+    Ok(())
+}
+
+// Appends how many there were.
+pub(crate) fn put_count(what: &[u8], value: u64, out: &mut Vec<u8>) -> Result<(), AllocError>
+    ensures { OnOk result (out.new.items ≡ out.old.items ++ count_line what.now value) }
+{
+    out.extend_from_slice(what)?;
+    put_number_word(value, out)?;
+    out.push(b'\n')?;
+    Ok(())
+}
+
+// Appends records, and how many they are.
+pub(crate) fn put_records(records: &Records, out: &mut Vec<u8>) -> Result<(), AllocError>
+    ensures { OnOk result (out.new.items ≡ out.old.items ++ records_text records.now) }
+{
+    for record in records.as_slice() {
+        put_stored(record.as_bytes(), out)?;
+    }
+    put_count(b"RECORDS", records.len(), out)
+}
+
+// Appends a data set's owner, its group and its permission list, and how many entries that has.
+pub(crate) fn put_acl(shown: &ShownAcl, out: &mut Vec<u8>) -> Result<(), AllocError>
+    ensures { OnOk result (out.new.items ≡ out.old.items ++ acl_text shown.now) }
+{
+    out.extend_from_slice(b"OWNER")?;
+    put_word(shown.owner.as_bytes(), out)?;
+    out.extend_from_slice(b" GROUP")?;
+    put_word(shown.group.as_bytes(), out)?;
+    out.push(b'\n')?;
+    put_entries(shown.acl.entries(), shown.acl.mask(), out)?;
+    put_count(b"ENTRIES", shown.acl.len() as u64, out)
+}
+
+// Appends the lines of entries under a mask.
+fn put_entries(entries: &[Entry], mask: Option<Perms>, out: &mut Vec<u8>) -> Result<(), AllocError>
+    ensures { OnOk result (out.new.items ≡ out.old.items ++ flat_map (acl_line mask) entries.now) }
+{
+    for entry in entries {
+        put_acl_line(entry, mask, out)?;
+    }
+    Ok(())
+}
+
+// Appends the line of an entry under a mask.
+fn put_acl_line(entry: &Entry, mask: Option<Perms>, out: &mut Vec<u8>) -> Result<(), AllocError>
+    ensures { OnOk result (out.new.items ≡ out.old.items ++ acl_line mask entry.now) }
+{
+    out.push(b' ')?;
+    entry.put_line(mask, out)
+}
+
+// Appends a data set's name, its owner, its group and the number of its records.
+pub(crate) fn put_name(shown: &ShownName, out: &mut Vec<u8>) -> Result<(), AllocError>
+    ensures { OnOk result (out.new.items ≡ out.old.items ++ name_line shown.now) }
+{
+    put_word(shown.name.as_bytes(), out)?;
+    put_word(shown.owner.as_bytes(), out)?;
+    put_word(shown.group.as_bytes(), out)?;
+    put_number_word(shown.records, out)?;
+    out.push(b'\n')?;
+    Ok(())
+}
+
+// Appends a command's own line: the card's word, an account and a data set.
+pub(crate) fn put_card(
+    card: &[u8],
+    account: &Name,
+    name: &Name,
+    out: &mut Vec<u8>,
+) -> Result<(), AllocError>
+    ensures { OnOk result (out.new.items ≡ out.old.items ++ card_line card.now account.now name.now) }
+{
+    out.extend_from_slice(card)?;
+    put_word(account.as_bytes(), out)?;
+    put_word(name.as_bytes(), out)?;
+    out.push(b'\n')?;
+    Ok(())
+}
+
+// Appends an entry without its permissions: its type, and its qualifier if it has one.
+pub(crate) fn put_entry(tag: Tag, name: Option<Name>, out: &mut Vec<u8>) -> Result<(), AllocError>
+    ensures { OnOk result (out.new.items ≡ out.old.items ++ entry_words tag name) }
+{
+    let entry = Entry {
+        tag,
+        name,
+        perms: Perms::default(),
+    };
+    entry.put_head(out)
+}
+
+// Appends a refusal that names an entry by its number.
+fn put_at_entry(what: &[u8], entry: u64, out: &mut Vec<u8>) -> Result<(), AllocError>
+    ensures { OnOk result (out.new.items ≡ out.old.items ++ (what.now ++ number entry)) }
+{
+    out.extend_from_slice(what)?;
+    put_number_word(entry, out)
+}
+
+// Appends why a permission list is refused.
+pub(crate) fn put_list_refusal(error: AclError, out: &mut Vec<u8>) -> Result<(), AllocError>
+    ensures { OnOk result (out.new.items ≡ out.old.items ++ list_refusal error) }
+{
+    match error {
+        AclError::BadTag(entry) => put_at_entry(b"A1 BAD TAG ENTRY", entry, out),
+        AclError::BadQualifier(entry) => put_at_entry(b"A2 BAD QUALIFIER ENTRY", entry, out),
+        AclError::BadPerms(entry) => put_at_entry(b"A3 BAD PERMS ENTRY", entry, out),
+        AclError::Missing(tag) => put_missing(tag, out),
+        AclError::Twice(entry) => put_at_entry(b"A5 TWICE ENTRY", entry, out),
+        AclError::NoMask => out.extend_from_slice(b"A6 NO MASK"),
+        AclError::TooMany(entry) => put_at_entry(b"A7 TOO MANY ENTRY", entry, out),
+    }
+}
+
+// Appends which entry is missing.
+fn put_missing(tag: Tag, out: &mut Vec<u8>) -> Result<(), AllocError>
+    ensures { OnOk result (out.new.items ≡ out.old.items ++ list_refusal (AclError.Missing tag)) }
+{
+    out.extend_from_slice(b"A4 MISSING ")?;
+    put_entry(tag, None, out)
+}

@@ -1,0 +1,203 @@
+//! Serving the commands of a known account, one function a command.
+//!
+//! The printout of a command that is done is made before anything changes, so that a growth that is refused leaves
+//! everything as it was. Where the change is then denied or refused, nothing has changed, and the printout is made anew.
+ghost use Rattle.std.specs.Prelude.{◌≡◌, ◌++◌, length, IfOk, OnOk};
+ghost use Rattle.std.specs.List.{flat_map};
+ghost use Rattle.mon_guard.specs.Lending.{records_lent, acl_lent, names_lent};
+ghost use Rattle.mon_guard.specs.Owning.{created, removed, acl_set};
+ghost use Rattle.mon_command.specs.Commanded.{Names, Records as Listed, Shown, told_by, creation_reply, removal_reply, acl_reply, shown_as, printed, served};
+ghost use Rattle.mon_command.specs.Printouts.{name_line, names_text};
+ghost use Rattle.mon_command.specs.inner.Names.{shown_at};
+ghost use Rattle.mon_command.specs.inner.Serving.{Serves};
+
+use crate::command::Command;
+use crate::printing::{put_acl, put_count, put_name, put_records};
+use crate::printout::{Printout, told};
+use crate::reply::Reply;
+use mon_access::Account;
+use mon_acl::AclText;
+use mon_catalogue::{Catalogue, CreateError, Records};
+use mon_guard::{AclAnswer, Guard, ShownAcl};
+use mon_text::{Name, Stop};
+use std::alloc::{AllocError, Global};
+
+// Serves a command of this account.
+pub(crate) fn serve(
+    alloc: Global,
+    account: &Account,
+    guard: &mut Guard,
+    catalogue: &mut Catalogue,
+    command: &Command,
+) -> Result<Printout, AllocError>
+    ensures { Serves command.now result catalogue.old catalogue.new (served account.now command.now catalogue.old) }
+{
+    match command {
+        Command::Create { name, .. } => create(alloc, account, guard, catalogue, command, name),
+        Command::Delete { name, .. } => delete(alloc, account, guard, catalogue, command, name),
+        Command::SetAcl { name, text, .. } => {
+            set_acl(alloc, account, guard, catalogue, command, name, text)
+        }
+        Command::ShowAcl { name, .. } => show_acl(alloc, account, guard, catalogue, command, name),
+        Command::List { name, .. } => list(alloc, account, guard, catalogue, command, name),
+        Command::Catalog { .. } => catalog(alloc, account, guard, catalogue, command),
+    }
+}
+
+fn create(
+    alloc: Global,
+    account: &Account,
+    guard: &mut Guard,
+    catalogue: &mut Catalogue,
+    command: &Command,
+    name: &Name,
+) -> Result<Printout, AllocError>
+    ensures { Serves command.now result catalogue.old catalogue.new (told_by creation_reply (created account.now catalogue.old name.now)) }
+{
+    let done = told(alloc, command, Reply::Done)?;
+    match guard.create(alloc, account, catalogue, name.copy()) {
+        Ok(()) => Ok(done),
+        Err(Stop::Refused(CreateError::NameTaken)) => told(alloc, command, Reply::NameTaken),
+        Err(Stop::Refused(CreateError::CatalogueFull)) => {
+            told(alloc, command, Reply::CatalogueFull)
+        }
+        Err(Stop::Memory) => Err(AllocError),
+    }
+}
+
+fn delete(
+    alloc: Global,
+    account: &Account,
+    guard: &mut Guard,
+    catalogue: &mut Catalogue,
+    command: &Command,
+    name: &Name,
+) -> Result<Printout, AllocError>
+    ensures { Serves command.now result catalogue.old catalogue.new (told_by removal_reply (removed account.now catalogue.old name.now)) }
+{
+    let done = told(alloc, command, Reply::Done)?;
+    match guard.try_remove(account, catalogue, name) {
+        Ok(()) => Ok(done),
+        Err(reason) => told(alloc, command, Reply::Denied(reason)),
+    }
+}
+
+fn set_acl(
+    alloc: Global,
+    account: &Account,
+    guard: &mut Guard,
+    catalogue: &mut Catalogue,
+    command: &Command,
+    name: &Name,
+    text: &AclText,
+) -> Result<Printout, AllocError>
+    ensures { Serves command.now result catalogue.old catalogue.new (told_by acl_reply (acl_set account.now catalogue.old name.now text.now)) }
+{
+    let done = told(alloc, command, Reply::Done)?;
+    match guard.try_set_acl(alloc, account, catalogue, name, text)? {
+        AclAnswer::Done => Ok(done),
+        AclAnswer::Denied(reason) => told(alloc, command, Reply::Denied(reason)),
+        AclAnswer::BadList(error) => told(alloc, command, Reply::BadList(error)),
+    }
+}
+
+fn show_acl(
+    alloc: Global,
+    account: &Account,
+    guard: &Guard,
+    catalogue: &Catalogue,
+    command: &Command,
+    name: &Name,
+) -> Result<Printout, AllocError>
+    ensures { IfOk result (λ printout. printout ≡ printed command.now (shown_as Shown (acl_lent account.now catalogue.now name.now))) }
+{
+    match guard.acl(account, catalogue, name) {
+        Ok(shown) => acl_of(alloc, command, &shown),
+        Err(reason) => told(alloc, command, Reply::Denied(reason)),
+    }
+}
+
+fn acl_of(alloc: Global, command: &Command, shown: &ShownAcl) -> Result<Printout, AllocError>
+    ensures { IfOk result (λ printout. printout ≡ printed command.now (Shown shown.now)) }
+{
+    let mut bytes = Vec::new(alloc);
+    command.put_heading(&mut bytes)?;
+    put_acl(shown, &mut bytes)?;
+    Ok(Printout { bytes })
+}
+
+fn list(
+    alloc: Global,
+    account: &Account,
+    guard: &Guard,
+    catalogue: &Catalogue,
+    command: &Command,
+    name: &Name,
+) -> Result<Printout, AllocError>
+    ensures { IfOk result (λ printout. printout ≡ printed command.now (shown_as Listed (records_lent account.now catalogue.now name.now))) }
+{
+    match guard.records(account, catalogue, name) {
+        Ok(records) => records_of(alloc, command, records),
+        Err(reason) => told(alloc, command, Reply::Denied(reason)),
+    }
+}
+
+fn records_of(alloc: Global, command: &Command, records: &Records) -> Result<Printout, AllocError>
+    ensures { IfOk result (λ printout. printout ≡ printed command.now (Listed records.now)) }
+{
+    let mut bytes = Vec::new(alloc);
+    command.put_heading(&mut bytes)?;
+    put_records(records, &mut bytes)?;
+    Ok(Printout { bytes })
+}
+
+fn catalog(
+    alloc: Global,
+    account: &Account,
+    guard: &Guard,
+    catalogue: &Catalogue,
+    command: &Command,
+) -> Result<Printout, AllocError>
+    ensures { IfOk result (λ printout. printout ≡ printed command.now (Names (names_lent account.now catalogue.now))) }
+{
+    let mut bytes = Vec::new(alloc);
+    command.put_heading(&mut bytes)?;
+    put_names(account, guard, catalogue, &mut bytes)?;
+    Ok(Printout { bytes })
+}
+
+// Appends the names that the account is shown, and how many they are.
+fn put_names(
+    account: &Account,
+    guard: &Guard,
+    catalogue: &Catalogue,
+    out: &mut Vec<u8>,
+) -> Result<(), AllocError>
+    ensures { OnOk result (out.new.items ≡ out.old.items ++ names_text (names_lent account.now catalogue.now)) }
+{
+    let mut count = 0;
+    for index in 0..catalogue.len() {
+        count += put_if_shown(account, guard, catalogue, index, out)?;
+    }
+    put_count(b"NAMES", count, out)
+}
+
+// Appends the name of the set at an index where the account is shown it, and answers how many names that are.
+fn put_if_shown(
+    account: &Account,
+    guard: &Guard,
+    catalogue: &Catalogue,
+    index: usize,
+    out: &mut Vec<u8>,
+) -> Result<u64, AllocError>
+    ensures count { IfOk result (λ count. count ≡ length (shown_at account.now catalogue.now index)) }
+    ensures names { OnOk result (out.new.items ≡ out.old.items ++ flat_map name_line (shown_at account.now catalogue.now index)) }
+{
+    match guard.name_at(account, catalogue, index) {
+        Some(shown) => {
+            put_name(&shown, out)?;
+            Ok(1)
+        }
+        None => Ok(0),
+    }
+}

@@ -1,5 +1,0 @@
-use Rattle.mon_monitor.proofs.Shows.{denials_say_why}
-use Rattle.mon_monitor.proofs.laws.denials_say_why.Goals as goal
-
-pub returns : goal.returns
-returns c = denials_say_why c.denials_say_why.ensures

@@ -1,5 +1,0 @@
-use Rattle.mon_monitor.proofs.Changed.{other_sets_stay}
-use Rattle.mon_monitor.proofs.laws.other_sets_stay.Goals as goal
-
-pub returns : goal.returns
-returns c = other_sets_stay c.other_sets_stay.ensures

@@ -1,6 +1,0 @@
-use Rattle.std.proofs.Common.{ap}
-use Rattle.mon_monitor.specs.Commanded.{printed}
-use Rattle.mon_monitor.proofs.laws.refusals_show_nothing.Goals as goal
-
-pub returns : goal.returns
-returns c = λ accounts sets command reply h. ap (printed command) h

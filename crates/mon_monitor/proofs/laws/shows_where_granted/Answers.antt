@@ -1,5 +1,0 @@
-use Rattle.mon_monitor.proofs.Shows.{shows_where_granted}
-use Rattle.mon_monitor.proofs.laws.shows_where_granted.Goals as goal
-
-pub returns : goal.returns
-returns c = shows_where_granted c.lends_where_granted.ensures

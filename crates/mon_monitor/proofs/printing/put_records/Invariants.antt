@@ -1,8 +1,0 @@
--- The lines of the records so far were appended.
-use Rattle.std.proofs.Common.{◌≡◌, ◌++◌, take}
-use Rattle.std.specs.List.{flat_map}
-use Rattle.mon_monitor.specs.Printouts.{stored_line}
-use Rattle.mon_monitor.proofs.printing.put_records.Given as goal
-
-abbrev pub invariant-loop-record : goal.invariant-loop-record
-invariant-loop-record l = l.out.items ≡ l.fn.out.items ++ flat_map stored_line (take l.record-index l.records)
