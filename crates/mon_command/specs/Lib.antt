@@ -3,5 +3,4 @@ pub mod Commands
 pub mod Replies
 pub mod Commanded
 pub mod inner
-pub mod Worlds
 pub mod Laws

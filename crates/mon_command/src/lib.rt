@@ -1,18 +1,16 @@
-//! The monitor: owner commands over an account table and a catalogue, each answered by a printout.
+//! Owner commands over an account table and a catalogue, each answered by a printout.
 //!
-//! `Monitor::command` serves one command exactly as `commanded` in specs/ says; `laws` says what holds of every such
-//! answer.
+//! `serve` serves one command exactly as `commanded` in specs/ says; `laws` says what holds of every such answer.
 #![tactic(auto)]
 
 pub mod command;
 pub mod laws;
-pub mod monitor;
 pub mod printing;
 pub mod printout;
 pub mod reply;
-mod serving;
+pub mod serving;
 
 pub use command::Command;
-pub use monitor::Monitor;
 pub use printout::Printout;
 pub use reply::Reply;
+pub use serving::serve;

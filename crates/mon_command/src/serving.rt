@@ -1,12 +1,12 @@
-//! Serving the commands of a known account, one function a command.
+//! Serving commands, one function a command.
 //!
 //! The printout of a command that is done is made before anything changes, so that a growth that is refused leaves
 //! everything as it was. Where the change is then denied or refused, nothing has changed, and the printout is made anew.
-ghost use Rattle.std.specs.Prelude.{◌≡◌, ◌++◌, length, IfOk, OnOk};
+ghost use Rattle.std.specs.Prelude.{◌≡◌, ◌++◌, length, IfOk, OnOk, OnErr};
 ghost use Rattle.std.specs.List.{flat_map};
 ghost use Rattle.mon_guard.specs.Lending.{records_lent, acl_lent, names_lent};
 ghost use Rattle.mon_guard.specs.Owning.{created, removed, acl_set};
-ghost use Rattle.mon_command.specs.Commanded.{Names, Records as Listed, Shown, told_by, creation_reply, removal_reply, acl_reply, shown_as, printed, served};
+ghost use Rattle.mon_command.specs.Commanded.{Names, Records as Listed, Shown, told_by, creation_reply, removal_reply, acl_reply, shown_as, printed, served, commanded};
 ghost use Rattle.mon_command.specs.Printouts.{name_line, names_text};
 ghost use Rattle.mon_command.specs.inner.Names.{shown_at};
 ghost use Rattle.mon_command.specs.inner.Serving.{Serves};
@@ -15,15 +15,41 @@ use crate::command::Command;
 use crate::printing::{put_acl, put_count, put_name, put_records};
 use crate::printout::{Printout, told};
 use crate::reply::Reply;
-use mon_access::Account;
+use mon_access::{Account, Accounts};
 use mon_acl::AclText;
 use mon_catalogue::{Catalogue, CreateError, Records};
 use mon_guard::{AclAnswer, Guard, ShownAcl};
 use mon_text::{Name, Stop};
 use std::alloc::{AllocError, Global};
 
+/// Serves a command: what it prints, and the data sets after it, are `commanded`. Accounts are found by hash, and so is the
+/// data set of a command: but for `Catalog`, which goes over all sets, and `Delete`, behind which the others keep their order,
+/// the time does not grow with the catalogue.
+///
+/// That something is refused or denied is an answer, and stands in the printout.
+///
+/// # Errors
+///
+/// Where a growth was refused; the data sets are then unchanged.
+pub fn serve(
+    alloc: Global,
+    accounts: &Accounts,
+    guard: &mut Guard,
+    catalogue: &mut Catalogue,
+    command: Command,
+) -> Result<Printout, AllocError>
+    ensures printout { IfOk result (λ printout. printout ≡ (commanded accounts.now catalogue.old command).printout) }
+    ensures sets { OnOk result (catalogue.new ≡ (commanded accounts.now catalogue.old command).sets) }
+    ensures unchanged { OnErr result (catalogue.new ≡ catalogue.old) }
+{
+    match accounts.find(command.account()) {
+        Some(account) => serve_known(alloc, account, guard, catalogue, &command),
+        None => told(alloc, &command, Reply::NoAccount),
+    }
+}
+
 // Serves a command of this account.
-pub(crate) fn serve(
+fn serve_known(
     alloc: Global,
     account: &Account,
     guard: &mut Guard,

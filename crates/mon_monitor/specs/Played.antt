@@ -1,8 +1,9 @@
 -- What events do (own): each prints papers and leaves a world. Memory may break turns off, as the marks say.
-use Rattle.std.specs.Prelude.{List, [], ◌∷◌, ◌++◌, map}
+use Rattle.std.specs.Prelude.{ℕ, List, [], ◌∷◌, ◌++◌, Result, map}
 use Rattle.mon_command.specs.declared.command.Command.{Command}
 use Rattle.mon_command.specs.Commanded.{commanded}
 use Rattle.mon_job.specs.declared.deck.JobDeck.{JobDeck}
+use Rattle.mon_job.specs.declared.refusal.LoadError.{LoadError}
 use Rattle.mon_slots.specs.Turns.{only}
 use Rattle.mon_slots.specs.Marks.{Marks, Past, marked, drain, room}
 use Rattle.mon_slots.specs.Loads.{loaded}
@@ -28,10 +29,15 @@ abbrev pub of_turns : World → Past → Played
 of_turns w p = record { papers = of_ends (map (λ e. e.1) p.ends); after = with_floor w p.after; marks = p.marks }
 
 -- a job is loaded into the lowest free slot, or refused
+abbrev pub loading : JobDeck → World → Result ℕ LoadError × World
+loading deck w =
+    let l = loaded w.accounts deck w.floor.slots in
+    (l.0, with_floor w (floor w.floor.sets l.1))
+
 abbrev pub of_loading : JobDeck → Marks → World → Played
 of_loading deck m w =
-    let l = loaded w.accounts deck w.floor.slots in
-    record { papers = of_load deck l.0; after = with_floor w (floor w.floor.sets l.1); marks = m }
+    let l = loading deck w in
+    record { papers = of_load deck l.0; after = l.1; marks = m }
 
 abbrev pub of_command : Command → Marks → World → Played
 of_command command m w =

@@ -2,5 +2,6 @@ pub mod Seats
 pub mod Begun
 pub mod Past
 pub mod Rounding
+pub mod Giving
 pub mod Calls
 pub mod Loads

@@ -9,7 +9,7 @@ use Rattle.mon_slots.specs.declared.rounds.Goal.TheVariants as goal
 use Rattle.mon_slots.specs.Floors.{Floor}
 use Rattle.mon_slots.specs.Turns.{ends_by}
 use Rattle.mon_slots.specs.Marks.{Marks, Past, nothing, and_then, until, from, rounds, turns_left, rounds_until, is_done}
-use Rattle.mon_slots.specs.Turning.{TurnOr, UntilIs, RoundsAre, ended_in}
+use Rattle.mon_slots.specs.Turning.{TurnOr, Passed, UntilIs, RoundsAre, ended_in}
 use Rattle.mon_slots.specs.inner.Rounding.{Ahead, RoundTo, Going, Unless, stop_of}
 use Rattle.mon_slots.proofs.Past.{until_stops, until_goes, until_append, until_length, after_past, rounds_same, round_falls, room_at_last}
 
@@ -28,6 +28,14 @@ map_append (y ∷ xs) ys = ap (λ (l : List JobEnd). y.1 ∷ l) (map_append xs y
 
 chained : (xs ys : List (ℕ × JobEnd)) (p : Past) → and_then xs (and_then ys p) ≡ and_then (xs ++ ys) p
 chained xs ys p = ap (λ (l : List (ℕ × JobEnd)). let q : Past = record { ends = l; after = p.after; marks = p.marks } in q) (sym (append_assoc xs ys p.ends))
+
+pub passed : (numbered : List (ℕ × JobEnd)) (ends : List JobEnd) (now : Floor) (rest : Marks) (p : Past)
+    → map (λ e. e.1) numbered ≡ ends → p ≡ and_then numbered (nothing rest now) → Passed ends now rest p
+passed numbered ends now rest p is whole = record {
+  ended = ap (λ (q : Past). map (λ e. e.1) q.ends) whole ∙ ap (λ (l : List (ℕ × JobEnd)). map (λ e. e.1) l) (append_empty numbered) ∙ is;
+  after = ap (λ (q : Past). q.after) whole;
+  marks = ap (λ (q : Past). q.marks) whole;
+}
 
 module _ (stop : Floor → Bool) where
   pub begin : (E : List ℕ) (w : Floor) → Ahead stop E w [] E w
@@ -60,13 +68,11 @@ module _ (stop : Floor → Bool) where
 
   -- all of them
   pub ahead_done : (E : List ℕ) (w : Floor) (ends : List JobEnd) (F : List ℕ) (now : Floor) → F ≡ [] → Ahead stop E w ends F now → UntilIs stop E w ends now
-  ahead_done E w ends F now none h =
-      let whole = h.is [] ∙ ap (λ (l : List ℕ). and_then h.numbered (until stop l [] now)) none in
-      record {
-        marks = h.marks ++ [];
-        ended = ap (λ (p : Past). map (λ e. e.1) p.ends) whole ∙ map_append h.numbered [] ∙ append_empty (map (λ e. e.1) h.numbered) ∙ h.ended;
-        after = ap (λ (p : Past). p.after) whole;
-      }
+  ahead_done E w ends F now none h = record {
+    marks = h.marks;
+    is = λ rest. passed h.numbered ends now rest (until stop E (h.marks ++ rest) w) h.ended
+        (h.is rest ∙ ap (λ (l : List ℕ). and_then h.numbered (until stop l rest now)) none);
+  }
 
   -- the loop over a round
   pub round_begins : (w : Floor) (before : List JobEnd) → RoundTo stop w before before (from (0 + 1) (length w.slots - 0)) w
@@ -156,14 +162,11 @@ module _ (stop : Floor → Bool) where
   }
 
   pub going_done : (w : Floor) (ends : List JobEnd) (now : Floor) → stop now ≡ true → Going stop w ends now → RoundsAre stop w ends now
-  going_done w ends now done h =
-      let stopped : rounds_until stop [] now ≡ nothing [] now = until_stops stop (rounds (turns_left now.slots) (length now.slots)) [] now done in
-      let whole = h.is [] ∙ ap (and_then h.numbered) stopped in
-      record {
-        marks = h.marks ++ [];
-        ended = ap (λ (p : Past). map (λ e. e.1) p.ends) whole ∙ map_append h.numbered [] ∙ append_empty (map (λ e. e.1) h.numbered) ∙ h.ended;
-        after = ap (λ (p : Past). p.after) whole;
-      }
+  going_done w ends now done h = record {
+    marks = h.marks;
+    is = λ rest. passed h.numbered ends now rest (rounds_until stop (h.marks ++ rest) w) h.ended
+        (h.is rest ∙ ap (and_then h.numbered) (until_stops stop (rounds (turns_left now.slots) (length now.slots)) rest now done));
+  }
 
 -- both goals are met at the latest when all slots are empty
 pub goal_at_last : (g : Goal) (size : ℕ) → size ≢ 0 → (v : Floor) → length v.slots ≡ size → is_done v ≡ true → stop_of g v ≡ true

@@ -1,5 +1,5 @@
 -- The slots of the program, as definitions see them.
-use Rattle.std.specs.Prelude.{◌≤◌, List, length, map, Option, option_map}
+use Rattle.std.specs.Prelude.{List, map, Option, option_map}
 use Rattle.sno_run.specs.Told.{job_of}
 use Rattle.mon_slots.specs.declared.slot.Slot.{Slot}
 use Rattle.mon_slots.specs.declared.slots.Slots.{Slots}
@@ -16,7 +16,3 @@ seats_of slots = map seat_of slots
 
 abbrev pub slots_in : Slots → List (Option SlotState)
 slots_in s = seats_of s.items.items
-
--- from one to eight
-abbrev pub AreSlots : List (Option SlotState) → Type 0
-AreSlots slots = (1 ≤ length slots) × (length slots ≤ 8)

@@ -1,12 +1,12 @@
 -- What the calls promise: turns are those of the definitions, with some marks.
-use Rattle.std.specs.Prelude.{◌≡◌, Bool, ℕ, List, [], ◌∷◌, map, length, Option}
+use Rattle.std.specs.Prelude.{◌≡◌, Bool, ℕ, List, [], ◌∷◌, ◌++◌, map, length, Option, Some, None}
 use Rattle.mon_job.specs.declared.job_end.JobEnd.{JobEnd}
 use Rattle.mon_slots.specs.declared.turned.Turned.{Turned}
 use Rattle.mon_slots.specs.declared.turned.Turned.TheVariants.{Empty, Goes, Ended}
 use Rattle.mon_slots.specs.Floors.{Floor}
-use Rattle.mon_slots.specs.Marks.{Mark, Marks, turn_as, until, never, rounds, turns_left, is_done, has_room}
+use Rattle.mon_slots.specs.Marks.{Mark, Marks, Past, turn_as, until, never, rounds, turns_left, is_done, has_room}
 
--- one turn, perhaps broken off
+-- one turn, perhaps broken off: it takes one mark, which is this
 pub record TurnOr (s : ℕ) (w : Floor) (t : Turned) (w' : Floor) : Type 0 where
   pub mark : Option Mark
   pub is : turn_as mark s w ≡ (t, w')
@@ -17,11 +17,22 @@ ended_in Empty = []
 ended_in Goes = []
 ended_in (Ended e) = e ∷ []
 
--- turns in this order until a floor is one to stop at, with some marks: which jobs end, and what is left
+-- the job that ended in some turns of one slot, if it did
+abbrev pub end_in : Option JobEnd → List JobEnd
+end_in None = []
+end_in (Some e) = e ∷ []
+
+-- these jobs have ended, this is left, and these marks no turn took
+pub record Passed (ends : List JobEnd) (w' : Floor) (rest : Marks) (p : Past) : Type 0 where
+  pub ended : map (λ e. e.1) p.ends ≡ ends
+  pub after : p.after ≡ w'
+  pub marks : p.marks ≡ rest
+
+-- Turns in this order until a floor is one to stop at: with some marks, and whatever marks come behind these, these jobs end,
+-- this is left, and so are the marks behind.
 pub record UntilIs (stop : Floor → Bool) (E : List ℕ) (w : Floor) (ends : List JobEnd) (w' : Floor) : Type 0 where
   pub marks : Marks
-  pub ended : map (λ e. e.1) (until stop E marks w).ends ≡ ends
-  pub after : (until stop E marks w).after ≡ w'
+  pub is : (rest : Marks) → Passed ends w' rest (until stop E (marks ++ rest) w)
 
 abbrev pub MarkedIs : List ℕ → Floor → List JobEnd → Floor → Type 0
 MarkedIs E w ends w' = UntilIs never E w ends w'

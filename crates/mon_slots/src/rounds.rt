@@ -1,9 +1,10 @@
 //! Turns in an order, and rounds of turns.
 ghost use Rattle.std.specs.Prelude.{◌≡◌, ◌≤◌, ◌+◌, ◌++◌, [], length, vec_len, vec_capacity, IfOk, OnErr};
 ghost use Rattle.mon_catalogue.specs.Sets.{Sets};
-ghost use Rattle.mon_slots.specs.Told.{slots_in, AreSlots};
+ghost use Rattle.mon_slots.specs.Told.{slots_in};
 ghost use Rattle.mon_slots.specs.Floors.{floor};
-ghost use Rattle.mon_slots.specs.Turning.{MarkedIs, RoundsAre, DrainIs, RoomIs, ended_in};
+ghost use Rattle.mon_slots.specs.Turning.{MarkedIs, RoundsAre, DrainIs, RoomIs, ended_in, end_in};
+ghost use Rattle.mon_slots.specs.Turns.{only};
 ghost use Rattle.mon_slots.specs.inner.Stepping.{jobs_in};
 ghost use Rattle.mon_slots.specs.inner.Rounding.{RoundTo, Unless, stop_of};
 
@@ -73,6 +74,30 @@ impl Slots {
         Ok(ends)
     }
 
+    /// So many turns of the job in one slot, and the job, if it ended.
+    ///
+    /// It takes no memory of its own, and no time for the turns of a slot that is empty.
+    pub fn give(
+        &mut self,
+        alloc: Global,
+        guard: &mut Guard,
+        catalogue: &mut Catalogue,
+        slot: u8,
+        count: u64,
+    ) -> Option<JobEnd>
+        ensures marked { MarkedIs (only slot count) (floor catalogue.old (slots_in self.old)) (end_in result) (floor catalogue.new (slots_in self.new)) }
+        ensures size { length (slots_in self.new) ≡ length (slots_in self.old) }
+    {
+        for _given in 0..count {
+            match self.turn(alloc, guard, catalogue, slot) {
+                Turned::Empty => return None,
+                Turned::Goes => (),
+                Turned::Ended(end) => return Some(end),
+            }
+        }
+        None
+    }
+
     // A turn of the job in a slot, unless the goal is met.
     fn turn_unless(
         &mut self,
@@ -103,7 +128,6 @@ impl Slots {
         goal: Goal,
         ends: &mut Vec<JobEnd>,
     )
-        requires few { length (slots_in self.old) ≤ 8 }
         requires room { vec_len ends.old + jobs_in (slots_in self.old) ≤ vec_capacity ends.old }
         ensures round { RoundTo (stop_of goal) (floor catalogue.old (slots_in self.old)) ends.old.items ends.new.items [] (floor catalogue.new (slots_in self.new)) }
         ensures room { vec_len ends.new + jobs_in (slots_in self.new) ≤ vec_capacity ends.new }
@@ -122,7 +146,6 @@ impl Slots {
         catalogue: &mut Catalogue,
         goal: Goal,
     ) -> Result<Vec<JobEnd>, AllocError>
-        requires { AreSlots (slots_in self.old) }
         ensures rounds { IfOk result (λ ends. RoundsAre (stop_of goal) (floor catalogue.old (slots_in self.old)) ends.items (floor catalogue.new (slots_in self.new))) }
         ensures size { length (slots_in self.new) ≡ length (slots_in self.old) }
         ensures unchanged { OnErr result (self.new ≡ self.old) }
@@ -146,7 +169,6 @@ impl Slots {
         guard: &mut Guard,
         catalogue: &mut Catalogue,
     ) -> Result<Vec<JobEnd>, AllocError>
-        requires { AreSlots (slots_in self.old) }
         ensures drain { IfOk result (λ ends. DrainIs (floor catalogue.old (slots_in self.old)) ends.items (floor catalogue.new (slots_in self.new))) }
         ensures size { length (slots_in self.new) ≡ length (slots_in self.old) }
         ensures unchanged { OnErr result (self.new ≡ self.old) }
@@ -166,7 +188,6 @@ impl Slots {
         guard: &mut Guard,
         catalogue: &mut Catalogue,
     ) -> Result<Vec<JobEnd>, AllocError>
-        requires { AreSlots (slots_in self.old) }
         ensures room { IfOk result (λ ends. RoomIs (floor catalogue.old (slots_in self.old)) ends.items (floor catalogue.new (slots_in self.new))) }
         ensures size { length (slots_in self.new) ≡ length (slots_in self.old) }
         ensures unchanged { OnErr result (self.new ≡ self.old) }

@@ -1,11 +1,6 @@
 //! Slots.
 ghost use Rattle.std.specs.Prelude.{◌≡◌, ◌≤◌, length, None, Ok, Err, IfOk, IfErr, OnErr, position, is_some, is_none, replicate};
 ghost use Rattle.std.specs.List.{list_any, list_all};
-ghost use Rattle.mon_slots.specs.Told.{slots_in, AreSlots};
-ghost use Rattle.mon_slots.specs.Loads.{loaded};
-ghost use Rattle.sno_cards.specs.Answers.{IfRefused};
-ghost use Rattle.mon_slots.specs.Floors.{floor, all_empty, first_free};
-ghost use Rattle.mon_slots.specs.Turning.{TurnOr};
 
 use crate::loading::slot_for;
 use crate::slot::{Slot, turn_at};
@@ -23,9 +18,17 @@ use std::alloc::{AllocError, Global};
 #[derive(Drop)]
 pub struct Slots {
     items: Vec<Option<Slot>>,
+    ghost some: { 1 ≤ length items.items },
+    ghost few: { length items.items ≤ 8 },
 }
 
 impl Slots {
+    ghost use Rattle.mon_slots.specs.Told.{slots_in};
+    ghost use Rattle.mon_slots.specs.Loads.{loaded};
+    ghost use Rattle.sno_cards.specs.Answers.{IfRefused};
+    ghost use Rattle.mon_slots.specs.Floors.{floor, all_empty, first_free};
+    ghost use Rattle.mon_slots.specs.Turning.{TurnOr};
+
     /// So many empty slots.
     ///
     /// # Errors
@@ -77,7 +80,6 @@ impl Slots {
         accounts: &Accounts,
         deck: JobDeck,
     ) -> Result<u8, Stop<LoadError>>
-        requires { AreSlots (slots_in self.old) }
         ensures loaded { IfOk result (λ n. loaded accounts.now deck (slots_in self.old) ≡ (Ok n, slots_in self.new)) }
         ensures refused { IfErr result (IfRefused (λ refusal. loaded accounts.now deck (slots_in self.old) ≡ (Err refusal, slots_in self.old))) }
         ensures unchanged { OnErr result (self.new ≡ self.old) }

@@ -2,16 +2,17 @@
 use crate::access::account;
 use mon_access::Accounts;
 use mon_catalogue::Catalogue;
-use mon_command::{Command, Monitor};
+use mon_command::{Command, serve};
+use mon_guard::Guard;
 use mon_text::read_name;
 use std::alloc::Global;
 
-// A monitor with one account and no data set.
-fn monitor_of(alloc: Global) -> Option<Monitor> {
+// One account.
+fn accounts_of(alloc: Global) -> Option<Accounts> {
     let anna = account(alloc, (b"anna", b"admin", b""))?;
     let mut accounts = Accounts::new(alloc);
     accounts.add(anna).ok()?;
-    Some(Monitor::new(accounts, Catalogue::new(alloc), 4))
+    Some(accounts)
 }
 
 fn create() -> Option<Command> {
@@ -20,10 +21,11 @@ fn create() -> Option<Command> {
     Some(Command::Create { account, name })
 }
 
-fn is_created(alloc: Global, monitor: &mut Monitor) -> bool {
+fn is_created(alloc: Global, accounts: &Accounts, catalogue: &mut Catalogue) -> bool {
+    let mut guard = Guard::new();
     match create() {
         Some(command) => {
-            matches!(monitor.command(alloc, command), Ok(printout) if printout.as_slice() == b"CREATE anna NOTE\nDONE\n".as_slice())
+            matches!(serve(alloc, accounts, &mut guard, catalogue, command), Ok(printout) if printout.as_slice() == b"CREATE anna NOTE\nDONE\n".as_slice())
         }
         None => false,
     }
@@ -31,8 +33,12 @@ fn is_created(alloc: Global, monitor: &mut Monitor) -> bool {
 
 // Where the growth that is refused was that of a command, nothing has changed, and it is done when it is given again.
 fn is_served_again(alloc: Global) -> bool {
-    match monitor_of(alloc) {
-        Some(mut monitor) => is_created(alloc, &mut monitor) || is_created(alloc, &mut monitor),
+    match accounts_of(alloc) {
+        Some(accounts) => {
+            let mut catalogue = Catalogue::new(alloc);
+            is_created(alloc, &accounts, &mut catalogue)
+                || is_created(alloc, &accounts, &mut catalogue)
+        }
         None => false,
     }
 }

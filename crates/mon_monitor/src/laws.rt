@@ -1,0 +1,50 @@
+//! Laws of events. Each is the contract of a function that does nothing, or only cites the laws of the slots.
+ghost use Rattle.mon_monitor.specs.Laws.{CardByCard, PrintedInOrder, PlayedUnmarked, DrainEmpties, LoadHasRoom, CommandsKeepSlots, AccountsStay, SlotsStay};
+
+use mon_slots::laws;
+
+/// More events only add papers: those of the first come first, and the others happen in the world that these leave.
+pub fn card_by_card()
+    ensures { CardByCard }
+{}
+
+/// So what is printed of the first events is where the whole printout begins.
+pub fn printed_in_order()
+    ensures { PrintedInOrder }
+{}
+
+/// Where no job ended for want of memory, papers and world are those of no marks.
+pub fn unmarked()
+    ensures { PlayedUnmarked }
+{
+    laws::marks_end_jobs();
+}
+
+/// After a drain all slots are empty.
+pub fn drain_empties()
+    ensures { DrainEmpties }
+{
+    laws::drain_empties();
+}
+
+/// A job that enters is never refused for want of a slot.
+pub fn load_has_room()
+    ensures { LoadHasRoom }
+{
+    laws::room_is_made();
+}
+
+/// A command gives no turn: it takes no mark, and no slot changes.
+pub fn commands_keep_slots()
+    ensures { CommandsKeepSlots }
+{}
+
+/// No event changes the account table.
+pub fn accounts_stay()
+    ensures { AccountsStay }
+{}
+
+/// There are as many slots as before.
+pub fn slots_stay()
+    ensures { SlotsStay }
+{}
