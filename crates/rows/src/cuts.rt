@@ -142,7 +142,7 @@ fn whole_lines(bytes: &[u8]) -> &[u8] {
 
 fn is_same_outcome(a: &Result<Counts, RunError>, b: &Result<Counts, RunError>) -> bool {
     match (a, b) {
-        (Ok(a), Ok(b)) => a.commands == b.commands,
+        (Ok(a), Ok(b)) => a.commands == b.commands && a.jobs == b.jobs,
         (Err(a), Err(b)) => a == b,
         _ => false,
     }
