@@ -1,12 +1,15 @@
 -- What comes of a deck from the middle of it on: what was read so far is a stage, and the lines that are left are a deck
--- by the same sections. The catalogue of that deck is the data sets as they stand, and its commands are those to come.
+-- by the same sections, over the world as it stands.
 use Rattle.std.specs.Prelude.{◌≡◌, ℕ, ◌+◌, ◌==◌, Bool, true, false, not, List, [], ◌++◌, length, Option, Some, None, Result, Ok, Err, if◌then◌else◌}
 use Rattle.mon_catalogue.specs.Sets.{Sets}
 use Rattle.mon_catalogue.specs.Progress.{lines_taken}
-use Rattle.mon_command.specs.Worlds.{World}
+use Rattle.mon_slots.specs.Marks.{Marks}
+use Rattle.mon_monitor.specs.Told.{world_of}
 use Rattle.mon_cards.specs.declared.code.Code.{Code}
 use Rattle.mon_feed.specs.declared.fault.RunError.{RunError}
 use Rattle.mon_feed.specs.declared.fault.RunError.TheVariants.{DeckRefused, Memory}
+use Rattle.mon_feed.specs.declared.options.Counts.{Counts}
+use Rattle.mon_feed.specs.declared.options.Options.{Options}
 use Rattle.mon_text.specs.Feeding.{taken_of}
 use Rattle.mon_text.specs.declared.stop.Stop.{Stop}
 use Rattle.mon_text.specs.declared.stop.Stop.TheVariants as stop
@@ -14,33 +17,32 @@ use Rattle.mon_feed.specs.declared.stage.Stage.{Stage}
 use Rattle.mon_feed.specs.declared.stage.Stage.TheVariants as stage
 use Rattle.mon_feed.specs.declared.stage.State.{State}
 use Rattle.mon_feed.specs.declared.stage.State.TheVariants as state
-use Rattle.mon_cards.specs.Decks.{Deck, Cards, Ending, Stopped, Refused}
-use Rattle.mon_cards.specs.Sections.{opening_section, accounts_section, catalogue_section, stream_section, refused, refused_early}
-use Rattle.mon_feed.specs.Printouts.{answer_to, sets_after, ReadsBack}
+use Rattle.mon_cards.specs.Decks.{Ending, Stopped, Refused}
+use Rattle.mon_cards.specs.Sections.{Closed, InList, InJob, opening_section, accounts_section, catalogue_section, stream_section, refused, refused_early}
+use Rattle.mon_feed.specs.Scenes.{Scene, over, opening, sets_after, nothing_counted, both_counted, all_counted}
+use Rattle.mon_feed.specs.Printouts.{answer_to, ReadsBack}
 
--- a deck whose cards are still to come, over what a monitor holds
-abbrev pub over : World → Cards → Deck
-over w cards = record { accounts = w.accounts; catalogue = w.sets; cards = cards }
+-- the scene that the lines from number n on make, where there are so many slots
+abbrev pub scene_from : ℕ → Stage → ℕ → List (List ℕ) → Scene
+scene_from slots stage.Opening n ls = opening slots (opening_section n ls)
+scene_from slots (stage.Accounts accounts) n ls = opening slots (accounts_section n accounts ls)
+scene_from slots (stage.Catalogue accounts progress) n ls = opening slots (catalogue_section n accounts progress ls)
+scene_from slots (stage.Stream w) n ls = over (world_of w) (stream_section n Closed ls)
+scene_from slots (stage.List w list) n ls = over (world_of w) (stream_section n (InList list) ls)
+scene_from slots (stage.Job w job) n ls = over (world_of w) (stream_section n (InJob job) ls)
 
--- the deck that the lines from number n on make
-abbrev pub deck_from : Stage → ℕ → List (List ℕ) → Deck
-deck_from stage.Opening n ls = opening_section n ls
-deck_from (stage.Accounts accounts) n ls = accounts_section n accounts ls
-deck_from (stage.Catalogue accounts progress) n ls = catalogue_section n accounts progress ls
-deck_from (stage.Stream w) n ls = over w (stream_section n None ls)
-deck_from (stage.List w list) n ls = over w (stream_section n (Some list) ls)
+-- the scene that line n ends by a refusal
+abbrev pub refused_from : ℕ → Stage → ℕ → Code → Scene
+refused_from slots stage.Opening n code = opening slots (refused_early n code [])
+refused_from slots (stage.Accounts accounts) n code = opening slots (refused_early n code accounts)
+refused_from slots (stage.Catalogue accounts progress) n code = opening slots (refused_early n code accounts)
+refused_from slots (stage.Stream w) n code = over (world_of w) (refused n code)
+refused_from slots (stage.List w list) n code = over (world_of w) (refused n code)
+refused_from slots (stage.Job w job) n code = over (world_of w) (refused n code)
 
--- the deck that line n ends by a refusal
-abbrev pub refused_from : Stage → ℕ → Code → Deck
-refused_from stage.Opening n code = refused_early n code []
-refused_from (stage.Accounts accounts) n code = refused_early n code accounts
-refused_from (stage.Catalogue accounts progress) n code = refused_early n code accounts
-refused_from (stage.Stream w) n code = over w (refused n code)
-refused_from (stage.List w list) n code = over w (refused n code)
-
--- how a deck came out: so many commands and these data sets, or refused at a line
+-- how a deck came out: so many jobs and commands and these data sets, or refused at a line
 pub data Conclusion : Type 0 where
-  Good : ℕ → Sets → Conclusion
+  Good : Counts → Sets → Conclusion
   Bad : ℕ → Code → Conclusion
 
 -- what is written of a deck, and how it comes out
@@ -48,16 +50,18 @@ pub record Outcome : Type 0 where
   pub written : List ℕ
   pub conclusion : Conclusion
 
-abbrev pub concluded : ℕ → Sets → Ending → Conclusion
-concluded count sets Stopped = Good count sets
-concluded count sets (Refused n code) = Bad n code
+abbrev pub concluded : Counts → Sets → Ending → Conclusion
+concluded counts sets Stopped = Good counts sets
+concluded counts sets (Refused n code) = Bad n code
 
 -- a deck that is only read changes no data set
-abbrev pub sets_left : Bool → Deck → Sets
-sets_left check deck = if check then deck.catalogue else sets_after deck
+abbrev pub sets_left : Bool → ℕ → Marks → Scene → Sets
+sets_left check jobs m s = if check then s.world.floor.sets else sets_after jobs m s
 
-abbrev pub outcome_of : Bool → Deck → Outcome
-outcome_of check deck = record { written = answer_to check deck; conclusion = concluded (length deck.cards.commands) (sets_left check deck) deck.cards.ending }
+-- what comes of a scene, behind so many jobs
+abbrev pub outcome_of : Bool → ℕ → Marks → Scene → Outcome
+outcome_of check jobs m s =
+    record { written = answer_to check jobs m s; conclusion = concluded (all_counted s.cards.asked) (sets_left check jobs m s) s.cards.ending }
 
 abbrev pub refused_at : ℕ → Code → Outcome
 refused_at n code = record { written = []; conclusion = Bad n code }
@@ -101,20 +105,20 @@ abbrev pub fault_at : ℕ → Stop Code → RunError
 fault_at n (stop.Refused code) = DeckRefused n code
 fault_at n stop.Memory = Memory
 
--- what comes of the lines from number n on
-abbrev pub outcome : Bool → State → ℕ → List (List ℕ) → Outcome
-outcome check (state.Reading stage) n ls = outcome_of check (deck_from stage n ls)
-outcome check (state.Stopped w) n ls = record { written = []; conclusion = Good 0 w.sets }
-outcome check (state.Refused m code) n ls = refused_at m code
-outcome check state.NoMemory n ls = record { written = []; conclusion = Good 0 [] }
+-- what comes of the lines from number n on, behind so many jobs
+abbrev pub outcome : Options → ℕ → Marks → State → ℕ → List (List ℕ) → Outcome
+outcome options jobs m (state.Reading stage) n ls = outcome_of options.check jobs m (scene_from options.slots.number stage n ls)
+outcome options jobs m (state.Stopped w) n ls = record { written = []; conclusion = Good nothing_counted (world_of w).floor.sets }
+outcome options jobs m (state.Refused k code) n ls = refused_at k code
+outcome options jobs m state.NoMemory n ls = record { written = []; conclusion = Good nothing_counted [] }
 
-abbrev pub more : ℕ → Conclusion → Conclusion
-more count (Good others sets) = Good (count + others) sets
-more count (Bad n code) = Bad n code
+abbrev pub more : Counts → Conclusion → Conclusion
+more counts (Good others sets) = Good (both_counted counts others) sets
+more counts (Bad n code) = Bad n code
 
--- an outcome, with a text that was written before it, and so many commands
-abbrev pub behind : List ℕ → ℕ → Outcome → Outcome
-behind text count later = record { written = text ++ later.written; conclusion = more count later.conclusion }
+-- an outcome, with a text that was written before it, and so many jobs and commands
+abbrev pub behind : List ℕ → Counts → Outcome → Outcome
+behind text counts later = record { written = text ++ later.written; conclusion = more counts later.conclusion }
 
 -- a text begins with this one
 abbrev pub Begins : List ℕ → List ℕ → Type 0
@@ -133,5 +137,5 @@ lines_loaded _ = 0
 
 -- a deck that was run to its end has written data sets that are read back
 abbrev pub IsReadBack : Bool → State → Type 0
-IsReadBack check (state.Stopped w) = check ≡ false → ReadsBack w.sets
+IsReadBack check (state.Stopped w) = check ≡ false → ReadsBack (world_of w).floor.sets
 IsReadBack check _ = Unit {0}

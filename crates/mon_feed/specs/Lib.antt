@@ -1,3 +1,4 @@
+pub mod Scenes
 pub mod Printouts
 pub mod Feeds
 pub mod Told
