@@ -2,14 +2,18 @@
 ghost use Rattle.std.specs.Prelude.{◌≡◌, ℕ, List, ◌+◌, ◌-◌, ◌<◌, ◌≤◌, ◌^◌, [], ◌∷◌, ◌++◌, Bool, true, false, None, length, position, take, Ok, Err, IfSome, IfOk, IfErr, OnOk, OnErr, IsTrue};
 ghost use Rattle.std.specs.Str.Lines.{lines};
 ghost use Rattle.mon_catalogue.specs.Sets.{Sets};
+ghost use Rattle.mon_slots.specs.Marks.{Marks};
 ghost use Rattle.mon_text.specs.Feeding.{is_line_feed, taken_of};
 ghost use Rattle.mon_cards.specs.declared.code.Code.{Code as AnyCode};
-ghost use Rattle.mon_feed.specs.declared.stage.State.TheVariants as states;
 ghost use Rattle.mon_cards.specs.Sections.{deck_of};
-ghost use Rattle.mon_feed.specs.Feeds.{outcome, outcome_of, behind, refused_at, Good, Bad, Begins, OnAnswer, lines_loaded, is_reading, may_grow, used_by, IsReadBack, IsOwn, stopped_by, error_at, fault_at};
-ghost use Rattle.mon_feed.specs.Told.{told, outcome_from, last_lines};
-ghost use Rattle.mon_feed.specs.inner.Counting.{lines_ended};
+ghost use Rattle.mon_feed.specs.declared.options.Options.{Options as AnyOptions};
+ghost use Rattle.mon_feed.specs.declared.stage.State.TheVariants as states;
+ghost use Rattle.mon_feed.specs.Scenes.{opening, nothing_counted};
 ghost use Rattle.mon_feed.specs.Printouts.{ReadsBack};
+ghost use Rattle.mon_feed.specs.Feeds.{outcome, outcome_of, behind, refused_at, Good, Bad, Begins, OnAnswer, lines_loaded, is_reading, may_grow, used_by, IsReadBack, IsOwn, stopped_by, error_at, fault_at};
+ghost use Rattle.mon_feed.specs.Told.{told, outcome_from, Took, Begun, last_lines};
+ghost use Rattle.mon_feed.specs.inner.Counting.{lines_ended};
+ghost use Rattle.mon_feed.specs.inner.Lines.{TookLine, Ended, EndBegun};
 
 use crate::fault::RunError;
 use crate::feed::DeckFeed;
@@ -22,7 +26,7 @@ use std::alloc::Global;
 impl DeckFeed {
     /// The start of a deck.
     pub fn new(alloc: Global, options: Options) -> DeckFeed
-        ensures start { (bytes : List ℕ) → outcome_from result bytes ≡ outcome_of options.check (deck_of (lines bytes)) }
+        ensures start { (m : Marks) (bytes : List ℕ) → outcome_from m result bytes ≡ outcome_of options.check 0 m (opening options.slots.number (deck_of (lines bytes))) }
         ensures reads_back { IsReadBack result.options.check result.state }
         ensures options { result.options ≡ options }
         ensures reading { is_reading result.state ≡ true }
@@ -33,7 +37,7 @@ impl DeckFeed {
             state: State::Reading(Stage::Opening),
             line: LineFeed::new(alloc),
             lines_taken: 0,
-            commands: 0,
+            counts: Counts { jobs: 0, commands: 0 },
             fed: 0,
         }
     }
@@ -58,8 +62,8 @@ impl DeckFeed {
     pub fn feed(&mut self, alloc: Global, piece: &[u8], out: &mut Vec<u8>) -> Result<(), RunError>
         requires { self.old.fed + length piece.now < 2 ^ 63 }
         ensures appends { Begins out.old.items out.new.items }
-        ensures begun { (bytes : List ℕ) → Begins out.new.items (told out.old.items self.old (piece.now ++ bytes)).written }
-        ensures told { OnAnswer result ((bytes : List ℕ) → told out.new.items self.new bytes ≡ told out.old.items self.old (piece.now ++ bytes)) }
+        ensures begun { Begun out.old.items self.old piece.now out.new.items }
+        ensures told { OnAnswer result (Took out.old.items self.old piece.now out.new.items self.new) }
         ensures failed { IfErr result (λ error. self.new.state ≡ stopped_by error) }
         ensures again { (n : ℕ) (code : AnyCode) → self.old.state ≡ states.Refused n code → (result ≡ Err (RunError.DeckRefused n code)) × (self.new ≡ self.old) × (out.new.items ≡ out.old.items) }
         ensures still { self.old.state ≡ states.NoMemory → (result ≡ Err RunError.Memory) × (self.new ≡ self.old) × (out.new.items ≡ out.old.items) }
@@ -114,11 +118,11 @@ impl DeckFeed {
         requires few { self.old.fed + length piece.now < 2 ^ 63 }
         ensures used { IfOk result (λ used. (0 < used) × (used ≤ length piece.now) × (self.new.fed ≡ self.old.fed + used)) }
         ensures line { IfOk result (λ used. used ≡ used_by self.old.state piece.now) }
-        ensures told { IfOk result (λ used. (bytes : List ℕ) → told out.new.items self.new bytes ≡ told out.old.items self.old (take used piece.now ++ bytes)) }
+        ensures told { IfOk result (λ used. Took out.old.items self.old (take used piece.now) out.new.items self.new) }
         ensures refused { (n : ℕ) (code : AnyCode) → result ≡ Err (RunError.DeckRefused n code) →
-            (bytes : List ℕ) → told out.new.items self.new bytes ≡ told out.old.items self.old (piece.now ++ bytes) }
+            (rest : Marks) (bytes : List ℕ) → told rest out.new.items self.new bytes ≡ told rest out.old.items self.old (piece.now ++ bytes) }
         ensures appends { Begins out.old.items out.new.items }
-        ensures begun { (bytes : List ℕ) → Begins out.new.items (told out.old.items self.old (piece.now ++ bytes)).written }
+        ensures begun { Begun out.old.items self.old piece.now out.new.items }
         ensures failed { IfErr result (λ error. self.new.state ≡ stopped_by error) }
         ensures again { (n : ℕ) (code : AnyCode) → self.old.state ≡ states.Refused n code → (result ≡ Err (RunError.DeckRefused n code)) × (self.new ≡ self.old) × (out.new.items ≡ out.old.items) }
         ensures still { self.old.state ≡ states.NoMemory → (result ≡ Err RunError.Memory) × (self.new ≡ self.old) × (out.new.items ≡ out.old.items) }
@@ -183,7 +187,7 @@ impl DeckFeed {
     fn refuse(&mut self, code: Code) -> RunError
         ensures error { result ≡ RunError.DeckRefused self.old.lines_taken code }
         ensures state { self.new.state ≡ states.Refused self.old.lines_taken code }
-        ensures stays { (self.new.options ≡ self.old.options) × (self.new.line ≡ self.old.line) × (self.new.fed ≡ self.old.fed) × (self.new.commands ≡ self.old.commands) × (self.new.lines_taken ≡ self.old.lines_taken) }
+        ensures stays { (self.new.options ≡ self.old.options) × (self.new.line ≡ self.old.line) × (self.new.fed ≡ self.old.fed) × (self.new.counts ≡ self.old.counts) × (self.new.lines_taken ≡ self.old.lines_taken) }
     {
         self.state = State::Refused(self.lines_taken, code);
         RunError::DeckRefused(self.lines_taken, code)
@@ -194,10 +198,10 @@ impl DeckFeed {
     #[inline(never)]
     fn take_line(&mut self, alloc: Global, text: &[u8], out: &mut Vec<u8>) -> Result<(), RunError>
         requires { self.old.lines_taken < self.old.fed }
-        ensures told { OnOk result ((ls : List (List ℕ)) → behind out.new.items self.new.commands (outcome self.new.options.check self.new.state (self.new.lines_taken + 1) ls)
-            ≡ behind out.old.items self.old.commands (outcome self.old.options.check self.old.state (self.old.lines_taken + 1) (text.now ∷ ls))) }
+        ensures told { OnOk result (TookLine self.old.options self.old.state text.now out.old.items self.old.counts self.new.state out.new.items self.new.counts) }
         ensures refused { (n : ℕ) (code : AnyCode) → result ≡ Err (RunError.DeckRefused n code) →
-            (ls : List (List ℕ)) → behind out.new.items 0 (refused_at n code) ≡ behind out.old.items self.old.commands (outcome self.old.options.check self.old.state (self.old.lines_taken + 1) (text.now ∷ ls)) }
+            (rest : Marks) (ls : List (List ℕ)) → behind out.new.items self.new.counts (refused_at n code)
+            ≡ behind out.old.items self.old.counts (outcome self.old.options self.old.counts.jobs rest self.old.state (self.old.lines_taken + 1) (text.now ∷ ls)) }
         ensures failed { IfErr result (λ error. self.new.state ≡ stopped_by error) }
         ensures reads_back { IsReadBack self.old.options.check self.old.state → OnOk result (IsReadBack self.new.options.check self.new.state) }
         ensures own { IfErr result IsOwn }
@@ -210,10 +214,9 @@ impl DeckFeed {
         self.lines_taken += 1;
         let answer = self.state.take_line(
             alloc,
-            self.options.check,
-            self.options.slots,
+            self.options,
             text,
-            &mut self.commands,
+            &mut self.counts,
             out,
         );
         match answer {
@@ -230,11 +233,11 @@ impl DeckFeed {
     /// As `feed`.
     pub fn finish(self, alloc: Global, out: &mut Vec<u8>) -> Result<Counts, RunError>
         ensures appends { Begins out.old.items out.new.items }
-        ensures begun { Begins out.new.items (told out.old.items self []).written }
-        ensures ended { IfOk result (λ counts. (sets : Sets) × (told out.old.items self [] ≡ record { written = out.new.items; conclusion = Good counts.commands sets })
-            × (IsReadBack self.options.check self.state → self.options.check ≡ false → ReadsBack sets) × (counts.jobs ≡ 0)) }
+        ensures begun { (marks : Marks) × ((rest : Marks) → Begins out.new.items (told (marks ++ rest) out.old.items self []).written) }
+        ensures ended { IfOk result (λ counts. (marks : Marks) × (sets : Sets) × ((rest : Marks) → told (marks ++ rest) out.old.items self [] ≡ record { written = out.new.items; conclusion = Good counts sets })
+            × (IsReadBack self.options.check self.state → self.options.check ≡ false → ReadsBack sets)) }
         ensures refused { (n : ℕ) (code : AnyCode) → result ≡ Err (RunError.DeckRefused n code) →
-            told out.old.items self [] ≡ record { written = out.new.items; conclusion = Bad n code } }
+            (marks : Marks) × ((rest : Marks) → told (marks ++ rest) out.old.items self [] ≡ record { written = out.new.items; conclusion = Bad n code }) }
         ensures again { (n : ℕ) (code : AnyCode) → self.state ≡ states.Refused n code → (result ≡ Err (RunError.DeckRefused n code)) × (out.new.items ≡ out.old.items) }
         ensures still { self.state ≡ states.NoMemory → (result ≡ Err RunError.Memory) × (out.new.items ≡ out.old.items) }
         ensures own { IfErr result IsOwn }
@@ -249,11 +252,11 @@ impl DeckFeed {
             state,
             line,
             lines_taken,
-            commands,
+            counts,
             fed: _,
         } = self;
         let last = line.rest();
-        end(alloc, options, state, &last, lines_taken, commands, out)
+        end(alloc, options, state, &last, lines_taken, counts, out)
     }
 }
 
@@ -284,52 +287,44 @@ fn end(
     state: State,
     last: &[u8],
     lines_taken: u64,
-    commands: u64,
+    counts: Counts,
     out: &mut Vec<u8>,
 ) -> Result<Counts, RunError>
-    requires few { commands < 2 ^ 63 }
+    requires few { counts.jobs + counts.commands < 2 ^ 63 }
     requires short { lines_taken < 2 ^ 63 }
     requires within { lines_loaded state < 2 ^ 63 }
     requires sound { error_at state ≡ None }
     ensures appends { Begins out.old.items out.new.items }
-    ensures begun { Begins out.new.items (behind out.old.items commands (outcome options.check state (lines_taken + 1) (last_lines last.now))).written }
-    ensures ended { IfOk result (λ counts. (sets : Sets) × (behind out.old.items commands (outcome options.check state (lines_taken + 1) (last_lines last.now))
-        ≡ record { written = out.new.items; conclusion = Good counts.commands sets })
-        × (IsReadBack options.check state → options.check ≡ false → ReadsBack sets) × (counts.jobs ≡ 0)) }
+    ensures begun { EndBegun options state (lines_taken + 1) (last_lines last.now) out.old.items counts out.new.items }
+    ensures ended { IfOk result (λ all. (sets : Sets) × Ended options state (lines_taken + 1) (last_lines last.now) out.old.items counts out.new.items (Good all sets)
+        × (IsReadBack options.check state → options.check ≡ false → ReadsBack sets)) }
     ensures refused { (n : ℕ) (code : AnyCode) → result ≡ Err (RunError.DeckRefused n code) →
-        behind out.old.items commands (outcome options.check state (lines_taken + 1) (last_lines last.now)) ≡ record { written = out.new.items; conclusion = Bad n code } }
+        Ended options state (lines_taken + 1) (last_lines last.now) out.old.items counts out.new.items (Bad n code) }
     ensures own { IfErr result IsOwn }
     ensures memory { result ≡ Err RunError.Memory → IsTrue (may_grow state last.now) }
     ensures short { result ≡ Err RunError.Memory → out.new.items ≡ out.old.items }
 {
     if last.is_empty() {
-        return conclude(&state, lines_taken + 1, commands);
+        return conclude(&state, lines_taken + 1, counts);
     }
-    let mut commands = commands;
-    match state.after_line(
-        alloc,
-        options.check,
-        options.slots,
-        last,
-        &mut commands,
-        out,
-    ) {
+    let mut counts = counts;
+    match state.after_line(alloc, options, last, &mut counts, out) {
         Err(stop) => Err(fault_of_stop(lines_taken + 1, stop)),
-        Ok(after) => conclude(&after, lines_taken + 2, commands),
+        Ok(after) => conclude(&after, lines_taken + 2, counts),
     }
 }
 
 // How a deck comes out whose lines end before line n.
-fn conclude(state: &State, n: u64, commands: u64) -> Result<Counts, RunError>
-    ensures ended { IfOk result (λ counts. (sets : Sets) × ((check : Bool) → outcome check state.now n [] ≡ record { written = []; conclusion = Good 0 sets })
-        × ((check : Bool) → IsReadBack check state.now → check ≡ false → ReadsBack sets) × (counts.commands ≡ commands) × (counts.jobs ≡ 0)) }
-    ensures refused { (m : ℕ) (code : AnyCode) → result ≡ Err (RunError.DeckRefused m code) → (check : Bool) → outcome check state.now n [] ≡ refused_at m code }
+fn conclude(state: &State, n: u64, counts: Counts) -> Result<Counts, RunError>
+    ensures ended { IfOk result (λ all. (sets : Sets) × ((options : AnyOptions) (jobs : ℕ) (m : Marks) → outcome options jobs m state.now n [] ≡ record { written = []; conclusion = Good nothing_counted sets })
+        × ((check : Bool) → IsReadBack check state.now → check ≡ false → ReadsBack sets) × (all ≡ counts)) }
+    ensures refused { (m : ℕ) (code : AnyCode) → result ≡ Err (RunError.DeckRefused m code) → (options : AnyOptions) (jobs : ℕ) (marks : Marks) → outcome options jobs marks state.now n [] ≡ refused_at m code }
     ensures own { IfErr result IsOwn }
     ensures memory { result ≡ Err RunError.Memory → state.now ≡ states.NoMemory }
 {
     match state {
         State::Reading(_) => Err(RunError::DeckRefused(n, Code::Truncated)),
-        State::Stopped(_) => Ok(Counts { jobs: 0, commands }),
+        State::Stopped(_) => Ok(counts),
         State::Refused(n, code) => Err(RunError::DeckRefused(*n, *code)),
         State::NoMemory => Err(RunError::Memory),
     }

@@ -32,7 +32,7 @@ impl Slots {
 /// What a run is told beside its deck.
 #[derive(Clone, Copy)]
 pub struct Options {
-    /// How many slots there are. There are no jobs yet, so that it has no effect.
+    /// How many slots there are: so many jobs have turns by turns.
     pub slots: Slots,
     /// Whether the deck is only read, and not run.
     pub check: bool,
@@ -51,7 +51,7 @@ impl Options {
     }
 }
 
-/// How many cards of each kind a deck has.
+/// How many jobs and commands a deck has.
 #[derive(Clone, Copy)]
 pub struct Counts {
     pub jobs: u64,

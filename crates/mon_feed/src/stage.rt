@@ -2,16 +2,20 @@
 ghost use Rattle.std.specs.Prelude.{◌≡◌, ℕ, List, true, false, None, OnOk, IsErrOf, ◌+◌, ◌<◌, ◌≤◌, ◌^◌, ◌∷◌, IfOk, IfErr, OnErr};
 ghost use Rattle.mon_cards.specs.inner.Stops.{IfRefused};
 ghost use Rattle.mon_text.specs.declared.stop.Stop.TheVariants as stops;
+ghost use Rattle.mon_slots.specs.Marks.{Marks};
 ghost use Rattle.mon_feed.specs.declared.stage.State.TheVariants as states;
-ghost use Rattle.mon_feed.specs.Feeds.{deck_from, refused_from, outcome, outcome_of, behind, refused_at, lines_loaded, is_reading, error_at, IsReadBack};
+ghost use Rattle.mon_feed.specs.inner.Lines.{TookLine};
+ghost use Rattle.mon_feed.specs.Feeds.{scene_from, refused_from, outcome, refused_at, lines_loaded, is_reading, error_at, IsReadBack};
 
-use crate::options::Slots;
+use crate::options::{Counts, Options};
 use crate::reading::{after_account, after_catalogue, after_opening};
-use crate::serving::{after_card, after_list_line, take_card, take_list_line};
+use crate::serving::{
+    after_card, after_job_line, after_list_line, take_card, take_job_line, take_list_line,
+};
 use mon_access::Accounts;
-use mon_cards::{Code, OpenList, put_catalogue_line};
+use mon_cards::{Code, OpenJob, OpenList, put_catalogue_line};
 use mon_catalogue::Loading;
-use mon_command::Monitor;
+use mon_monitor::Monitor;
 use mon_text::Stop;
 use std::alloc::Global;
 use std::mem;
@@ -29,6 +33,8 @@ pub enum Stage {
     Stream(Monitor),
     /// A line of a permission list, or `$ENDACL`.
     List(Monitor, OpenList),
+    /// A line of a job, or `$EOJ`.
+    Job(Monitor, OpenJob),
 }
 
 /// Whether a deck is still read.
@@ -61,25 +67,25 @@ impl Stage {
     fn take_in_place(
         &mut self,
         alloc: Global,
-        check: bool,
+        options: Options,
         text: &[u8],
-        commands: &mut u64,
+        counts: &mut Counts,
         out: &mut Vec<u8>,
     ) -> Result<bool, Stop<Code>>
-        requires few { commands.old < 2 ^ 63 }
+        requires few { counts.old.jobs + counts.old.commands < 2 ^ 63 }
         requires within { lines_loaded (states.Reading self.old) < 2 ^ 63 }
-        ensures taken { IfOk result (λ taken. taken ≡ true → (n : ℕ) (ls : List (List ℕ)) → behind out.new.items commands.new (outcome_of check (deck_from self.new (n + 1) ls))
-            ≡ behind out.old.items commands.old (outcome_of check (deck_from self.old n (text.now ∷ ls)))) }
-        ensures left { IfOk result (λ taken. taken ≡ false → (self.new ≡ self.old) × (out.new.items ≡ out.old.items) × (commands.new ≡ commands.old)) }
+        ensures taken { IfOk result (λ taken. taken ≡ true → TookLine options (states.Reading self.old) text.now out.old.items counts.old (states.Reading self.new) out.new.items counts.new) }
+        ensures left { IfOk result (λ taken. taken ≡ false → (self.new ≡ self.old) × (out.new.items ≡ out.old.items) × (counts.new ≡ counts.old)) }
         ensures within { lines_loaded (states.Reading self.new) ≤ lines_loaded (states.Reading self.old) + 1 }
-        ensures counted { commands.new ≤ commands.old + 1 }
-        ensures refused { IfErr result (IfRefused (λ code. (n : ℕ) (ls : List (List ℕ)) → deck_from self.old n (text.now ∷ ls) ≡ refused_from self.old n code)) }
+        ensures counted { counts.new.jobs + counts.new.commands ≤ counts.old.jobs + counts.old.commands + 1 }
+        ensures refused { IfErr result (IfRefused (λ code. (n : ℕ) (ls : List (List ℕ)) → scene_from options.slots.number self.old n (text.now ∷ ls) ≡ refused_from options.slots.number self.old n code)) }
         ensures nothing { OnErr result (out.new.items ≡ out.old.items) }
     {
         match self {
             Stage::Catalogue(_, loading) => Ok(!put_catalogue_line(alloc, loading, text)?),
-            Stage::Stream(monitor) => take_card(alloc, check, monitor, text, commands, out),
+            Stage::Stream(monitor) => take_card(alloc, options, monitor, text, counts, out),
             Stage::List(_, list) => take_list_line(alloc, list, text),
+            Stage::Job(_, job) => take_job_line(alloc, job, text),
             Stage::Opening | Stage::Accounts(_) => Ok(false),
         }
     }
@@ -94,29 +100,27 @@ impl State {
     pub(crate) fn take_line(
         &mut self,
         alloc: Global,
-        check: bool,
-        slots: Slots,
+        options: Options,
         text: &[u8],
-        commands: &mut u64,
+        counts: &mut Counts,
         out: &mut Vec<u8>,
     ) -> Result<(), Stop<Code>>
-        requires few { commands.old < 2 ^ 63 }
+        requires few { counts.old.jobs + counts.old.commands < 2 ^ 63 }
         requires within { lines_loaded self.old < 2 ^ 63 }
-        ensures told { OnOk result ((n : ℕ) (ls : List (List ℕ)) → behind out.new.items commands.new (outcome check self.new (n + 1) ls)
-            ≡ behind out.old.items commands.old (outcome check self.old n (text.now ∷ ls))) }
+        ensures told { OnOk result (TookLine options self.old text.now out.old.items counts.old self.new out.new.items counts.new) }
         ensures within { lines_loaded self.new ≤ lines_loaded self.old + 1 }
-        ensures reads_back { IsReadBack check self.old → OnOk result (IsReadBack check self.new) }
-        ensures counted { commands.new ≤ commands.old + 1 }
-        ensures refused { IfErr result (IfRefused (λ code. (n : ℕ) (ls : List (List ℕ)) → outcome check self.old n (text.now ∷ ls) ≡ refused_at n code)) }
+        ensures reads_back { IsReadBack options.check self.old → OnOk result (IsReadBack options.check self.new) }
+        ensures counted { counts.new.jobs + counts.new.commands ≤ counts.old.jobs + counts.old.commands + 1 }
+        ensures refused { IfErr result (IfRefused (λ code. (jobs : ℕ) (m : Marks) (n : ℕ) (ls : List (List ℕ)) → outcome options jobs m self.old n (text.now ∷ ls) ≡ refused_at n code)) }
         ensures nothing { OnErr result (out.new.items ≡ out.old.items) }
         ensures sound { OnOk result (error_at self.new ≡ error_at self.old) }
     {
         if let State::Reading(stage) = self {
-            if stage.take_in_place(alloc, check, text, commands, out)? {
+            if stage.take_in_place(alloc, options, text, counts, out)? {
                 return Ok(());
             }
         }
-        self.move_on(alloc, check, slots, text, commands, out)
+        self.move_on(alloc, options, text, counts, out)
     }
 
     // Takes a whole line, for what comes of it. It stays a call, since the room for a state is cleared wherever this stands, and
@@ -125,25 +129,23 @@ impl State {
     fn move_on(
         &mut self,
         alloc: Global,
-        check: bool,
-        slots: Slots,
+        options: Options,
         text: &[u8],
-        commands: &mut u64,
+        counts: &mut Counts,
         out: &mut Vec<u8>,
     ) -> Result<(), Stop<Code>>
-        requires few { commands.old < 2 ^ 63 }
+        requires few { counts.old.jobs + counts.old.commands < 2 ^ 63 }
         requires within { lines_loaded self.old < 2 ^ 63 }
-        ensures told { OnOk result ((n : ℕ) (ls : List (List ℕ)) → behind out.new.items commands.new (outcome check self.new (n + 1) ls)
-            ≡ behind out.old.items commands.old (outcome check self.old n (text.now ∷ ls))) }
+        ensures told { OnOk result (TookLine options self.old text.now out.old.items counts.old self.new out.new.items counts.new) }
         ensures within { lines_loaded self.new ≤ lines_loaded self.old + 1 }
-        ensures reads_back { IsReadBack check self.old → OnOk result (IsReadBack check self.new) }
-        ensures counted { commands.new ≤ commands.old + 1 }
-        ensures refused { IfErr result (IfRefused (λ code. (n : ℕ) (ls : List (List ℕ)) → outcome check self.old n (text.now ∷ ls) ≡ refused_at n code)) }
+        ensures reads_back { IsReadBack options.check self.old → OnOk result (IsReadBack options.check self.new) }
+        ensures counted { counts.new.jobs + counts.new.commands ≤ counts.old.jobs + counts.old.commands + 1 }
+        ensures refused { IfErr result (IfRefused (λ code. (jobs : ℕ) (m : Marks) (n : ℕ) (ls : List (List ℕ)) → outcome options jobs m self.old n (text.now ∷ ls) ≡ refused_at n code)) }
         ensures nothing { OnErr result (out.new.items ≡ out.old.items) }
         ensures sound { OnOk result (error_at self.new ≡ error_at self.old) }
     {
         let before = mem::replace(self, State::NoMemory);
-        *self = before.after_line(alloc, check, slots, text, commands, out)?;
+        *self = before.after_line(alloc, options, text, counts, out)?;
         Ok(())
     }
 
@@ -155,26 +157,24 @@ impl State {
     pub(crate) fn after_line(
         self,
         alloc: Global,
-        check: bool,
-        slots: Slots,
+        options: Options,
         text: &[u8],
-        commands: &mut u64,
+        counts: &mut Counts,
         out: &mut Vec<u8>,
     ) -> Result<State, Stop<Code>>
-        requires few { commands.old < 2 ^ 63 }
+        requires few { counts.old.jobs + counts.old.commands < 2 ^ 63 }
         requires within { lines_loaded self < 2 ^ 63 }
-        ensures told { IfOk result (λ after. (n : ℕ) (ls : List (List ℕ)) → behind out.new.items commands.new (outcome check after (n + 1) ls)
-            ≡ behind out.old.items commands.old (outcome check self n (text.now ∷ ls))) }
+        ensures told { IfOk result (λ after. TookLine options self text.now out.old.items counts.old after out.new.items counts.new) }
         ensures within { IfOk result (λ after. lines_loaded after ≤ lines_loaded self + 1) }
         ensures sound { IfOk result (λ after. error_at after ≡ error_at self) }
         ensures memory { IsErrOf result stops.Memory → is_reading self ≡ true }
-        ensures reads_back { IsReadBack check self → IfOk result (IsReadBack check) }
-        ensures counted { commands.new ≤ commands.old + 1 }
-        ensures refused { IfErr result (IfRefused (λ code. (n : ℕ) (ls : List (List ℕ)) → outcome check self n (text.now ∷ ls) ≡ refused_at n code)) }
+        ensures reads_back { IsReadBack options.check self → IfOk result (IsReadBack options.check) }
+        ensures counted { counts.new.jobs + counts.new.commands ≤ counts.old.jobs + counts.old.commands + 1 }
+        ensures refused { IfErr result (IfRefused (λ code. (jobs : ℕ) (m : Marks) (n : ℕ) (ls : List (List ℕ)) → outcome options jobs m self n (text.now ∷ ls) ≡ refused_at n code)) }
         ensures nothing { OnErr result (out.new.items ≡ out.old.items) }
     {
         match self {
-            State::Reading(stage) => after_stage(alloc, check, slots, stage, text, commands, out),
+            State::Reading(stage) => after_stage(alloc, options, stage, text, counts, out),
             State::Stopped(monitor) => Ok(State::Stopped(monitor)),
             State::Refused(n, code) => Ok(State::Refused(n, code)),
             State::NoMemory => Ok(State::NoMemory),
@@ -185,33 +185,34 @@ impl State {
 // After a whole line of a deck that is still read.
 fn after_stage(
     alloc: Global,
-    check: bool,
-    slots: Slots,
+    options: Options,
     stage: Stage,
     text: &[u8],
-    commands: &mut u64,
+    counts: &mut Counts,
     out: &mut Vec<u8>,
 ) -> Result<State, Stop<Code>>
-    requires few { commands.old < 2 ^ 63 }
+    requires few { counts.old.jobs + counts.old.commands < 2 ^ 63 }
     requires within { lines_loaded (states.Reading stage) < 2 ^ 63 }
-    ensures told { IfOk result (λ after. (n : ℕ) (ls : List (List ℕ)) → behind out.new.items commands.new (outcome check after (n + 1) ls)
-        ≡ behind out.old.items commands.old (outcome_of check (deck_from stage n (text.now ∷ ls)))) }
+    ensures told { IfOk result (λ after. TookLine options (states.Reading stage) text.now out.old.items counts.old after out.new.items counts.new) }
     ensures within { IfOk result (λ after. lines_loaded after ≤ lines_loaded (states.Reading stage) + 1) }
     ensures sound { IfOk result (λ after. error_at after ≡ None) }
-    ensures reads_back { IfOk result (IsReadBack check) }
-    ensures counted { commands.new ≤ commands.old + 1 }
-    ensures refused { IfErr result (IfRefused (λ code. (n : ℕ) (ls : List (List ℕ)) → deck_from stage n (text.now ∷ ls) ≡ refused_from stage n code)) }
+    ensures reads_back { IfOk result (IsReadBack options.check) }
+    ensures counted { counts.new.jobs + counts.new.commands ≤ counts.old.jobs + counts.old.commands + 1 }
+    ensures refused { IfErr result (IfRefused (λ code. (n : ℕ) (ls : List (List ℕ)) → scene_from options.slots.number stage n (text.now ∷ ls) ≡ refused_from options.slots.number stage n code)) }
     ensures nothing { OnErr result (out.new.items ≡ out.old.items) }
 {
     match stage {
         Stage::Opening => Ok(State::Reading(after_opening(alloc, text)?)),
         Stage::Accounts(accounts) => { Ok(State::Reading(after_account(alloc, accounts, text)?)) }
         Stage::Catalogue(accounts, loading) => {
-            Ok(State::Reading(after_catalogue(alloc, slots, accounts, loading, text)?))
+            Ok(State::Reading(after_catalogue(alloc, options, accounts, loading, text)?))
         }
-        Stage::Stream(monitor) => after_card(alloc, check, monitor, text, commands, out),
+        Stage::Stream(monitor) => after_card(alloc, options, monitor, text, counts, out),
         Stage::List(monitor, list) => {
-            after_list_line(alloc, check, monitor, list, text, commands, out)
+            after_list_line(alloc, options, monitor, list, text, counts, out)
+        }
+        Stage::Job(monitor, job) => {
+            after_job_line(alloc, options, monitor, job, text, counts, out)
         }
     }
 }
