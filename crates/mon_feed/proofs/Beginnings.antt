@@ -1,6 +1,9 @@
 -- What was appended is a beginning of what is printed.
-use Rattle.std.proofs.Common.{◌≡◌, ℕ, Bool, List, [], ◌++◌, refl, sym, ap, ◌∙◌, append_assoc, append-nil}
+use Rattle.std.proofs.Common.{◌≡◌, ℕ, List, [], ◌++◌, refl, sym, ap, ◌∙◌, append_assoc, append-nil}
+use Rattle.mon_slots.specs.Marks.{Marks}
 use Rattle.mon_cards.specs.declared.code.Code.TheVariants.{Truncated}
+use Rattle.mon_feed.specs.declared.options.Counts.{Counts}
+use Rattle.mon_feed.specs.declared.options.Options.{Options}
 use Rattle.mon_feed.specs.declared.stage.State.{State}
 use Rattle.mon_feed.specs.declared.stage.State.TheVariants as state
 use Rattle.mon_feed.specs.Feeds.{outcome, outcome_of, behind, Outcome, Begins}
@@ -16,13 +19,14 @@ pub begins_further : (a b c : List ℕ) → Begins a b → Begins b c → Begins
 begins_further a b c x y = (x.0 ++ y.0, y.1 ∙ ap (λ v. v ++ y.0) x.1 ∙ append_assoc a x.0 y.0)
 
 -- no line is printed where none is left
-pub nothing_printed : (check : Bool) (s : State) (n : ℕ) → (outcome check s n []).written ≡ []
-nothing_printed check (state.Reading stage) n = ap (λ (o : Outcome). o.written) (ap (outcome_of check) (ends_here stage n) ∙ outcome_refused check stage n Truncated)
-nothing_printed check (state.Stopped w) n = refl
-nothing_printed check (state.Refused m code) n = refl
-nothing_printed check state.NoMemory n = refl
+pub nothing_printed : (options : Options) (jobs : ℕ) (m : Marks) (s : State) (n : ℕ) → (outcome options jobs m s n []).written ≡ []
+nothing_printed options jobs m (state.Reading stage) n =
+    ap (λ (o : Outcome). o.written) (ap (outcome_of options.check jobs m) (ends_here options.slots.number stage n) ∙ outcome_refused options.check options.slots.number jobs m stage n Truncated)
+nothing_printed options jobs m (state.Stopped w) n = refl
+nothing_printed options jobs m (state.Refused k code) n = refl
+nothing_printed options jobs m state.NoMemory n = refl
 
-module _ (out new : List ℕ) (j k : ℕ) (before after : Outcome) (same : behind new k after ≡ behind out j before) where
+module _ (out new : List ℕ) (j k : Counts) (before after : Outcome) (same : behind new k after ≡ behind out j before) where
   -- what stands written begins what will have been written
   pub begins_whole : Begins new (behind out j before).written
   begins_whole = (after.written, sym (ap (λ (o : Outcome). o.written) same))

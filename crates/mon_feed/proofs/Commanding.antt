@@ -1,75 +1,175 @@
--- A command before those that are still to come.
-use Rattle.std.proofs.Common.{◌≡◌, ℕ, ◌+◌, Bool, true, false, List, [], ◌∷◌, ◌++◌, length, refl, sym, ap, ◌∙◌, arith, append_assoc, append-nil}
+-- What a card asks for, before those that are still to come.
+use Rattle.std.proofs.Common.{◌≡◌, ℕ, suc, ◌+◌, Bool, true, false, List, [], ◌∷◌, ◌++◌, refl, sym, ap, ◌∙◌, arith, append_assoc, append-nil}
+use Rattle.std.specs.List.{flat_map}
 use Rattle.mon_catalogue.specs.Sets.{Sets}
-use Rattle.mon_command.specs.Commanded.{commanded}
-use Rattle.mon_command.specs.declared.command.Command.{Command}
-use Rattle.mon_command.specs.Worlds.{World}
-use Rattle.mon_cards.specs.Decks.{Cards, Ending, Stopped, Refused}
-use Rattle.mon_cards.specs.Sections.{and_then}
-use Rattle.mon_feed.specs.Printouts.{all_commanded, closing, verdict}
-use Rattle.mon_feed.specs.Feeds.{over, outcome_of, behind, more, concluded, Conclusion, Good, Bad, Outcome}
+use Rattle.mon_slots.specs.Marks.{Marks}
+use Rattle.mon_monitor.specs.Worlds.{World}
+use Rattle.mon_monitor.specs.Events.{Event, Serve, Load, Give, Drain}
+use Rattle.mon_monitor.specs.Papers.{Paper, paper_text, papers_text}
+use Rattle.mon_monitor.specs.Played.{Played, played, happened, and_played}
+use Rattle.mon_cards.specs.Decks.{Asked, Commands, Enters, Gives, Drains, Cards, Ending, Stopped, Refused}
+use Rattle.mon_cards.specs.Sections.{and_then, stopped}
+use Rattle.mon_cards.specs.Jobs.{job_deck_of}
+use Rattle.mon_feed.specs.declared.options.Counts.{Counts}
+use Rattle.mon_feed.specs.Scenes.{over, events_of, events_in, at_end, nothing_counted, both_counted, one_counted, all_counted}
+use Rattle.mon_feed.specs.Printouts.{closing, verdict, answer_to}
+use Rattle.mon_feed.specs.Feeds.{outcome_of, behind, more, concluded, sets_left, Conclusion, Good, Bad, Outcome}
+use Rattle.mon_feed.specs.inner.Lines.{Served, Stopping}
+
+-- COUNTS
+
+counts_are : (a b c d : ℕ) → a ≡ c → b ≡ d → ◌≡◌ {A = Counts} (record { jobs = a; commands = b }) (record { jobs = c; commands = d })
+counts_are a b c d x y = ap (λ i. record { jobs = i; commands = b }) x ∙ ap (λ j. record { jobs = c; commands = j }) y
+
+pub both_both : (a b c : Counts) → both_counted a (both_counted b c) ≡ both_counted (both_counted a b) c
+both_both a b c = counts_are _ _ _ _ (omega arith) (omega arith)
+
+pub and_nothing : (a : Counts) → both_counted a nothing_counted ≡ a
+and_nothing a = counts_are (a.jobs + 0) (a.commands + 0) a.jobs a.commands (omega arith) (omega arith)
+
+pub nothing_and : (a : Counts) → both_counted nothing_counted a ≡ a
+nothing_and a = counts_are (0 + a.jobs) (0 + a.commands) a.jobs a.commands (omega arith) (omega arith)
 
 -- an outcome behind two texts
-more_more : (j k : ℕ) (c : Conclusion) → more j (more k c) ≡ more (j + k) c
-more_more j k (Good count sets) = let e : j + (k + count) ≡ j + k + count = omega arith in ap (λ i. Good i sets) e
+more_more : (j k : Counts) (c : Conclusion) → more j (more k c) ≡ more (both_counted j k) c
+more_more j k (Good counts sets) = ap (λ (i : Counts). Good i sets) (both_both j k counts)
 more_more j k (Bad n code) = refl
 
-pub behind_behind : (t s : List ℕ) (j k : ℕ) (o : Outcome) → behind t j (behind s k o) ≡ behind (t ++ s) (j + k) o
+pub behind_behind : (t s : List ℕ) (j k : Counts) (o : Outcome) → behind t j (behind s k o) ≡ behind (t ++ s) (both_counted j k) o
 behind_behind t s j k o =
     ap (λ w. record { written = w; conclusion = more j (more k o.conclusion) }) (sym (append_assoc t s o.written))
     ∙ ap (λ (c : Conclusion). record { written = (t ++ s) ++ o.written; conclusion = c }) (more_more j k o.conclusion)
 
-one_more : (ending : Ending) (commands : List Command) (command : Command) (sets : Sets) → concluded (length (command ∷ commands)) sets ending ≡ more 1 (concluded (length commands) sets ending)
-one_more Stopped commands command sets = let e : length (command ∷ commands) ≡ 1 + length commands = omega arith in ap (λ i. Good i sets) e
-one_more (Refused n code) commands command sets = refl
+counted_first : (ending : Ending) (one : Asked) (asked : List Asked) (sets : Sets)
+    → concluded (all_counted (one ∷ asked)) sets ending ≡ more (one_counted one) (concluded (all_counted asked) sets ending)
+counted_first Stopped one asked sets = refl
+counted_first (Refused n code) one asked sets = refl
 
-abbrev pub after_command : World → Command → World
-after_command w command = record w { sets = (commanded w.accounts w.sets command).sets }
+-- EVENTS
 
--- the first command is served, and then the others
-first_served : (w : World) (command : Command) (later : Cards)
-    → outcome_of false (over w (and_then command later)) ≡ behind (commanded w.accounts w.sets command).printout 1 (outcome_of false (over (after_command w command) later))
-first_served w command later =
-    let first = commanded w.accounts w.sets command in
-    let others = all_commanded w.accounts first.sets later.commands in
-    ap (λ t. record { written = t; conclusion = concluded (length (command ∷ later.commands)) others.sets later.ending }) (append_assoc first.printout others.printout (closing others.sets later.ending))
-    ∙ ap (λ (c : Conclusion). record { written = first.printout ++ (others.printout ++ closing others.sets later.ending); conclusion = c }) (one_more later.ending later.commands command others.sets)
+papers_further : (ps qs : List Paper) → papers_text (ps ++ qs) ≡ papers_text ps ++ papers_text qs
+papers_further [] qs = refl
+papers_further (p ∷ ps) qs = ap (λ t. paper_text p ++ t) (papers_further ps qs) ∙ sym (append_assoc (paper_text p) (papers_text ps) (papers_text qs))
 
-first_counted : (w : World) (command : Command) (later : Cards) → outcome_of true (over w (and_then command later)) ≡ behind [] 1 (outcome_of true (over w later))
-first_counted w command later =
-    ap (λ (c : Conclusion). record { written = verdict later.ending; conclusion = c }) (one_more later.ending later.commands command w.sets)
+-- what a card asks for, where the next job has number k
+abbrev pub event_of : ℕ → Asked → Event
+event_of k (Commands command) = Serve command
+event_of k (Enters job) = Load (job_deck_of k job)
+event_of k (Gives turn) = Give turn.slot turn.count
+event_of k Drains = Drain
 
-module _ (later : Cards) where
-  -- one command was served, and its printout was put behind what there was
-  pub one_served : (w after : World) (command : Command) (out new : List ℕ) (count next : ℕ)
-      → after ≡ after_command w command → new ≡ out ++ (commanded w.accounts w.sets command).printout → next ≡ count + 1
-      → behind new next (outcome_of false (over after later)) ≡ behind out count (outcome_of false (over w (and_then command later)))
-  one_served w after command out new count next is put counted =
-      let first = commanded w.accounts w.sets command in
-      let rest = outcome_of false (over (after_command w command) later) in
-      ap (λ (v : World). behind new next (outcome_of false (over v later))) is
-      ∙ ap (λ t. behind t next rest) put
-      ∙ ap (λ k. behind (out ++ first.printout) k rest) counted
-      ∙ sym (behind_behind out first.printout count 1 rest)
-      ∙ ap (behind out count) (sym (first_served w command later))
+events_first : (k : ℕ) (one : Asked) (asked : List Asked) → events_of (suc k) (one ∷ asked) ≡ event_of (suc k) one ∷ events_of (suc (k + (one_counted one).jobs)) asked
+events_first k (Commands command) asked = let e : k ≡ k + 0 = omega arith in ap (λ i. Serve command ∷ events_of (suc i) asked) e
+events_first k (Enters job) asked = let e : suc (suc k) ≡ suc (k + 1) = omega arith in ap (λ i. Load (job_deck_of (suc k) job) ∷ events_of i asked) e
+events_first k (Gives turn) asked = let e : k ≡ k + 0 = omega arith in ap (λ i. Give turn.slot turn.count ∷ events_of (suc i) asked) e
+events_first k Drains asked = let e : k ≡ k + 0 = omega arith in ap (λ i. Drain ∷ events_of (suc i) asked) e
 
-  -- one command was only counted
-  pub one_counted : (w : World) (command : Command) (out : List ℕ) (count next : ℕ) → next ≡ count + 1
-      → behind out next (outcome_of true (over w later)) ≡ behind out count (outcome_of true (over w (and_then command later)))
-  one_counted w command out count next counted =
-      let rest = outcome_of true (over w later) in
-      ap (λ k. behind out k rest) counted
-      ∙ ap (λ t. behind t (count + 1) rest) (sym (append-nil out))
-      ∙ sym (behind_behind out [] count 1 rest)
-      ∙ ap (behind out count) (sym (first_counted w command later))
+played_is : (p : Played) (papers : List Paper) (w : World) (m : Marks) → p.papers ≡ papers → p.after ≡ w → p.marks ≡ m → p ≡ record { papers = papers; after = w; marks = m }
+played_is p papers w m x y z =
+    ap (λ ps. record { papers = ps; after = p.after; marks = p.marks }) x
+    ∙ ap (λ (v : World). record { papers = papers; after = v; marks = p.marks }) y
+    ∙ ap (λ n. record { papers = papers; after = w; marks = n }) z
 
-  pub served_when : (check : Bool) → check ≡ false → (w after : World) (command : Command) (out new : List ℕ) (count next : ℕ)
-      → after ≡ after_command w command → new ≡ out ++ (commanded w.accounts w.sets command).printout → next ≡ count + 1
-      → behind new next (outcome_of check (over after later)) ≡ behind out count (outcome_of check (over w (and_then command later)))
-  served_when false e w after command out new count next is put counted = one_served w after command out new count next is put counted
-  served_when true e w after command out new count next is put counted = cc
+-- what is told of events
+abbrev told_of : Ending → Counts → Played → Outcome
+told_of ending counts p = record { written = papers_text p.papers ++ closing p.after.floor.sets ending; conclusion = concluded counts p.after.floor.sets ending }
 
-  pub counted_when : (check : Bool) → check ≡ true → (w : World) (command : Command) (out : List ℕ) (count next : ℕ) → next ≡ count + 1
-      → behind out next (outcome_of check (over w later)) ≡ behind out count (outcome_of check (over w (and_then command later)))
-  counted_when true e w command out count next counted = one_counted w command out count next counted
-  counted_when false e w command out count next counted = cc
+-- the first event, and then the others
+module _ (jobs : ℕ) (one : Asked) (m rest : Marks) (w w' : World) (text : List ℕ) (others : Cards)
+    (printed : papers_text (happened (event_of (suc jobs) one) m w).papers ≡ text)
+    (left : (happened (event_of (suc jobs) one) m w).after ≡ w')
+    (marks : (happened (event_of (suc jobs) one) m w).marks ≡ rest) where
+  abbrev next : ℕ
+  next = jobs + (one_counted one).jobs
+
+  abbrev then : Played
+  then = played (events_in next (over w' others)) rest w'
+
+  first_played : played (events_in jobs (over w (and_then one others))) m w ≡ and_played (happened (event_of (suc jobs) one) m w).papers then
+  first_played =
+      let all = happened (event_of (suc jobs) one) m w in
+      ap (λ (E : List Event). played (E ++ at_end others.ending) m w) (events_first jobs one others.asked)
+      ∙ ap (λ (v : World). and_played all.papers (played (events_in next (over v others)) all.marks v)) left
+      ∙ ap (λ k. and_played all.papers (played (events_in next (over w' others)) k w')) marks
+
+  pub first_served : outcome_of false jobs m (over w (and_then one others)) ≡ behind text (one_counted one) (outcome_of false next rest (over w' others))
+  first_served =
+      let all = happened (event_of (suc jobs) one) m w in
+      let sets = then.after.floor.sets in
+      ap (told_of others.ending (all_counted (one ∷ others.asked))) first_played
+      ∙ ap (λ t. record { written = t ++ closing sets others.ending; conclusion = concluded (all_counted (one ∷ others.asked)) sets others.ending })
+          (papers_further all.papers then.papers ∙ ap (λ t. t ++ papers_text then.papers) printed)
+      ∙ ap (λ t. record { written = t; conclusion = concluded (all_counted (one ∷ others.asked)) sets others.ending })
+          (append_assoc text (papers_text then.papers) (closing sets others.ending))
+      ∙ ap (λ (c : Conclusion). record { written = text ++ (papers_text then.papers ++ closing sets others.ending); conclusion = c })
+          (counted_first others.ending one others.asked sets)
+
+first_counted : (jobs next : ℕ) (m rest : Marks) (one : Asked) (w : World) (others : Cards)
+    → outcome_of true jobs m (over w (and_then one others)) ≡ behind [] (one_counted one) (outcome_of true next rest (over w others))
+first_counted jobs next m rest one w others =
+    ap (λ (c : Conclusion). record { written = verdict others.ending; conclusion = c }) (counted_first others.ending one others.asked w.floor.sets)
+
+module _ (one : Asked) (w : World) (before : List ℕ) (counts counts' : Counts) (counted : counts' ≡ both_counted counts (one_counted one)) where
+  -- it happened, and what it printed was put behind what there was
+  pub one_served : (w' : World) (text after : List ℕ) (marks : Marks) → after ≡ before ++ text
+      → ((rest : Marks) → papers_text (happened (event_of (suc counts.jobs) one) (marks ++ rest) w).papers ≡ text)
+      → ((rest : Marks) → (happened (event_of (suc counts.jobs) one) (marks ++ rest) w).after ≡ w')
+      → ((rest : Marks) → (happened (event_of (suc counts.jobs) one) (marks ++ rest) w).marks ≡ rest)
+      → Served false one w before counts w' after counts'
+  one_served w' text after marks put printed left kept = record {
+    marks = marks;
+    is = λ rest others.
+        let then = outcome_of false (counts.jobs + (one_counted one).jobs) rest (over w' others) in
+        ap (λ (c : Counts). behind after c (outcome_of false c.jobs rest (over w' others))) counted
+        ∙ ap (λ t. behind t (both_counted counts (one_counted one)) then) put
+        ∙ sym (behind_behind before text counts (one_counted one) then)
+        ∙ ap (behind before counts) (sym (first_served counts.jobs one (marks ++ rest) rest w w' text others (printed rest) (left rest) (kept rest)));
+  }
+
+  -- it was only counted
+  one_counted_only : Served true one w before counts w before counts'
+  one_counted_only = record {
+    marks = [];
+    is = λ rest others.
+        let then = outcome_of true (counts.jobs + (one_counted one).jobs) rest (over w others) in
+        ap (λ (c : Counts). behind before c (outcome_of true c.jobs rest (over w others))) counted
+        ∙ ap (λ t. behind t (both_counted counts (one_counted one)) then) (sym (append-nil before))
+        ∙ sym (behind_behind before [] counts (one_counted one) then)
+        ∙ ap (behind before counts) (sym (first_counted counts.jobs (counts.jobs + (one_counted one).jobs) rest rest one w others));
+  }
+
+  pub counted_when : (check : Bool) → check ≡ true → Served check one w before counts w before counts'
+  counted_when true e = one_counted_only
+  counted_when false e = cc
+
+pub served_when : (check : Bool) → check ≡ false → (one : Asked) (w w' : World) (before after : List ℕ) (counts counts' : Counts)
+    → Served false one w before counts w' after counts' → Served check one w before counts w' after counts'
+served_when false e one w w' before after counts counts' served = served
+served_when true e one w w' before after counts counts' served = cc
+
+-- `$STOP`
+
+pub checked_when : (check : Bool) → check ≡ true → (jobs : ℕ) (w : World) (before after : List ℕ) → after ≡ before ++ verdict Stopped → Stopping check jobs w before w after
+checked_when true e jobs w before after put = record { marks = []; written = λ rest. put; sets = λ rest. refl }
+checked_when false e jobs w before after put = cc
+
+pub stopped_when : (check : Bool) → check ≡ false → (jobs : ℕ) (w w' : World) (before after : List ℕ) → Stopping false jobs w before w' after → Stopping check jobs w before w' after
+stopped_when false e jobs w w' before after stopping = stopping
+stopped_when true e jobs w w' before after stopping = cc
+
+-- the slots were emptied, and then the catalogue was put
+pub drained : (jobs : ℕ) (w w' : World) (text before whole after : List ℕ) (marks : Marks) → whole ≡ before ++ text → after ≡ whole ++ closing w'.floor.sets Stopped
+    → ((rest : Marks) → papers_text (happened Drain (marks ++ rest) w).papers ≡ text)
+    → ((rest : Marks) → (happened Drain (marks ++ rest) w).after ≡ w')
+    → Stopping false jobs w before w' after
+drained jobs w w' text before whole after marks gathered put printed left = record {
+  marks = marks;
+  written = λ rest.
+      let all = happened Drain (marks ++ rest) w in
+      put
+      ∙ ap (λ t. t ++ closing w'.floor.sets Stopped) gathered
+      ∙ append_assoc before text (closing w'.floor.sets Stopped)
+      ∙ ap (λ t. before ++ (t ++ closing w'.floor.sets Stopped)) (sym (printed rest) ∙ ap papers_text (sym (append-nil all.papers)))
+      ∙ ap (λ (v : World). before ++ (papers_text (all.papers ++ []) ++ closing v.floor.sets Stopped)) (sym (left rest));
+  sets = λ rest. ap (λ (v : World). v.floor.sets) (sym (left rest));
+}
