@@ -14,7 +14,7 @@ use Rattle.mon_cards.specs.declared.code.Code.{Code}
 use Rattle.mon_cards.specs.declared.code.Code.TheVariants.{BadCharacter, LineTooLong, UnknownCard, BadCard, OutOfPlace}
 use Rattle.mon_cards.specs.Cards.{card_among, is_same_card, is_card}
 use Rattle.mon_cards.specs.Refusing.{or_else, unless, line_refusal, lone_card_refusal, is_dollar_line}
-use Rattle.mon_cards.specs.Spelling.{IsLineWithin, IsCard}
+use Rattle.mon_cards.specs.CardLines.{IsLineWithin, IsCard}
 
 pub both_hold : (a b : Bool) → a ≡ true → b ≡ true → (a && b) ≡ true
 both_hold a b h k = rw (h, k) refl
@@ -128,6 +128,11 @@ is_accounts (Some card.EndAcl) h = cc
 is_accounts (Some card.ShowAcl) h = cc
 is_accounts (Some card.List) h = cc
 is_accounts (Some card.Catalog) h = cc
+is_accounts (Some card.Job) h = cc
+is_accounts (Some card.Tie) h = cc
+is_accounts (Some card.EndJob) h = cc
+is_accounts (Some card.Turn) h = cc
+is_accounts (Some card.Drain) h = cc
 is_accounts (Some card.Stop) h = cc
 
 pub is_catalogue : (o : Option Card) → is_card card.Catalogue o ≡ true → o ≡ Some card.Catalogue
@@ -143,6 +148,11 @@ is_catalogue (Some card.EndAcl) h = cc
 is_catalogue (Some card.ShowAcl) h = cc
 is_catalogue (Some card.List) h = cc
 is_catalogue (Some card.Catalog) h = cc
+is_catalogue (Some card.Job) h = cc
+is_catalogue (Some card.Tie) h = cc
+is_catalogue (Some card.EndJob) h = cc
+is_catalogue (Some card.Turn) h = cc
+is_catalogue (Some card.Drain) h = cc
 is_catalogue (Some card.Stop) h = cc
 
 pub is_stream : (o : Option Card) → is_card card.Stream o ≡ true → o ≡ Some card.Stream
@@ -158,6 +168,11 @@ is_stream (Some card.EndAcl) h = cc
 is_stream (Some card.ShowAcl) h = cc
 is_stream (Some card.List) h = cc
 is_stream (Some card.Catalog) h = cc
+is_stream (Some card.Job) h = cc
+is_stream (Some card.Tie) h = cc
+is_stream (Some card.EndJob) h = cc
+is_stream (Some card.Turn) h = cc
+is_stream (Some card.Drain) h = cc
 is_stream (Some card.Stop) h = cc
 
 pub is_end : (o : Option Card) → is_card card.EndAcl o ≡ true → o ≡ Some card.EndAcl
@@ -173,4 +188,9 @@ is_end (Some card.EndAcl) h = refl
 is_end (Some card.ShowAcl) h = cc
 is_end (Some card.List) h = cc
 is_end (Some card.Catalog) h = cc
+is_end (Some card.Job) h = cc
+is_end (Some card.Tie) h = cc
+is_end (Some card.EndJob) h = cc
+is_end (Some card.Turn) h = cc
+is_end (Some card.Drain) h = cc
 is_end (Some card.Stop) h = cc

@@ -2,10 +2,20 @@
 use Rattle.std.specs.Prelude.{ℕ, Bool, true, false, List, [], Option, Some, None, nat_eq, codes, if◌then◌else◌, slice_get, unwrap_or}
 use Rattle.std.specs.Cmp.Lexicographic.{pointwise}
 use Rattle.mon_cards.specs.declared.card.Card.{Card}
-use Rattle.mon_cards.specs.declared.card.Card.TheVariants.{Accounts, Catalogue, Set, Stream, Create, Delete, SetAcl, EndAcl, ShowAcl, List as Listing, Catalog, Stop}
+use Rattle.mon_cards.specs.declared.card.Card.TheVariants.{Accounts, Catalogue, Set, Stream, Create, Delete, SetAcl, EndAcl, ShowAcl, List as Listing, Catalog, Job, Tie, EndJob, Turn, Drain, Stop}
 
 abbrev pub is_text : List ℕ → List ℕ → Bool
 is_text text word = pointwise nat_eq word text
+
+-- the card of a job, or one that gives turns
+abbrev pub job_card_of : List ℕ → Option Card
+job_card_of word =
+    if is_text (codes "$JOB") word then Some Job
+    else if is_text (codes "$UNIT") word then Some Tie
+    else if is_text (codes "$EOJ") word then Some EndJob
+    else if is_text (codes "$TURN") word then Some Turn
+    else if is_text (codes "$DRAIN") word then Some Drain
+    else None
 
 -- the card of the stream that a word names
 abbrev pub stream_card_of : List ℕ → Option Card
@@ -18,7 +28,7 @@ stream_card_of word =
     else if is_text (codes "$LIST") word then Some Listing
     else if is_text (codes "$CATALOG") word then Some Catalog
     else if is_text (codes "$STOP") word then Some Stop
-    else None
+    else job_card_of word
 
 -- the card that a word names
 abbrev pub card_of : List ℕ → Option Card
@@ -41,6 +51,11 @@ is_same_card EndAcl EndAcl = true
 is_same_card ShowAcl ShowAcl = true
 is_same_card Listing Listing = true
 is_same_card Catalog Catalog = true
+is_same_card Job Job = true
+is_same_card Tie Tie = true
+is_same_card EndJob EndJob = true
+is_same_card Turn Turn = true
+is_same_card Drain Drain = true
 is_same_card Stop Stop = true
 is_same_card _ _ = false
 

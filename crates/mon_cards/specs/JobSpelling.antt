@@ -1,25 +1,16 @@
 -- Which lines are which job, and which cards give turns (own).
-use Rattle.std.specs.Prelude.{◌≡◌, ◌⊎◌, ℕ, ◌≤◌, List, [], ◌∷◌, ◌++◌, Some, if◌then◌else◌, IsTrue, codes}
+use Rattle.std.specs.Prelude.{◌≡◌, ◌⊎◌, ℕ, ◌≤◌, List, [], ◌∷◌, ◌++◌, if◌then◌else◌, IsTrue, codes}
 use Rattle.mon_text.specs.Names.{is_name}
 use Rattle.mon_text.specs.Counts.{IsCount, value_of}
-use Rattle.mon_text.specs.Lines.{words}
 use Rattle.sno_keeping.specs.declared.limits.Limits.{Limits}
 use Rattle.sno_keeping.specs.Limits.{IsLimit}
 use Rattle.mon_job.specs.declared.deck.UnitCard.{UnitCard}
-use Rattle.mon_cards.specs.declared.job_card.JobCard.{JobCard}
-use Rattle.mon_cards.specs.declared.job_card.JobCard.TheVariants as job_card
+use Rattle.mon_cards.specs.declared.card.Card.TheVariants as card
 use Rattle.mon_cards.specs.declared.job.OpenJob.{OpenJob}
 use Rattle.mon_cards.specs.declared.turn.Turn.{Turn}
 use Rattle.mon_cards.specs.Refusing.{is_dollar_line}
-use Rattle.mon_cards.specs.Spelling.{IsLineWithin}
-use Rattle.mon_cards.specs.Jobs.{job_card_of, usual_limits}
-
--- the line of a card: its first word names the card, and these words follow
-pub record IsJobCard (card : JobCard) (others : List (List ℕ)) (line : List ℕ) : Type 0 where
-  pub word : List ℕ
-  pub line_is : IsLineWithin 200 line
-  pub words_are : words line ≡ word ∷ others
-  pub names_it : job_card_of word ≡ Some card
+use Rattle.mon_cards.specs.CardLines.{IsLineWithin, IsCard}
+use Rattle.mon_cards.specs.Jobs.{usual_limits}
 
 -- an option: this front, and then this limit
 pub record SpellsLimit (front word : List ℕ) (limit : ℕ) : Type 0 where
@@ -39,23 +30,23 @@ SpellsSteps word limits = SpellsLimit (codes "MATCH=") word limits.steps
 abbrev pub SpellsLimits : List (List ℕ) → Limits → Type 0
 SpellsLimits [] limits = limits ≡ usual_limits
 SpellsLimits (word ∷ []) limits =
-    (SpellsStatements word limits × (limits.steps ≡ 1000000)) ⊎ (SpellsSteps word limits × (limits.statements ≡ 50000))
+    (SpellsStatements word limits × (limits.steps ≡ usual_limits.steps)) ⊎ (SpellsSteps word limits × (limits.statements ≡ usual_limits.statements))
 SpellsLimits (word ∷ other ∷ []) limits =
     (SpellsStatements word limits × SpellsSteps other limits) ⊎ (SpellsSteps word limits × SpellsStatements other limits)
 SpellsLimits _ limits = ⊥
 
 -- the line of a unit card, with no blank before it
-pub record SpellsUnit (line : List ℕ) (card : UnitCard) : Type 0 where
+pub record SpellsUnit (line : List ℕ) (tie : UnitCard) : Type 0 where
   pub number : List ℕ
-  pub card_is : IsJobCard job_card.Tie (number ∷ card.set ∷ []) line
+  pub card_is : IsCard 200 card.Tie (number ∷ tie.set ∷ []) line
   pub at_once : IsTrue (is_dollar_line line)
   pub count : IsCount number
-  pub unit_is : card.unit ≡ value_of number
-  pub set_is : IsTrue (is_name card.set)
+  pub unit_is : tie.unit ≡ value_of number
+  pub set_is : IsTrue (is_name tie.set)
 
 abbrev pub SpellsUnits : List (List ℕ) → List UnitCard → Type 0
 SpellsUnits [] [] = Unit {0}
-SpellsUnits (line ∷ lines) (card ∷ cards) = SpellsUnit line card × SpellsUnits lines cards
+SpellsUnits (line ∷ lines) (tie ∷ ties) = SpellsUnit line tie × SpellsUnits lines ties
 SpellsUnits _ _ = ⊥
 
 -- the line of a program or of its data: a text that begins with a dollar sign has one more there
@@ -74,20 +65,20 @@ pub record SpellsJob (line : List ℕ) (more : List (List ℕ)) (job : OpenJob) 
   pub unit_lines : List (List ℕ)
   pub program : List (List ℕ)
   pub end_card : List ℕ
-  pub card_is : IsJobCard job_card.Job (job.account ∷ options) line
+  pub card_is : IsCard 200 card.Job (job.account ∷ options) line
   pub account_is : IsTrue (is_name job.account)
   pub limits_are : SpellsLimits options job.limits
   pub lines_are : more ≡ unit_lines ++ (program ++ end_card ∷ [])
   pub units_are : SpellsUnits unit_lines job.ties
   pub program_is : SpellsTexts program job.lines
-  pub ends : IsJobCard job_card.EndJob [] end_card
+  pub ends : IsCard 200 card.EndJob [] end_card
   pub at_once : IsTrue (is_dollar_line end_card)
 
 -- the line of a card that gives turns
 pub record SpellsTurn (line : List ℕ) (turn : Turn) : Type 0 where
   pub slot : List ℕ
   pub count : List ℕ
-  pub card_is : IsJobCard job_card.Turn (slot ∷ count ∷ []) line
+  pub card_is : IsCard 200 card.Turn (slot ∷ count ∷ []) line
   pub counts : IsCount slot × IsCount count
   pub slot_is : turn.slot ≡ value_of slot
   pub count_is : turn.count ≡ value_of count
@@ -95,4 +86,4 @@ pub record SpellsTurn (line : List ℕ) (turn : Turn) : Type 0 where
   pub count_within : (1 ≤ turn.count) × (turn.count ≤ 1000000)
 
 abbrev pub SpellsDrain : List ℕ → Type 0
-SpellsDrain line = IsJobCard job_card.Drain [] line
+SpellsDrain line = IsCard 200 card.Drain [] line

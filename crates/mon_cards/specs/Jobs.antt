@@ -1,5 +1,5 @@
 -- The cards of jobs and of turns (own): what each asks for, and what a line says where a job is open.
-use Rattle.std.specs.Prelude.{ℕ, ◌+◌, ◌==◌, ◌&&◌, ◌||◌, Bool, true, false, not, nat_lt, nat_le, nat_eq, List, [], ◌∷◌, ◌++◌, length, drop, Option, Some, None, is_some, if◌then◌else◌, codes}
+use Rattle.std.specs.Prelude.{ℕ, ◌+◌, ◌==◌, ◌&&◌, ◌||◌, Bool, true, false, not, nat_lt, nat_le, nat_eq, List, [], ◌∷◌, ◌++◌, length, drop, Option, Some, None, if◌then◌else◌, codes}
 use Rattle.std.specs.List.{starts_with}
 use Rattle.mon_text.specs.Names.{is_name}
 use Rattle.mon_text.specs.Counts.{is_count, value_of}
@@ -9,32 +9,12 @@ use Rattle.mon_job.specs.declared.deck.UnitCard.{UnitCard}
 use Rattle.mon_job.specs.declared.deck.JobDeck.{JobDeck}
 use Rattle.mon_cards.specs.declared.code.Code.{Code}
 use Rattle.mon_cards.specs.declared.code.Code.TheVariants.{BadName, BadNumber, UnknownCard, BadCard, OutOfPlace}
-use Rattle.mon_cards.specs.declared.job_card.JobCard.{JobCard}
-use Rattle.mon_cards.specs.declared.job_card.JobCard.TheVariants as job_card
+use Rattle.mon_cards.specs.declared.card.Card.{Card}
+use Rattle.mon_cards.specs.declared.card.Card.TheVariants.{Tie, EndJob}
 use Rattle.mon_cards.specs.declared.job.OpenJob.{OpenJob}
 use Rattle.mon_cards.specs.declared.turn.Turn.{Turn}
-use Rattle.mon_cards.specs.declared.turn.JobRequest.{JobRequest}
-use Rattle.mon_cards.specs.declared.turn.JobRequest.TheVariants.{Opens, Turns, Drains}
-use Rattle.mon_cards.specs.Cards.{is_text, card_among, word_at}
+use Rattle.mon_cards.specs.Cards.{card_among, is_card, word_at}
 use Rattle.mon_cards.specs.Refusing.{or_else, unless, line_refusal, is_dollar_line}
-
--- ---- the cards, by their first words
-
-abbrev pub job_card_of : List ℕ → Option JobCard
-job_card_of word =
-    if is_text (codes "$JOB") word then Some job_card.Job
-    else if is_text (codes "$UNIT") word then Some job_card.Tie
-    else if is_text (codes "$EOJ") word then Some job_card.EndJob
-    else if is_text (codes "$TURN") word then Some job_card.Turn
-    else if is_text (codes "$DRAIN") word then Some job_card.Drain
-    else None
-
-abbrev pub job_card_among : List (List ℕ) → Option JobCard
-job_card_among ws = job_card_of (word_at 0 ws)
-
-abbrev pub is_end_job : Option JobCard → Bool
-is_end_job (Some job_card.EndJob) = true
-is_end_job _ = false
 
 -- from 1 to so many
 abbrev pub is_within : ℕ → ℕ → Bool
@@ -109,24 +89,10 @@ turn_refusal ws =
 abbrev pub turn_on : List (List ℕ) → Turn
 turn_on ws = record { slot = value_of (word_at 1 ws); count = value_of (word_at 2 ws) }
 
--- ---- in the stream
+-- ---- `$DRAIN`
 
 abbrev pub drain_refusal : List (List ℕ) → Option Code
 drain_refusal ws = unless (length ws == 1) BadCard
-
--- the words of a line that is no command
-abbrev pub job_request_refusal : Option JobCard → List (List ℕ) → Option Code
-job_request_refusal None ws = Some UnknownCard
-job_request_refusal (Some job_card.Job) ws = job_refusal ws
-job_request_refusal (Some job_card.Turn) ws = turn_refusal ws
-job_request_refusal (Some job_card.Drain) ws = drain_refusal ws
-job_request_refusal (Some _) ws = Some OutOfPlace
-
--- what a good one asks for
-abbrev pub job_request : Option JobCard → List (List ℕ) → JobRequest
-job_request (Some job_card.Job) ws = Opens (job_on ws)
-job_request (Some job_card.Turn) ws = Turns (turn_on ws)
-job_request _ ws = Drains
 
 -- ---- where a job is open
 
@@ -151,20 +117,20 @@ abbrev pub unit_on : List (List ℕ) → UnitCard
 unit_on ws = record { unit = value_of (word_at 1 ws); set = word_at 2 ws }
 
 -- a unit card stands before the program; behind its first line all but `$EOJ` are out of place, cards or not
-abbrev pub job_card_refusal : Option JobCard → Bool → List (List ℕ) → Option Code
-job_card_refusal (Some job_card.EndJob) begun ws = unless (length ws == 1) BadCard
-job_card_refusal (Some job_card.Tie) begun ws = or_else (unless (not begun) OutOfPlace) (unit_refusal ws)
+abbrev pub job_card_refusal : Option Card → Bool → List (List ℕ) → Option Code
+job_card_refusal (Some EndJob) begun ws = unless (length ws == 1) BadCard
+job_card_refusal (Some Tie) begun ws = or_else (unless (not begun) OutOfPlace) (unit_refusal ws)
 job_card_refusal (Some _) begun ws = Some OutOfPlace
-job_card_refusal None begun ws = Some (if begun || is_some (card_among ws) then OutOfPlace else UnknownCard)
+job_card_refusal None begun ws = Some (if begun then OutOfPlace else UnknownCard)
 
 abbrev pub job_line_refusal : OpenJob → List ℕ → Option Code
 job_line_refusal job line =
     or_else (line_refusal 200 line)
-    (if is_job_card_line line then job_card_refusal (job_card_among (words line)) (has_begun job) (words line) else None)
+    (if is_job_card_line line then job_card_refusal (card_among (words line)) (has_begun job) (words line) else None)
 
 -- whether a good line ends the job
 abbrev pub ends_job : List ℕ → Bool
-ends_job line = is_job_card_line line && is_end_job (job_card_among (words line))
+ends_job line = is_job_card_line line && is_card EndJob (card_among (words line))
 
 abbrev pub with_unit : OpenJob → UnitCard → OpenJob
 with_unit job card = record job { ties = job.ties ++ card ∷ [] }
@@ -181,25 +147,3 @@ after_job_line job line =
 abbrev pub job_deck_of : ℕ → OpenJob → JobDeck
 job_deck_of number job =
     record { number = number; account = job.account; limits = job.limits; ties = job.ties; lines = job.lines }
-
--- ---- the lines behind a job's card
-
--- what they come to
-pub data Behind : Type 0 where
-  -- the job is whole, and these lines follow
-  Whole : OpenJob → List (List ℕ) → Behind
-  -- line n is refused
-  Refused : ℕ → Code → Behind
-  -- they end before the job does
-  LeftOpen : Behind
-
-abbrev pub or_refused : Option Code → ℕ → Behind → Behind
-or_refused None n rest = rest
-or_refused (Some code) n rest = Refused n code
-
--- the first of these lines has number n
-abbrev pub job_behind : ℕ → OpenJob → List (List ℕ) → Behind
-job_behind n job [] = LeftOpen
-job_behind n job (line ∷ lines) =
-    or_refused (job_line_refusal job line) n
-    (if ends_job line then Whole job lines else job_behind (n + 1) (after_job_line job line) lines)

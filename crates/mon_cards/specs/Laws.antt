@@ -7,11 +7,11 @@ use Rattle.mon_catalogue.specs.Sets.{Sets}
 use Rattle.mon_catalogue.specs.Stored.{IsStored, ArePrintable}
 use Rattle.mon_catalogue.specs.Text.{catalogue_lines, text_of}
 use Rattle.mon_acl.specs.declared.text.AclText.TheVariants.{Long}
-use Rattle.mon_command.specs.declared.command.Command.{Command}
 use Rattle.mon_command.specs.declared.command.Command.TheVariants as command
 use Rattle.mon_cards.specs.declared.code.Code.{Code}
 use Rattle.mon_cards.specs.declared.code.Code.TheVariants.{Truncated}
-use Rattle.mon_cards.specs.Decks.{Deck, Ending, Stopped, Refused}
+use Rattle.mon_cards.specs.declared.job.OpenJob.{OpenJob}
+use Rattle.mon_cards.specs.Decks.{Deck, Asked, Commands, Enters, Ending, Stopped, Refused}
 use Rattle.mon_cards.specs.Sections.{stopped, deck_of}
 use Rattle.mon_cards.specs.Spelling.{SpellsAccounts, IsDeck}
 
@@ -37,28 +37,32 @@ abbrev pub RefusalsStand : Type 0
 RefusalsStand = (ls : List (List ℕ)) (n : ℕ) (code : Code) → ending_of (deck_of ls) ≡ Refused n code
     → Decides n ls ⊎ ((n ≡ length ls + 1) × (code ≡ Truncated))
 
--- no command, or that of a permission list whose lines come on cards of their own
-abbrev pub IsOfOpenList : List Command → Type 0
-IsOfOpenList commands = (commands ≡ []) ⊎ ((account name text : List ℕ) × (commands ≡ command.SetAcl account name (Long text) ∷ []))
+-- nothing, or what stood open: a permission list whose lines come on cards of their own, or a job
+abbrev pub IsLeftOpen : List Asked → Type 0
+IsLeftOpen asked =
+    (asked ≡ [])
+    ⊎ ((account name text : List ℕ) × (asked ≡ Commands (command.SetAcl account name (Long text)) ∷ []))
+    ⊎ ((job : OpenJob) × (asked ≡ Enters job ∷ []))
 
 -- All lines before number n, and some behind them, are this good deck. It has the accounts of the deck that is refused at
--- line n, and its commands, over the same data sets; and then that of the permission list that stood open there, if one did.
-pub record BeginsGood (n : ℕ) (ls : List (List ℕ)) (deck : Deck) (last : List Command) : Type 0 where
+-- line n, and asks for what that one does, over the same data sets; and then for the permission list or the job that stood open
+-- there, if one did.
+pub record BeginsGood (n : ℕ) (ls : List (List ℕ)) (deck : Deck) (last : List Asked) : Type 0 where
   pub counted : 1 ≤ n
   pub rest : List (List ℕ)
   pub good : IsDeck (take (n - 1) ls ++ rest) deck
   pub accounts : deck.accounts ≡ (deck_of ls).accounts
-  pub commands : deck.cards.commands ≡ (deck_of ls).cards.commands ++ last
-  pub over : ((deck_of ls).cards.commands ≡ []) ⊎ (deck.catalogue ≡ (deck_of ls).catalogue)
-  pub left_open : IsOfOpenList last
+  pub asked : deck.cards.asked ≡ (deck_of ls).cards.asked ++ last
+  pub over : ((deck_of ls).cards.asked ≡ []) ⊎ (deck.catalogue ≡ (deck_of ls).catalogue)
+  pub left_open : IsLeftOpen last
 
 -- the line at which a deck is refused is the first that is wrong: the lines before it begin a good deck, which says what the
 -- refused one said up to there
 abbrev pub GoodBeginnings : Type 0
 GoodBeginnings = (ls : List (List ℕ)) (n : ℕ) (code : Code) → ending_of (deck_of ls) ≡ Refused n code
-    → (deck : Deck) × (last : List Command) × BeginsGood n ls deck last
+    → (deck : Deck) × (last : List Asked) × BeginsGood n ls deck last
 
--- an account table, a catalogue as it is written, and no command
+-- an account table, a catalogue as it is written, and an empty stream
 abbrev pub deck_lines : List (List ℕ) → Sets → List (List ℕ)
 deck_lines table sets =
     codes "$ACCOUNTS" ∷ table ++ (codes "$CATALOGUE" ∷ catalogue_lines sets ++ codes "$STREAM" ∷ codes "$STOP" ∷ [])

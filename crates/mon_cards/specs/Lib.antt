@@ -4,9 +4,9 @@ pub mod Decks
 pub mod Refusing
 pub mod Requests
 pub mod Sections
+pub mod Jobs
+pub mod CardLines
+pub mod JobSpelling
 pub mod Spelling
 pub mod Laws
-pub mod Jobs
-pub mod JobSpelling
-pub mod JobLaws
 pub mod inner

@@ -1,4 +1,5 @@
--- What a line of the stream asks for (own): a command, the lines of a permission list, the deck's end, or nothing.
+-- What a line of the stream asks for (own): a command, the lines of a permission list or of a job, turns, the deck's end, or
+-- nothing.
 use Rattle.std.specs.Prelude.{ℕ, ◌==◌, ◌&&◌, ◌||◌, Bool, nat_lt, List, [], ◌∷◌, ◌++◌, length, Option, Some, None, if◌then◌else◌, codes}
 use Rattle.std.specs.List.{list_all}
 use Rattle.mon_text.specs.Names.{is_name}
@@ -8,14 +9,15 @@ use Rattle.mon_acl.specs.declared.text.AclText.TheVariants.{Short, Long}
 use Rattle.mon_command.specs.declared.command.Command.{Command}
 use Rattle.mon_command.specs.declared.command.Command.TheVariants as command
 use Rattle.mon_cards.specs.declared.card.Card.{Card}
-use Rattle.mon_cards.specs.declared.card.Card.TheVariants.{Create, Delete, SetAcl, EndAcl, ShowAcl, List as Listing, Catalog, Stop}
+use Rattle.mon_cards.specs.declared.card.Card.TheVariants.{Create, Delete, SetAcl, EndAcl, ShowAcl, List as Listing, Catalog, Job, Turn, Drain, Stop}
 use Rattle.mon_cards.specs.declared.code.Code.{Code}
 use Rattle.mon_cards.specs.declared.code.Code.TheVariants.{BadName, BadCharacter, LineTooLong, UnknownCard, BadCard, OutOfPlace}
 use Rattle.mon_cards.specs.declared.list.OpenList.{OpenList}
 use Rattle.mon_cards.specs.declared.request.Request.{Request}
-use Rattle.mon_cards.specs.declared.request.Request.TheVariants.{Nothing, Asks, Opens, Stops}
+use Rattle.mon_cards.specs.declared.request.Request.TheVariants.{Nothing, Asks, OpensList, OpensJob, Turns, Drains, Stops}
 use Rattle.mon_cards.specs.Cards.{card_among, is_card, word_at}
 use Rattle.mon_cards.specs.Refusing.{or_else, unless, line_refusal, is_dollar_line}
+use Rattle.mon_cards.specs.Jobs.{job_refusal, job_on, turn_refusal, turn_on, drain_refusal}
 
 -- a card that names an account and a data set
 abbrev pub names_refusal : List (List ℕ) → Option Code
@@ -45,6 +47,9 @@ card_refusal (Some SetAcl) ws = set_acl_refusal ws
 card_refusal (Some ShowAcl) ws = two_names_refusal ws
 card_refusal (Some Listing) ws = two_names_refusal ws
 card_refusal (Some Catalog) ws = catalog_refusal ws
+card_refusal (Some Job) ws = job_refusal ws
+card_refusal (Some Turn) ws = turn_refusal ws
+card_refusal (Some Drain) ws = drain_refusal ws
 card_refusal (Some Stop) ws = stop_refusal ws
 card_refusal (Some _) ws = Some OutOfPlace
 
@@ -72,7 +77,7 @@ acl_on line = behind_word (behind_word (behind_word line))
 -- without a text the lines of a list follow
 abbrev pub set_acl_on : List ℕ → List (List ℕ) → Request
 set_acl_on line ws =
-    if length ws == 3 then Opens (word_at 1 ws) (word_at 2 ws)
+    if length ws == 3 then OpensList (word_at 1 ws) (word_at 2 ws)
     else Asks (command.SetAcl (word_at 1 ws) (word_at 2 ws) (Short (acl_on line)))
 
 -- what a good card asks for
@@ -83,6 +88,9 @@ card_request (Some SetAcl) line ws = set_acl_on line ws
 card_request (Some ShowAcl) line ws = Asks (command.ShowAcl (word_at 1 ws) (word_at 2 ws))
 card_request (Some Listing) line ws = Asks (command.List (word_at 1 ws) (word_at 2 ws))
 card_request (Some Catalog) line ws = Asks (command.Catalog (word_at 1 ws))
+card_request (Some Job) line ws = OpensJob (job_on ws)
+card_request (Some Turn) line ws = Turns (turn_on ws)
+card_request (Some Drain) line ws = Drains
 card_request _ line ws = Stops
 
 -- what a good line of the stream asks for

@@ -13,12 +13,13 @@ use Rattle.mon_catalogue.specs.Progress.{Progress, step, is_due}
 use Rattle.mon_cards.specs.declared.card.Card.TheVariants as card
 use Rattle.mon_cards.specs.declared.code.Code.{Code}
 use Rattle.mon_cards.specs.declared.code.Code.TheVariants.{BadName, AccountTwice, TooManyGroups, NameTaken, SetFull, CatalogueFull, BadText, BadCard, Truncated}
-use Rattle.mon_cards.specs.Decks.{Deck, Cards, Stopped, Refused}
+use Rattle.mon_cards.specs.Decks.{Deck, Cards, Asked, Commands, Enters, Gives, Drains, Stopped, Refused}
 use Rattle.mon_cards.specs.declared.list.OpenList.{OpenList}
 use Rattle.mon_cards.specs.declared.request.Request.{Request}
-use Rattle.mon_cards.specs.declared.request.Request.TheVariants.{Nothing, Asks, Opens, Stops}
-use Rattle.mon_command.specs.declared.command.Command.{Command}
+use Rattle.mon_cards.specs.declared.request.Request.TheVariants as request
+use Rattle.mon_cards.specs.declared.job.OpenJob.{OpenJob}
 use Rattle.mon_cards.specs.Refusing.{or_else, unless, line_refusal, lone_card_refusal, is_dollar_line}
+use Rattle.mon_cards.specs.Jobs.{job_line_refusal, ends_job, after_job_line}
 use Rattle.mon_cards.specs.Requests.{opened, with_line, set_acl_of, stream_refusal, request_on, list_line_refusal}
 use Rattle.mon_cards.specs.Cards.{card_among, is_card, word_at}
 
@@ -76,37 +77,49 @@ catalogue_refusal p line = if ends_catalogue p line then lone_card_refusal card.
 
 -- nothing more is asked: the deck is refused at line n, or has come to its `$STOP`
 abbrev pub refused : ℕ → Code → Cards
-refused n code = record { commands = []; ending = Refused n code }
+refused n code = record { asked = []; ending = Refused n code }
 
 abbrev pub stopped : Cards
-stopped = record { commands = []; ending = Stopped }
+stopped = record { asked = []; ending = Stopped }
 
--- a command, and what is asked after it
-abbrev pub and_then : Command → Cards → Cards
-and_then command later = record { commands = command ∷ later.commands; ending = later.ending }
+-- what a card asks for, and what is asked after it
+abbrev pub and_then : Asked → Cards → Cards
+and_then one later = record { asked = one ∷ later.asked; ending = later.ending }
 
 -- the cards go on, unless line n is refused
 abbrev pub goes_on : Option Code → ℕ → Cards → Cards
 goes_on None n rest = rest
 goes_on (Some code) n rest = refused n code
 
--- what a line of the stream asks for, and what the lines behind it do
-abbrev pub requested : Request → (Option OpenList → Cards) → Cards
-requested Nothing rest = rest None
-requested (Asks command) rest = and_then command (rest None)
-requested (Opens account name) rest = rest (Some (opened account name))
-requested Stops rest = stopped
+-- what is open in a stream: nothing, a permission list, or a job
+pub data Open : Type 0 where
+  Closed : Open
+  InList : OpenList → Open
+  InJob : OpenJob → Open
 
--- in the stream a permission list may be open
-abbrev pub stream_section : ℕ → Option OpenList → List (List ℕ) → Cards
+-- what a line of the stream asks for, and what the lines behind it do
+abbrev pub requested : Request → (Open → Cards) → Cards
+requested request.Nothing rest = rest Closed
+requested (request.Asks command) rest = and_then (Commands command) (rest Closed)
+requested (request.OpensList account name) rest = rest (InList (opened account name))
+requested (request.OpensJob job) rest = rest (InJob job)
+requested (request.Turns turn) rest = and_then (Gives turn) (rest Closed)
+requested request.Drains rest = and_then Drains (rest Closed)
+requested request.Stops rest = stopped
+
+abbrev pub stream_section : ℕ → Open → List (List ℕ) → Cards
 stream_section n pending [] = refused n Truncated
-stream_section n None (line ∷ lines) =
+stream_section n Closed (line ∷ lines) =
     goes_on (or_else (line_refusal 200 line) (stream_refusal line)) n
     (requested (request_on line) (λ pending. stream_section (n + 1) pending lines))
-stream_section n (Some list) (line ∷ lines) =
+stream_section n (InList list) (line ∷ lines) =
     goes_on (list_line_refusal line) n
-    (if is_dollar_line line then and_then (set_acl_of list) (stream_section (n + 1) None lines)
-    else stream_section (n + 1) (Some (with_line list line)) lines)
+    (if is_dollar_line line then and_then (Commands (set_acl_of list)) (stream_section (n + 1) Closed lines)
+    else stream_section (n + 1) (InList (with_line list line)) lines)
+stream_section n (InJob job) (line ∷ lines) =
+    goes_on (job_line_refusal job line) n
+    (if ends_job line then and_then (Enters job) (stream_section (n + 1) Closed lines)
+    else stream_section (n + 1) (InJob (after_job_line job line)) lines)
 
 -- a deck that is refused before its stream
 abbrev pub refused_early : ℕ → Code → List Account → Deck
@@ -121,7 +134,7 @@ abbrev pub catalogue_section : ℕ → List Account → Progress → List (List 
 catalogue_section n accounts p [] = refused_early n Truncated accounts
 catalogue_section n accounts p (line ∷ lines) =
     deck_goes_on (or_else (line_refusal 5000 line) (catalogue_refusal p line)) n accounts
-    (if ends_catalogue p line then record { accounts = accounts; catalogue = sets_of p; cards = stream_section (n + 1) None lines }
+    (if ends_catalogue p line then record { accounts = accounts; catalogue = sets_of p; cards = stream_section (n + 1) Closed lines }
     else catalogue_section (n + 1) accounts (step p line) lines)
 
 -- the account table after a line of it

@@ -1,9 +1,9 @@
 -- Which lines are which deck (own): four sections, each begun by its card, up to a `$STOP`. What stands behind that is not
 -- read.
-use Rattle.std.specs.Prelude.{◌≡◌, ℕ, ◌≤◌, ◌&&◌, false, List, [], ◌∷◌, ◌++◌, length, Some, IsTrue}
+use Rattle.std.specs.Prelude.{◌≡◌, ℕ, ◌≤◌, ◌&&◌, false, List, [], ◌∷◌, ◌++◌, length, IsTrue}
 use Rattle.std.specs.List.{list_all, AllByRecursion}
 use Rattle.mon_text.specs.Names.{is_name}
-use Rattle.mon_text.specs.Lines.{IsLine, is_blank_line, words}
+use Rattle.mon_text.specs.Lines.{is_blank_line, words}
 use Rattle.mon_acl.specs.declared.text.AclText.TheVariants.{Short, Long}
 use Rattle.mon_access.specs.declared.account.Account.{Account}
 use Rattle.mon_access.specs.Accounts.{HaveDifferentNames}
@@ -13,25 +13,15 @@ use Rattle.mon_command.specs.declared.command.Command.{Command}
 use Rattle.mon_command.specs.declared.command.Command.TheVariants as command
 use Rattle.mon_cards.specs.declared.card.Card.{Card}
 use Rattle.mon_cards.specs.declared.card.Card.TheVariants as card
-use Rattle.mon_cards.specs.Cards.{card_of}
-use Rattle.mon_cards.specs.Decks.{Deck, Stopped}
+use Rattle.mon_cards.specs.CardLines.{IsLineWithin, IsCard}
+use Rattle.mon_cards.specs.Decks.{Deck, Asked, Commands, Enters, Gives, Drains, Stopped}
+use Rattle.mon_cards.specs.JobSpelling.{SpellsJob, SpellsTurn, SpellsDrain}
 use Rattle.mon_cards.specs.Refusing.{is_dollar_line}
 use Rattle.mon_cards.specs.Requests.{acl_on, is_list_character}
-
--- a line of at most so many characters
-abbrev pub IsLineWithin : ℕ → List ℕ → Type 0
-IsLineWithin limit line = (length line ≤ limit) × IsLine line
 
 -- blank lines of at most 200 characters
 abbrev pub AreBlank : List (List ℕ) → Type 0
 AreBlank lines = AllByRecursion (λ line. (length line ≤ 200) × IsTrue (is_blank_line line)) lines
-
--- the line of a card: its first word names the card, and these words follow
-pub record IsCard (limit : ℕ) (card : Card) (others : List (List ℕ)) (line : List ℕ) : Type 0 where
-  pub word : List ℕ
-  pub line_is : IsLineWithin limit line
-  pub words_are : words line ≡ word ∷ others
-  pub names_it : card_of word ≡ Some card
 
 -- the line of an account: its name, its primary group, and at most 16 further groups
 pub record SpellsAccount (line : List ℕ) (account : Account) : Type 0 where
@@ -83,12 +73,19 @@ SpellsCommand line more (command.Catalog account) = NamesOn card.Catalog (accoun
 SpellsCommand line more (command.SetAcl account name (Short text)) = SpellsShort account name text line × (more ≡ [])
 SpellsCommand line more (command.SetAcl account name (Long text)) = NamesOn card.SetAcl (account ∷ name ∷ []) line × SpellsLong more text
 
--- the lines of these commands, with blank lines before, between and after them
-abbrev pub SpellsCommands : List (List ℕ) → List Command → Type 0
-SpellsCommands lines [] = AreBlank lines
-SpellsCommands lines (command ∷ commands) =
+-- the lines of what a card asks for: the card, and those behind it that are its own
+abbrev pub SpellsAsked : List ℕ → List (List ℕ) → Asked → Type 0
+SpellsAsked line more (Commands command) = SpellsCommand line more command
+SpellsAsked line more (Enters job) = SpellsJob line more job
+SpellsAsked line more (Gives turn) = SpellsTurn line turn × (more ≡ [])
+SpellsAsked line more Drains = SpellsDrain line × (more ≡ [])
+
+-- the lines of all that is asked, with blank lines before, between and after them
+abbrev pub SpellsStream : List (List ℕ) → List Asked → Type 0
+SpellsStream lines [] = AreBlank lines
+SpellsStream lines (one ∷ others) =
     (blanks : List (List ℕ)) × (line : List ℕ) × (more : List (List ℕ)) × (rest : List (List ℕ)) × (lines ≡ blanks ++ (line ∷ more ++ rest))
-    × AreBlank blanks × SpellsCommand line more command × SpellsCommands rest commands
+    × AreBlank blanks × SpellsAsked line more one × SpellsStream rest others
 
 -- the lines are a good deck, and it is this one
 pub record IsDeck (lines : List (List ℕ)) (deck : Deck) : Type 0 where
@@ -111,6 +108,6 @@ pub record IsDeck (lines : List (List ℕ)) (deck : Deck) : Type 0 where
   pub text_is : IsCatalogueText text deck.catalogue
   pub text_fits : AllByRecursion (IsLineWithin 5000) text
   pub stream_begins : IsCard 5000 card.Stream [] stream_card
-  pub stream_is : SpellsCommands stream deck.cards.commands
+  pub stream_is : SpellsStream stream deck.cards.asked
   pub stops : IsCard 200 card.Stop [] stop_card
   pub ends : deck.cards.ending ≡ Stopped

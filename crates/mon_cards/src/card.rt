@@ -1,6 +1,6 @@
 //! The cards of a deck, by their first words.
 ghost use Rattle.std.specs.Prelude.{◌≡◌};
-ghost use Rattle.mon_cards.specs.Cards.{card_of, stream_card_of};
+ghost use Rattle.mon_cards.specs.Cards.{card_of, stream_card_of, job_card_of};
 
 /// A card that is known.
 #[derive(Clone, Copy, Debug, PartialEq, Eq)]
@@ -11,7 +11,7 @@ pub enum Card {
     Catalogue,
     /// `$SET` begins a data set.
     Set,
-    /// `$STREAM` begins the commands.
+    /// `$STREAM` begins the commands, jobs and turns.
     Stream,
     /// `$CREATE` makes a data set.
     Create,
@@ -27,6 +27,16 @@ pub enum Card {
     List,
     /// `$CATALOG` names the data sets.
     Catalog,
+    /// `$JOB` opens a job.
+    Job,
+    /// `$UNIT` ties a unit of the job to a data set.
+    Tie,
+    /// `$EOJ` ends the job's lines.
+    EndJob,
+    /// `$TURN` gives turns to a slot.
+    Turn,
+    /// `$DRAIN` gives turns until all slots are empty.
+    Drain,
     /// `$STOP` ends the deck.
     Stop,
 }
@@ -68,6 +78,25 @@ fn stream_card(word: &[u8]) -> Option<Card>
         Some(Card::Catalog)
     } else if word == b"$STOP".as_slice() {
         Some(Card::Stop)
+    } else {
+        job_card(word)
+    }
+}
+
+// The cards of jobs and of turns.
+fn job_card(word: &[u8]) -> Option<Card>
+    ensures { result ≡ job_card_of word.now }
+{
+    if word == b"$JOB".as_slice() {
+        Some(Card::Job)
+    } else if word == b"$UNIT".as_slice() {
+        Some(Card::Tie)
+    } else if word == b"$EOJ".as_slice() {
+        Some(Card::EndJob)
+    } else if word == b"$TURN".as_slice() {
+        Some(Card::Turn)
+    } else if word == b"$DRAIN".as_slice() {
+        Some(Card::Drain)
     } else {
         None
     }

@@ -3,15 +3,16 @@ ghost use Rattle.std.specs.Prelude.{◌≡◌, ◌<◌, ◌&&◌, ◌||◌, not,
 ghost use Rattle.mon_text.specs.Counts.{value_of};
 ghost use Rattle.mon_text.specs.Lines.{words};
 ghost use Rattle.mon_cards.specs.declared.code.Code.TheVariants.{BadNumber, BadCard, OutOfPlace};
+ghost use Rattle.mon_cards.specs.declared.card.Card.TheVariants as card;
+ghost use Rattle.mon_cards.specs.Cards.{card_among, is_card};
 ghost use Rattle.mon_cards.specs.Refusing.{or_else, unless, line_refusal};
-ghost use Rattle.mon_cards.specs.Jobs.{job_card_among, is_end_job, sets_statements, sets_steps, are_options, option_text, has_number, is_limit, with_option, limits_refusal, usual_limits, with_options, job_refusal, opened_job, job_on, is_job_card_line, program_text, has_begun, unit_refusal, unit_on, job_card_refusal, job_line_refusal, ends_job, with_unit, with_program_line, after_job_line, job_deck_of};
+ghost use Rattle.mon_cards.specs.Jobs.{sets_statements, sets_steps, are_options, option_text, has_number, is_limit, with_option, limits_refusal, usual_limits, with_options, job_refusal, opened_job, job_on, is_job_card_line, program_text, has_begun, unit_refusal, unit_on, job_card_refusal, job_line_refusal, ends_job, with_unit, with_program_line, after_job_line, job_deck_of};
 ghost use Rattle.mon_cards.specs.inner.Stops.{Answers};
 
+use crate::card::Card;
 use crate::code::Code;
-use crate::job_card::{JobCard, job_card_among};
-use crate::option::{number_of, option_number, sets_statements, sets_steps, with_option};
-use crate::request::{MOST_LINE_CHARACTERS, begins_with_dollar, line_of, name_of};
-use crate::words::Words;
+use crate::option::{option_number, sets_statements, sets_steps, with_option};
+use crate::words::{MOST_LINE_CHARACTERS, Words, begins_with_dollar, line_of, name_of, number_of};
 use mon_job::{JobDeck, JobLimits, UnitCard, UnitCards};
 use mon_text::{Line, Name, Stop};
 use mon_unit::Lines;
@@ -207,8 +208,8 @@ impl OpenJob {
 
     // A line that is a card: whether it ends the job.
     fn take_card(&mut self, alloc: Global, text: &[u8]) -> Result<bool, Stop<Code>>
-        ensures answers { Answers (or_else (line_refusal 200 text.now) (job_card_refusal (job_card_among (words text.now)) (has_begun self.old) (words text.now))) result }
-        ensures ends { IfOk result (λ ends. ends ≡ is_end_job (job_card_among (words text.now))) }
+        ensures answers { Answers (or_else (line_refusal 200 text.now) (job_card_refusal (card_among (words text.now)) (has_begun self.old) (words text.now))) result }
+        ensures ends { IfOk result (λ ends. ends ≡ is_card card.EndJob (card_among (words text.now))) }
         ensures taken { IfOk result (λ ends. self.new ≡ (if ends then self.old else with_unit self.old (unit_on (words text.now)))) }
         ensures unchanged { OnErr result (self.new ≡ self.old) }
         ensures memory { IsErrOf result Stop.Memory → line_refusal 200 text.now ≡ None }
@@ -220,25 +221,20 @@ impl OpenJob {
 
     // The words of a card: whether it ends the job.
     fn take_words(&mut self, words: &Words<'_>) -> Result<bool, Stop<Code>>
-        ensures answers { Answers (job_card_refusal (job_card_among words.now) (has_begun self.old) words.now) result }
-        ensures ends { IfOk result (λ ends. ends ≡ is_end_job (job_card_among words.now)) }
+        ensures answers { Answers (job_card_refusal (card_among words.now) (has_begun self.old) words.now) result }
+        ensures ends { IfOk result (λ ends. ends ≡ is_card card.EndJob (card_among words.now)) }
         ensures taken { IfOk result (λ ends. self.new ≡ (if ends then self.old else with_unit self.old (unit_on words.now))) }
         ensures unchanged { OnErr result (self.new ≡ self.old) }
     {
-        match job_card_among(words) {
-            Some(JobCard::EndJob) if words.len() == 1 => Ok(true),
-            Some(JobCard::EndJob) => Err(Stop::Refused(Code::BadCard)),
-            Some(JobCard::Tie) => {
+        match words.card() {
+            Some(Card::EndJob) if words.len() == 1 => Ok(true),
+            Some(Card::EndJob) => Err(Stop::Refused(Code::BadCard)),
+            Some(Card::Tie) => {
                 self.take_unit(words)?;
                 Ok(false)
             }
-            Some(JobCard::Job | JobCard::Turn | JobCard::Drain) => {
-                Err(Stop::Refused(Code::OutOfPlace))
-            }
-            None if self.has_begun() || words.card().is_some() => {
-                Err(Stop::Refused(Code::OutOfPlace))
-            }
-            None => Err(Stop::Refused(Code::UnknownCard)),
+            None if !self.has_begun() => Err(Stop::Refused(Code::UnknownCard)),
+            _ => Err(Stop::Refused(Code::OutOfPlace)),
         }
     }
 

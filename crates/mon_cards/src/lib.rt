@@ -4,9 +4,6 @@
 pub mod card;
 pub mod code;
 pub mod job;
-pub mod job_card;
-pub mod job_laws;
-pub mod laws;
 pub mod list;
 mod option;
 pub mod reading;
@@ -16,8 +13,7 @@ mod words;
 
 pub use code::Code;
 pub use job::OpenJob;
-pub use job_card::JobCard;
 pub use list::OpenList;
 pub use reading::{finish_catalogue, opens_accounts, put_account_line, put_catalogue_line};
 pub use request::{Request, ends_list, read_request};
-pub use turn::{JobRequest, Turn, read_job_request};
+pub use turn::Turn;

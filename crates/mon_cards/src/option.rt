@@ -1,14 +1,15 @@
 //! The options of a job's card: how many statements may begin, and how many steps a match may take.
 ghost use Rattle.std.specs.Prelude.{◌≡◌, ◌≤◌, ◌||◌, true, length, IfOk};
-ghost use Rattle.mon_text.specs.Counts.{is_count, value_of};
+ghost use Rattle.mon_text.specs.Counts.{value_of};
 ghost use Rattle.mon_cards.specs.declared.code.Code.TheVariants.{BadNumber, BadCard};
 ghost use Rattle.mon_cards.specs.Refusing.{unless};
 ghost use Rattle.mon_cards.specs.Jobs.{is_within, sets_statements, sets_steps, option_text, has_number, is_limit, with_option};
 ghost use Rattle.mon_cards.specs.inner.Stops.{Answers};
 
 use crate::code::Code;
+use crate::words::number_of;
 use mon_job::JobLimits;
-use mon_text::{Stop, read_count};
+use mon_text::Stop;
 
 /// How much a limit of a job may be.
 const MOST_LIMIT: u64 = 10_000_000;
@@ -36,17 +37,6 @@ fn option_text(word: &[u8]) -> &[u8]
         &word[3..]
     } else {
         &word[6..]
-    }
-}
-
-// A word that has to be a number.
-pub(crate) fn number_of(word: &[u8]) -> Result<u64, Stop<Code>>
-    ensures answers { Answers (unless (is_count word.now) BadNumber) result }
-    ensures value { IfOk result (λ number. number ≡ value_of word.now) }
-{
-    match read_count(word) {
-        Ok(number) => Ok(number),
-        Err(_) => Err(Stop::Refused(Code::BadNumber)),
     }
 }
 

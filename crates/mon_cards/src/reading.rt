@@ -12,8 +12,7 @@ ghost use Rattle.mon_cards.specs.inner.Stops.{Answers, IfRefused};
 
 use crate::card::Card;
 use crate::code::{Code, stop_of_account, stop_of_catalogue};
-use crate::request::{MOST_LINE_CHARACTERS, begins_with_dollar, line_of, name_of};
-use crate::words::Words;
+use crate::words::{MOST_LINE_CHARACTERS, Words, begins_with_dollar, line_of, name_of};
 use mon_access::{Account, Accounts, Groups};
 use mon_catalogue::{Catalogue, Loading};
 use mon_text::{Line, Stop};

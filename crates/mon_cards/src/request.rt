@@ -1,28 +1,26 @@
-//! What a line of the stream asks for: a command, the lines of a permission list, the deck's end, or nothing.
+//! What a line of the stream asks for: a command, the lines of a permission list or of a job, turns, the deck's end, or nothing.
 ghost use Rattle.std.specs.Prelude.{◌≡◌, ◌<◌, true, None, length, IfOk, IsErrOf};
 ghost use Rattle.std.specs.Result.{result_err};
 ghost use Rattle.std.specs.List.{list_all};
-ghost use Rattle.mon_text.specs.Names.{is_name};
 ghost use Rattle.mon_text.specs.Lines.{words};
 ghost use Rattle.mon_acl.specs.declared.text.AclText.TheVariants.{Short};
 ghost use Rattle.mon_command.specs.declared.command.Command.TheVariants as command;
-ghost use Rattle.mon_cards.specs.declared.code.Code.TheVariants.{BadName};
-ghost use Rattle.mon_cards.specs.declared.request.Request.TheVariants.{Asks, Stops};
+ghost use Rattle.mon_cards.specs.declared.request.Request.TheVariants.{Asks, Drains, Stops};
 ghost use Rattle.mon_cards.specs.Cards.{card_among, word_at};
-ghost use Rattle.mon_cards.specs.Refusing.{or_else, unless, line_refusal, is_dollar_line};
+ghost use Rattle.mon_cards.specs.Refusing.{or_else, line_refusal, is_dollar_line};
+ghost use Rattle.mon_cards.specs.Jobs.{drain_refusal};
 ghost use Rattle.mon_cards.specs.Requests.{names_refusal, two_names_refusal, set_acl_refusal, catalog_refusal, stop_refusal, set_acl_on, stream_refusal, card_refusal, card_request, request_on, from_blank, from_word, behind_word, acl_on, end_refusal, list_text_refusal, list_line_refusal, is_list_character};
 ghost use Rattle.mon_cards.specs.inner.Stops.{Answers, IfRefused};
 
 use crate::card::Card;
-use crate::code::{Code, stop_of_line};
-use crate::words::Words;
+use crate::code::Code;
+use crate::job::{OpenJob, read_job};
+use crate::turn::{Turn, read_turn};
+use crate::words::{MOST_LINE_CHARACTERS, Words, begins_with_dollar, line_of, name_of};
 use mon_acl::{AclText, Bytes};
 use mon_command::Command;
-use mon_text::{Line, Name, Stop, read_line, read_name};
+use mon_text::{Line, Name, Stop};
 use std::alloc::{AllocError, Global};
-
-/// How many characters a line has at the most outside the catalogue.
-pub const MOST_LINE_CHARACTERS: usize = 200;
 
 /// What a line of the stream asks for.
 #[derive(Drop)]
@@ -32,20 +30,15 @@ pub enum Request {
     /// A command.
     Asks(Command),
     /// The permission list of a data set is to be set, and its lines follow.
-    Opens(Name, Name),
+    OpensList(Name, Name),
+    /// A job, whose lines follow.
+    OpensJob(OpenJob),
+    /// Turns for a slot.
+    Turns(Turn),
+    /// Turns until all slots are empty.
+    Drains,
     /// The deck ends.
     Stops,
-}
-
-// A word that has to be a name.
-pub(crate) fn name_of(word: &[u8]) -> Result<Name, Stop<Code>>
-    ensures answers { Answers (unless (is_name word.now) BadName) result }
-    ensures value { IfOk result (λ name. name ≡ word.now) }
-{
-    match read_name(word) {
-        Ok(name) => Ok(name),
-        Err(_) => Err(Stop::Refused(Code::BadName)),
-    }
 }
 
 /// What a line of the stream asks for.
@@ -99,10 +92,11 @@ fn read_card(alloc: Global, line: &Line, words: &Words<'_>) -> Result<Request, S
         }
         Some(Card::SetAcl) => read_set_acl(alloc, line, words),
         Some(Card::Catalog) => read_catalog(words),
+        Some(Card::Job) => Ok(Request::OpensJob(read_job(alloc, words)?)),
+        Some(Card::Turn) => Ok(Request::Turns(read_turn(words)?)),
+        Some(Card::Drain) => read_drain(words),
         Some(Card::Stop) => read_stop(words),
-        Some(Card::Accounts | Card::Catalogue | Card::Set | Card::Stream | Card::EndAcl) => {
-            Err(Stop::Refused(Code::OutOfPlace))
-        }
+        Some(_) => Err(Stop::Refused(Code::OutOfPlace)),
     }
 }
 
@@ -139,7 +133,7 @@ fn read_set_acl(alloc: Global, line: &Line, words: &Words<'_>) -> Result<Request
     }
     let (account, name) = names_on(words)?;
     if words.len() == 3 {
-        return Ok(Request::Opens(account, name));
+        return Ok(Request::OpensList(account, name));
     }
     let text = short_text(alloc, line)?;
     Ok(Request::Asks(Command::SetAcl {
@@ -166,6 +160,16 @@ fn read_catalog(words: &Words<'_>) -> Result<Request, Stop<Code>>
     }
     let account = name_of(words.at(1))?;
     Ok(Request::Asks(Command::Catalog { account }))
+}
+
+fn read_drain(words: &Words<'_>) -> Result<Request, Stop<Code>>
+    ensures answers { Answers (drain_refusal words.now) result }
+    ensures value { IfOk result (λ request. request ≡ Drains) }
+{
+    if words.len() != 1 {
+        return Err(Stop::Refused(Code::BadCard));
+    }
+    Ok(Request::Drains)
 }
 
 fn read_stop(words: &Words<'_>) -> Result<Request, Stop<Code>>
@@ -228,12 +232,6 @@ pub fn ends_list(alloc: Global, text: &[u8]) -> Result<bool, Stop<Code>>
     }
 }
 
-pub(crate) fn begins_with_dollar(text: &[u8]) -> bool
-    ensures { result ≡ is_dollar_line text.now }
-{
-    text.first() == Some(&b'$')
-}
-
 // A line of a list that is a card has to be `$ENDACL`, alone.
 fn read_end(alloc: Global, text: &[u8]) -> Result<(), Stop<Code>>
     ensures answers { Answers (or_else (line_refusal 200 text.now) (end_refusal (words text.now))) result }
@@ -248,22 +246,6 @@ fn read_end(alloc: Global, text: &[u8]) -> Result<(), Stop<Code>>
         return Err(Stop::Refused(Code::BadCard));
     }
     Ok(())
-}
-
-/// A line, read with at most `limit` characters.
-///
-/// # Errors
-///
-/// The line's refusal; memory, where it has none.
-pub(crate) fn line_of(alloc: Global, text: &[u8], limit: usize) -> Result<Line, Stop<Code>>
-    ensures answers { Answers (line_refusal limit text.now) result }
-    ensures memory { IsErrOf result Stop.Memory → line_refusal limit text.now ≡ None }
-    ensures value { IfOk result (λ line. line ≡ text.now) }
-{
-    match read_line(alloc, text, limit) {
-        Ok(line) => Ok(line),
-        Err(error) => Err(stop_of_line(error)),
-    }
 }
 
 // Another line of a list may have tabs.
