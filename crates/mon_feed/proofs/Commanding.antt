@@ -7,6 +7,7 @@ use Rattle.mon_monitor.specs.Worlds.{World}
 use Rattle.mon_monitor.specs.Events.{Event, Serve, Load, Give, Drain}
 use Rattle.mon_monitor.specs.Papers.{Paper, paper_text, papers_text}
 use Rattle.mon_monitor.specs.Played.{Played, played, happened, and_played}
+use Rattle.mon_monitor.specs.Happening.{Happens}
 use Rattle.mon_cards.specs.Decks.{Asked, Commands, Enters, Gives, Drains, Cards, Ending, Stopped, Refused}
 use Rattle.mon_cards.specs.Sections.{and_then, stopped}
 use Rattle.mon_cards.specs.Jobs.{job_deck_of}
@@ -147,6 +148,16 @@ pub served_when : (check : Bool) → check ≡ false → (one : Asked) (w w' : W
 served_when false e one w w' before after counts counts' served = served
 served_when true e one w w' before after counts counts' served = cc
 
+pub happens_served : (check : Bool) → check ≡ false → (one : Asked) (event : Event) (w w' : World) (before after : List ℕ) (counts counts' : Counts)
+    → event ≡ event_of (suc counts.jobs) one → counts' ≡ both_counted counts (one_counted one)
+    → Happens event w before w' after → Served check one w before counts w' after counts'
+happens_served check no one event w w' before after counts counts' is counted happens =
+    served_when check no one w w' before after counts counts'
+        (one_served one w before counts counts' counted w' (papers_text happens.papers) after happens.marks happens.printed
+            (λ rest. ap (λ (e : Event). papers_text (happened e (happens.marks ++ rest) w).papers) (sym is) ∙ ap (λ (p : Played). papers_text p.papers) (happens.is rest))
+            (λ rest. ap (λ (e : Event). (happened e (happens.marks ++ rest) w).after) (sym is) ∙ ap (λ (p : Played). p.after) (happens.is rest))
+            (λ rest. ap (λ (e : Event). (happened e (happens.marks ++ rest) w).marks) (sym is) ∙ ap (λ (p : Played). p.marks) (happens.is rest)))
+
 -- `$STOP`
 
 pub checked_when : (check : Bool) → check ≡ true → (jobs : ℕ) (w : World) (before after : List ℕ) → after ≡ before ++ verdict Stopped → Stopping check jobs w before w after
@@ -158,18 +169,16 @@ stopped_when false e jobs w w' before after stopping = stopping
 stopped_when true e jobs w w' before after stopping = cc
 
 -- the slots were emptied, and then the catalogue was put
-pub drained : (jobs : ℕ) (w w' : World) (text before whole after : List ℕ) (marks : Marks) → whole ≡ before ++ text → after ≡ whole ++ closing w'.floor.sets Stopped
-    → ((rest : Marks) → papers_text (happened Drain (marks ++ rest) w).papers ≡ text)
-    → ((rest : Marks) → (happened Drain (marks ++ rest) w).after ≡ w')
-    → Stopping false jobs w before w' after
-drained jobs w w' text before whole after marks gathered put printed left = record {
-  marks = marks;
+pub drained : (jobs : ℕ) (w w' : World) (before whole after : List ℕ) → Happens Drain w before w' whole → after ≡ whole ++ closing w'.floor.sets Stopped → Stopping false jobs w before w' after
+drained jobs w w' before whole after happens put = record {
+  marks = happens.marks;
   written = λ rest.
-      let all = happened Drain (marks ++ rest) w in
+      let all = happened Drain (happens.marks ++ rest) w in
+      let end = closing w'.floor.sets Stopped in
       put
-      ∙ ap (λ t. t ++ closing w'.floor.sets Stopped) gathered
-      ∙ append_assoc before text (closing w'.floor.sets Stopped)
-      ∙ ap (λ t. before ++ (t ++ closing w'.floor.sets Stopped)) (sym (printed rest) ∙ ap papers_text (sym (append-nil all.papers)))
-      ∙ ap (λ (v : World). before ++ (papers_text (all.papers ++ []) ++ closing v.floor.sets Stopped)) (sym (left rest));
-  sets = λ rest. ap (λ (v : World). v.floor.sets) (sym (left rest));
+      ∙ ap (λ t. t ++ end) happens.printed
+      ∙ append_assoc before (papers_text happens.papers) end
+      ∙ ap (λ ps. before ++ (papers_text ps ++ end)) (sym (append-nil happens.papers))
+      ∙ ap (λ (p : Played). before ++ (papers_text (p.papers ++ []) ++ closing p.after.floor.sets Stopped)) (sym (happens.is rest));
+  sets = λ rest. ap (λ (p : Played). p.after.floor.sets) (sym (happens.is rest));
 }

@@ -1,5 +1,6 @@
 pub mod Commanding
 pub mod Following
+pub mod Taking
 pub mod Telling
 pub mod Beginnings
 pub mod Parts

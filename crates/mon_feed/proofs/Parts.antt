@@ -9,6 +9,9 @@ use Rattle.std.proofs.lemmas.List.Folds.{list_all-append}
 use Rattle.mon_text.specs.Feeding.{is_line_feed, is_inside, has_no_end, taken_of, Alike, Takes}
 use Rattle.mon_text.proofs.Cutting.{line_ends, last_line}
 use Rattle.mon_cards.specs.declared.code.Code.TheVariants.{LineTooLong}
+use Rattle.mon_slots.specs.Marks.{Marks}
+use Rattle.mon_feed.specs.declared.options.Counts.{Counts}
+use Rattle.mon_feed.specs.declared.options.Options.{Options}
 use Rattle.mon_feed.specs.declared.stage.Stage.{Stage}
 use Rattle.mon_feed.specs.declared.stage.State.{State}
 use Rattle.mon_feed.specs.declared.stage.State.TheVariants as state
@@ -142,7 +145,8 @@ open_both : (u v : List ℕ) → has_no_end u ≡ true → has_no_end v ≡ true
 open_both u v a b = list_all-append is_inside u v ∙ ap (λ x. x && has_no_end v) a ∙ b
 
 -- a line has ended, and what was taken told none: then it is longer than any may be
-module _ (check : Bool) (stage : Stage) (n : ℕ) (old front new : List ℕ) (used : ℕ) (open_old : has_no_end old ≡ true) (open_new : has_no_end new ≡ true) (open_front : has_no_end front ≡ true) where
+module _ (options : Options) (jobs : ℕ) (m : Marks) (stage : Stage) (n : ℕ) (old front new : List ℕ) (used : ℕ)
+    (open_old : has_no_end old ≡ true) (open_new : has_no_end new ≡ true) (open_front : has_no_end front ≡ true) where
   ended_line : (bytes : List ℕ) → lines (old ++ ((front ++ 10 ∷ []) ++ bytes)) ≡ strip_carriage_return (old ++ front) ∷ lines bytes
   ended_line bytes =
       ap (λ v. lines (old ++ v)) (append_assoc front (10 ∷ []) bytes)
@@ -164,24 +168,24 @@ module _ (check : Bool) (stage : Stage) (n : ℕ) (old front new : List ℕ) (us
       by (inr both) = both.1
 
   late : Takes old (front ++ 10 ∷ []) used None new → (bytes : List ℕ)
-      → outcome check (state.Reading stage) n (lines (old ++ ((front ++ 10 ∷ []) ++ bytes))) ≡ refused_at n LineTooLong
+      → outcome options jobs m (state.Reading stage) n (lines (old ++ ((front ++ 10 ∷ []) ++ bytes))) ≡ refused_at n LineTooLong
   late taken bytes =
-      ap (outcome check (state.Reading stage) n) (ended_line bytes)
-      ∙ ap (outcome_of check) (long_refused stage n (strip_carriage_return (old ++ front)) (lines bytes) (long taken))
-      ∙ outcome_refused check stage n LineTooLong
+      ap (outcome options jobs m (state.Reading stage) n) (ended_line bytes)
+      ∙ ap (outcome_of options.check jobs m) (long_refused options.slots.number stage n (strip_carriage_return (old ++ front)) (lines bytes) (long taken))
+      ∙ outcome_refused options.check options.slots.number jobs m stage n LineTooLong
 
 -- and so the deck is refused, whatever follows
-pub told_late : (check : Bool) (stage : Stage) (s : State) (n count : ℕ) (out old piece new : List ℕ) (u k : ℕ)
+pub told_late : (options : Options) (m : Marks) (stage : Stage) (s : State) (n : ℕ) (counts : Counts) (out old piece new : List ℕ) (u k : ℕ)
     → s ≡ state.Reading stage → has_no_end old ≡ true → has_no_end new ≡ true → Part (take u piece) → (has_no_end (take u piece) ≡ true → ⊥) → Takes old (take u piece) k None new
-    → (bytes : List ℕ) → behind out count (refused_at n LineTooLong) ≡ behind out count (outcome check s n (lines (old ++ (piece ++ bytes))))
-told_late check stage s n count out old piece new u k is open_old open_new part ended taken bytes =
+    → (bytes : List ℕ) → behind out counts (refused_at n LineTooLong) ≡ behind out counts (outcome options counts.jobs m s n (lines (old ++ (piece ++ bytes))))
+told_late options m stage s n counts out old piece new u k is open_old open_new part ended taken bytes =
     by part
-    ∙ ap (λ (v : State). behind out count (outcome check v n (lines (old ++ (take u piece ++ (drop u piece ++ bytes)))))) (sym is)
-    ∙ ap (λ v. behind out count (outcome check s n (lines (old ++ v)))) (rejoined u piece bytes)
+    ∙ ap (λ (v : State). behind out counts (outcome options counts.jobs m v n (lines (old ++ (take u piece ++ (drop u piece ++ bytes)))))) (sym is)
+    ∙ ap (λ v. behind out counts (outcome options counts.jobs m s n (lines (old ++ v)))) (rejoined u piece bytes)
   where
-    by : Part (take u piece) → behind out count (refused_at n LineTooLong) ≡ behind out count (outcome check (state.Reading stage) n (lines (old ++ (take u piece ++ (drop u piece ++ bytes)))))
+    by : Part (take u piece) → behind out counts (refused_at n LineTooLong) ≡ behind out counts (outcome options counts.jobs m (state.Reading stage) n (lines (old ++ (take u piece ++ (drop u piece ++ bytes)))))
     by (Open open_part) = absurd (ended open_part)
     by (Ended front are open_front) =
         let taken_so = subst (λ (v : List ℕ). Takes old v k None new) are taken in
-        ap (behind out count) (sym (late check stage n old front new k open_old open_new open_front taken_so (drop u piece ++ bytes)))
-        ∙ ap (λ v. behind out count (outcome check (state.Reading stage) n (lines (old ++ (v ++ (drop u piece ++ bytes)))))) (sym are)
+        ap (behind out counts) (sym (late options counts.jobs m stage n old front new k open_old open_new open_front taken_so (drop u piece ++ bytes)))
+        ∙ ap (λ v. behind out counts (outcome options counts.jobs m (state.Reading stage) n (lines (old ++ (v ++ (drop u piece ++ bytes)))))) (sym are)
