@@ -98,25 +98,76 @@ const OWNERS_OUTPUT: &[u8] = b"SETACL anna PAY\n\
     $SET NOTE lisa staff 0\n\
     user::r--,group::---,other::---\n";
 
-/// A deck, what it prints, and how many commands it has.
+/// Two jobs in two slots, which take turns over one data set, and a command between their turns.
+const JOBS_DECK: &[u8] = b"$ACCOUNTS\n\
+    anna admin\n\
+    lisa staff\n\
+    $CATALOGUE\n\
+    $SET LOG anna admin 1\n\
+    user::rw-,user:lisa:r--,group::---,mask::r--,other::---\n\
+    ONE\n\
+    $STREAM\n\
+    $JOB anna\n\
+    $UNIT 8 LOG\n\
+    \x20INPUT('R',8); OUTPUT('W',8)\n\
+    L X = R :S(L)\n\
+    \x20W = 'TWO'\n\
+    END\n\
+    $EOJ\n\
+    $JOB lisa\n\
+    $UNIT 8 LOG\n\
+    \x20INPUT('R',8); OUTPUT('W',8)\n\
+    L OUTPUT = R :S(L)\n\
+    \x20W = 'THREE'\n\
+    END\n\
+    $EOJ\n\
+    $TURN 1 4\n\
+    $TURN 2 3\n\
+    $TURN 1 1\n\
+    $LIST lisa LOG\n\
+    $DRAIN\n\
+    $STOP\n";
+
+/// What they print: the first writes a record, the second reads it, and is denied to write.
+const JOBS_OUTPUT: &[u8] = b"JOB 1 anna\n\
+    END NORMAL AFTER 5\n\
+    LIST lisa LOG\n\
+    \x20ONE\n\
+    \x20TWO\n\
+    RECORDS 2\n\
+    JOB 2 lisa\n\
+    \x20ONE\n\
+    \x20TWO\n\
+    DENIED STATEMENT 4 WRITE LOG BY user:lisa:\n\
+    END NORMAL AFTER 6\n\
+    $CATALOGUE\n\
+    $SET LOG anna admin 2\n\
+    user::rw-,user:lisa:r--,group::---,mask::r--,other::---\n\
+    ONE\n\
+    TWO\n";
+
+/// A deck, what it prints, and how many jobs and commands it has.
 struct Worked {
     deck: &'static [u8],
     output: &'static [u8],
+    jobs: u64,
     commands: u64,
     /// Where each card with a printout ends in the deck, and where its printout ends in the output.
     ends: &'static [(usize, usize)],
 }
 
-static WORKED: [Worked; 2] = [
+static WORKED: [Worked; 3] = [
     Worked {
         deck: DECK,
         output: OUTPUT,
+        jobs: 0,
         commands: 3,
         ends: &[(184, 48), (203, 84), (219, 118), (225, 228)],
     },
     Worked {
         deck: OWNERS_DECK,
         output: OWNERS_OUTPUT,
+        jobs: 0,
         commands: 7,
         ends: &[
             (221, 21),
@@ -129,6 +180,13 @@ static WORKED: [Worked; 2] = [
             (342, 441),
         ],
     },
+    Worked {
+        deck: JOBS_DECK,
+        output: JOBS_OUTPUT,
+        jobs: 2,
+        commands: 1,
+        ends: &[(340, 30), (355, 64), (362, 147), (368, 244)],
+    },
 ];
 
 /// Room for every output of these tests.
@@ -136,7 +194,7 @@ const ROOM: usize = 1_000;
 
 // What a good run of a worked deck answers.
 fn is_done(outcome: &Result<Counts, RunError>, worked: &Worked) -> bool {
-    matches!(outcome, Ok(counts) if counts.jobs == 0 && counts.commands == worked.commands)
+    matches!(outcome, Ok(counts) if counts.jobs == worked.jobs && counts.commands == worked.commands)
         && exit_status(outcome) == 0
 }
 
