@@ -88,7 +88,7 @@ impl Slots {
         ensures marked { MarkedIs (only slot count) (floor catalogue.old (slots_in self.old)) (end_in result) (floor catalogue.new (slots_in self.new)) }
         ensures size { length (slots_in self.new) ≡ length (slots_in self.old) }
     {
-        for _given in 0..count {
+        for _ in 0..count {
             match self.turn(alloc, guard, catalogue, slot) {
                 Turned::Empty => return None,
                 Turned::Goes => (),

@@ -2,8 +2,7 @@ use Rattle.std.proofs.Common.{rules, ◌≡◌, ◌∙◌, suc, List, Option, So
 use Rattle.std.proofs.lemmas.Result.{err_from_is_err_and}
 use Rattle.std.specs.Prelude.{position, is_none, option_map}
 use Rattle.mon_slots.specs.declared.slot.Slot.{Slot}
-use Rattle.mon_slots.specs.Told.{seat_of, slots_in}
-use Rattle.mon_slots.proofs.Seats.{map_length}
+use Rattle.mon_slots.specs.Told.{slots_in}
 use Rattle.mon_slots.proofs.Loads.{free_is, within, no_slot, stop_refused, loaded_at}
 use Rattle.mon_slots.proofs.slots.Slots.load.Goals as goal
 
@@ -27,16 +26,14 @@ overflow_cast-result c =
     let items = c.args.self.now.items.items in
     let some : position (λ seat. is_none seat) items ≡ Some c.in-Some.index = ap (λ (l : List (Option Slot)). position (λ seat. is_none seat) l) (sym c.deref.ensures.value) ∙ sym c.in-Some.ensures in
     let k = within items c.in-Some.index some in
-    let l = map_length seat_of items in
-    omega (arith, k, l, c.requires.1)
+    omega (arith, k, c.args.self.now.few)
 
 pub overflow_add-result : goal.overflow_add-result
 overflow_add-result c =
     let items = c.args.self.now.items.items in
     let some : position (λ seat. is_none seat) items ≡ Some c.in-Some.index = ap (λ (l : List (Option Slot)). position (λ seat. is_none seat) l) (sym c.deref.ensures.value) ∙ sym c.in-Some.ensures in
     let k = within items c.in-Some.index some in
-    let l = map_length seat_of items in
-    omega (arith, k, l, c.requires.1)
+    omega (arith, k, c.args.self.now.few)
 
 pub returns-clause-loaded : goal.returns-clause-loaded
 returns-clause-loaded c =

@@ -1,15 +1,17 @@
-use Rattle.std.proofs.Common.{◌≡◌, ◌≢◌, ◌≤◌, ℕ, false, List, length, refl, sym, ◌∙◌, subst, arith}
+use Rattle.std.proofs.Common.{◌≡◌, ◌≢◌, ◌≤◌, ℕ, false, List, length, Option, refl, sym, ◌∙◌, subst, arith}
 use Rattle.mon_job.specs.declared.job_end.JobEnd.{JobEnd}
-use Rattle.mon_slots.specs.Told.{slots_in}
+use Rattle.mon_slots.specs.declared.slot.Slot.{Slot}
+use Rattle.mon_slots.specs.Told.{seat_of, seats_of, slots_in}
 use Rattle.mon_slots.specs.Floors.{floor}
 use Rattle.mon_slots.specs.Marks.{turns_left}
 use Rattle.mon_slots.specs.inner.Rounding.{Going, stop_of}
+use Rattle.mon_slots.proofs.Seats.{map_length}
 use Rattle.mon_slots.proofs.Calls.{jobs_few}
 use Rattle.mon_slots.proofs.Rounding.{going_begins, going_more, going_done, goal_at_last, round_length, round_less, below}
 use Rattle.mon_slots.proofs.slots.Slots.rounds.Goals as goal
 
-some_of : (n k : ℕ) → 1 ≤ k → n ≡ k → n ≢ 0
-some_of n k h e = omega (arith, h, e)
+some_of : (n : ℕ) (slots : List (Option Slot)) → 1 ≤ length slots → n ≡ length (seats_of slots) → n ≢ 0
+some_of n slots h e = let k = map_length seat_of slots in omega (arith, h, e, k)
 
 pub rounds-init : goal.rounds-init
 rounds-init c = record {
@@ -27,7 +29,7 @@ rounds-smaller c =
     let now = floor c.rounds.catalogue (slots_in c.rounds.self) in
     let now' = floor c.round.new.catalogue (slots_in c.round.new.self) in
     let size = length (slots_in c.rounds.self) in
-    let at_last = goal_at_last c.args.goal size (some_of size (length (slots_in c.args.self.now)) c.requires.0 c.rounds.invariant.size) in
+    let at_last = goal_at_last c.args.goal size (some_of size c.rounds.self.items.items c.rounds.self.some refl) in
     let busy : stop now ≡ false = sym (c.is_met.ensures c.rounds.catalogue) ∙ c.rounds-test.true in
     below (turns_left (slots_in c.round.new.self)) (turns_left (slots_in c.rounds.self)) (round_less stop size at_last now r.more now' refl r.is busy)
 
@@ -39,7 +41,7 @@ rounds-preserved c =
     let now = floor c.rounds.catalogue (slots_in c.rounds.self) in
     let now' = floor c.round.new.catalogue (slots_in c.round.new.self) in
     let size = length (slots_in c.rounds.self) in
-    let at_last = goal_at_last c.args.goal size (some_of size (length (slots_in c.args.self.now)) c.requires.0 c.rounds.invariant.size) in
+    let at_last = goal_at_last c.args.goal size (some_of size c.rounds.self.items.items c.rounds.self.some refl) in
     let busy : stop now ≡ false = sym (c.is_met.ensures c.rounds.catalogue) ∙ c.rounds-test.true in
     record {
       going =

@@ -1,0 +1,162 @@
+-- Events one after the other, and what marks have to do with them.
+use Rattle.std.proofs.Common.{◌≡◌, ◌≢◌, ℕ, Bool, true, List, [], ◌∷◌, ◌++◌, length, Option, Some, None, Result, Ok, Err, refl, ap, sym, ◌∙◌, inl, inr, append_assoc}
+use Rattle.std.specs.Prelude.{map, option_map, is_some}
+use Rattle.std.specs.List.{AllByRecursion}
+use Rattle.sno_cards.specs.declared.refusal.SyntaxError.{SyntaxError}
+use Rattle.sno_cards.specs.Programs.{ProgramText}
+use Rattle.sno_syntax.specs.Refusals.{syntax_refusal}
+use Rattle.mon_access.specs.declared.account.Account.{Account}
+use Rattle.mon_unit.specs.declared.units.UnitError.{UnitError}
+use Rattle.mon_job.specs.declared.deck.JobDeck.{JobDeck}
+use Rattle.mon_job.specs.declared.job_end.JobEnd.{JobEnd}
+use Rattle.mon_job.specs.declared.refusal.LoadError.{LoadError}
+use Rattle.mon_job.specs.declared.refusal.LoadError.TheVariants.{NoSlot, NoAccount, Cards, Syntax}
+use Rattle.mon_slots.specs.Floors.{SlotState, Floor, first_free}
+use Rattle.mon_slots.specs.Turns.{only}
+use Rattle.mon_slots.specs.Marks.{Marks, Past, turn_as, until, never, rounds, turns_left, is_done, has_room, drain, room}
+use Rattle.mon_slots.specs.Rounds.{NoneByMemory, MarksEndJobs, RoomIsMade}
+use Rattle.mon_slots.specs.Loads.{first_of, slot_refusal, account_refusal, program_refusal, deck_refusal, loaded_by, slot_in}
+use Rattle.mon_slots.proofs.Seats.{seat_length}
+use Rattle.mon_slots.proofs.Past.{either_way, until_stops, until_goes, until_length}
+use Rattle.mon_monitor.specs.Worlds.{World, with_floor}
+use Rattle.mon_monitor.specs.Events.{Event, Serve, Load, Give, Drain}
+use Rattle.mon_monitor.specs.Papers.{Paper, papers_text, of_ends, of_load}
+use Rattle.mon_monitor.specs.Played.{Played, loading, of_turns, and_played, happened, played}
+use Rattle.mon_monitor.specs.Laws.{CardByCard, PrintedInOrder, NotByMemory, AsUnmarked, PlayedUnmarked, LoadHasRoom, AccountsStay, SlotsStay}
+use Rattle.mon_monitor.proofs.Playing.{papers_append}
+
+pub card_by_card : CardByCard
+card_by_card [] F m w = refl
+card_by_card (e ∷ E) F m w =
+    let p = happened e m w in
+    let q = played E p.marks p.after in
+    let r = played F q.marks q.after in
+    ap (and_played p.papers) (card_by_card E F p.marks p.after)
+    ∙ ap (λ (l : List Paper). let x : Played = record { papers = l; after = r.after; marks = r.marks } in x) (sym (append_assoc p.papers q.papers r.papers))
+
+pub printed_in_order : PrintedInOrder
+printed_in_order E F m w =
+    let p = played E m w in
+    ap (λ (x : Played). papers_text x.papers) (card_by_card E F m w) ∙ papers_append p.papers (played F p.marks p.after).papers
+
+-- MARKS
+
+not_memory : (ends : List (ℕ × JobEnd)) → AllByRecursion NotByMemory (of_ends (map (λ e. e.1) ends)) → NoneByMemory ends
+not_memory [] h = tt
+not_memory (e ∷ ends) h = (h.0, not_memory ends h.1)
+
+parted : (xs ys : List Paper) → AllByRecursion NotByMemory (xs ++ ys) → AllByRecursion NotByMemory xs × AllByRecursion NotByMemory ys
+parted [] ys h = (tt, h)
+parted (x ∷ xs) ys h = let rest = parted xs ys h.1 in ((h.0, rest.0), rest.1)
+
+-- of no marks none are left
+until_none : (stop : Floor → Bool) (E : List ℕ) (w : Floor) → (until stop E [] w).marks ≡ []
+until_none stop [] w = refl
+until_none stop (s ∷ E) w = elim (either_way (stop w)) [
+  | inl h ↦ ap (λ (p : Past). p.marks) (until_stops stop (s ∷ E) [] w h)
+  | inr h ↦ ap (λ (p : Past). p.marks) (until_goes stop s E [] w h) ∙ until_none stop E (turn_as None s w).1
+]
+
+happened_none : (e : Event) (w : World) → (happened e [] w).marks ≡ []
+happened_none (Serve command) w = refl
+happened_none (Load deck) w = until_none has_room (rounds (turns_left w.floor.slots) (length w.floor.slots)) w.floor
+happened_none (Give s n) w = until_none never (only s n) w.floor
+happened_none Drain w = until_none is_done (rounds (turns_left w.floor.slots) (length w.floor.slots)) w.floor
+
+module _ (law : MarksEndJobs) where
+  turns_unmarked : (stop : Floor → Bool) (E : List ℕ) (m : Marks) (w : World) → AllByRecursion NotByMemory (of_turns w (until stop E m w.floor)).papers
+      → AsUnmarked (of_turns w (until stop E m w.floor)) (of_turns w (until stop E [] w.floor))
+  turns_unmarked stop E m w none =
+      let k = law stop w.floor E m (not_memory (until stop E m w.floor).ends none) in
+      record { papers = ap (λ (l : List (ℕ × JobEnd)). of_ends (map (λ e. e.1) l)) k.0; after = ap (with_floor w) k.1 }
+
+  entered_unmarked : (deck : JobDeck) (m : Marks) (w : World) → AllByRecursion NotByMemory (happened (Load deck) m w).papers
+      → AsUnmarked (happened (Load deck) m w) (happened (Load deck) [] w)
+  entered_unmarked deck m w none =
+      let p = of_turns w (room m w.floor) in
+      let q = of_turns w (room [] w.floor) in
+      let parts = parted p.papers (of_load deck (loading deck p.after).0) none in
+      let a = turns_unmarked has_room (rounds (turns_left w.floor.slots) (length w.floor.slots)) m w parts.0 in
+      record {
+        papers = ap (λ (l : List Paper). l ++ of_load deck (loading deck p.after).0) a.papers ∙ ap (λ (v : World). q.papers ++ of_load deck (loading deck v).0) a.after;
+        after = ap (λ (v : World). (loading deck v).1) a.after;
+      }
+
+  happened_unmarked : (e : Event) (m : Marks) (w : World) → AllByRecursion NotByMemory (happened e m w).papers → AsUnmarked (happened e m w) (happened e [] w)
+  happened_unmarked (Serve command) m w none = record { papers = refl; after = refl }
+  happened_unmarked (Load deck) m w none = entered_unmarked deck m w none
+  happened_unmarked (Give s n) m w none = turns_unmarked never (only s n) m w none
+  happened_unmarked Drain m w none = turns_unmarked is_done (rounds (turns_left w.floor.slots) (length w.floor.slots)) m w none
+
+  pub played_unmarked : PlayedUnmarked
+  played_unmarked [] m w none = record { papers = refl; after = refl }
+  played_unmarked (e ∷ E) m w none =
+      let p = happened e m w in
+      let q = happened e [] w in
+      let parts = parted p.papers (played E p.marks p.after).papers none in
+      let a = happened_unmarked e m w parts.0 in
+      let b = played_unmarked E p.marks p.after parts.1 in
+      let same : played E [] p.after ≡ played E q.marks q.after =
+      ap (λ (v : World). played E [] v) a.after ∙ ap (λ (k : Marks). played E k q.after) (sym (happened_none e w)) in
+      record {
+        papers =
+            ap (λ (l : List Paper). l ++ (played E p.marks p.after).papers) a.papers
+            ∙ ap (λ (l : List Paper). q.papers ++ l) (b.papers ∙ ap (λ (x : Played). x.papers) same);
+        after = b.after ∙ ap (λ (x : Played). x.after) same;
+      }
+
+-- ROOM
+
+mapped_not : (o : Option SyntaxError) → option_map Syntax o ≢ Some NoSlot
+mapped_not None h = let k : None ≡ Some NoSlot = h in cc (k)
+mapped_not (Some e) h = let k : Some (Syntax e) ≡ Some NoSlot = h in cc (k)
+
+program_not : (said : Result ProgramText SyntaxError) → program_refusal said ≢ Some NoSlot
+program_not (Ok cards) h = mapped_not (syntax_refusal cards) h
+program_not (Err e) h = let k : Some (Syntax e) ≡ Some NoSlot = h in cc (k)
+
+-- no deck is refused for want of a slot
+deck_not : (f : Option Account) (t : Option UnitError) (said : Result ProgramText SyntaxError)
+    → first_of (account_refusal f) (first_of (option_map Cards t) (program_refusal said)) ≢ Some NoSlot
+deck_not None t said h = let k : Some NoAccount ≡ Some NoSlot = h in cc (k)
+deck_not (Some a) (Some u) said h = let k : Some (Cards u) ≡ Some NoSlot = h in cc (k)
+deck_not (Some a) None said h = program_not said h
+
+answer_not : (o : Option ℕ) (d : Option LoadError) (slot : Option SlotState) (slots : List (Option SlotState)) → is_some o ≡ true → d ≢ Some NoSlot
+    → (loaded_by (first_of (slot_refusal o) d) o slot slots).0 ≢ Err NoSlot
+answer_not None d slot slots h g e = absurd cc
+answer_not (Some n) None slot slots h g e = let k : Ok n ≡ Err NoSlot = e in cc (k)
+answer_not (Some n) (Some r) slot slots h g e = g (let k : Err r ≡ Err NoSlot = e in cc (k))
+
+pub load_has_room : RoomIsMade → LoadHasRoom
+load_has_room law deck m w some =
+    let v = with_floor w (room m w.floor).after in
+    answer_not (first_free v.floor.slots) (deck_refusal v.accounts deck) (slot_in v.accounts deck) v.floor.slots (law w.floor m some) (deck_not _ _ _)
+
+-- WHAT STAYS
+
+event_accounts : (e : Event) (m : Marks) (w : World) → (happened e m w).after.accounts ≡ w.accounts
+event_accounts (Serve command) m w = refl
+event_accounts (Load deck) m w = refl
+event_accounts (Give s n) m w = refl
+event_accounts Drain m w = refl
+
+pub accounts_stay : AccountsStay
+accounts_stay [] m w = refl
+accounts_stay (e ∷ E) m w = accounts_stay E (happened e m w).marks (happened e m w).after ∙ event_accounts e m w
+
+loaded_length : (r : Option LoadError) (n : Option ℕ) (slot : Option SlotState) (slots : List (Option SlotState)) → length (loaded_by r n slot slots).1 ≡ length slots
+loaded_length (Some r) n slot slots = refl
+loaded_length None (Some n) slot slots = seat_length n slot slots
+loaded_length None None slot slots = refl
+
+event_slots : (e : Event) (m : Marks) (w : World) → length (happened e m w).after.floor.slots ≡ length w.floor.slots
+event_slots (Serve command) m w = refl
+event_slots (Load deck) m w =
+    loaded_length _ _ _ (room m w.floor).after.slots ∙ until_length has_room (rounds (turns_left w.floor.slots) (length w.floor.slots)) m w.floor
+event_slots (Give s n) m w = until_length never (only s n) m w.floor
+event_slots Drain m w = until_length is_done (rounds (turns_left w.floor.slots) (length w.floor.slots)) m w.floor
+
+pub slots_stay : SlotsStay
+slots_stay [] m w = refl
+slots_stay (e ∷ E) m w = slots_stay E (happened e m w).marks (happened e m w).after ∙ event_slots e m w
