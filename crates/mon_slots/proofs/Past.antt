@@ -1,5 +1,5 @@
 -- Turns until a floor is one to stop at, and rounds of them.
-use Rattle.std.proofs.Common.{◌≡◌, ◌≢◌, ℕ, zero, suc, ◌+◌, ◌≤◌, Bool, true, false, List, [], ◌∷◌, ◌++◌, length, Option, Some, None, refl, ap, sym, ◌∙◌, subst, inl, inr, arith, append_assoc}
+use Rattle.std.proofs.Common.{◌≡◌, ◌≢◌, ℕ, zero, suc, ◌+◌, ◌≤◌, Bool, true, false, List, [], ◌∷◌, ◌++◌, length, Option, Some, None, refl, ap, sym, ◌∙◌, subst, inl, inr, arith, append_assoc, append-nil}
 use Rattle.std.specs.Prelude.{◌⊎◌, if◌then◌else◌, slice_get, slice_set, is_some}
 use Rattle.std.specs.List.{AllByRecursion}
 use Rattle.mon_catalogue.specs.Sets.{Sets}
@@ -13,7 +13,7 @@ use Rattle.mon_slots.specs.declared.turned.Turned.TheVariants.{Ended}
 use Rattle.mon_slots.specs.Floors.{SlotState, Floor, seated, seat_at, with_seat, job_in, all_empty, first_free}
 use Rattle.mon_slots.specs.Turns.{reached, ran, after_turn, seat, turned, turn_by, turn, ends_by}
 use Rattle.mon_slots.specs.Marks.{Mark, Marks, mark_of, later, may_break, broken_by, ran_as, turn_as_by, turn_as, Past, nothing, and_then, until, marked, from, rounds, left, turns_left, is_done, has_room, drain, room}
-use Rattle.mon_slots.specs.Rounds.{Unmarked, NoneByMemory, AtLast, Enough}
+use Rattle.mon_slots.specs.Rounds.{Unmarked, NoneByMemory, TakesOneMark, AtLast, Enough}
 use Rattle.mon_slots.proofs.Begun.{Less, job_less}
 use Rattle.mon_slots.proofs.Seats.{seat_length, none_at}
 
@@ -271,3 +271,8 @@ marks_end_jobs stop w (s ∷ E) m none = elim (either_way (stop w)) [
         | inr b ↦ absurd ((subst (λ (u : Turned). NoneByMemory (ends_by s u)) b.1 parts.0).0 b.2)
       ]
 ]
+
+pub one_mark : TakesOneMark
+one_mark s m rest w =
+    let t = turn_as m s w in
+    ap (λ (l : List (ℕ × JobEnd)). let p : Past = record { ends = l; after = t.1; marks = rest } in p) (append-nil (ends_by s t.0))

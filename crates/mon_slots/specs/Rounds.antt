@@ -1,11 +1,11 @@
 -- What holds of turns, of rounds, and of marks, as statements.
-use Rattle.std.specs.Prelude.{◌≡◌, ◌≢◌, ℕ, ◌≤◌, Bool, true, None, List, [], length}
+use Rattle.std.specs.Prelude.{◌≡◌, ◌≢◌, ℕ, ◌≤◌, Bool, true, Option, None, List, [], ◌∷◌, length}
 use Rattle.std.specs.List.{AllByRecursion}
 use Rattle.sno_run.specs.declared.ending.Ending.TheVariants.{Memory}
 use Rattle.mon_job.specs.declared.job_end.JobEnd.{JobEnd}
 use Rattle.mon_slots.specs.Floors.{Floor, job_in}
-use Rattle.mon_slots.specs.Turns.{turns}
-use Rattle.mon_slots.specs.Marks.{Marks, until, marked, rounds, turns_left, rounds_until, is_done, has_room, drain, room}
+use Rattle.mon_slots.specs.Turns.{turns, ends_by}
+use Rattle.mon_slots.specs.Marks.{Mark, Marks, turn_as, until, marked, rounds, turns_left, rounds_until, is_done, has_room, drain, room}
 
 -- without marks they are the turns of the definitions, and no mark is left
 pub record Unmarked (w : Floor) (E : List ℕ) : Type 0 where
@@ -23,6 +23,11 @@ NoneByMemory ends = AllByRecursion (λ e. e.1.ending ≢ Memory) ends
 abbrev pub MarksEndJobs : Type 0
 MarksEndJobs = (stop : Floor → Bool) (w : Floor) (E : List ℕ) (m : Marks) → NoneByMemory (until stop E m w).ends
     → ((until stop E m w).ends ≡ (until stop E [] w).ends) × ((until stop E m w).after ≡ (until stop E [] w).after)
+
+-- a turn takes one mark, and is broken off as that says
+abbrev pub TakesOneMark : Type 0
+TakesOneMark = (s : ℕ) (m : Option Mark) (rest : Marks) (w : Floor)
+    → marked (s ∷ []) (m ∷ rest) w ≡ record { ends = ends_by s (turn_as m s w).0; after = (turn_as m s w).1; marks = rest }
 
 -- a test that says yes at the latest when all slots are empty
 abbrev pub AtLast : (Floor → Bool) → Floor → Type 0

@@ -1,5 +1,5 @@
 //! Laws of turns and rounds. Each is the contract of a function that does nothing.
-ghost use Rattle.mon_slots.specs.Rounds.{WithoutMarks, MarksEndJobs, RoundsEnd, DrainEmpties, RoomIsMade};
+ghost use Rattle.mon_slots.specs.Rounds.{WithoutMarks, MarksEndJobs, TakesOneMark, RoundsEnd, DrainEmpties, RoomIsMade};
 ghost use Rattle.mon_slots.specs.Loads.{ReadsPrograms, SpellsOne};
 
 /// Turns without marks are the turns of the definitions.
@@ -10,6 +10,11 @@ pub fn without_marks()
 /// And so are those in which no job ends for want of memory.
 pub fn marks_end_jobs()
     ensures { MarksEndJobs }
+{}
+
+/// A turn takes one mark.
+pub fn takes_one_mark()
+    ensures { TakesOneMark }
 {}
 
 /// As many rounds as the jobs can have turns are enough, and more change nothing.
