@@ -4,6 +4,7 @@
 pub mod card;
 pub mod code;
 pub mod job;
+pub mod laws;
 pub mod list;
 mod option;
 pub mod reading;
