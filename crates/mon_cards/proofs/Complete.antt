@@ -27,14 +27,14 @@ use Rattle.mon_cards.specs.declared.card.Card.{Card}
 use Rattle.mon_cards.specs.declared.card.Card.TheVariants as card
 use Rattle.mon_cards.specs.declared.code.Code.TheVariants.{BadName, BadCharacter, LineTooLong, BadCard, OutOfPlace, AccountTwice, TooManyGroups}
 use Rattle.mon_cards.specs.declared.list.OpenList.{OpenList}
-use Rattle.mon_cards.specs.declared.request.Request.TheVariants.{Nothing, Asks, OpensList, OpensJob, Turns}
+use Rattle.mon_cards.specs.declared.request.Request.TheVariants.{Nothing, Asks, OpensList}
 use Rattle.mon_cards.specs.declared.job.OpenJob.{OpenJob}
 use Rattle.mon_cards.specs.declared.turn.Turn.{Turn}
 use Rattle.mon_cards.specs.Cards.{card_among, is_card}
 use Rattle.mon_cards.specs.Decks.{Deck, Cards, Asked, Commands, Enters, Gives, Drains, Ending, Stopped}
 use Rattle.mon_cards.specs.Refusing.{or_else, unless, line_refusal, lone_card_refusal, is_dollar_line}
 use Rattle.mon_cards.specs.Requests.{opened, with_line, set_acl_of, card_refusal, card_request, stream_refusal, request_on, end_refusal, list_text_refusal, is_list_character, acl_on}
-use Rattle.mon_cards.specs.Sections.{opening_refusal, account_on, table_refusal, account_refusal, accounts_refusal, table_after, text_refusal, sets_of, ends_catalogue, catalogue_refusal, Open, Closed, InList, InJob, and_then, goes_on, requested, stream_section, deck_goes_on, catalogue_section, accounts_section, opening_section, deck_of}
+use Rattle.mon_cards.specs.Sections.{opening_refusal, account_on, table_refusal, account_refusal, accounts_refusal, table_after, text_refusal, sets_of, ends_catalogue, catalogue_refusal, Closed, InList, InJob, and_then, goes_on, requested, stream_section, deck_goes_on, catalogue_section, accounts_section, opening_section, deck_of}
 use Rattle.mon_cards.specs.CardLines.{IsLineWithin, IsCard}
 use Rattle.mon_cards.specs.Spelling.{AreBlank, SpellsAccount, SpellsAccounts, NamesOn, SpellsShort, IsListLine, SpellsLong, SpellsCommand, SpellsAsked, SpellsStream, IsDeck}
 use Rattle.mon_cards.specs.JobSpelling.{SpellsJob, SpellsTurn}

@@ -17,7 +17,6 @@ use Rattle.mon_catalogue.specs.Progress.{Progress, step, after_lines, is_due, fi
 use Rattle.mon_catalogue.specs.Text.{text_of}
 use Rattle.mon_catalogue.proofs.Blanks.{both}
 use Rattle.mon_catalogue.proofs.Whole.{text_spells}
-use Rattle.mon_command.specs.declared.command.Command.{Command}
 use Rattle.mon_command.specs.declared.command.Command.TheVariants as command
 use Rattle.mon_cards.specs.declared.card.Card.{Card}
 use Rattle.mon_cards.specs.declared.card.Card.TheVariants as card
@@ -32,7 +31,7 @@ use Rattle.mon_cards.specs.Refusing.{or_else, unless, line_refusal, lone_card_re
 use Rattle.mon_cards.specs.Requests.{opened, with_line, set_acl_of, set_acl_refusal, two_names_refusal, catalog_refusal, card_refusal, card_request, stream_refusal, request_on, end_refusal, list_text_refusal, list_line_refusal, is_list_character, acl_on}
 use Rattle.mon_cards.specs.Sections.{opening_refusal, account_on, words_refusal, table_refusal, account_refusal, accounts_refusal, table_after, text_refusal, sets_of, ends_catalogue, catalogue_refusal, Open, Closed, InList, InJob, and_then, goes_on, requested, refused, stream_section, refused_early, deck_goes_on, catalogue_section, accounts_section, opening_section, deck_of}
 use Rattle.mon_cards.specs.CardLines.{IsLineWithin, IsCard}
-use Rattle.mon_cards.specs.Spelling.{AreBlank, SpellsAccount, SpellsAccounts, NamesOn, SpellsShort, IsListLine, SpellsLong, SpellsCommand, SpellsAsked, SpellsStream, IsDeck}
+use Rattle.mon_cards.specs.Spelling.{AreBlank, SpellsAccount, SpellsAccounts, NamesOn, SpellsShort, IsListLine, SpellsLong, SpellsAsked, SpellsStream, IsDeck}
 use Rattle.mon_cards.specs.Jobs.{job_refusal, job_on, turn_on, job_line_refusal, ends_job, with_unit, with_program_line, after_job_line, unit_on, program_text}
 use Rattle.mon_cards.specs.Laws.{ending_of}
 use Rattle.mon_cards.proofs.Spelled.{both_hold, neither, passes, taken_line, alone, lone_card, is_accounts, is_catalogue, is_stream, is_end}

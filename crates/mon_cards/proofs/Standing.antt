@@ -8,7 +8,6 @@ use Rattle.mon_cards.specs.declared.code.Code.{Code}
 use Rattle.mon_cards.specs.declared.code.Code.TheVariants.{Truncated}
 use Rattle.mon_cards.specs.declared.request.Request.{Request}
 use Rattle.mon_cards.specs.declared.request.Request.TheVariants as request
-use Rattle.mon_cards.specs.declared.job.OpenJob.{OpenJob}
 use Rattle.mon_cards.specs.Decks.{Deck, Cards, Commands, Enters, Gives, Drains, Stopped, Refused}
 use Rattle.mon_cards.specs.Refusing.{or_else, line_refusal, is_dollar_line}
 use Rattle.mon_cards.specs.Jobs.{job_line_refusal, ends_job, after_job_line}

@@ -1,5 +1,5 @@
 -- The cards of jobs and of turns (own): what each asks for, and what a line says where a job is open.
-use Rattle.std.specs.Prelude.{ℕ, ◌+◌, ◌==◌, ◌&&◌, ◌||◌, Bool, true, false, not, nat_lt, nat_le, nat_eq, List, [], ◌∷◌, ◌++◌, length, drop, Option, Some, None, if◌then◌else◌, codes}
+use Rattle.std.specs.Prelude.{ℕ, ◌==◌, ◌&&◌, ◌||◌, Bool, true, false, not, nat_lt, nat_le, nat_eq, List, [], ◌∷◌, ◌++◌, length, drop, Option, Some, None, if◌then◌else◌, codes}
 use Rattle.std.specs.List.{starts_with}
 use Rattle.mon_text.specs.Names.{is_name}
 use Rattle.mon_text.specs.Counts.{is_count, value_of}
