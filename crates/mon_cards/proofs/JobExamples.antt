@@ -9,7 +9,7 @@ use Rattle.mon_cards.specs.Cards.{card_among}
 use Rattle.mon_cards.specs.Decks.{Enters, Drains, Stopped}
 use Rattle.mon_cards.specs.Jobs.{usual_limits, opened_job}
 use Rattle.mon_cards.specs.Requests.{card_refusal}
-use Rattle.mon_cards.specs.Sections.{Closed, InJob, refused, stream_section}
+use Rattle.mon_cards.specs.Sections.{Closed, InJob, refused, stream_section, refused_early, opening_section}
 
 abbrev code_of : List ℕ → Option Code
 code_of card = card_refusal (card_among (words card)) (words card)
@@ -32,11 +32,12 @@ limit_too_large = refl
 turn_number_before_range : code_of (codes "$TURN 9 x") ≡ Some BadNumber
 turn_number_before_range = refl
 
-slot_nine : code_of (codes "$TURN 9 1") ≡ Some BadCard
-slot_nine = refl
-
 end_in_the_stream : code_of (codes "$EOJ") ≡ Some OutOfPlace
 end_in_the_stream = refl
+
+-- a card that is known is out of place before the account table
+too_early : opening_section 1 (codes "$DRAIN" ∷ []) ≡ refused_early 1 OutOfPlace []
+too_early = refl
 
 abbrev lisa : OpenJob
 lisa = opened_job (codes "lisa") usual_limits
