@@ -485,254 +485,175 @@ fn a_deck_cut_anywhere_is_refused(rt: HostRuntime) {
     }
 }
 
-/// A small deck that is refused at a line, after what it printed.
-#[derive(Drop)]
-struct Refusal<'a> {
-    deck: &'a [u8],
-    line: u64,
-    code: Code,
-    printed: &'static [u8],
-}
-
-/// Codes with the places that the rules give, section by section.
-static REFUSALS: [Refusal<'static>; 36] = [
-    // Before the account table.
-    Refusal {
-        deck: b"",
-        line: 1,
-        code: Code::Truncated,
-        printed: b"",
-    },
-    Refusal {
-        deck: b"\n  \nanna admin\n",
-        line: 3,
-        code: Code::UnknownCard,
-        printed: b"",
-    },
-    Refusal {
-        deck: b"$CATALOGUE\n",
-        line: 1,
-        code: Code::OutOfPlace,
-        printed: b"",
-    },
-    Refusal {
-        deck: b"$ACCOUNTS x\n",
-        line: 1,
-        code: Code::BadCard,
-        printed: b"",
-    },
-    // The account table.
-    Refusal {
-        deck: b"$ACCOUNTS\nanna\n",
-        line: 2,
-        code: Code::BadCard,
-        printed: b"",
-    },
-    Refusal {
-        deck: b"$ACCOUNTS\n2anna\n",
-        line: 2,
-        code: Code::BadCard,
-        printed: b"",
-    },
-    Refusal {
-        deck: b"$ACCOUNTS\n2anna admin\n",
-        line: 2,
-        code: Code::BadName,
-        printed: b"",
-    },
-    Refusal {
-        deck: b"$ACCOUNTS\nanna\tadmin\n",
-        line: 2,
-        code: Code::BadCharacter,
-        printed: b"",
-    },
-    Refusal {
-        deck: b"$ACCOUNTS\nanna\radmin\n",
-        line: 2,
-        code: Code::BadCharacter,
-        printed: b"",
-    },
-    Refusal {
-        deck: b"$ACCOUNTS\nanna admin\nanna admin 9g\n",
-        line: 3,
-        code: Code::BadName,
-        printed: b"",
-    },
-    Refusal {
-        deck: b"$ACCOUNTS\nanna admin\nanna ops\n",
-        line: 3,
-        code: Code::AccountTwice,
-        printed: b"",
-    },
-    Refusal {
-        deck: b"$ACCOUNTS\nanna admin g g g g g g g g g g g g g g g g g\n",
-        line: 2,
-        code: Code::TooManyGroups,
-        printed: b"",
-    },
-    Refusal {
-        deck: b"$ACCOUNTS\nanna admin\n$ACCOUNTS\n",
-        line: 3,
-        code: Code::OutOfPlace,
-        printed: b"",
-    },
-    // The catalogue.
-    Refusal {
-        deck: b"$ACCOUNTS\nanna admin\n$CATALOGUE\nSET X anna admin 0\n",
-        line: 4,
-        code: Code::UnknownCard,
-        printed: b"",
-    },
-    Refusal {
-        deck: b"$ACCOUNTS\nanna admin\n$CATALOGUE\n$STOP\n",
-        line: 4,
-        code: Code::OutOfPlace,
-        printed: b"",
-    },
-    Refusal {
-        deck: b"$ACCOUNTS\nanna admin\n$CATALOGUE\n$STREAM x\n",
-        line: 4,
-        code: Code::BadCard,
-        printed: b"",
-    },
-    Refusal {
-        deck: b"$ACCOUNTS\nanna admin\n$CATALOGUE\n$SET X anna admin two\n",
-        line: 4,
-        code: Code::BadText,
-        printed: b"",
-    },
-    Refusal {
-        deck: b"$ACCOUNTS\nanna admin\n$CATALOGUE\n$SET X anna admin 100001\n",
-        line: 4,
-        code: Code::SetFull,
-        printed: b"",
-    },
-    Refusal {
-        deck: b"$ACCOUNTS\nanna admin\n$CATALOGUE\n$SET X anna admin 0\nu::r,u:lisa:r,g::,o::\n",
-        line: 5,
-        code: Code::BadText,
-        printed: b"",
-    },
-    Refusal {
-        deck: b"$ACCOUNTS\nanna admin\n$CATALOGUE\n$SET X anna admin 0\nu::,g::,o::\n$SET X anna admin 0\n",
-        line: 6,
-        code: Code::NameTaken,
-        printed: b"",
-    },
-    // The cards.
-    Refusal {
-        deck: b"$ACCOUNTS\n$CATALOGUE\n$STREAM\n$SET X anna admin 0\n",
-        line: 4,
-        code: Code::OutOfPlace,
-        printed: b"",
-    },
-    Refusal {
-        deck: b"$ACCOUNTS\n$CATALOGUE\n$STREAM\n$LIST lisa\n$STOP\n",
-        line: 4,
-        code: Code::BadCard,
-        printed: b"",
-    },
-    Refusal {
-        deck: b"$ACCOUNTS\n$CATALOGUE\n$STREAM\n$LIST 9a 9X y\n$STOP\n",
-        line: 4,
-        code: Code::BadCard,
-        printed: b"",
-    },
-    Refusal {
-        deck: b"$ACCOUNTS\n$CATALOGUE\n$STREAM\n$LIST lisa X\n$LIST lisa 9X\n$STOP\n",
-        line: 5,
-        code: Code::BadName,
-        printed: b"LIST lisa X\nREFUSED M2 NO ACCOUNT\n",
-    },
-    Refusal {
-        deck: b"$ACCOUNTS\n$CATALOGUE\n$STREAM\n$LIST lisa X\n$STOP now\n",
-        line: 5,
-        code: Code::BadCard,
-        printed: b"LIST lisa X\nREFUSED M2 NO ACCOUNT\n",
-    },
-    Refusal {
-        deck: b"$ACCOUNTS\n$CATALOGUE\n$STREAM\n$FOO\n",
-        line: 4,
-        code: Code::UnknownCard,
-        printed: b"",
-    },
-    Refusal {
-        deck: b"$ACCOUNTS\n$CATALOGUE\n$STREAM\n$ENDACL\n",
-        line: 4,
-        code: Code::OutOfPlace,
-        printed: b"",
-    },
-    Refusal {
-        deck: b"$ACCOUNTS\n$CATALOGUE\n$STREAM\n$CREATE lisa X SEQ\n",
-        line: 4,
-        code: Code::BadCard,
-        printed: b"",
-    },
-    Refusal {
-        deck: b"$ACCOUNTS\n$CATALOGUE\n$STREAM\n$CATALOG lisa X\n",
-        line: 4,
-        code: Code::BadCard,
-        printed: b"",
-    },
-    Refusal {
-        deck: b"$ACCOUNTS\n$CATALOGUE\n$STREAM\n$CATALOG 9\n",
-        line: 4,
-        code: Code::BadName,
-        printed: b"",
-    },
-    Refusal {
-        deck: b"$ACCOUNTS\n$CATALOGUE\n$STREAM\n$SETACL lisa\n",
-        line: 4,
-        code: Code::BadCard,
-        printed: b"",
-    },
-    Refusal {
-        deck: b"$ACCOUNTS\n$CATALOGUE\n$STREAM\n$SETACL lisa X u::r,\tg::r,o::r\n",
-        line: 4,
-        code: Code::BadCharacter,
-        printed: b"",
-    },
-    Refusal {
-        deck: b"$ACCOUNTS\n$CATALOGUE\n$STREAM\n$SETACL lisa X\nu::r\n$LIST lisa X\n",
-        line: 6,
-        code: Code::OutOfPlace,
-        printed: b"",
-    },
-    Refusal {
-        deck: b"$ACCOUNTS\n$CATALOGUE\n$STREAM\n$SETACL lisa X\nu::r\n$ENDACL x\n",
-        line: 6,
-        code: Code::BadCard,
-        printed: b"",
-    },
-    Refusal {
-        deck: b"$ACCOUNTS\n$CATALOGUE\n$STREAM\n$SETACL lisa X\n\tu::r\n$ENDACL\t\n",
-        line: 6,
-        code: Code::BadCharacter,
-        printed: b"",
-    },
-    Refusal {
-        deck: b"$ACCOUNTS\n$CATALOGUE\n$STREAM\n$LIST lisa X\n",
-        line: 5,
-        code: Code::Truncated,
-        printed: b"LIST lisa X\nREFUSED M2 NO ACCOUNT\n",
-    },
+/// Small decks, the line at which each is refused, and the code: by the rules, section by section.
+static REFUSALS: [(&[u8], u64, Code); 33] = [
+    (b"", 1, Code::Truncated),
+    (b"\n  \nanna admin\n", 3, Code::UnknownCard),
+    (b"$CATALOGUE\n", 1, Code::OutOfPlace),
+    (b"$ACCOUNTS x\n", 1, Code::BadCard),
+    (b"$ACCOUNTS\nanna\n", 2, Code::BadCard),
+    (b"$ACCOUNTS\n2anna\n", 2, Code::BadCard),
+    (b"$ACCOUNTS\n2anna admin\n", 2, Code::BadName),
+    (b"$ACCOUNTS\nanna\tadmin\n", 2, Code::BadCharacter),
+    (b"$ACCOUNTS\nanna\radmin\n", 2, Code::BadCharacter),
+    (b"$ACCOUNTS\nanna admin\nanna admin 9g\n", 3, Code::BadName),
+    (b"$ACCOUNTS\nanna admin\nanna ops\n", 3, Code::AccountTwice),
+    (
+        b"$ACCOUNTS\nanna admin g g g g g g g g g g g g g g g g g\n",
+        2,
+        Code::TooManyGroups,
+    ),
+    (b"$ACCOUNTS\nanna admin\n$ACCOUNTS\n", 3, Code::OutOfPlace),
+    (
+        b"$ACCOUNTS\nanna admin\n$CATALOGUE\nSET X anna admin 0\n",
+        4,
+        Code::UnknownCard,
+    ),
+    (
+        b"$ACCOUNTS\nanna admin\n$CATALOGUE\n$STOP\n",
+        4,
+        Code::OutOfPlace,
+    ),
+    (
+        b"$ACCOUNTS\nanna admin\n$CATALOGUE\n$STREAM x\n",
+        4,
+        Code::BadCard,
+    ),
+    (
+        b"$ACCOUNTS\nanna admin\n$CATALOGUE\n$SET X anna admin two\n",
+        4,
+        Code::BadText,
+    ),
+    (
+        b"$ACCOUNTS\nanna admin\n$CATALOGUE\n$SET X anna admin 100001\n",
+        4,
+        Code::SetFull,
+    ),
+    (
+        b"$ACCOUNTS\nanna admin\n$CATALOGUE\n$SET X anna admin 0\nu::r,u:lisa:r,g::,o::\n",
+        5,
+        Code::BadText,
+    ),
+    (
+        b"$ACCOUNTS\nanna admin\n$CATALOGUE\n$SET X anna admin 0\nu::,g::,o::\n$SET X anna admin 0\n",
+        6,
+        Code::NameTaken,
+    ),
+    (
+        b"$ACCOUNTS\n$CATALOGUE\n$STREAM\n$SET X anna admin 0\n",
+        4,
+        Code::OutOfPlace,
+    ),
+    (
+        b"$ACCOUNTS\n$CATALOGUE\n$STREAM\n$LIST lisa\n$STOP\n",
+        4,
+        Code::BadCard,
+    ),
+    (
+        b"$ACCOUNTS\n$CATALOGUE\n$STREAM\n$LIST 9a 9X y\n$STOP\n",
+        4,
+        Code::BadCard,
+    ),
+    (
+        b"$ACCOUNTS\n$CATALOGUE\n$STREAM\n$FOO\n",
+        4,
+        Code::UnknownCard,
+    ),
+    (
+        b"$ACCOUNTS\n$CATALOGUE\n$STREAM\n$ENDACL\n",
+        4,
+        Code::OutOfPlace,
+    ),
+    (
+        b"$ACCOUNTS\n$CATALOGUE\n$STREAM\n$CREATE lisa X SEQ\n",
+        4,
+        Code::BadCard,
+    ),
+    (
+        b"$ACCOUNTS\n$CATALOGUE\n$STREAM\n$CATALOG lisa X\n",
+        4,
+        Code::BadCard,
+    ),
+    (
+        b"$ACCOUNTS\n$CATALOGUE\n$STREAM\n$CATALOG 9\n",
+        4,
+        Code::BadName,
+    ),
+    (
+        b"$ACCOUNTS\n$CATALOGUE\n$STREAM\n$SETACL lisa\n",
+        4,
+        Code::BadCard,
+    ),
+    (
+        b"$ACCOUNTS\n$CATALOGUE\n$STREAM\n$SETACL lisa X u::r,\tg::r,o::r\n",
+        4,
+        Code::BadCharacter,
+    ),
+    (
+        b"$ACCOUNTS\n$CATALOGUE\n$STREAM\n$SETACL lisa X\nu::r\n$LIST lisa X\n",
+        6,
+        Code::OutOfPlace,
+    ),
+    (
+        b"$ACCOUNTS\n$CATALOGUE\n$STREAM\n$SETACL lisa X\nu::r\n$ENDACL x\n",
+        6,
+        Code::BadCard,
+    ),
+    (
+        b"$ACCOUNTS\n$CATALOGUE\n$STREAM\n$SETACL lisa X\n\tu::r\n$ENDACL\t\n",
+        6,
+        Code::BadCharacter,
+    ),
 ];
 
-fn is_refused(alloc: Global, refusal: &Refusal<'_>, check: bool, wanted: &[u8]) -> bool {
+/// The same, and what each printed before.
+static LATE_REFUSALS: [(&[u8], u64, Code, &[u8]); 3] = [
+    (
+        b"$ACCOUNTS\n$CATALOGUE\n$STREAM\n$LIST lisa X\n$LIST lisa 9X\n$STOP\n",
+        5,
+        Code::BadName,
+        b"LIST lisa X\nREFUSED M2 NO ACCOUNT\n",
+    ),
+    (
+        b"$ACCOUNTS\n$CATALOGUE\n$STREAM\n$LIST lisa X\n$STOP now\n",
+        5,
+        Code::BadCard,
+        b"LIST lisa X\nREFUSED M2 NO ACCOUNT\n",
+    ),
+    (
+        b"$ACCOUNTS\n$CATALOGUE\n$STREAM\n$LIST lisa X\n",
+        5,
+        Code::Truncated,
+        b"LIST lisa X\nREFUSED M2 NO ACCOUNT\n",
+    ),
+];
+
+fn is_refused(
+    alloc: Global,
+    deck: &[u8],
+    check: bool,
+    line: u64,
+    code: Code,
+    printed: &[u8],
+) -> bool {
     let Ok(writer) = MemWriter::new(alloc, ROOM) else {
         return false;
     };
-    let mut devices = Devices::new(MemReader::new(refusal.deck), writer);
+    let mut devices = Devices::new(MemReader::new(deck), writer);
     let outcome = run_deck(alloc, &mut devices, options(check));
-    matches!(outcome, Err(RunError::DeckRefused(line, code)) if line == refusal.line && code == refusal.code)
-        && devices.writer.as_bytes() == wanted
+    matches!(outcome, Err(RunError::DeckRefused(at, why)) if at == line && why == code)
+        && devices.writer.as_bytes() == printed
 }
 
 #[test]
 fn decks_are_refused_at_their_lines(rt: HostRuntime) {
-    for refusal in &REFUSALS {
-        assert!(rt; is_refused(rt.alloc(), refusal, false, refusal.printed));
-        assert!(rt; is_refused(rt.alloc(), refusal, true, b""));
+    for (deck, line, code) in &REFUSALS {
+        assert!(rt; is_refused(rt.alloc(), deck, false, *line, *code, b""));
+        assert!(rt; is_refused(rt.alloc(), deck, true, *line, *code, b""));
+    }
+    for (deck, line, code, printed) in &LATE_REFUSALS {
+        assert!(rt; is_refused(rt.alloc(), deck, false, *line, *code, printed));
+        assert!(rt; is_refused(rt.alloc(), deck, true, *line, *code, b""));
     }
 }
 
@@ -751,13 +672,7 @@ fn is_told_to_be_long(alloc: Global, length: usize, code: Code) -> bool {
     let Ok(deck) = long_line(alloc, length) else {
         return false;
     };
-    let refusal = Refusal {
-        deck: &deck,
-        line: 2,
-        code,
-        printed: b"",
-    };
-    is_refused(alloc, &refusal, false, b"")
+    is_refused(alloc, &deck, false, 2, code, b"")
 }
 
 #[test]
