@@ -2,15 +2,16 @@
 ghost use Rattle.std.specs.Prelude.{◌≡◌, ◌++◌, ◌<◌, ◌≤◌, ◌+◌, ◌^◌, take, ◌⊎◌, ℕ, List, [], None, true, false, length, vec_len, is_err, IfSome, IfOk, OnOk, OnErr};
 ghost use Rattle.mon_cards.specs.declared.code.Code.{Code, Code as AnyCode};
 ghost use Rattle.mon_catalogue.specs.Sets.{Sets};
+ghost use Rattle.mon_slots.specs.Marks.{Marks};
 ghost use Rattle.mon_cards.specs.Decks.{Stopped, Refused};
-ghost use Rattle.mon_device.specs.declared.transfer.TheConstants.{MOST_READS};
+ghost use Rattle.mon_device.specs.declared.transfer.TheConstants.{MOST_READS, READ_SIZE};
 ghost use Rattle.mon_device.specs.Devices.{IsAtEnd, HasRead, holding};
 ghost use Rattle.mon_feed.specs.Feeds.{Good, refused_at, error_at, is_reading, IsReadBack};
-ghost use Rattle.mon_feed.specs.Told.{told, outcome_from};
+ghost use Rattle.mon_feed.specs.Told.{outcome_from};
 ghost use Rattle.mon_feed.specs.inner.Counting.{lines_ended};
-ghost use Rattle.mon_deck.specs.inner.Writing.{holds, HasGrown, Begun, Runs, Broke, Stands, BrokeOff};
-ghost use Rattle.mon_feed.specs.Printouts.{output_of, ReadsBack};
-ghost use Rattle.mon_deck.specs.Runs.{ending_of, catalogue_after, counts_of, HoldsBeginning, HasBegun, HasPrinted, HasBrokenOff};
+ghost use Rattle.mon_feed.specs.Printouts.{ReadsBack};
+ghost use Rattle.mon_deck.specs.inner.Writing.{holds, HasGrown, Serves, Refuses, Starts, Begun, Runs, Broke, Stands, BrokeOff};
+ghost use Rattle.mon_deck.specs.Runs.{ending_of, counts_of, HoldsBeginning, HasWritten, HasRun, HasBegun, HasPrinted, HasBrokenOff};
 ghost use Rattle.mon_deck.specs.Faults.{status_of, fault_line};
 
 use mon_device::{DeckDevices, Failed, MOST_READS, READ_SIZE, write_all};
@@ -21,14 +22,17 @@ use std::alloc::{AllocError, Global};
 /// How many bytes of output are gathered before they are written.
 const WRITE_SIZE: usize = 65_536;
 
-/// Runs a deck: reads all of it, serves its commands in order, and writes the printout of each and then the catalogue as
-/// it stands. Where the deck is only to be checked, no command is served, and `DECK OK` is written in place of all that.
+/// Runs a deck: reads all of it, serves its commands and runs its jobs as its cards say, and writes the printout of each,
+/// as it is served or has ended, and then the catalogue as it stands. Where the deck is only to be checked, none of this is
+/// done, and `DECK OK` is written in place of it.
+///
+/// Memory may break off turns of jobs; the run goes on then. The marks say where it did.
 ///
 /// The reader and the writer come as one, of which no call is made once one has failed.
 ///
 /// # Errors
 ///
-/// `DeckRefused` at the first line that is refused: the printouts of the commands before it were written, unless the
+/// `DeckRefused` at the first line that is refused: what the cards before it print was written, unless the
 /// deck was only to be checked, and no catalogue. `ReadFault` where the reader failed, or where 4,294,967,295 reads did not
 /// come to its end: the output of all lines that were read whole was written. `WriteFault` where the writer failed; `Memory`
 /// where a growth was refused: the output of the lines before that was written.
@@ -39,29 +43,28 @@ pub fn run_deck<D: DeckDevices>(
 ) -> Result<Counts, RunError>
     requires sound { (D.read_failed devices.old ≡ false) × (D.write_failed devices.old ≡ false) }
 
-    // A good deck was read to its end, and its output was written.
+    // A good deck was read to its end, and its output was written, whose catalogue can be read again.
     ensures at_end { OnOk result (IsAtEnd (D.remaining devices.new)) }
     ensures stopped { OnOk result (IfSome (D.remaining devices.old) (λ bytes. ending_of bytes ≡ Stopped)) }
-    ensures output { OnOk result (IfSome (D.remaining devices.old) (λ bytes.
-        D.written devices.new ≡ holding (D.written devices.old) (output_of options.check bytes))) }
-    ensures reads_back { OnOk result (options.check ≡ false → IfSome (D.remaining devices.old) (λ bytes. ReadsBack (catalogue_after bytes))) }
+    ensures output { OnOk result (IfSome (D.remaining devices.old) (λ bytes. HasRun options (D.written devices.old) (D.written devices.new) bytes)) }
     ensures counts { IfOk result (λ counts. IfSome (D.remaining devices.old) (λ bytes. counts ≡ counts_of bytes)) }
 
     // A refused deck is refused at its first refusal, and what came before that was written.
     ensures refused { (line : ℕ) (code : Code) → result ≡ Err (RunError.DeckRefused line code) →
         IfSome (D.remaining devices.old) (λ bytes. ending_of bytes ≡ Refused line code) }
     ensures refused_output { (line : ℕ) (code : Code) → result ≡ Err (RunError.DeckRefused line code) →
-        IfSome (D.remaining devices.old) (λ bytes. D.written devices.new ≡ holding (D.written devices.old) (output_of options.check bytes)) }
+        IfSome (D.remaining devices.old) (λ bytes. HasWritten options (D.written devices.old) (D.written devices.new) bytes) }
 
     // Whatever is answered, what was written is a beginning of the output.
-    ensures begun { HasBegun options.check (D.remaining devices.old) (D.remaining devices.new) (D.written devices.old) (D.written devices.new) }
+    ensures begun { HasBegun options (D.remaining devices.old) (D.remaining devices.new) (D.written devices.old) (D.written devices.new) }
 
     // Where the reader failed, all lines that were read whole have been answered, and none was refused. They had been before
     // that read, since nothing may be written after it.
-    ensures due { result ≡ Err RunError.ReadFault → HasPrinted options.check (D.remaining devices.old) (D.remaining devices.new) (D.written devices.old) (D.written devices.new) }
+    ensures due { result ≡ Err RunError.ReadFault → HasPrinted options (D.remaining devices.old) (D.remaining devices.new) (D.written devices.old) (D.written devices.new) }
 
-    // Where memory ran out, it did at a line: those before it have been answered, none was refused, and no `$STOP` was among them.
-    ensures short { result ≡ Err RunError.Memory → HasBrokenOff options.check (D.remaining devices.old) (D.remaining devices.new) (D.written devices.old) (D.written devices.new) }
+    // Where memory ran out, it did at a line of the last read: those before it have been answered, none was refused, and no
+    // `$STOP` was among them.
+    ensures short { result ≡ Err RunError.Memory → HasBrokenOff options (D.remaining devices.old) (D.remaining devices.new) (D.written devices.old) (D.written devices.new) }
 
     // Where a device failed, that is told; and only there.
     ensures faults { (D.read_failed devices.new ≡ true → result ≡ Err RunError.ReadFault) × (D.write_failed devices.new ≡ true → result ≡ Err RunError.WriteFault) }
@@ -97,7 +100,7 @@ fn feed_all<D: DeckDevices>(
     ensures reads_back { IsReadBack feed.old.options.check feed.old.state → OnOk result (IsReadBack feed.new.options.check feed.new.state) }
     ensures options { feed.new.options ≡ feed.old.options }
     ensures refused { (n : ℕ) (code : AnyCode) → result ≡ Err (RunError.DeckRefused n code) →
-        IfSome (D.remaining devices.old) (λ bytes. holds (D.written devices.new) (refused_at n code) ≡ holds (D.written devices.old) (outcome_from feed.old bytes)) }
+        IfSome (D.remaining devices.old) (λ bytes. (marks : Marks) × (holds (D.written devices.new) (refused_at n code) ≡ holds (D.written devices.old) (outcome_from marks feed.old bytes))) }
     ensures sound { OnOk result ((D.read_failed devices.new ≡ false) × (D.write_failed devices.new ≡ false)) }
     ensures faults { (D.read_failed devices.new ≡ true → result ≡ Err RunError.ReadFault) × (D.write_failed devices.new ≡ true → result ≡ Err RunError.WriteFault) }
     ensures read_fault { result ≡ Err RunError.ReadFault →
@@ -139,8 +142,8 @@ fn serve<D: DeckDevices>(
     requires empty { out.old.items ≡ [] }
     ensures served { OnOk result (Stands (D.written devices.old) (D.written devices.new) [] feed.old feed.new piece.now) }
     ensures refused { (n : ℕ) (code : AnyCode) → result ≡ Err (RunError.DeckRefused n code) →
-        (bytes : List ℕ) → holds (D.written devices.new) (refused_at n code) ≡ holds (D.written devices.old) (outcome_from feed.old (piece.now ++ bytes)) }
-    ensures begun { (bytes : List ℕ) → HoldsBeginning (D.written devices.old) (D.written devices.new) (outcome_from feed.old (piece.now ++ bytes)).written }
+        Refuses (D.written devices.old) (D.written devices.new) [] feed.old piece.now n code }
+    ensures begun { Starts (D.written devices.old) (D.written devices.new) [] feed.old piece.now }
     ensures short { result ≡ Err RunError.Memory → BrokeOff (D.written devices.old) (D.written devices.new) feed.old piece.now }
     ensures empty { OnOk result (out.new.items ≡ []) }
     ensures fed { OnOk result (feed.new.fed ≡ feed.old.fed + length piece.now) }
@@ -176,10 +179,10 @@ fn serve_line<D: DeckDevices>(
     requires few { feed.old.fed + length piece.now < 2 ^ 63 }
     requires reading { error_at feed.old.state ≡ None }
     ensures used { IfOk result (λ used. (0 < used) × (used ≤ length piece.now) × (feed.new.fed ≡ feed.old.fed + used)) }
-    ensures served { IfOk result (λ used. (bytes : List ℕ) → holds (D.written devices.new) (told out.new.items feed.new bytes) ≡ holds (D.written devices.old) (told out.old.items feed.old (take used piece.now ++ bytes))) }
+    ensures served { IfOk result (λ used. Serves (D.written devices.old) (D.written devices.new) out.old.items feed.old (take used piece.now) out.new.items feed.new) }
     ensures refused { (n : ℕ) (code : AnyCode) → result ≡ Err (RunError.DeckRefused n code) →
-        (bytes : List ℕ) → holds (D.written devices.new) (refused_at n code) ≡ holds (D.written devices.old) (told out.old.items feed.old (piece.now ++ bytes)) }
-    ensures begun { (bytes : List ℕ) → HoldsBeginning (D.written devices.old) (D.written devices.new) (told out.old.items feed.old (piece.now ++ bytes)).written }
+        Refuses (D.written devices.old) (D.written devices.new) out.old.items feed.old piece.now n code }
+    ensures begun { Starts (D.written devices.old) (D.written devices.new) out.old.items feed.old piece.now }
     ensures short { result ≡ Err RunError.Memory → (is_reading feed.old.state ≡ true) × (D.written devices.new ≡ holding (D.written devices.old) out.old.items) }
     ensures counted { IfOk result (λ used. is_reading feed.new.state ≡ true → (is_reading feed.old.state ≡ true) × (feed.old.lines_taken + lines_ended (take used piece.now) ≤ feed.new.lines_taken)) }
     ensures reading { OnOk result (error_at feed.new.state ≡ None) }
@@ -228,11 +231,12 @@ fn finish<D: DeckDevices>(
     requires sound { (D.read_failed devices.old ≡ false) × (D.write_failed devices.old ≡ false) }
     requires reading { error_at feed.state ≡ None }
     requires empty { out.old.items ≡ [] }
-    ensures ended { IfOk result (λ counts. (sets : Sets) × (holds (D.written devices.new) (record { written = []; conclusion = Good counts.commands sets }) ≡ holds (D.written devices.old) (outcome_from feed []))
-        × (IsReadBack feed.options.check feed.state → feed.options.check ≡ false → ReadsBack sets) × (counts.jobs ≡ 0)) }
+    ensures ended { IfOk result (λ counts. (marks : Marks) × (sets : Sets)
+        × (holds (D.written devices.new) (record { written = []; conclusion = Good counts sets }) ≡ holds (D.written devices.old) (outcome_from marks feed []))
+        × (IsReadBack feed.options.check feed.state → feed.options.check ≡ false → ReadsBack sets)) }
     ensures refused { (n : ℕ) (code : AnyCode) → result ≡ Err (RunError.DeckRefused n code) →
-        holds (D.written devices.new) (refused_at n code) ≡ holds (D.written devices.old) (outcome_from feed []) }
-    ensures begun { HoldsBeginning (D.written devices.old) (D.written devices.new) (outcome_from feed []).written }
+        (marks : Marks) × (holds (D.written devices.new) (refused_at n code) ≡ holds (D.written devices.old) (outcome_from marks feed [])) }
+    ensures begun { (marks : Marks) × ((rest : Marks) → HoldsBeginning (D.written devices.old) (D.written devices.new) (outcome_from (marks ++ rest) feed []).written) }
     ensures short { result ≡ Err RunError.Memory → (is_reading feed.state ≡ true) × (D.written devices.new ≡ D.written devices.old) }
     ensures apart { (D.remaining devices.new ≡ D.remaining devices.old) × (D.reads devices.new ≡ D.reads devices.old) × (D.read_failed devices.new ≡ false) }
     ensures faults { D.write_failed devices.new ≡ true → result ≡ Err RunError.WriteFault }

@@ -1,9 +1,12 @@
--- What a writer holds in the end, and what it holds on the way.
-use Rattle.std.specs.Prelude.{◌≡◌, ◌≤◌, ◌+◌, ℕ, true, List, [], ◌++◌, Option, None}
+-- What a writer holds in the end, and what it holds on the way. With marks: those that the turns so far took.
+use Rattle.std.specs.Prelude.{◌≡◌, ◌≤◌, ◌+◌, ℕ, true, List, [], ◌++◌, length, Option, None}
+use Rattle.mon_slots.specs.Marks.{Marks}
+use Rattle.mon_cards.specs.declared.code.Code.{Code}
 use Rattle.mon_feed.specs.declared.feed.DeckFeed.{DeckFeed}
-use Rattle.mon_feed.specs.Feeds.{Outcome, Conclusion, error_at, is_reading}
-use Rattle.mon_feed.specs.Told.{told, outcome_from}
+use Rattle.mon_feed.specs.Feeds.{Outcome, Conclusion, refused_at, error_at, is_reading}
+use Rattle.mon_feed.specs.Told.{told}
 use Rattle.mon_feed.specs.inner.Counting.{lines_ended}
+use Rattle.mon_device.specs.declared.transfer.TheConstants.{READ_SIZE}
 use Rattle.mon_device.specs.Devices.{holding, Gives}
 use Rattle.mon_deck.specs.Runs.{HoldsBeginning}
 
@@ -20,10 +23,25 @@ pub record HasGrown (held now : Option (List ℕ)) : Type 0 where
   pub text : List ℕ
   pub is : now ≡ holding held text
 
--- A feed was given these bytes, and goes on: what was written and gathered, and what comes of any bytes that follow, is what
--- comes of all of them; while the deck is read, each line that ended in them is counted.
+-- A feed took a part: what was written and gathered, and what comes of any marks and bytes that follow, is what comes of the
+-- part and these.
+pub record Serves (held now : Option (List ℕ)) (before : List ℕ) (f : DeckFeed) (part after : List ℕ) (g : DeckFeed) : Type 0 where
+  pub marks : Marks
+  pub is : (rest : Marks) (bytes : List ℕ) → holds now (told rest after g bytes) ≡ holds held (told (marks ++ rest) before f (part ++ bytes))
+
+-- the deck is refused within this part, whatever follows
+pub record Refuses (held now : Option (List ℕ)) (before : List ℕ) (f : DeckFeed) (part : List ℕ) (n : ℕ) (code : Code) : Type 0 where
+  pub marks : Marks
+  pub is : (rest : Marks) (bytes : List ℕ) → holds now (refused_at n code) ≡ holds held (told (marks ++ rest) before f (part ++ bytes))
+
+-- what was written begins what comes of this part, whatever follows
+pub record Starts (held now : Option (List ℕ)) (before : List ℕ) (f : DeckFeed) (part : List ℕ) : Type 0 where
+  pub marks : Marks
+  pub is : (rest : Marks) (bytes : List ℕ) → HoldsBeginning held now (told (marks ++ rest) before f (part ++ bytes)).written
+
+-- A feed was given these bytes, and goes on; while the deck is read, each line that ended in them is counted.
 pub record Stands (held now : Option (List ℕ)) (gathered : List ℕ) (start f : DeckFeed) (given : List ℕ) : Type 0 where
-  pub served : (bytes : List ℕ) → holds now (told gathered f bytes) ≡ holds held (outcome_from start (given ++ bytes))
+  pub served : Serves held now [] start given gathered f
   pub counted : is_reading f.state ≡ true → (is_reading start.state ≡ true) × (start.lines_taken + lines_ended given ≤ f.lines_taken)
   pub sound : error_at f.state ≡ None
 
@@ -36,17 +54,19 @@ pub record BrokeOff (held now : Option (List ℕ)) (start : DeckFeed) (piece : L
   pub stands : Stands held now [] start feed front
   pub reading : is_reading feed.state ≡ true
 
--- the reads so far have given these bytes, and whatever follows them, what was written begins what all of it gives
+-- the reads so far have given these bytes, and what was written begins what all of it gives
 pub record Begun (told left held now : Option (List ℕ)) (start : DeckFeed) (given : List ℕ) : Type 0 where
   pub gives : Gives told given left
-  pub begun : (bytes : List ℕ) → HoldsBeginning held now (outcome_from start (given ++ bytes)).written
+  pub starts : Starts held now [] start given
 
 -- and what is written in the end is what all of it gives
 pub record Runs (told left held now : Option (List ℕ)) (start f : DeckFeed) (given : List ℕ) : Type 0 where
-  pub so_far : Begun told left held now start given
+  pub gives : Gives told given left
+  pub grown : HasGrown held now
   pub stands : Stands held now [] start f given
 
--- the reads so far have given these bytes, and the run broke off within them
+-- the reads so far have given these bytes, and the run broke off within those of the last read
 pub record Broke (told left held now : Option (List ℕ)) (start : DeckFeed) (given : List ℕ) : Type 0 where
   pub gives : Gives told given left
   pub broke : BrokeOff held now start given
+  pub last : length broke.back ≤ READ_SIZE
