@@ -5,29 +5,37 @@ use Rattle.mon_device.specs.Devices.{holding}
 use Rattle.mon_device.proofs.Holding.{holding-append, holding-nothing}
 use Rattle.mon_cards.specs.declared.code.Code.{Code}
 use Rattle.mon_feed.specs.declared.feed.DeckFeed.{DeckFeed}
+use Rattle.mon_slots.specs.Marks.{Marks}
+use Rattle.mon_feed.specs.declared.options.Counts.{Counts}
 use Rattle.mon_feed.specs.Feeds.{Outcome, behind, refused_at, Bad, Begins, is_reading, error_at, may_grow}
 use Rattle.mon_feed.specs.declared.stage.State.{State}
 use Rattle.mon_feed.specs.declared.stage.State.TheVariants as state
-use Rattle.mon_feed.specs.Told.{told, outcome_from}
+use Rattle.mon_feed.specs.Told.{told, Took, Begun as Beginning}
 use Rattle.mon_feed.specs.inner.Counting.{lines_ended}
 use Rattle.mon_feed.proofs.Parts.{ended_further}
 use Rattle.mon_deck.specs.Runs.{HoldsBeginning}
-use Rattle.mon_deck.specs.inner.Writing.{Held, holds, HasGrown, Stands, BrokeOff}
+use Rattle.mon_deck.specs.inner.Writing.{Held, holds, HasGrown, Serves, Refuses, Starts, Stands, BrokeOff}
 
 pub kept : (w w' : Option (List ℕ)) (out out' x : List ℕ) → holding w' out' ≡ holding w out → holding w' (out' ++ x) ≡ holding w (out ++ x)
 kept w w' out out' x same = sym (holding-append w' out' x) ∙ ap (λ h. holding h x) same ∙ holding-append w out x
 
 -- some of what was gathered was written
 pub kept_told : (w w' : Option (List ℕ)) (out out' : List ℕ) → holding w' out' ≡ holding w out
-    → (f : DeckFeed) (bytes : List ℕ) → holds w' (told out' f bytes) ≡ holds w (told out f bytes)
-kept_told w w' out out' same f bytes =
-    let later = told [] f bytes in
+    → (m : Marks) (f : DeckFeed) (bytes : List ℕ) → holds w' (told m out' f bytes) ≡ holds w (told m out f bytes)
+kept_told w w' out out' same m f bytes =
+    let later = told m [] f bytes in
     ap (λ b. record { bytes = b; conclusion = later.conclusion }) (kept w w' out out' later.written same)
 
+-- a part was taken, and some of what was gathered was written
+pub serves_written : (w w' : Option (List ℕ)) (before mid after : List ℕ) (f g : DeckFeed) (part : List ℕ) → Took before f part mid g → holding w' after ≡ holding w mid
+    → Serves w w' before f part after g
+serves_written w w' before mid after f g part took put =
+    record { marks = took.marks; is = λ rest bytes. kept_told w w' mid after put rest g bytes ∙ ap (holds w) (took.is rest bytes) }
+
 -- all that was gathered was written, and nothing follows
-pub refused_holds : (w w' : Option (List ℕ)) (out : List ℕ) (count n : ℕ) (code : Code) (o : Outcome) → w' ≡ holding w out → behind out count (refused_at n code) ≡ o
-    → holds w' (refused_at n code) ≡ holds w o
-refused_holds w w' out count n code o all same =
+pub refused_holds : (w w' : Option (List ℕ)) (out : List ℕ) (counts : Counts) (n : ℕ) (code : Code) (o : Outcome) → w' ≡ holding w out
+    → behind out counts (refused_at n code) ≡ o → holds w' (refused_at n code) ≡ holds w o
+refused_holds w w' out counts n code o all same =
     ap (λ h. record { bytes = holding h []; conclusion = Bad n code }) all
     ∙ ap (λ h. record { bytes = h; conclusion = Bad n code }) (holding-append w out [])
     ∙ ap (holds w) same
@@ -81,11 +89,25 @@ grown_begins (Some before) mid all rest grown same =
     let both : before ++ (grown.text ++ rest) ≡ before ++ all = ap bytes_in (sym (holding-append (Some before) grown.text rest) ∙ ap (λ w. holding w rest) (sym grown.is) ∙ same) in
     (rest, (grown.text, grown.is, sym (append_cancel_left before _ _ both)))
 
+-- so much was served, and what was written then begins the rest
 pub grown_held : (held mid now : Option (List ℕ)) (before later : Outcome) → HasGrown held mid → holds mid later ≡ holds held before
     → HoldsBeginning mid now later.written → HoldsBeginning held now before.written
 grown_held held mid now before later grown same further =
     let bytes = ap (λ (h : Held). h.bytes) same in
     held_further held mid now before.written later.written (grown_begins held mid before.written later.written grown bytes) bytes further
+
+-- what was gathered was written, or a beginning of it
+pub starts_written : (held now : Option (List ℕ)) (before after : List ℕ) (f : DeckFeed) (piece : List ℕ) → Beginning before f piece after → HoldsBeginning held now after
+    → Starts held now before f piece
+starts_written held now before after f piece begun written =
+    record { marks = begun.marks; is = λ rest bytes. held_begins held now after (told (begun.marks ++ rest) before f (piece ++ bytes)).written written (begun.is rest bytes) }
+
+-- what was gathered begins all that is to come
+pub all_told : (held now : Option (List ℕ)) (before : List ℕ) (f : DeckFeed) (piece : List ℕ) → HoldsBeginning held now before → Starts held now before f piece
+all_told held now before f piece written = record {
+  marks = [];
+  is = λ rest bytes. held_begins held now before (told rest before f (piece ++ bytes)).written written ((told rest [] f (piece ++ bytes)).written, refl);
+}
 
 -- ---- where a feed stands
 
@@ -104,35 +126,48 @@ still_read state.NoMemory bytes sound grows = cc
 
 pub stands_at_start : (held : Option (List ℕ)) (gathered : List ℕ) (f : DeckFeed) → gathered ≡ [] → error_at f.state ≡ None → Stands held held gathered f f []
 stands_at_start held gathered f empty sound = record {
-  served = λ bytes. ap (λ (out : List ℕ). holds held (told out f bytes)) empty;
+  served = record { marks = []; is = λ rest bytes. ap (λ (out : List ℕ). holds held (told rest out f bytes)) empty };
   counted = λ reading. (reading, omega arith);
   sound = sound;
 }
 
--- another part was taken
-pub stands_further : (held mid now : Option (List ℕ)) (gathered : List ℕ) (start f g : DeckFeed) (given piece : List ℕ)
-    → Stands held mid [] start f given → Stands mid now gathered f g piece → Stands held now gathered start g (given ++ piece)
-stands_further held mid now gathered start f g given piece first then = record {
-  served = λ bytes. then.served bytes ∙ first.served (piece ++ bytes) ∙ ap (λ (v : List ℕ). holds held (outcome_from start v)) (sym (append_assoc given piece bytes));
-  counted = λ reading.
-      let here = then.counted reading in
-      let before = first.counted here.0 in
-      (before.0, omega (arith, here.1, before.1, ended_further given piece));
-  sound = then.sound;
-}
+-- a part, and then another
+module _ (held mid now : Option (List ℕ)) (before out : List ℕ) (start f : DeckFeed) (given : List ℕ) (first : Serves held mid before start given out f) where
+  -- what follows all of it
+  pub both : (marks rest : Marks) (part bytes : List ℕ)
+      → holds mid (told (marks ++ rest) out f (part ++ bytes)) ≡ holds held (told ((first.marks ++ marks) ++ rest) before start ((given ++ part) ++ bytes))
+  both marks rest part bytes =
+      first.is (marks ++ rest) (part ++ bytes)
+      ∙ ap (λ (m : Marks). holds held (told m before start (given ++ (part ++ bytes)))) (sym (append_assoc first.marks marks rest))
+      ∙ ap (λ (v : List ℕ). holds held (told ((first.marks ++ marks) ++ rest) before start v)) (sym (append_assoc given part bytes))
 
--- a line was taken, with what was gathered
-pub stands_on : (held mid now : Option (List ℕ)) (out out' : List ℕ) (start f g : DeckFeed) (front part : List ℕ)
-    → Stands held mid out start f front
-    → ((bytes : List ℕ) → holds now (told out' g bytes) ≡ holds mid (told out f (part ++ bytes)))
-    → (is_reading g.state ≡ true → (is_reading f.state ≡ true) × (f.lines_taken + lines_ended part ≤ g.lines_taken))
-    → error_at g.state ≡ None → Stands held now out' start g (front ++ part)
-stands_on held mid now out out' start f g front part first served counted sound = record {
-  served = λ bytes. served bytes ∙ first.served (part ++ bytes) ∙ ap (λ (v : List ℕ). holds held (outcome_from start v)) (sym (append_assoc front part bytes));
+  pub serves_further : (after : List ℕ) (g : DeckFeed) (part : List ℕ) → Serves mid now out f part after g → Serves held now before start (given ++ part) after g
+  serves_further after g part next =
+      record { marks = first.marks ++ next.marks; is = λ rest bytes. next.is rest bytes ∙ both next.marks rest part bytes }
+
+  pub refuses_further : (part : List ℕ) (n : ℕ) (code : Code) → Refuses mid now out f part n code → Refuses held now before start (given ++ part) n code
+  refuses_further part n code next =
+      record { marks = first.marks ++ next.marks; is = λ rest bytes. next.is rest bytes ∙ both next.marks rest part bytes }
+
+  pub starts_further : (part : List ℕ) → HasGrown held mid → Starts mid now out f part → Starts held now before start (given ++ part)
+  starts_further part grown next = record {
+    marks = first.marks ++ next.marks;
+    is = λ rest bytes.
+        grown_held held mid now (told ((first.marks ++ next.marks) ++ rest) before start ((given ++ part) ++ bytes)) (told (next.marks ++ rest) out f (part ++ bytes)) grown
+        (both next.marks rest part bytes) (next.is rest bytes);
+  }
+
+-- another part was taken
+pub stands_further : (held mid now : Option (List ℕ)) (out out' : List ℕ) (start f g : DeckFeed) (given piece : List ℕ)
+    → Stands held mid out start f given → Serves mid now out f piece out' g
+    → (is_reading g.state ≡ true → (is_reading f.state ≡ true) × (f.lines_taken + lines_ended piece ≤ g.lines_taken))
+    → error_at g.state ≡ None → Stands held now out' start g (given ++ piece)
+stands_further held mid now out out' start f g given piece first served counted sound = record {
+  served = serves_further held mid now [] out start f given first.served out' g piece served;
   counted = λ reading.
       let here = counted reading in
       let before = first.counted here.0 in
-      (before.0, omega (arith, here.1, before.1, ended_further front part));
+      (before.0, omega (arith, here.1, before.1, ended_further given piece));
   sound = sound;
 }
 
@@ -140,7 +175,7 @@ stands_on held mid now out out' start f g front part first served counted sound 
 pub stands_written : (held mid now : Option (List ℕ)) (out out' : List ℕ) (start f : DeckFeed) (front : List ℕ) → holding now out' ≡ holding mid out
     → Stands held mid out start f front → Stands held now out' start f front
 stands_written held mid now out out' start f front put stands = record {
-  served = λ bytes. kept_told mid now out out' put f bytes ∙ stands.served bytes;
+  served = record { marks = stands.served.marks; is = λ rest bytes. kept_told mid now out out' put rest f bytes ∙ stands.served.is rest bytes };
   counted = stands.counted;
   sound = stands.sound;
 }
@@ -154,38 +189,40 @@ pub record Far (held now : Option (List ℕ)) (out : List ℕ) (start f : DeckFe
 pub far_at_start : (held : Option (List ℕ)) (out : List ℕ) (f : DeckFeed) (piece : List ℕ) → out ≡ [] → error_at f.state ≡ None → Far held held out f f piece piece
 far_at_start held out f piece empty sound = record { front = []; are = refl; stands = stands_at_start held out f empty sound }
 
-pub far_served : (held now : Option (List ℕ)) (out : List ℕ) (start f : DeckFeed) (piece rest : List ℕ) → Far held now out start f piece rest
-    → (bytes : List ℕ) → holds now (told out f (rest ++ bytes)) ≡ holds held (outcome_from start (piece ++ bytes))
-far_served held now out start f piece rest far bytes =
-    far.stands.served (rest ++ bytes)
-    ∙ ap (λ (v : List ℕ). holds held (outcome_from start v)) (sym (append_assoc far.front rest bytes) ∙ ap (λ v. v ++ bytes) (sym far.are))
+module _ (held mid : Option (List ℕ)) (out : List ℕ) (start f : DeckFeed) (piece rest : List ℕ) (far : Far held mid out start f piece rest) where
+  -- the rest begins so
+  pub starts_far : (now : Option (List ℕ)) → HasGrown held mid → Starts mid now out f rest → Starts held now [] start piece
+  starts_far now grown next =
+      subst (λ (v : List ℕ). Starts held now [] start v) (sym far.are) (starts_further held mid now [] out start f far.front far.stands.served rest grown next)
 
-pub further : (held mid now : Option (List ℕ)) (out out' : List ℕ) (start f g : DeckFeed) (piece rest : List ℕ) (used : ℕ) → Far held mid out start f piece rest
-    → ((bytes : List ℕ) → holds now (told out' g bytes) ≡ holds mid (told out f (take used rest ++ bytes)))
-    → (is_reading g.state ≡ true → (is_reading f.state ≡ true) × (f.lines_taken + lines_ended (take used rest) ≤ g.lines_taken))
-    → error_at g.state ≡ None → Far held now out' start g piece (drop used rest)
-further held mid now out out' start f g piece rest used far served counted sound = record {
-  front = far.front ++ take used rest;
-  are = far.are ∙ ap (λ v. far.front ++ v) (sym (take-append-drop used rest)) ∙ sym (append_assoc far.front (take used rest) (drop used rest));
-  stands = stands_on held mid now out out' start f g far.front (take used rest) far.stands served counted sound;
-}
+  -- or is refused
+  pub refuses_far : (now : Option (List ℕ)) (n : ℕ) (code : Code) → Refuses mid now out f rest n code → Refuses held now [] start piece n code
+  refuses_far now n code next =
+      subst (λ (v : List ℕ). Refuses held now [] start v n code) (sym far.are) (refuses_further held mid now [] out start f far.front far.stands.served rest n code next)
 
--- the whole piece was taken, and all that was gathered is written
-pub all_taken : (held mid now : Option (List ℕ)) (out out' : List ℕ) (start f : DeckFeed) (piece rest : List ℕ) → Far held mid out start f piece rest → rest ≡ []
-    → holding now out' ≡ holding mid out → out' ≡ [] → Stands held now [] start f piece
-all_taken held mid now out out' start f piece rest far none put empty =
-    let same : piece ≡ far.front = far.are ∙ ap (λ v. far.front ++ v) none ∙ append-nil far.front in
-    subst (λ (v : List ℕ). Stands held now [] start f v) (sym same)
-    (subst (λ (o : List ℕ). Stands held now o start f far.front) empty (stands_written held mid now out out' start f far.front put far.stands))
+  pub further : (now : Option (List ℕ)) (out' : List ℕ) (g : DeckFeed) (used : ℕ) → Serves mid now out f (take used rest) out' g
+      → (is_reading g.state ≡ true → (is_reading f.state ≡ true) × (f.lines_taken + lines_ended (take used rest) ≤ g.lines_taken))
+      → error_at g.state ≡ None → Far held now out' start g piece (drop used rest)
+  further now out' g used served counted sound = record {
+    front = far.front ++ take used rest;
+    are = far.are ∙ ap (λ v. far.front ++ v) (sym (take-append-drop used rest)) ∙ sym (append_assoc far.front (take used rest) (drop used rest));
+    stands = stands_further held mid now out out' start f g far.front (take used rest) far.stands served counted sound;
+  }
 
--- memory ran out at a line
-pub breaks_off : (held mid now : Option (List ℕ)) (out : List ℕ) (start f : DeckFeed) (piece rest : List ℕ) → Far held mid out start f piece rest
-    → is_reading f.state ≡ true → now ≡ holding mid out → BrokeOff held now start piece
-breaks_off held mid now out start f piece rest far reading all = record {
-  front = far.front;
-  back = rest;
-  are = far.are;
-  feed = f;
-  stands = stands_written held mid now out [] start f far.front (holding-nothing now ∙ all) far.stands;
-  reading = reading;
-}
+  -- the whole piece was taken, and all that was gathered is written
+  pub all_taken : (now : Option (List ℕ)) (out' : List ℕ) → rest ≡ [] → holding now out' ≡ holding mid out → out' ≡ [] → Stands held now [] start f piece
+  all_taken now out' none put empty =
+      let same : piece ≡ far.front = far.are ∙ ap (λ v. far.front ++ v) none ∙ append-nil far.front in
+      subst (λ (v : List ℕ). Stands held now [] start f v) (sym same)
+      (subst (λ (o : List ℕ). Stands held now o start f far.front) empty (stands_written held mid now out out' start f far.front put far.stands))
+
+  -- memory ran out at a line
+  pub breaks_off : (now : Option (List ℕ)) → is_reading f.state ≡ true → now ≡ holding mid out → BrokeOff held now start piece
+  breaks_off now reading all = record {
+    front = far.front;
+    back = rest;
+    are = far.are;
+    feed = f;
+    stands = stands_written held mid now out [] start f far.front (holding-nothing now ∙ all) far.stands;
+    reading = reading;
+  }

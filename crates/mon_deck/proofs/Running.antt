@@ -1,23 +1,26 @@
 -- A run, read by read.
-use Rattle.std.proofs.Common.{◌≡◌, ℕ, Bool, true, false, List, [], ◌++◌, length, Option, Some, None, IfSome, IfOk, OnOk, OnErr, Result, Ok, Err, refl, sym, ap, ◌∙◌, subst, append_assoc, append-nil, if◌then◌else◌, ◌+◌, arith}
+use Rattle.std.proofs.Common.{◌≡◌, ℕ, Bool, true, false, List, [], ◌++◌, length, Option, Some, None, IfSome, IfOk, OnOk, OnErr, Result, Ok, Err, refl, sym, ap, ◌∙◌, subst, append_assoc, append-nil, if◌then◌else◌, ◌+◌, arith, ◌≤◌, length-append}
 use Rattle.std.proofs.lemmas.Bool.Decides.{nat_tests}
 use Rattle.std.specs.Str.Lines.{lines}
 use Rattle.mon_catalogue.specs.Sets.{Sets}
+use Rattle.mon_slots.specs.Marks.{Marks}
+use Rattle.mon_device.specs.declared.transfer.TheConstants.{READ_SIZE}
 use Rattle.mon_device.specs.Devices.{holding, Gives, IsAtEnd, HasRead, one_more}
 use Rattle.mon_device.proofs.Holding.{holding-nothing}
 use Rattle.mon_cards.specs.declared.code.Code.{Code}
+use Rattle.mon_cards.specs.Decks.{Ending, Stopped, Refused}
 use Rattle.mon_feed.specs.declared.feed.DeckFeed.{DeckFeed}
 use Rattle.mon_feed.specs.declared.fault.RunError.{RunError}
 use Rattle.mon_feed.specs.declared.fault.RunError.TheVariants.{ReadFault, Memory}
 use Rattle.mon_feed.specs.declared.options.Counts.{Counts}
-use Rattle.mon_cards.specs.Decks.{Deck, Ending, Stopped, Refused}
-use Rattle.mon_cards.specs.Sections.{deck_of}
-use Rattle.mon_feed.specs.Printouts.{output_of, sets_after, ReadsBack}
-use Rattle.mon_deck.specs.Runs.{ending_of, catalogue_after, counts_of, HoldsBeginning, HasBegun}
+use Rattle.mon_feed.specs.declared.options.Options.{Options}
+use Rattle.mon_feed.specs.Scenes.{Scene, sets_after, all_counted, nothing_counted}
+use Rattle.mon_feed.specs.Printouts.{output_of, ReadsBack}
 use Rattle.mon_feed.specs.Feeds.{outcome_of, refused_at, is_reading, IsReadBack, concluded, sets_left, Outcome, Conclusion, Good, Bad}
-use Rattle.mon_feed.specs.Told.{outcome_from}
-use Rattle.mon_deck.specs.inner.Writing.{Held, holds, Begun, Runs, Stands, BrokeOff, Broke}
-use Rattle.mon_deck.proofs.Holdings.{nothing_held, held_further, no_error, stands_at_start, stands_further}
+use Rattle.mon_feed.specs.Told.{told}
+use Rattle.mon_deck.specs.Runs.{ending_of, scene_of, catalogue_after, counts_of, HoldsBeginning, HasWritten, HasRun, HasBegun}
+use Rattle.mon_deck.specs.inner.Writing.{Held, holds, HasGrown, Begun, Runs, Serves, Refuses, Starts, Stands, BrokeOff, Broke}
+use Rattle.mon_deck.proofs.Holdings.{nothing_held, held_further, not_grown, has_grown, grown_further, grown_begins, grown_held, no_error, stands_at_start, stands_further, serves_further, refuses_further, starts_further}
 
 gives_nothing : (told : Option (List ℕ)) → Gives told [] told
 gives_nothing None = tt
@@ -30,23 +33,26 @@ gives_more (Some all) (Some left) None given piece a b = absurd b
 gives_more (Some all) (Some left) (Some after) given piece a b = a ∙ ap (λ v. given ++ v) b ∙ sym (append_assoc given piece after)
 
 -- nothing was read yet
-pub begun_at_start : (told held : Option (List ℕ)) (f : DeckFeed) → Begun told told held held f []
-begun_at_start told held f = record { gives = gives_nothing told; begun = λ bytes. nothing_held held (outcome_from f bytes).written }
+pub begun_at_start : (given_by held : Option (List ℕ)) (f : DeckFeed) → Begun given_by given_by held held f []
+begun_at_start given_by held f =
+    record { gives = gives_nothing given_by; starts = record { marks = []; is = λ rest bytes. nothing_held held (told rest [] f bytes).written } }
 
-pub begins : (told held : Option (List ℕ)) (f : DeckFeed) → is_reading f.state ≡ true → Runs told told held held f f []
-begins told held f reading = record { so_far = begun_at_start told held f; stands = stands_at_start held [] f refl (no_error f.state reading) }
+pub begins : (given_by held : Option (List ℕ)) (f : DeckFeed) → is_reading f.state ≡ true → Runs given_by given_by held held f f []
+begins given_by held f reading =
+    record { gives = gives_nothing given_by; grown = not_grown held; stands = stands_at_start held [] f refl (no_error f.state reading) }
 
 -- a read fault of another call
 pub fault_so : {T U : Type 0} (error : RunError) → ◌≡◌ {A = Result T RunError} (Err error) (Err ReadFault) → ◌≡◌ {A = Result U RunError} (Err error) (Err ReadFault)
 fault_so error same = let is : error ≡ ReadFault = cc in ap Err is
 
 -- nothing was read, and the run broke off
-pub broke_at_start : (told held : Option (List ℕ)) (f : DeckFeed) → is_reading f.state ≡ true → (all : List ℕ) × Broke told told held held f all
-broke_at_start told held f reading = (
+pub broke_at_start : (given_by held : Option (List ℕ)) (f : DeckFeed) → is_reading f.state ≡ true → (all : List ℕ) × Broke given_by given_by held held f all
+broke_at_start given_by held f reading = (
   [],
   record {
-    gives = gives_nothing told;
+    gives = gives_nothing given_by;
     broke = record { front = []; back = []; are = refl; feed = f; stands = stands_at_start held [] f refl (no_error f.state reading); reading = reading };
+    last = omega arith;
   },
 )
 
@@ -62,72 +68,73 @@ pub read_once : (count before now after : ℕ) → HasRead count before now → 
 read_once count before now after so_far more = grind (arith, nat_tests, so_far, more)
 
 -- what a device tells of itself stays
-pub at_read : (told left held now now' : Option (List ℕ)) (start f : DeckFeed) (given : List ℕ) → now' ≡ now → Runs told left held now start f given → Runs told left held now' start f given
-at_read told left held now now' start f given same runs = subst (λ (n : Option (List ℕ)). Runs told left held n start f given) (sym same) runs
-
-pub runs_same : (told left after held now : Option (List ℕ)) (start f : DeckFeed) (given : List ℕ) → after ≡ left → Runs told left held now start f given → Runs told after held now start f given
-runs_same told left after held now start f given same runs = subst (λ (l : Option (List ℕ)). Runs told l held now start f given) (sym same) runs
+pub at_read : (given_by left held now now' : Option (List ℕ)) (start f : DeckFeed) (given : List ℕ) → now' ≡ now → Runs given_by left held now start f given → Runs given_by left held now' start f given
+at_read given_by left held now now' start f given same runs = subst (λ (n : Option (List ℕ)). Runs given_by left held n start f given) (sym same) runs
 
 -- the reader gave nothing more
-pub none_given : (told left after held now : Option (List ℕ)) (start f : DeckFeed) (given piece : List ℕ) → piece ≡ [] → Gives left piece after → Runs told left held now start f given → Runs told after held now start f given
-none_given told left after held now start f given piece none gives runs = record {
-  so_far = record {
-    gives = subst (λ v. Gives told v after) (ap (λ p. given ++ p) none ∙ append-nil given) (gives_more told left after given piece runs.so_far.gives gives);
-    begun = runs.so_far.begun;
-  };
+pub none_given : (given_by left after held now : Option (List ℕ)) (start f : DeckFeed) (given piece : List ℕ) → piece ≡ [] → Gives left piece after → Runs given_by left held now start f given → Runs given_by after held now start f given
+none_given given_by left after held now start f given piece none gives runs = record {
+  gives = subst (λ v. Gives given_by v after) (ap (λ p. given ++ p) none ∙ append-nil given) (gives_more given_by left after given piece runs.gives gives);
+  grown = runs.grown;
   stands = runs.stands;
 }
 
-pub given_same : (told left after : Option (List ℕ)) (given : List ℕ) → after ≡ left → Gives told given left → Gives told given after
-given_same told left after given same gives = subst (λ (l : Option (List ℕ)). Gives told given l) (sym same) gives
+pub given_same : (given_by left after : Option (List ℕ)) (given : List ℕ) → after ≡ left → Gives given_by given left → Gives given_by given after
+given_same given_by left after given same gives = subst (λ (l : Option (List ℕ)). Gives given_by given l) (sym same) gives
 
-module _ (told left held now : Option (List ℕ)) (start f : DeckFeed) (given : List ℕ) (runs : Runs told left held now start f given) where
-  -- another piece was read, and a beginning of what comes of it was written
-  pub begun_further : (piece : List ℕ) (after now' : Option (List ℕ)) → Gives left piece after
-      → ((bytes : List ℕ) → HoldsBeginning now now' (outcome_from f (piece ++ bytes)).written)
-      → Begun told after held now' start (given ++ piece)
-  begun_further piece after now' gives step = record {
-    gives = gives_more told left after given piece runs.so_far.gives gives;
-    begun = λ bytes.
-        let text = λ (v : List ℕ). (outcome_from start v).written in
-        subst (λ v. HoldsBeginning held now' (text v)) (sym (append_assoc given piece bytes))
-        (held_further held now now' (text (given ++ (piece ++ bytes))) (outcome_from f (piece ++ bytes)).written (runs.so_far.begun (piece ++ bytes))
-        (ap (λ (h : Held). h.bytes) (runs.stands.served (piece ++ bytes))) (step bytes));
+module _ (given_by left held now : Option (List ℕ)) (start f : DeckFeed) (given : List ℕ) (runs : Runs given_by left held now start f given) where
+  -- what was written so far begins all
+  pub so_far : Begun given_by left held now start given
+  so_far = record {
+    gives = runs.gives;
+    starts = record {
+      marks = runs.stands.served.marks;
+      is = λ rest bytes.
+          grown_begins held now (told (runs.stands.served.marks ++ rest) [] start (given ++ bytes)).written (told rest [] f bytes).written runs.grown
+          (ap (λ (h : Held). h.bytes) (runs.stands.served.is rest bytes));
+    };
   }
 
-  pub goes_on : (piece : List ℕ) (after now' : Option (List ℕ)) (f' : DeckFeed) → Gives left piece after
-      → Stands now now' [] f f' piece
-      → ((bytes : List ℕ) → HoldsBeginning now now' (outcome_from f (piece ++ bytes)).written)
-      → Runs told after held now' start f' (given ++ piece)
-  goes_on piece after now' f' gives step written = record {
-    so_far = begun_further piece after now' gives written;
-    stands = stands_further held now now' [] start f f' given piece runs.stands step;
+  -- another piece was read, and a beginning of what comes of it was written
+  pub begun_further : (piece : List ℕ) (after now' : Option (List ℕ)) → Gives left piece after → Starts now now' [] f piece → Begun given_by after held now' start (given ++ piece)
+  begun_further piece after now' gives starts = record {
+    gives = gives_more given_by left after given piece runs.gives gives;
+    starts = starts_further held now now' [] [] start f given runs.stands.served piece runs.grown starts;
+  }
+
+  pub goes_on : (piece : List ℕ) (after now' : Option (List ℕ)) (f' : DeckFeed) → Gives left piece after → Stands now now' [] f f' piece → Starts now now' [] f piece
+      → Runs given_by after held now' start f' (given ++ piece)
+  goes_on piece after now' f' gives step starts = record {
+    gives = gives_more given_by left after given piece runs.gives gives;
+    grown = grown_further held now now' runs.grown (has_grown now now' (told (starts.marks ++ []) [] f (piece ++ [])).written (starts.is [] []));
+    stands = stands_further held now now' [] [] start f f' given piece runs.stands step.served step.counted step.sound;
   }
 
   -- the run broke off within another piece
-  pub broke_within : (piece : List ℕ) (after now' : Option (List ℕ)) → Gives left piece after → BrokeOff now now' f piece
-      → (all : List ℕ) × Broke told after held now' start all
-  broke_within piece after now' gives broke = (
+  pub broke_within : (piece : List ℕ) (after now' : Option (List ℕ)) → length piece ≤ READ_SIZE → Gives left piece after → BrokeOff now now' f piece
+      → (all : List ℕ) × Broke given_by after held now' start all
+  broke_within piece after now' size gives broke = (
     given ++ piece,
     record {
-      gives = gives_more told left after given piece runs.so_far.gives gives;
+      gives = gives_more given_by left after given piece runs.gives gives;
       broke = record {
         front = given ++ broke.front;
         back = broke.back;
         are = ap (λ v. given ++ v) broke.are ∙ sym (append_assoc given broke.front broke.back);
         feed = broke.feed;
-        stands = stands_further held now now' [] start f broke.feed given broke.front runs.stands broke.stands;
+        stands = stands_further held now now' [] [] start f broke.feed given broke.front runs.stands broke.stands.served broke.stands.counted broke.stands.sound;
         reading = broke.reading;
       };
+      last = let parts : length piece ≡ length broke.front + length broke.back = ap length broke.are ∙ length-append broke.front broke.back in omega (arith, parts, size);
     },
   )
 
   -- or behind all that was given
-  pub broke_behind : (now' : Option (List ℕ)) → now' ≡ now → is_reading f.state ≡ true → (all : List ℕ) × Broke told left held now' start all
+  pub broke_behind : (now' : Option (List ℕ)) → now' ≡ now → is_reading f.state ≡ true → (all : List ℕ) × Broke given_by left held now' start all
   broke_behind now' same reading = (
     given,
     record {
-      gives = runs.so_far.gives;
+      gives = runs.gives;
       broke = record {
         front = given;
         back = [];
@@ -136,132 +143,152 @@ module _ (told left held now : Option (List ℕ)) (start f : DeckFeed) (given : 
         stands = subst (λ (n : Option (List ℕ)). Stands held n [] start f given) (sym same) runs.stands;
         reading = reading;
       };
+      last = omega arith;
     },
   )
 
   -- the reader is at its end
-  pub whole : IsAtEnd left → (o : Held) → o ≡ holds now (outcome_from f []) → IfSome told (λ bytes. o ≡ holds held (outcome_from start bytes))
-  whole end o is = by told left runs.so_far.gives end
+  pub whole : IsAtEnd left → (o : Held) (marks : Marks) → o ≡ holds now (told marks [] f [])
+      → IfSome given_by (λ bytes. (all : Marks) × (o ≡ holds held (told all [] start bytes)))
+  whole end o marks is = by given_by left runs.gives end
     where
-      by : (t l : Option (List ℕ)) → Gives t given l → IsAtEnd l → IfSome t (λ bytes. o ≡ holds held (outcome_from start bytes))
+      all : Marks
+      all = runs.stands.served.marks ++ marks
+
+      by : (t l : Option (List ℕ)) → Gives t given l → IsAtEnd l → IfSome t (λ bytes. (all : Marks) × (o ≡ holds held (told all [] start bytes)))
       by None l g e = tt
-      by (Some all) None g e = absurd g
-      by (Some all) (Some rest) g e = is ∙ runs.stands.served [] ∙ ap (λ v. holds held (outcome_from start v)) (ap (λ v. given ++ v) (sym e) ∙ sym g)
+      by (Some bytes) None g e = absurd g
+      by (Some bytes) (Some rest) g e =
+          (all, is ∙ runs.stands.served.is marks [] ∙ ap (λ v. holds held (told all [] start v)) (ap (λ v. given ++ v) (sym e) ∙ sym g))
 
   -- the deck is refused in the middle, whatever follows
-  pub midway : (piece : List ℕ) (after : Option (List ℕ)) → Gives left piece after → (o : Held) → ((bytes : List ℕ) → o ≡ holds now (outcome_from f (piece ++ bytes)))
-      → IfSome told (λ bytes. o ≡ holds held (outcome_from start bytes))
-  midway piece after gives o is = by told left after runs.so_far.gives gives
+  pub midway : (piece : List ℕ) (after now' : Option (List ℕ)) (n : ℕ) (code : Code) → Gives left piece after → Refuses now now' [] f piece n code
+      → IfSome given_by (λ bytes. (marks : Marks) × (holds now' (refused_at n code) ≡ holds held (told marks [] start bytes)))
+  midway piece after now' n code gives refuses = by given_by after (gives_more given_by left after given piece runs.gives gives)
     where
-      by : (t l a : Option (List ℕ)) → Gives t given l → Gives l piece a → IfSome t (λ bytes. o ≡ holds held (outcome_from start bytes))
-      by None l a g h = tt
-      by (Some all) None a g h = absurd g
-      by (Some all) (Some rest) None g h = absurd h
-      by (Some all) (Some rest) (Some more) g h =
-          is more ∙ runs.stands.served (piece ++ more) ∙ ap (λ v. holds held (outcome_from start v)) (ap (λ v. given ++ v) (sym h) ∙ sym g)
+      all : Refuses held now' [] start (given ++ piece) n code
+      all = refuses_further held now now' [] [] start f given runs.stands.served piece n code refuses
+
+      by : (t a : Option (List ℕ)) → Gives t (given ++ piece) a → IfSome t (λ bytes. (marks : Marks) × (holds now' (refused_at n code) ≡ holds held (told marks [] start bytes)))
+      by None a g = tt
+      by (Some bytes) None g = absurd g
+      by (Some bytes) (Some more) g = (all.marks ++ [], all.is [] more ∙ ap (λ v. holds held (told (all.marks ++ []) [] start v)) (sym g))
 
 -- how a deck came out
-abbrev count_of : Conclusion → ℕ
-count_of (Good count sets) = count
-count_of (Bad n code) = n
+abbrev counts_in : Conclusion → Counts
+counts_in (Good counts sets) = counts
+counts_in (Bad n code) = nothing_counted
 
 abbrev sets_in : Conclusion → Sets
-sets_in (Good count sets) = sets
+sets_in (Good counts sets) = sets
 sets_in (Bad n code) = []
 
 abbrev ending_in : Conclusion → Ending
-ending_in (Good count sets) = Stopped
+ending_in (Good counts sets) = Stopped
 ending_in (Bad n code) = Refused n code
 
-same_ending : (ending : Ending) (count : ℕ) (sets : Sets) → ending_in (concluded count sets ending) ≡ ending
-same_ending Stopped count sets = refl
-same_ending (Refused n code) count sets = refl
+same_ending : (ending : Ending) (counts : Counts) (sets : Sets) → ending_in (concluded counts sets ending) ≡ ending
+same_ending Stopped counts sets = refl
+same_ending (Refused n code) counts sets = refl
 
-pub record IsGood (check : Bool) (held now : Option (List ℕ)) (counts : Counts) (bytes : List ℕ) : Type 0 where
+pub record IsGood (options : Options) (held now : Option (List ℕ)) (counts : Counts) (bytes : List ℕ) : Type 0 where
   pub stopped : ending_of bytes ≡ Stopped
-  pub output : now ≡ holding held (output_of check bytes)
   pub counts_are : counts ≡ counts_of bytes
-  pub reads_back : check ≡ false → ReadsBack (catalogue_after bytes)
+  pub output : HasRun options held now bytes
 
-module _ (check : Bool) (held now : Option (List ℕ)) (bytes : List ℕ) where
-  abbrev deck : Deck
-  deck = deck_of (lines bytes)
+-- what a run comes to that begins so
+abbrev pub Opens : Options → DeckFeed → Type 0
+Opens options start = (m : Marks) (bytes : List ℕ) → told m [] start bytes ≡ outcome_of options.check 0 m (scene_of options bytes)
 
-  ended_so : (c : Conclusion) → c ≡ concluded (length deck.cards.commands) (sets_left check deck) deck.cards.ending → ending_in c ≡ deck.cards.ending
-  ended_so c e = ap ending_in e ∙ same_ending deck.cards.ending (length deck.cards.commands) (sets_left check deck)
+module _ (options : Options) (held now : Option (List ℕ)) (m : Marks) (bytes : List ℕ) where
+  abbrev scene : Scene
+  scene = scene_of options bytes
 
-  written_so : (c : Conclusion) → ◌≡◌ {A = Held} (record { bytes = holding now []; conclusion = c }) (holds held (outcome_of check deck)) → now ≡ holding held (output_of check bytes)
+  ended_so : (c : Conclusion) → c ≡ concluded (all_counted scene.cards.asked) (sets_left options.check 0 m scene) scene.cards.ending → ending_in c ≡ scene.cards.ending
+  ended_so c e = ap ending_in e ∙ same_ending scene.cards.ending (all_counted scene.cards.asked) (sets_left options.check 0 m scene)
+
+  written_so : (c : Conclusion) → ◌≡◌ {A = Held} (record { bytes = holding now []; conclusion = c }) (holds held (outcome_of options.check 0 m scene)) → now ≡ holding held (output_of options m bytes)
   written_so c e = sym (holding-nothing now) ∙ ap (λ (h : Held). h.bytes) e
 
-  good : (counts : Counts) (sets : Sets) → ◌≡◌ {A = Held} (record { bytes = holding now []; conclusion = Good counts.commands sets }) (holds held (outcome_of check deck))
-      → counts.jobs ≡ 0 → (check ≡ false → ReadsBack sets) → IsGood check held now counts bytes
-  good counts sets e none back =
+  good : (counts : Counts) (sets : Sets) → ◌≡◌ {A = Held} (record { bytes = holding now []; conclusion = Good counts sets }) (holds held (outcome_of options.check 0 m scene))
+      → (options.check ≡ false → ReadsBack sets) → IsGood options held now counts bytes
+  good counts sets e back =
       let c = ap (λ (h : Held). h.conclusion) e in
-      let stopped : Stopped ≡ deck.cards.ending = ended_so _ c in
-      let same : Good counts.commands sets ≡ Good (length deck.cards.commands) (sets_left check deck) = c ∙ ap (λ (en : Ending). concluded (length deck.cards.commands) (sets_left check deck) en) (sym stopped) in
+      let stopped : Stopped ≡ scene.cards.ending = ended_so _ c in
+      let left = sets_left options.check 0 m scene in
+      let same : Good counts sets ≡ Good (all_counted scene.cards.asked) left = c ∙ ap (λ (en : Ending). concluded (all_counted scene.cards.asked) left en) (sym stopped) in
       record {
         stopped = sym stopped;
-        output = written_so _ e;
-        counts_are = ap (λ j. record { jobs = j; commands = counts.commands }) none ∙ ap (λ k. record { jobs = 0; commands = k }) (ap count_of same);
-        reads_back = λ no. subst ReadsBack (ap sets_in same ∙ ap (λ b. if b then deck.catalogue else sets_after deck) no) (back no);
+        counts_are = ap counts_in same;
+        output = (
+          m,
+          written_so _ e,
+          λ no. subst ReadsBack (ap sets_in same ∙ ap (λ b. if b then scene.world.floor.sets else sets_after 0 m scene) no) (back no),
+        );
       }
 
-  pub bad : (n : ℕ) (code : Code) → ◌≡◌ {A = Held} (record { bytes = holding now []; conclusion = Bad n code }) (holds held (outcome_of check deck))
-      → (ending_of bytes ≡ Refused n code) × (now ≡ holding held (output_of check bytes))
-  bad n code e = (sym (ended_so _ (ap (λ (h : Held). h.conclusion) e)), written_so _ e)
+  pub bad : (n : ℕ) (code : Code) → ◌≡◌ {A = Held} (record { bytes = holding now []; conclusion = Bad n code }) (holds held (outcome_of options.check 0 m scene))
+      → (ending_of bytes ≡ Refused n code) × HasWritten options held now bytes
+  bad n code e = (sym (ended_so _ (ap (λ (h : Held). h.conclusion) e)), m, written_so _ e)
 
 pub if_some : (told : Option (List ℕ)) (P Q : List ℕ → Type 0) → ((bytes : List ℕ) → P bytes → Q bytes) → IfSome told P → IfSome told Q
 if_some None P Q f p = tt
 if_some (Some bytes) P Q f p = f bytes p
 
-pub all_good : (check : Bool) (told held now : Option (List ℕ)) (counts : Counts) (sets : Sets)
-    → IfSome told (λ bytes. ◌≡◌ {A = Held} (record { bytes = holding now []; conclusion = Good counts.commands sets }) (holds held (outcome_of check (deck_of (lines bytes)))))
-    → counts.jobs ≡ 0 → (check ≡ false → ReadsBack sets) → IfSome told (IsGood check held now counts)
-all_good check None held now counts sets e none back = tt
-all_good check (Some bytes) held now counts sets e none back = good check held now bytes counts sets e none back
+-- how a run ended, with some marks
+abbrev pub EndsSo : Options → Option (List ℕ) → Held → List ℕ → Type 0
+EndsSo options held o bytes = (m : Marks) × (o ≡ holds held (outcome_of options.check 0 m (scene_of options bytes)))
 
 -- a run to the reader's end
-module _ (check : Bool) (told left held now now' : Option (List ℕ)) (start f : DeckFeed) (given : List ℕ) (runs : Runs told left held now start f given) (end : IsAtEnd left)
-    (begin : (bytes : List ℕ) → outcome_from start bytes ≡ outcome_of check (deck_of (lines bytes))) where
-  from_start : (o : Held) → o ≡ holds now (outcome_from f []) → IfSome told (λ bytes. o ≡ holds held (outcome_of check (deck_of (lines bytes))))
-  from_start o is = if_some told _ _ (λ bytes e. e ∙ ap (holds held) (begin bytes)) (whole told left held now start f given runs end o is)
+module _ (options : Options) (given_by left held now now' : Option (List ℕ)) (start f : DeckFeed) (given : List ℕ) (runs : Runs given_by left held now start f given) (end : IsAtEnd left)
+    (begin : Opens options start) where
+  from_start : (o : Held) (marks : Marks) → o ≡ holds now (told marks [] f []) → IfSome given_by (EndsSo options held o)
+  from_start o marks is = if_some given_by _ _ (λ bytes e. (e.0, e.1 ∙ ap (holds held) (begin e.0 bytes))) (whole given_by left held now start f given runs end o marks is)
 
-  pub run_good : IsReadBack f.options.check f.state → f.options.check ≡ check → (result : Result Counts RunError)
-      → IfOk result (λ counts. (sets : Sets) × (holds now' (record { written = []; conclusion = Good counts.commands sets }) ≡ holds now (outcome_from f []))
-      × (IsReadBack f.options.check f.state → f.options.check ≡ false → ReadsBack sets) × (counts.jobs ≡ 0))
-      → IfOk result (λ counts. IfSome told (IsGood check held now' counts))
+  pub run_good : IsReadBack f.options.check f.state → f.options.check ≡ options.check → (result : Result Counts RunError)
+      → IfOk result (λ counts. (marks : Marks) × (sets : Sets) × (holds now' (record { written = []; conclusion = Good counts sets }) ≡ holds now (told marks [] f []))
+      × (IsReadBack f.options.check f.state → f.options.check ≡ false → ReadsBack sets))
+      → IfOk result (λ counts. IfSome given_by (IsGood options held now' counts))
   run_good back same (Err error) ended = tt
-  run_good back same (Ok counts) ended = all_good check told held now' counts ended.0 (from_start _ ended.1) ended.3 (λ no. ended.2 back (same ∙ no))
+  run_good back same (Ok counts) (marks, sets, is, reads) =
+      if_some given_by _ _ (λ bytes (e : EndsSo options held (holds now' (record { written = []; conclusion = Good counts sets })) bytes).
+      good options held now' e.0 bytes counts sets e.1 (λ no. reads back (same ∙ no))) (from_start _ marks is)
 
-  pub run_bad : (n : ℕ) (code : Code) → holds now' (refused_at n code) ≡ holds now (outcome_from f [])
-      → IfSome told (λ bytes. (ending_of bytes ≡ Refused n code) × (now' ≡ holding held (output_of check bytes)))
-  run_bad n code e = if_some told _ _ (λ bytes. bad check held now' bytes n code) (from_start _ e)
+  pub run_bad : (n : ℕ) (code : Code) (marks : Marks) → holds now' (refused_at n code) ≡ holds now (told marks [] f [])
+      → IfSome given_by (λ bytes. (ending_of bytes ≡ Refused n code) × HasWritten options held now' bytes)
+  run_bad n code marks is = if_some given_by _ _ (λ bytes (e : EndsSo options held (holds now' (refused_at n code)) bytes). bad options held now' e.0 bytes n code e.1) (from_start _ marks is)
 
-pub met_bad : (check : Bool) (told held now' : Option (List ℕ)) (start : DeckFeed) → ((bytes : List ℕ) → outcome_from start bytes ≡ outcome_of check (deck_of (lines bytes)))
-    → (n : ℕ) (code : Code) → IfSome told (λ bytes. holds now' (refused_at n code) ≡ holds held (outcome_from start bytes))
-    → IfSome told (λ bytes. (ending_of bytes ≡ Refused n code) × (now' ≡ holding held (output_of check bytes)))
-met_bad check told held now' start begin n code e =
-    if_some told _ _ (λ bytes x. bad check held now' bytes n code (x ∙ ap (holds held) (begin bytes))) e
+pub met_bad : (options : Options) (given_by held now' : Option (List ℕ)) (start : DeckFeed) → Opens options start
+    → (n : ℕ) (code : Code) → IfSome given_by (λ bytes. (marks : Marks) × (holds now' (refused_at n code) ≡ holds held (told marks [] start bytes)))
+    → IfSome given_by (λ bytes. (ending_of bytes ≡ Refused n code) × HasWritten options held now' bytes)
+met_bad options given_by held now' start begin n code met =
+    if_some given_by _ _ (λ bytes (e : (marks : Marks) × (holds now' (refused_at n code) ≡ holds held (told marks [] start bytes))).
+    bad options held now' e.0 bytes n code (e.1 ∙ ap (holds held) (begin e.0 bytes))) met
 
 -- whatever is answered, what was written is a beginning of the output
-module _ (check : Bool) (told left held now : Option (List ℕ)) (start : DeckFeed) (begin : (bytes : List ℕ) → outcome_from start bytes ≡ outcome_of check (deck_of (lines bytes))) where
-  pub broken : (given : List ℕ) → Begun told left held now start given → HasBegun check told left held now
+module _ (options : Options) (given_by left held now : Option (List ℕ)) (start : DeckFeed) (begin : Opens options start) where
+  pub broken : (given : List ℕ) → Begun given_by left held now start given → HasBegun options given_by left held now
   broken given begun = (
     given,
+    begun.starts.marks,
     begun.gives,
-    λ more none. subst (λ (o : Outcome). HoldsBeginning held now o.written) (begin (given ++ more)) (begun.begun more),
+    λ rest more none. subst (λ (o : Outcome). HoldsBeginning held now o.written) (begin (begun.starts.marks ++ rest) (given ++ more)) (begun.starts.is rest more),
   )
 
-  pub finished : (f : DeckFeed) (given : List ℕ) (now' : Option (List ℕ)) → Runs told left held now start f given → IsAtEnd left
-      → HoldsBeginning now now' (outcome_from f []).written → HasBegun check told left held now'
-  finished f given now' runs end written = (
+  pub finished : (f : DeckFeed) (given : List ℕ) (now' : Option (List ℕ)) → Runs given_by left held now start f given → IsAtEnd left
+      → (marks : Marks) × ((rest : Marks) → HoldsBeginning now now' (told (marks ++ rest) [] f []).written) → HasBegun options given_by left held now'
+  finished f given now' runs end (marks, written) = (
     given,
-    runs.so_far.gives,
-    λ more none.
-        let last : HoldsBeginning held now' (outcome_from start (given ++ [])).written =
-        held_further held now now' (outcome_from start (given ++ [])).written (outcome_from f []).written (runs.so_far.begun []) (ap (λ (h : Held). h.bytes) (runs.stands.served [])) written in
-        subst (λ v. HoldsBeginning held now' (output_of check (given ++ v))) (sym (none end))
-        (subst (λ (o : Outcome). HoldsBeginning held now' o.written) (begin (given ++ [])) last),
+    runs.stands.served.marks ++ marks,
+    runs.gives,
+    λ rest more none.
+        let all = (runs.stands.served.marks ++ marks) ++ rest in
+        let same : holds now (told (marks ++ rest) [] f []) ≡ holds held (told all [] start (given ++ [])) =
+        runs.stands.served.is (marks ++ rest) [] ∙ ap (λ (m : Marks). holds held (told m [] start (given ++ []))) (sym (append_assoc runs.stands.served.marks marks rest)) in
+        let last : HoldsBeginning held now' (told all [] start (given ++ [])).written =
+        grown_held held now now' (told all [] start (given ++ [])) (told (marks ++ rest) [] f []) runs.grown same (written rest) in
+        subst (λ v. HoldsBeginning held now' (output_of options all (given ++ v))) (sym (none end))
+        (subst (λ (o : Outcome). HoldsBeginning held now' o.written) (begin all (given ++ [])) last),
   )
 
 pub on_err : {T E P : Type 0} (result : Result T E) → P → OnErr result P

@@ -49,7 +49,7 @@ HoldsBeginning held now text = (rest : List ℕ) × HasTaken held now text rest
 -- Wherever a run breaks off, what it has written is a beginning of the output of the bytes that it has read, with some marks
 -- for the turns in them, and with whatever marks and bytes may follow: no bytes, where the reader is at its end.
 abbrev pub HasBegun : Options → Option (List ℕ) → Option (List ℕ) → Option (List ℕ) → Option (List ℕ) → Type 0
-HasBegun options told left held now = (given : List ℕ) (marks : Marks) × Gives told given left
+HasBegun options told left held now = (given : List ℕ) × (marks : Marks) × Gives told given left
     × ((rest : Marks) (more : List ℕ) → (IsAtEnd left → more ≡ []) → HoldsBeginning held now (output_of options (marks ++ rest) (given ++ more)))
 
 -- the bytes of the lines that have their line end: all up to the last LF, and it
