@@ -1,6 +1,6 @@
 -- What the calls do is what the definitions say.
 use Rattle.std.proofs.Common.{◌≡◌, ℕ, List, [], ◌∷◌, ◌++◌, Option, Some, None, Result, Ok, Err, refl, ap, sym, ◌∙◌, append_assoc, append-nil}
-use Rattle.std.specs.Prelude.{map}
+use Rattle.std.specs.Prelude.{map, OnOk, is_ok, if◌then◌else◌}
 use Rattle.std.specs.List.{flat_map}
 use Rattle.std.proofs.lemmas.List.Concat.{flat_map-append}
 use Rattle.mon_access.specs.declared.account.Account.{Account}
@@ -142,3 +142,13 @@ appended act w w' before text after d put = record {
   is = d.is;
   printed = put ∙ ap (λ (t : List ℕ). before ++ t) d.printed;
 }
+
+-- WHERE IT SUCCEEDS
+
+pub on_ok : {E P Q : Type 0} (r : Result (Unit {0}) E) → (P → Q) → OnOk r P → OnOk r Q
+on_ok (Ok u) f h = f h
+on_ok (Err e) f h = tt
+
+pub if_put : {E Q : Type 0} (r : Result (Unit {0}) E) (old more new : List ℕ) → new ≡ (if is_ok r then old ++ more else old) → (new ≡ old ++ more → Q) → OnOk r Q
+if_put (Ok u) old more new h f = f h
+if_put (Err e) old more new h f = tt
