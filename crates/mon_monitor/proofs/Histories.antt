@@ -4,8 +4,10 @@ use Rattle.std.specs.Prelude.{map, option_map, is_some}
 use Rattle.std.specs.List.{AllByRecursion}
 use Rattle.sno_cards.specs.declared.refusal.SyntaxError.{SyntaxError}
 use Rattle.sno_cards.specs.Programs.{ProgramText}
+use Rattle.sno_cards.specs.Statements.{statements_of}
 use Rattle.sno_syntax.specs.Refusals.{syntax_refusal}
 use Rattle.mon_access.specs.declared.account.Account.{Account}
+use Rattle.mon_access.specs.Accounts.{find_account}
 use Rattle.mon_unit.specs.declared.units.UnitError.{UnitError}
 use Rattle.mon_job.specs.declared.deck.JobDeck.{JobDeck}
 use Rattle.mon_job.specs.declared.job_end.JobEnd.{JobEnd}
@@ -15,7 +17,7 @@ use Rattle.mon_slots.specs.Floors.{SlotState, Floor, first_free}
 use Rattle.mon_slots.specs.Turns.{only}
 use Rattle.mon_slots.specs.Marks.{Marks, Past, turn_as, until, never, rounds, turns_left, is_done, has_room, drain, room}
 use Rattle.mon_slots.specs.Rounds.{NoneByMemory, MarksEndJobs, RoomIsMade}
-use Rattle.mon_slots.specs.Loads.{first_of, slot_refusal, account_refusal, program_refusal, deck_refusal, loaded_by, slot_in}
+use Rattle.mon_slots.specs.Loads.{first_of, first_units, ties_refusal, slot_refusal, account_refusal, program_refusal, deck_refusal, loaded_by, slot_in}
 use Rattle.mon_slots.proofs.Seats.{seat_length}
 use Rattle.mon_slots.proofs.Past.{either_way, until_stops, until_goes, until_length}
 use Rattle.mon_monitor.specs.Worlds.{World, with_floor}
@@ -131,7 +133,8 @@ answer_not (Some n) (Some r) slot slots h g e = g (let k : Err r ≡ Err NoSlot 
 pub load_has_room : RoomIsMade → LoadHasRoom
 load_has_room law deck m w some =
     let v = with_floor w (room m w.floor).after in
-    answer_not (first_free v.floor.slots) (deck_refusal v.accounts deck) (slot_in v.accounts deck) v.floor.slots (law w.floor m some) (deck_not _ _ _)
+    answer_not (first_free v.floor.slots) (deck_refusal v.accounts deck) (slot_in v.accounts deck) v.floor.slots (law w.floor m some)
+    (deck_not (find_account v.accounts deck.account) (ties_refusal deck.ties (first_units deck.lines)) (statements_of deck.lines))
 
 -- WHAT STAYS
 

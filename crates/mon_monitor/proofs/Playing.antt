@@ -1,8 +1,11 @@
 -- What the calls do is what the definitions say.
-use Rattle.std.proofs.Common.{◌≡◌, ℕ, List, [], ◌∷◌, ◌++◌, Option, Some, None, Result, Ok, Err, refl, ap, sym, ◌∙◌, append_assoc, append-nil}
+use Rattle.std.proofs.Common.{◌≡◌, ℕ, List, [], ◌∷◌, ◌++◌, Option, Some, None, Result, Ok, Err, refl, ap, sym, ◌∙◌, subst, append_assoc, append-nil}
 use Rattle.std.specs.Prelude.{map, OnOk, is_ok, if◌then◌else◌}
 use Rattle.std.specs.List.{flat_map}
 use Rattle.std.proofs.lemmas.List.Concat.{flat_map-append}
+use Rattle.mon_text.specs.declared.stop.Stop.{Stop}
+use Rattle.mon_text.specs.declared.stop.Stop.TheVariants.{Refused}
+use Rattle.sno_cards.specs.Answers.{IfRefused}
 use Rattle.mon_access.specs.declared.account.Account.{Account}
 use Rattle.mon_command.specs.declared.command.Command.{Command}
 use Rattle.mon_command.specs.Commanded.{commanded}
@@ -124,6 +127,10 @@ load_refused deck w w' refusal before after is same put =
       is = λ rest. loading_is deck w w' (Err refusal) papers rest (is ∙ ap (λ (v : World). let l : Result ℕ LoadError × World = (Err refusal, v) in l) (sym same)) refl;
       printed = put ∙ ap (λ (t : List ℕ). before ++ t) (sym (append-nil (refusal_text deck.number deck.account refusal)));
     }
+
+pub refused_is : (deck : JobDeck) (w : World) (stop : Stop LoadError) (refusal : LoadError) → stop ≡ Refused refusal
+    → IfRefused (λ r. loading deck w ≡ (Err r, w)) stop → loading deck w ≡ (Err refusal, w)
+refused_is deck w stop refusal is h = subst (λ (s : Stop LoadError). IfRefused (λ r. loading deck w ≡ (Err r, w)) s) is h
 
 -- a job that enters
 pub entered : (deck : JobDeck) (w now w' : World) (before between after : List ℕ) (ends : List JobEnd)
