@@ -1,12 +1,12 @@
 //! The words of the command line, and the options that they give.
-ghost use Rattle.std.specs.Prelude.{◌≡◌, ◌⊎◌, map, IfOk, IfErr};
-ghost use Rattle.clap.specs.Words.{app_of, kind_of};
+ghost use Rattle.std.specs.Prelude.{◌≡◌, ◌≤◌, ◌⊎◌, ℕ, List, None, Some, codes, map, IfOk, IfErr};
+ghost use Rattle.clap.specs.Words.{app_of, found_of, kind_of, one_text};
 ghost use Rattle.mon_feed.specs.declared.options.Options.{Options};
-ghost use Rattle.snomon.specs.CommandLine.{Gives, snomon};
+ghost use Rattle.snomon.specs.CommandLine.{Gives, Writes, snomon};
 
 use clap::error::ErrorKind;
-use clap::{Arg, ArgAction, Command, Error};
-use mon_deck::Options;
+use clap::{Arg, ArgAction, ArgMatches, Command, Error};
+use mon_deck::{Options, Slots};
 use std::alloc::{AllocError, Global};
 use std::convert::AsStr;
 
@@ -14,18 +14,31 @@ use std::convert::AsStr;
 ///
 /// # Errors
 ///
-/// Where the words give no options: an unknown one, one that is given twice, a word that is none, or a call for help or for
-/// the version. The text of the error, which is that of the help and the version too, is `clap`'s. Its kind is `OutOfMemory` where a growth was
-/// refused, and words that give options are refused for that alone.
+/// Where the words give no options: an unknown one, one that is given twice, a number of slots that is none from 1 to 8, a word that
+/// is none, or a call for help or for the version. The text of the error, which is that of the help and the version too, is `clap`'s.
+/// Its kind is `OutOfMemory` where a growth was refused, and words that give options are refused for that alone.
 pub fn read_options<S: AsStr>(alloc: Global, words: &[S]) -> Result<Options, Error>
     ensures given { IfOk result (λ options. Gives (map S.text words.now) options) }
     ensures refused { IfErr result (λ error. (kind_of error ≡ ErrorKind.OutOfMemory)
         ⊎ ((options : Options) → Gives (map S.text words.now) options → ⊥)) }
 {
     let matches = command(alloc)?.try_get_matches_from(words)?;
-    let mut options = Options::new();
-    options.check = matches.get_flag("check");
-    Ok(options)
+    Ok(Options {
+        slots: slots_in(&matches),
+        check: matches.get_flag("check"),
+    })
+}
+
+// The number of slots that was given, and else that of options which say nothing.
+fn slots_in(matches: &ArgMatches) -> Slots
+    ensures none { one_text (found_of matches.now) (codes "slots") ≡ None → result.number ≡ 4 }
+    ensures some { (text : List ℕ) (number : ℕ) → one_text (found_of matches.now) (codes "slots") ≡ Some text → Writes text number
+        → 1 ≤ number → number ≤ 8 → result.number ≡ number }
+{
+    match matches.get_one::<u8>("slots") {
+        Some(number) => Slots::new(number).unwrap_or(Options::new().slots),
+        None => Options::new().slots,
+    }
 }
 
 /// The error for a word that is no text, and so no option.
@@ -57,9 +70,16 @@ fn command<'a>(alloc: Global) -> Result<Command<'a>, AllocError>
         .long("check")
         .action(ArgAction::SetTrue)
         .help("Only reads the deck, and tells whether it is good");
+    let slots = Arg::new(alloc, "slots")
+        .long("slots")
+        .action(ArgAction::Set)
+        .value_name("N")
+        .value_parser(clap::value_parser!(u8).range(1..=8))
+        .help("How many jobs may run side by side, 1 to 8; without it, 4");
     Command::new(alloc, "snomon")
         .version("0.1.0")
         .about("Runs the deck on standard input, and writes its output to standard output")
         .after_help(AFTER_HELP)
-        .arg(check)
+        .arg(check)?
+        .arg(slots)
 }
