@@ -75,7 +75,7 @@ fn command<'a>(alloc: Global) -> Result<Command<'a>, AllocError>
         .action(ArgAction::Set)
         .value_name("N")
         .value_parser(clap::value_parser!(u8).range(1..=8))
-        .help("How many jobs may run side by side, 1 to 8; without it, 4");
+        .help("How many slots there are for jobs, 1 to 8; 4 where it is not given");
     Command::new(alloc, "snomon")
         .version("0.1.0")
         .about("Runs the deck on standard input, and writes its output to standard output")
