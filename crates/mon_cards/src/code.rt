@@ -34,9 +34,9 @@ pub enum Code {
     BadText,
     /// E1: the first word of a line is no card.
     UnknownCard,
-    /// E2: a card has a wrong number of words.
+    /// E2: a card has a wrong number of words, an option that is none or stands twice, or a number out of its range.
     BadCard,
-    /// E3: a card stands where it may not.
+    /// E3: a card stands where it may not; in a program, a line that begins with one `$`.
     OutOfPlace,
     /// E4: the deck ends before `$STOP`.
     Truncated,

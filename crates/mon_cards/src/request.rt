@@ -1,4 +1,5 @@
-//! What a line of the stream asks for: a command, the lines of a permission list or of a job, turns, the deck's end, or nothing.
+//! What a line of the stream asks for: a command, the lines of a permission list or of a job, turns, the deck's end, or
+//! nothing.
 ghost use Rattle.std.specs.Prelude.{◌≡◌, ◌<◌, true, None, length, IfOk, IsErrOf};
 ghost use Rattle.std.specs.Result.{result_err};
 ghost use Rattle.std.specs.List.{list_all};
