@@ -1,81 +1,94 @@
 -- Decks that are refused, cut, or made of what was written.
-use Rattle.std.proofs.Common.{◌≡◌, ℕ, ◌⊎◌, inl, inr, List, [], ◌∷◌, ◌++◌, refl, sym, ap, subst, ◌∙◌, append_assoc, append-nil}
+use Rattle.std.proofs.Common.{◌≡◌, ℕ, ◌⊎◌, inl, inr, List, [], ◌∷◌, ◌++◌, refl, sym, ap, subst, ◌∙◌, arith, append_assoc, append-nil}
 use Rattle.std.specs.Prelude.{codes}
 use Rattle.std.specs.Str.Lines.{lines}
 use Rattle.std.proofs.lemmas.Grind.{flat_map-append}
 use Rattle.mon_access.specs.declared.account.Account.{Account}
 use Rattle.mon_catalogue.specs.Sets.{Sets}
 use Rattle.mon_catalogue.specs.Text.{text_of, catalogue_lines, catalogue_text}
-use Rattle.mon_command.specs.Commanded.{commanded}
-use Rattle.mon_command.specs.declared.command.Command.{Command}
+use Rattle.mon_slots.specs.Marks.{Marks}
+use Rattle.mon_monitor.specs.Worlds.{World, first_world}
+use Rattle.mon_monitor.specs.Papers.{papers_text}
+use Rattle.mon_monitor.specs.Events.{Event}
+use Rattle.mon_monitor.specs.Played.{played}
+use Rattle.mon_monitor.specs.Laws.{CardByCard}
 use Rattle.mon_cards.specs.declared.code.Code.{Code}
-use Rattle.mon_cards.specs.Decks.{Deck, Ending, Stopped, Refused}
+use Rattle.mon_cards.specs.Decks.{Deck, Cards, Asked, Ending, Stopped, Refused}
 use Rattle.mon_cards.specs.Laws.{deck_lines, deck_over}
 use Rattle.mon_cards.specs.Sections.{deck_of}
 use Rattle.mon_cards.specs.Spelling.{IsDeck}
 use Rattle.mon_cards.proofs.Closing.{good_beginnings}
 use Rattle.mon_cards.proofs.ComingBack.{comes_back}
-use Rattle.mon_feed.specs.Told.{told}
+use Rattle.mon_feed.specs.Scenes.{over, opening, events_of, at_end, played_scene}
+use Rattle.mon_feed.specs.Told.{told, Took}
 use Rattle.mon_feed.specs.declared.feed.DeckFeed.{DeckFeed}
-use Rattle.mon_feed.specs.Printouts.{all_commanded, served, closing, output_of_deck}
-use Rattle.mon_deck.specs.Laws.{RefusedPrintsAsGood, joined, Took, PiecesAreJoined, HoweverCut, deck_around, CataloguesRunAgain}
+use Rattle.mon_feed.specs.Printouts.{closing, output_of_scene}
+use Rattle.mon_deck.specs.Runs.{scene_of}
+use Rattle.mon_deck.specs.Laws.{done, jobs_in, rest_of_output, RefusedPrintsAsGood, joined, PiecesAreJoined, comes_of, HoweverCut, deck_around, CataloguesRunAgain}
+use Rattle.mon_deck.proofs.Ordered.{output_with, in_two, is_run}
 
--- some commands, and then others
-both : (accounts : List Account) (sets : Sets) (before after : List Command) →
-    let earlier = all_commanded accounts sets before in
-    let later = all_commanded accounts earlier.sets after in
-    let all = all_commanded accounts sets (before ++ after) in
-    (all.printout ≡ earlier.printout ++ later.printout) × (all.sets ≡ later.sets)
-both accounts sets [] after = (refl, refl)
-both accounts sets (command ∷ before) after =
-    let first = commanded accounts sets command in
-    let rest = both accounts first.sets before after in
-    let earlier = all_commanded accounts first.sets before in
-    let later = all_commanded accounts earlier.sets after in
-    (ap (λ t. first.printout ++ t) rest.0 ∙ sym (append_assoc first.printout earlier.printout later.printout), rest.1)
+module _ (card_by_card : CardByCard) (slots : ℕ) (m : Marks) (bad deck : Deck) (last : List Asked) (n : ℕ) (code : Code) (accounts : deck.accounts ≡ bad.accounts)
+    (asked : deck.cards.asked ≡ bad.cards.asked ++ last) (same : (bad.cards.asked ≡ []) ⊎ (deck.catalogue ≡ bad.catalogue)) (refused : bad.cards.ending ≡ Refused n code)
+    (good : deck.cards.ending ≡ Stopped) where
+  abbrev world_over : List Account → Sets → World
+  world_over table sets = first_world slots table sets
 
-module _ (bad deck : Deck) (last : List Command) (n : ℕ) (code : Code) (accounts : deck.accounts ≡ bad.accounts) (commands : deck.cards.commands ≡ bad.cards.commands ++ last)
-    (over : (bad.cards.commands ≡ []) ⊎ (deck.catalogue ≡ bad.catalogue)) (refused : bad.cards.ending ≡ Refused n code) (good : deck.cards.ending ≡ Stopped) where
+  -- what some cards print over these
+  abbrev printed_over : List Asked → List Account → Sets → List ℕ
+  printed_over cards table sets = papers_text (done 0 cards m (world_over table sets)).papers
+
   -- what was printed before the refusal
-  printed : output_of_deck bad ≡ (all_commanded deck.accounts deck.catalogue bad.cards.commands).printout
+  printed : output_of_scene 0 m (opening slots bad) ≡ printed_over bad.cards.asked deck.accounts deck.catalogue
   printed =
-      let all = served bad in
-      ap (λ (e : Ending). all.printout ++ closing all.sets e) refused
-      ∙ append-nil all.printout
-      ∙ ap (λ (table : List Account). (all_commanded table bad.catalogue bad.cards.commands).printout) (sym accounts)
-      ∙ by over
+      let w = world_over bad.accounts bad.catalogue in
+      ap (λ (e : Ending). output_with (played (events_of 1 bad.cards.asked ++ at_end e) m w) e) refused
+      ∙ append-nil (papers_text (played (events_of 1 bad.cards.asked ++ []) m w).papers)
+      ∙ ap (λ (es : List Event). papers_text (played es m w).papers) (append-nil (events_of 1 bad.cards.asked))
+      ∙ ap (λ (table : List Account). printed_over bad.cards.asked table bad.catalogue) (sym accounts)
+      ∙ by same
     where
-      by : (bad.cards.commands ≡ []) ⊎ (deck.catalogue ≡ bad.catalogue)
-          → (all_commanded deck.accounts bad.catalogue bad.cards.commands).printout ≡ (all_commanded deck.accounts deck.catalogue bad.cards.commands).printout
+      by : (bad.cards.asked ≡ []) ⊎ (deck.catalogue ≡ bad.catalogue) → printed_over bad.cards.asked deck.accounts bad.catalogue ≡ printed_over bad.cards.asked deck.accounts deck.catalogue
       by (inl none) =
-          ap (λ (cs : List Command). (all_commanded deck.accounts bad.catalogue cs).printout) none
-          ∙ ap (λ (cs : List Command). (all_commanded deck.accounts deck.catalogue cs).printout) (sym none)
-      by (inr same) = ap (λ (sets : Sets). (all_commanded deck.accounts sets bad.cards.commands).printout) (sym same)
+          ap (λ (cards : List Asked). printed_over cards deck.accounts bad.catalogue) none
+          ∙ ap (λ (cards : List Asked). printed_over cards deck.accounts deck.catalogue) (sym none)
+      by (inr is) = ap (λ (sets : Sets). printed_over bad.cards.asked deck.accounts sets) (sym is)
 
-  prints_as_good : (let before = all_commanded deck.accounts deck.catalogue bad.cards.commands in
-      let behind = all_commanded deck.accounts before.sets last in
-      output_of_deck deck ≡ output_of_deck bad ++ (behind.printout ++ closing behind.sets Stopped))
+  prints_as_good : (let before = done 0 bad.cards.asked m (world_over deck.accounts deck.catalogue) in
+      output_of_scene 0 m (opening slots deck) ≡ output_of_scene 0 m (opening slots bad) ++ rest_of_output (jobs_in bad.cards.asked) before.marks before.after last Stopped)
   prints_as_good =
-      let before = all_commanded deck.accounts deck.catalogue bad.cards.commands in
-      let behind = all_commanded deck.accounts before.sets last in
-      let all = all_commanded deck.accounts deck.catalogue (bad.cards.commands ++ last) in
-      let parts = both deck.accounts deck.catalogue bad.cards.commands last in
-      ap (λ (cs : List Command). let done = all_commanded deck.accounts deck.catalogue cs in done.printout ++ closing done.sets deck.cards.ending) commands
-      ∙ ap (λ (e : Ending). all.printout ++ closing all.sets e) good
-      ∙ ap (λ (sets : Sets). all.printout ++ closing sets Stopped) parts.1
-      ∙ ap (λ t. t ++ closing behind.sets Stopped) parts.0
-      ∙ append_assoc before.printout behind.printout (closing behind.sets Stopped)
-      ∙ ap (λ t. t ++ (behind.printout ++ closing behind.sets Stopped)) (sym printed)
+      let w = world_over deck.accounts deck.catalogue in
+      let before = done 0 bad.cards.asked m w in
+      let rest = rest_of_output (jobs_in bad.cards.asked) before.marks before.after last Stopped in
+      ap (λ (cards : List Asked). rest_of_output 0 m w cards deck.cards.ending) asked
+      ∙ ap (λ (e : Ending). rest_of_output 0 m w (bad.cards.asked ++ last) e) good
+      ∙ in_two card_by_card 0 (jobs_in bad.cards.asked) m w bad.cards.asked last Stopped (omega arith)
+      ∙ ap (λ t. t ++ rest) (sym printed)
 
-pub refused_prints_as_good : RefusedPrintsAsGood
-refused_prints_as_good bytes n code refused =
+pub refused_prints_as_good : CardByCard → RefusedPrintsAsGood
+refused_prints_as_good card_by_card options m bytes n code run refused =
     let g = good_beginnings (lines bytes) n code refused in
     let begins = g.2 in
-    (g.0, g.1, begins, prints_as_good (deck_of (lines bytes)) g.0 g.1 n code begins.accounts begins.commands begins.over refused begins.good.ends)
+    let bad = deck_of (lines bytes) in
+    let good = opening options.slots.number g.0 in
+    let before = done 0 bad.cards.asked m good.world in
+    let rest = rest_of_output (jobs_in bad.cards.asked) before.marks before.after g.1 Stopped in (
+      g.0,
+      g.1,
+      begins,
+      prints_as_good card_by_card options.slots.number m bad g.0 g.1 n code begins.accounts begins.asked begins.over refused begins.good.ends
+          ∙ ap (λ t. t ++ rest) (sym (is_run options m bytes run)),
+    )
 
 -- a piece, and what follows it
 took_further : (before mid after : List ℕ) (f h g : DeckFeed) (piece more : List ℕ) → Took before f piece mid h → Took mid h more after g → Took before f (piece ++ more) after g
-took_further before mid after f h g piece more first then = λ bytes. then bytes ∙ first (more ++ bytes) ∙ ap (λ v. told before f v) (sym (append_assoc piece more bytes))
+took_further before mid after f h g piece more first next = record {
+  marks = first.marks ++ next.marks;
+  is = λ rest bytes.
+      next.is rest bytes
+      ∙ first.is (next.marks ++ rest) (more ++ bytes)
+      ∙ ap (λ (m : Marks). told m before f (piece ++ (more ++ bytes))) (sym (append_assoc first.marks next.marks rest))
+      ∙ ap (λ v. told ((first.marks ++ next.marks) ++ rest) before f v) (sym (append_assoc piece more bytes));
+}
 
 pub pieces_are_joined : PiecesAreJoined
 pieces_are_joined before after f g [] took = took
@@ -83,7 +96,9 @@ pieces_are_joined before after f g (piece ∷ pieces) (mid, h, first, others) =
     took_further before mid after f h g piece (joined pieces) first (pieces_are_joined mid after h g pieces others)
 
 pub however_cut : HoweverCut
-however_cut start f pieces out begin took = λ bytes. pieces_are_joined [] out start f pieces took bytes ∙ begin (joined pieces ++ bytes)
+however_cut start f pieces out begin took =
+    let all = pieces_are_joined [] out start f pieces took in
+    (all.marks, λ rest bytes. all.is rest bytes ∙ begin (all.marks ++ rest) (joined pieces ++ bytes))
 
 -- the text of a deck
 deck_text : (table : List (List ℕ)) (sets : Sets) → text_of (deck_lines table sets) ≡ deck_around table (closing sets Stopped)
@@ -95,11 +110,12 @@ deck_text table sets =
     ∙ ap (λ t. text_of (codes "$ACCOUNTS" ∷ table) ++ t) (sym (append_assoc (codes "$CATALOGUE\n") (catalogue_text sets) (codes "$STREAM\n$STOP\n")))
 
 pub catalogues_run_again : CataloguesRunAgain
-catalogues_run_again bytes table accounts stopped back spells differ =
-    let deck = deck_of (lines bytes) in
-    let all = served deck in
-    let deck_is = (comes_back table accounts all.sets spells differ back.stored back.printable).1 in (
-      closing all.sets Stopped,
-      ap (λ (e : Ending). all.printout ++ closing all.sets e) stopped,
-      subst (λ (text : List ℕ). IsDeck (lines text) (deck_over accounts all.sets)) (deck_text table all.sets) deck_is,
+catalogues_run_again options m bytes table accounts run stopped back spells differ =
+    let scene = scene_of options bytes in
+    let all = played_scene 0 m scene in
+    let sets = all.after.floor.sets in
+    let deck_is = (comes_back table accounts sets spells differ back.stored back.printable).1 in (
+      closing sets Stopped,
+      is_run options m bytes run ∙ ap (λ (e : Ending). papers_text all.papers ++ closing sets e) stopped,
+      subst (λ (text : List ℕ). IsDeck (lines text) (deck_over accounts sets)) (deck_text table sets) deck_is,
     )

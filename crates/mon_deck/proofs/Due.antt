@@ -15,30 +15,36 @@ use Rattle.mon_catalogue.specs.Progress as progress
 use Rattle.mon_catalogue.specs.Progress.{Progress, step}
 use Rattle.mon_cards.specs.declared.code.Code.{Code}
 use Rattle.mon_cards.specs.declared.code.Code.TheVariants.{LineTooLong, Truncated}
-use Rattle.mon_cards.specs.declared.list.OpenList.{OpenList}
+use Rattle.mon_cards.specs.declared.job.OpenJob.{OpenJob}
 use Rattle.mon_cards.specs.declared.request.Request.{Request}
-use Rattle.mon_cards.specs.declared.request.Request.TheVariants.{Nothing, Asks, Opens, Stops}
+use Rattle.mon_cards.specs.declared.request.Request.TheVariants as request
 use Rattle.mon_catalogue.specs.Sets.{Sets}
-use Rattle.mon_cards.specs.Decks.{Deck, Cards, Ending, Stopped, Refused}
+use Rattle.mon_slots.specs.Marks.{Marks}
+use Rattle.mon_cards.specs.Decks.{Deck, Cards, Asked, Commands, Enters, Gives, Drains, Ending, Stopped, Refused}
 use Rattle.mon_cards.specs.Laws.{Decides}
 use Rattle.mon_cards.proofs.Standing.{refusals_stand}
 use Rattle.mon_cards.specs.Refusing.{or_else, line_refusal, is_dollar_line}
-use Rattle.mon_cards.specs.Requests.{set_acl_of, with_line, list_line_refusal, stream_refusal, request_on}
-use Rattle.mon_cards.specs.Sections.{and_then, goes_on, requested, stream_section, deck_goes_on, sets_of, ends_catalogue, catalogue_refusal, catalogue_section, accounts_refusal, table_after, accounts_section, opening_refusal, opening_section, deck_of}
+use Rattle.mon_cards.specs.Jobs.{job_line_refusal, ends_job, after_job_line}
+use Rattle.mon_cards.specs.Requests.{opened, set_acl_of, with_line, list_line_refusal, stream_refusal, request_on}
+use Rattle.mon_cards.specs.Sections.{Open, Closed, InList, InJob, and_then, goes_on, requested, stream_section, deck_goes_on, sets_of, ends_catalogue, catalogue_refusal, catalogue_section, accounts_refusal, table_after, accounts_section, opening_refusal, opening_section, deck_of}
 use Rattle.mon_device.specs.Devices.{holding}
 use Rattle.mon_device.proofs.Holding.{holding-nothing}
+use Rattle.mon_feed.specs.declared.options.Counts.{Counts}
+use Rattle.mon_feed.specs.declared.options.Options.{Options}
 use Rattle.mon_feed.specs.declared.feed.DeckFeed.{DeckFeed}
+use Rattle.mon_feed.specs.declared.stage.Stage.{Stage}
 use Rattle.mon_feed.specs.declared.stage.State.{State}
 use Rattle.mon_feed.specs.declared.stage.State.TheVariants as state
+use Rattle.mon_feed.specs.Scenes.{Scene, opening, all_counted}
+use Rattle.mon_feed.specs.Printouts.{verdict, answer_to, output_of}
 use Rattle.mon_feed.specs.Feeds.{outcome, outcome_of, error_at, is_reading, concluded, sets_left, Outcome, Conclusion, Good, Bad}
 use Rattle.mon_feed.specs.Feeds.{more as after}
 use Rattle.mon_feed.specs.Told.{outcome_from}
-use Rattle.mon_feed.specs.Printouts.{verdict, answer_to, output_of}
-use Rattle.mon_feed.specs.declared.stage.Stage.{Stage}
 use Rattle.mon_feed.specs.inner.Counting.{lines_ended}
 use Rattle.mon_feed.proofs.Following.{too_long, list_too_long, long_refused, outcome_refused}
-use Rattle.mon_deck.specs.Runs.{ending_of, whole_lines, HasAnswered, HasPrinted, HasBrokenOff}
+use Rattle.mon_deck.specs.Runs.{ending_of, scene_of, whole_lines, HasAnswered, HasPrinted, HasBrokenOff}
 use Rattle.mon_deck.specs.inner.Writing.{Held, Runs, Stands, Broke}
+use Rattle.mon_deck.proofs.Running.{Opens}
 
 -- ---- a deck that is refused prints the same wherever and for whatever that is
 
@@ -47,21 +53,23 @@ blunt_ending Stopped = Stopped
 blunt_ending (Refused n code) = Refused 0 Truncated
 
 abbrev blunt_cards : Cards → Cards
-blunt_cards c = record { commands = c.commands; ending = blunt_ending c.ending }
+blunt_cards c = record { asked = c.asked; ending = blunt_ending c.ending }
 
 abbrev blunt : Deck → Deck
 blunt d = record { accounts = d.accounts; catalogue = d.catalogue; cards = blunt_cards d.cards }
 
-same_answer : (check : Bool) (d : Deck) → answer_to check (blunt d) ≡ answer_to check d
-same_answer true d = by d.cards.ending
+same_answer : (check : Bool) (slots : ℕ) (m : Marks) (d : Deck) → answer_to check 0 m (opening slots (blunt d)) ≡ answer_to check 0 m (opening slots d)
+same_answer true slots m d = by d.cards.ending
   where
     by : (ending : Ending) → verdict (blunt_ending ending) ≡ verdict ending
     by Stopped = refl
     by (Refused n code) = refl
-same_answer false d = by d.cards.ending
+same_answer false slots m d = by d.cards.ending
   where
-    by : (ending : Ending) → answer_to false (record { accounts = d.accounts; catalogue = d.catalogue; cards = record { commands = d.cards.commands; ending = blunt_ending ending } })
-        ≡ answer_to false (record { accounts = d.accounts; catalogue = d.catalogue; cards = record { commands = d.cards.commands; ending = ending } })
+    ending_so : Ending → Scene
+    ending_so ending = opening slots (record { accounts = d.accounts; catalogue = d.catalogue; cards = record { asked = d.cards.asked; ending = ending } })
+
+    by : (ending : Ending) → answer_to false 0 m (ending_so (blunt_ending ending)) ≡ answer_to false 0 m (ending_so ending)
     by Stopped = refl
     by (Refused n code) = refl
 
@@ -69,11 +77,14 @@ goes_on_same : (r : Option Code) (n : ℕ) (c d : Cards) → blunt_cards c ≡ b
 goes_on_same None n c d same = same
 goes_on_same (Some code) n c d same = refl
 
-requested_same : (request : Request) (f g : Option OpenList → Cards) → ((pending : Option OpenList) → blunt_cards (f pending) ≡ blunt_cards (g pending)) → blunt_cards (requested request f) ≡ blunt_cards (requested request g)
-requested_same Nothing f g same = same None
-requested_same (Asks command) f g same = ap (and_then command) (same None)
-requested_same (Opens account name) f g same = same (Some (record { account = account; name = name; text = [] }))
-requested_same Stops f g same = refl
+requested_same : (r : Request) (f g : Open → Cards) → ((pending : Open) → blunt_cards (f pending) ≡ blunt_cards (g pending)) → blunt_cards (requested r f) ≡ blunt_cards (requested r g)
+requested_same request.Nothing f g same = same Closed
+requested_same (request.Asks command) f g same = ap (and_then (Commands command)) (same Closed)
+requested_same (request.OpensList account name) f g same = same (InList (opened account name))
+requested_same (request.OpensJob job) f g same = same (InJob job)
+requested_same (request.Turns turn) f g same = ap (and_then (Gives turn)) (same Closed)
+requested_same request.Drains f g same = ap (and_then Drains) (same Closed)
+requested_same request.Stops f g same = refl
 
 deck_goes_on_same : (r : Option Code) (n : ℕ) (accounts : List Account) (c d : Deck) → blunt c ≡ blunt d → blunt (deck_goes_on r n accounts c) ≡ blunt (deck_goes_on r n accounts d)
 deck_goes_on_same None n accounts c d same = same
@@ -89,27 +100,38 @@ either_deck false c d e f first second = second
 
 -- ---- one more line that is too long
 
+first_refused : (refusal later : Option Code) → refusal ≡ Some LineTooLong → or_else refusal later ≡ Some LineTooLong
+first_refused refusal later e = ap (λ r. or_else r later) e
+
 module _ (last : List ℕ) (long : 5000 < length last) where
-  stream_same : (ls : List (List ℕ)) (n : ℕ) (pending : Option OpenList) → blunt_cards (stream_section n pending (ls ++ last ∷ [])) ≡ blunt_cards (stream_section n pending ls)
-  stream_same [] n None =
+  job_too_long : (job : OpenJob) → job_line_refusal job last ≡ Some LineTooLong
+  job_too_long job = first_refused _ _ (too_long 200 last (omega arith) long)
+
+  stream_same : (ls : List (List ℕ)) (n : ℕ) (pending : Open) → blunt_cards (stream_section n pending (ls ++ last ∷ [])) ≡ blunt_cards (stream_section n pending ls)
+  stream_same [] n Closed =
       ap (λ r. blunt_cards (goes_on (or_else r (stream_refusal last)) n (requested (request_on last) (λ pending. stream_section (n + 1) pending [])))) (too_long 200 last (omega arith) long)
-  stream_same [] n (Some list) =
-      ap (λ r. blunt_cards (goes_on r n (if is_dollar_line last then and_then (set_acl_of list) (stream_section (n + 1) None []) else stream_section (n + 1) (Some (with_line list last)) []))) (list_too_long last long)
-  stream_same (line ∷ ls) n None =
+  stream_same [] n (InList list) =
+      ap (λ r. blunt_cards (goes_on r n (if is_dollar_line last then and_then (Commands (set_acl_of list)) (stream_section (n + 1) Closed []) else stream_section (n + 1) (InList (with_line list last)) []))) (list_too_long last long)
+  stream_same [] n (InJob job) =
+      ap (λ r. blunt_cards (goes_on r n (if ends_job last then and_then (Enters job) (stream_section (n + 1) Closed []) else stream_section (n + 1) (InJob (after_job_line job last)) []))) (job_too_long job)
+  stream_same (line ∷ ls) n Closed =
       goes_on_same (or_else (line_refusal 200 line) (stream_refusal line)) n _ _
       (requested_same (request_on line) (λ pending. stream_section (n + 1) pending (ls ++ last ∷ [])) (λ pending. stream_section (n + 1) pending ls) (λ pending. stream_same ls (n + 1) pending))
-  stream_same (line ∷ ls) n (Some list) =
+  stream_same (line ∷ ls) n (InList list) =
       goes_on_same (list_line_refusal line) n _ _
-      (either_cards (is_dollar_line line) _ _ _ _ (ap (and_then (set_acl_of list)) (stream_same ls (n + 1) None)) (stream_same ls (n + 1) (Some (with_line list line))))
+      (either_cards (is_dollar_line line) _ _ _ _ (ap (and_then (Commands (set_acl_of list))) (stream_same ls (n + 1) Closed)) (stream_same ls (n + 1) (InList (with_line list line))))
+  stream_same (line ∷ ls) n (InJob job) =
+      goes_on_same (job_line_refusal job line) n _ _
+      (either_cards (ends_job line) _ _ _ _ (ap (and_then (Enters job)) (stream_same ls (n + 1) Closed)) (stream_same ls (n + 1) (InJob (after_job_line job line))))
 
   catalogue_same : (ls : List (List ℕ)) (n : ℕ) (accounts : List Account) (p : Progress) → blunt (catalogue_section n accounts p (ls ++ last ∷ [])) ≡ blunt (catalogue_section n accounts p ls)
   catalogue_same [] n accounts p =
       ap (λ r. blunt (deck_goes_on (or_else r (catalogue_refusal p last)) n accounts
-      (if ends_catalogue p last then record { accounts = accounts; catalogue = sets_of p; cards = stream_section (n + 1) None [] } else catalogue_section (n + 1) accounts (step p last) [])))
+      (if ends_catalogue p last then record { accounts = accounts; catalogue = sets_of p; cards = stream_section (n + 1) Closed [] } else catalogue_section (n + 1) accounts (step p last) [])))
       (too_long 5000 last (omega arith) long)
   catalogue_same (line ∷ ls) n accounts p =
       deck_goes_on_same (or_else (line_refusal 5000 line) (catalogue_refusal p line)) n accounts _ _
-      (either_deck (ends_catalogue p line) _ _ _ _ (ap (λ (c : Cards). record { accounts = accounts; catalogue = sets_of p; cards = c }) (stream_same ls (n + 1) None)) (catalogue_same ls (n + 1) accounts (step p line)))
+      (either_deck (ends_catalogue p line) _ _ _ _ (ap (λ (c : Cards). record { accounts = accounts; catalogue = sets_of p; cards = c }) (stream_same ls (n + 1) Closed)) (catalogue_same ls (n + 1) accounts (step p line)))
 
   accounts_same : (ls : List (List ℕ)) (n : ℕ) (accounts : List Account) → blunt (accounts_section n accounts (ls ++ last ∷ [])) ≡ blunt (accounts_section n accounts ls)
   accounts_same [] n accounts =
@@ -128,8 +150,14 @@ module _ (last : List ℕ) (long : 5000 < length last) where
       deck_goes_on_same (or_else (line_refusal 200 line) (opening_refusal line)) n [] _ _
       (either_deck (is_blank_line line) _ _ _ _ (opening_same ls (n + 1)) (accounts_same ls (n + 1) []))
 
-  answer_same : (check : Bool) (ls : List (List ℕ)) → answer_to check (deck_of (ls ++ last ∷ [])) ≡ answer_to check (deck_of ls)
-  answer_same check ls = sym (same_answer check (deck_of (ls ++ last ∷ []))) ∙ ap (answer_to check) (opening_same ls 1) ∙ same_answer check (deck_of ls)
+  answer_same : (options : Options) (m : Marks) (ls : List (List ℕ))
+      → (let before = opening options.slots.number (deck_of ls) in
+      answer_to options.check 0 m (opening options.slots.number (deck_of (ls ++ last ∷ []))) ≡ answer_to options.check 0 m before)
+  answer_same options m ls =
+      let slots = options.slots.number in
+      sym (same_answer options.check slots m (deck_of (ls ++ last ∷ [])))
+      ∙ ap (λ (d : Deck). answer_to options.check 0 m (opening slots d)) (opening_same ls 1)
+      ∙ same_answer options.check slots m (deck_of ls)
 
 -- ---- bytes that make such a line behind any others
 
@@ -222,30 +250,37 @@ lines_end (p ∷ q ∷ ps) last = ap (λ ls. strip_carriage_return p ∷ ls) (li
 
 -- ---- how a deck comes out at such a line
 
-bad_before : (count : ℕ) (c : Conclusion) (n : ℕ) (code : Code) → after count c ≡ Bad n code → c ≡ Bad n code
-bad_before count (Good others sets) n code e = cc
-bad_before count (Bad m other) n code e = e
+bad_before : (counts : Counts) (c : Conclusion) (n : ℕ) (code : Code) → after counts c ≡ Bad n code → c ≡ Bad n code
+bad_before counts (Good others sets) n code e = cc
+bad_before counts (Bad m other) n code e = e
 
 abbrev place_in : Conclusion → ℕ
-place_in (Good count sets) = 0
+place_in (Good counts sets) = 0
 place_in (Bad n code) = n
 
-refused_at_line : (check : Bool) (stage : Stage) (k : ℕ) (line : List ℕ) → 5000 < length line → (outcome check (state.Reading stage) k (line ∷ [])).conclusion ≡ Bad k LineTooLong
-refused_at_line check stage k line over = ap (λ (o : Outcome). o.conclusion) (ap (outcome_of check) (long_refused stage k line [] over) ∙ outcome_refused check stage k LineTooLong)
+-- what comes of one line
+abbrev of_line : Options → ℕ → Marks → State → ℕ → List ℕ → Outcome
+of_line options jobs m s k line = outcome options jobs m s k (line ∷ [])
 
-refused_there : (check : Bool) (s : State) (k : ℕ) (line : List ℕ) → 5000 < length line → error_at s ≡ None → (n : ℕ) (code : Code) → (outcome check s k (line ∷ [])).conclusion ≡ Bad n code
-    → (is_reading s ≡ true) × (n ≡ k)
-refused_there check (state.Reading stage) k line over sound n code bad = (refl, ap place_in (sym bad ∙ refused_at_line check stage k line over))
-refused_there check (state.Stopped w) k line over sound n code bad = cc
-refused_there check (state.Refused m other) k line over sound n code bad = cc
-refused_there check state.NoMemory k line over sound n code bad = cc
+refused_at_line : (options : Options) (jobs : ℕ) (m : Marks) (stage : Stage) (k : ℕ) (line : List ℕ) → 5000 < length line → (of_line options jobs m (state.Reading stage) k line).conclusion ≡ Bad k LineTooLong
+refused_at_line options jobs m stage k line over =
+    ap (λ (o : Outcome). o.conclusion)
+    (ap (outcome_of options.check jobs m) (long_refused options.slots.number stage k line [] over) ∙ outcome_refused options.check options.slots.number jobs m stage k LineTooLong)
 
-never_good : (check : Bool) (s : State) (k : ℕ) (line : List ℕ) → 5000 < length line → is_reading s ≡ true → (count others : ℕ) (sets : Sets) → after count (outcome check s k (line ∷ [])).conclusion ≡ Good others sets → ⊥
-never_good check (state.Reading stage) k line over reading count others sets good =
-    let never : Bad k LineTooLong ≡ Good others sets = sym (ap (after count) (refused_at_line check stage k line over)) ∙ good in cc
-never_good check (state.Stopped w) k line over reading count others sets good = cc
-never_good check (state.Refused m code) k line over reading count others sets good = cc
-never_good check state.NoMemory k line over reading count others sets good = cc
+refused_there : (options : Options) (jobs : ℕ) (m : Marks) (s : State) (k : ℕ) (line : List ℕ) → 5000 < length line → error_at s ≡ None → (n : ℕ) (code : Code)
+    → (of_line options jobs m s k line).conclusion ≡ Bad n code → (is_reading s ≡ true) × (n ≡ k)
+refused_there options jobs m (state.Reading stage) k line over sound n code bad = (refl, ap place_in (sym bad ∙ refused_at_line options jobs m stage k line over))
+refused_there options jobs m (state.Stopped w) k line over sound n code bad = cc
+refused_there options jobs m (state.Refused i other) k line over sound n code bad = cc
+refused_there options jobs m state.NoMemory k line over sound n code bad = cc
+
+never_good : (options : Options) (jobs : ℕ) (m : Marks) (s : State) (k : ℕ) (line : List ℕ) → 5000 < length line → is_reading s ≡ true → (counts others : Counts) (sets : Sets)
+    → after counts (of_line options jobs m s k line).conclusion ≡ Good others sets → ⊥
+never_good options jobs m (state.Reading stage) k line over reading counts others sets good =
+    let never : Bad k LineTooLong ≡ Good others sets = sym (ap (after counts) (refused_at_line options jobs m stage k line over)) ∙ good in cc
+never_good options jobs m (state.Stopped w) k line over reading counts others sets good = cc
+never_good options jobs m (state.Refused i code) k line over reading counts others sets good = cc
+never_good options jobs m state.NoMemory k line over reading counts others sets good = cc
 
 was_stopped : (e : Ending) → blunt_ending e ≡ Stopped → e ≡ Stopped
 was_stopped Stopped same = refl
@@ -271,12 +306,13 @@ module _ (more : List ℕ) (inside : has_no_end more ≡ true) (long : 5000 < le
       )
 
   -- and a feed prints nothing of it
-  silent_line : (check : Bool) (s : State) (n : ℕ) (line : List ℕ) → 5000 < length line → (outcome check s n (line ∷ [])).written ≡ []
-  silent_line check (state.Reading stage) n line over =
-      ap (λ (o : Outcome). o.written) (ap (outcome_of check) (long_refused stage n line [] over) ∙ outcome_refused check stage n LineTooLong)
-  silent_line check (state.Stopped w) n line over = refl
-  silent_line check (state.Refused m code) n line over = refl
-  silent_line check state.NoMemory n line over = refl
+  silent_line : (options : Options) (jobs : ℕ) (m : Marks) (s : State) (n : ℕ) (line : List ℕ) → 5000 < length line → (of_line options jobs m s n line).written ≡ []
+  silent_line options jobs m (state.Reading stage) n line over =
+      ap (λ (o : Outcome). o.written)
+      (ap (outcome_of options.check jobs m) (long_refused options.slots.number stage n line [] over) ∙ outcome_refused options.check options.slots.number jobs m stage n LineTooLong)
+  silent_line options jobs m (state.Stopped w) n line over = refl
+  silent_line options jobs m (state.Refused i code) n line over = refl
+  silent_line options jobs m state.NoMemory n line over = refl
 
   -- the line that a feed has then
   one_last : (f : DeckFeed) → lines (f.line ++ more) ≡ (f.line ++ more) ∷ []
@@ -288,34 +324,41 @@ module _ (more : List ℕ) (inside : has_no_end more ≡ true) (long : 5000 < le
   too_many : (f : DeckFeed) → 5000 < length (f.line ++ more)
   too_many f = omega (arith, long, length-append f.line more)
 
-  silent : (f : DeckFeed) → (outcome_from f more).written ≡ []
-  silent f =
-      ap (λ ls. (outcome f.options.check f.state (f.lines_taken + 1) ls).written) (one_last f) ∙ silent_line f.options.check f.state (f.lines_taken + 1) (f.line ++ more) (too_many f)
+  silent : (m : Marks) (f : DeckFeed) → (outcome_from m f more).written ≡ []
+  silent m f =
+      ap (λ ls. (outcome f.options f.counts.jobs m f.state (f.lines_taken + 1) ls).written) (one_last f)
+      ∙ silent_line f.options f.counts.jobs m f.state (f.lines_taken + 1) (f.line ++ more) (too_many f)
 
   -- how it comes out
-  last_conclusion : (f : DeckFeed) → (outcome_from f more).conclusion ≡ after f.commands (outcome f.options.check f.state (f.lines_taken + 1) ((f.line ++ more) ∷ [])).conclusion
-  last_conclusion f = ap (λ ls. after f.commands (outcome f.options.check f.state (f.lines_taken + 1) ls).conclusion) (one_last f)
+  last_conclusion : (m : Marks) (f : DeckFeed) → (outcome_from m f more).conclusion ≡ after f.counts (of_line f.options f.counts.jobs m f.state (f.lines_taken + 1) (f.line ++ more)).conclusion
+  last_conclusion m f = ap (λ ls. after f.counts (outcome f.options f.counts.jobs m f.state (f.lines_taken + 1) ls).conclusion) (one_last f)
 
-  module _ (check : Bool) (held now : Option (List ℕ)) (start f : DeckFeed) (given : List ℕ) (begin : (bytes : List ℕ) → outcome_from start bytes ≡ outcome_of check (deck_of (lines bytes)))
-      (stands : Stands held now [] start f given) where
+  module _ (options : Options) (held now : Option (List ℕ)) (start f : DeckFeed) (given : List ℕ) (begin : Opens options start) (stands : Stands held now [] start f given) where
     abbrev whole : List (List ℕ)
     whole = lines (whole_lines given)
 
     abbrev longer : Deck
     longer = deck_of (lines (given ++ more))
 
-    printed : now ≡ holding held (output_of check (whole_lines given))
+    -- the marks of the turns so far
+    abbrev so_far : Marks
+    so_far = stands.served.marks ++ []
+
+    abbrev concluded_so : Ending → Conclusion
+    concluded_so ending = concluded (all_counted longer.cards.asked) (sets_left options.check 0 so_far (scene_of options (given ++ more))) ending
+
+    printed : now ≡ holding held (output_of options so_far (whole_lines given))
     printed =
         let one = one_line_more given in
         sym (holding-nothing now)
-        ∙ ap (holding now) (sym (silent f))
-        ∙ ap (λ (h : Held). h.bytes) (stands.served more)
-        ∙ ap (λ (o : Outcome). holding held o.written) (begin (given ++ more))
-        ∙ ap (λ ls. holding held (answer_to check (deck_of ls))) one.2
-        ∙ ap (holding held) (answer_same one.0 one.1 check whole)
+        ∙ ap (holding now) (sym (silent [] f))
+        ∙ ap (λ (h : Held). h.bytes) (stands.served.is [] more)
+        ∙ ap (λ (o : Outcome). holding held o.written) (begin so_far (given ++ more))
+        ∙ ap (λ ls. holding held (answer_to options.check 0 so_far (opening options.slots.number (deck_of ls)))) one.2
+        ∙ ap (holding held) (answer_same one.0 one.1 options so_far whole)
 
-    comes_out : (outcome_from f more).conclusion ≡ concluded (length longer.cards.commands) (sets_left check longer) longer.cards.ending
-    comes_out = ap (λ (h : Held). h.conclusion) (stands.served more) ∙ ap (λ (o : Outcome). o.conclusion) (begin (given ++ more))
+    comes_out : (outcome_from [] f more).conclusion ≡ concluded_so longer.cards.ending
+    comes_out = ap (λ (h : Held). h.conclusion) (stands.served.is [] more) ∙ ap (λ (o : Outcome). o.conclusion) (begin so_far (given ++ more))
 
     -- a line that was read whole was not refused
     never_refused : (n : ℕ) (code : Code) → ending_of (whole_lines given) ≡ Refused n code → Decides n whole → ⊥
@@ -324,14 +367,14 @@ module _ (more : List ℕ) (inside : has_no_end more ≡ true) (long : 5000 < le
         let apart : whole ++ one.0 ∷ [] ≡ take n whole ++ (drop n whole ++ one.0 ∷ []) =
         ap (λ ls. ls ++ one.0 ∷ []) (sym (take-append-drop n whole)) ∙ append_assoc (take n whole) (drop n whole) (one.0 ∷ []) in
         let same : longer ≡ deck_of whole = ap deck_of (one.2 ∙ apart) ∙ decides.whatever_follows (drop n whole ++ one.0 ∷ []) in
-        let bad : (outcome_from f more).conclusion ≡ Bad n code =
-        comes_out ∙ ap (λ (e : Ending). concluded (length longer.cards.commands) (sets_left check longer) e) (ap (λ (d : Deck). d.cards.ending) same ∙ refused) in
-        let at = refused_there f.options.check f.state (f.lines_taken + 1) (f.line ++ more) (too_many f) stands.sound n code (bad_before f.commands _ n code (sym (last_conclusion f) ∙ bad)) in
+        let bad : (outcome_from [] f more).conclusion ≡ Bad n code = comes_out ∙ ap concluded_so (ap (λ (d : Deck). d.cards.ending) same ∙ refused) in
+        let at = refused_there f.options f.counts.jobs [] f.state (f.lines_taken + 1) (f.line ++ more) (too_many f) stands.sound n code
+        (bad_before f.counts _ n code (sym (last_conclusion [] f) ∙ bad)) in
         let count = (stands.counted at.0).1 in
         absurd (omega (arith, count, at.1, decides.within, one.3))
 
-    answered : HasAnswered check held now given
-    answered = record { written = printed; unrefused = λ n code refused. by n code refused (refusals_stand whole n code refused) }
+    answered : HasAnswered options held now given
+    answered = record { written = (so_far, printed); unrefused = λ n code refused. by n code refused (refusals_stand whole n code refused) }
       where
         by : (n : ℕ) (code : Code) → ending_of (whole_lines given) ≡ Refused n code → Decides n whole ⊎ ((n ≡ length whole + 1) × (code ≡ Truncated)) → code ≡ Truncated
         by n code refused (inl decides) = absurd (never_refused n code refused decides)
@@ -343,21 +386,20 @@ module _ (more : List ℕ) (inside : has_no_end more ≡ true) (long : 5000 < le
         let one = one_line_more given in
         let blunt_same : blunt_ending longer.cards.ending ≡ Stopped =
         ap (λ ls. blunt_ending (deck_of ls).cards.ending) one.2 ∙ ap (λ (d : Deck). d.cards.ending) (opening_same one.0 one.1 whole 1) ∙ ap blunt_ending stopped in
-        let good : (outcome_from f more).conclusion ≡ Good (length longer.cards.commands) (sets_left check longer) =
-        comes_out ∙ ap (λ (e : Ending). concluded (length longer.cards.commands) (sets_left check longer) e) (was_stopped longer.cards.ending blunt_same) in
-        never_good f.options.check f.state (f.lines_taken + 1) (f.line ++ more) (too_many f) reading f.commands _ _ (sym (last_conclusion f) ∙ good)
+        let good : (outcome_from [] f more).conclusion ≡ concluded_so Stopped = comes_out ∙ ap concluded_so (was_stopped longer.cards.ending blunt_same) in
+        never_good f.options f.counts.jobs [] f.state (f.lines_taken + 1) (f.line ++ more) (too_many f) reading f.counts _ _ (sym (last_conclusion [] f) ∙ good)
 
 long_bytes : (n : ℕ) → (bytes : List ℕ) × (length bytes ≡ n) × (has_no_end bytes ≡ true)
 long_bytes zero = ([], refl, refl)
 long_bytes (suc n) = let rest = long_bytes n in (120 ∷ rest.0, omega (arith, rest.1), rest.2)
 
-module _ (check : Bool) (told left held now : Option (List ℕ)) (start : DeckFeed) (given : List ℕ) (begin : (bytes : List ℕ) → outcome_from start bytes ≡ outcome_of check (deck_of (lines bytes))) where
-  pub due : (f : DeckFeed) → Runs told left held now start f given → HasPrinted check told left held now
+module _ (options : Options) (given_by left held now : Option (List ℕ)) (start : DeckFeed) (given : List ℕ) (begin : Opens options start) where
+  pub due : (f : DeckFeed) → Runs given_by left held now start f given → HasPrinted options given_by left held now
   due f runs =
       let bytes = long_bytes 5001 in
-      (given, runs.so_far.gives, answered bytes.0 bytes.2 (omega (arith, bytes.1)) check held now start f given begin runs.stands)
+      (given, runs.so_far.gives, answered bytes.0 bytes.2 (omega (arith, bytes.1)) options held now start f given begin runs.stands)
 
-  pub broken_off : Broke told left held now start given → HasBrokenOff check told left held now
+  pub broken_off : Broke given_by left held now start given → HasBrokenOff options given_by left held now
   broken_off broke =
       let bytes = long_bytes 5001 in
       let b = broke.broke in
@@ -367,6 +409,7 @@ module _ (check : Bool) (told left held now : Option (List ℕ)) (start : DeckFe
         b.back,
         broke.gives,
         b.are,
-        answered bytes.0 bytes.2 long check held now start b.feed b.front begin b.stands,
-        not_stopped bytes.0 bytes.2 long check held now start b.feed b.front begin b.stands b.reading,
+        broke.last,
+        answered bytes.0 bytes.2 long options held now start b.feed b.front begin b.stands,
+        not_stopped bytes.0 bytes.2 long options held now start b.feed b.front begin b.stands b.reading,
       )

@@ -16,11 +16,11 @@ use Rattle.mon_feed.specs.declared.options.Counts.{Counts}
 use Rattle.mon_feed.specs.declared.options.Options.{Options}
 use Rattle.mon_feed.specs.Scenes.{Scene, sets_after, all_counted, nothing_counted}
 use Rattle.mon_feed.specs.Printouts.{output_of, ReadsBack}
-use Rattle.mon_feed.specs.Feeds.{outcome_of, refused_at, is_reading, IsReadBack, concluded, sets_left, Outcome, Conclusion, Good, Bad}
+use Rattle.mon_feed.specs.Feeds.{outcome_of, refused_at, is_reading, IsReadBack, concluded, sets_left, Outcome, Conclusion, Good, Bad, Begins}
 use Rattle.mon_feed.specs.Told.{told}
 use Rattle.mon_deck.specs.Runs.{ending_of, scene_of, catalogue_after, counts_of, HoldsBeginning, HasWritten, HasRun, HasBegun}
 use Rattle.mon_deck.specs.inner.Writing.{Held, holds, HasGrown, Begun, Runs, Serves, Refuses, Starts, Stands, BrokeOff, Broke}
-use Rattle.mon_deck.proofs.Holdings.{nothing_held, held_further, not_grown, has_grown, grown_further, grown_begins, grown_held, no_error, stands_at_start, stands_further, serves_further, refuses_further, starts_further}
+use Rattle.mon_deck.proofs.Holdings.{nothing_held, held_begins, held_further, not_grown, has_grown, grown_further, grown_held, no_error, stands_at_start, stands_further, serves_further, refuses_further, starts_further}
 
 gives_nothing : (told : Option (List ℕ)) → Gives told [] told
 gives_nothing None = tt
@@ -39,7 +39,7 @@ begun_at_start given_by held f =
 
 pub begins : (given_by held : Option (List ℕ)) (f : DeckFeed) → is_reading f.state ≡ true → Runs given_by given_by held held f f []
 begins given_by held f reading =
-    record { gives = gives_nothing given_by; grown = not_grown held; stands = stands_at_start held [] f refl (no_error f.state reading) }
+    record { so_far = begun_at_start given_by held f; grown = not_grown held; stands = stands_at_start held [] f refl (no_error f.state reading) }
 
 -- a read fault of another call
 pub fault_so : {T U : Type 0} (error : RunError) → ◌≡◌ {A = Result T RunError} (Err error) (Err ReadFault) → ◌≡◌ {A = Result U RunError} (Err error) (Err ReadFault)
@@ -74,7 +74,10 @@ at_read given_by left held now now' start f given same runs = subst (λ (n : Opt
 -- the reader gave nothing more
 pub none_given : (given_by left after held now : Option (List ℕ)) (start f : DeckFeed) (given piece : List ℕ) → piece ≡ [] → Gives left piece after → Runs given_by left held now start f given → Runs given_by after held now start f given
 none_given given_by left after held now start f given piece none gives runs = record {
-  gives = subst (λ v. Gives given_by v after) (ap (λ p. given ++ p) none ∙ append-nil given) (gives_more given_by left after given piece runs.gives gives);
+  so_far = record {
+    gives = subst (λ v. Gives given_by v after) (ap (λ p. given ++ p) none ∙ append-nil given) (gives_more given_by left after given piece runs.so_far.gives gives);
+    starts = runs.so_far.starts;
+  };
   grown = runs.grown;
   stands = runs.stands;
 }
@@ -83,29 +86,17 @@ pub given_same : (given_by left after : Option (List ℕ)) (given : List ℕ) �
 given_same given_by left after given same gives = subst (λ (l : Option (List ℕ)). Gives given_by given l) (sym same) gives
 
 module _ (given_by left held now : Option (List ℕ)) (start f : DeckFeed) (given : List ℕ) (runs : Runs given_by left held now start f given) where
-  -- what was written so far begins all
-  pub so_far : Begun given_by left held now start given
-  so_far = record {
-    gives = runs.gives;
-    starts = record {
-      marks = runs.stands.served.marks;
-      is = λ rest bytes.
-          grown_begins held now (told (runs.stands.served.marks ++ rest) [] start (given ++ bytes)).written (told rest [] f bytes).written runs.grown
-          (ap (λ (h : Held). h.bytes) (runs.stands.served.is rest bytes));
-    };
-  }
-
   -- another piece was read, and a beginning of what comes of it was written
   pub begun_further : (piece : List ℕ) (after now' : Option (List ℕ)) → Gives left piece after → Starts now now' [] f piece → Begun given_by after held now' start (given ++ piece)
   begun_further piece after now' gives starts = record {
-    gives = gives_more given_by left after given piece runs.gives gives;
+    gives = gives_more given_by left after given piece runs.so_far.gives gives;
     starts = starts_further held now now' [] [] start f given runs.stands.served piece runs.grown starts;
   }
 
   pub goes_on : (piece : List ℕ) (after now' : Option (List ℕ)) (f' : DeckFeed) → Gives left piece after → Stands now now' [] f f' piece → Starts now now' [] f piece
       → Runs given_by after held now' start f' (given ++ piece)
   goes_on piece after now' f' gives step starts = record {
-    gives = gives_more given_by left after given piece runs.gives gives;
+    so_far = begun_further piece after now' gives starts;
     grown = grown_further held now now' runs.grown (has_grown now now' (told (starts.marks ++ []) [] f (piece ++ [])).written (starts.is [] []));
     stands = stands_further held now now' [] [] start f f' given piece runs.stands step.served step.counted step.sound;
   }
@@ -116,7 +107,7 @@ module _ (given_by left held now : Option (List ℕ)) (start f : DeckFeed) (give
   broke_within piece after now' size gives broke = (
     given ++ piece,
     record {
-      gives = gives_more given_by left after given piece runs.gives gives;
+      gives = gives_more given_by left after given piece runs.so_far.gives gives;
       broke = record {
         front = given ++ broke.front;
         back = broke.back;
@@ -134,7 +125,7 @@ module _ (given_by left held now : Option (List ℕ)) (start f : DeckFeed) (give
   broke_behind now' same reading = (
     given,
     record {
-      gives = runs.gives;
+      gives = runs.so_far.gives;
       broke = record {
         front = given;
         back = [];
@@ -150,7 +141,7 @@ module _ (given_by left held now : Option (List ℕ)) (start f : DeckFeed) (give
   -- the reader is at its end
   pub whole : IsAtEnd left → (o : Held) (marks : Marks) → o ≡ holds now (told marks [] f [])
       → IfSome given_by (λ bytes. (all : Marks) × (o ≡ holds held (told all [] start bytes)))
-  whole end o marks is = by given_by left runs.gives end
+  whole end o marks is = by given_by left runs.so_far.gives end
     where
       all : Marks
       all = runs.stands.served.marks ++ marks
@@ -164,7 +155,7 @@ module _ (given_by left held now : Option (List ℕ)) (start f : DeckFeed) (give
   -- the deck is refused in the middle, whatever follows
   pub midway : (piece : List ℕ) (after now' : Option (List ℕ)) (n : ℕ) (code : Code) → Gives left piece after → Refuses now now' [] f piece n code
       → IfSome given_by (λ bytes. (marks : Marks) × (holds now' (refused_at n code) ≡ holds held (told marks [] start bytes)))
-  midway piece after now' n code gives refuses = by given_by after (gives_more given_by left after given piece runs.gives gives)
+  midway piece after now' n code gives refuses = by given_by after (gives_more given_by left after given piece runs.so_far.gives gives)
     where
       all : Refuses held now' [] start (given ++ piece) n code
       all = refuses_further held now now' [] [] start f given runs.stands.served piece n code refuses
@@ -173,6 +164,38 @@ module _ (given_by left held now : Option (List ℕ)) (start f : DeckFeed) (give
       by None a g = tt
       by (Some bytes) None g = absurd g
       by (Some bytes) (Some more) g = (all.marks ++ [], all.is [] more ∙ ap (λ v. holds held (told (all.marks ++ []) [] start v)) (sym g))
+
+-- ---- the reader is at its end
+
+-- all that was put out is written
+all_written : (held now : Option (List ℕ)) (out : List ℕ) (c : Conclusion) → now ≡ holding held out
+    → ◌≡◌ {A = Held} (holds now (record { written = []; conclusion = c })) (holds held (record { written = out; conclusion = c }))
+all_written held now out c all = ap (λ h. record { bytes = h; conclusion = c }) (holding-nothing now ∙ all)
+
+module _ (held now : Option (List ℕ)) (before after : List ℕ) (f : DeckFeed) (empty : before ≡ []) where
+  ends_with : (c : Conclusion) (marks : Marks) → now ≡ holding held after → ((rest : Marks) → told (marks ++ rest) before f [] ≡ record { written = after; conclusion = c })
+      → holds now (record { written = []; conclusion = c }) ≡ holds held (told (marks ++ []) [] f [])
+  ends_with c marks all is = all_written held now after c all ∙ ap (holds held) (sym (is []) ∙ ap (λ (out : List ℕ). told (marks ++ []) out f []) empty)
+
+  pub finish_ended : now ≡ holding held after → (result : Result Counts RunError)
+      → IfOk result (λ counts. (marks : Marks) × (sets : Sets) × ((rest : Marks) → told (marks ++ rest) before f [] ≡ record { written = after; conclusion = Good counts sets })
+      × (IsReadBack f.options.check f.state → f.options.check ≡ false → ReadsBack sets))
+      → IfOk result (λ counts. (marks : Marks) × (sets : Sets) × (holds now (record { written = []; conclusion = Good counts sets }) ≡ holds held (told marks [] f []))
+      × (IsReadBack f.options.check f.state → f.options.check ≡ false → ReadsBack sets))
+  finish_ended all (Err error) ended = tt
+  finish_ended all (Ok counts) (marks, sets, is, reads) = (marks ++ [], sets, ends_with (Good counts sets) marks all is, reads)
+
+  pub finish_refused : now ≡ holding held after → (n : ℕ) (code : Code)
+      → (marks : Marks) × ((rest : Marks) → told (marks ++ rest) before f [] ≡ record { written = after; conclusion = Bad n code })
+      → (marks : Marks) × (holds now (refused_at n code) ≡ holds held (told marks [] f []))
+  finish_refused all n code (marks, is) = (marks ++ [], ends_with (Bad n code) marks all is)
+
+  pub finish_begun : HoldsBeginning held now after → (marks : Marks) × ((rest : Marks) → Begins after (told (marks ++ rest) before f []).written)
+      → (marks : Marks) × ((rest : Marks) → HoldsBeginning held now (told (marks ++ rest) [] f []).written)
+  finish_begun written (marks, begun) = (
+    marks,
+    λ rest. held_begins held now after (told (marks ++ rest) [] f []).written written (subst (λ (out : List ℕ). Begins after (told (marks ++ rest) out f []).written) empty (begun rest)),
+  )
 
 -- how a deck came out
 abbrev counts_in : Conclusion → Counts
@@ -229,7 +252,7 @@ module _ (options : Options) (held now : Option (List ℕ)) (m : Marks) (bytes :
 
   pub bad : (n : ℕ) (code : Code) → ◌≡◌ {A = Held} (record { bytes = holding now []; conclusion = Bad n code }) (holds held (outcome_of options.check 0 m scene))
       → (ending_of bytes ≡ Refused n code) × HasWritten options held now bytes
-  bad n code e = (sym (ended_so _ (ap (λ (h : Held). h.conclusion) e)), m, written_so _ e)
+  bad n code e = (sym (ended_so _ (ap (λ (h : Held). h.conclusion) e)), (m, written_so _ e))
 
 pub if_some : (told : Option (List ℕ)) (P Q : List ℕ → Type 0) → ((bytes : List ℕ) → P bytes → Q bytes) → IfSome told P → IfSome told Q
 if_some None P Q f p = tt
@@ -280,7 +303,7 @@ module _ (options : Options) (given_by left held now : Option (List ℕ)) (start
   finished f given now' runs end (marks, written) = (
     given,
     runs.stands.served.marks ++ marks,
-    runs.gives,
+    runs.so_far.gives,
     λ rest more none.
         let all = (runs.stands.served.marks ++ marks) ++ rest in
         let same : holds now (told (marks ++ rest) [] f []) ≡ holds held (told all [] start (given ++ [])) =
@@ -299,3 +322,8 @@ pub on_good : (told : Option (List ℕ)) (P : Counts → List ℕ → Type 0) (Q
     → IfOk result (λ counts. IfSome told (P counts)) → OnOk result (IfSome told Q)
 on_good told P Q (Ok counts) f p = if_some told (P counts) Q (f counts) p
 on_good told P Q (Err error) f p = tt
+
+pub counts_good : (given_by : Option (List ℕ)) (options : Options) (held now : Option (List ℕ)) (result : Result Counts RunError)
+    → IfOk result (λ counts. IfSome given_by (IsGood options held now counts)) → IfOk result (λ counts. IfSome given_by (λ bytes. counts ≡ counts_of bytes))
+counts_good given_by options held now (Ok counts) p = if_some given_by _ _ (λ bytes (good : IsGood options held now counts bytes). good.counts_are) p
+counts_good given_by options held now (Err error) p = tt

@@ -61,7 +61,7 @@ pub record Begun (told left held now : Option (List ℕ)) (start : DeckFeed) (gi
 
 -- and what is written in the end is what all of it gives
 pub record Runs (told left held now : Option (List ℕ)) (start f : DeckFeed) (given : List ℕ) : Type 0 where
-  pub gives : Gives told given left
+  pub so_far : Begun told left held now start given
   pub grown : HasGrown held now
   pub stands : Stands held now [] start f given
 

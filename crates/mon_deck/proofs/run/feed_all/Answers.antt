@@ -1,18 +1,16 @@
 use Rattle.std.proofs.Common.{rules, refl, [], arith, ◌≡◌, ◌≤◌, ◌++◌, List, ℕ, length, take, ap, subst, ◌∙◌, length-take}
 use Rattle.std.proofs.lemmas.List.{take_at}
-use Rattle.mon_feed.specs.Told.{outcome_from}
-use Rattle.mon_deck.specs.Runs.{HoldsBeginning}
-use Rattle.mon_deck.specs.inner.Writing.{holds, Stands, BrokeOff}
+use Rattle.mon_deck.specs.inner.Writing.{Refuses, Starts, Stands, BrokeOff}
 use Rattle.mon_deck.proofs.Running.{on_err, begins, begun_at_start, broke_at_start, goes_on, begun_further, broke_within, midway, none_given, none_read, at_read, given_same, memory_so}
 use Rattle.mon_feed.proofs.Telling.{refused_so}
 use Rattle.mon_deck.proofs.run.feed_all.Goals as goal
 
 pub loop-read-preserved : goal.loop-read-preserved
 loop-read-preserved g c =
-    let so_far = c.loop-read.invariant.runs in
+    let so = c.loop-read.invariant.runs in
     let now = g.D.DeckDevices.written c.read.new.self in
     let after = g.D.DeckDevices.written c.serve.new.devices in
-    let runs = at_read _ _ _ _ now _ _ _ c.read.ensures.apart.0 so_far.1 in
+    let runs = at_read _ _ _ _ now _ _ _ c.read.ensures.apart.0 so.1 in
     let same : c.deref.result.now ≡ c.read.new.buffer = c.deref.ensures.value ∙ take_at _ _ _ (c.read.auto.buffer ∙ c.deref_mut.ensures.len) in
     let size : length c.read.new.buffer ≡ 65536 = c.read.auto.buffer ∙ c.deref_mut.ensures.len ∙ c.loop-read.invariant.buffer in
     let within : c.in-Ok.count ≤ 65536 = omega (arith, c.in-Ok.ensures.within, size) in
@@ -20,10 +18,10 @@ loop-read-preserved g c =
       buffer = search rules;
       empty = search rules;
       runs = (
-        so_far.0 ++ take c.in-Ok.count c.read.new.buffer,
+        so.0 ++ take c.in-Ok.count c.read.new.buffer,
         goes_on _ _ _ _ _ _ _ runs (take c.in-Ok.count c.read.new.buffer) _ after _ (given_same _ _ _ _ c.serve.ensures.apart.0 c.in-Ok.ensures.given)
             (subst (λ (b : List ℕ). Stands now after [] c.loop-read.feed c.serve.new.feed (take c.in-Ok.count b)) same c.in-Ok-serve.ensures.served)
-            (λ bytes. subst (λ (b : List ℕ). HoldsBeginning now after (outcome_from c.loop-read.feed (take c.in-Ok.count b ++ bytes)).written) same (c.serve.ensures.begun bytes)),
+            (subst (λ (b : List ℕ). Starts now after [] c.loop-read.feed (take c.in-Ok.count b)) same c.serve.ensures.begun),
       );
       reads = search rules;
       few = omega (arith, c.loop-read.invariant.few, c.in-Ok-serve.ensures.fed, length-take c.in-Ok.count c.deref.result.now, within);
@@ -35,34 +33,37 @@ loop-read-preserved g c =
 
 pub returns-in-Err-serve-clause-refused : goal.returns-in-Err-serve-clause-refused
 returns-in-Err-serve-clause-refused g c = λ n code refused.
-    let so_far = c.loop-read.invariant.runs in
+    let so = c.loop-read.invariant.runs in
     let now = g.D.DeckDevices.written c.read.new.self in
-    let runs = at_read _ _ _ _ now _ _ _ c.read.ensures.apart.0 so_far.1 in
+    let after = g.D.DeckDevices.written c.serve.new.devices in
+    let runs = at_read _ _ _ _ now _ _ _ c.read.ensures.apart.0 so.1 in
     let same : c.deref.result.now ≡ c.read.new.buffer = c.deref.ensures.value ∙ take_at _ _ _ (c.read.auto.buffer ∙ c.deref_mut.ensures.len) in
-    midway _ _ _ _ _ _ _ runs (take c.in-Ok.count c.read.new.buffer) _ c.in-Ok.ensures.given _
-    (λ bytes. c.serve.ensures.refused n code (c.in-Err-serve.is ∙ refused_so c.in-Err-serve.error n code refused) bytes
-    ∙ ap (λ (b : List ℕ). holds now (outcome_from c.loop-read.feed (take c.in-Ok.count b ++ bytes))) same)
+    midway _ _ _ _ _ _ _ runs (take c.in-Ok.count c.read.new.buffer) _ after n code c.in-Ok.ensures.given
+    (subst (λ (b : List ℕ). Refuses now after [] c.loop-read.feed (take c.in-Ok.count b) n code) same
+    (c.serve.ensures.refused n code (c.in-Err-serve.is ∙ refused_so c.in-Err-serve.error n code refused)))
 
 pub returns-in-Err-serve-clause-begun : goal.returns-in-Err-serve-clause-begun
 returns-in-Err-serve-clause-begun g c =
-    let so_far = c.loop-read.invariant.runs in
+    let so = c.loop-read.invariant.runs in
     let now = g.D.DeckDevices.written c.read.new.self in
     let after = g.D.DeckDevices.written c.serve.new.devices in
-    let runs = at_read _ _ _ _ now _ _ _ c.read.ensures.apart.0 so_far.1 in
+    let runs = at_read _ _ _ _ now _ _ _ c.read.ensures.apart.0 so.1 in
     let same : c.deref.result.now ≡ c.read.new.buffer = c.deref.ensures.value ∙ take_at _ _ _ (c.read.auto.buffer ∙ c.deref_mut.ensures.len) in (
-      so_far.0 ++ take c.in-Ok.count c.read.new.buffer,
+      so.0 ++ take c.in-Ok.count c.read.new.buffer,
       begun_further _ _ _ _ _ _ _ runs (take c.in-Ok.count c.read.new.buffer) _ after (given_same _ _ _ _ c.serve.ensures.apart.0 c.in-Ok.ensures.given)
-          (λ bytes. subst (λ (b : List ℕ). HoldsBeginning now after (outcome_from c.loop-read.feed (take c.in-Ok.count b ++ bytes)).written) same (c.serve.ensures.begun bytes)),
+          (subst (λ (b : List ℕ). Starts now after [] c.loop-read.feed (take c.in-Ok.count b)) same c.serve.ensures.begun),
     )
 
 pub returns-in-Err-serve-clause-short : goal.returns-in-Err-serve-clause-short
 returns-in-Err-serve-clause-short g c = λ short.
-    let so_far = c.loop-read.invariant.runs in
+    let so = c.loop-read.invariant.runs in
     let now = g.D.DeckDevices.written c.read.new.self in
     let after = g.D.DeckDevices.written c.serve.new.devices in
-    let runs = at_read _ _ _ _ now _ _ _ c.read.ensures.apart.0 so_far.1 in
+    let runs = at_read _ _ _ _ now _ _ _ c.read.ensures.apart.0 so.1 in
     let same : c.deref.result.now ≡ c.read.new.buffer = c.deref.ensures.value ∙ take_at _ _ _ (c.read.auto.buffer ∙ c.deref_mut.ensures.len) in
-    broke_within _ _ _ _ _ _ _ runs (take c.in-Ok.count c.read.new.buffer) _ after (given_same _ _ _ _ c.serve.ensures.apart.0 c.in-Ok.ensures.given)
+    let size : length c.read.new.buffer ≡ 65536 = c.read.auto.buffer ∙ c.deref_mut.ensures.len ∙ c.loop-read.invariant.buffer in
+    let within : length (take c.in-Ok.count c.read.new.buffer) ≤ 65536 = omega (arith, c.in-Ok.ensures.within, size, length-take c.in-Ok.count c.read.new.buffer) in
+    broke_within _ _ _ _ _ _ _ runs (take c.in-Ok.count c.read.new.buffer) _ after within (given_same _ _ _ _ c.serve.ensures.apart.0 c.in-Ok.ensures.given)
     (subst (λ (b : List ℕ). BrokeOff now after c.loop-read.feed (take c.in-Ok.count b)) same (c.serve.ensures.short (c.in-Err-serve.is ∙ memory_so c.in-Err-serve.error short)))
 
 pub returns-in_err-buffer-clause-begun : goal.returns-in_err-buffer-clause-begun
@@ -86,7 +87,7 @@ loop-read-init g c = record {
 
 pub returns-in-Ok-eq0-clause-runs : goal.returns-in-Ok-eq0-clause-runs
 returns-in-Ok-eq0-clause-runs g c =
-    let so_far = c.loop-read.invariant.runs in
-    let runs = at_read _ _ _ _ (g.D.DeckDevices.written c.read.new.self) _ _ _ c.read.ensures.apart.0 so_far.1 in
+    let so = c.loop-read.invariant.runs in
+    let runs = at_read _ _ _ _ (g.D.DeckDevices.written c.read.new.self) _ _ _ c.read.ensures.apart.0 so.1 in
     let none : take c.in-Ok-eq0.field-0 c.read.new.buffer ≡ [] = ap (λ k. take k c.read.new.buffer) c.in-Ok-eq0.field-0-test in
-    (so_far.0, none_given _ _ _ _ _ _ _ so_far.0 (take c.in-Ok-eq0.field-0 c.read.new.buffer) none c.in-Ok-eq0.ensures.given runs)
+    (so.0, none_given _ _ _ _ _ _ _ so.0 (take c.in-Ok-eq0.field-0 c.read.new.buffer) none c.in-Ok-eq0.ensures.given runs)

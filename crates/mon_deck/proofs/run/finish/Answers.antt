@@ -1,20 +1,38 @@
-use Rattle.std.proofs.Common.{List, ℕ, [], ap, subst, ◌∙◌}
+use Rattle.std.proofs.Common.{◌≡◌, List, ℕ, ap, subst, ◌∙◌}
 use Rattle.mon_device.specs.Devices.{holding}
 use Rattle.mon_device.proofs.Holding.{holding-nothing}
-use Rattle.mon_feed.specs.Feeds.{Begins}
-use Rattle.mon_feed.specs.Told.{told, outcome_from}
 use Rattle.mon_deck.specs.Runs.{HoldsBeginning}
-use Rattle.mon_deck.proofs.Holdings.{still_read, held_begins}
+use Rattle.mon_deck.proofs.Holdings.{still_read}
+use Rattle.mon_deck.proofs.Running.{finish_ended, finish_refused, finish_begun}
 use Rattle.mon_deck.proofs.run.finish.Goals as goal
+
+pub returns-in-Ok-clause-ended : goal.returns-in-Ok-clause-ended
+returns-in-Ok-clause-ended g c =
+    let held = g.D.DeckDevices.written c.args.devices.now in
+    let now = g.D.DeckDevices.written c.write_all.new.devices in
+    let all : now ≡ holding held c.finish-answer.new.out.items = c.in-Ok.ensures.all ∙ ap (λ (items : List ℕ). holding held items) c.deref.ensures.value in
+    finish_ended held now _ c.finish-answer.new.out.items c.args.feed c.requires.empty all c.finish-answer.result c.finish-answer.ensures.ended
+
+pub returns-in-Ok-clause-refused : goal.returns-in-Ok-clause-refused
+returns-in-Ok-clause-refused g c = λ n code same.
+    let held = g.D.DeckDevices.written c.args.devices.now in
+    let now = g.D.DeckDevices.written c.write_all.new.devices in
+    let all : now ≡ holding held c.finish-answer.new.out.items = c.in-Ok.ensures.all ∙ ap (λ (items : List ℕ). holding held items) c.deref.ensures.value in
+    finish_refused held now _ c.finish-answer.new.out.items c.args.feed c.requires.empty all n code (c.finish-answer.ensures.refused n code same)
+
+pub returns-in-Ok-clause-begun : goal.returns-in-Ok-clause-begun
+returns-in-Ok-clause-begun g c =
+    let held = g.D.DeckDevices.written c.args.devices.now in
+    let now = g.D.DeckDevices.written c.write_all.new.devices in
+    finish_begun held now _ c.finish-answer.new.out.items c.args.feed c.requires.empty
+    (subst (λ (v : List ℕ). HoldsBeginning held now v) c.deref.ensures.value c.write_all.ensures.taken) c.finish-answer.ensures.begun
 
 pub returns-in-Err-clause-begun : goal.returns-in-Err-clause-begun
 returns-in-Err-clause-begun g c =
     let held = g.D.DeckDevices.written c.args.devices.now in
     let now = g.D.DeckDevices.written c.write_all.new.devices in
-    let gathered = c.finish-answer.new.out.items in
-    held_begins held now gathered (outcome_from c.args.feed []).written
-    (subst (λ (v : List ℕ). HoldsBeginning held now v) c.deref.ensures.value c.write_all.ensures.taken)
-    (subst (λ (v : List ℕ). Begins gathered (told v c.args.feed []).written) c.requires.empty c.finish-answer.ensures.begun)
+    finish_begun held now _ c.finish-answer.new.out.items c.args.feed c.requires.empty
+    (subst (λ (v : List ℕ). HoldsBeginning held now v) c.deref.ensures.value c.write_all.ensures.taken) c.finish-answer.ensures.begun
 
 pub returns-in-Ok-clause-short : goal.returns-in-Ok-clause-short
 returns-in-Ok-clause-short g c = λ short. (

@@ -1,10 +1,8 @@
 use Rattle.std.proofs.Common.{rules, ◌≡◌, ◌∙◌, sym, subst, List, ℕ, Option}
-use Rattle.mon_device.specs.Devices.{holding}
 use Rattle.mon_cards.specs.Decks.{Stopped, Refused}
-use Rattle.mon_feed.specs.Printouts.{output_of}
-use Rattle.mon_deck.specs.Runs.{ending_of, HasBegun, HasBrokenOff}
+use Rattle.mon_deck.specs.Runs.{ending_of, HasWritten, HasRun, HasBegun, HasBrokenOff}
 use Rattle.mon_feed.proofs.Telling.{refused_so}
-use Rattle.mon_deck.proofs.Running.{run_good, run_bad, met_bad, on_good, if_some, IsGood, broken, finished, fault_so, memory_so, broke_behind}
+use Rattle.mon_deck.proofs.Running.{run_good, run_bad, met_bad, on_good, counts_good, if_some, IsGood, broken, finished, fault_so, memory_so, broke_behind}
 use Rattle.mon_deck.proofs.Due.{due, broken_off}
 use Rattle.mon_deck.proofs.run.run_deck.Goals as goal
 
@@ -14,8 +12,8 @@ returns-in-Ok-clause-stopped g c =
     let held = g.D.DeckDevices.written c.args.devices.now in
     let now = g.D.DeckDevices.written c.finish.new.devices in
     let told = g.D.DeckDevices.remaining c.args.devices.now in
-    on_good told (IsGood c.args.options.check held now) (λ bytes. ending_of bytes ≡ Stopped) c.finish.result (λ counts bytes (good : IsGood c.args.options.check held now counts bytes). good.stopped)
-    (run_good c.args.options.check told _ held _ now c.new-feed.result _ r.0 r.1 c.in-Ok.ensures.at_end c.new-feed.ensures.start (search rules) (search rules) c.finish.result c.finish.ensures.ended)
+    on_good told (IsGood c.args.options held now) (λ bytes. ending_of bytes ≡ Stopped) c.finish.result (λ counts bytes (good : IsGood c.args.options held now counts bytes). good.stopped)
+    (run_good c.args.options told _ held _ now c.new-feed.result _ r.0 r.1 c.in-Ok.ensures.at_end c.new-feed.ensures.start (search rules) (search rules) c.finish.result c.finish.ensures.ended)
 
 pub returns-in-Ok-clause-output : goal.returns-in-Ok-clause-output
 returns-in-Ok-clause-output g c =
@@ -23,31 +21,50 @@ returns-in-Ok-clause-output g c =
     let held = g.D.DeckDevices.written c.args.devices.now in
     let now = g.D.DeckDevices.written c.finish.new.devices in
     let told = g.D.DeckDevices.remaining c.args.devices.now in
-    on_good told (IsGood c.args.options.check held now) (λ bytes. now ≡ holding held (output_of c.args.options.check bytes)) c.finish.result (λ counts bytes (good : IsGood c.args.options.check held now counts bytes). good.output)
-    (run_good c.args.options.check told _ held _ now c.new-feed.result _ r.0 r.1 c.in-Ok.ensures.at_end c.new-feed.ensures.start (search rules) (search rules) c.finish.result c.finish.ensures.ended)
+    on_good told (IsGood c.args.options held now) (HasRun c.args.options held now) c.finish.result (λ counts bytes (good : IsGood c.args.options held now counts bytes). good.output)
+    (run_good c.args.options told _ held _ now c.new-feed.result _ r.0 r.1 c.in-Ok.ensures.at_end c.new-feed.ensures.start (search rules) (search rules) c.finish.result c.finish.ensures.ended)
+
+pub returns-in-Ok-clause-counts : goal.returns-in-Ok-clause-counts
+returns-in-Ok-clause-counts g c =
+    let r = c.in-Ok.ensures.runs in
+    let held = g.D.DeckDevices.written c.args.devices.now in
+    let now = g.D.DeckDevices.written c.finish.new.devices in
+    let told = g.D.DeckDevices.remaining c.args.devices.now in
+    counts_good told c.args.options held now c.finish.result
+    (run_good c.args.options told _ held _ now c.new-feed.result _ r.0 r.1 c.in-Ok.ensures.at_end c.new-feed.ensures.start (search rules) (search rules) c.finish.result c.finish.ensures.ended)
 
 pub returns-in-Ok-clause-refused : goal.returns-in-Ok-clause-refused
 returns-in-Ok-clause-refused g c = λ n code same.
     let r = c.in-Ok.ensures.runs in
-    if_some _ _ _ (λ bytes (x : (ending_of bytes ≡ Refused n code) × (g.D.DeckDevices.written c.finish.new.devices ≡ holding (g.D.DeckDevices.written c.args.devices.now) (output_of c.args.options.check bytes))). x.0)
-    (run_bad c.args.options.check (g.D.DeckDevices.remaining c.args.devices.now) _ (g.D.DeckDevices.written c.args.devices.now) _ (g.D.DeckDevices.written c.finish.new.devices) c.new-feed.result _ r.0 r.1 c.in-Ok.ensures.at_end c.new-feed.ensures.start n code (c.finish.ensures.refused n code same))
+    let held = g.D.DeckDevices.written c.args.devices.now in
+    let now = g.D.DeckDevices.written c.finish.new.devices in
+    let end = c.finish.ensures.refused n code same in
+    if_some _ _ _ (λ bytes (x : (ending_of bytes ≡ Refused n code) × HasWritten c.args.options held now bytes). x.0)
+    (run_bad c.args.options (g.D.DeckDevices.remaining c.args.devices.now) _ held _ now c.new-feed.result _ r.0 r.1 c.in-Ok.ensures.at_end c.new-feed.ensures.start n code end.0 end.1)
 
 pub returns-in-Ok-clause-refused_output : goal.returns-in-Ok-clause-refused_output
 returns-in-Ok-clause-refused_output g c = λ n code same.
     let r = c.in-Ok.ensures.runs in
-    if_some _ _ _ (λ bytes (x : (ending_of bytes ≡ Refused n code) × (g.D.DeckDevices.written c.finish.new.devices ≡ holding (g.D.DeckDevices.written c.args.devices.now) (output_of c.args.options.check bytes))). x.1)
-    (run_bad c.args.options.check (g.D.DeckDevices.remaining c.args.devices.now) _ (g.D.DeckDevices.written c.args.devices.now) _ (g.D.DeckDevices.written c.finish.new.devices) c.new-feed.result _ r.0 r.1 c.in-Ok.ensures.at_end c.new-feed.ensures.start n code (c.finish.ensures.refused n code same))
+    let held = g.D.DeckDevices.written c.args.devices.now in
+    let now = g.D.DeckDevices.written c.finish.new.devices in
+    let end = c.finish.ensures.refused n code same in
+    if_some _ _ _ (λ bytes (x : (ending_of bytes ≡ Refused n code) × HasWritten c.args.options held now bytes). x.1)
+    (run_bad c.args.options (g.D.DeckDevices.remaining c.args.devices.now) _ held _ now c.new-feed.result _ r.0 r.1 c.in-Ok.ensures.at_end c.new-feed.ensures.start n code end.0 end.1)
 
 pub returns-in-Err-clause-refused : goal.returns-in-Err-clause-refused
 returns-in-Err-clause-refused g c = λ n code same.
-    if_some _ _ _ (λ bytes (x : (ending_of bytes ≡ Refused n code) × (g.D.DeckDevices.written c.feed_all.new.devices ≡ holding (g.D.DeckDevices.written c.args.devices.now) (output_of c.args.options.check bytes))). x.0)
-    (met_bad c.args.options.check (g.D.DeckDevices.remaining c.args.devices.now) (g.D.DeckDevices.written c.args.devices.now) (g.D.DeckDevices.written c.feed_all.new.devices) c.new-feed.result c.new-feed.ensures.start n code
+    let held = g.D.DeckDevices.written c.args.devices.now in
+    let now = g.D.DeckDevices.written c.feed_all.new.devices in
+    if_some _ _ _ (λ bytes (x : (ending_of bytes ≡ Refused n code) × HasWritten c.args.options held now bytes). x.0)
+    (met_bad c.args.options (g.D.DeckDevices.remaining c.args.devices.now) held now c.new-feed.result c.new-feed.ensures.start n code
     (c.feed_all.ensures.refused n code (c.in-Err.is ∙ refused_so c.in-Err.error n code same)))
 
 pub returns-in-Err-clause-refused_output : goal.returns-in-Err-clause-refused_output
 returns-in-Err-clause-refused_output g c = λ n code same.
-    if_some _ _ _ (λ bytes (x : (ending_of bytes ≡ Refused n code) × (g.D.DeckDevices.written c.feed_all.new.devices ≡ holding (g.D.DeckDevices.written c.args.devices.now) (output_of c.args.options.check bytes))). x.1)
-    (met_bad c.args.options.check (g.D.DeckDevices.remaining c.args.devices.now) (g.D.DeckDevices.written c.args.devices.now) (g.D.DeckDevices.written c.feed_all.new.devices) c.new-feed.result c.new-feed.ensures.start n code
+    let held = g.D.DeckDevices.written c.args.devices.now in
+    let now = g.D.DeckDevices.written c.feed_all.new.devices in
+    if_some _ _ _ (λ bytes (x : (ending_of bytes ≡ Refused n code) × HasWritten c.args.options held now bytes). x.1)
+    (met_bad c.args.options (g.D.DeckDevices.remaining c.args.devices.now) held now c.new-feed.result c.new-feed.ensures.start n code
     (c.feed_all.ensures.refused n code (c.in-Err.is ∙ refused_so c.in-Err.error n code same)))
 
 pub returns-in-Ok-clause-begun : goal.returns-in-Ok-clause-begun
@@ -55,8 +72,8 @@ returns-in-Ok-clause-begun g c =
     let r = c.in-Ok.ensures.runs in
     let held = g.D.DeckDevices.written c.args.devices.now in
     let now = g.D.DeckDevices.written c.finish.new.devices in
-    subst (λ (l : Option (List ℕ)). HasBegun c.args.options.check (g.D.DeckDevices.remaining c.args.devices.now) l held now) (sym c.finish.ensures.apart.0)
-    (finished c.args.options.check _ _ held _ c.new-feed.result c.new-feed.ensures.start _ r.0 now r.1 c.in-Ok.ensures.at_end c.finish.ensures.begun)
+    subst (λ (l : Option (List ℕ)). HasBegun c.args.options (g.D.DeckDevices.remaining c.args.devices.now) l held now) (sym c.finish.ensures.apart.0)
+    (finished c.args.options _ _ held _ c.new-feed.result c.new-feed.ensures.start _ r.0 now r.1 c.in-Ok.ensures.at_end c.finish.ensures.begun)
 
 pub returns-in-Ok-clause-short : goal.returns-in-Ok-clause-short
 returns-in-Ok-clause-short g c = λ short.
@@ -65,20 +82,20 @@ returns-in-Ok-clause-short g c = λ short.
     let now = g.D.DeckDevices.written c.finish.new.devices in
     let at = c.finish.ensures.short short in
     let broke = broke_behind _ _ held _ c.new-feed.result _ r.0 r.1 now at.1 at.0 in
-    subst (λ (l : Option (List ℕ)). HasBrokenOff c.args.options.check (g.D.DeckDevices.remaining c.args.devices.now) l held now) (sym c.finish.ensures.apart.0)
-    (broken_off c.args.options.check _ _ held now c.new-feed.result broke.0 c.new-feed.ensures.start broke.1)
+    subst (λ (l : Option (List ℕ)). HasBrokenOff c.args.options (g.D.DeckDevices.remaining c.args.devices.now) l held now) (sym c.finish.ensures.apart.0)
+    (broken_off c.args.options _ _ held now c.new-feed.result broke.0 c.new-feed.ensures.start broke.1)
 
 pub returns-in-Err-clause-begun : goal.returns-in-Err-clause-begun
 returns-in-Err-clause-begun g c =
     let b = c.in-Err.ensures.begun in
-    broken c.args.options.check _ _ _ _ c.new-feed.result c.new-feed.ensures.start b.0 b.1
+    broken c.args.options _ _ _ _ c.new-feed.result c.new-feed.ensures.start b.0 b.1
 
 pub returns-in-Err-clause-due : goal.returns-in-Err-clause-due
 returns-in-Err-clause-due g c = λ fault.
     let r = c.feed_all.ensures.due (c.in-Err.is ∙ fault_so c.in-Err.error fault) in
-    due c.args.options.check _ _ _ _ c.new-feed.result r.0 c.new-feed.ensures.start _ r.1
+    due c.args.options _ _ _ _ c.new-feed.result r.0 c.new-feed.ensures.start _ r.1
 
 pub returns-in-Err-clause-short : goal.returns-in-Err-clause-short
 returns-in-Err-clause-short g c = λ short.
     let b = c.feed_all.ensures.short (c.in-Err.is ∙ memory_so c.in-Err.error short) in
-    broken_off c.args.options.check _ _ _ _ c.new-feed.result b.0 c.new-feed.ensures.start b.1
+    broken_off c.args.options _ _ _ _ c.new-feed.result b.0 c.new-feed.ensures.start b.1
