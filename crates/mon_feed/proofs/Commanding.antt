@@ -151,8 +151,8 @@ served_when true e one w w' before after counts counts' served = cc
 pub happens_served : (check : Bool) → check ≡ false → (one : Asked) (event : Event) (w w' : World) (before after : List ℕ) (counts counts' : Counts)
     → event ≡ event_of (suc counts.jobs) one → counts' ≡ both_counted counts (one_counted one)
     → Happens event w before w' after → Served check one w before counts w' after counts'
-happens_served check no one event w w' before after counts counts' is counted happens =
-    served_when check no one w w' before after counts counts'
+happens_served check unchecked one event w w' before after counts counts' is counted happens =
+    served_when check unchecked one w w' before after counts counts'
         (one_served one w before counts counts' counted w' (papers_text happens.papers) after happens.marks happens.printed
             (λ rest. ap (λ (e : Event). papers_text (happened e (happens.marks ++ rest) w).papers) (sym is) ∙ ap (λ (p : Played). papers_text p.papers) (happens.is rest))
             (λ rest. ap (λ (e : Event). (happened e (happens.marks ++ rest) w).after) (sym is) ∙ ap (λ (p : Played). p.after) (happens.is rest))

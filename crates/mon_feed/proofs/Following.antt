@@ -77,7 +77,7 @@ long_refused slots stage.Opening n line ls long = stops_at slots _ _ LineTooLong
 long_refused slots (stage.Accounts accounts) n line ls long = stops_at slots _ _ LineTooLong n _ _ (too_long 200 line (omega arith) long)
 long_refused slots (stage.Catalogue accounts progress) n line ls long = stops_at slots _ _ LineTooLong n _ _ (too_long 5000 line (omega arith) long)
 long_refused slots (stage.Stream w) n line ls long =
-    ap (λ r. over (world_of w) (goes_on (or_else r (stream_refusal line)) n (requested (request_on line) (λ open. stream_section (n + 1) open ls)))) (too_long 200 line (omega arith) long)
+    ap (λ r. over (world_of w) (goes_on (or_else r (stream_refusal line)) n (requested (request_on line) (λ pending. stream_section (n + 1) pending ls)))) (too_long 200 line (omega arith) long)
 long_refused slots (stage.List w list) n line ls long =
     ap (λ r. over (world_of w) (goes_on r n (if is_dollar_line line then and_then (Commands (set_acl_of list)) (stream_section (n + 1) Closed ls) else stream_section (n + 1) (InList (with_line list line)) ls)))
         (list_too_long line long)
@@ -98,7 +98,7 @@ alike options jobs m (state.Reading stage) n (x ∷ xs) (y ∷ ys) (inr long) =
 
 -- what a good line of the stream asks for
 pub line_asks : (n : ℕ) (line : List ℕ) (ls : List (List ℕ)) (r : Request) → or_else (line_refusal 200 line) (stream_refusal line) ≡ None → r ≡ request_on line
-    → stream_section n Closed (line ∷ ls) ≡ requested r (λ open. stream_section (n + 1) open ls)
+    → stream_section n Closed (line ∷ ls) ≡ requested r (λ pending. stream_section (n + 1) pending ls)
 line_asks n line ls r good is =
-    ap (λ refusal. goes_on refusal n (requested (request_on line) (λ open. stream_section (n + 1) open ls))) good
-    ∙ ap (λ (q : Request). requested q (λ open. stream_section (n + 1) open ls)) (sym is)
+    ap (λ refusal. goes_on refusal n (requested (request_on line) (λ pending. stream_section (n + 1) pending ls))) good
+    ∙ ap (λ (q : Request). requested q (λ pending. stream_section (n + 1) pending ls)) (sym is)
