@@ -15,7 +15,7 @@ use Rattle.mon_job.specs.declared.refusal.LoadError.{LoadError}
 use Rattle.mon_job.specs.declared.refusal.LoadError.TheVariants.{NoSlot, NoAccount, Cards, Syntax}
 use Rattle.mon_slots.specs.Floors.{SlotState, Floor, first_free}
 use Rattle.mon_slots.specs.Turns.{only}
-use Rattle.mon_slots.specs.Marks.{Marks, Past, turn_as, until, never, rounds, turns_left, is_done, has_room, drain, room}
+use Rattle.mon_slots.specs.Marks.{Marks, Past, turn_as, until, never, rounds, turns_left, is_done, has_room, room}
 use Rattle.mon_slots.specs.Rounds.{NoneByMemory, MarksEndJobs, RoomIsMade}
 use Rattle.mon_slots.specs.Loads.{first_of, first_units, ties_refusal, slot_refusal, account_refusal, program_refusal, deck_refusal, loaded_by, slot_in}
 use Rattle.mon_slots.proofs.Seats.{seat_length}

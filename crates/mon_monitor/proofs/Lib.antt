@@ -1,2 +1,4 @@
 pub mod Playing
 pub mod Histories
+pub mod Steps
+pub mod Owners

@@ -1,6 +1,6 @@
 -- What the calls do is what the definitions say.
-use Rattle.std.proofs.Common.{◌≡◌, ℕ, List, [], ◌∷◌, ◌++◌, Option, Some, None, Result, Ok, Err, refl, ap, sym, ◌∙◌, subst, append_assoc, append-nil}
-use Rattle.std.specs.Prelude.{map, OnOk, is_ok, if◌then◌else◌}
+use Rattle.std.proofs.Common.{◌≡◌, ℕ, List, [], ◌∷◌, ◌++◌, Result, Ok, Err, refl, ap, sym, ◌∙◌, subst, append_assoc, append-nil}
+use Rattle.std.specs.Prelude.{OnOk, is_ok, if◌then◌else◌}
 use Rattle.std.specs.List.{flat_map}
 use Rattle.std.proofs.lemmas.List.Concat.{flat_map-append}
 use Rattle.mon_text.specs.declared.stop.Stop.{Stop}
@@ -16,11 +16,11 @@ use Rattle.mon_job.specs.Printouts.{printout, refusal_text}
 use Rattle.mon_slots.specs.Floors.{Floor}
 use Rattle.mon_slots.specs.Turns.{only}
 use Rattle.mon_slots.specs.Marks.{Marks, Past, marked, drain, room}
-use Rattle.mon_slots.specs.Turning.{Passed, MarkedIs, DrainIs, RoomIs, end_in}
+use Rattle.mon_slots.specs.Turning.{Passed, MarkedIs, DrainIs, RoomIs}
 use Rattle.mon_monitor.specs.Worlds.{World, world, with_floor, with_sets}
 use Rattle.mon_monitor.specs.Events.{Serve, Load, Give, Drain}
 use Rattle.mon_monitor.specs.Papers.{Paper, OfCommand, OfRefused, papers_text, paper_text, of_ends, of_load}
-use Rattle.mon_monitor.specs.Played.{Played, loading, of_turns, of_loading, and_played, then_played, happened}
+use Rattle.mon_monitor.specs.Played.{Played, loading, of_turns, of_loading, and_played, then_played}
 use Rattle.mon_monitor.specs.Happening.{Does, Happens, HappensUnmarked}
 
 pub papers_append : (xs ys : List Paper) → papers_text (xs ++ ys) ≡ papers_text xs ++ papers_text ys
@@ -94,13 +94,15 @@ given_none s n w w' before accounts is = given s n w w' before before [] account
 pub served : (command : Command) (w w' : World) (before after text : List ℕ) → w' ≡ with_sets w (commanded w.accounts w.floor.sets command).sets
     → text ≡ (commanded w.accounts w.floor.sets command).printout → after ≡ before ++ text → HappensUnmarked (Serve command) w before w' after
 served command w w' before after text is printout put =
-    let papers = OfCommand (commanded w.accounts w.floor.sets command).printout ∷ [] in
-    (record {
-      marks = [];
-      papers = papers;
-      is = λ rest. ap (λ (v : World). let p : Played = record { papers = papers; after = v; marks = rest } in p) (sym is);
-      printed = put ∙ ap (λ (t : List ℕ). before ++ t) (printout ∙ sym (append-nil (commanded w.accounts w.floor.sets command).printout));
-    }, refl)
+    let papers = OfCommand (commanded w.accounts w.floor.sets command).printout ∷ [] in (
+      record {
+        marks = [];
+        papers = papers;
+        is = λ rest. ap (λ (v : World). let p : Played = record { papers = papers; after = v; marks = rest } in p) (sym is);
+        printed = put ∙ ap (λ (t : List ℕ). before ++ t) (printout ∙ sym (append-nil (commanded w.accounts w.floor.sets command).printout));
+      },
+      refl,
+    )
 
 -- a job that is loaded, or refused
 loading_is : (deck : JobDeck) (w w' : World) (r : Result ℕ LoadError) (papers : List Paper) (rest : Marks) → loading deck w ≡ (r, w')

@@ -19,7 +19,7 @@ CardByCard = (E F : List Event) (m : Marks) (w : World) → played (E ++ F) m w 
 abbrev pub PrintedInOrder : Type 0
 PrintedInOrder = (E F : List Event) (m : Marks) (w : World)
     → (let p = played E m w in
-      papers_text (played (E ++ F) m w).papers ≡ papers_text p.papers ++ papers_text (played F p.marks p.after).papers)
+    papers_text (played (E ++ F) m w).papers ≡ papers_text p.papers ++ papers_text (played F p.marks p.after).papers)
 
 -- not that a job has ended for want of memory
 abbrev pub NotByMemory : Paper → Type 0

@@ -5,3 +5,4 @@ pub mod Played
 pub mod Told
 pub mod Happening
 pub mod Laws
+pub mod Steps

@@ -1,5 +1,6 @@
-//! Laws of events. Each is the contract of a function that does nothing, or only cites the laws of the slots.
+//! Laws of events. Each is the contract of a function that does nothing, or only cites laws of the crates below.
 ghost use Rattle.mon_monitor.specs.Laws.{CardByCard, PrintedInOrder, PlayedUnmarked, DrainEmpties, LoadHasRoom, CommandsKeepSlots, AccountsStay, SlotsStay};
+ghost use Rattle.mon_monitor.specs.Steps.{StepsLead, ChangedWhereGranted, StepsHaveTheirEvents};
 
 use mon_slots::laws;
 
@@ -47,4 +48,25 @@ pub fn accounts_stay()
 /// There are as many slots as before.
 pub fn slots_stay()
     ensures { SlotsStay }
+{}
+
+/// Nothing but the steps changes data sets: each begins with those that the one before it left.
+pub fn steps_lead()
+    ensures { StepsLead }
+{}
+
+/// A data set is afterwards what it was before, or a step asked for its change and was granted it.
+pub fn changed_where_granted()
+    ensures { ChangedWhereGranted }
+{
+    mon_unit::laws::changed_where_granted();
+    mon_unit::laws::one_change();
+    mon_command::laws::changes_where_granted();
+    mon_command::laws::other_sets_stay();
+}
+
+/// From empty slots on, all that is asked is asked by a job that was loaded, for the account that its card names, and all that
+/// is ordered by a command.
+pub fn steps_have_their_events()
+    ensures { StepsHaveTheirEvents }
 {}

@@ -136,8 +136,7 @@ impl Monitor {
         ensures accounts { (world_of self.new).accounts ≡ (world_of self.old).accounts }
         ensures unchanged { OnErr result (world_of self.new ≡ world_of self.old) }
     {
-        self.slots
-            .room(alloc, &mut self.guard, &mut self.catalogue)
+        self.slots.room(alloc, &mut self.guard, &mut self.catalogue)
     }
 
     /// Serves a command, as `mon_command::serve`. No slot changes.
