@@ -99,11 +99,11 @@ module _ (jobs : ℕ) (one : Asked) (m rest : Marks) (w w' : World) (text : List
       let sets = then.after.floor.sets in
       ap (told_of others.ending (all_counted (one ∷ others.asked))) first_played
       ∙ ap (λ t. record { written = t ++ closing sets others.ending; conclusion = concluded (all_counted (one ∷ others.asked)) sets others.ending })
-          (papers_further all.papers then.papers ∙ ap (λ t. t ++ papers_text then.papers) printed)
+      (papers_further all.papers then.papers ∙ ap (λ t. t ++ papers_text then.papers) printed)
       ∙ ap (λ t. record { written = t; conclusion = concluded (all_counted (one ∷ others.asked)) sets others.ending })
-          (append_assoc text (papers_text then.papers) (closing sets others.ending))
+      (append_assoc text (papers_text then.papers) (closing sets others.ending))
       ∙ ap (λ (c : Conclusion). record { written = text ++ (papers_text then.papers ++ closing sets others.ending); conclusion = c })
-          (counted_first others.ending one others.asked sets)
+      (counted_first others.ending one others.asked sets)
 
 first_counted : (jobs next : ℕ) (m rest : Marks) (one : Asked) (w : World) (others : Cards)
     → outcome_of true jobs m (over w (and_then one others)) ≡ behind [] (one_counted one) (outcome_of true next rest (over w others))
@@ -153,10 +153,10 @@ pub happens_served : (check : Bool) → check ≡ false → (one : Asked) (event
     → Happens event w before w' after → Served check one w before counts w' after counts'
 happens_served check unchecked one event w w' before after counts counts' is counted happens =
     served_when check unchecked one w w' before after counts counts'
-        (one_served one w before counts counts' counted w' (papers_text happens.papers) after happens.marks happens.printed
-            (λ rest. ap (λ (e : Event). papers_text (happened e (happens.marks ++ rest) w).papers) (sym is) ∙ ap (λ (p : Played). papers_text p.papers) (happens.is rest))
-            (λ rest. ap (λ (e : Event). (happened e (happens.marks ++ rest) w).after) (sym is) ∙ ap (λ (p : Played). p.after) (happens.is rest))
-            (λ rest. ap (λ (e : Event). (happened e (happens.marks ++ rest) w).marks) (sym is) ∙ ap (λ (p : Played). p.marks) (happens.is rest)))
+    (one_served one w before counts counts' counted w' (papers_text happens.papers) after happens.marks happens.printed
+    (λ rest. ap (λ (e : Event). papers_text (happened e (happens.marks ++ rest) w).papers) (sym is) ∙ ap (λ (p : Played). papers_text p.papers) (happens.is rest))
+    (λ rest. ap (λ (e : Event). (happened e (happens.marks ++ rest) w).after) (sym is) ∙ ap (λ (p : Played). p.after) (happens.is rest))
+    (λ rest. ap (λ (e : Event). (happened e (happens.marks ++ rest) w).marks) (sym is) ∙ ap (λ (p : Played). p.marks) (happens.is rest)))
 
 -- `$STOP`
 

@@ -80,10 +80,10 @@ long_refused slots (stage.Stream w) n line ls long =
     ap (λ r. over (world_of w) (goes_on (or_else r (stream_refusal line)) n (requested (request_on line) (λ pending. stream_section (n + 1) pending ls)))) (too_long 200 line (omega arith) long)
 long_refused slots (stage.List w list) n line ls long =
     ap (λ r. over (world_of w) (goes_on r n (if is_dollar_line line then and_then (Commands (set_acl_of list)) (stream_section (n + 1) Closed ls) else stream_section (n + 1) (InList (with_line list line)) ls)))
-        (list_too_long line long)
+    (list_too_long line long)
 long_refused slots (stage.Job w job) n line ls long =
     ap (λ r. over (world_of w) (goes_on r n (if ends_job line then and_then (Enters job) (stream_section (n + 1) Closed ls) else stream_section (n + 1) (InJob (after_job_line job line)) ls)))
-        (first_refused _ _ LineTooLong (too_long 200 line (omega arith) long))
+    (first_refused _ _ LineTooLong (too_long 200 line (omega arith) long))
 
 -- lines that are alike have one outcome
 pub alike : (options : Options) (jobs : ℕ) (m : Marks) (s : State) (n : ℕ) (xs ys : List (List ℕ)) → Alike xs ys → outcome options jobs m s n xs ≡ outcome options jobs m s n ys

@@ -37,7 +37,10 @@ impl DeckFeed {
             state: State::Reading(Stage::Opening),
             line: LineFeed::new(alloc),
             lines_taken: 0,
-            counts: Counts { jobs: 0, commands: 0 },
+            counts: Counts {
+                jobs: 0,
+                commands: 0,
+            },
             fed: 0,
         }
     }
@@ -212,13 +215,9 @@ impl DeckFeed {
         ensures counted { self.new.lines_taken ≡ self.old.lines_taken + 1 }
     {
         self.lines_taken += 1;
-        let answer = self.state.take_line(
-            alloc,
-            self.options,
-            text,
-            &mut self.counts,
-            out,
-        );
+        let answer = self
+            .state
+            .take_line(alloc, self.options, text, &mut self.counts, out);
         match answer {
             Ok(()) => Ok(()),
             Err(Stop::Refused(code)) => Err(self.refuse(code)),

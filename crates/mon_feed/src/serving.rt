@@ -313,11 +313,7 @@ fn put_closing(
 
 // A part of a catalogue is no output: it is put behind a copy of what was gathered, which takes that one's place when it is
 // whole.
-fn drain_and_put(
-    alloc: Global,
-    monitor: &mut Monitor,
-    out: &mut Vec<u8>,
-) -> Result<(), AllocError>
+fn drain_and_put(alloc: Global, monitor: &mut Monitor, out: &mut Vec<u8>) -> Result<(), AllocError>
     ensures stops { OnOk result ((jobs : ℕ) → Stopping false jobs (world_of monitor.old) out.old.items (world_of monitor.new) out.new.items) }
     ensures reads_back { OnOk result (ReadsBack (world_of monitor.new).floor.sets) }
     ensures nothing { OnErr result (out.new.items ≡ out.old.items) }

@@ -5,9 +5,7 @@ ghost use Rattle.rows.specs.Words.{words_for, slots_words};
 use crate::cuts::first_bad_cut;
 use crate::difference::first_difference;
 use anyhow::{Context, Result};
-use mon_deck::{
-    Devices, MemReader, MemWriter, Options, Slots, exit_status, put_fault, run_deck,
-};
+use mon_deck::{Devices, MemReader, MemWriter, Options, Slots, exit_status, put_fault, run_deck};
 use std::alloc::{AllocError, Global};
 use std::fs;
 use std::rt::Files;
@@ -103,8 +101,9 @@ fn read_args<R: Files + AllocGlobal>(rt: &R, name: &str) -> Result<Options> {
         options.slots = slots;
         return Ok(options);
     }
-    options_of(words.as_slice())
-        .context("args has `--check` on a line, or `--slots` and a digit on two, or nothing")
+    options_of(words.as_slice()).context(
+        "args has `--check` on a line, or `--slots` and a digit on two, or nothing",
+    )
 }
 
 /// The number of slots that a digit behind `--slots` tells, each on a line of its own.
@@ -112,9 +111,18 @@ fn slots_of(words: &[u8]) -> Option<Slots>
     ensures given { IfSome result (λ slots. words.now ≡ slots_words slots) }
 {
     match words {
-        [b'-', b'-', b's', b'l', b'o', b't', b's', b'\n', digit, b'\n'] => {
-            Slots::new(digit.checked_sub(b'0')?)
-        }
+        [
+            b'-',
+            b'-',
+            b's',
+            b'l',
+            b'o',
+            b't',
+            b's',
+            b'\n',
+            digit,
+            b'\n',
+        ] => { Slots::new(digit.checked_sub(b'0')?) }
         _ => None,
     }
 }
