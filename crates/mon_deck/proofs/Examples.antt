@@ -8,7 +8,7 @@ use Rattle.mon_access.specs.AccessCheck.{decision}
 use Rattle.mon_catalogue.specs.Sets.{Sets}
 use Rattle.mon_cards.specs.declared.card.Card.TheVariants as card
 use Rattle.mon_cards.specs.declared.code.Code.TheVariants.{BadName, BadCharacter, AccountTwice, UnknownCard, BadCard, OutOfPlace, Truncated}
-use Rattle.mon_cards.specs.Decks.{Stopped, Refused}
+use Rattle.mon_cards.specs.Decks.{Commands, Stopped, Refused}
 use Rattle.mon_cards.specs.Cards.{card_of}
 use Rattle.mon_cards.specs.Refusing.{line_refusal, lone_card_refusal}
 use Rattle.mon_cards.specs.Sections.{account_refusal, deck_of}
@@ -16,9 +16,9 @@ use Rattle.mon_cards.specs.Requests.{two_names_refusal, request_on}
 use Rattle.mon_deck.specs.Laws.{printout}
 use Rattle.mon_acl.specs.declared.text.AclText.TheVariants.{Short, Long}
 use Rattle.mon_command.specs.declared.command.Command.TheVariants as command
-use Rattle.mon_cards.specs.declared.request.Request.TheVariants.{Asks, Opens}
+use Rattle.mon_cards.specs.declared.request.Request.TheVariants.{Asks, OpensList}
 use Rattle.std.specs.Str.Lines.{lines}
-use Rattle.mon_deck.specs.Runs.{ending_of}
+use Rattle.mon_deck.specs.Runs.{ending_of, counts_of}
 
 stop_card : card_of (codes "$STOP") ≡ Some card.Stop
 stop_card = refl
@@ -68,14 +68,20 @@ a_card_out_of_place = refl
 the_text_of_a_list : request_on (codes "$SETACL anna  X u::r, g::,o:: ") ≡ Asks (command.SetAcl (codes "anna") (codes "X") (Short (codes " u::r, g::,o:: ")))
 the_text_of_a_list = refl
 
-the_lines_of_a_list_follow : request_on (codes "$SETACL anna X ") ≡ Opens (codes "anna") (codes "X")
+the_lines_of_a_list_follow : request_on (codes "$SETACL anna X ") ≡ OpensList (codes "anna") (codes "X")
 the_lines_of_a_list_follow = refl
 
-a_list_in_lines : (let deck = deck_of (lines (codes "$ACCOUNTS\n$CATALOGUE\n$STREAM\n$SETACL anna X\n\tu::r\n\n$ENDACL\n$STOP")) in deck.cards.commands) ≡ command.SetAcl (codes "anna") (codes "X") (Long (codes "\tu::r\n\n")) ∷ []
+a_list_in_lines : (let deck = deck_of (lines (codes "$ACCOUNTS\n$CATALOGUE\n$STREAM\n$SETACL anna X\n\tu::r\n\n$ENDACL\n$STOP")) in deck.cards.asked) ≡ Commands (command.SetAcl (codes "anna") (codes "X") (Long (codes "\tu::r\n\n"))) ∷ []
 a_list_in_lines = refl
 
 a_card_within_a_list : ending_of (codes "$ACCOUNTS\n$CATALOGUE\n$STREAM\n$SETACL anna X\n$LIST anna X\n") ≡ Refused 5 OutOfPlace
 a_card_within_a_list = refl
+
+a_job_that_is_left_open : ending_of (codes "$ACCOUNTS\n$CATALOGUE\n$STREAM\n$JOB anna\n OUTPUT = 'A'\nEND\n$STOP\n") ≡ Refused 7 OutOfPlace
+a_job_that_is_left_open = refl
+
+jobs_and_commands : counts_of (codes "$ACCOUNTS\n$CATALOGUE\n$STREAM\n$JOB anna\n OUTPUT = 'A'\nEND\n$EOJ\n$TURN 1 3\n$CATALOG anna\n$DRAIN\n$STOP\n") ≡ record { jobs = 1; commands = 1 }
+jobs_and_commands = refl
 
 -- user::rwx,group::---,other::---
 abbrev owner_alone : List Entry
