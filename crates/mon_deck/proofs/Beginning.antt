@@ -1,5 +1,5 @@
 -- Decks that are refused, cut, or made of what was written.
-use Rattle.std.proofs.Common.{◌≡◌, ℕ, ◌⊎◌, inl, inr, List, [], ◌∷◌, ◌++◌, refl, sym, ap, subst, ◌∙◌, arith, append_assoc, append-nil}
+use Rattle.std.proofs.Common.{◌≡◌, ℕ, ◌⊎◌, inl, inr, List, [], ◌∷◌, ◌++◌, sym, ap, subst, ◌∙◌, arith, append_assoc, append-nil}
 use Rattle.std.specs.Prelude.{codes}
 use Rattle.std.specs.Str.Lines.{lines}
 use Rattle.std.proofs.lemmas.Grind.{flat_map-append}
@@ -13,7 +13,7 @@ use Rattle.mon_monitor.specs.Events.{Event}
 use Rattle.mon_monitor.specs.Played.{played}
 use Rattle.mon_monitor.specs.Laws.{CardByCard}
 use Rattle.mon_cards.specs.declared.code.Code.{Code}
-use Rattle.mon_cards.specs.Decks.{Deck, Cards, Asked, Ending, Stopped, Refused}
+use Rattle.mon_cards.specs.Decks.{Deck, Asked, Ending, Stopped, Refused}
 use Rattle.mon_cards.specs.Laws.{deck_lines, deck_over}
 use Rattle.mon_cards.specs.Sections.{deck_of}
 use Rattle.mon_cards.specs.Spelling.{IsDeck}
@@ -24,7 +24,7 @@ use Rattle.mon_feed.specs.Told.{told, Took}
 use Rattle.mon_feed.specs.declared.feed.DeckFeed.{DeckFeed}
 use Rattle.mon_feed.specs.Printouts.{closing, output_of_scene}
 use Rattle.mon_deck.specs.Runs.{scene_of}
-use Rattle.mon_deck.specs.Laws.{done, jobs_in, rest_of_output, RefusedPrintsAsGood, joined, PiecesAreJoined, comes_of, HoweverCut, deck_around, CataloguesRunAgain}
+use Rattle.mon_deck.specs.Laws.{done, jobs_in, rest_of_output, RefusedPrintsAsGood, joined, PiecesAreJoined, HoweverCut, deck_around, CataloguesRunAgain}
 use Rattle.mon_deck.proofs.Ordered.{output_with, in_two, is_run}
 
 module _ (card_by_card : CardByCard) (slots : ℕ) (m : Marks) (bad deck : Deck) (last : List Asked) (n : ℕ) (code : Code) (accounts : deck.accounts ≡ bad.accounts)

@@ -20,7 +20,7 @@ use Rattle.mon_cards.specs.declared.request.Request.{Request}
 use Rattle.mon_cards.specs.declared.request.Request.TheVariants as request
 use Rattle.mon_catalogue.specs.Sets.{Sets}
 use Rattle.mon_slots.specs.Marks.{Marks}
-use Rattle.mon_cards.specs.Decks.{Deck, Cards, Asked, Commands, Enters, Gives, Drains, Ending, Stopped, Refused}
+use Rattle.mon_cards.specs.Decks.{Deck, Cards, Commands, Enters, Gives, Drains, Ending, Stopped, Refused}
 use Rattle.mon_cards.specs.Laws.{Decides}
 use Rattle.mon_cards.proofs.Standing.{refusals_stand}
 use Rattle.mon_cards.specs.Refusing.{or_else, line_refusal, is_dollar_line}

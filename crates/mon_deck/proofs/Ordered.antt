@@ -1,18 +1,18 @@
 -- What the cards of a deck print stands one after the other.
-use Rattle.std.proofs.Common.{◌≡◌, ℕ, suc, ◌+◌, Bool, true, false, if◌then◌else◌, List, [], ◌∷◌, ◌++◌, refl, sym, ap, ◌∙◌, arith, append_assoc, append-nil}
+use Rattle.std.proofs.Common.{◌≡◌, ℕ, suc, ◌+◌, Bool, true, false, if◌then◌else◌, List, [], ◌∷◌, ◌++◌, refl, ap, ◌∙◌, arith, append_assoc}
 use Rattle.std.proofs.lemmas.List.Concat.{flat_map-append}
 use Rattle.mon_slots.specs.Marks.{Marks}
 use Rattle.mon_monitor.specs.Worlds.{World}
 use Rattle.mon_monitor.specs.Events.{Event, Serve, Load, Give, Drain}
 use Rattle.mon_monitor.specs.Papers.{Paper, paper_text, papers_text}
-use Rattle.mon_monitor.specs.Played.{Played, then_played, played}
+use Rattle.mon_monitor.specs.Played.{Played, played}
 use Rattle.mon_monitor.specs.Laws.{AsUnmarked, CardByCard, PlayedUnmarked}
 use Rattle.mon_cards.specs.Decks.{Asked, Commands, Enters, Gives, Drains, Ending}
 use Rattle.mon_cards.specs.Jobs.{job_deck_of}
 use Rattle.mon_feed.specs.declared.options.Options.{Options}
-use Rattle.mon_feed.specs.Scenes.{Scene, over, events_of, at_end, events_in, played_scene}
+use Rattle.mon_feed.specs.Scenes.{Scene, events_of, at_end, events_in, played_scene}
 use Rattle.mon_feed.specs.Printouts.{closing, verdict, answer_to, output_of_scene, output_of}
-use Rattle.mon_deck.specs.Runs.{ending_of, scene_of}
+use Rattle.mon_deck.specs.Runs.{scene_of}
 use Rattle.mon_deck.specs.Laws.{done, jobs_in, rest_of_output, InOrder, InItsPlace, AsItHappens, Unmarked}
 
 jobs_both : (xs ys : List Asked) → jobs_in (xs ++ ys) ≡ jobs_in xs + jobs_in ys

@@ -1,7 +1,6 @@
 -- A run, read by read.
-use Rattle.std.proofs.Common.{◌≡◌, ℕ, Bool, true, false, List, [], ◌++◌, length, Option, Some, None, IfSome, IfOk, OnOk, OnErr, Result, Ok, Err, refl, sym, ap, ◌∙◌, subst, append_assoc, append-nil, if◌then◌else◌, ◌+◌, arith, ◌≤◌, length-append}
+use Rattle.std.proofs.Common.{◌≡◌, ℕ, true, false, List, [], ◌++◌, length, Option, Some, None, IfSome, IfOk, OnOk, OnErr, Result, Ok, Err, refl, sym, ap, ◌∙◌, subst, append_assoc, append-nil, if◌then◌else◌, ◌+◌, arith, ◌≤◌, length-append}
 use Rattle.std.proofs.lemmas.Bool.Decides.{nat_tests}
-use Rattle.std.specs.Str.Lines.{lines}
 use Rattle.mon_catalogue.specs.Sets.{Sets}
 use Rattle.mon_slots.specs.Marks.{Marks}
 use Rattle.mon_device.specs.declared.transfer.TheConstants.{READ_SIZE}
@@ -18,9 +17,9 @@ use Rattle.mon_feed.specs.Scenes.{Scene, sets_after, all_counted, nothing_counte
 use Rattle.mon_feed.specs.Printouts.{output_of, ReadsBack}
 use Rattle.mon_feed.specs.Feeds.{outcome_of, refused_at, is_reading, IsReadBack, concluded, sets_left, Outcome, Conclusion, Good, Bad, Begins}
 use Rattle.mon_feed.specs.Told.{told}
-use Rattle.mon_deck.specs.Runs.{ending_of, scene_of, catalogue_after, counts_of, HoldsBeginning, HasWritten, HasRun, HasBegun}
-use Rattle.mon_deck.specs.inner.Writing.{Held, holds, HasGrown, Begun, Runs, Serves, Refuses, Starts, Stands, BrokeOff, Broke}
-use Rattle.mon_deck.proofs.Holdings.{nothing_held, held_begins, held_further, not_grown, has_grown, grown_further, grown_held, no_error, stands_at_start, stands_further, serves_further, refuses_further, starts_further}
+use Rattle.mon_deck.specs.Runs.{ending_of, scene_of, counts_of, HoldsBeginning, HasWritten, HasRun, HasBegun}
+use Rattle.mon_deck.specs.inner.Writing.{Held, holds, Begun, Runs, Refuses, Starts, Stands, BrokeOff, Broke}
+use Rattle.mon_deck.proofs.Holdings.{nothing_held, held_begins, not_grown, has_grown, grown_further, grown_held, no_error, stands_at_start, stands_further, refuses_further, starts_further}
 
 gives_nothing : (told : Option (List ℕ)) → Gives told [] told
 gives_nothing None = tt

@@ -1,4 +1,4 @@
-use Rattle.std.proofs.Common.{rules, Result, Err, List, ℕ, ◌++◌, ◌+◌, ◌≡◌, ◌∙◌, length, drop, ap, sym, subst, refl, arith}
+use Rattle.std.proofs.Common.{rules, Result, Err, List, ℕ, ◌+◌, ◌≡◌, ◌∙◌, length, drop, ap, sym, subst, refl, arith}
 use Rattle.std.proofs.lemmas.List.{take_rest, length-drop}
 use Rattle.mon_text.proofs.Cutting.{nothing_kept}
 use Rattle.mon_feed.specs.declared.fault.RunError.{RunError}
