@@ -1,0 +1,33 @@
+//! Laws of whole runs. Each is the contract of a function that does nothing.
+ghost use Rattle.mon_isolation.specs.Example.{TheyAgree};
+ghost use Rattle.mon_isolation.specs.Isolation.{RequestsAgree, CommandsAgree, LoadsAgree, TurnsAgree, Isolated};
+
+/// There are worlds that differ and agree.
+pub fn they_agree()
+    ensures { TheyAgree }
+{}
+
+/// One request of a job has one answer in what agrees for its account, and that agrees again.
+pub fn requests_agree()
+    ensures { RequestsAgree }
+{}
+
+/// So has a command of the account.
+pub fn commands_agree()
+    ensures { CommandsAgree }
+{}
+
+/// So has the loading of a job of the account.
+pub fn loads_agree()
+    ensures { LoadsAgree }
+{}
+
+/// So has a turn, even one that memory breaks off.
+pub fn turns_agree()
+    ensures { TurnsAgree }
+{}
+
+/// And so have any events of the account's own: what is printed is the same, and the worlds agree again.
+pub fn isolated()
+    ensures { Isolated }
+{}
