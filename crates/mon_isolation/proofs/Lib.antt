@@ -5,3 +5,5 @@ mod Turning
 mod Loading
 mod Playing
 mod Example
+mod Names
+mod Schedules

@@ -1,3 +1,4 @@
 pub mod Agreeing
 pub mod Example
 pub mod Isolation
+pub mod Schedules

@@ -1,6 +1,7 @@
 //! Laws of whole runs. Each is the contract of a function that does nothing.
 ghost use Rattle.mon_isolation.specs.Example.{TheyAgree};
 ghost use Rattle.mon_isolation.specs.Isolation.{RequestsAgree, CommandsAgree, LoadsAgree, TurnsAgree, Isolated};
+ghost use Rattle.mon_isolation.specs.Schedules.{EachAsAlone, EndsAsAlone, Rearranged, AnySchedule, DrainSettles};
 
 /// There are worlds that differ and agree.
 pub fn they_agree()
@@ -30,4 +31,29 @@ pub fn turns_agree()
 /// And so have any events of the account's own: what is printed is the same, and the worlds agree again.
 pub fn isolated()
     ensures { Isolated }
+{}
+
+/// Where no data set is tied by two jobs, each job does what it does alone.
+pub fn each_as_alone()
+    ensures { EachAsAlone }
+{}
+
+/// Each that ends, ends as it does alone.
+pub fn ends_as_alone()
+    ensures { EndsAsAlone }
+{}
+
+/// Where one list of turns ends all jobs, so does each list that gives every slot as many.
+pub fn rearranged()
+    ensures { Rearranged }
+{}
+
+/// All orders of turns that end all jobs end them alike, and leave one catalogue.
+pub fn any_schedule()
+    ensures { AnySchedule }
+{}
+
+/// And so does a drain, where memory sufficed.
+pub fn drain_settles()
+    ensures { DrainSettles }
 {}
