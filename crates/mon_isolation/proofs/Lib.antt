@@ -7,3 +7,4 @@ mod Playing
 mod Example
 mod Names
 mod Schedules
+mod Beginnings

@@ -1,6 +1,7 @@
 //! Laws of whole runs. Each is the contract of a function that does nothing.
 ghost use Rattle.mon_isolation.specs.Example.{TheyAgree};
 ghost use Rattle.mon_isolation.specs.Isolation.{RequestsAgree, CommandsAgree, LoadsAgree, TurnsAgree, Isolated};
+ghost use Rattle.mon_isolation.specs.Beginnings.{FromTheBeginning};
 ghost use Rattle.mon_isolation.specs.Schedules.{EachAsAlone, EndsAsAlone, Rearranged, AnySchedule, DrainSettles};
 
 /// There are worlds that differ and agree.
@@ -31,6 +32,11 @@ pub fn turns_agree()
 /// And so have any events of the account's own: what is printed is the same, and the worlds agree again.
 pub fn isolated()
     ensures { Isolated }
+{}
+
+/// So from the beginning on: over catalogues that look alike to an account its own events print the same text.
+pub fn from_the_beginning()
+    ensures { FromTheBeginning }
 {}
 
 /// Where no data set is tied by two jobs, each job does what it does alone.
