@@ -3,6 +3,9 @@ use Rattle.std.proofs.Common.{◌≡◌, ℕ, suc, ◌+◌, Bool, true, false, L
 use Rattle.std.specs.List.{flat_map}
 use Rattle.mon_catalogue.specs.Sets.{Sets}
 use Rattle.mon_slots.specs.Marks.{Marks}
+use Rattle.mon_command.specs.declared.command.Command.{Command}
+use Rattle.mon_job.specs.declared.deck.JobDeck.{JobDeck}
+use Rattle.mon_cards.specs.declared.job.OpenJob.{OpenJob}
 use Rattle.mon_monitor.specs.Worlds.{World}
 use Rattle.mon_monitor.specs.Events.{Event, Serve, Load, Give, Drain}
 use Rattle.mon_monitor.specs.Papers.{Paper, paper_text, papers_text}
@@ -157,6 +160,17 @@ happens_served check unchecked one event w w' before after counts counts' is cou
     (λ rest. ap (λ (e : Event). papers_text (happened e (happens.marks ++ rest) w).papers) (sym is) ∙ ap (λ (p : Played). papers_text p.papers) (happens.is rest))
     (λ rest. ap (λ (e : Event). (happened e (happens.marks ++ rest) w).after) (sym is) ∙ ap (λ (p : Played). p.after) (happens.is rest))
     (λ rest. ap (λ (e : Event). (happened e (happens.marks ++ rest) w).marks) (sym is) ∙ ap (λ (p : Played). p.marks) (happens.is rest)))
+
+-- counted by hand
+
+pub command_counted : (counts : Counts) (command : Command) → ◌≡◌ {A = Counts} (record { jobs = counts.jobs; commands = counts.commands + 1 }) (both_counted counts (one_counted (Commands command)))
+command_counted counts command = counts_are counts.jobs (counts.commands + 1) (counts.jobs + 0) (counts.commands + 1) (omega arith) refl
+
+pub job_counted : (counts : Counts) (job : OpenJob) → ◌≡◌ {A = Counts} (record { jobs = counts.jobs + 1; commands = counts.commands }) (both_counted counts (one_counted (Enters job)))
+job_counted counts job = counts_are (counts.jobs + 1) counts.commands (counts.jobs + 1) (counts.commands + 0) refl (omega arith)
+
+pub job_numbered : (counts : Counts) (job : OpenJob) (deck : JobDeck) → deck ≡ job_deck_of (counts.jobs + 1) job → Load deck ≡ event_of (suc counts.jobs) (Enters job)
+job_numbered counts job deck is = let e : counts.jobs + 1 ≡ suc counts.jobs = omega arith in ap (λ (d : JobDeck). Load d) (is ∙ ap (λ n. job_deck_of n job) e)
 
 -- `$STOP`
 

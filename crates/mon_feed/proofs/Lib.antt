@@ -4,3 +4,4 @@ pub mod Taking
 pub mod Telling
 pub mod Beginnings
 pub mod Parts
+pub mod Pieces

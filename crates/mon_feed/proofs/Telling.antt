@@ -2,19 +2,22 @@
 use Rattle.std.proofs.Common.{◌≡◌, ℕ, ◌+◌, Bool, true, false, List, [], ◌∷◌, ◌++◌, length, drop, Some, None, Result, Ok, Err, refl, sym, ap, ◌∙◌, append-nil, IfOk, ◌==◌, if◌then◌else◌}
 use Rattle.std.specs.Str.Lines.{lines}
 use Rattle.mon_text.specs.Feeding.{Takes}
+use Rattle.mon_text.specs.declared.stop.Stop.{Stop}
+use Rattle.mon_text.specs.declared.stop.Stop.TheVariants as stop
+use Rattle.mon_cards.specs.inner.Stops.{IfRefused}
 use Rattle.mon_catalogue.specs.Sets.{Sets}
 use Rattle.mon_slots.specs.Marks.{Marks}
 use Rattle.mon_cards.specs.declared.code.Code.{Code}
 use Rattle.mon_cards.specs.declared.code.Code.TheVariants.{Truncated}
 use Rattle.mon_feed.specs.declared.fault.RunError.{RunError}
-use Rattle.mon_feed.specs.declared.fault.RunError.TheVariants.{DeckRefused}
+use Rattle.mon_feed.specs.declared.fault.RunError.TheVariants.{DeckRefused, Memory}
 use Rattle.mon_feed.specs.declared.options.Counts.{Counts}
 use Rattle.mon_feed.specs.declared.options.Options.{Options}
 use Rattle.mon_feed.specs.declared.stage.Stage.{Stage}
 use Rattle.mon_feed.specs.declared.stage.State.{State}
 use Rattle.mon_feed.specs.declared.stage.State.TheVariants as state
 use Rattle.mon_feed.specs.Scenes.{nothing_counted, both_counted}
-use Rattle.mon_feed.specs.Feeds.{outcome, outcome_of, behind, refused_at, IsReadBack, Outcome, Good, Bad}
+use Rattle.mon_feed.specs.Feeds.{outcome, outcome_of, behind, refused_at, fault_at, IsReadBack, Outcome, Good, Bad}
 use Rattle.mon_feed.specs.Printouts.{ReadsBack}
 use Rattle.mon_feed.specs.Told.{last_lines}
 use Rattle.mon_feed.specs.inner.Lines.{TookLine, Ended, EndBegun}
@@ -147,3 +150,32 @@ module _ (options : Options) (out : List ℕ) (counts : Counts) (s : State) (n :
   pub none_bad : (k : ℕ) (code : Code) → ((options : Options) → (jobs : ℕ) → (marks : Marks) → outcome options jobs marks s n [] ≡ refused_at k code)
       → Ended options s n (last_lines last) out counts out (Bad k code)
   none_bad k code bad = record { marks = []; is = λ rest. none_left rest ∙ ap (behind out counts) (bad options counts.jobs rest) ∙ behind_refused out counts k code }
+
+-- nothing was put out
+pub begun_last : (options : Options) (s : State) (n : ℕ) (ls : List (List ℕ)) (out : List ℕ) (counts : Counts) (after : List ℕ) → after ≡ out → EndBegun options s n ls out counts after
+begun_last options s n ls out counts after same = record {
+  marks = [];
+  is = λ rest.
+      let later = (outcome options counts.jobs rest s n ls).written in
+      (later, ap (λ t. t ++ later) (sym same));
+}
+
+-- the last line was refused
+pub stop_bad : (options : Options) (out : List ℕ) (counts : Counts) (s : State) (n : ℕ) (last out' : List ℕ) → (length last == 0) ≡ false → out' ≡ out
+    → (stop : Stop Code) → IfRefused (λ code. (jobs : ℕ) → (m : Marks) → (n : ℕ) → (ls : List (List ℕ)) → outcome options jobs m s n (last ∷ ls) ≡ refused_at n code) stop
+    → (fault : RunError) → fault ≡ fault_at n stop → (k : ℕ) → (code : Code) → ◌≡◌ {A = Result Counts RunError} (Err fault) (Err (DeckRefused k code))
+    → Ended options s n (last_lines last) out counts out' (Bad k code)
+stop_bad options out counts s n last out' full same stop.Memory refused fault is k code error =
+    let none : fault ≡ Memory = is in
+    let some : fault ≡ DeckRefused k code = ap (λ r. error_of r fault) error in
+    let no : Memory ≡ DeckRefused k code = sym none ∙ some in
+    cc
+stop_bad options out counts s n last out' full same (stop.Refused c) refused fault is k code error = record {
+  marks = [];
+  is = λ rest.
+      ap (λ b. behind out counts (outcome options counts.jobs rest s n (if b then [] else last ∷ []))) full
+      ∙ ap (behind out counts) (refused counts.jobs rest n [])
+      ∙ behind_refused out counts n c
+      ∙ ap (λ t. record { written = t; conclusion = Bad n c }) (sym same)
+      ∙ ap (λ (o : Outcome). record { written = out'; conclusion = o.conclusion }) (ap of_answer (ap Err (sym is) ∙ error));
+}

@@ -61,7 +61,7 @@ impl DeckFeed {
     ///
     /// `DeckRefused` where a card is refused; `Memory` where a growth was refused, which takes at least one byte before
     /// `$STOP`. After an error each further call answers the same and appends nothing.
-    #[tactic(auto, using(crate::proofs::Beginnings::begins_further))]
+    #[tactic(auto, using(crate::proofs::Beginnings::begins_further, crate::proofs::Pieces::begun_same, crate::proofs::Pieces::took_refused))]
     pub fn feed(&mut self, alloc: Global, piece: &[u8], out: &mut Vec<u8>) -> Result<(), RunError>
         requires { self.old.fed + length piece.now < 2 ^ 63 }
         ensures appends { Begins out.old.items out.new.items }
@@ -111,6 +111,7 @@ impl DeckFeed {
     /// # Errors
     ///
     /// As `feed`.
+    #[tactic(auto, using(crate::proofs::Pieces::begun_same))]
     pub fn feed_line(
         &mut self,
         alloc: Global,

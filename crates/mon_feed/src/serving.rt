@@ -134,6 +134,7 @@ pub(crate) fn take_list_line(
 /// # Errors
 ///
 /// The line's refusal; memory. Nothing was appended then.
+#[tactic(auto, using(crate::proofs::Taking::unmoved))]
 pub(crate) fn after_list_line(
     alloc: Global,
     options: Options,
@@ -186,6 +187,7 @@ pub(crate) fn take_job_line(
 /// # Errors
 ///
 /// The line's refusal; memory. Nothing was appended then.
+#[tactic(auto, using(crate::proofs::Taking::unmoved))]
 pub(crate) fn after_job_line(
     alloc: Global,
     options: Options,
@@ -274,7 +276,8 @@ fn put_turns(
     if check {
         return Ok(());
     }
-    monitor.give(alloc, turn.slot, turn.count, out)
+    monitor.give(alloc, turn.slot, turn.count, out)?;
+    Ok(())
 }
 
 // Gives turns until all slots are empty, unless the deck is only to be checked.
@@ -290,7 +293,8 @@ fn put_drain(
     if check {
         return Ok(());
     }
-    monitor.drain_all(alloc, out)
+    monitor.drain_all(alloc, out)?;
+    Ok(())
 }
 
 // A deck that has come to its end gives all turns that there are to give, and then its catalogue back; or it is told to be
@@ -332,5 +336,6 @@ fn put_catalogue(catalogue: &Catalogue, out: &mut Vec<u8>) -> Result<(), AllocEr
     ensures reads_back { OnOk result (ReadsBack catalogue.now) }
 {
     out.extend_from_slice(b"$CATALOGUE\n")?;
-    catalogue.put_text(out)
+    catalogue.put_text(out)?;
+    Ok(())
 }

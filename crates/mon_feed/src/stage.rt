@@ -64,6 +64,7 @@ impl Drop for State {
 impl Stage {
     // Takes a line that changes what was collected and not the section, where what was collected stands: most lines do. Whether
     // it was one; else nothing has changed.
+    #[tactic(auto, using(crate::proofs::Taking::unmoved, crate::proofs::Taking::catalogue_line))]
     fn take_in_place(
         &mut self,
         alloc: Global,
@@ -183,6 +184,7 @@ impl State {
 }
 
 // After a whole line of a deck that is still read.
+#[tactic(auto, using(crate::proofs::Taking::unmoved))]
 fn after_stage(
     alloc: Global,
     options: Options,

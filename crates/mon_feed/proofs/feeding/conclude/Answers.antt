@@ -1,18 +1,18 @@
 use Rattle.std.proofs.Common.{refl, ap, subst, [], ◌∙◌}
+use Rattle.mon_monitor.specs.Told.{world_of}
 use Rattle.mon_feed.specs.declared.stage.State.{State}
 use Rattle.mon_feed.specs.Feeds.{outcome, IsReadBack}
 use Rattle.mon_feed.proofs.Telling.{reading_ends}
 use Rattle.mon_feed.proofs.feeding.conclude.Goals as goal
 
 pub returns-in-Reading-clause-refused : goal.returns-in-Reading-clause-refused
-returns-in-Reading-clause-refused c = λ m code same check.
-    ap (λ (s : State). outcome check s c.args.n []) c.in-Reading.is ∙ reading_ends check c.in-Reading.field-0 c.args.n m code _ refl same
+returns-in-Reading-clause-refused c = λ m code same options jobs marks.
+    ap (λ (s : State). outcome options jobs marks s c.args.n []) c.in-Reading.is ∙ reading_ends options jobs marks c.in-Reading.field-0 c.args.n m code _ refl same
 
 pub returns-in-Stopped-clause-ended : goal.returns-in-Stopped-clause-ended
 returns-in-Stopped-clause-ended c = (
-  c.in-Stopped.field-0.sets,
-  λ check. ap (λ (s : State). outcome check s c.args.n []) c.in-Stopped.is,
+  (world_of c.in-Stopped.field-0).floor.sets,
+  λ options jobs marks. ap (λ (s : State). outcome options jobs marks s c.args.n []) c.in-Stopped.is,
   λ check back no. subst (λ (s : State). IsReadBack check s) c.in-Stopped.is back no,
-  refl,
   refl,
 )

@@ -1,13 +1,15 @@
-use Rattle.std.proofs.Common.{refl, ap, ◌∙◌, ◌++◌}
+use Rattle.std.proofs.Common.{refl}
+use Rattle.mon_monitor.specs.Events.{Serve}
+use Rattle.mon_monitor.specs.Told.{world_of}
+use Rattle.mon_cards.specs.Decks.{Commands}
+use Rattle.mon_feed.proofs.Commanding.{counted_when, happens_served, command_counted}
 use Rattle.mon_feed.proofs.serving.put_command.Goals as goal
-use Rattle.mon_feed.proofs.Commanding.{served_when, counted_when}
 
 pub returns-then-check-clause-served : goal.returns-then-check-clause-served
-returns-then-check-clause-served c = λ later. counted_when later c.args.check c.if-check.true c.args.monitor.now c.args.command c.args.out.now.items c.args.commands.now _ refl
+returns-then-check-clause-served c =
+    counted_when (Commands c.args.command) (world_of c.args.monitor.now) c.args.out.now.items c.args.counts.now _ (command_counted c.args.counts.now c.args.command) c.args.check c.if-check.true
 
 pub returns-clause-served : goal.returns-clause-served
-returns-clause-served c = λ later.
-    served_when later c.args.check c.if-check.false c.args.monitor.now c.command.new.self c.args.command c.args.out.now.items c.extend_from_slice.new.self.items c.args.commands.now _
-    c.in_ok-printout.ensures.sets
-    (c.in_ok-extend_from_slice.ensures.items ∙ ap (λ t. c.args.out.now.items ++ t) (c.as_slice.ensures ∙ c.in_ok-printout.ensures.printout))
-    refl
+returns-clause-served c =
+    happens_served c.args.check c.if-check.false (Commands c.args.command) (Serve c.args.command) (world_of c.args.monitor.now) (world_of c.serve_command.new.self)
+    c.args.out.now.items c.serve_command.new.out.items c.args.counts.now _ refl (command_counted c.args.counts.now c.args.command) c.in_ok-serve_command.ensures.happens.0

@@ -1,12 +1,12 @@
 -- What was told so far, and the rest of the piece, tell what all of the piece tells.
-use Rattle.std.proofs.Common.{◌≡◌, ◌≤◌, ◌+◌, ◌++◌, List, ℕ, length}
+use Rattle.std.proofs.Common.{◌≡◌, ◌≤◌, ◌+◌, length}
 use Rattle.mon_feed.specs.Feeds.{Begins, IsReadBack}
-use Rattle.mon_feed.specs.Told.{told}
+use Rattle.mon_feed.specs.inner.Pieces.{TookUpTo}
 use Rattle.mon_feed.proofs.feed.DeckFeed.feed.Given as goal
 
 abbrev pub invariant-lines : goal.invariant-lines
 invariant-lines l = record {
-  told : (bytes : List ℕ) → told l.out.items l.self (l.rest ++ bytes) ≡ told l.fn.out.items l.fn.self (l.fn.piece ++ bytes);
+  told : TookUpTo l.fn.out.items l.fn.self l.fn.piece l.out.items l.self l.rest;
   appends : Begins l.fn.out.items l.out.items;
   fed : l.self.fed + length l.rest ≡ l.fn.self.fed + length l.fn.piece;
   within : length l.rest ≤ length l.fn.piece;
