@@ -1,5 +1,5 @@
 -- Pieces that a feed takes, one after the other.
-use Rattle.std.proofs.Common.{◌≡◌, ℕ, ◌+◌, List, [], ◌++◌, take, drop, Result, Ok, Err, refl, sym, ap, ◌∙◌, append_assoc}
+use Rattle.std.proofs.Common.{◌≡◌, ℕ, ◌+◌, List, [], ◌++◌, take, drop, Result, Err, refl, sym, subst, ap, ◌∙◌, append_assoc}
 use Rattle.std.specs.Str.Lines.{lines}
 use Rattle.mon_slots.specs.Marks.{Marks}
 use Rattle.mon_monitor.specs.declared.monitor.Monitor.{Monitor}
@@ -9,7 +9,6 @@ use Rattle.mon_feed.specs.declared.fault.RunError.{RunError}
 use Rattle.mon_feed.specs.declared.fault.RunError.TheVariants.{DeckRefused, ReadFault, WriteFault, Memory}
 use Rattle.mon_feed.specs.declared.feed.DeckFeed.{DeckFeed}
 use Rattle.mon_feed.specs.declared.options.Counts.{Counts}
-use Rattle.mon_feed.specs.declared.options.Options.{Options}
 use Rattle.mon_feed.specs.declared.stage.State.{State}
 use Rattle.mon_feed.specs.declared.stage.State.TheVariants as state
 use Rattle.mon_feed.specs.Scenes.{nothing_counted}
@@ -92,11 +91,13 @@ module _ (before : List ℕ) (f : DeckFeed) (piece mid : List ℕ) (h : DeckFeed
         );
   }
 
-  -- and the next line of it was refused
-  pub took_answer : {T U : Type 0} (after : List ℕ) (g : DeckFeed) (error : RunError)
-      → ((n : ℕ) → (code : Code) → ◌≡◌ {A = Result U RunError} (Err error) (Err (DeckRefused n code)) → (rest : Marks) → (bytes : List ℕ) → told rest after g bytes ≡ told rest mid h (left ++ bytes))
-      → OnAnswer {T = T} (Err error) (Took before f piece after g)
-  took_answer after g (DeckRefused n code) refused = record { marks = took.marks; is = λ rest bytes. refused n code refl rest bytes ∙ took.is rest bytes }
-  took_answer after g ReadFault refused = tt
-  took_answer after g WriteFault refused = tt
-  took_answer after g Memory refused = tt
+  -- and then the next line of it was refused, or memory ran out
+  pub took_answer : (after : List ℕ) (g : DeckFeed) (answer : Result (Unit {0}) RunError) (error : RunError) → answer ≡ Err error
+      → ((n : ℕ) → (code : Code) → ◌≡◌ {A = Result ℕ RunError} (Err error) (Err (DeckRefused n code)) → (rest : Marks) → (bytes : List ℕ) → told rest after g bytes ≡ told rest mid h (left ++ bytes))
+      → OnAnswer answer (Took before f piece after g)
+  took_answer after g answer (DeckRefused n code) is refused =
+      subst (λ (a : Result (Unit {0}) RunError). OnAnswer a (Took before f piece after g)) (sym is)
+      (record { marks = took.marks; is = λ rest bytes. refused n code refl rest bytes ∙ took.is rest bytes })
+  took_answer after g answer ReadFault is refused = subst (λ (a : Result (Unit {0}) RunError). OnAnswer a (Took before f piece after g)) (sym is) tt
+  took_answer after g answer WriteFault is refused = subst (λ (a : Result (Unit {0}) RunError). OnAnswer a (Took before f piece after g)) (sym is) tt
+  took_answer after g answer Memory is refused = subst (λ (a : Result (Unit {0}) RunError). OnAnswer a (Took before f piece after g)) (sym is) tt

@@ -6,7 +6,7 @@ use Rattle.mon_monitor.specs.Told.{world_of}
 use Rattle.mon_catalogue.specs.Sets.{Sets}
 use Rattle.mon_access.specs.declared.account.Account.{Account}
 use Rattle.mon_catalogue.specs.Progress.{Progress, step}
-use Rattle.mon_cards.specs.Decks.{Asked}
+use Rattle.mon_cards.specs.Decks.{Asked, Deck}
 use Rattle.mon_cards.specs.declared.request.Request.{Request}
 use Rattle.mon_cards.specs.Refusing.{or_else, line_refusal}
 use Rattle.mon_cards.specs.Requests.{stream_refusal, request_on}
@@ -44,7 +44,7 @@ pub catalogue_line : (slots n : ℕ) (accounts : List Account) (p p' : Progress)
 catalogue_line slots n accounts p p' line ls true good is after goes = cc
 catalogue_line slots n accounts p p' line ls false good is after goes =
     let next = catalogue_section (n + 1) accounts (step p line) ls in
-    let streams = record { accounts = accounts; catalogue = sets_of p; cards = stream_section (n + 1) Closed ls } in
+    let streams : Deck = record { accounts = accounts; catalogue = sets_of p; cards = stream_section (n + 1) Closed ls } in
     ap (λ (q : Progress). opening slots (catalogue_section (n + 1) accounts q ls)) after
     ∙ ap (λ b. opening slots (if b then streams else next)) is
     ∙ ap (λ r. opening slots (deck_goes_on r n accounts (if ends_catalogue p line then streams else next))) (sym good)

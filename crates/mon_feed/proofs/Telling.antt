@@ -89,6 +89,20 @@ abbrev pub Comes : Options → State → ℕ → List (List ℕ) → List ℕ �
 Comes options s n ls before counts after answer = IfOk answer (λ all.
     (sets : Sets) × Ended options s n ls before counts after (Good all sets) × (IsReadBack options.check s → options.check ≡ false → ReadsBack sets))
 
+-- the same of lines that are the same, in parts
+pub comes_so : (options : Options) (s : State) (n : ℕ) (ls ls' : List (List ℕ)) (before : List ℕ) (counts : Counts) (after : List ℕ) (answer : Result Counts RunError) → ls ≡ ls'
+    → Comes options s n ls before counts after answer
+    → IfOk answer (λ all. (marks : Marks) × (sets : Sets)
+    × ((rest : Marks) → behind before counts (outcome options counts.jobs (marks ++ rest) s n ls') ≡ record { written = after; conclusion = Good all sets })
+    × (IsReadBack options.check s → options.check ≡ false → ReadsBack sets))
+comes_so options s n ls ls' before counts after (Err error) same ended = tt
+comes_so options s n ls ls' before counts after (Ok all) same ended = (
+  ended.1.marks,
+  ended.0,
+  λ rest. ap (λ (l : List (List ℕ)). behind before counts (outcome options counts.jobs (ended.1.marks ++ rest) s n l)) (sym same) ∙ ended.1.is rest,
+  ended.2,
+)
+
 -- the last line was taken, and the deck ends there
 module _ (options : Options) (out : List ℕ) (counts : Counts) (s : State) (n m : ℕ) (last out' : List ℕ) (counts' : Counts) (after : State)
     (full : (length last == 0) ≡ false) (next : m ≡ n + 1) (step : TookLine options s last out counts after out' counts') where

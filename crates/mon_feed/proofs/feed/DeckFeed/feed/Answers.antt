@@ -1,7 +1,9 @@
-use Rattle.std.proofs.Common.{rules, arith, refl, ap, ◌∙◌, ◌++◌, ◌+◌, ◌≡◌, ◌≤◌, [], List, ℕ, length, drop}
+use Rattle.std.proofs.Common.{arith, refl, sym, ap, ◌∙◌, ◌+◌, ◌≡◌, ◌≤◌, Err, List, ℕ, length, drop}
 use Rattle.std.proofs.lemmas.List.{take_rest, length-drop}
+use Rattle.std.proofs.lemmas.Result.{err_from_is_err_and}
+use Rattle.mon_text.proofs.Cutting.{nothing_kept}
 use Rattle.mon_feed.proofs.Beginnings.{begins_further}
-use Rattle.mon_feed.proofs.Pieces.{took_more, took_all, begun_so_far, begun_more, took_answer, took_stopped, took_refused}
+use Rattle.mon_feed.proofs.Pieces.{took_more, took_all, begun_so_far, begun_more, took_answer, took_stopped}
 use Rattle.mon_feed.proofs.feed.DeckFeed.feed.Goals as goal
 
 pub returns-in-Stopped-clause-told : goal.returns-in-Stopped-clause-told
@@ -14,10 +16,15 @@ pub returns-in_err-used-clause-begun : goal.returns-in_err-used-clause-begun
 returns-in_err-used-clause-begun c =
     begun_more c.args.out.now.items c.args.self.now c.args.piece.now c.lines.out.items c.lines.self c.lines.rest.now c.lines.invariant.told c.feed_line.new.out.items c.feed_line.ensures.begun
 
+pub returns-in_err-used-clause-told : goal.returns-in_err-used-clause-told
+returns-in_err-used-clause-told c =
+    let answer = err_from_is_err_and c.from_residual.result c.from_residual.ensures.1 in
+    took_answer c.args.out.now.items c.args.self.now c.args.piece.now c.lines.out.items c.lines.self c.lines.rest.now c.lines.invariant.told c.feed_line.new.out.items c.feed_line.new.self
+    c.from_residual.result c.in_err-used.field-0.0 (answer.1 ∙ ap Err answer.2) c.in_err-used.ensures.refused
+
 pub returns-clause-told : goal.returns-clause-told
 returns-clause-told c =
-    let none : c.lines.rest.now ≡ [] = search rules in
-    took_all c.args.out.now.items c.args.self.now c.args.piece.now c.lines.out.items c.lines.self c.lines.rest.now c.lines.invariant.told none
+    took_all c.args.out.now.items c.args.self.now c.args.piece.now c.lines.out.items c.lines.self c.lines.rest.now c.lines.invariant.told (nothing_kept c.lines.rest.now (sym c.is_empty.ensures ∙ c.lines-test.false))
 
 pub returns-clause-begun : goal.returns-clause-begun
 returns-clause-begun c = begun_so_far c.args.out.now.items c.args.self.now c.args.piece.now c.lines.out.items c.lines.self c.lines.rest.now c.lines.invariant.told
