@@ -63,14 +63,15 @@ pub(crate) fn turn_at(
 ) -> Turned
     ensures { SeatTurn (seat_of seat.old) catalogue.old result (seat_of seat.new) catalogue.new }
 {
-    match mem::replace(seat, None) {
-        None => Turned::Empty,
-        Some(mut slot) => match turn_of(alloc, guard, catalogue, &mut slot) {
-            Step::Goes => {
-                *seat = Some(slot);
-                Turned::Goes
-            }
-            Step::Ended(ending) => Turned::Ended(end_of(slot, ending)),
+    let step = match seat {
+        None => return Turned::Empty,
+        Some(slot) => turn_of(alloc, guard, catalogue, slot),
+    };
+    match step {
+        Step::Goes => Turned::Goes,
+        Step::Ended(ending) => match mem::replace(seat, None) {
+            None => Turned::Empty,
+            Some(slot) => Turned::Ended(end_of(slot, ending)),
         },
     }
 }
