@@ -6,3 +6,8 @@ pub mod Told
 pub mod Happening
 pub mod Laws
 pub mod Steps
+pub mod Agreeing
+pub mod Isolation
+pub mod Beginnings
+pub mod Example
+pub mod Schedules

@@ -1,0 +1,96 @@
+-- A job of an account is loaded, in worlds that agree for it.
+use Rattle.std.proofs.Common.{◌≡◌, ℕ, zero, suc, List, [], ◌∷◌, Option, Some, None, Result, ap, sym, ◌∙◌, subst, inl, inr}
+use Rattle.std.specs.Prelude.{◌⊎◌, slice_get, map}
+use Rattle.std.specs.List.{range_with_len}
+use Rattle.mon_access.specs.declared.account.Account.{Account}
+use Rattle.mon_access.specs.Accounts.{find_account}
+use Rattle.sno_cards.specs.Statements.{statements_of}
+use Rattle.sno_syntax.specs.Programs.{Program}
+use Rattle.mon_unit.specs.declared.tie.Target.TheVariants.{Set}
+use Rattle.mon_unit.specs.declared.tie.Tie.{Tie}
+use Rattle.mon_unit.specs.State.{UnitState}
+use Rattle.mon_unit.specs.Tying.{first_tie, tied_to}
+use Rattle.mon_job.specs.declared.deck.UnitCard.{UnitCard}
+use Rattle.mon_job.specs.declared.deck.JobDeck.{JobDeck}
+use Rattle.mon_job.specs.declared.refusal.LoadError.{LoadError}
+use Rattle.mon_slots.specs.Floors.{SlotState, seat_at, first_free, job_in}
+use Rattle.mon_slots.specs.Loads.{first_units, with_ties, tied_by, program_in, load_refusal, slot_by, slot_in, loaded_by, loaded}
+use Rattle.mon_monitor.specs.Isolation.{LoadsAgree}
+use Rattle.mon_monitor.proofs.Requests.{get_after_set}
+use Rattle.mon_monitor.proofs.Turning.{seat_after}
+
+-- all units stand at the start
+abbrev AtStart : UnitState → Type 0
+AtStart units = (u : ℕ) (tie : Tie) → slice_get units.ties u ≡ Some tie → tie.position ≡ 0
+
+first_at_start : (l : List ℕ) (u : ℕ) (tie : Tie) → slice_get (map first_tie l) u ≡ Some tie → tie.position ≡ 0
+first_at_start [] u tie h = absurd cc
+first_at_start (x ∷ l) zero tie h = let is : first_tie x ≡ tie = cc (h) in sym (ap (λ (t : Tie). t.position) is)
+first_at_start (x ∷ l) (suc u) tie h = first_at_start l u tie h
+
+ties_at_start : (cards : List UnitCard) (units : UnitState) → AtStart units → AtStart (with_ties cards units)
+ties_at_start [] units h = h
+ties_at_start (card ∷ cards) units h = ties_at_start cards (tied_by card units) (λ u tie is.
+    elim (get_after_set units.ties card.unit u (tied_to (Set card.set)) tie is) [
+      | inl was ↦ h u tie was
+      | inr now ↦ ap (λ (t : Tie). t.position) now
+    ])
+
+record IsFresh (account : Account) (slot : SlotState) : Type 0 where
+  pub own : slot.account ≡ account
+  pub start : AtStart slot.units
+
+module _ (account : Account) (deck : JobDeck) where
+  fresh_by : (found : Option Account) (p : Option Program) (slot : SlotState) → found ≡ Some account → slot_by deck found p ≡ Some slot → IsFresh account slot
+  fresh_by None p slot known h = absurd cc
+  fresh_by (Some a) None slot known h = absurd cc
+  fresh_by (Some a) (Some p) slot known h =
+      let one : a ≡ account = cc (known) in
+      let units = with_ties deck.ties (first_units deck.lines) in
+      record {
+        own = by_account a p slot h ∙ one;
+        start = subst AtStart (by_units a p slot h) (ties_at_start deck.ties (first_units deck.lines) (first_at_start (range_with_len 0 100)));
+      }
+    where
+      by_account : (a : Account) (p : Program) (slot : SlotState) → slot_by deck (Some a) (Some p) ≡ Some slot → slot.account ≡ a
+      by_account a p slot h = cc (h)
+
+      by_units : (a : Account) (p : Program) (slot : SlotState) → slot_by deck (Some a) (Some p) ≡ Some slot → with_ties deck.ties (first_units deck.lines) ≡ slot.units
+      by_units a p slot h = cc (h)
+
+  fresh : (accounts : List Account) (slot : SlotState) → find_account accounts deck.account ≡ Some account → slot_in accounts deck ≡ Some slot → IsFresh account slot
+  fresh accounts slot known h = fresh_by (find_account accounts deck.account) (program_in (statements_of deck.lines)) slot known h
+
+loaded_seats : (refusal : Option LoadError) (n : Option ℕ) (slot : Option SlotState) (slots : List (Option SlotState)) (s : ℕ) (x : SlotState)
+    → seat_at s (loaded_by refusal n slot slots).1 ≡ Some x → (seat_at s slots ≡ Some x) ⊎ (slot ≡ Some x)
+loaded_seats (Some refusal) n slot slots s x h = inl h
+loaded_seats None (Some n) slot slots s x h = seat_after n s slot slots x h
+loaded_seats None None slot slots s x h = inl h
+
+pub loads_agree : LoadsAgree
+loads_agree account w v agree deck own =
+    let known : find_account w.accounts deck.account ≡ Some account = ap (find_account w.accounts) own ∙ agree.known in
+    let same : loaded w.accounts deck w.floor.slots ≡ loaded v.accounts deck v.floor.slots =
+    ap (λ (l : List Account). loaded l deck w.floor.slots) agree.accounts ∙ ap (loaded v.accounts deck) agree.floor.slots in
+    let seats : (s : ℕ) (x : SlotState) → seat_at s (loaded w.accounts deck w.floor.slots).1 ≡ Some x → (job_in s w.floor ≡ Some x) ⊎ (slot_in w.accounts deck ≡ Some x) =
+    loaded_seats (load_refusal w.accounts deck w.floor.slots) (first_free w.floor.slots) (slot_in w.accounts deck) w.floor.slots in
+    record {
+      answer = ap (λ (p : Result ℕ LoadError × List (Option SlotState)). p.0) same;
+      after = record {
+        accounts = agree.accounts;
+        known = agree.known;
+        floor = record {
+          slots = ap (λ (p : Result ℕ LoadError × List (Option SlotState)). p.1) same;
+          own = λ s x is. elim (seats s x is) [
+            | inl was ↦ agree.floor.own s x was
+            | inr now ↦ (fresh account deck w.accounts x known now).own
+          ];
+          names = agree.floor.names;
+          sets = agree.floor.sets;
+          ties = λ s x is. elim (seats s x is) [
+            | inl was ↦ agree.floor.ties s x was
+            | inr now ↦ λ u tie name at tied. inl ((fresh account deck w.accounts x known now).start u tie at)
+          ];
+        };
+      };
+    }
