@@ -5,3 +5,5 @@ pub mod Rounding
 pub mod Giving
 pub mod Calls
 pub mod Loads
+mod Shared
+mod Apart

@@ -5,4 +5,5 @@ pub mod Marks
 pub mod Rounds
 pub mod Turning
 pub mod Loads
+pub mod Ties
 pub mod inner

@@ -2,3 +2,4 @@
 pub mod Stepping
 pub mod Rounding
 pub mod Spelling
+pub mod Sharing

@@ -8,6 +8,7 @@
 pub mod laws;
 mod loading;
 mod rounds;
+mod sharing;
 mod slot;
 pub mod slots;
 pub mod turned;

@@ -1,8 +1,9 @@
 //! Slots.
-ghost use Rattle.std.specs.Prelude.{◌≡◌, ◌≤◌, length, None, Ok, Err, IfOk, IfErr, OnErr, position, is_some, is_none, replicate};
+ghost use Rattle.std.specs.Prelude.{◌≡◌, ◌≤◌, ◌↔◌, IsTrue, length, None, Ok, Err, IfOk, IfErr, OnErr, position, is_some, is_none, replicate};
 ghost use Rattle.std.specs.List.{list_any, list_all};
 
 use crate::loading::slot_for;
+use crate::sharing::are_apart;
 use crate::slot::{Slot, turn_at};
 use crate::turned::Turned;
 use mon_access::Accounts;
@@ -23,7 +24,9 @@ pub struct Slots {
 }
 
 impl Slots {
+    ghost use Rattle.mon_catalogue.specs.Sets.{Sets};
     ghost use Rattle.mon_slots.specs.Told.{slots_in};
+    ghost use Rattle.mon_slots.specs.Ties.{Independent};
     ghost use Rattle.mon_slots.specs.Loads.{loaded};
     ghost use Rattle.sno_cards.specs.Answers.{IfRefused};
     ghost use Rattle.mon_slots.specs.Floors.{floor, all_empty, first_free};
@@ -65,6 +68,13 @@ impl Slots {
         ensures { result ≡ all_empty (slots_in self.now) }
     {
         are_empty(&self.items)
+    }
+
+    /// Whether no data set is tied by units of two slots. It takes no memory.
+    pub fn independent(&self) -> bool
+        ensures { (sets : Sets) → IsTrue result ↔ Independent (floor sets (slots_in self.now)) }
+    {
+        are_apart(&self.items)
     }
 
     /// Loads a job into the lowest free slot, and tells its number.
