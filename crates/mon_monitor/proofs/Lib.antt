@@ -11,4 +11,5 @@ mod Loading
 mod Agreeing
 mod Beginnings
 mod Example
-mod Schedules
+pub mod Schedules
+pub mod Unseen

@@ -1,12 +1,13 @@
 -- A job on data sets of its own does what it does alone.
-use Rattle.std.proofs.Common.{◌≡◌, ◌≢◌, ℕ, zero, suc, ◌≤◌, nat_le, Bool, true, false, List, [], ◌∷◌, ◌++◌, length, eq-eqb, Option, Some, None, refl, ap, sym, ◌∙◌, subst, inl, inr, arith}
-use Rattle.std.specs.Prelude.{◌⊎◌, ◌==◌, nat_eq, if◌then◌else◌, map, slice_get, slice_set}
+use Rattle.std.proofs.Common.{◌≡◌, ◌≢◌, ℕ, zero, suc, ◌≤◌, nat_le, Bool, true, false, List, [], ◌∷◌, ◌++◌, length, eq-eqb, Option, Some, None, Result, Ok, Err, refl, ap, sym, ◌∙◌, subst, inl, inr, arith}
+use Rattle.std.specs.Prelude.{◌⊎◌, ◌==◌, nat_eq, if◌then◌else◌, map, slice_get, slice_set, Vec, IfOk}
 use Rattle.std.proofs.lemmas.Bool.Decides.{nat_tests, eqb_tells}
 use Rattle.std.specs.Cmp.Lexicographic.{pointwise}
 use Rattle.std.specs.Map.{keys_of}
 use Rattle.std.specs.List.{IsDistinct, AllByRecursion}
 use Rattle.mon_catalogue.specs.Sets.{Sets, find_set, NamesDiffer}
 use Rattle.sno_ask.specs.declared.request.Request.{Request}
+use Rattle.sno_run.specs.declared.ending.Ending.TheVariants.{Memory}
 use Rattle.sno_run.specs.declared.ending.Step.{Step}
 use Rattle.sno_run.specs.declared.ending.Step.TheVariants as step
 use Rattle.sno_run.specs.Jobs.{Job, turn_of}
@@ -22,10 +23,12 @@ use Rattle.mon_slots.specs.declared.turned.Turned.{Turned}
 use Rattle.mon_slots.specs.declared.turned.Turned.TheVariants.{Empty, Goes, Ended}
 use Rattle.mon_slots.specs.Floors.{SlotState, Floor, seated, seat_at, with_seat, job_in}
 use Rattle.mon_slots.specs.Turns.{reached, ran, after_turn, job_end, seat, told, turn_by, turn, Course, ends_by, turns, only}
-use Rattle.mon_slots.specs.Marks.{Marks, mark_of, later, turn_as, Past, and_then, until, marked, rounds, turns_left, is_done, drain}
+use Rattle.mon_slots.specs.Marks.{Marks, mark_of, later, turn_as, Past, and_then, until, never, marked, rounds, turns_left, is_done, drain}
 use Rattle.mon_slots.specs.Rounds.{NoneByMemory}
+use Rattle.mon_slots.specs.Turning.{UntilIs, MarkedIs, DrainIs}
 use Rattle.mon_slots.proofs.Past.{either_way, until_stops, until_goes, marks_end_jobs, unmarked, drain_empties}
-use Rattle.mon_monitor.specs.Schedules.{Independent, turns_given, of_slot, AsAlone, EndsAlone, AnySchedule, Settles}
+use Rattle.mon_slots.specs.Ties.{Independent}
+use Rattle.mon_monitor.specs.Schedules.{turns_given, of_slot, AsAlone, EndsAlone, AnySchedule, Settles, InAnyOrder, DrainedInAnyOrder}
 use Rattle.mon_monitor.proofs.Names.{tell_name, same_lists}
 use Rattle.mon_monitor.proofs.Turning.{seat_after, seat_is}
 
@@ -452,6 +455,42 @@ drain_settles w m apart none =
           ap (λ (v : Floor). v.sets) after
           ∙ same_sets w apart differ some.0 E (λ s. ap (λ (v : Floor). job_in s v) (sym after) ∙ drain_empties w m s) done;
     }
+
+-- what a call's turns come to, wherever they stop
+not_by_memory : (ends : List (ℕ × JobEnd)) → AllByRecursion (λ e. e.ending ≢ Memory) (map (λ e. e.1) ends) → NoneByMemory ends
+not_by_memory [] h = tt
+not_by_memory (e ∷ ends) h = (h.0, not_by_memory ends h.1)
+
+in_any_order : (stop : Floor → Bool) (E : List ℕ) (w : Floor) (ends : List JobEnd) (w' : Floor) → UntilIs stop E w ends w' → InAnyOrder w ends w'
+in_any_order stop E w ends w' h = record {
+  is = λ apart none.
+      let m = h.marks ++ [] in
+      let p = h.is [] in
+      let is = marks_end_jobs stop w E m (not_by_memory (until stop E m w).ends (subst (AllByRecursion (λ e. e.ending ≢ Memory)) (sym p.ended) none)) in
+      let some = some_turns stop w E [] in
+      let plain = unmarked w some.0 in
+      let all : (until stop E m w).ends ≡ (turns some.0 w).ends = is.0 ∙ ap (λ (q : Past). q.ends) some.1 ∙ plain.ends in
+      let after : w' ≡ (turns some.0 w).after = sym p.after ∙ is.1 ∙ ap (λ (q : Past). q.after) some.1 ∙ plain.after in
+      let told : ends ≡ map (λ e. e.1) (turns some.0 w).ends = sym p.ended ∙ ap (λ (l : List (ℕ × JobEnd)). map (λ e. e.1) l) all in
+      record {
+        alone = subst (AllByRecursion (EndsAlone w)) (sym told) (ends_as_alone w apart some.0);
+        sets = λ differ empty F done.
+            ap (λ (v : Floor). v.sets) after ∙ same_sets w apart differ some.0 F (λ s. ap (λ (v : Floor). job_in s v) (sym after) ∙ empty s) done;
+      };
+}
+
+pub turns_any_order : {Z E : Type 0} (r : Result (Vec JobEnd Z) E) (order : List ℕ) (w w' : Floor)
+    → IfOk r (λ ends. MarkedIs order w ends.items w') → IfOk r (λ ends. InAnyOrder w ends.items w')
+turns_any_order (Ok ends) order w w' h = in_any_order never order w ends.items w' h
+turns_any_order (Err e) order w w' h = tt
+
+pub drained_any_order : {Z E : Type 0} (r : Result (Vec JobEnd Z) E) (w w' : Floor)
+    → IfOk r (λ ends. DrainIs w ends.items w') → IfOk r (λ ends. DrainedInAnyOrder w ends.items w')
+drained_any_order (Ok ends) w w' h = record {
+  empty = λ s. ap (λ (v : Floor). job_in s v) (sym (h.is []).after) ∙ drain_empties w (h.marks ++ []) s;
+  order = in_any_order is_done (rounds (turns_left w.slots) (length w.slots)) w ends.items w' h;
+}
+drained_any_order (Err e) w w' h = tt
 
 pub any_schedule : AnySchedule
 any_schedule w apart differ E F done done_too = record {

@@ -11,3 +11,4 @@ pub mod Isolation
 pub mod Beginnings
 pub mod Example
 pub mod Schedules
+pub mod Unseen

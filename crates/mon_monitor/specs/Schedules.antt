@@ -1,19 +1,16 @@
 -- Jobs on data sets of their own do the same under every schedule (own). Nothing is claimed of the order of ending, or where a
--- command or a load comes between. Each law is the contract of a function in `laws`.
+-- command or a load comes between. Each law is the contract of a function in `isolation`.
 use Rattle.std.specs.Prelude.{◌≡◌, ◌≢◌, ◌==◌, ℕ, suc, List, [], ◌∷◌, filter, map, if◌then◌else◌, Some, None}
 use Rattle.std.specs.List.{AllByRecursion}
+use Rattle.sno_run.specs.declared.ending.Ending.TheVariants.{Memory}
 use Rattle.mon_catalogue.specs.Sets.{NamesDiffer}
 use Rattle.mon_unit.specs.Laws.{Same, TiedTo}
 use Rattle.mon_job.specs.declared.job_end.JobEnd.{JobEnd}
 use Rattle.mon_slots.specs.Floors.{SlotState, Floor, job_in}
+use Rattle.mon_slots.specs.Ties.{Independent}
 use Rattle.mon_slots.specs.Turns.{turns, only}
 use Rattle.mon_slots.specs.Marks.{Marks, drain}
 use Rattle.mon_slots.specs.Rounds.{NoneByMemory}
-
--- no data set is tied by units of two slots
-abbrev pub Independent : Floor → Type 0
-Independent w = (s t : ℕ) (slot other : SlotState) → s ≢ t → job_in s w ≡ Some slot → job_in t w ≡ Some other
-    → (name : List ℕ) → TiedTo slot.units name → ¬ TiedTo other.units name
 
 -- how many turns a list gives a slot
 abbrev pub turns_given : ℕ → List ℕ → ℕ
@@ -67,3 +64,18 @@ pub record Settles (w : Floor) (m : Marks) : Type 0 where
 
 abbrev pub DrainSettles : Type 0
 DrainSettles = (w : Floor) (m : Marks) → Independent w → NoneByMemory (drain m w).ends → Settles w m
+
+-- A call gave turns, which led from w to w' and ended these jobs. Each ended as it does alone; and where all slots are empty then,
+-- the data sets are those of every list of turns that empties them.
+pub record AnyOrder (w : Floor) (ends : List JobEnd) (w' : Floor) : Type 0 where
+  pub alone : AllByRecursion (EndsAlone w) ends
+  pub sets : NamesDiffer w.sets → AllEnded w' → (E : List ℕ) → AllEnded (turns E w).after → w'.sets ≡ (turns E w).after.sets
+
+-- and so it is where no data set was tied by units of two slots, and no job ended for want of memory
+pub record InAnyOrder (w : Floor) (ends : List JobEnd) (w' : Floor) : Type 0 where
+  pub is : Independent w → AllByRecursion (λ e. e.ending ≢ Memory) ends → AnyOrder w ends w'
+
+-- a drain: all slots are empty then
+pub record DrainedInAnyOrder (w : Floor) (ends : List JobEnd) (w' : Floor) : Type 0 where
+  pub empty : AllEnded w'
+  pub order : InAnyOrder w ends w'
