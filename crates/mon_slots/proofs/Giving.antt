@@ -8,7 +8,7 @@ use Rattle.mon_slots.specs.declared.turned.Turned.{Turned}
 use Rattle.mon_slots.specs.declared.turned.Turned.TheVariants.{Empty, Goes, Ended}
 use Rattle.mon_slots.specs.Floors.{SlotState, Floor, seated, seat_at, with_seat, job_in}
 use Rattle.mon_slots.specs.Turns.{after_turn, job_end, seat, told, ends_by, only}
-use Rattle.mon_slots.specs.Marks.{Mark, Marks, ran_as, turn_as_by, Past, nothing, and_then, until, never}
+use Rattle.mon_slots.specs.Marks.{Mark, Marks, ran_as, turn_as_by, nothing, and_then, until, never}
 use Rattle.mon_slots.specs.Turning.{TurnOr, UntilIs, MarkedIs}
 use Rattle.mon_slots.specs.inner.Rounding.{Ahead}
 use Rattle.mon_slots.proofs.Rounding.{passed, begin, ahead_more, ahead_done}
