@@ -5,3 +5,9 @@ pub mod Ordered
 mod Examples
 pub mod Beginning
 pub mod Due
+pub mod Isolated
+pub mod LookingAlike
+pub mod Rearranged
+pub mod Staying
+pub mod AnyTurns
+pub mod Apart

@@ -23,7 +23,7 @@ jobs_both (Gives turn ∷ xs) ys = omega (arith, jobs_both xs ys)
 jobs_both (Drains ∷ xs) ys = omega (arith, jobs_both xs ys)
 
 -- jobs are numbered in order
-events_both : (xs ys : List Asked) (k n : ℕ) → n ≡ k + jobs_in xs → events_of k (xs ++ ys) ≡ events_of k xs ++ events_of n ys
+pub events_both : (xs ys : List Asked) (k n : ℕ) → n ≡ k + jobs_in xs → events_of k (xs ++ ys) ≡ events_of k xs ++ events_of n ys
 events_both [] ys k n is = let same : k ≡ n = omega (arith, is) in ap (λ i. events_of i ys) same
 events_both (Commands command ∷ xs) ys k n is = ap (λ (es : List Event). Serve command ∷ es) (events_both xs ys k n (omega (arith, is)))
 events_both (Enters job ∷ xs) ys k n is = ap (λ (es : List Event). Load (job_deck_of k job) ∷ es) (events_both xs ys (suc k) n (omega (arith, is)))
