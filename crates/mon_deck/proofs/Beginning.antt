@@ -19,7 +19,7 @@ use Rattle.mon_cards.specs.Sections.{deck_of}
 use Rattle.mon_cards.specs.Spelling.{IsDeck}
 use Rattle.mon_cards.proofs.Closing.{good_beginnings}
 use Rattle.mon_cards.proofs.ComingBack.{comes_back}
-use Rattle.mon_feed.specs.Scenes.{over, opening, events_of, at_end, played_scene}
+use Rattle.mon_feed.specs.Scenes.{opening, events_of, at_end, played_scene}
 use Rattle.mon_feed.specs.Told.{told, Took}
 use Rattle.mon_feed.specs.declared.feed.DeckFeed.{DeckFeed}
 use Rattle.mon_feed.specs.Printouts.{closing, output_of_scene}
