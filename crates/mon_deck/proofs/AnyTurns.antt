@@ -18,8 +18,8 @@ use Rattle.mon_monitor.specs.Papers.{Paper, OfJob, paper_text, papers_text, of_e
 use Rattle.mon_monitor.specs.Played.{Played, and_played, of_turns, then_played, happened, played}
 use Rattle.mon_monitor.specs.Laws.{CardByCard, DrainEmpties}
 use Rattle.mon_monitor.proofs.Playing.{ends_text}
-use Rattle.mon_isolation.specs.Isolation.{CommandsAgree}
-use Rattle.mon_isolation.specs.Schedules.{EndsAsAlone, AllEnded, AnySchedule}
+use Rattle.mon_monitor.specs.Isolation.{CommandsAgree}
+use Rattle.mon_monitor.specs.Schedules.{EndsAsAlone, AllEnded, AnySchedule}
 use Rattle.mon_cards.specs.Decks.{Asked, Commands, Enters, Gives, Drains, Ending, Stopped}
 use Rattle.mon_cards.specs.Laws.{ReadingSpells}
 use Rattle.mon_cards.specs.Sections.{deck_of}

@@ -21,7 +21,7 @@ use Rattle.mon_slots.specs.Marks.{Marks, never, rounds, turns_left, is_done, has
 use Rattle.mon_monitor.specs.Worlds.{World}
 use Rattle.mon_monitor.specs.Events.{Serve, Load, Give, Drain}
 use Rattle.mon_monitor.specs.Played.{happened, played}
-use Rattle.mon_isolation.specs.Schedules.{Independent}
+use Rattle.mon_slots.specs.Ties.{Independent}
 use Rattle.mon_cards.specs.declared.job.OpenJob.{OpenJob}
 use Rattle.mon_cards.specs.Decks.{Asked, Commands, Enters, Gives, Drains}
 use Rattle.mon_cards.specs.Jobs.{job_deck_of}

@@ -11,8 +11,8 @@ use Rattle.mon_monitor.specs.Worlds.{World}
 use Rattle.mon_monitor.specs.Events.{Event}
 use Rattle.mon_monitor.specs.Papers.{Paper, papers_text}
 use Rattle.mon_monitor.specs.Played.{played}
-use Rattle.mon_isolation.specs.Agreeing.{LooksAlike, Both, Agree}
-use Rattle.mon_isolation.specs.Isolation.{IsOwn, Isolated}
+use Rattle.mon_monitor.specs.Agreeing.{LooksAlike, Both, Agree}
+use Rattle.mon_monitor.specs.Isolation.{IsOwn, Isolated}
 use Rattle.mon_cards.specs.Decks.{Deck, Asked, Commands, Enters, Gives, Drains, Ending, Stopped, Refused}
 use Rattle.mon_cards.specs.Laws.{ReadingSpells, GoodBeginnings}
 use Rattle.mon_cards.specs.Sections.{deck_of}

@@ -1,6 +1,6 @@
 -- The two decks look alike, and differ.
 use Rattle.std.proofs.Common.{◌≡◌, ℕ, length, refl, ap, arith}
-use Rattle.mon_isolation.specs.Example.{TheyAgree}
+use Rattle.mon_monitor.specs.Example.{TheyAgree}
 use Rattle.mon_deck.specs.Example.{TheyLookAlike}
 
 pub they_look_alike : TheyAgree → TheyLookAlike

@@ -20,8 +20,8 @@ use Rattle.mon_slots.specs.Marks.{Mark, Marks, mark_of, later, may_break, broken
 use Rattle.mon_monitor.specs.Worlds.{World, world}
 use Rattle.mon_monitor.specs.Events.{Event, Serve, Load, Give, Drain}
 use Rattle.mon_monitor.specs.Played.{happened, played}
-use Rattle.mon_isolation.specs.Agreeing.{LooksAlike, Both, Agree}
-use Rattle.mon_isolation.specs.Isolation.{CommandsAgree}
+use Rattle.mon_monitor.specs.Agreeing.{LooksAlike, Both, Agree}
+use Rattle.mon_monitor.specs.Isolation.{CommandsAgree}
 
 -- A TURN
 

@@ -1,7 +1,7 @@
 -- Two decks that differ, and that look alike to an account that may write a data set and not read it.
 use Rattle.std.specs.Prelude.{◌≢◌, ℕ, List, codes}
 use Rattle.std.specs.Str.Lines.{lines}
-use Rattle.mon_isolation.specs.Example.{ann}
+use Rattle.mon_monitor.specs.Example.{ann}
 use Rattle.mon_cards.specs.Sections.{deck_of}
 use Rattle.mon_deck.specs.Isolation.{DecksAlike}
 

@@ -8,7 +8,7 @@ use Rattle.mon_access.specs.declared.account.Account.{Account}
 use Rattle.mon_access.specs.Accounts.{find_account}
 use Rattle.mon_command.specs.Commands.{account_of}
 use Rattle.mon_slots.specs.Marks.{Marks}
-use Rattle.mon_isolation.specs.Agreeing.{LooksAlike, Both}
+use Rattle.mon_monitor.specs.Agreeing.{LooksAlike, Both}
 use Rattle.mon_cards.specs.Decks.{Deck, Asked, Commands, Enters, Gives, Drains, Ending, Stopped, Refused}
 use Rattle.mon_cards.specs.Sections.{deck_of}
 use Rattle.mon_feed.specs.declared.options.Options.{Options}

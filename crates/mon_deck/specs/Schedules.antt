@@ -9,7 +9,8 @@ use Rattle.mon_job.specs.Printouts.{printout}
 use Rattle.mon_slots.specs.Marks.{Marks}
 use Rattle.mon_monitor.specs.Papers.{papers_text}
 use Rattle.mon_monitor.specs.Played.{Played}
-use Rattle.mon_isolation.specs.Schedules.{Independent, EndsAlone}
+use Rattle.mon_slots.specs.Ties.{Independent}
+use Rattle.mon_monitor.specs.Schedules.{EndsAlone}
 use Rattle.mon_cards.specs.declared.job.OpenJob.{OpenJob}
 use Rattle.mon_cards.specs.Decks.{Deck, Asked, Commands, Enters, Gives, Drains, Stopped}
 use Rattle.mon_cards.specs.Sections.{deck_of}
