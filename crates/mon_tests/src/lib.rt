@@ -15,3 +15,5 @@ mod device;
 mod guard;
 #[cfg(test)]
 mod monitor;
+#[cfg(test)]
+mod schedules;

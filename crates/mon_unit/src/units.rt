@@ -265,10 +265,12 @@ impl Units {
 fn first_target(unit: u64) -> Target
     ensures { result ≡ first_target unit }
 {
-    match unit {
-        5 => Target::Data,
-        6 => Target::Spool,
-        _ => Target::Untied,
+    if unit == 5 {
+        Target::Data
+    } else if unit == 6 {
+        Target::Spool
+    } else {
+        Target::Untied
     }
 }
 
@@ -283,7 +285,7 @@ fn meets(target: &Target, ties: &[Tie]) -> bool
 {
     match target {
         Target::Set(name) => is_tied_in(name, ties),
-        _ => false,
+        Target::Untied | Target::Data | Target::Spool => false,
     }
 }
 
@@ -298,6 +300,6 @@ fn is_set(name: &Name, target: &Target) -> bool
 {
     match target {
         Target::Set(other) => name == other,
-        _ => false,
+        Target::Untied | Target::Data | Target::Spool => false,
     }
 }
