@@ -1,5 +1,6 @@
 //! A job in a slot, and its turns.
-ghost use Rattle.std.specs.Prelude.{◌≡◌};
+ghost use Rattle.std.specs.Prelude.{◌≡◌, Some, None};
+ghost use Rattle.mon_slots.specs.Floors.{SlotState};
 ghost use Rattle.mon_slots.specs.Told.{slot_of, seat_of};
 ghost use Rattle.mon_slots.specs.Turns.{job_end};
 ghost use Rattle.mon_slots.specs.inner.Stepping.{Stepped, SeatTurn};
@@ -54,6 +55,19 @@ fn end_of(slot: Slot, ending: Ending) -> JobEnd
     }
 }
 
+// A job that has ended leaves its seat. It stays a call, since the room for what is left of it is cleared where a function
+// begins.
+#[inline(never)]
+fn leave(seat: &mut Option<Slot>, ending: Ending) -> Turned
+    ensures told { (slot : SlotState) → seat_of seat.old ≡ Some slot → result ≡ Turned.Ended (job_end slot ending) }
+    ensures empty { seat_of seat.new ≡ None }
+{
+    match mem::replace(seat, None) {
+        None => Turned::Empty,
+        Some(slot) => Turned::Ended(end_of(slot, ending)),
+    }
+}
+
 // One turn of what a slot holds.
 pub(crate) fn turn_at(
     alloc: Global,
@@ -69,9 +83,6 @@ pub(crate) fn turn_at(
     };
     match step {
         Step::Goes => Turned::Goes,
-        Step::Ended(ending) => match mem::replace(seat, None) {
-            None => Turned::Empty,
-            Some(slot) => Turned::Ended(end_of(slot, ending)),
-        },
+        Step::Ended(ending) => leave(seat, ending),
     }
 }
