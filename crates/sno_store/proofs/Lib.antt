@@ -1,5 +1,6 @@
 mod Looking
 pub mod Places
+pub mod Defining
 pub mod Changing
 pub mod Written
 pub mod Binding
