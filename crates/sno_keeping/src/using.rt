@@ -39,6 +39,7 @@ fn store_record(
 }
 
 /// Reads a record for a variable.
+#[inline(never)]
 #[tactic(auto, using(sno_talk::proofs::Held::talking))]
 fn read<S: Service>(
     alloc: Global,
@@ -68,6 +69,7 @@ fn read<S: Service>(
 /// # Errors
 ///
 /// Where a growth was refused, and the record may have been read then; or where as many share the value as can be counted.
+#[inline(always)]
 #[tactic(auto, using(sno_talk::proofs::Held::talking))]
 pub fn used<S: Service>(
     alloc: Global,
@@ -146,6 +148,7 @@ fn write_records<S: Service>(
 }
 
 /// Writes a value, which has to have a text.
+#[inline(never)]
 #[tactic(auto, using(sno_talk::proofs::Held::talking))]
 fn write_value<S: Service>(
     alloc: Global,
@@ -175,6 +178,7 @@ fn write_value<S: Service>(
 /// # Errors
 ///
 /// Where a growth was refused; some records may have been written then.
+#[inline(always)]
 #[tactic(auto, using(sno_talk::proofs::Held::talking))]
 pub fn assigned<S: Service>(
     alloc: Global,
