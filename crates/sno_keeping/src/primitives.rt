@@ -122,7 +122,6 @@ fn rewind<S: Service>(unit: &Value, state: &Store, service: &mut S) -> Result<Go
 }
 
 /// Calls a function on the state of the job.
-#[inline(never)]
 #[tactic(auto, using(sno_talk::proofs::Held::talking))]
 fn on_state<S: Service>(
     alloc: Global,

@@ -39,7 +39,6 @@ fn store_record(
 }
 
 /// Reads a record for a variable.
-#[inline(never)]
 #[tactic(auto, using(sno_talk::proofs::Held::talking))]
 fn read<S: Service>(
     alloc: Global,
@@ -69,7 +68,6 @@ fn read<S: Service>(
 /// # Errors
 ///
 /// Where a growth was refused, and the record may have been read then; or where as many share the value as can be counted.
-#[inline(always)]
 #[tactic(auto, using(sno_talk::proofs::Held::talking))]
 pub fn used<S: Service>(
     alloc: Global,
@@ -148,7 +146,6 @@ fn write_records<S: Service>(
 }
 
 /// Writes a value, which has to have a text.
-#[inline(never)]
 #[tactic(auto, using(sno_talk::proofs::Held::talking))]
 fn write_value<S: Service>(
     alloc: Global,
@@ -178,7 +175,6 @@ fn write_value<S: Service>(
 /// # Errors
 ///
 /// Where a growth was refused; some records may have been written then.
-#[inline(always)]
 #[tactic(auto, using(sno_talk::proofs::Held::talking))]
 pub fn assigned<S: Service>(
     alloc: Global,

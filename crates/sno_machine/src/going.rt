@@ -67,7 +67,6 @@ pub(crate) fn statement_of(labels: &Labels, label: &[u8]) -> Option<usize>
 /// # Errors
 ///
 /// Where a growth was refused.
-#[inline(never)]
 pub(crate) fn next_by(alloc: Global, labels: &Labels, got: Got) -> Result<Next, AllocError>
     ensures { IfOk result (λ next. next_seen next ≡ next_by labels.now got) }
 {

@@ -7,3 +7,4 @@ pub mod Binding
 pub mod Leaving
 mod Steps
 mod Restoring
+mod Nesting

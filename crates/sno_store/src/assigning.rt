@@ -14,7 +14,6 @@ use sno_text::{Named, Text};
 use sno_value::Value;
 
 /// The place of a name, which is told it.
-#[inline(never)]
 fn place_named(variables: &IndexMap<Text, Variable>, name: &Named) -> Option<usize>
     ensures { result ≡ position (pointwise nat_eq name.now) (keys_of variables.now.entries) }
 {
@@ -28,7 +27,6 @@ fn place_named(variables: &IndexMap<Text, Variable>, name: &Named) -> Option<usi
 }
 
 /// The place of a name, which is looked for at its hint first.
-#[inline(always)]
 pub(crate) fn place_of(variables: &IndexMap<Text, Variable>, name: &Named) -> Option<usize>
     requires { AreDistinct variables.now.entries }
     ensures { result ≡ position (pointwise nat_eq name.now) (keys_of variables.now.entries) }

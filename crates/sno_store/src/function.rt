@@ -47,7 +47,6 @@ impl Functions {
     }
 
     /// The function of a name, which is told its place.
-    #[inline(never)]
     fn get_named(&self, name: &Named) -> Option<&Function>
         ensures { option_copied result ≡ lookup (pointwise nat_eq name.now) self.now }
     {
@@ -77,7 +76,6 @@ impl Functions {
     }
 
     /// The function that was defined of a name. One that no program has to define is not looked for where none was.
-    #[inline(always)]
     #[tactic(auto, using(crate::proofs::Defining::none_defined))]
     pub fn get(&self, callee: &Callee) -> Option<&Function>
         ensures { option_copied result ≡ lookup (pointwise nat_eq callee.now) self.now }

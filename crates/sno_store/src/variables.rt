@@ -53,7 +53,6 @@ impl Variables {
     }
 
     /// The variable of a name, which is told its place.
-    #[inline(never)]
     fn find_named(&self, name: &Named) -> Option<&Variable>
         ensures { option_copied result ≡ lookup (pointwise nat_eq name.now) self.now }
     {
@@ -67,7 +66,6 @@ impl Variables {
     }
 
     /// The variable of a name, which is looked for at its place first.
-    #[inline(always)]
     fn find(&self, name: &Named) -> Option<&Variable>
         ensures { option_copied result ≡ lookup (pointwise nat_eq name.now) self.now }
     {
@@ -120,7 +118,6 @@ impl Variables {
         self.variables.get_index_mut(place)
     }
 
-    #[inline(never)]
     fn put(&mut self, name: &Named, variable: Variable) -> Result<(), AllocError>
         ensures put { OnOk result (self.new ≡ put name.now variable self.old) }
         ensures unchanged { OnErr result (self.new ≡ self.old) }
@@ -137,7 +134,6 @@ impl Variables {
     /// # Errors
     ///
     /// Where a growth was refused; nothing has changed then.
-    #[inline(always)]
     #[tactic(auto, using(crate::proofs::Changing::giving))]
     pub fn give(&mut self, name: &Named, value: Value) -> Result<Option<Output>, AllocError>
         ensures given { OnOk result (self.new ≡ given name.now value self.old) }
