@@ -18,4 +18,4 @@ pub use got::{Got, Halt, got_of};
 pub use instr::{Instr, Nest};
 pub use line::{Act, Line, Next, Point, Target, Variable, point_of};
 pub use loading::lines_of;
-pub use stack::{Item, Stack, stuck};
+pub use stack::{Item, Spare, Stack, stuck};

@@ -38,16 +38,17 @@ use Rattle.sno_store.specs.Keywords.{KeywordValues, keyword_named, with_keyword,
 use Rattle.sno_store.specs.States.{with_value, with_keywords, with_keyword_set, function_of, may_begin, with_statement}
 use Rattle.sno_store.specs.Calls as calls
 use Rattle.sno_keeping.specs.declared.limits.Limits.{Limits}
-use Rattle.sno_keeping.specs.declared.primitives.Change.{Change}
-use Rattle.sno_keeping.specs.declared.primitives.Change.TheVariants.{Define, Input as Reads, Output as Writes, Detach}
-use Rattle.sno_keeping.specs.declared.primitives.StateFunction.{StateFunction}
-use Rattle.sno_keeping.specs.declared.primitives.StateFunction.TheVariants.{Changes, Endfile, Rewind}
+use Rattle.sno_store.specs.declared.callee.Change.{Change}
+use Rattle.sno_store.specs.declared.callee.Change.TheVariants.{Define, Input as Reads, Output as Writes, Detach}
+use Rattle.sno_store.specs.declared.callee.StateFunction.{StateFunction}
+use Rattle.sno_store.specs.declared.callee.StateFunction.TheVariants.{Changes, Endfile, Rewind}
 use Rattle.sno_keeping.specs.Asking.{if_done, asked, changed_by}
 use Rattle.sno_keeping.specs.Keywords.{keyword_set_by, keyword_set}
 use Rattle.sno_keeping.specs.Using.{stored_of, used_by, used, write_all, write_text, written, assigned}
 use Rattle.sno_keeping.specs.Matching.{value_taken, found_by, given_by, looking, is_anchored, ended_by, matched}
 use Rattle.sno_keeping.specs.Calling.{begun, entered_by, entered, left}
-use Rattle.sno_keeping.specs.Primitives.{state_function_named, changed, on_unit, done, on_values, primitive_by, primitive}
+use Rattle.sno_store.specs.Callees.{state_function_named}
+use Rattle.sno_keeping.specs.Primitives.{changed, on_unit, done, on_values, primitive_by, primitive}
 use Rattle.sno_keeping.specs.State.{keeping, allowed}
 
 module _ (n : ℕ) where

@@ -1,6 +1,6 @@
 -- The functions that a program does not define: those on the state of the job, and those on values alone (the SNOBOL4 book,
 -- chapters 3 to 5).
-use Rattle.std.specs.Prelude.{ℕ, List, bytes_eq, codes, Option, Some, None, Result, Ok, Err, if◌then◌else◌}
+use Rattle.std.specs.Prelude.{ℕ, List, Option, Some, None, Result, Ok, Err}
 use Rattle.sno_talk.specs.Talks.{Ends}
 use Rattle.sno_ask.specs.Asking.{Asking}
 use Rattle.sno_ask.specs.declared.request.Act.{Act}
@@ -17,23 +17,14 @@ use Rattle.sno_code.specs.Outcomes.{got_of}
 use Rattle.sno_prototype.specs.Arguments.{unit_in}
 use Rattle.sno_store.specs.declared.store.Store.{Store as State}
 use Rattle.sno_store.specs.States.{with_function, with_input, with_output, without_associations}
-use Rattle.sno_keeping.specs.declared.primitives.Change.{Change}
-use Rattle.sno_keeping.specs.declared.primitives.Change.TheVariants.{Define, Input, Output, Detach}
-use Rattle.sno_keeping.specs.declared.primitives.StateFunction.{StateFunction}
-use Rattle.sno_keeping.specs.declared.primitives.StateFunction.TheVariants.{Changes, Endfile, Rewind}
+use Rattle.sno_store.specs.declared.callee.Change.{Change}
+use Rattle.sno_store.specs.declared.callee.Change.TheVariants.{Define, Input, Output, Detach}
+use Rattle.sno_store.specs.declared.callee.StateFunction.{StateFunction}
+use Rattle.sno_store.specs.declared.callee.StateFunction.TheVariants.{Changes, Endfile, Rewind}
+use Rattle.sno_store.specs.Callees.{state_function_named}
 use Rattle.sno_keeping.specs.Asking.{asked, changed_by}
 
 -- ON THE STATE OF THE JOB
-
-abbrev pub state_function_named : List ℕ → Option StateFunction
-state_function_named name =
-    if bytes_eq name (codes "DEFINE") then Some (Changes Define)
-    else if bytes_eq name (codes "INPUT") then Some (Changes Input)
-    else if bytes_eq name (codes "OUTPUT") then Some (Changes Output)
-    else if bytes_eq name (codes "DETACH") then Some (Changes Detach)
-    else if bytes_eq name (codes "ENDFILE") then Some Endfile
-    else if bytes_eq name (codes "REWIND") then Some Rewind
-    else None
 
 -- the state after a change, or a fault
 abbrev pub changed : Change → Value → Value → Value → State → Result State AFault

@@ -4,8 +4,8 @@ ghost use Rattle.sno_store.specs.States.{may_begin};
 ghost use Rattle.sno_keeping.specs.Calling.{begun, entered_by, entered};
 ghost use Rattle.sno_keeping.specs.inner.Answers.{Began, Comes};
 
-use sno_store::{Function, StatementNumber, Store};
-use sno_text::{Fault, Named, Text};
+use sno_store::{Callee, Function, StatementNumber, Store};
+use sno_text::{Fault, Text};
 use sno_value::Value;
 use std::alloc::{AllocError, Global};
 
@@ -60,7 +60,7 @@ fn enter_function(
 /// Where a growth was refused; nothing has changed then.
 pub fn enter(
     alloc: Global,
-    name: &Named,
+    name: &Callee,
     arguments: &[Value],
     state: &mut Store,
 ) -> Result<Entry, AllocError>

@@ -3,15 +3,15 @@ ghost use Rattle.std.specs.Prelude.{◌≡◌};
 ghost use Rattle.sno_keeping.specs.Keywords.{keyword, keyword_set};
 
 use sno_code::{Got, Halt};
-use sno_store::{Keyword, Store};
-use sno_text::{Fault, Text};
+use sno_store::{KeywordName, Store};
+use sno_text::Fault;
 use sno_value::{Outcome, Value};
 
 /// The value of the keyword of a name, or the fault `Keyword`. It takes no memory.
-pub fn keyword(name: &Text, state: &Store) -> Outcome
+pub fn keyword(name: &KeywordName, state: &Store) -> Outcome
     ensures { result ≡ keyword name.now state.now }
 {
-    match Keyword::named(name.as_bytes()) {
+    match name.keyword() {
         Some(keyword) => Outcome::Gives(Value::Integer(state.keyword(keyword))),
         None => Outcome::Faults(Fault::Keyword),
     }
@@ -21,11 +21,11 @@ pub fn keyword(name: &Text, state: &Store) -> Outcome
 ///
 /// There is the fault `Keyword` where a program may set none of that name, then `WrongType` where the value has no number,
 /// then `Keyword` where the number is out of range. Nothing has changed then.
-pub fn set_keyword(name: &Text, value: &Value, state: &mut Store) -> Got
+pub fn set_keyword(name: &KeywordName, value: &Value, state: &mut Store) -> Got
     ensures set { (result, state.new) ≡ keyword_set name.now value.now state.old }
     ensures counted { state.new.keywords.begun ≡ state.old.keywords.begun }
 {
-    match Keyword::named(name.as_bytes()) {
+    match name.keyword() {
         Some(keyword) => match state.set_keyword(keyword, value) {
             Ok(()) => Got::Gives(Value::null()),
             Err(fault) => Got::Halts(Halt::Fault(fault)),

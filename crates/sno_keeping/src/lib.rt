@@ -17,5 +17,5 @@ pub use calling::{Entry, MOST_CALLS, begin, enter};
 pub use keywords::{keyword, set_keyword};
 pub use limits::Limits;
 pub use matching::matched;
-pub use primitives::{Change, StateFunction, primitive};
+pub use primitives::primitive;
 pub use using::{assigned, used};

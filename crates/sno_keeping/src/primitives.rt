@@ -1,5 +1,5 @@
 //! The functions that a program does not define.
-ghost use Rattle.std.specs.Prelude.{◌≡◌, bytes_eq, IfOk, OnErr};
+ghost use Rattle.std.specs.Prelude.{◌≡◌, IfOk, OnErr};
 ghost use Rattle.mon_text.specs.Stops.{Gives};
 ghost use Rattle.sno_value.specs.Values.{null};
 ghost use Rattle.sno_value.specs.Primitives.{argument, primitive_named};
@@ -9,68 +9,16 @@ ghost use Rattle.sno_ask.specs.declared.request.Act.TheVariants.{Endfile as Endi
 ghost use Rattle.sno_talk.specs.Talks.{Ends};
 ghost use Rattle.sno_prototype.specs.Arguments.{unit_in};
 ghost use Rattle.sno_keeping.specs.Asking.{asked, changed_by};
-ghost use Rattle.sno_keeping.specs.Primitives.{state_function_named, changed, on_unit, done, on_values, primitive};
+ghost use Rattle.sno_keeping.specs.Primitives.{changed, on_unit, done, on_values, primitive};
 
 use mon_text::Stop;
 use sno_ask::{Act, Answer, Request, Service};
 use sno_code::{Got, Halt, got_of};
 use sno_prototype::unit_in;
-use sno_store::Store;
-use sno_text::{Fault, Named, Text};
-use sno_value::{Value, primitive_named};
+use sno_store::{Callee, Change, StateFunction, Store};
+use sno_text::Fault;
+use sno_value::Value;
 use std::alloc::{AllocError, Global};
-
-/// A function that changes the state of the job and asks nothing.
-#[derive(Clone, Copy)]
-pub enum Change {
-    /// DEFINE
-    Define,
-    /// INPUT
-    Input,
-    /// OUTPUT
-    Output,
-    /// DETACH
-    Detach,
-}
-
-/// A function on the state of the job or on its units.
-#[derive(Clone, Copy)]
-pub enum StateFunction {
-    Changes(Change),
-    /// ENDFILE
-    Endfile,
-    /// REWIND
-    Rewind,
-}
-
-fn is_word(name: &[u8], word: &[u8]) -> bool
-    ensures { result ≡ bytes_eq name.now word.now }
-{
-    name == word
-}
-
-impl StateFunction {
-    /// The function of a name. It takes no memory.
-    pub fn named(name: &[u8]) -> Option<StateFunction>
-        ensures { result ≡ state_function_named name.now }
-    {
-        if is_word(name, b"DEFINE") {
-            Some(StateFunction::Changes(Change::Define))
-        } else if is_word(name, b"INPUT") {
-            Some(StateFunction::Changes(Change::Input))
-        } else if is_word(name, b"OUTPUT") {
-            Some(StateFunction::Changes(Change::Output))
-        } else if is_word(name, b"DETACH") {
-            Some(StateFunction::Changes(Change::Detach))
-        } else if is_word(name, b"ENDFILE") {
-            Some(StateFunction::Endfile)
-        } else if is_word(name, b"REWIND") {
-            Some(StateFunction::Rewind)
-        } else {
-            None
-        }
-    }
-}
 
 /// The argument at a place, or what stands for one that is missing.
 fn argument<'a>(given: &'a [Value], at: usize, missing: &'a Value) -> &'a Value
@@ -211,13 +159,13 @@ fn on_state<S: Service>(
 /// Calls a function on values alone, if there is one of that name.
 fn on_values(
     alloc: Global,
-    name: &Text,
+    name: &Callee,
     arguments: &[Value],
     state: &Store,
 ) -> Result<Got, AllocError>
     ensures { IfOk result (λ got. Ends (got, state.now) ≡ on_values (primitive_named name.now) arguments.now state.now) }
 {
-    match primitive_named(name.as_bytes()) {
+    match name.primitive() {
         Some(primitive) => {
             let outcome = primitive.call(alloc, arguments, state.maximum_length())?;
             Ok(got_of(outcome))
@@ -235,7 +183,7 @@ fn on_values(
 #[tactic(auto, using(sno_talk::proofs::Held::talking, crate::proofs::Ending::ended_so))]
 pub fn primitive<S: Service>(
     alloc: Global,
-    name: &Named,
+    name: &Callee,
     arguments: &[Value],
     state: &mut Store,
     service: &mut S,
@@ -246,13 +194,13 @@ pub fn primitive<S: Service>(
     ensures counted { state.new.keywords.begun ≡ state.old.keywords.begun }
     ensures ready { S.ready service.new }
 {
-    match StateFunction::named(name.text().as_bytes()) {
+    match name.state_function() {
         Some(which) => match on_state(alloc, which, arguments, state, service) {
             Ok(got) => Ok(got),
             Err(e) => Err(e),
         },
         None => {
-            let got = on_values(alloc, name.text(), arguments, state)?;
+            let got = on_values(alloc, name, arguments, state)?;
             Ok(got)
         }
     }

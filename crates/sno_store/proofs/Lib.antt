@@ -1,8 +1,10 @@
 mod Looking
 pub mod Places
+pub mod Defining
 pub mod Changing
 pub mod Written
 pub mod Binding
 pub mod Leaving
 mod Steps
 mod Restoring
+mod Nesting

@@ -1,14 +1,17 @@
 -- Laws of the state.
-use Rattle.std.specs.Prelude.{◌≡◌, ℕ, nat_eq, true, false, List}
+use Rattle.std.specs.Prelude.{◌≡◌, ℕ, nat_eq, true, false, List, ◌∷◌, drop, Result, Ok, Err}
 use Rattle.std.specs.List.{list_any}
 use Rattle.std.specs.Cmp.Lexicographic.{pointwise}
 use Rattle.sno_value.specs.declared.value.Value.{Value}
+use Rattle.sno_text.specs.declared.fault.Fault.{Fault}
 use Rattle.sno_prototype.specs.Prototypes.{names_of}
 use Rattle.sno_store.specs.declared.variable.Variable.{Variable}
 use Rattle.sno_prototype.specs.declared.definition.Definition.{Definition}
 use Rattle.sno_store.specs.declared.store.Store.{Store as State}
 use Rattle.sno_store.specs.Variables.{Variables, variable_of, value_of, put, noted}
-use Rattle.sno_store.specs.Calls.{Bindings, assigned, entered, left}
+use Rattle.sno_store.specs.declared.keyword.Keyword.{Keyword}
+use Rattle.sno_store.specs.States.{with_value, with_name, with_statement, with_input, with_output, without_associations, with_function, with_keyword_set}
+use Rattle.sno_store.specs.Calls.{Bindings, assigned, level_of, entered, left}
 
 -- what was put is found
 abbrev pub PutIsFound : Type 0
@@ -41,3 +44,27 @@ abbrev pub CallLeavesOthers : Type 0
 CallLeavesOthers =
     (d : Definition) (arguments : List Value) (s t : State) (name : List ℕ) → t.levels ≡ (entered d arguments s).levels
     → list_any (pointwise nat_eq name) (names_of d.prototype) ≡ false → value_of name (left t).variables ≡ value_of name t.variables
+
+-- what is saved for the calls that are open is still the same, unless there is a fault
+abbrev pub KeepsLevels : State → Result State Fault → Type 0
+KeepsLevels s (Ok t) = t.levels ≡ s.levels
+KeepsLevels s (Err f) = Unit {0}
+
+-- nothing but calls and their ends changes what is saved
+abbrev pub LevelsStay : Type 0
+LevelsStay =
+    (s : State)
+    → ((name : List ℕ) (v : Value) → (with_value name v s).levels ≡ s.levels)
+    × ((name : List ℕ) → (with_name name s).levels ≡ s.levels)
+    × ((statement : ℕ) → (with_statement statement s).levels ≡ s.levels)
+    × ((name unit most : Value) → KeepsLevels s (with_input name unit most s))
+    × ((name unit format : Value) → KeepsLevels s (with_output name unit format s))
+    × ((name : Value) → KeepsLevels s (without_associations name s))
+    × ((prototype entry : Value) → KeepsLevels s (with_function prototype entry s))
+    × ((keyword : Keyword) (v : Value) → KeepsLevels s (with_keyword_set keyword v s))
+
+-- a call saves one level more, and its end takes that one away
+abbrev pub CallsNest : Type 0
+CallsNest =
+    ((d : Definition) (arguments : List Value) (s : State) → (entered d arguments s).levels ≡ level_of d s ∷ s.levels)
+    × ((s : State) → (left s).levels ≡ drop 1 s.levels)

@@ -1,6 +1,7 @@
 pub mod Variables
 pub mod First
 pub mod Keywords
+pub mod Callees
 pub mod States
 pub mod Calls
 pub mod Laws

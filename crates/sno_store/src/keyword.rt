@@ -3,7 +3,7 @@ ghost use Rattle.std.specs.Prelude.{◌≡◌, ◌<◌, ◌^◌, bytes_eq, if◌
 ghost use Rattle.sno_store.specs.Keywords.{first_keywords, keyword_named, read_keyword_named, keyword_value, with_keyword, with_statement_limit, with_maximum_length, is_settable, trims, begins, with_begun, at_statement};
 ghost use Rattle.sno_store.specs.inner.Answers.{Answers};
 
-use sno_text::Fault;
+use sno_text::{Fault, Text};
 use std::marker::Model;
 
 /// A keyword.
@@ -71,6 +71,41 @@ impl Keyword {
             self,
             Keyword::StatementCount | Keyword::StatementNumber | Keyword::FunctionLevel
         )
+    }
+}
+
+/// The name of a keyword. Which keyword that is is settled once, where the name is read.
+#[derive(Drop)]
+pub struct KeywordName {
+    name: Text,
+    keyword: Option<Keyword>,
+}
+
+impl Model for KeywordName {
+    ghost use Rattle.std.specs.Prelude.{◌≡◌, ℕ, List};
+    ghost use Rattle.sno_store.specs.Keywords.{keyword_named};
+
+    ghost Value = { List ℕ };
+
+    ghost view = { λ k. k.name };
+
+    ghost invariant = { λ k. k.keyword ≡ keyword_named k.name };
+}
+
+impl KeywordName {
+    /// The keyword of a name. It takes no memory.
+    pub fn new(name: Text) -> KeywordName
+        ensures { result ≡ name }
+    {
+        let keyword = Keyword::named(name.as_bytes());
+        KeywordName { name, keyword }
+    }
+
+    /// The keyword.
+    pub fn keyword(&self) -> Option<Keyword>
+        ensures { result ≡ keyword_named self.now }
+    {
+        self.keyword
     }
 }
 

@@ -1,5 +1,5 @@
 //! Laws of the state. Each is the contract of a function that does nothing.
-ghost use Rattle.sno_store.specs.Laws.{PutIsFound, OthersStay, NamingChangesNothing, AssociationsStay, CallRestores, CallLeavesOthers};
+ghost use Rattle.sno_store.specs.Laws.{PutIsFound, OthersStay, NamingChangesNothing, AssociationsStay, CallRestores, CallLeavesOthers, LevelsStay, CallsNest};
 
 /// What a variable is given is found in it.
 pub fn put_is_found()
@@ -29,4 +29,14 @@ pub fn call_restores()
 /// A call leaves the values of the other variables as they are at its end.
 pub fn call_leaves_others()
     ensures { CallLeavesOthers }
+{}
+
+/// What is saved for the calls that are open stays as it is, whatever else is done.
+pub fn levels_stay()
+    ensures { LevelsStay }
+{}
+
+/// A call saves one level more, and its end takes that one away: the levels below stay as they are.
+pub fn calls_nest()
+    ensures { CallsNest }
 {}

@@ -2,6 +2,7 @@
 #![tactic(auto)]
 
 mod assigning;
+pub mod callee;
 mod first;
 pub mod function;
 pub mod keyword;
@@ -11,7 +12,8 @@ pub mod store;
 pub mod variable;
 pub mod variables;
 
-pub use keyword::{Keyword, StatementNumber};
+pub use callee::{Callee, Change, StateFunction};
+pub use keyword::{Keyword, KeywordName, StatementNumber};
 pub use sno_prototype::Function;
 pub use store::Store;
 pub use variable::{Found, Variable};

@@ -7,6 +7,7 @@ ghost use Rattle.sno_store.specs.States.{first_state, with_value, with_name, kep
 ghost use Rattle.sno_store.specs.Calls.{level_of, entered, left, given_back};
 ghost use Rattle.sno_store.specs.inner.Answers.{Answers};
 
+use crate::callee::Callee;
 use crate::first::first_variables;
 use crate::function::Functions;
 use crate::keyword::{Keyword, Keywords, StatementNumber};
@@ -85,10 +86,10 @@ impl Store {
     }
 
     /// The function of a name. It takes no memory.
-    pub fn function(&self, name: &Named) -> Option<&Function>
-        ensures { option_copied result ≡ function_of name.now self.now }
+    pub fn function(&self, callee: &Callee) -> Option<&Function>
+        ensures { option_copied result ≡ function_of callee.now self.now }
     {
-        self.functions.get(name)
+        self.functions.get(callee)
     }
 
     /// What is kept of a record that is read: its first characters, without the blanks at the end of these where `&TRIM` is
