@@ -27,15 +27,16 @@ keyword_set s keyword v = by (is_settable keyword)
     by false = tt
 
 pub levels_stay : LevelsStay
-levels_stay s =
-    (λ name v. refl,
-    λ name. refl,
-    λ statement. refl,
-    λ name unit most. behind s (name_in name) _ (λ n. behind s (input_in unit most) _ (λ i. refl)),
-    λ name unit format. behind s (name_in name) _ (λ n. behind s (output_in unit format) _ (λ o. refl)),
-    λ name. behind s (name_in name) _ (λ n. refl),
-    λ prototype entry. behind s (definition_in prototype entry) _ (λ d. refl),
-    λ keyword v. keyword_set s keyword v)
+levels_stay s = (
+  λ name v. refl,
+  λ name. refl,
+  λ statement. refl,
+  λ name unit most. behind s (name_in name) _ (λ n. behind s (input_in unit most) _ (λ i. refl)),
+  λ name unit format. behind s (name_in name) _ (λ n. behind s (output_in unit format) _ (λ o. refl)),
+  λ name. behind s (name_in name) _ (λ n. refl),
+  λ prototype entry. behind s (definition_in prototype entry) _ (λ d. refl),
+  λ keyword v. keyword_set s keyword v,
+)
 
 fewer : (s : State) (levels : List Level) → s.levels ≡ levels → (left_by levels s).levels ≡ drop 1 levels
 fewer s [] h = h
