@@ -1,9 +1,9 @@
 //! Feeding a deck: each card's event happens when the card is complete.
-ghost use Rattle.std.specs.Prelude.{◌≡◌, ℕ, List, ◌+◌, ◌-◌, ◌<◌, ◌≤◌, ◌^◌, [], ◌∷◌, ◌++◌, Bool, true, false, None, length, position, take, Ok, Err, IfSome, IfOk, IfErr, OnOk, OnErr, IsTrue};
+ghost use Rattle.std.specs.Prelude.{◌≡◌, ℕ, List, ◌+◌, ◌-◌, ◌<◌, ◌≤◌, ◌^◌, [], ◌∷◌, ◌++◌, Bool, true, false, None, length, take, Ok, Err, IfSome, IfOk, IfErr, OnOk, OnErr, IsTrue};
 ghost use Rattle.std.specs.Str.Lines.{lines};
 ghost use Rattle.mon_catalogue.specs.Sets.{Sets};
 ghost use Rattle.mon_slots.specs.Marks.{Marks};
-ghost use Rattle.mon_text.specs.Feeding.{is_line_feed, taken_of};
+ghost use Rattle.mon_text.specs.Feeding.{taken_of};
 ghost use Rattle.mon_cards.specs.declared.code.Code.{Code as AnyCode};
 ghost use Rattle.mon_cards.specs.Sections.{deck_of};
 ghost use Rattle.mon_feed.specs.declared.options.Options.{Options as AnyOptions};
@@ -20,7 +20,7 @@ use crate::feed::DeckFeed;
 use crate::options::{Counts, Options};
 use crate::stage::{Stage, State};
 use mon_cards::Code;
-use mon_text::{LineFeed, Stop};
+use mon_text::{LineFeed, Stop, first_line_end};
 use std::alloc::Global;
 
 impl DeckFeed {
@@ -260,21 +260,13 @@ impl DeckFeed {
     }
 }
 
-// Where the first LF stands, if one does.
-fn first_end(piece: &[u8]) -> Option<usize>
-    ensures place { result ≡ position is_line_feed piece.now }
-    ensures within { IfSome result (λ place. place < length piece.now) }
-{
-    piece.iter().position(|byte| *byte == b'\n')
-}
-
 // How many bytes there are up to the first line end, and with it; all, where no line ends.
 fn to_line_end(piece: &[u8]) -> usize
     requires { 0 < length piece.now }
     ensures taken { result ≡ taken_of piece.now }
     ensures some { (0 < result) × (result ≤ length piece.now) }
 {
-    match first_end(piece) {
+    match first_line_end(piece) {
         Some(end) => end + 1,
         None => piece.len(),
     }

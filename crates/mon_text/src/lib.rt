@@ -14,6 +14,6 @@ mod words;
 pub use count::{BadNumber, put_number, read_count};
 pub use ended_line::EndedLine;
 pub use line::{Line, LineError, read_line, split_words};
-pub use line_feed::{LineFeed, MOST_KEPT_BYTES};
+pub use line_feed::{LineFeed, MOST_KEPT_BYTES, first_line_end};
 pub use name::{BadName, Name, read_name};
 pub use stop::Stop;
