@@ -135,9 +135,11 @@ fn last_index_of(fingerprints: &[u16; MOST_ENTRIES], fingerprint: u16) -> Option
     }
 }
 
-/// Where the entry of a type without names stands in each list that has one, but for that of the owning group.
+/// Where the entry of a type without names stands in each list that has one, but for that of the owning group; and that of a
+/// named user in a list with one such.
 fn likely_index(tag: Tag, count: usize) -> usize {
     match tag {
+        Tag::User => 1,
         Tag::Mask => count.saturating_sub(2),
         Tag::Other => count.saturating_sub(1),
         _ => 0,
