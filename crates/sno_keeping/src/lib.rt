@@ -4,14 +4,14 @@
 //! of it is told without the service: the definitions say what is asked, for whatever is answered.
 #![tactic(auto)]
 
-pub mod calling;
-pub mod host;
-pub mod keywords;
+mod calling;
+mod host;
+mod keywords;
 pub mod laws;
-pub mod limits;
-pub mod matching;
-pub mod primitives;
-pub mod using;
+mod limits;
+mod matching;
+mod primitives;
+mod using;
 
 pub use calling::{Entry, MOST_CALLS, begin, enter};
 pub use keywords::{keyword, set_keyword};

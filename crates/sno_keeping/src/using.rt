@@ -26,10 +26,10 @@ fn store_record(
     alloc: Global,
     name: &Named,
     input: Input,
-    line: &Line,
+    line: Line,
     state: &mut Store,
 ) -> Result<Got, AllocError>
-    ensures stored { IfOk result (λ got. (got, state.new) ≡ stored name.now (value.Text (kept_of input state.old.keywords line.now)) state.old) }
+    ensures stored { IfOk result (λ got. (got, state.new) ≡ stored name.now (value.Text (kept_of input state.old.keywords line)) state.old) }
     ensures counted { state.new.keywords.begun ≡ state.old.keywords.begun }
 {
     let text = state.kept(alloc, input, line)?;
@@ -58,7 +58,7 @@ fn read<S: Service>(
         act: Act::Read(input.unit),
     };
     match service.ask(&request)? {
-        Answer::Got(line) => store_record(alloc, name, input, &line, state),
+        Answer::Got(line) => store_record(alloc, name, input, line, state),
         _ => Ok(Got::Fails),
     }
 }

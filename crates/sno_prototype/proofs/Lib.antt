@@ -3,3 +3,4 @@ mod Identifiers
 mod Listing
 mod Apart
 mod Cutting
+mod Decimals

@@ -1,7 +1,8 @@
 //! The arguments of the primitive functions that change the state.
-ghost use Rattle.std.specs.Prelude.{◌≡◌};
+ghost use Rattle.std.specs.Prelude.{◌≡◌, IsSome, IsErrOf};
 ghost use Rattle.mon_text.specs.Stops.{Gives};
-ghost use Rattle.sno_prototype.specs.Arguments.{name_in, number_within, unit_in, unit_or, most_in, format_in, input_in, output_in};
+ghost use Rattle.sno_value.specs.Values.{text_of};
+ghost use Rattle.sno_prototype.specs.Arguments.{or_fault, name_in, number_within, unit_in, unit_or, most_in, format_by, format_in, input_in, output_in};
 
 use crate::association::{Input, Output};
 use crate::format::{Format, read_format};
@@ -10,23 +11,38 @@ use sno_text::{Fault, Text};
 use sno_value::Value;
 use std::alloc::Global;
 
-/// The variable that a value names.
+/// The text of a value.
+pub(crate) fn text_in(alloc: Global, value: &Value) -> Result<Text, Stop<Fault>>
+    ensures text { Gives (λ text. text) result (or_fault Fault.WrongType (text_of value.now)) }
+    ensures memory { IsErrOf result Stop.Memory → IsSome (text_of value.now) }
+{
+    match value {
+        Value::Text(text) => {
+            let text = text.copy()?;
+            Ok(text)
+        }
+        Value::Integer(number) => {
+            let text = Text::of_number(alloc, *number)?;
+            Ok(text)
+        }
+        Value::Pattern(_) | Value::Unevaluated(_) => Err(Stop::Refused(Fault::WrongType)),
+    }
+}
+
+/// The variable that a value names. A value that has no text takes no memory.
 ///
 /// # Errors
 ///
 /// `WrongType` where the value has no text, `Null` where it is the null string; `Memory` where a growth was refused.
 pub fn name_in(alloc: Global, value: &Value) -> Result<Text, Stop<Fault>>
-    ensures { Gives (λ name. name) result (name_in value.now) }
+    ensures name { Gives (λ name. name) result (name_in value.now) }
+    ensures memory { IsErrOf result Stop.Memory → IsSome (text_of value.now) }
 {
-    match value.to_text(alloc)? {
-        Some(name) => {
-            if name.is_null() {
-                Err(Stop::Refused(Fault::Null))
-            } else {
-                Ok(name)
-            }
-        }
-        None => Err(Stop::Refused(Fault::WrongType)),
+    let name = text_in(alloc, value)?;
+    if name.is_null() {
+        Err(Stop::Refused(Fault::Null))
+    } else {
+        Ok(name)
     }
 }
 
@@ -87,18 +103,26 @@ fn most_in(value: &Value) -> Result<u64, Fault>
     }
 }
 
-fn format_in(alloc: Global, value: &Value) -> Result<Format, Stop<Fault>>
-    ensures { Gives (λ format. format) result (format_in value.now) }
+/// The format that the text of a value is. That of a number is none.
+#[tactic(auto, using(crate::proofs::Decimals::no_format))]
+fn format_by(value: &Value) -> Option<Format>
+    ensures { result ≡ format_by (text_of value.now) }
+{
+    match value {
+        Value::Text(text) => read_format(text.as_bytes()),
+        Value::Integer(_) | Value::Pattern(_) | Value::Unevaluated(_) => None,
+    }
+}
+
+fn format_in(value: &Value) -> Result<Format, Fault>
+    ensures { result ≡ format_in value.now }
 {
     if value.is_null() {
         return Ok(Format::new(1024, false));
     }
-    match value.to_text(alloc)? {
-        Some(text) => match read_format(text.as_bytes()) {
-            Some(format) => Ok(format),
-            None => Err(Stop::Refused(Fault::Format)),
-        },
-        None => Err(Stop::Refused(Fault::Format)),
+    match format_by(value) {
+        Some(format) => Ok(format),
+        None => Err(Fault::Format),
     }
 }
 
@@ -119,20 +143,19 @@ pub fn input_in(unit: &Value, most: &Value) -> Result<Input, Fault>
     }
 }
 
-/// What OUTPUT associates a variable with.
+/// What OUTPUT associates a variable with. It takes no memory.
 ///
 /// # Errors
 ///
-/// `WrongType` or `BadUnit` for the unit, then `Format` for anything wrong with the format; `Memory` where a growth was
-/// refused.
-pub fn output_in(alloc: Global, unit: &Value, format: &Value) -> Result<Output, Stop<Fault>>
-    ensures { Gives (λ output. output) result (output_in unit.now format.now) }
+/// `WrongType` or `BadUnit` for the unit, then `Format` for anything wrong with the format.
+pub fn output_in(unit: &Value, format: &Value) -> Result<Output, Fault>
+    ensures { result ≡ output_in unit.now format.now }
 {
     match unit_or(6, unit) {
-        Ok(unit) => {
-            let format = format_in(alloc, format)?;
-            Ok(Output { unit, format })
-        }
-        Err(fault) => Err(Stop::Refused(fault)),
+        Ok(unit) => match format_in(format) {
+            Ok(format) => Ok(Output { unit, format }),
+            Err(fault) => Err(fault),
+        },
+        Err(fault) => Err(fault),
     }
 }

@@ -1,8 +1,10 @@
 //! Functions as DEFINE says them.
-ghost use Rattle.std.specs.Prelude.{◌≡◌, IfOk};
+ghost use Rattle.std.specs.Prelude.{◌≡◌, IfOk, IsSome, IsErrOf};
 ghost use Rattle.mon_text.specs.Stops.{Gives};
+ghost use Rattle.sno_value.specs.Values.{text_of};
 ghost use Rattle.sno_prototype.specs.Definitions.{prototype_in, entry_in, definition_in};
 
+use crate::argument::text_in;
 use crate::prototype::{Prototype, read_prototype};
 use mon_text::Stop;
 use sno_text::{Fault, Named, Text};
@@ -67,34 +69,29 @@ impl Function {
 }
 
 fn prototype_in(alloc: Global, value: &Value) -> Result<Prototype, Stop<Fault>>
-    ensures { Gives (λ prototype. prototype) result (prototype_in value.now) }
+    ensures prototype { Gives (λ prototype. prototype) result (prototype_in value.now) }
+    ensures memory { IsErrOf result Stop.Memory → IsSome (text_of value.now) }
 {
-    match value.to_text(alloc)? {
-        Some(text) => match read_prototype(alloc, text.as_bytes())? {
-            Some(prototype) => Ok(prototype),
-            None => Err(Stop::Refused(Fault::Prototype)),
-        },
-        None => Err(Stop::Refused(Fault::WrongType)),
+    let text = text_in(alloc, value)?;
+    match read_prototype(alloc, text.as_bytes())? {
+        Some(prototype) => Ok(prototype),
+        None => Err(Stop::Refused(Fault::Prototype)),
     }
 }
 
 fn entry_in(alloc: Global, name: &Named, value: &Value) -> Result<Text, Stop<Fault>>
     ensures { Gives (λ entry. entry) result (entry_in name.now value.now) }
 {
-    match value.to_text(alloc)? {
-        Some(text) => {
-            if text.is_null() {
-                let name = name.text().copy()?;
-                Ok(name)
-            } else {
-                Ok(text)
-            }
-        }
-        None => Err(Stop::Refused(Fault::WrongType)),
+    let text = text_in(alloc, value)?;
+    if text.is_null() {
+        let name = name.text().copy()?;
+        Ok(name)
+    } else {
+        Ok(text)
     }
 }
 
-/// What DEFINE says of a function.
+/// What DEFINE says of a function. A prototype that has no text takes no memory.
 ///
 /// # Errors
 ///
@@ -104,7 +101,8 @@ pub fn definition_in(
     prototype: &Value,
     entry: &Value,
 ) -> Result<Definition, Stop<Fault>>
-    ensures { Gives (λ definition. definition) result (definition_in prototype.now entry.now) }
+    ensures definition { Gives (λ definition. definition) result (definition_in prototype.now entry.now) }
+    ensures memory { IsErrOf result Stop.Memory → IsSome (text_of prototype.now) }
 {
     let prototype = prototype_in(alloc, prototype)?;
     let entry = entry_in(alloc, &prototype.name, entry)?;

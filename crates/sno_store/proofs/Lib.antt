@@ -2,6 +2,7 @@ mod Looking
 pub mod Places
 pub mod Defining
 pub mod Changing
+pub mod Growing
 pub mod Written
 pub mod Binding
 pub mod Leaving

@@ -4,5 +4,6 @@ pub mod Keywords
 pub mod Callees
 pub mod States
 pub mod Calls
+pub mod Memory
 pub mod Laws
 pub mod inner

@@ -77,7 +77,7 @@ fn read_input(alloc: Global, variables: &mut Variables) -> Result<(), AllocError
         unit: 5,
         most: 1024,
     };
-    variables.read_from(&name, input)
+    variables.read_from(name.text(), input)
 }
 
 fn write_to(
@@ -94,7 +94,7 @@ fn write_to(
 {
     let name = named(alloc, name)?;
     let format = Format::new(characters, false);
-    variables.write_to(&name, Output { unit, format })
+    variables.write_to(name.text(), Output { unit, format })
 }
 
 fn hold_patterns(alloc: Global, variables: &mut Variables) -> Result<(), AllocError>

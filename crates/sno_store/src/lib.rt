@@ -8,6 +8,7 @@ pub mod function;
 pub mod keyword;
 pub mod laws;
 pub mod level;
+mod naming;
 pub mod store;
 pub mod variable;
 pub mod variables;

@@ -1,10 +1,12 @@
 //! The state of a job.
-ghost use Rattle.std.specs.Prelude.{◌≡◌, ◌<◌, ◌^◌, false, length, IfOk, OnOk, OnErr, if◌then◌else◌};
+ghost use Rattle.std.specs.Prelude.{◌≡◌, ◌<◌, ◌^◌, false, length, IfOk, OnOk, OnErr, IsErrOf, IsSome, IsTrue, if◌then◌else◌};
 ghost use Rattle.std.specs.Option.{option_copied};
 ghost use Rattle.mon_text.specs.Stops.{Gives};
+ghost use Rattle.sno_value.specs.Values.{text_of};
 ghost use Rattle.sno_store.specs.Variables.{variable_of, value_of, use_of, seen, is_named};
 ghost use Rattle.sno_store.specs.States.{first_state, with_value, with_name, kept_of, with_input, with_output, without_associations, with_function, function_of, value_of_keyword, with_keyword_set, may_begin, with_statement};
 ghost use Rattle.sno_store.specs.Calls.{level_of, entered, left, given_back};
+ghost use Rattle.sno_store.specs.Memory.{may_grow};
 ghost use Rattle.sno_store.specs.inner.Answers.{Answers};
 
 use crate::callee::Callee;
@@ -12,12 +14,11 @@ use crate::first::first_variables;
 use crate::function::Functions;
 use crate::keyword::{Keyword, Keywords, StatementNumber};
 use crate::level::{Level, Levels};
+use crate::naming::name_of;
 use crate::variable::Found;
 use crate::variables::{Variables, copy_of};
 use mon_text::{Line, Stop};
-use sno_prototype::{
-    Definition, Function, Input, Output, definition_in, input_in, name_in, output_in,
-};
+use sno_prototype::{Definition, Function, Input, Output, definition_in, input_in, output_in};
 use sno_text::{Fault, Named, Text};
 use sno_value::Value;
 use std::alloc::{AllocError, Global};
@@ -99,16 +100,14 @@ impl Store {
     ///
     /// Where a growth was refused.
     #[tactic(auto, using(sno_text::proofs::Printable::line_of_take))]
-    pub fn kept(&self, alloc: Global, input: Input, line: &Line) -> Result<Text, AllocError>
-        ensures { IfOk result (λ text. text ≡ kept_of input self.now.keywords line.now) }
+    pub fn kept(&self, alloc: Global, input: Input, line: Line) -> Result<Text, AllocError>
+        ensures { IfOk result (λ text. text ≡ kept_of input self.now.keywords line) }
     {
-        let line = line.as_bytes();
-        let most = if line.len() as u64 <= input.most {
-            line.len()
+        let kept = if line.len() as u64 <= input.most {
+            Text::of_bytes(alloc, line.into_bytes())?
         } else {
-            input.most as usize
+            Text::of_slice(alloc, &line.as_bytes()[..input.most as usize])?
         };
-        let kept = Text::of_slice(alloc, &line[..most])?;
         if self.keywords.trims() {
             kept.trimmed(alloc)
         } else {
@@ -116,12 +115,14 @@ impl Store {
         }
     }
 
-    /// `INPUT(name, unit, most)`.
+    /// `INPUT(name, unit, most)`. A name that is a string takes no memory where the call is refused, nor where the variable
+    /// was named before.
     ///
     /// # Errors
     ///
     /// For the name `WrongType` or `Null`, then for the unit `WrongType` or `BadUnit`, then `Format`; `Memory` where a
     /// growth was refused. Nothing has changed then.
+    #[tactic(auto, using(crate::proofs::Growing::growing))]
     pub fn associate_input(
         &mut self,
         alloc: Global,
@@ -131,23 +132,26 @@ impl Store {
     ) -> Result<(), Stop<Fault>>
         ensures answered { Gives (λ _. self.new) result (with_input name.now unit.now most.now self.old) }
         ensures unchanged { OnErr result (self.new ≡ self.old) }
+        ensures memory { IsErrOf result Stop.Memory → IsTrue (may_grow name.now (with_input name.now unit.now most.now self.old) self.old) }
     {
-        let name = name_in(alloc, name)?;
+        let name = name_of(alloc, name)?;
         match input_in(unit, most) {
             Ok(input) => {
-                self.variables.read_from(&Named::new(name, 0), input)?;
+                self.variables.read_from(name.text(), input)?;
                 Ok(())
             }
             Err(fault) => Err(Stop::Refused(fault)),
         }
     }
 
-    /// `OUTPUT(name, unit, format)`.
+    /// `OUTPUT(name, unit, format)`. A name that is a string takes no memory where the call is refused, nor where the
+    /// variable was named before.
     ///
     /// # Errors
     ///
     /// For the name `WrongType` or `Null`, then for the unit `WrongType` or `BadUnit`, then `Format`; `Memory` where a
     /// growth was refused. Nothing has changed then.
+    #[tactic(auto, using(crate::proofs::Growing::growing))]
     pub fn associate_output(
         &mut self,
         alloc: Global,
@@ -157,33 +161,42 @@ impl Store {
     ) -> Result<(), Stop<Fault>>
         ensures answered { Gives (λ _. self.new) result (with_output name.now unit.now format.now self.old) }
         ensures unchanged { OnErr result (self.new ≡ self.old) }
+        ensures memory { IsErrOf result Stop.Memory → IsTrue (may_grow name.now (with_output name.now unit.now format.now self.old) self.old) }
     {
-        let name = name_in(alloc, name)?;
-        let output = output_in(alloc, unit, format)?;
-        self.variables.write_to(&Named::new(name, 0), output)?;
-        Ok(())
+        let name = name_of(alloc, name)?;
+        match output_in(unit, format) {
+            Ok(output) => {
+                self.variables.write_to(name.text(), output)?;
+                Ok(())
+            }
+            Err(fault) => Err(Stop::Refused(fault)),
+        }
     }
 
-    /// `DETACH(name)`: both associations of a variable are taken away.
+    /// `DETACH(name)`: both associations of a variable are taken away. A name that is a string takes no memory where the call
+    /// is refused, nor where the variable was named before.
     ///
     /// # Errors
     ///
     /// `WrongType` or `Null` for the name; `Memory` where a growth was refused. Nothing has changed then.
+    #[tactic(auto, using(crate::proofs::Growing::growing))]
     pub fn detach(&mut self, alloc: Global, name: &Value) -> Result<(), Stop<Fault>>
         ensures answered { Gives (λ _. self.new) result (without_associations name.now self.old) }
         ensures unchanged { OnErr result (self.new ≡ self.old) }
+        ensures memory { IsErrOf result Stop.Memory → IsTrue (may_grow name.now (without_associations name.now self.old) self.old) }
     {
-        let name = name_in(alloc, name)?;
-        self.variables.detach(&Named::new(name, 0))?;
+        let name = name_of(alloc, name)?;
+        self.variables.detach(name.text())?;
         Ok(())
     }
 
-    /// `DEFINE(prototype, entry)`.
+    /// `DEFINE(prototype, entry)`. A prototype that has no text takes no memory.
     ///
     /// # Errors
     ///
     /// `WrongType` or `Prototype` for the prototype, then `WrongType` for the entry; `Memory` where a growth was refused.
     /// Nothing has changed then.
+    #[tactic(auto, using(crate::proofs::Growing::growing))]
     pub fn define(
         &mut self,
         alloc: Global,
@@ -192,6 +205,7 @@ impl Store {
     ) -> Result<(), Stop<Fault>>
         ensures answered { Gives (λ _. self.new) result (with_function prototype.now entry.now self.old) }
         ensures unchanged { OnErr result (self.new ≡ self.old) }
+        ensures memory { IsErrOf result Stop.Memory → IsSome (text_of prototype.now) }
     {
         let definition = definition_in(alloc, prototype, entry)?;
         let name = definition.prototype.name.text().copy()?;

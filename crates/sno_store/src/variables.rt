@@ -118,11 +118,21 @@ impl Variables {
         self.variables.get_index_mut(place)
     }
 
-    fn put(&mut self, name: &Named, variable: Variable) -> Result<(), AllocError>
+    /// The same by a text, which tells no place. It takes no memory.
+    #[tactic(auto, using(crate::proofs::Places::lending))]
+    fn named_mut(&mut self, name: &Text) -> Option<&mut Variable>
+        ensures* lends { sem 𝓛 (LendsVariable self.entry name.now result) }
+        ensures found { option_copied_mut result ≡ lookup (pointwise nat_eq name.now) self.old }
+    {
+        let place = self.variables.get_index_of(name)?;
+        self.variables.get_index_mut(place)
+    }
+
+    fn put(&mut self, name: &Text, variable: Variable) -> Result<(), AllocError>
         ensures put { OnOk result (self.new ≡ put name.now variable self.old) }
         ensures unchanged { OnErr result (self.new ≡ self.old) }
     {
-        let name = name.text().copy()?;
+        let name = name.copy()?;
         match self.variables.insert(name, variable) {
             Ok(_) => Ok(()),
             Err(_) => Err(AllocError),
@@ -145,7 +155,7 @@ impl Variables {
             variable.value = value;
             return Ok(variable.output);
         }
-        self.put(name, Variable::holding(value))?;
+        self.put(name.text(), Variable::holding(value))?;
         Ok(None)
     }
 
@@ -155,12 +165,12 @@ impl Variables {
     ///
     /// Where a growth was refused; nothing has changed then.
     #[tactic(auto, using(crate::proofs::Changing::associating))]
-    pub fn read_from(&mut self, name: &Named, input: Input) -> Result<(), AllocError>
+    pub fn read_from(&mut self, name: &Text, input: Input) -> Result<(), AllocError>
         ensures reading { OnOk result (self.new ≡ reading name.now input self.old) }
         ensures unchanged { OnErr result (self.new ≡ self.old) }
         ensures memory { OnErr result (is_named name.now self.old ≡ false) }
     {
-        if let Some(variable) = self.find_mut(name) {
+        if let Some(variable) = self.named_mut(name) {
             variable.input = Some(input);
             return Ok(());
         }
@@ -178,12 +188,12 @@ impl Variables {
     ///
     /// Where a growth was refused; nothing has changed then.
     #[tactic(auto, using(crate::proofs::Changing::associating))]
-    pub fn write_to(&mut self, name: &Named, output: Output) -> Result<(), AllocError>
+    pub fn write_to(&mut self, name: &Text, output: Output) -> Result<(), AllocError>
         ensures writing { OnOk result (self.new ≡ writing name.now output self.old) }
         ensures unchanged { OnErr result (self.new ≡ self.old) }
         ensures memory { OnErr result (is_named name.now self.old ≡ false) }
     {
-        if let Some(variable) = self.find_mut(name) {
+        if let Some(variable) = self.named_mut(name) {
             variable.output = Some(output);
             return Ok(());
         }
@@ -201,12 +211,12 @@ impl Variables {
     ///
     /// Where a growth was refused; nothing has changed then.
     #[tactic(auto, using(crate::proofs::Changing::associating))]
-    pub fn detach(&mut self, name: &Named) -> Result<(), AllocError>
+    pub fn detach(&mut self, name: &Text) -> Result<(), AllocError>
         ensures detached { OnOk result (self.new ≡ detached name.now self.old) }
         ensures unchanged { OnErr result (self.new ≡ self.old) }
         ensures memory { OnErr result (is_named name.now self.old ≡ false) }
     {
-        if let Some(variable) = self.find_mut(name) {
+        if let Some(variable) = self.named_mut(name) {
             variable.input = None;
             variable.output = None;
             return Ok(());
@@ -230,7 +240,7 @@ impl Variables {
             return Ok(Named::new(name, place));
         }
         let named = Named::new(name, self.variables.len());
-        self.put(&named, Variable::holding(Value::null()))?;
+        self.put(named.text(), Variable::holding(Value::null()))?;
         Ok(named)
     }
 
