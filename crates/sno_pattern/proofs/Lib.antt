@@ -6,6 +6,7 @@ mod Examples
 pub mod Finding
 pub mod Firsts
 pub mod Missing
+pub mod Passing
 pub mod Pushing
 pub mod Reaches
 pub mod Run

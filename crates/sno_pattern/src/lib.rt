@@ -12,6 +12,7 @@ mod reach;
 mod rows;
 mod running;
 mod starting;
+mod straight;
 mod taking;
 
 pub use ending::{Assignments, MatchEnd, Pending};

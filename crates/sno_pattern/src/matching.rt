@@ -15,6 +15,7 @@ use crate::goals::Waiting;
 use crate::host::MatchHost;
 use crate::running::run;
 use crate::starting::{Start, skip_starts};
+use crate::straight::go_straight;
 use crate::taking::part_of;
 use sno_nodes::{Node, Pat};
 use sno_text::Text;
@@ -52,6 +53,7 @@ fn assignments_of(alloc: Global, text: &[u8], waiting: &Waiting) -> Result<Assig
 }
 
 /// Matches a text from one start after the other.
+#[inline(never)]
 fn matches_from<H: MatchHost>(
     alloc: Global,
     pattern: &Rc<Node>,
@@ -94,7 +96,8 @@ fn matches_from<H: MatchHost>(
     Ok(MatchEnd::NoMatch)
 }
 
-/// Matches a text. Where each start is missed at once, no memory is taken.
+/// Matches a text. Where each start is missed at once, no memory is taken; where the first that is not goes straight on, only
+/// that of the assignments.
 fn matches_in<H: MatchHost>(
     alloc: Global,
     pattern: &Rc<Node>,
@@ -116,8 +119,16 @@ fn matches_in<H: MatchHost>(
     if first == starts {
         return Ok(MatchEnd::NoMatch);
     }
-    match matches_from(alloc, pattern, text, first, starts, left, host) {
-        Ok(end) => Ok(end),
+    match go_straight(alloc, text, node, first, left) {
+        Ok(Some(found)) => Ok(MatchEnd::Matched {
+            from: first,
+            to: found.end,
+            pending: Assignments::of_list(found.pending),
+        }),
+        Ok(None) => match matches_from(alloc, pattern, text, first, starts, left, host) {
+            Ok(end) => Ok(end),
+            Err(e) => Err(e),
+        },
         Err(e) => Err(e),
     }
 }

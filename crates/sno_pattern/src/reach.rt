@@ -28,12 +28,23 @@ fn stands_first(rest: &[u8], part: &[u8]) -> bool
     }
 }
 
+/// Whether a character is one of the set. Most sets have one character alone.
+#[inline(always)]
+fn is_one_of(characters: &[u8], character: u8) -> bool
+    ensures { result ≡ is_one_of characters.now character }
+{
+    match characters {
+        [only] => *only == character,
+        _ => characters.contains(&character),
+    }
+}
+
 /// Whether a character of the set comes first.
 fn begins_with_one_of(rest: &[u8], characters: &[u8]) -> bool
     ensures { result ≡ begins_with (is_one_of characters.now) rest.now }
 {
     match rest.first() {
-        Some(first) => characters.contains(first),
+        Some(first) => is_one_of(characters, *first),
         None => false,
     }
 }
@@ -43,7 +54,7 @@ fn begins_with_another(rest: &[u8], characters: &[u8]) -> bool
     ensures { result ≡ begins_with (λ x. not (is_one_of characters.now x)) rest.now }
 {
     match rest.first() {
-        Some(first) => !characters.contains(first),
+        Some(first) => !is_one_of(characters, *first),
         None => false,
     }
 }
@@ -54,7 +65,7 @@ fn run_of(rest: &[u8], characters: &[u8]) -> usize
     ensures within { result ≤ length rest.now }
 {
     let mut count = 0;
-    while count < rest.len() && characters.contains(&rest[count]) {
+    while count < rest.len() && is_one_of(characters, rest[count]) {
         count += 1;
     }
     count
@@ -66,7 +77,7 @@ fn gap_before(rest: &[u8], characters: &[u8]) -> usize
     ensures within { result ≤ length rest.now }
 {
     let mut count = 0;
-    while count < rest.len() && !characters.contains(&rest[count]) {
+    while count < rest.len() && !is_one_of(characters, rest[count]) {
         count += 1;
     }
     count

@@ -1,7 +1,9 @@
 use Rattle.std.proofs.Common.{◌≡◌, ◌+◌, length, refl, sym, ◌∙◌, subst}
 use Rattle.std.specs.Prelude.{if◌then◌else◌}
 use Rattle.sno_talk.specs.Talks.{Talk}
-use Rattle.sno_talk.specs.Holding.{Held, Cut}
+use Rattle.sno_talk.specs.Holding.{Held}
+use Rattle.sno_talk.proofs.Held.{cut_here}
+use Rattle.sno_pattern.specs.Steps.{match_of}
 use Rattle.sno_nodes.specs.Nodes.{pattern_of}
 use Rattle.sno_pattern.specs.declared.ending.MatchEnd.{MatchEnd}
 use Rattle.sno_pattern.specs.declared.ending.MatchEnd.TheVariants.{NoMatch}
@@ -19,18 +21,6 @@ returns-then-first-starts-clause-held g c =
     let none = no_start text p c.if-anchored.starts c.skip_starts-first.result c.skip_starts-first.new.left c.if-first-starts.true in
     subst (λ (z : Talk Look Told MatchEnd). Held g.H.MatchHost.tells Fits z c.args.host.now NoMatch c.args.host.now) (sym (whole ∙ none)) (refl, refl)
 
-pub returns-in-Ok-clause-held : goal.returns-in-Ok-clause-held
-returns-in-Ok-clause-held g c =
-    let text = c.args.text.now in
-    let p = pattern_of c.args.pattern.now.value in
-    let all : (if c.args.anchored then 1 else (length text + 1)) ≡ c.if-anchored.starts = elim c.if-anchored.branch [ then-anchored w ↦ rw w.if-anchored.true (sym w.starts-is) | else-anchored w ↦ rw w.if-anchored.false (sym w.starts-is) ] in
-    let whole = match_is text p c.args.anchored c.args.limit c.if-anchored.starts c.skip_starts-first.result c.skip_starts-first.new.left all (rw c.deref-node.ensures at c.skip_starts-first.ensures.same) in
-    subst (λ (z : Talk Look Told MatchEnd). Held g.H.MatchHost.tells Fits z c.args.host.now c.in-Ok.end c.matches_from.new.host) (sym whole) c.in-Ok.ensures.held
-
 pub returns-in-Err-clause-cut : goal.returns-in-Err-clause-cut
 returns-in-Err-clause-cut g c =
-    let text = c.args.text.now in
-    let p = pattern_of c.args.pattern.now.value in
-    let all : (if c.args.anchored then 1 else (length text + 1)) ≡ c.if-anchored.starts = elim c.if-anchored.branch [ then-anchored w ↦ rw w.if-anchored.true (sym w.starts-is) | else-anchored w ↦ rw w.if-anchored.false (sym w.starts-is) ] in
-    let whole = match_is text p c.args.anchored c.args.limit c.if-anchored.starts c.skip_starts-first.result c.skip_starts-first.new.left all (rw c.deref-node.ensures at c.skip_starts-first.ensures.same) in
-    subst (λ (z : Talk Look Told MatchEnd). Cut g.H.MatchHost.tells Fits g.H.MatchHost.broken z c.args.host.now c.matches_from.new.host) (sym whole) c.in-Err.ensures.cut
+    cut_here g.H.MatchHost.tells Fits g.H.MatchHost.broken (match_of c.args.text.now (pattern_of c.args.pattern.now.value) c.args.anchored c.args.limit) c.args.host.now
