@@ -9,6 +9,7 @@ mod joining;
 pub mod loaded;
 mod machine;
 mod moving;
+mod quick;
 mod resting;
 
 pub use loaded::Loaded;
