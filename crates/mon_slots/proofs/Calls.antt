@@ -1,6 +1,7 @@
 -- What the calls do is what the definitions say.
 use Rattle.std.proofs.Common.{◌≡◌, ℕ, zero, suc, ◌+◌, ◌-◌, ◌<◌, ◌≤◌, Bool, true, List, [], ◌∷◌, length, Option, Some, None, refl, ap, sym, ◌∙◌, subst, inl, inr, arith}
-use Rattle.std.specs.Prelude.{◌⊎◌, ◌&&◌, min, option_map, is_some, is_none, IsSome, slice_get, slice_set}
+use Rattle.std.specs.Prelude.{◌⊎◌, ◌&&◌, min, option_map, is_some, is_none, IsSome, IfSome, slice_get, slice_set, slice_index_or}
+use Rattle.std.proofs.lemmas.Option.{slice_get_read}
 use Rattle.sno_talk.specs.Exchanges.{Answered}
 use Rattle.sno_ask.specs.Asking.{Exchange}
 use Rattle.sno_run.specs.declared.ending.Step.{Step}
@@ -25,8 +26,8 @@ use Rattle.mon_slots.specs.Floors.{SlotState, Floor, floor, seated, seat_at, wit
 use Rattle.mon_slots.specs.Turns.{reached, after_turn, job_end, seat, told, turned}
 use Rattle.mon_slots.specs.Marks.{Mark, counted, may_break, broken_by, ran_as, turn_as_by, turn_as}
 use Rattle.mon_slots.specs.Turning.{TurnOr, ended_in}
-use Rattle.mon_slots.specs.inner.Stepping.{BrokenOff, Stepped, SeatTurn, one_in, jobs_in}
-use Rattle.mon_slots.proofs.Seats.{set_length, set_get, map_get, map_set, map_length}
+use Rattle.mon_slots.specs.inner.Stepping.{BrokenOff, Stepped, SeatStep, Leaving, StepOr, one_in, jobs_in}
+use Rattle.mon_slots.proofs.Seats.{set_length, set_get, get_set, set_set, map_get, map_set, map_length}
 
 -- a statement may begin where a turn is broken off
 pub may_break_is : (job : Job) → job.ended ≡ None → MayBegin job → may_break job ≡ true
@@ -104,24 +105,35 @@ module _ (s : ℕ) (sets sets' : Sets) (slots : List (Option SlotState)) (slot s
 pub empty_turn : (s : ℕ) (w : Floor) → job_in s w ≡ None → TurnOr s w Empty w
 empty_turn s w none = record { mark = None; is = ap (λ (o : Option SlotState). turn_as_by None s o w) none }
 
+-- a job that had a turn in its place
+in_place : (i : ℕ) (sets sets' : Sets) (slots : List (Option SlotState)) (slot slot' : SlotState) → slice_get slots i ≡ Some (Some slot) → (st : Step)
+    → Stepped slot sets st slot' sets' → StepOr (suc i) (floor sets slots) (Some st) (floor sets' (slice_set slots i (Some slot')))
+in_place i sets sets' slots slot slot' is step.Goes h = stepped_turn (suc i) sets sets' slots slot slot' (ap seated is) step.Goes h
+in_place i sets sets' slots slot slot' is (step.Ended e) h = record {
+  slot = slot';
+  there = ap seated (get_set slots i (Some slot) (Some slot') is);
+  turn = subst (λ (l : List (Option SlotState)). TurnOr (suc i) (floor sets slots) (Ended (job_end slot' e)) (floor sets' l)) (sym (set_set slots i (Some slot') None))
+      (stepped_turn (suc i) sets sets' slots slot slot' (ap seated is) (step.Ended e) h);
+}
+
 -- a turn of the seat in its place
-seat_by : (i : ℕ) (sets sets' : Sets) (slots : List (Option SlotState)) (o seat' : Option SlotState) (t : Turned) → slice_get slots i ≡ Some o
-    → SeatTurn o sets t seat' sets' → TurnOr (suc i) (floor sets slots) t (floor sets' (slice_set slots i seat'))
-seat_by i sets sets' slots None seat' t is h =
+step_by : (i : ℕ) (sets sets' : Sets) (slots : List (Option SlotState)) (o seat' : Option SlotState) (r : Option Step) → slice_get slots i ≡ Some o
+    → SeatStep o sets r seat' sets' → StepOr (suc i) (floor sets slots) r (floor sets' (slice_set slots i seat'))
+step_by i sets sets' slots None seat' r is h =
     let same : slice_set slots i seat' ≡ slots = ap (slice_set slots i) h.1 ∙ set_get slots i None is in
     let one = empty_turn (suc i) (floor sets slots) (ap seated is) in
-    subst (λ (u : Turned). TurnOr (suc i) (floor sets slots) u (floor sets' (slice_set slots i seat'))) (sym h.0)
+    subst (λ (u : Option Step). StepOr (suc i) (floor sets slots) u (floor sets' (slice_set slots i seat'))) (sym h.0)
     (subst (λ (l : List (Option SlotState)). TurnOr (suc i) (floor sets slots) Empty (floor sets' l)) (sym same)
     (subst (λ (v : Sets). TurnOr (suc i) (floor sets slots) Empty (floor v slots)) (sym h.2) one))
-seat_by i sets sets' slots (Some slot) seat' t is h =
-    let one = stepped_turn (suc i) sets sets' slots slot h.after (ap seated is) h.step h.stepped in
-    subst (λ (u : Turned). TurnOr (suc i) (floor sets slots) u (floor sets' (slice_set slots i seat'))) (sym h.tells)
-    (subst (λ (o : Option SlotState). TurnOr (suc i) (floor sets slots) (told h.step h.after) (floor sets' (slice_set slots i o))) (sym h.leaves) one)
+step_by i sets sets' slots (Some slot) seat' r is h =
+    let one = in_place i sets sets' slots slot h.after is h.step h.stepped in
+    subst (λ (u : Option Step). StepOr (suc i) (floor sets slots) u (floor sets' (slice_set slots i seat'))) (sym h.tells)
+    (subst (λ (o : Option SlotState). StepOr (suc i) (floor sets slots) (Some h.step) (floor sets' (slice_set slots i o))) (sym h.stays) one)
 
-pub seat_turn : (i s : ℕ) (sets sets' : Sets) (slots : List (Option SlotState)) (o seat' : Option SlotState) (t : Turned) → s ≡ suc i → slice_get slots i ≡ Some o
-    → SeatTurn o sets t seat' sets' → TurnOr s (floor sets slots) t (floor sets' (slice_set slots i seat'))
-seat_turn i s sets sets' slots o seat' t e is h =
-    subst (λ (n : ℕ). TurnOr n (floor sets slots) t (floor sets' (slice_set slots i seat'))) (sym e) (seat_by i sets sets' slots o seat' t is h)
+seat_step : (i s : ℕ) (sets sets' : Sets) (slots : List (Option SlotState)) (o seat' : Option SlotState) (r : Option Step) → s ≡ suc i → slice_get slots i ≡ Some o
+    → SeatStep o sets r seat' sets' → StepOr s (floor sets slots) r (floor sets' (slice_set slots i seat'))
+seat_step i s sets sets' slots o seat' r e is h =
+    subst (λ (n : ℕ). StepOr n (floor sets slots) r (floor sets' (slice_set slots i seat'))) (sym e) (step_by i sets sets' slots o seat' r is h)
 
 -- how many jobs there are
 set_jobs : (slots : List (Option SlotState)) (i : ℕ) (slot : SlotState) (o : Option SlotState) → seated (slice_get slots i) ≡ Some slot
@@ -162,34 +174,71 @@ jobs_few (None ∷ slots) = let k = jobs_few slots in omega (arith, k)
 jobs_few (Some x ∷ slots) = let k = jobs_few slots in omega (arith, k)
 
 -- a turn of what a slot holds
-pub seat_none : (o o' : Option Slot) (sets : Sets) → o ≡ None → o' ≡ None → SeatTurn (seat_of o) sets Empty (seat_of o') sets
+pub seat_none : (o o' : Option Slot) (sets : Sets) → o ≡ None → o' ≡ None → SeatStep (seat_of o) sets None (seat_of o') sets
 seat_none None o' sets h g = (refl, ap seat_of g, refl)
 seat_none (Some x) o' sets h g = absurd cc
 
-pub seat_went : (o o' : Option Slot) (slot slot' : Slot) (st : Step) (sets sets' : Sets) (t : Turned) → o ≡ Some slot
-    → Stepped (slot_of slot) sets st (slot_of slot') sets' → t ≡ told st (slot_of slot') → seat_of o' ≡ seat st (slot_of slot')
-    → SeatTurn (seat_of o) sets t (seat_of o') sets'
-seat_went o o' slot slot' st sets sets' t is h tells leaves =
-    subst (λ (x : Option Slot). SeatTurn (seat_of x) sets t (seat_of o') sets') (sym is)
-    (record { step = st; after = slot_of slot'; stepped = h; tells = tells; leaves = leaves })
-
-pub went_on : (o o' : Option Slot) (slot slot' : Slot) (st : Step) (sets sets' : Sets) → o ≡ Some slot
-    → Stepped (slot_of slot) sets st (slot_of slot') sets' → st ≡ step.Goes → o' ≡ Some slot' → SeatTurn (seat_of o) sets Goes (seat_of o') sets'
-went_on o o' slot slot' st sets sets' is h goes after =
-    seat_went o o' slot slot' st sets sets' Goes is h (ap (λ (k : Step). told k (slot_of slot')) (sym goes)) (ap seat_of after ∙ ap (λ (k : Step). seat k (slot_of slot')) (sym goes))
-
-pub went_out : (o o' : Option Slot) (slot slot' : Slot) (st : Step) (e : Ending) (end : JobEnd) (sets sets' : Sets) → o ≡ Some slot
-    → Stepped (slot_of slot) sets st (slot_of slot') sets' → st ≡ step.Ended e → end ≡ job_end (slot_of slot') e → o' ≡ None → SeatTurn (seat_of o) sets (Ended end) (seat_of o') sets'
-went_out o o' slot slot' st e end sets sets' is h ended over after =
-    seat_went o o' slot slot' st sets sets' (Ended end) is h (ap (λ (x : JobEnd). Ended x) over ∙ ap (λ (k : Step). told k (slot_of slot')) (sym ended))
-    (ap seat_of after ∙ ap (λ (k : Step). seat k (slot_of slot')) (sym ended))
+pub seat_went : (o o' : Option Slot) (slot slot' : Slot) (st : Step) (sets sets' : Sets) → o ≡ Some slot → Stepped (slot_of slot) sets st (slot_of slot') sets'
+    → o' ≡ Some slot' → SeatStep (seat_of o) sets (Some st) (seat_of o') sets'
+seat_went o o' slot slot' st sets sets' is h after =
+    subst (λ (x : Option Slot). SeatStep (seat_of x) sets (Some st) (seat_of o') sets') (sym is)
+    (record { step = st; after = slot_of slot'; stepped = h; tells = refl; stays = ap seat_of after })
 
 -- the slots of the program
-pub slots_turn : (i s : ℕ) (sets sets' : Sets) (slots : List (Option Slot)) (o o' : Option Slot) (t : Turned) → s ≡ suc i → slice_get slots i ≡ Some o
-    → SeatTurn (seat_of o) sets t (seat_of o') sets' → TurnOr s (floor sets (seats_of slots)) t (floor sets' (seats_of (slice_set slots i o')))
-slots_turn i s sets sets' slots o o' t e is h =
-    subst (λ (l : List (Option SlotState)). TurnOr s (floor sets (seats_of slots)) t (floor sets' l)) (sym (map_set seat_of slots i o'))
-    (seat_turn i s sets sets' (seats_of slots) (seat_of o) (seat_of o') t e (map_get seat_of slots i ∙ ap (option_map seat_of) is) h)
+pub slots_step : (i s : ℕ) (sets sets' : Sets) (slots : List (Option Slot)) (o o' : Option Slot) (r : Option Step) → s ≡ suc i → slice_get slots i ≡ Some o
+    → SeatStep (seat_of o) sets r (seat_of o') sets' → StepOr s (floor sets (seats_of slots)) r (floor sets' (seats_of (slice_set slots i o')))
+slots_step i s sets sets' slots o o' r e is h =
+    subst (λ (l : List (Option SlotState)). StepOr s (floor sets (seats_of slots)) r (floor sets' l)) (sym (map_set seat_of slots i o'))
+    (seat_step i s sets sets' (seats_of slots) (seat_of o) (seat_of o') r e (map_get seat_of slots i ∙ ap (option_map seat_of) is) h)
 
 pub seats_length : (slots : List (Option Slot)) (i : ℕ) (o : Option Slot) → length (seats_of (slice_set slots i o)) ≡ length (seats_of slots)
 seats_length slots i o = map_length seat_of (slice_set slots i o) ∙ set_length slots i o ∙ sym (map_length seat_of slots)
+
+-- the seat of a slot of the program, once its index is known
+pub record Found (s i : ℕ) (slots : List (Option Slot)) (o : Option Slot) : Type 0 where
+  pub number : s ≡ suc i
+  pub is : slice_get slots i ≡ Some o
+
+pub found : (s i : ℕ) (slots : List (Option Slot)) (o : Option Slot) (r : Option ℕ) → r ≡ Some i → IfSome r (λ n. (s ≡ n + 1) × (n < length slots))
+    → o ≡ slice_index_or slots i o → Found s i slots o
+found s i slots o None e h value = absurd cc
+found s i slots o (Some n) e h value =
+    let same : n ≡ i = cc (e) in
+    let at = subst (λ (k : ℕ). (s ≡ k + 1) × (k < length slots)) same h in
+    let number = at.0 in
+    record { number = omega (arith, number); is = slice_get_read slots (length slots) i o refl at.1 value }
+
+pub some_seat : (o : Option Slot) → is_some o ≡ is_some (seat_of o)
+some_seat None = refl
+some_seat (Some x) = refl
+
+pub some_in : (o : Option Slot) → IsSome (seat_of o) → IsSome o
+some_in None h = absurd cc
+some_in (Some x) h = refl
+
+pub seat_is : (i s : ℕ) (slots : List (Option Slot)) (o : Option Slot) → s ≡ suc i → slice_get slots i ≡ Some o → seat_at s (seats_of slots) ≡ seat_of o
+seat_is i s slots o e is = ap (λ (n : ℕ). seat_at n (seats_of slots)) e ∙ ap seated (map_get seat_of slots i ∙ ap (option_map seat_of) is)
+
+pub seat_emptied : (i s : ℕ) (slots : List (Option Slot)) (o : Option Slot) → s ≡ suc i → seat_of o ≡ None → seats_of (slice_set slots i o) ≡ with_seat s None (seats_of slots)
+seat_emptied i s slots o e none =
+    map_set seat_of slots i o ∙ ap (slice_set (seats_of slots) i) none ∙ ap (λ (n : ℕ). with_seat n None (seats_of slots)) (sym e)
+
+-- a step by what it tells
+pub went_on : (s : ℕ) (w w' : Floor) (r : Option Step) (st : Step) → r ≡ Some st → st ≡ step.Goes → StepOr s w r w' → TurnOr s w Goes w'
+went_on s w w' r st is goes h =
+    subst (λ (o : Option Step). StepOr s w o w') (is ∙ ap (λ (k : Step). let o : Option Step = Some k in o) goes) h
+
+pub leaving : (s : ℕ) (w w' : Floor) (r : Option Step) (st : Step) (e : Ending) → r ≡ Some st → st ≡ step.Ended e → StepOr s w r w' → Leaving s w e w'
+leaving s w w' r st e is ended h =
+    subst (λ (o : Option Step). StepOr s w o w') (is ∙ ap (λ (k : Step). let o : Option Step = Some k in o) ended) h
+
+-- a step, and then the job that has ended leaves
+pub stepped_out : (s : ℕ) (w v : Floor) (e : Ending) (x : JobEnd) (slots' : List (Option SlotState)) (h : Leaving s w e v) → x ≡ job_end h.slot e
+    → slots' ≡ with_seat s None v.slots → TurnOr s w (Ended x) (floor v.sets slots')
+stepped_out s w v e x slots' h is after =
+    subst (λ (l : List (Option SlotState)). TurnOr s w (Ended x) (floor v.sets l)) (sym after)
+    (subst (λ (y : JobEnd). TurnOr s w (Ended y) (floor v.sets (with_seat s None v.slots))) (sym is) h.turn)
+
+-- its seat was one of those with a job
+pub leaving_jobs : (s : ℕ) (w v : Floor) (e : Ending) → Leaving s w e v → suc (jobs_in (with_seat s None v.slots)) ≡ jobs_in w.slots
+leaving_jobs s w v e h = let k = turn_jobs s w (floor v.sets (with_seat s None v.slots)) (Ended (job_end h.slot e)) h.turn in omega (arith, k)

@@ -1,6 +1,6 @@
 -- Seats that are looked at after one was changed.
-use Rattle.std.proofs.Common.{◌≡◌, ℕ, zero, suc, true, List, [], ◌∷◌, length, Option, Some, None, refl, ap}
-use Rattle.std.specs.Prelude.{replicate, map, option_map, slice_get, slice_set, is_some, is_none}
+use Rattle.std.proofs.Common.{◌≡◌, ℕ, zero, suc, Bool, true, false, List, [], ◌∷◌, length, Option, Some, None, refl, ap}
+use Rattle.std.specs.Prelude.{replicate, map, option_map, slice_get, slice_set, is_some, is_none, IsSome}
 use Rattle.std.specs.List.{list_any, list_all}
 use Rattle.mon_slots.specs.declared.slot.Slot.{Slot}
 use Rattle.mon_slots.specs.Floors.{SlotState, seated, seat_at, with_seat, all_empty, free_from, first_free}
@@ -15,6 +15,16 @@ pub set_get : {A : Type 0} (xs : List A) (i : ℕ) (v : A) → slice_get xs i �
 set_get [] i v h = refl
 set_get (x ∷ xs) zero v h = cc (h)
 set_get {A} (x ∷ xs) (suc i) v h = ap (λ (ys : List A). x ∷ ys) (set_get xs i v h)
+
+pub get_set : {A : Type 0} (xs : List A) (i : ℕ) (u v : A) → slice_get xs i ≡ Some u → slice_get (slice_set xs i v) i ≡ Some v
+get_set [] i u v h = absurd cc
+get_set (x ∷ xs) zero u v h = refl
+get_set (x ∷ xs) (suc i) u v h = get_set xs i u v h
+
+pub set_set : {A : Type 0} (xs : List A) (i : ℕ) (u v : A) → slice_set (slice_set xs i u) i v ≡ slice_set xs i v
+set_set [] i u v = refl
+set_set (x ∷ xs) zero u v = refl
+set_set {A} (x ∷ xs) (suc i) u v = ap (λ (ys : List A). x ∷ ys) (set_set xs i u v)
 
 pub map_get : {A B : Type 0} (f : A → B) (xs : List A) (i : ℕ) → slice_get (map f xs) i ≡ option_map f (slice_get xs i)
 map_get f [] i = refl
@@ -44,6 +54,13 @@ none_seated (Some x ∷ slots) h i = absurd cc
 pub none_at : (slots : List (Option SlotState)) → all_empty slots ≡ true → (s : ℕ) → seat_at s slots ≡ None
 none_at slots h zero = refl
 none_at slots h (suc i) = none_seated slots h i
+
+pub seated_not_done : (s : ℕ) (slots : List (Option SlotState)) → IsSome (seat_at s slots) → all_empty slots ≡ false
+seated_not_done s slots h = by (all_empty slots) refl
+  where
+    by : (b : Bool) → all_empty slots ≡ b → b ≡ false
+    by false e = refl
+    by true e = absurd (let none = none_at slots e s in cc (h, none))
 
 pub none_of : (slots : List (Option Slot)) → list_all (λ seat. is_none seat) slots ≡ all_empty (seats_of slots)
 none_of [] = refl

@@ -1,18 +1,18 @@
 //! Turns in an order, and rounds of turns.
-ghost use Rattle.std.specs.Prelude.{◌≡◌, ◌≤◌, ◌+◌, ◌++◌, [], length, vec_len, vec_capacity, IfOk, OnErr};
+ghost use Rattle.std.specs.Prelude.{◌≡◌, ℕ, ◌≤◌, ◌+◌, ◌++◌, [], ◌∷◌, length, vec_len, vec_capacity, Some, None, IsSome, IfOk, OnErr};
 ghost use Rattle.mon_catalogue.specs.Sets.{Sets};
 ghost use Rattle.mon_slots.specs.Told.{slots_in};
-ghost use Rattle.mon_slots.specs.Floors.{floor};
-ghost use Rattle.mon_slots.specs.Turning.{MarkedIs, RoundsAre, DrainIs, RoomIs, ended_in, end_in};
-ghost use Rattle.mon_slots.specs.Turns.{only};
+ghost use Rattle.mon_slots.specs.Floors.{SlotState, floor, seat_at, with_seat};
+ghost use Rattle.mon_slots.specs.Turning.{MarkedIs, RoundsAre, DrainIs, RoomIs, end_in};
+ghost use Rattle.mon_slots.specs.Turns.{job_end, only};
 ghost use Rattle.mon_slots.specs.inner.Stepping.{jobs_in};
-ghost use Rattle.mon_slots.specs.inner.Rounding.{RoundTo, Unless, stop_of};
+ghost use Rattle.mon_slots.specs.inner.Rounding.{RoundTo, OneTurn, Unless, stop_of};
 
 use crate::slots::Slots;
-use crate::turned::Turned;
 use mon_catalogue::Catalogue;
 use mon_guard::Guard;
 use mon_job::JobEnd;
+use sno_run::{Ending, Step};
 use std::alloc::{AllocError, Global};
 
 /// Where rounds of turns stop.
@@ -33,22 +33,54 @@ impl Goal {
             Goal::Room => slots.has_room(),
         }
     }
-}
 
-// Keeps the job that a turn has ended, if it has.
-fn keep_end(ends: &mut Vec<JobEnd>, turned: Turned)
-    requires { vec_len ends.old + length (ended_in turned) ≤ vec_capacity ends.old }
-    ensures items { ends.new.items ≡ ends.old.items ++ ended_in turned }
-    ensures len { vec_len ends.new ≡ vec_len ends.old + length (ended_in turned) }
-    ensures room { vec_capacity ends.old ≤ vec_capacity ends.new }
-{
-    match turned {
-        Turned::Ended(end) => ends.push(end).unwrap(),
-        Turned::Goes | Turned::Empty => (),
+    // Whether it is met where some slot has a job.
+    fn is_met_beside_a_job(self, slots: &Slots) -> bool
+        ensures { (sets : Sets) (s : ℕ) → IsSome (seat_at s (slots_in slots.now)) → result ≡ stop_of self (floor sets (slots_in slots.now)) }
+    {
+        match self {
+            Goal::Empty => false,
+            Goal::Room => slots.has_room(),
+        }
     }
 }
 
 impl Slots {
+    // Takes a job out of its slot that has ended, and keeps what is left of it. It stays a call, as `take_out` does.
+    #[inline(never)]
+    fn keep_end(&mut self, slot: u8, ending: Ending, ends: &mut Vec<JobEnd>)
+        requires job { IsSome (seat_at slot (slots_in self.old)) }
+        requires room { vec_len ends.old + 1 ≤ vec_capacity ends.old }
+        ensures items { (job : SlotState) → seat_at slot (slots_in self.old) ≡ Some job → ends.new.items ≡ ends.old.items ++ job_end job ending ∷ [] }
+        ensures len { vec_len ends.new ≡ vec_len ends.old + 1 }
+        ensures room { vec_capacity ends.old ≤ vec_capacity ends.new }
+        ensures slots { slots_in self.new ≡ with_seat slot None (slots_in self.old) }
+    {
+        let end = self.take_out(slot, ending);
+        ends.push(end).unwrap();
+    }
+
+    // One turn of the job in a slot. Where it ends, what is left of it is kept.
+    fn turn_into(
+        &mut self,
+        alloc: Global,
+        guard: &mut Guard,
+        catalogue: &mut Catalogue,
+        slot: u8,
+        ends: &mut Vec<JobEnd>,
+    )
+        requires room { vec_len ends.old + jobs_in (slots_in self.old) ≤ vec_capacity ends.old }
+        ensures turn { OneTurn slot (floor catalogue.old (slots_in self.old)) ends.old.items ends.new.items (floor catalogue.new (slots_in self.new)) }
+        ensures room { vec_len ends.new + jobs_in (slots_in self.new) ≤ vec_capacity ends.new }
+        ensures size { length (slots_in self.new) ≡ length (slots_in self.old) }
+    {
+        match self.step(alloc, guard, catalogue, slot) {
+            None => (),
+            Some(Step::Goes) => (),
+            Some(Step::Ended(ending)) => self.keep_end(slot, ending, ends),
+        }
+    }
+
     /// Turns of the jobs in these slots, in this order, and the jobs that ended.
     ///
     /// # Errors
@@ -68,8 +100,7 @@ impl Slots {
     {
         let mut ends = Vec::with_capacity(alloc, self.len())?;
         for number in order {
-            let turned = self.turn(alloc, guard, catalogue, *number);
-            keep_end(&mut ends, turned);
+            self.turn_into(alloc, guard, catalogue, *number, &mut ends);
         }
         Ok(ends)
     }
@@ -89,16 +120,16 @@ impl Slots {
         ensures size { length (slots_in self.new) ≡ length (slots_in self.old) }
     {
         for _ in 0..count {
-            match self.turn(alloc, guard, catalogue, slot) {
-                Turned::Empty => return None,
-                Turned::Goes => (),
-                Turned::Ended(end) => return Some(end),
+            match self.step(alloc, guard, catalogue, slot) {
+                None => return None,
+                Some(Step::Goes) => (),
+                Some(Step::Ended(ending)) => return Some(self.take_out(slot, ending)),
             }
         }
         None
     }
 
-    // A turn of the job in a slot, unless the goal is met.
+    // A turn of the job in a slot, unless the goal is met. A slot that is empty is passed, whether it is met or not.
     fn turn_unless(
         &mut self,
         alloc: Global,
@@ -113,9 +144,8 @@ impl Slots {
         ensures room { vec_len ends.new + jobs_in (slots_in self.new) ≤ vec_capacity ends.new }
         ensures size { length (slots_in self.new) ≡ length (slots_in self.old) }
     {
-        if !goal.is_met(self) {
-            let turned = self.turn(alloc, guard, catalogue, slot);
-            keep_end(ends, turned);
+        if self.has_job(slot) && !goal.is_met_beside_a_job(self) {
+            self.turn_into(alloc, guard, catalogue, slot, ends);
         }
     }
 

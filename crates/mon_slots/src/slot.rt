@@ -1,11 +1,10 @@
 //! A job in a slot, and its turns.
-ghost use Rattle.std.specs.Prelude.{◌≡◌, Some, None};
+ghost use Rattle.std.specs.Prelude.{◌≡◌, Some, None, IsSome};
 ghost use Rattle.mon_slots.specs.Floors.{SlotState};
 ghost use Rattle.mon_slots.specs.Told.{slot_of, seat_of};
 ghost use Rattle.mon_slots.specs.Turns.{job_end};
-ghost use Rattle.mon_slots.specs.inner.Stepping.{Stepped, SeatTurn};
+ghost use Rattle.mon_slots.specs.inner.Stepping.{Stepped, SeatStep};
 
-use crate::turned::Turned;
 use mon_access::Account;
 use mon_catalogue::Catalogue;
 use mon_guard::Guard;
@@ -25,6 +24,7 @@ pub struct Slot {
 }
 
 // One turn of the job in a slot.
+#[inline(always)]
 fn turn_of(alloc: Global, guard: &mut Guard, catalogue: &mut Catalogue, slot: &mut Slot) -> Step
     ensures { Stepped (slot_of slot.old) catalogue.old result (slot_of slot.new) catalogue.new }
 {
@@ -55,34 +55,28 @@ fn end_of(slot: Slot, ending: Ending) -> JobEnd
     }
 }
 
-// A job that has ended leaves its seat. It stays a call, since the room for what is left of it is cleared where a function
-// begins.
-#[inline(never)]
-fn leave(seat: &mut Option<Slot>, ending: Ending) -> Turned
-    ensures told { (slot : SlotState) → seat_of seat.old ≡ Some slot → result ≡ Turned.Ended (job_end slot ending) }
+// A job that has ended leaves its seat.
+pub(crate) fn leave(seat: &mut Option<Slot>, ending: Ending) -> JobEnd
+    requires { IsSome seat.old }
+    ensures end { (slot : SlotState) → seat_of seat.old ≡ Some slot → result ≡ job_end slot ending }
     ensures empty { seat_of seat.new ≡ None }
 {
-    match mem::replace(seat, None) {
-        None => Turned::Empty,
-        Some(slot) => Turned::Ended(end_of(slot, ending)),
-    }
+    let slot = mem::replace(seat, None).unwrap();
+    end_of(slot, ending)
 }
 
-// One turn of what a slot holds.
-pub(crate) fn turn_at(
+// One turn of what a slot holds, if it holds a job. One that has ended stays in its seat until it leaves.
+#[inline(always)]
+pub(crate) fn step_at(
     alloc: Global,
     guard: &mut Guard,
     catalogue: &mut Catalogue,
     seat: &mut Option<Slot>,
-) -> Turned
-    ensures { SeatTurn (seat_of seat.old) catalogue.old result (seat_of seat.new) catalogue.new }
+) -> Option<Step>
+    ensures { SeatStep (seat_of seat.old) catalogue.old result (seat_of seat.new) catalogue.new }
 {
-    let step = match seat {
-        None => return Turned::Empty,
-        Some(slot) => turn_of(alloc, guard, catalogue, slot),
-    };
-    match step {
-        Step::Goes => Turned::Goes,
-        Step::Ended(ending) => leave(seat, ending),
+    match seat {
+        None => None,
+        Some(slot) => Some(turn_of(alloc, guard, catalogue, slot)),
     }
 }

@@ -1,16 +1,17 @@
 //! Slots.
-ghost use Rattle.std.specs.Prelude.{◌≡◌, ◌≤◌, ◌↔◌, IsTrue, length, None, Ok, Err, IfOk, IfErr, OnErr, position, is_some, is_none, replicate};
+ghost use Rattle.std.specs.Prelude.{◌≡◌, ◌<◌, ◌≤◌, ◌+◌, ◌↔◌, IsTrue, length, Some, None, Ok, Err, IfOk, IfErr, OnErr, IsSome, IfSome, position, is_some, is_none, replicate};
 ghost use Rattle.std.specs.List.{list_any, list_all};
 
 use crate::loading::slot_for;
 use crate::sharing::are_apart;
-use crate::slot::{Slot, turn_at};
+use crate::slot::{Slot, leave, step_at};
 use crate::turned::Turned;
 use mon_access::Accounts;
 use mon_catalogue::Catalogue;
 use mon_guard::Guard;
-use mon_job::{JobDeck, LoadError};
+use mon_job::{JobDeck, JobEnd, LoadError};
 use mon_text::Stop;
+use sno_run::{Ending, Step};
 use std::alloc::{AllocError, Global};
 
 /// One to eight slots, each with a job or none.
@@ -29,8 +30,10 @@ impl Slots {
     ghost use Rattle.mon_slots.specs.Ties.{Independent};
     ghost use Rattle.mon_slots.specs.Loads.{loaded};
     ghost use Rattle.sno_cards.specs.Answers.{IfRefused};
-    ghost use Rattle.mon_slots.specs.Floors.{floor, all_empty, first_free};
+    ghost use Rattle.mon_slots.specs.Floors.{SlotState, floor, seat_at, with_seat, all_empty, first_free};
+    ghost use Rattle.mon_slots.specs.Turns.{job_end};
     ghost use Rattle.mon_slots.specs.Turning.{TurnOr};
+    ghost use Rattle.mon_slots.specs.inner.Stepping.{StepOr};
 
     /// So many empty slots.
     ///
@@ -103,6 +106,60 @@ impl Slots {
         Ok(index as u8 + 1)
     }
 
+    // The index of a slot, if there is one of this number.
+    fn index_of(&self, slot: u8) -> Option<usize>
+        ensures index { IfSome result (λ index. (slot ≡ index + 1) × (index < length self.now.items.items)) }
+        ensures none { result ≡ None → seat_at slot (slots_in self.now) ≡ None }
+    {
+        let index = slot.checked_sub(1)? as usize;
+        if index < self.items.len() {
+            Some(index)
+        } else {
+            None
+        }
+    }
+
+    // Whether there is a job in a slot.
+    pub(crate) fn has_job(&self, slot: u8) -> bool
+        ensures { result ≡ is_some (seat_at slot (slots_in self.now)) }
+    {
+        match self.index_of(slot) {
+            None => false,
+            Some(index) => self.items[index].is_some(),
+        }
+    }
+
+    // One turn of the job in a slot, if there is one. A job that has ended stays in its slot until it is taken out, so that
+    // no turn but the last moves what is left of it.
+    #[inline(always)]
+    pub(crate) fn step(
+        &mut self,
+        alloc: Global,
+        guard: &mut Guard,
+        catalogue: &mut Catalogue,
+        slot: u8,
+    ) -> Option<Step>
+        ensures step { StepOr slot (floor catalogue.old (slots_in self.old)) result (floor catalogue.new (slots_in self.new)) }
+        ensures size { length (slots_in self.new) ≡ length (slots_in self.old) }
+    {
+        match self.index_of(slot) {
+            None => None,
+            Some(index) => step_at(alloc, guard, catalogue, &mut self.items[index]),
+        }
+    }
+
+    // Takes a job out of its slot that has ended. It stays a call, since the room for what is left of a job is cleared where
+    // a function begins.
+    #[inline(never)]
+    pub(crate) fn take_out(&mut self, slot: u8, ending: Ending) -> JobEnd
+        requires { IsSome (seat_at slot (slots_in self.old)) }
+        ensures end { (job : SlotState) → seat_at slot (slots_in self.old) ≡ Some job → result ≡ job_end job ending }
+        ensures slots { slots_in self.new ≡ with_seat slot None (slots_in self.old) }
+    {
+        let index = self.index_of(slot).unwrap();
+        leave(&mut self.items[index], ending)
+    }
+
     /// One turn of the job in a slot. Slots are counted from 1; one that there isn't is empty.
     pub fn turn(
         &mut self,
@@ -114,14 +171,11 @@ impl Slots {
         ensures turn { TurnOr slot (floor catalogue.old (slots_in self.old)) result (floor catalogue.new (slots_in self.new)) }
         ensures size { length (slots_in self.new) ≡ length (slots_in self.old) }
     {
-        let index = match slot.checked_sub(1) {
-            Some(before) => before as usize,
-            None => return Turned::Empty,
-        };
-        if index >= self.items.len() {
-            return Turned::Empty;
+        match self.step(alloc, guard, catalogue, slot) {
+            None => Turned::Empty,
+            Some(Step::Goes) => Turned::Goes,
+            Some(Step::Ended(ending)) => Turned::Ended(self.take_out(slot, ending)),
         }
-        turn_at(alloc, guard, catalogue, &mut self.items[index])
     }
 }
 

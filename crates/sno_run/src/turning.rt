@@ -87,6 +87,7 @@ fn settled(program: &Loaded, next: Next, state: &Store) -> Turned
 }
 
 // A turn at a point.
+#[inline(always)]
 #[tactic(auto, using(sno_talk::proofs::Held::talking))]
 fn turn_at<S: Service>(
     alloc: Global,
@@ -168,6 +169,7 @@ impl Job {
 /// Gives a job a turn: one statement with all calls in it. A job that has ended answers its ending again, and asks nothing.
 ///
 /// After `Memory` what was asked stands, and the job has ended. Memory is taken by a statement that has begun alone.
+#[inline(always)]
 #[tactic(auto, using(sno_talk::proofs::Held::talking))]
 pub fn statement_turn<S: Service>(alloc: Global, job: &mut Job, service: &mut S) -> Step
     requires { S.ready service.old }

@@ -3,15 +3,16 @@ use Rattle.std.specs.Prelude.{◌≡◌, ◌⊎◌, ◌<◌, ◌≤◌, true, �
 use Rattle.mon_catalogue.specs.Sets.{Sets}
 use Rattle.sno_run.specs.declared.ending.Step.{Step}
 use Rattle.sno_run.specs.declared.ending.Step.TheVariants as step
+use Rattle.sno_run.specs.declared.ending.Ending.{Ending}
 use Rattle.sno_run.specs.declared.ending.Ending.TheVariants.{Memory}
 use Rattle.sno_run.specs.Jobs.{turn_of, statements_begun}
 use Rattle.mon_unit.specs.Runs.{run_cut}
 use Rattle.mon_unit.specs.Serving.{serve}
-use Rattle.mon_slots.specs.declared.turned.Turned.{Turned}
-use Rattle.mon_slots.specs.declared.turned.Turned.TheVariants.{Empty}
-use Rattle.mon_slots.specs.Floors.{SlotState}
-use Rattle.mon_slots.specs.Turns.{reached, ran, seat, told}
+use Rattle.mon_slots.specs.declared.turned.Turned.TheVariants.{Empty, Goes, Ended}
+use Rattle.mon_slots.specs.Floors.{SlotState, Floor, floor, job_in, with_seat}
+use Rattle.mon_slots.specs.Turns.{reached, ran, job_end}
 use Rattle.mon_slots.specs.Marks.{may_break}
+use Rattle.mon_slots.specs.Turning.{TurnOr}
 
 -- the turn was broken off after some exchanges, which stand, in a statement that had begun
 pub record BrokenOff (slot : SlotState) (sets : Sets) (s : Step) (slot' : SlotState) (sets' : Sets) : Type 0 where
@@ -27,18 +28,30 @@ pub record Stepped (slot : SlotState) (sets : Sets) (s : Step) (slot' : SlotStat
   pub account : slot'.account ≡ slot.account
   pub is : (ran slot sets ≡ ((s, slot'.job), reached sets' slot')) ⊎ BrokenOff slot sets s slot' sets'
 
--- what is told of it, and what the seat holds then
-pub record Sat (slot : SlotState) (sets : Sets) (t : Turned) (seat' : Option SlotState) (sets' : Sets) : Type 0 where
+-- the step is told, and the job stays in its seat
+pub record Stays (slot : SlotState) (sets : Sets) (r : Option Step) (seat' : Option SlotState) (sets' : Sets) : Type 0 where
   pub step : Step
   pub after : SlotState
   pub stepped : Stepped slot sets step after sets'
-  pub tells : t ≡ told step after
-  pub leaves : seat' ≡ seat step after
+  pub tells : r ≡ Some step
+  pub stays : seat' ≡ Some after
 
--- a turn of a seat
-abbrev pub SeatTurn : Option SlotState → Sets → Turned → Option SlotState → Sets → Type 0
-SeatTurn None sets t seat' sets' = (t ≡ Empty) × (seat' ≡ None) × (sets' ≡ sets)
-SeatTurn (Some slot) sets t seat' sets' = Sat slot sets t seat' sets'
+-- a turn of a seat, that its job has not left yet if it has ended
+abbrev pub SeatStep : Option SlotState → Sets → Option Step → Option SlotState → Sets → Type 0
+SeatStep None sets r seat' sets' = (r ≡ None) × (seat' ≡ None) × (sets' ≡ sets)
+SeatStep (Some slot) sets r seat' sets' = Stays slot sets r seat' sets'
+
+-- the job of a slot has ended, and the turn is that of the definitions once it has left
+pub record Leaving (s : ℕ) (w : Floor) (e : Ending) (w' : Floor) : Type 0 where
+  pub slot : SlotState
+  pub there : job_in s w' ≡ Some slot
+  pub turn : TurnOr s w (Ended (job_end slot e)) (floor w'.sets (with_seat s None w'.slots))
+
+-- one turn of the job in a slot
+abbrev pub StepOr : ℕ → Floor → Option Step → Floor → Type 0
+StepOr s w None w' = TurnOr s w Empty w'
+StepOr s w (Some step.Goes) w' = TurnOr s w Goes w'
+StepOr s w (Some (step.Ended e)) w' = Leaving s w e w'
 
 -- how many jobs are in slots
 abbrev pub one_in : Option SlotState → ℕ

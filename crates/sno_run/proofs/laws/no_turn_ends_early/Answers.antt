@@ -1,4 +1,4 @@
-use Rattle.std.proofs.Common.{◌≤◌, ◌-◌, arith}
+use Rattle.std.proofs.Common.{◌≤◌, arith}
 use Rattle.sno_code.proofs.Depth.{exact_turn}
 use Rattle.sno_keeping.specs.State.{keeping, allowed}
 use Rattle.sno_keeping.proofs.Counting.{state_counts}

@@ -1,6 +1,8 @@
 use Rattle.std.proofs.Common.{◌∙◌, refl}
+use Rattle.mon_slots.specs.declared.turned.Turned.TheVariants.{Empty, Goes, Ended}
 use Rattle.mon_slots.specs.Told.{slots_in}
 use Rattle.mon_slots.specs.Floors.{floor}
+use Rattle.mon_slots.proofs.Calls.{went_on, leaving, stepped_out}
 use Rattle.mon_slots.proofs.Giving.{giving_begins, giving_goes, giving_empty, giving_ended}
 use Rattle.mon_slots.proofs.slots.Slots.give.Goals as goal
 
@@ -10,21 +12,27 @@ loop-init c = record {
   size = refl;
 }
 
-pub returns-in-Empty-clause-marked : goal.returns-in-Empty-clause-marked
-returns-in-Empty-clause-marked c =
+pub returns-in-None-clause-marked : goal.returns-in-None-clause-marked
+returns-in-None-clause-marked c =
     giving_empty c.args.slot c.args.count (floor c.args.catalogue.now (slots_in c.args.self.now)) c.loop.counter
-    (floor c.loop.catalogue (slots_in c.loop.self)) (floor c.turn.new.catalogue (slots_in c.turn.new.self)) c.turn.result c.loop.invariant.ahead c.turn.ensures.turn c.in-Empty.is
+    (floor c.loop.catalogue (slots_in c.loop.self)) (floor c.step.new.catalogue (slots_in c.step.new.self)) Empty c.loop.invariant.ahead c.in-None.ensures.step refl
 
-pub returns-in-Ended-clause-marked : goal.returns-in-Ended-clause-marked
-returns-in-Ended-clause-marked c =
-    giving_ended c.args.slot c.args.count (floor c.args.catalogue.now (slots_in c.args.self.now)) c.loop.counter
-    (floor c.loop.catalogue (slots_in c.loop.self)) (floor c.turn.new.catalogue (slots_in c.turn.new.self)) c.turn.result c.loop.invariant.ahead c.turn.ensures.turn
-    c.loop-test.true c.in-Ended.end c.in-Ended.is
+pub returns-in-Some-Ended-clause-marked : goal.returns-in-Some-Ended-clause-marked
+returns-in-Some-Ended-clause-marked c =
+    let now = floor c.loop.catalogue (slots_in c.loop.self) in
+    let now' = floor c.step.new.catalogue (slots_in c.step.new.self) in
+    let ending = c.in-Some-Ended.ending in
+    let gone = leaving c.args.slot now now' c.step.result c.in-Some-Ended.field-0 ending c.in-Some-Ended.is c.in-Some-Ended.field-0-is c.step.ensures.step in
+    let one = stepped_out c.args.slot now now' ending c.take_out.result (slots_in c.take_out.new.self) gone (c.take_out.ensures.end gone.slot gone.there) c.take_out.ensures.slots in
+    giving_ended c.args.slot c.args.count (floor c.args.catalogue.now (slots_in c.args.self.now)) c.loop.counter now
+    (floor c.step.new.catalogue (slots_in c.take_out.new.self)) (Ended c.take_out.result) c.loop.invariant.ahead one c.loop-test.true c.take_out.result refl
 
 pub loop-preserved : goal.loop-preserved
 loop-preserved c = record {
-  ahead = giving_goes c.args.slot c.args.count (floor c.args.catalogue.now (slots_in c.args.self.now)) c.loop.counter
-      (floor c.loop.catalogue (slots_in c.loop.self)) (floor c.turn.new.catalogue (slots_in c.turn.new.self)) c.turn.result c.loop.invariant.ahead c.turn.ensures.turn
-      c.loop-test.true c.in-Goes.is;
-  size = c.turn.ensures.size ∙ c.loop.invariant.size;
+  ahead =
+      let now = floor c.loop.catalogue (slots_in c.loop.self) in
+      let now' = floor c.step.new.catalogue (slots_in c.step.new.self) in
+      let one = went_on c.args.slot now now' c.step.result c.in-Some-Goes.field-0 c.in-Some-Goes.is c.in-Some-Goes.field-0-is c.step.ensures.step in
+      giving_goes c.args.slot c.args.count (floor c.args.catalogue.now (slots_in c.args.self.now)) c.loop.counter now now' Goes c.loop.invariant.ahead one c.loop-test.true refl;
+  size = c.step.ensures.size ∙ c.loop.invariant.size;
 }

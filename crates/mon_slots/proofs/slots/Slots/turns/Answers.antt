@@ -5,7 +5,7 @@ use Rattle.mon_slots.specs.Told.{slots_in}
 use Rattle.mon_slots.specs.Floors.{floor}
 use Rattle.mon_slots.specs.Marks.{never}
 use Rattle.mon_slots.specs.inner.Rounding.{Ahead}
-use Rattle.mon_slots.proofs.Calls.{turn_jobs, jobs_few}
+use Rattle.mon_slots.proofs.Calls.{jobs_few}
 use Rattle.mon_slots.proofs.Rounding.{begin, ahead_more, ahead_done}
 use Rattle.mon_slots.proofs.slots.Slots.turns.Goals as goal
 
@@ -18,14 +18,6 @@ loop-number-init c = record {
   size = refl;
 }
 
-pub keep_end-requires : goal.keep_end-requires
-keep_end-requires c =
-    let s = get_or c.args.order.now c.loop-number.number-index 0 in
-    let now = floor c.loop-number.catalogue (slots_in c.loop-number.self) in
-    let now' = floor c.turn-turned.new.catalogue (slots_in c.turn-turned.new.self) in
-    let k = turn_jobs s now now' c.turn-turned.result c.turn-turned.ensures.turn in
-    omega (arith, k, c.loop-number.invariant.room)
-
 pub loop-number-preserved : goal.loop-number-preserved
 loop-number-preserved c =
     let i = c.loop-number.number-index in
@@ -33,16 +25,15 @@ loop-number-preserved c =
     let s = get_or E i 0 in
     let w = floor c.args.catalogue.now (slots_in c.args.self.now) in
     let now = floor c.loop-number.catalogue (slots_in c.loop-number.self) in
-    let now' = floor c.turn-turned.new.catalogue (slots_in c.turn-turned.new.self) in
+    let now' = floor c.turn_into.new.catalogue (slots_in c.turn_into.new.self) in
+    let one = c.turn_into.ensures.turn in
     record {
       ahead =
           let more : drop i E ≡ get_or E i 0 ∷ drop (i + 1) E = rw add-one (drop-cons E i 0 c.loop-number-test.true) in
-          ahead_more never E w c.loop-number.ends.items c.keep_end.new.ends.items s (drop (i + 1) E) now now' c.turn-turned.result refl
-          (subst (λ (l : List ℕ). Ahead never E w c.loop-number.ends.items l now) more c.loop-number.invariant.ahead) c.turn-turned.ensures.turn c.keep_end.ensures.items;
-      room =
-          let k = turn_jobs s now now' c.turn-turned.result c.turn-turned.ensures.turn in
-          omega (arith, k, c.loop-number.invariant.room, c.keep_end.ensures.len, c.keep_end.ensures.room);
-      size = c.turn-turned.ensures.size ∙ c.loop-number.invariant.size;
+          ahead_more never E w c.loop-number.ends.items c.turn_into.new.ends.items s (drop (i + 1) E) now now' one.told refl
+          (subst (λ (l : List ℕ). Ahead never E w c.loop-number.ends.items l now) more c.loop-number.invariant.ahead) one.is one.kept;
+      room = c.turn_into.ensures.room;
+      size = c.turn_into.ensures.size ∙ c.loop-number.invariant.size;
     }
 
 pub returns-clause-marked : goal.returns-clause-marked
