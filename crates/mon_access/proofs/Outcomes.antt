@@ -12,17 +12,9 @@ use Rattle.mon_access.specs.declared.access.Decision.TheVariants.{Granted, Denie
 use Rattle.mon_access.specs.declared.access.Decider.TheVariants.{User as ByUser, Group as ByGroup, Mask as ByMask, Other as ByOther}
 use Rattle.mon_access.specs.declared.finding.Found.TheVariants.{Nobody, Lacking, Holding}
 use Rattle.mon_access.specs.Matches.{is_for_user, is_for_group, some_holds}
-use Rattle.mon_access.specs.inner.Kinds.{found, found_of, is_holding}
+use Rattle.mon_access.specs.inner.Kinds.{found, found_of}
 use Rattle.mon_access.specs.inner.Deciding.{decision_beside_owner, decision_beside_users}
 use Rattle.mon_access.proofs.Smaller.{both, any_less}
-
-pub holding_is : (kind : Entry → Bool) (es : List Entry) (request : Perms) → is_holding (found kind es request) ≡ some_holds kind es request
-holding_is kind es request = by (some_holds kind es request) (list_any kind es)
-  where
-    by : (h a : Bool) → is_holding (found_of h a (position_or_len kind es)) ≡ h
-    by true a = refl
-    by false true = refl
-    by false false = refl
 
 module _ (kind : Entry → Bool) (es : List Entry) (request : Perms) where
   some_of_kind : some_holds kind es request ≡ true → list_any kind es ≡ true

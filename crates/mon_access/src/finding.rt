@@ -51,23 +51,15 @@ fn judged(index: usize, perms: Perms, request: Perms) -> Found
     }
 }
 
-/// What the entry of a type and a qualifier says.
-fn of_key(acl: &Acl, tag: Tag, qualifier: &[u8], request: Perms) -> Found
-    requires { IsCanonical acl.now }
-    ensures { result ≡ found (stands_at (rank tag ∷ qualifier.now)) acl.now request }
-{
-    match acl.index_of(tag, qualifier) {
-        Some(index) => judged(index, acl.perms_at(index), request),
-        None => Found::Nobody,
-    }
-}
-
 /// What the entry of a type for a name says.
 fn of_name(acl: &Acl, tag: Tag, name: &Name, request: Perms) -> Found
     requires { IsCanonical acl.now }
     ensures { result ≡ found (stands_at (rank tag ∷ name.now)) acl.now request }
 {
-    of_key(acl, tag, name.as_bytes(), request)
+    match acl.index_of(tag, name) {
+        Some(index) => judged(index, acl.perms_at(index), request),
+        None => Found::Nobody,
+    }
 }
 
 /// What the entry of a type without names says.
@@ -76,7 +68,10 @@ pub(crate) fn of_type(acl: &Acl, tag: Tag, request: Perms) -> Found
     requires lone { is_qualified tag None ≡ true }
     ensures { result ≡ found (has_tag tag) acl.now request }
 {
-    of_key(acl, tag, &[], request)
+    match acl.index_of_type(tag) {
+        Some(index) => judged(index, acl.perms_at(index), request),
+        None => Found::Nobody,
+    }
 }
 
 /// Whether the entry of a type without names holds the request.

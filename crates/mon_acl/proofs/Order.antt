@@ -1,10 +1,10 @@
 -- The canonical order of entries, and the place of one more.
-use Rattle.std.proofs.Common.{◌≡◌, ◌∙◌, ap, sym, subst, refl, ℕ, ◌+◌, ◌<◌, Bool, true, false, cond, List, [], ◌∷◌, ◌++◌, length, take, drop, get_or, arith, length-take, length-drop, Some, nat_cmp}
+use Rattle.std.proofs.Common.{◌≡◌, ◌∙◌, ap, sym, subst, refl, ℕ, ◌+◌, ◌<◌, Bool, true, false, cond, List, [], ◌∷◌, ◌++◌, length, take, drop, get_or, arith, length-take, length-drop}
 use Rattle.std.specs.Prelude.{All, HoldsAt, insert, count_by, IsPermutation, ◌||◌}
 use Rattle.std.specs.List.{list_any, AllWithin, AllByRecursion}
 use Rattle.std.specs.List.Sorted.{IsNonDecreasingBy, IsStrictlySortedBy}
 use Rattle.std.specs.Cmp.{IsTotalOrder}
-use Rattle.std.specs.Cmp.Lexicographic.{slice_cmp, texts_ties, nat_list_cmp_total}
+use Rattle.std.specs.Cmp.Lexicographic.{texts_ties, nat_list_cmp_total}
 use Rattle.std.specs.Ordering.{is_lt, is_eq, ordering_index, ordering_reverse}
 use Rattle.std.specs.declared.cmp.Ordering.{Ordering}
 use Rattle.std.specs.declared.cmp.Ordering.TheVariants.{Less, Equal, Greater}
@@ -14,9 +14,8 @@ use Rattle.std.proofs.lemmas.List.Elements.{All-head, All-tail, All-append}
 use Rattle.std.proofs.lemmas.List.Folds.{list_any_at, list_any_none}
 use Rattle.std.proofs.lemmas.List.Sorted.{searchable_from_sorted, IsPermutation-refl, IsPermutation-trans, IsPermutation-middle, IsPermutation-cons, list_any-IsPermutation, sum_by-IsPermutation}
 use Rattle.std.proofs.lemmas.Map.Keys.{Less-from_sorted}
-use Rattle.mon_acl.specs.declared.entries.Tag.{Tag}
 use Rattle.mon_acl.specs.declared.entries.Entry.{Entry}
-use Rattle.mon_acl.specs.Entries.{rank, sort_key, compared, is_for, qualifier, IsCanonical}
+use Rattle.mon_acl.specs.Entries.{sort_key, compared, is_for, qualifier, IsCanonical}
 use Rattle.mon_acl.specs.Reading.{put_in, arranged}
 
 pub order : IsTotalOrder compared
@@ -37,17 +36,6 @@ rises es e s =
 pub there : (es : List Entry) (e : Entry) (i : ℕ) → i < length es → HoldsAt (λ y. compared y e ≡ Equal) es i →
     list_any (is_for e.tag (qualifier e)) es ≡ true
 there es e i l h = list_any_at _ es i e l (is_for_by_order e (get_or es i e) ∙ ap is_eq (h e))
-
--- the same for a type and a qualifier, as for an entry of these
-abbrev of_key : Tag → List ℕ → Entry
-of_key t q = record { tag = t; name = Some q; perms = record { read = false; write = false; execute = false } }
-
-module _ (es : List Entry) (t : Tag) (q : List ℕ) where
-  pub key_rises : IsCanonical es → IsNonDecreasingBy (λ y. ordering_index (slice_cmp nat_cmp (sort_key y) (rank t ∷ q))) es
-  key_rises sorted = rises es (of_key t q) sorted
-
-  pub key_there : (i : ℕ) → HoldsAt (λ y. slice_cmp nat_cmp (sort_key y) (rank t ∷ q) ≡ Equal) es i → HoldsAt (λ y. is_for t q y ≡ true) es i
-  key_there i h = λ d. is_for_by_order (of_key t q) (get_or es i d) ∙ ap is_eq (h d)
 
 -- an entry between those that stand before it and those that stand behind it
 put_between : (e : Entry) (xs ys : List Entry) → All (λ y. compared y e ≡ Less) xs → All (λ y. compared y e ≡ Greater) ys →
@@ -85,11 +73,6 @@ goes_there es e i w =
     let less = front (λ y. compared y e ≡ Less) es i w.0 in
     let more = back (λ y. compared y e ≡ Greater) es i w.1 in
     ap (put_in e) (sym (take-append-drop i es)) ∙ put_between e (take i es) (drop i es) less more
-
-pub key_nowhere : (es : List Entry) (t : Tag) (q : List ℕ) (i : ℕ) →
-    AllWithin (λ y. slice_cmp nat_cmp (sort_key y) (rank t ∷ q) ≡ Less) es 0 i × AllWithin (λ y. slice_cmp nat_cmp (sort_key y) (rank t ∷ q) ≡ Greater) es i (length es) →
-    list_any (is_for t q) es ≡ false
-key_nowhere es t q i w = not_there es (of_key t q) i w
 
 -- one more entry only moves the others
 pub put_moves : (e : Entry) (es : List Entry) → IsPermutation (e ∷ es) (put_in e es)

@@ -55,11 +55,11 @@ fn free_place(entries: &[Entry], entry: &Entry) -> Option<usize>
     }
 }
 
-/// Whether an entry is the 101st of those for a name.
+/// Whether an entry is the 101st of those for a name. They are counted only where the list has as many entries at all.
 fn is_one_too_many(entries: &[Entry], entry: &Entry) -> bool
     ensures { result ≡ (is_named entry.now && (count_by is_named entries.now == 100)) }
 {
-    entry.is_named() && named(entries) == MOST_NAMED_ENTRIES
+    entry.is_named() && entries.len() >= MOST_NAMED_ENTRIES && named(entries) == MOST_NAMED_ENTRIES
 }
 
 fn named(entries: &[Entry]) -> usize

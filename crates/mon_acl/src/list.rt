@@ -1,5 +1,5 @@
 //! Permission lists, and their text forms.
-ghost use Rattle.std.specs.Prelude.{◌≡◌, ◌++◌, ◌≤◌, ◌<◌, List, HoldsAt, length, flat_map, Some, Ok, IfOk, IsOk, IsErrOf, OnOk, slice_get, option_copied};
+ghost use Rattle.std.specs.Prelude.{◌≡◌, ◌++◌, ◌≤◌, ◌<◌, List, [], HoldsAt, length, flat_map, Some, Ok, IfOk, IsOk, IsErrOf, OnOk, slice_get, option_copied};
 ghost use Rattle.smallvec.specs.SmallVec.{small_vec_len};
 ghost use Rattle.mon_text.specs.Stops.{Gives};
 ghost use Rattle.mon_acl.specs.Printing.{short_form, next_text, mask_of, long_line, long_form};
@@ -16,8 +16,8 @@ use crate::entries::{Entry, Perms, Tag};
 use crate::pieces::Form;
 use crate::reading::entry_of;
 use crate::refusals::AclError;
-use crate::summaries::{MOST_ENTRIES, fingerprints_of, index_of, perms_in, summaries_of};
-use mon_text::Stop;
+use crate::summaries::{Chains, chains_of, index_of_name, index_of_type, perms_in, summaries_of};
+use mon_text::{Name, Stop};
 use smallvec::SmallVec;
 use std::alloc::{AllocError, Global};
 use std::marker::Model;
@@ -30,20 +30,21 @@ pub struct Acl {
     entries: SmallVec<Entry, ENTRIES_INLINE>,
     /// Those of the entries, at the same indexes.
     summaries: SmallVec<u64, ENTRIES_INLINE>,
-    fingerprints: [u16; MOST_ENTRIES],
+    chains: Chains,
 }
 
 impl Model for Acl {
-    ghost use Rattle.std.specs.Prelude.{◌≡◌, List, map};
+    ghost use Rattle.std.specs.Prelude.{◌≡◌, List, map, length};
     ghost use Rattle.mon_acl.specs.declared.entries.Entry.{Entry};
     ghost use Rattle.mon_acl.specs.Entries.{IsAcl};
-    ghost use Rattle.mon_acl.specs.inner.Summaries.{summary_of, fingerprints_of};
+    ghost use Rattle.mon_acl.specs.inner.Summaries.{summary_of, buckets_of};
+    ghost use Rattle.mon_acl.specs.inner.Chains.{IsChained};
 
     ghost Value = { List Entry };
 
     ghost view = { λ a. a.entries.items };
 
-    ghost invariant = { λ a. IsAcl a.entries.items × (a.summaries.items ≡ map summary_of a.entries.items) × (a.fingerprints ≡ fingerprints_of a.entries.items) };
+    ghost invariant = { λ a. IsAcl a.entries.items × (a.summaries.items ≡ map summary_of a.entries.items) × IsChained (buckets_of a.entries.items) (length a.entries.items) a.chains.first a.chains.next };
 }
 
 impl Acl {
@@ -141,18 +142,20 @@ impl Acl {
         self.entries().get(i)
     }
 
-    /// The index of the entry of a type and a qualifier, which is empty for a type without names. It takes no memory.
-    pub fn index_of(&self, tag: Tag, qualifier: &[u8]) -> Option<usize>
-        ensures { IsIndexOf tag qualifier.now self.now result }
+    /// The index of the entry of a type for a name, if there is one. It takes no memory.
+    pub fn index_of(&self, tag: Tag, name: &Name) -> Option<usize>
+        ensures { IsIndexOf tag name.now self.now result }
     {
         let summaries = self.summaries.as_slice();
-        index_of(
-            &self.fingerprints,
-            summaries,
-            self.entries(),
-            tag,
-            qualifier,
-        )
+        index_of_name(&self.chains, summaries, self.entries(), tag, name)
+    }
+
+    /// The index of the entry of a type without names, if there is one. It takes no memory.
+    pub fn index_of_type(&self, tag: Tag) -> Option<usize>
+        ensures { IsIndexOf tag [] self.now result }
+    {
+        let summaries = self.summaries.as_slice();
+        index_of_type(&self.chains, summaries, self.entries(), tag)
     }
 
     /// The permissions of the entry at an index.
@@ -180,7 +183,7 @@ impl Acl {
         Ok(Acl {
             entries,
             summaries,
-            fingerprints: self.fingerprints,
+            chains: self.chains,
         })
     }
 }
@@ -207,12 +210,12 @@ fn listed(
     ensures memory { IsErrOf result Stop.Memory → 5 ≤ length entries.items }
 {
     entries.shrink_to_fit();
-    let fingerprints = fingerprints_of(entries.as_slice());
+    let chains = chains_of(entries.as_slice());
     match summaries_of(alloc, entries.as_slice()) {
         Ok(summaries) => Ok(Acl {
             entries,
             summaries,
-            fingerprints,
+            chains,
         }),
         Err(_) => Err(Stop::Memory),
     }

@@ -1,14 +1,15 @@
-//! What a search among entries reads: eight bytes of each side by side, and before them two bytes of each, so that the whole
-//! of a long list lies in few lines of a processor's cache.
-//!
-//! The two bytes are looked at all together, whatever they are: a processor waits longer for a jump that it can't foresee
-//! than for some ten comparisons of several at once.
-ghost use Rattle.std.specs.Prelude.{◌≡◌, ◌≢◌, ℕ, ◌+◌, ◌*◌, ◌%◌, ◌≤◌, ◌<◌, All, HoldsAt, IsTrue, IfOk, IsOk, MatchOption, length, map, slice_index};
-ghost use Rattle.mon_acl.specs.Entries.{rank, qualifier, is_for, IsEntry, IsCanonical, IsAcl, IsIndexOf};
-ghost use Rattle.mon_acl.specs.inner.Summaries.{word_of, code_of, summary_of, fingerprint_of, fingerprints_of, mixed};
+//! What a search among entries reads: eight bytes of each, side by side, and chains of the entries whose keys fall into one
+//! bucket, so that an entry is found by its type and its name with one or two comparisons of eight bytes.
+ghost use Rattle.std.specs.Prelude.{◌≡◌, ℕ, ◌+◌, ◌*◌, ◌/◌, ◌≤◌, ◌<◌, IfOk, IsOk, length, map, slice_index, [], nat_eq};
+ghost use Rattle.std.specs.Cmp.Lexicographic.{pointwise};
+ghost use Rattle.mon_text.specs.Names.{head_of};
+ghost use Rattle.mon_acl.specs.Entries.{rank, qualifier, is_for, IsEntry, IsAcl, IsIndexOf};
+ghost use Rattle.mon_acl.specs.inner.Summaries.{code_of, key_of, summary_of, bucket_of, buckets_of};
+ghost use Rattle.mon_acl.specs.inner.Chains.{IsChained};
 
 use crate::arranging::ENTRIES_INLINE;
 use crate::entries::{Entry, Perms, Tag};
+use mon_text::Name;
 use smallvec::SmallVec;
 use std::alloc::{AllocError, Global};
 
@@ -21,33 +22,36 @@ const MOST_IN_WORD: usize = 6;
 /// 2^64 over the golden ratio: each bit of a word counts in the highest bits of its product with this.
 const MULTIPLIER: u64 = 11_400_714_819_323_198_485;
 
-/// 2^51: a word over it has thirteen bits.
-const THIRTEEN_BITS: u64 = 2_251_799_813_685_248;
+/// 2^57: a word over it has seven bits.
+const SEVEN_BITS: u64 = 144_115_188_075_855_872;
 
-/// What is no entry's fingerprint: the last three bits of one are its type.
-const NO_FINGERPRINT: u16 = 7;
+/// How many buckets there are.
+const BUCKETS: usize = 128;
 
-/// The byte of a text at an index; 0 past its end.
-fn byte_at(text: &[u8], i: usize) -> u8
-    ensures { result ≡ slice_index text.now i }
-{
-    text.get(i).copied().unwrap_or(0)
+/// Entries chained by the buckets of their keys. A place is an index and one more; 0 is no place.
+#[derive(Clone, Copy)]
+pub(crate) struct Chains {
+    /// The last place of each bucket.
+    first: [u8; BUCKETS],
+    /// For each entry the place before it in its bucket.
+    next: [u8; MOST_ENTRIES],
 }
 
-/// The length of a qualifier, its first six characters, and a byte: all that a word of the machine holds.
-fn word_of(qualifier: &[u8], last: u8) -> u64
-    ensures { result ≡ word_of qualifier.now last }
+/// The head of an entry's name; 0 where it has none.
+fn head_of(entry: &Entry) -> u64
+    ensures { result ≡ head_of (qualifier entry.now) }
 {
-    u64::from_be_bytes([
-        qualifier.len().min(MOST_IN_WORD + 1) as u8,
-        byte_at(qualifier, 0),
-        byte_at(qualifier, 1),
-        byte_at(qualifier, 2),
-        byte_at(qualifier, 3),
-        byte_at(qualifier, 4),
-        byte_at(qualifier, 5),
-        last,
-    ])
+    match &entry.name {
+        Some(name) => name.head(),
+        None => 0,
+    }
+}
+
+/// The length of a name and its first six characters, by its head, and a byte: all that a word of the machine holds.
+fn word_of(head: u64, last: u8) -> u64
+    ensures { result ≡ head / 256 * 256 + last }
+{
+    head / 256 * 256 + u64::from(last)
 }
 
 /// Permissions as a number below 8.
@@ -63,7 +67,15 @@ fn code_of(perms: Perms) -> u8
 fn summary_of(entry: &Entry) -> u64
     ensures { result ≡ summary_of entry.now }
 {
-    word_of(entry.qualifier(), code_of(entry.perms))
+    word_of(head_of(entry), entry.tag.rank() * 8 + code_of(entry.perms))
+}
+
+/// The bucket of a key.
+fn bucket_of(key: u64) -> usize
+    ensures value { result ≡ bucket_of key }
+    ensures few { result < 128 }
+{
+    (key.wrapping_mul(MULTIPLIER) / SEVEN_BITS) as usize
 }
 
 /// The permissions of the entry of a summary.
@@ -71,19 +83,12 @@ pub(crate) fn perms_in(summary: u64, entry: &Entry) -> Perms
     requires { summary ≡ summary_of entry.now }
     ensures { result ≡ entry.now.perms }
 {
-    let code = (summary % 256) as u8;
+    let code = (summary % 8) as u8;
     Perms {
         read: code >= 4,
         write: code % 4 >= 2,
         execute: code % 2 == 1,
     }
-}
-
-/// The fingerprint of a type and a qualifier, by the word of the qualifier.
-fn fingerprint_of(tag: Tag, word: u64) -> u16
-    ensures { result ≡ mixed word * 8 + rank tag }
-{
-    (word.wrapping_mul(MULTIPLIER) / THIRTEEN_BITS) as u16 * 8 + u16::from(tag.rank())
 }
 
 /// The summaries of entries, in their order.
@@ -105,112 +110,96 @@ pub(crate) fn summaries_of(
     Ok(summaries)
 }
 
-/// The fingerprints of entries, in their order.
-pub(crate) fn fingerprints_of(entries: &[Entry]) -> [u16; MOST_ENTRIES]
+/// The chains of entries.
+pub(crate) fn chains_of(entries: &[Entry]) -> Chains
     requires { length entries.now ≤ 104 }
-    ensures { result ≡ fingerprints_of entries.now }
+    ensures { IsChained (buckets_of entries.now) (length entries.now) result.first result.next }
 {
-    let mut fingerprints = [NO_FINGERPRINT; MOST_ENTRIES];
+    let mut first = [0; BUCKETS];
+    let mut next = [0; MOST_ENTRIES];
     for (i, entry) in entries.iter().enumerate() {
-        fingerprints[i] = fingerprint_of(entry.tag, word_of(entry.qualifier(), 0));
+        let bucket = bucket_of(word_of(head_of(entry), entry.tag.rank() * 8));
+        next[i] = first[bucket];
+        first[bucket] = i as u8 + 1;
     }
-    fingerprints
+    Chains { first, next }
 }
 
-/// The last index of a fingerprint among others, where it is there.
-fn last_index_of(fingerprints: &[u16; MOST_ENTRIES], fingerprint: u16) -> Option<usize>
-    ensures { MatchOption result (All (λ f. f ≢ fingerprint) fingerprints.now)
-        (λ i. (i < 104) × HoldsAt (λ f. f ≡ fingerprint) fingerprints.now i) }
+/// Whether an entry has this name. It stays a call, since few names are longer than a key holds.
+#[inline(never)]
+fn is_named(entry: &Entry, name: &[u8]) -> bool
+    ensures { result ≡ pointwise nat_eq (qualifier entry.now) name.now }
 {
-    let mut behind = 0;
-    for i in 0..MOST_ENTRIES as u16 {
-        if fingerprints[i as usize] == fingerprint {
-            behind = i + 1;
-        }
-    }
-    if behind == 0 {
-        None
-    } else {
-        Some(behind as usize - 1)
-    }
+    entry.qualifier() == name
 }
 
-/// Where the entry of a type without names stands in each list that has one, but for that of the owning group; and that of a
-/// named user in a list with one such.
-fn likely_index(tag: Tag, count: usize) -> usize {
-    match tag {
-        Tag::User => 1,
-        Tag::Mask => count.saturating_sub(2),
-        Tag::Other => count.saturating_sub(1),
-        _ => 0,
-    }
-}
-
-/// An index of a fingerprint among those of entries, where it is there.
-fn index_of_fingerprint(
-    fingerprints: &[u16; MOST_ENTRIES],
-    fingerprint: u16,
-    likely: usize,
-) -> Option<usize>
-    ensures { MatchOption result (All (λ f. f ≢ fingerprint) fingerprints.now)
-        (λ i. (i < 104) × HoldsAt (λ f. f ≡ fingerprint) fingerprints.now i) }
-{
-    if likely < MOST_ENTRIES && fingerprints[likely] == fingerprint {
-        Some(likely)
-    } else {
-        last_index_of(fingerprints, fingerprint)
-    }
-}
-
-/// Whether an entry of a type is the entry for a qualifier, by its summary and by the word of the qualifier. The entry is
-/// read only where the qualifier is longer than a word holds.
-fn is_for(summary: u64, entry: &Entry, word: u64, tag: Tag, qualifier: &[u8]) -> bool
+/// Whether an entry is the entry of a type and a qualifier, by its summary and by their key. The entry is read only where the
+/// qualifier is longer than a key holds.
+fn is_for(summary: u64, entry: &Entry, key: u64, tag: Tag, qualifier: &[u8]) -> bool
     requires summary { summary ≡ summary_of entry.now }
-    requires word { word ≡ word_of qualifier.now 0 }
-    requires tag { rank entry.now.tag ≡ rank tag }
+    requires key { key ≡ key_of tag qualifier.now }
     requires valid { IsEntry entry.now }
     requires bytes { (i : ℕ) → slice_index qualifier.now i < 256 }
-    ensures { IsTrue result → IsTrue (is_for tag qualifier.now entry.now) }
+    ensures { result ≡ is_for tag qualifier.now entry.now }
 {
-    if qualifier.len() <= MOST_IN_WORD {
-        summary / 256 == word / 256
-    } else {
-        entry.qualifier() == qualifier
-    }
+    summary / 8 == key / 8 && (qualifier.len() <= MOST_IN_WORD || is_named(entry, qualifier))
 }
 
-/// The index of the entry of a type and a qualifier, found by halving over the entries themselves.
-fn index_by_entries(entries: &[Entry], tag: Tag, qualifier: &[u8]) -> Option<usize>
-    requires { IsCanonical entries.now }
-    ensures { IsIndexOf tag qualifier.now entries.now result }
-{
-    match entries.binary_search_by(|entry| entry.compare_with(tag, qualifier)) {
-        Ok(index) => Some(index),
-        Err(_) => None,
-    }
-}
-
-/// The index of the entry of a type and a qualifier, found by its fingerprint. Where another entry has the same, it is found
-/// among the entries themselves.
-pub(crate) fn index_of(
-    fingerprints: &[u16; MOST_ENTRIES],
+/// The index of the entry of a key, if there is one: only the entries of the key's bucket are looked at.
+fn index_of(
+    chains: &Chains,
     summaries: &[u64],
     entries: &[Entry],
+    key: u64,
     tag: Tag,
     qualifier: &[u8],
 ) -> Option<usize>
     requires list { IsAcl entries.now }
-    requires fingerprints { fingerprints.now ≡ fingerprints_of entries.now }
+    requires chains { IsChained (buckets_of entries.now) (length entries.now) chains.now.first chains.now.next }
     requires summaries { summaries.now ≡ map summary_of entries.now }
+    requires key { key ≡ key_of tag qualifier.now }
     ensures { IsIndexOf tag qualifier.now entries.now result }
 {
-    let word = word_of(qualifier, 0);
-    let likely = likely_index(tag, entries.len());
-    match index_of_fingerprint(fingerprints, fingerprint_of(tag, word), likely) {
-        None => None,
-        Some(index) if is_for(summaries[index], &entries[index], word, tag, qualifier) => Some(
-            index,
-        ),
-        Some(_) => index_by_entries(entries, tag, qualifier),
+    let mut place = chains.first[bucket_of(key)];
+    while place > 0 {
+        let index = place as usize - 1;
+        if is_for(summaries[index], &entries[index], key, tag, qualifier) {
+            return Some(index);
+        }
+        place = chains.next[index];
     }
+    None
+}
+
+/// The index of the entry of a type for a name, if there is one.
+pub(crate) fn index_of_name(
+    chains: &Chains,
+    summaries: &[u64],
+    entries: &[Entry],
+    tag: Tag,
+    name: &Name,
+) -> Option<usize>
+    requires list { IsAcl entries.now }
+    requires chains { IsChained (buckets_of entries.now) (length entries.now) chains.now.first chains.now.next }
+    requires summaries { summaries.now ≡ map summary_of entries.now }
+    ensures { IsIndexOf tag name.now entries.now result }
+{
+    let key = word_of(name.head(), tag.rank() * 8);
+    index_of(chains, summaries, entries, key, tag, name.as_bytes())
+}
+
+/// The index of the entry of a type without names, if there is one.
+pub(crate) fn index_of_type(
+    chains: &Chains,
+    summaries: &[u64],
+    entries: &[Entry],
+    tag: Tag,
+) -> Option<usize>
+    requires list { IsAcl entries.now }
+    requires chains { IsChained (buckets_of entries.now) (length entries.now) chains.now.first chains.now.next }
+    requires summaries { summaries.now ≡ map summary_of entries.now }
+    ensures { IsIndexOf tag [] entries.now result }
+{
+    let key = u64::from(tag.rank()) * 8;
+    index_of(chains, summaries, entries, key, tag, &[])
 }

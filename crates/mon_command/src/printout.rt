@@ -7,6 +7,9 @@ use crate::reply::Reply;
 use std::alloc::{AllocError, Global};
 use std::marker::Model;
 
+/// How many bytes a printout has room for at first: few are longer, and so few have to grow.
+pub(crate) const USUAL_BYTES: usize = 256;
+
 /// What a command prints: its own line, and its answer below it. Each line is ended by LF.
 ///
 /// A contract sees it as its bytes.
@@ -36,7 +39,7 @@ impl Printout {
 pub(crate) fn told(alloc: Global, command: &Command, reply: Reply) -> Result<Printout, AllocError>
     ensures { IfOk result (λ printout. printout ≡ printed command.now (Told reply)) }
 {
-    let mut bytes = Vec::new(alloc);
+    let mut bytes = Vec::with_capacity(alloc, USUAL_BYTES)?;
     command.put_heading(&mut bytes)?;
     reply.put_line(&mut bytes)?;
     Ok(Printout { bytes })

@@ -6,6 +6,7 @@ ghost use Rattle.std.specs.Prelude.{◌≡◌, ◌++◌, length, IfOk, OnOk, OnE
 ghost use Rattle.std.specs.List.{flat_map};
 ghost use Rattle.mon_guard.specs.Lending.{records_lent, acl_lent, names_lent};
 ghost use Rattle.mon_guard.specs.Owning.{created, removed, acl_set};
+ghost use Rattle.mon_guard.specs.Rows.{RowsFit};
 ghost use Rattle.mon_command.specs.Commanded.{Names, Records as Listed, Shown, told_by, creation_reply, removal_reply, acl_reply, shown_as, printed, served, commanded};
 ghost use Rattle.mon_command.specs.Printouts.{name_line, names_text};
 ghost use Rattle.mon_command.specs.inner.Names.{shown_at};
@@ -13,7 +14,7 @@ ghost use Rattle.mon_command.specs.inner.Serving.{Serves};
 
 use crate::command::Command;
 use crate::printing::{put_acl, put_count, put_name, put_records};
-use crate::printout::{Printout, told};
+use crate::printout::{Printout, USUAL_BYTES, told};
 use crate::reply::Reply;
 use mon_access::{Account, Accounts};
 use mon_acl::AclText;
@@ -41,6 +42,7 @@ pub fn serve(
     ensures printout { IfOk result (λ printout. printout ≡ (commanded accounts.now catalogue.old command).printout) }
     ensures sets { OnOk result (catalogue.new ≡ (commanded accounts.now catalogue.old command).sets) }
     ensures unchanged { OnErr result (catalogue.new ≡ catalogue.old) }
+    ensures fit { RowsFit guard.old catalogue.old → RowsFit guard.new catalogue.new }
 {
     match accounts.find(command.account()) {
         Some(account) => serve_known(alloc, account, guard, catalogue, &command),
@@ -56,7 +58,8 @@ fn serve_known(
     catalogue: &mut Catalogue,
     command: &Command,
 ) -> Result<Printout, AllocError>
-    ensures { Serves command.now result catalogue.old catalogue.new (served account.now command.now catalogue.old) }
+    ensures serves { Serves command.now result catalogue.old catalogue.new (served account.now command.now catalogue.old) }
+    ensures fit { RowsFit guard.old catalogue.old → RowsFit guard.new catalogue.new }
 {
     match command {
         Command::Create { name, .. } => create(alloc, account, guard, catalogue, command, name),
@@ -78,7 +81,8 @@ fn create(
     command: &Command,
     name: &Name,
 ) -> Result<Printout, AllocError>
-    ensures { Serves command.now result catalogue.old catalogue.new (told_by creation_reply (created account.now catalogue.old name.now)) }
+    ensures serves { Serves command.now result catalogue.old catalogue.new (told_by creation_reply (created account.now catalogue.old name.now)) }
+    ensures fit { RowsFit guard.old catalogue.old → RowsFit guard.new catalogue.new }
 {
     let done = told(alloc, command, Reply::Done)?;
     match guard.create(alloc, account, catalogue, name.copy()) {
@@ -99,7 +103,8 @@ fn delete(
     command: &Command,
     name: &Name,
 ) -> Result<Printout, AllocError>
-    ensures { Serves command.now result catalogue.old catalogue.new (told_by removal_reply (removed account.now catalogue.old name.now)) }
+    ensures serves { Serves command.now result catalogue.old catalogue.new (told_by removal_reply (removed account.now catalogue.old name.now)) }
+    ensures fit { RowsFit guard.old catalogue.old → RowsFit guard.new catalogue.new }
 {
     let done = told(alloc, command, Reply::Done)?;
     match guard.try_remove(account, catalogue, name) {
@@ -117,7 +122,8 @@ fn set_acl(
     name: &Name,
     text: &AclText,
 ) -> Result<Printout, AllocError>
-    ensures { Serves command.now result catalogue.old catalogue.new (told_by acl_reply (acl_set account.now catalogue.old name.now text.now)) }
+    ensures serves { Serves command.now result catalogue.old catalogue.new (told_by acl_reply (acl_set account.now catalogue.old name.now text.now)) }
+    ensures fit { RowsFit guard.old catalogue.old → RowsFit guard.new catalogue.new }
 {
     let done = told(alloc, command, Reply::Done)?;
     match guard.try_set_acl(alloc, account, catalogue, name, text)? {
@@ -146,7 +152,7 @@ fn show_acl(
 fn acl_of(alloc: Global, command: &Command, shown: &ShownAcl) -> Result<Printout, AllocError>
     ensures { IfOk result (λ printout. printout ≡ printed command.now (Shown shown.now)) }
 {
-    let mut bytes = Vec::new(alloc);
+    let mut bytes = Vec::with_capacity(alloc, USUAL_BYTES)?;
     command.put_heading(&mut bytes)?;
     put_acl(shown, &mut bytes)?;
     Ok(Printout { bytes })
@@ -171,7 +177,7 @@ fn list(
 fn records_of(alloc: Global, command: &Command, records: &Records) -> Result<Printout, AllocError>
     ensures { IfOk result (λ printout. printout ≡ printed command.now (Listed records.now)) }
 {
-    let mut bytes = Vec::new(alloc);
+    let mut bytes = Vec::with_capacity(alloc, USUAL_BYTES)?;
     command.put_heading(&mut bytes)?;
     put_records(records, &mut bytes)?;
     Ok(Printout { bytes })
@@ -186,7 +192,7 @@ fn catalog(
 ) -> Result<Printout, AllocError>
     ensures { IfOk result (λ printout. printout ≡ printed command.now (Names (names_lent account.now catalogue.now))) }
 {
-    let mut bytes = Vec::new(alloc);
+    let mut bytes = Vec::with_capacity(alloc, USUAL_BYTES)?;
     command.put_heading(&mut bytes)?;
     put_names(account, guard, catalogue, &mut bytes)?;
     Ok(Printout { bytes })

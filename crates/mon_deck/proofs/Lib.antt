@@ -2,6 +2,7 @@ pub mod Holdings
 pub mod Running
 pub mod ShownRecords
 pub mod Ordered
+mod Headline
 mod Examples
 pub mod Beginning
 pub mod Due

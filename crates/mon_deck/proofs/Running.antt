@@ -63,9 +63,6 @@ memory_so error same = let is : error ≡ Memory = cc in ap Err is
 pub none_read : (reads : ℕ) → HasRead 0 reads reads
 none_read reads = grind (arith, nat_tests)
 
-pub read_once : (count before now after : ℕ) → HasRead count before now → after ≡ one_more now → HasRead (count + 1) before after
-read_once count before now after so_far more = grind (arith, nat_tests, so_far, more)
-
 -- what a device tells of itself stays
 pub at_read : (given_by left held now now' : Option (List ℕ)) (start f : DeckFeed) (given : List ℕ) → now' ≡ now → Runs given_by left held now start f given → Runs given_by left held now' start f given
 at_read given_by left held now now' start f given same runs = subst (λ (n : Option (List ℕ)). Runs given_by left held n start f given) (sym same) runs

@@ -7,7 +7,7 @@ pub mod run;
 pub use mon_cards::Code;
 pub use mon_device::{
     DeckDevices, DeckReader, DeckWriter, Devices, Failed, MemReader, MemWriter, StdReader,
-    StdWriter,
+    StdWriter, Telling,
 };
 pub use mon_feed::{Counts, DeckFeed, Options, RunError, Slots};
 pub use run::{exit_status, put_fault, run_deck};

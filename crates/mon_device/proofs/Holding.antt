@@ -31,7 +31,4 @@ one_write held before after bytes left count so_far all more =
       taken = taken_more held before after bytes left (take count left) rest so_far are more;
     }
 
-pub taken_none : (held : Option (List ℕ)) (bytes : List ℕ) → HasTaken held held bytes bytes
-taken_none held bytes = ([], sym (holding-nothing held), refl)
-
 pub ruleset holds = (holding-append, holding-nothing)

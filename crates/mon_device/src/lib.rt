@@ -11,5 +11,5 @@ pub mod transfer;
 pub use device::{DeckDevices, DeckReader, DeckWriter, Failed};
 pub use memory::{MemReader, MemWriter};
 pub use pair::Devices;
-pub use streams::{StdReader, StdWriter};
+pub use streams::{StdReader, StdWriter, Telling};
 pub use transfer::{MOST_READS, READ_SIZE, write_all};

@@ -1,42 +1,89 @@
 //! The guard: what an account asks, done exactly where it is granted.
-ghost use Rattle.std.specs.Prelude.{◌≡◌, ◌≤◌, ◌↔◌, length, slice_get, Some, Ok, IfOk, OnOk, OnErr, is_some, IsSome, IsErrOf, IsOkAnd};
+ghost use Rattle.std.specs.Prelude.{◌≡◌, ◌≤◌, ◌↔◌, [], take, length, slice_get, Some, Ok, IfOk, OnOk, OnErr, is_some, IsSome, IsErrOf, IsOkAnd};
 ghost use Rattle.std.specs.Result.{result_map_both};
 ghost use Rattle.mon_text.specs.Stops.{Gives, refused_as};
 ghost use Rattle.mon_acl.specs.Forms.{MayTakeMemory};
 ghost use Rattle.mon_access.specs.Matches.{is_owner};
-ghost use Rattle.mon_catalogue.specs.Sets.{create_refusal};
+ghost use Rattle.mon_catalogue.specs.Sets.{create_refusal, find_set};
+ghost use Rattle.mon_catalogue.specs.Changes.{with_acl};
 ghost use Rattle.mon_guard.specs.declared.answer.Reason.{Reason};
 ghost use Rattle.mon_guard.specs.Deciding.{to_read, to_write, to_execute, decision_on, decided, where_granted};
 ghost use Rattle.mon_guard.specs.Lending.{records_lent, acl_lent, name_lent};
 ghost use Rattle.mon_guard.specs.Owning.{owner_denial, removed, acl_set, created, new_list};
 ghost use Rattle.mon_guard.specs.Acting.{Read, Write, End, acted, changed, told, read_at};
+ghost use Rattle.mon_guard.specs.inner.Judging.{acted_by, set_after};
 ghost use Rattle.mon_guard.specs.Answers.{guard_answer, acl_answer};
 
 use crate::answer::{AclAnswer, Answered, Decided, GuardAnswer, Reason};
+use crate::rows::Rows;
 use crate::shown::{ShownAcl, ShownName};
-use mon_access::{Account, Decision, check};
+use mon_access::{Account, Decision, check, is_one};
 use mon_acl::{Acl, AclError, AclText, Perms};
 use mon_catalogue::{
     Catalogue, CreateError, DataSet, MOST_RECORD_CHARACTERS, NoSet, Records, SetFull,
 };
 use mon_text::{Line, Name, Stop};
 use std::alloc::{AllocError, Global};
+use std::marker::Model;
 
 /// Answers requests on data sets, each by the set's owner, group and permission list as they stand at that moment.
 ///
-/// What only the owner may do is denied to all others, whatever the list grants them. Nothing is kept from one request
-/// to the next.
+/// What only the owner may do is denied to all others, whatever the list grants them.
+///
+/// What was decided of requests is kept as rows, at most 1,000, which contracts see as a list. A call that answers by them asks
+/// that they fit the data sets, and each call keeps that. They change no answer.
 #[derive(Drop)]
-pub struct Guard {}
+pub struct Guard {
+    rows: Rows,
+}
+
+impl Model for Guard {
+    ghost use Rattle.std.specs.Prelude.{List};
+    ghost use Rattle.mon_guard.specs.declared.rows.Row.{Row};
+
+    ghost Value = { List Row };
+
+    ghost view = { λ g. g.rows };
+}
 
 impl Guard {
-    /// A guard.
-    pub fn new() -> Guard {
-        Guard {}
+    ghost use Rattle.mon_guard.specs.Rows.{RowsFit, Begins, MayKeep};
+
+    /// A guard that keeps no row.
+    pub fn new(alloc: Global) -> Guard
+        ensures { result ≡ [] }
+    {
+        Guard {
+            rows: Rows::new(alloc),
+        }
+    }
+
+    /// How many rows are kept. It takes no memory.
+    pub fn rows(&self) -> u64
+        ensures { result ≡ length self.now }
+    {
+        self.rows.len() as u64
+    }
+
+    /// Drops all rows but the first `count`. It takes no memory.
+    pub fn keep_first(&mut self, count: u64)
+        ensures { self.new ≡ take count self.old }
+    {
+        self.rows.keep_first(count as usize);
+    }
+
+    // Keeps what is decided of an account on a set, unless that is kept already.
+    fn keep_unless(&mut self, is_kept: bool, account: &Account, name: &Name, set: &DataSet)
+        ensures { MayKeep account.now name.now set.now self.old self.new }
+    {
+        if !is_kept {
+            self.rows.keep(account, name, set);
+        }
     }
 
     /// What is decided of a request on the set of a name: the access check, or that there is no such set. It takes no
     /// memory.
+    #[tactic(auto, using(crate::proofs::Fitting::fitting))]
     pub fn decide(
         &self,
         account: &Account,
@@ -44,13 +91,14 @@ impl Guard {
         name: &Name,
         request: Perms,
     ) -> Decided
+        requires fit { RowsFit self.now catalogue.now }
         ensures { result ≡ decided account.now catalogue.now name.now request }
     {
         match catalogue.find(name) {
-            Some(set) => match decision_on(account, set, request) {
-                Decision::Granted => Decided::Granted,
-                Decision::Denied(decider) => Decided::Denied(decider),
-            },
+            Some(set) if is_one(request) => {
+                Decided::of(self.rows.judge(account, name, set, request).decision)
+            }
+            Some(set) => Decided::of(decision_on(account, set, request)),
             None => Decided::NoSet,
         }
     }
@@ -151,6 +199,7 @@ impl Guard {
     ///
     /// Where a growth was refused, which no text of four entries needs, nor one that is refused within its first five; the
     /// catalogue is then unchanged.
+    #[tactic(auto, using(crate::proofs::Fitting::fitting))]
     pub fn try_set_acl(
         &mut self,
         alloc: Global,
@@ -164,15 +213,18 @@ impl Guard {
         ensures unchanged { OnErr result (catalogue.new ≡ catalogue.old) }
         ensures denied { (reason : Reason) → (result ≡ Ok (AclAnswer.Denied reason)) ↔ (owner_denial account.now catalogue.old name.now ≡ Some reason) }
         ensures memory { OnErr result (MayTakeMemory text.now) }
+        ensures fit { RowsFit self.old catalogue.old → RowsFit self.new catalogue.new }
+        ensures rows { OnErr result (self.new ≡ self.old) }
     {
         if let Some(reason) = owner_denial(account, catalogue, name) {
             return Ok(AclAnswer::Denied(reason));
         }
         match text.read(alloc) {
-            Ok(acl) => match catalogue.set_acl(name, acl) {
-                Ok(_) => Ok(AclAnswer::Done),
-                Err(NoSet) => Ok(AclAnswer::Denied(Reason::NoSet)),
-            },
+            Ok(acl) => {
+                let answer = put_acl(catalogue, name, acl);
+                self.rows.forget(name);
+                Ok(answer)
+            }
             Err(Stop::Refused(error)) => Ok(AclAnswer::BadList(error)),
             Err(Stop::Memory) => Err(AllocError),
         }
@@ -196,6 +248,7 @@ impl Guard {
         ensures unchanged { OnErr result (catalogue.new ≡ catalogue.old) }
         ensures denied { (reason : Reason) → (result ≡ Ok (GuardAnswer.Denied reason)) ↔ (owner_denial account.now catalogue.old name.now ≡ Some reason) }
         ensures memory { IsErrOf result Stop.Memory → MayTakeMemory text.now }
+        ensures fit { RowsFit self.old catalogue.old → RowsFit self.new catalogue.new }
     {
         match self.try_set_acl(alloc, account, catalogue, name, text) {
             Ok(AclAnswer::Done) => Ok(GuardAnswer::Done),
@@ -210,6 +263,7 @@ impl Guard {
     /// # Errors
     ///
     /// Why it is denied: there is no such set, or the account is not the owner.
+    #[tactic(auto, using(crate::proofs::Fitting::fitting))]
     pub fn try_remove(
         &mut self,
         account: &Account,
@@ -218,12 +272,16 @@ impl Guard {
     ) -> Result<(), Reason>
         ensures answer { result ≡ (removed account.now catalogue.old name.now).0 }
         ensures sets { catalogue.new ≡ (removed account.now catalogue.old name.now).1 }
+        ensures fit { RowsFit self.old catalogue.old → RowsFit self.new catalogue.new }
     {
         if let Some(reason) = owner_denial(account, catalogue, name) {
             return Err(reason);
         }
         match catalogue.remove(name) {
-            Ok(()) => Ok(()),
+            Ok(()) => {
+                self.rows.forget(name);
+                Ok(())
+            }
             Err(NoSet) => Err(Reason::NoSet),
         }
     }
@@ -237,6 +295,7 @@ impl Guard {
     ) -> GuardAnswer
         ensures answer { result ≡ guard_answer (removed account.now catalogue.old name.now).0 }
         ensures sets { catalogue.new ≡ (removed account.now catalogue.old name.now).1 }
+        ensures fit { RowsFit self.old catalogue.old → RowsFit self.new catalogue.new }
     {
         GuardAnswer::of(self.try_remove(account, catalogue, name))
     }
@@ -246,7 +305,8 @@ impl Guard {
     ///
     /// # Errors
     ///
-    /// Where a growth was refused, which only a record that is read needs.
+    /// Where a growth was refused, which only a record that is read needs; the rows are then unchanged.
+    #[tactic(auto, using(crate::proofs::Fitting::fitting))]
     pub fn read(
         &mut self,
         alloc: Global,
@@ -255,13 +315,20 @@ impl Guard {
         name: &Name,
         position: u64,
     ) -> Result<Answered, AllocError>
+        requires fit { RowsFit self.old catalogue.now }
         ensures answer { IfOk result (λ answered. answered ≡ told position (acted account.now (Read position) catalogue.now name.now)) }
         ensures memory { OnErr result (IsSome (acted account.now (Read position) catalogue.now name.now).position) }
+        ensures fit { RowsFit self.new catalogue.now }
+        ensures rows { Begins self.old self.new }
+        ensures unchanged { OnErr result (self.new ≡ self.old) }
     {
-        match self.records(account, catalogue, name) {
-            Ok(records) => read_at(alloc, records, position),
-            Err(reason) => Ok(Answered::denied(reason, position)),
-        }
+        let Some(set) = catalogue.find(name) else {
+            return Ok(Answered::denied(Reason::NoSet, position));
+        };
+        let judged = self.rows.judge(account, name, set, to_read());
+        let answered = read_by(alloc, judged.decision, set, position)?;
+        self.keep_unless(judged.is_kept, account, name, set);
+        Ok(answered)
     }
 
     /// Writes a record of at most 1,024 characters at a position, counted from 0, of the set of a name, where w is granted on
@@ -270,8 +337,8 @@ impl Guard {
     ///
     /// # Errors
     ///
-    /// Where a growth was refused, which only a record that is written needs; the catalogue is then unchanged.
-    #[tactic(auto, using(crate::proofs::Acting::changes))]
+    /// Where a growth was refused, which only a record that is written needs; the catalogue and the rows are then unchanged.
+    #[tactic(auto, using(crate::proofs::Acting::changes, crate::proofs::Fitting::fitting))]
     pub fn write(
         &mut self,
         account: &Account,
@@ -281,27 +348,27 @@ impl Guard {
         line: Line,
     ) -> Result<Answered, AllocError>
         requires short { length line ≤ MOST_RECORD_CHARACTERS }
+        requires fit { RowsFit self.old catalogue.old }
         ensures answer { IfOk result (λ answered. answered ≡ told position (acted account.now (Write position line) catalogue.old name.now)) }
         ensures sets { OnOk result (catalogue.new ≡ changed name.now (acted account.now (Write position line) catalogue.old name.now).change catalogue.old) }
         ensures unchanged { OnErr result (catalogue.new ≡ catalogue.old) }
         ensures memory { OnErr result (IsSome (acted account.now (Write position line) catalogue.old name.now).position) }
+        ensures fit { RowsFit self.new catalogue.new }
+        ensures rows { Begins self.old self.new }
+        ensures rows_stay { OnErr result (self.new ≡ self.old) }
     {
         let Some(set) = catalogue.find_mut(name) else {
             return Ok(Answered::denied(Reason::NoSet, position));
         };
-        if let Err(reason) = permit(account, set, to_write()) {
-            return Ok(Answered::denied(reason, position));
-        }
-        match set.put_at(position, line) {
-            Ok(()) => Ok(Answered::done(set.records.len())),
-            Err(Stop::Refused(SetFull)) => Ok(Answered::full(position)),
-            Err(Stop::Memory) => Err(AllocError),
-        }
+        let judged = self.rows.judge(account, name, set, to_write());
+        let answered = write_by(judged.decision, set, position, line)?;
+        self.keep_unless(judged.is_kept, account, name, set);
+        Ok(answered)
     }
 
     /// Cuts off the records at a position, counted from 0, and behind it, of the set of a name, where w is granted on it. The
     /// position is then behind the last record that is left. It takes no memory.
-    #[tactic(auto, using(crate::proofs::Acting::changes))]
+    #[tactic(auto, using(crate::proofs::Acting::changes, crate::proofs::Fitting::fitting))]
     pub fn end(
         &mut self,
         account: &Account,
@@ -309,17 +376,19 @@ impl Guard {
         name: &Name,
         position: u64,
     ) -> Answered
+        requires fit { RowsFit self.old catalogue.old }
         ensures answer { result ≡ told position (acted account.now (End position) catalogue.old name.now) }
         ensures sets { catalogue.new ≡ changed name.now (acted account.now (End position) catalogue.old name.now).change catalogue.old }
+        ensures fit { RowsFit self.new catalogue.new }
+        ensures rows { Begins self.old self.new }
     {
         let Some(set) = catalogue.find_mut(name) else {
             return Answered::denied(Reason::NoSet, position);
         };
-        if let Err(reason) = permit(account, set, to_write()) {
-            return Answered::denied(reason, position);
-        }
-        set.cut_at(position);
-        Answered::done(set.records.len())
+        let judged = self.rows.judge(account, name, set, to_write());
+        let answered = end_by(judged.decision, set, position);
+        self.keep_unless(judged.is_kept, account, name, set);
+        answered
     }
 
     /// Creates a data set with no records, which every account may do: it is the account's, of the account's primary
@@ -329,6 +398,7 @@ impl Guard {
     ///
     /// `NameTaken` where there is a set of this name, else `CatalogueFull` where there are 1,000 sets, whatever memory there
     /// is; else `Memory` where a growth was refused. The catalogue is then unchanged.
+    #[tactic(auto, using(crate::proofs::Fitting::fitting))]
     pub fn create(
         &mut self,
         alloc: Global,
@@ -340,6 +410,8 @@ impl Guard {
         ensures refused { refused_as result ≡ create_refusal name catalogue.old }
         ensures sets { OnOk result (catalogue.new ≡ (created account.now catalogue.old name).1) }
         ensures unchanged { OnErr result (catalogue.new ≡ catalogue.old) }
+        ensures fit { RowsFit self.old catalogue.old → RowsFit self.new catalogue.new }
+        ensures rows { self.new ≡ self.old }
     {
         let acl = new_list(alloc)?;
         catalogue.create(name, account.name.copy(), account.primary.copy(), acl)
@@ -364,6 +436,17 @@ fn owner_denial(account: &Account, catalogue: &Catalogue, name: &Name) -> Option
         Some(set) if owns(account, set) => None,
         Some(_) => Some(Reason::NotOwner),
         None => Some(Reason::NoSet),
+    }
+}
+
+// Gives the set of a name another permission list.
+fn put_acl(catalogue: &mut Catalogue, name: &Name, acl: Acl) -> AclAnswer
+    ensures answer { IsSome (find_set name.now catalogue.old) → result ≡ AclAnswer.Done }
+    ensures sets { catalogue.new ≡ with_acl name.now acl catalogue.old }
+{
+    match catalogue.set_acl(name, acl) {
+        Ok(_) => AclAnswer::Done,
+        Err(NoSet) => AclAnswer::Denied(Reason::NoSet),
     }
 }
 
@@ -402,6 +485,59 @@ fn read_at(alloc: Global, records: &Records, position: u64) -> Result<Answered, 
             answer: GuardAnswer::EndOfFile,
             position,
         }),
+    }
+}
+
+// Reads the record at a position, where that was granted.
+fn read_by(
+    alloc: Global,
+    decision: Decision,
+    set: &DataSet,
+    position: u64,
+) -> Result<Answered, AllocError>
+    ensures answer { IfOk result (λ answered. answered ≡ told position (acted_by decision (Read position) set.now)) }
+    ensures memory { OnErr result (IsSome (acted_by decision (Read position) set.now).position) }
+{
+    match decision {
+        Decision::Granted => read_at(alloc, &set.records, position),
+        Decision::Denied(decider) => Ok(Answered::denied(Reason::of(decider, &set.acl), position)),
+    }
+}
+
+// Writes a record at a position, where that was granted.
+fn write_by(
+    decision: Decision,
+    set: &mut DataSet,
+    position: u64,
+    line: Line,
+) -> Result<Answered, AllocError>
+    requires short { length line ≤ MOST_RECORD_CHARACTERS }
+    ensures answer { IfOk result (λ answered. answered ≡ told position (acted_by decision (Write position line) set.old)) }
+    ensures set { OnOk result (set.new ≡ set_after (acted_by decision (Write position line) set.old).change set.old) }
+    ensures unchanged { OnErr result (set.new ≡ set.old) }
+    ensures memory { OnErr result (IsSome (acted_by decision (Write position line) set.old).position) }
+{
+    match decision {
+        Decision::Granted => match set.put_at(position, line) {
+            Ok(()) => Ok(Answered::done(set.records.len())),
+            Err(Stop::Refused(SetFull)) => Ok(Answered::full(position)),
+            Err(Stop::Memory) => Err(AllocError),
+        },
+        Decision::Denied(decider) => Ok(Answered::denied(Reason::of(decider, &set.acl), position)),
+    }
+}
+
+// Cuts off the records at a position and behind it, where that was granted.
+fn end_by(decision: Decision, set: &mut DataSet, position: u64) -> Answered
+    ensures answer { result ≡ told position (acted_by decision (End position) set.old) }
+    ensures set { set.new ≡ set_after (acted_by decision (End position) set.old).change set.old }
+{
+    match decision {
+        Decision::Granted => {
+            set.cut_at(position);
+            Answered::done(set.records.len())
+        }
+        Decision::Denied(decider) => { Answered::denied(Reason::of(decider, &set.acl), position) }
     }
 }
 

@@ -8,8 +8,11 @@
 pub mod answer;
 pub mod guard;
 pub mod laws;
+pub mod rows;
 pub mod shown;
 
 pub use answer::{AclAnswer, Answered, Decided, GuardAnswer, Reason};
 pub use guard::Guard;
+pub use mon_acl::AclText;
+pub use rows::{MOST_ROWS, Row};
 pub use shown::{ShownAcl, ShownName};

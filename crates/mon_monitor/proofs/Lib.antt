@@ -1,7 +1,12 @@
 pub mod Playing
 pub mod Histories
-pub mod Steps
-pub mod Owners
+mod Talking
+mod Exchanging
+mod Seating
+mod Telling
+mod Recounting
+mod Accounting
+mod Headline
 mod Finding
 mod Names
 mod Requests

@@ -87,9 +87,6 @@ pub given_end : (s n : ℕ) (w w' : World) (before after : List ℕ) (end : JobE
 given_end s n w w' before after end accounts is printed =
     given s n w w' before after (end ∷ []) accounts is (printed ∙ ap (λ (t : List ℕ). before ++ t) (sym (append-nil (printout end))))
 
-pub given_none : (s n : ℕ) (w w' : World) (before : List ℕ) → w'.accounts ≡ w.accounts → MarkedIs (only s n) w.floor [] w'.floor → Happens (Give s n) w before w' before
-given_none s n w w' before accounts is = given s n w w' before before [] accounts is (sym (append-nil before))
-
 -- a command
 pub served : (command : Command) (w w' : World) (before after text : List ℕ) → w' ≡ with_sets w (commanded w.accounts w.floor.sets command).sets
     → text ≡ (commanded w.accounts w.floor.sets command).printout → after ≡ before ++ text → HappensUnmarked (Serve command) w before w' after

@@ -286,9 +286,6 @@ module _ (account : Account) (units : UnitState) (sets others : Sets) (alike : B
   effect_alike : effect account units q (looked (set_of units q) sets) ≡ effect account units q (looked (set_of units q) others)
   effect_alike = ap (effect_of q (tie_at units (unit_of q.act)).target units) here.acted
 
-  abbrev before_both : Reach
-  before_both = record { sets = sets; units = units }
-
   abbrev after : Reach
   after = (serve account (record { sets = sets; units = units }) q).1
 

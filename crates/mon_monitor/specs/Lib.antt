@@ -5,7 +5,8 @@ pub mod Played
 pub mod Told
 pub mod Happening
 pub mod Laws
-pub mod Steps
+pub mod History
+pub mod Headline
 pub mod Agreeing
 pub mod Isolation
 pub mod Beginnings

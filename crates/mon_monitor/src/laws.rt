@@ -1,6 +1,6 @@
 //! Laws of events. Each is the contract of a function that does nothing, or only cites laws of the crates below.
 ghost use Rattle.mon_monitor.specs.Laws.{CardByCard, PrintedInOrder, PlayedUnmarked, DrainEmpties, LoadHasRoom, CommandsKeepSlots, AccountsStay, SlotsStay};
-ghost use Rattle.mon_monitor.specs.Steps.{StepsLead, ChangedWhereGranted, StepsHaveTheirEvents};
+ghost use Rattle.mon_monitor.specs.Headline.{HistoryTells};
 
 use mon_slots::laws;
 
@@ -50,23 +50,19 @@ pub fn slots_stay()
     ensures { SlotsStay }
 {}
 
-/// Nothing but the steps changes data sets: each begins with those that the one before it left.
-pub fn steps_lead()
-    ensures { StepsLead }
-{}
-
-/// A data set is afterwards what it was before, or a step asked for its change and was granted it.
-pub fn changed_where_granted()
-    ensures { ChangedWhereGranted }
+/// From empty slots on, one list tells all that happens: of each job what its program means, one entry after another over the
+/// data sets as they stand, who is granted what, why something is denied, and what is printed.
+pub fn history_tells()
+    ensures { HistoryTells }
 {
+    laws::spells_one();
+    laws::reads_programs();
+    laws::room_is_made();
+    slots_stay();
+    mon_unit::laws::got_where_granted();
     mon_unit::laws::changed_where_granted();
-    mon_unit::laws::one_change();
+    mon_unit::laws::denials_say_why();
     mon_command::laws::changes_where_granted();
-    mon_command::laws::other_sets_stay();
+    mon_command::laws::shows_where_granted();
+    mon_command::laws::denials_say_why();
 }
-
-/// From empty slots on, all that is asked is asked by a job that was loaded, for the account that its card names, and all that
-/// is ordered by a command.
-pub fn steps_have_their_events()
-    ensures { StepsHaveTheirEvents }
-{}

@@ -12,4 +12,7 @@ pub mod laws;
 pub mod monitor;
 mod printing;
 
+pub use mon_command::{Command, Printout};
+pub use mon_job::{JobDeck, JobEnd, LoadError, put_printout, put_refusal};
+pub use mon_slots::Turned;
 pub use monitor::Monitor;

@@ -1,9 +1,9 @@
 -- A turn ends its job, or begins one of the statements that are left.
-use Rattle.std.proofs.Common.{◌≡◌, ℕ, suc, ◌+◌, ◌<◌, ◌≤◌, Option, Some, None, refl, sym, subst, inl, inr, arith}
+use Rattle.std.proofs.Common.{◌≡◌, ℕ, suc, ◌+◌, ◌<◌, ◌≤◌, Option, Some, None, refl, sym, ap, ◌∙◌, subst, inl, inr, arith}
 use Rattle.std.specs.Prelude.{◌⊎◌, slice_get}
 use Rattle.sno_talk.specs.Talks.{Talk, Ends, Asks, ◌>>=◌}
 use Rattle.sno_talk.specs.Endings.{EndsIn}
-use Rattle.sno_talk.proofs.Enough.{ends_in_then}
+use Rattle.sno_talk.proofs.Enough.{ends_in_then, each_ends}
 use Rattle.sno_ask.specs.declared.request.Request.{Request}
 use Rattle.sno_ask.specs.declared.answer.Answer.{Answer}
 use Rattle.sno_ask.specs.Asking.{Asking}
@@ -96,3 +96,23 @@ job_less {S} reply job w = by (job.ended)
         let is = run_bind reply t (λ after. Ends (stepped job after)) w in
         subst (λ (r : (Step × Job) × S). Less job r.0.0 r.0.1) (sym is)
         (at (run reply t w).0 (run_ends (Fewer job.limits job.state) reply t w (turn_fewer job.limits job.program job.point job.state)))
+
+-- a turn leaves a job's limits, and where it ends, the job has ended so
+abbrev pub Comes : Job → Step × Job → Type 0
+Comes job r = (r.1.limits ≡ job.limits) × ((ending : Ending) → r.0 ≡ step.Ended ending → r.1.ended ≡ Some ending)
+
+module _ (job : Job) where
+  same_ending : (one other : Ending) → step.Ended one ≡ step.Ended other → one ≡ other
+  same_ending one other h = cc (h)
+
+  comes_of : (t : Turned) (s : State) → Comes job (stepped job (t, s))
+  comes_of (Goes p) s = (refl, λ ending is. absurd (let e : step.Goes ≡ step.Ended ending = is in cc (e)))
+  comes_of (Ended h) s = (refl, λ ending is. ap (λ (e : Ending). Some e) (same_ending (ending_of h s) ending is))
+
+  comes_from : (o : Option Ending) → job.ended ≡ o → EndsIn (Comes job) (turn_from o job)
+  comes_from (Some e) is = (refl, λ ending same. is ∙ ap (λ (x : Ending). Some x) (same_ending e ending same))
+  comes_from None is =
+      each_ends (Comes job) (turn (keeping job.limits) evaluate name_of job.program job.limits.statements job.point job.state) (stepped job) (λ r. comes_of r.0 r.1)
+
+pub turn_comes : {S : Type 0} (reply : S → Request → Answer × S) (job : Job) (w : S) → Comes job (run reply (turn_of job) w).0
+turn_comes reply job w = run_ends (Comes job) reply (turn_of job) w (comes_from job job.ended refl)

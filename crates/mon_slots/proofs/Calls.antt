@@ -21,13 +21,13 @@ use Rattle.mon_job.specs.declared.job_end.JobEnd.{JobEnd}
 use Rattle.mon_slots.specs.declared.slot.Slot.{Slot}
 use Rattle.mon_slots.specs.declared.turned.Turned.{Turned}
 use Rattle.mon_slots.specs.declared.turned.Turned.TheVariants.{Empty, Goes, Ended}
-use Rattle.mon_slots.specs.Told.{slot_of, seat_of, seats_of}
+use Rattle.mon_slots.specs.Told.{seat_of, seats_of}
 use Rattle.mon_slots.specs.Floors.{SlotState, Floor, floor, seated, seat_at, with_seat, job_in}
 use Rattle.mon_slots.specs.Turns.{reached, after_turn, job_end, seat, told, turned}
 use Rattle.mon_slots.specs.Marks.{Mark, counted, may_break, broken_by, ran_as, turn_as_by, turn_as}
 use Rattle.mon_slots.specs.Turning.{TurnOr, ended_in}
 use Rattle.mon_slots.specs.inner.Stepping.{BrokenOff, Stepped, SeatStep, Leaving, StepOr, one_in, jobs_in}
-use Rattle.mon_slots.proofs.Seats.{set_length, set_get, get_set, set_set, map_get, map_set, map_length}
+use Rattle.mon_slots.proofs.Seats.{set_get, get_set, set_set, map_get, map_set}
 
 -- a statement may begin where a turn is broken off
 pub may_break_is : (job : Job) → job.ended ≡ None → MayBegin job → may_break job ≡ true
@@ -173,26 +173,12 @@ jobs_few [] = omega arith
 jobs_few (None ∷ slots) = let k = jobs_few slots in omega (arith, k)
 jobs_few (Some x ∷ slots) = let k = jobs_few slots in omega (arith, k)
 
--- a turn of what a slot holds
-pub seat_none : (o o' : Option Slot) (sets : Sets) → o ≡ None → o' ≡ None → SeatStep (seat_of o) sets None (seat_of o') sets
-seat_none None o' sets h g = (refl, ap seat_of g, refl)
-seat_none (Some x) o' sets h g = absurd cc
-
-pub seat_went : (o o' : Option Slot) (slot slot' : Slot) (st : Step) (sets sets' : Sets) → o ≡ Some slot → Stepped (slot_of slot) sets st (slot_of slot') sets'
-    → o' ≡ Some slot' → SeatStep (seat_of o) sets (Some st) (seat_of o') sets'
-seat_went o o' slot slot' st sets sets' is h after =
-    subst (λ (x : Option Slot). SeatStep (seat_of x) sets (Some st) (seat_of o') sets') (sym is)
-    (record { step = st; after = slot_of slot'; stepped = h; tells = refl; stays = ap seat_of after })
-
 -- the slots of the program
 pub slots_step : (i s : ℕ) (sets sets' : Sets) (slots : List (Option Slot)) (o o' : Option Slot) (r : Option Step) → s ≡ suc i → slice_get slots i ≡ Some o
     → SeatStep (seat_of o) sets r (seat_of o') sets' → StepOr s (floor sets (seats_of slots)) r (floor sets' (seats_of (slice_set slots i o')))
 slots_step i s sets sets' slots o o' r e is h =
     subst (λ (l : List (Option SlotState)). StepOr s (floor sets (seats_of slots)) r (floor sets' l)) (sym (map_set seat_of slots i o'))
     (seat_step i s sets sets' (seats_of slots) (seat_of o) (seat_of o') r e (map_get seat_of slots i ∙ ap (option_map seat_of) is) h)
-
-pub seats_length : (slots : List (Option Slot)) (i : ℕ) (o : Option Slot) → length (seats_of (slice_set slots i o)) ≡ length (seats_of slots)
-seats_length slots i o = map_length seat_of (slice_set slots i o) ∙ set_length slots i o ∙ sym (map_length seat_of slots)
 
 -- the seat of a slot of the program, once its index is known
 pub record Found (s i : ℕ) (slots : List (Option Slot)) (o : Option Slot) : Type 0 where

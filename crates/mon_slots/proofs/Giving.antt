@@ -1,5 +1,5 @@
 -- Turns of one slot, until it is empty.
-use Rattle.std.proofs.Common.{◌≡◌, ℕ, zero, suc, ◌+◌, ◌-◌, ◌<◌, ◌≤◌, List, [], ◌∷◌, ◌++◌, Option, Some, None, replicate, refl, ap, sym, ◌∙◌, subst, arith, append_assoc}
+use Rattle.std.proofs.Common.{◌≡◌, ℕ, zero, suc, ◌+◌, ◌-◌, ◌<◌, List, [], ◌∷◌, ◌++◌, Option, Some, None, replicate, refl, ap, sym, ◌∙◌, subst, arith, append_assoc}
 use Rattle.std.specs.Prelude.{slice_get, slice_set}
 use Rattle.sno_run.specs.declared.ending.Step.{Step}
 use Rattle.sno_run.specs.declared.ending.Step.TheVariants as step
@@ -11,7 +11,7 @@ use Rattle.mon_slots.specs.Turns.{after_turn, job_end, seat, told, ends_by, only
 use Rattle.mon_slots.specs.Marks.{Mark, Marks, ran_as, turn_as_by, nothing, and_then, until, never}
 use Rattle.mon_slots.specs.Turning.{TurnOr, UntilIs, MarkedIs}
 use Rattle.mon_slots.specs.inner.Rounding.{Ahead}
-use Rattle.mon_slots.proofs.Rounding.{passed, begin, ahead_more, ahead_done}
+use Rattle.mon_slots.proofs.Rounding.{passed, begin, ahead_more}
 
 not_empty : (st : Step) (slot : SlotState) → told st slot ≡ Empty → ⊥
 not_empty step.Goes slot h = let k : Goes ≡ Empty = h in cc (k)
@@ -90,8 +90,3 @@ module _ (s count : ℕ) (w : Floor) where
         let none = ended_by turn.mark s now now' (job_in s now) e turn.is in
         rest_idle (only s count) w (e ∷ []) s (count - (i + 1)) now' none
         (ahead_more never (only s count) w [] (e ∷ []) s (only s (count - (i + 1))) now now' (Ended e) refl (next few) turn refl)
-
-  pub giving_done : (i : ℕ) (now : Floor) → count ≤ i → Ahead never (only s count) w [] (only s (count - i)) now → MarkedIs (only s count) w [] now
-  giving_done i now all h =
-      let e : count - i ≡ 0 = omega (arith, all) in
-      ahead_done never (only s count) w [] (only s (count - i)) now (ap (only s) e) h

@@ -17,7 +17,7 @@ use Rattle.sno_syntax.specs.declared.start.Start.{Start}
 use Rattle.sno_syntax.specs.Labels.{LabelList, label_fault}
 use Rattle.sno_syntax.specs.Refusals.{label_of, tokens_of, with_label, labels_in, start_in, grammar_refusal, stage_refusal, label_first, statement_refusal, either, statements_refusal, end_refusal}
 use Rattle.sno_statement.specs.declared.fault.Fault.{Fault}
-use Rattle.sno_statement.specs.Faults.{noted, refusal as walk_refusal, fault, earlier}
+use Rattle.sno_statement.specs.inner.Faults.{noted, refusal as walk_refusal, fault, earlier}
 use Rattle.sno_statement.proofs.Grammar.{taken, notes_exactly}
 use Rattle.sno_cards.specs.declared.refusal.SyntaxCode.{SyntaxCode}
 use Rattle.sno_syntax.specs.Programs.{Program, AreTokensOf, SpellFrom}

@@ -1,18 +1,17 @@
 -- What the loops over turns and rounds come to.
-use Rattle.std.proofs.Common.{◌≡◌, ◌≢◌, ℕ, suc, ◌+◌, ◌-◌, ◌<◌, ◌≤◌, Bool, true, false, List, [], ◌∷◌, ◌++◌, length, None, refl, ap, sym, ◌∙◌, subst, inl, inr, arith, append_assoc}
+use Rattle.std.proofs.Common.{◌≡◌, ◌≢◌, ℕ, suc, ◌+◌, ◌-◌, ◌<◌, ◌≤◌, Bool, true, false, List, [], ◌∷◌, ◌++◌, length, refl, ap, sym, ◌∙◌, subst, inl, inr, arith, append_assoc}
 use Rattle.std.specs.Prelude.{map}
 use Rattle.mon_job.specs.declared.job_end.JobEnd.{JobEnd}
 use Rattle.mon_slots.specs.declared.turned.Turned.{Turned}
 use Rattle.mon_slots.specs.declared.turned.Turned.TheVariants.{Empty, Goes, Ended}
 use Rattle.mon_slots.specs.declared.rounds.Goal.{Goal}
 use Rattle.mon_slots.specs.declared.rounds.Goal.TheVariants as goal
-use Rattle.mon_slots.specs.Floors.{Floor, job_in}
+use Rattle.mon_slots.specs.Floors.{Floor}
 use Rattle.mon_slots.specs.Turns.{ends_by}
 use Rattle.mon_slots.specs.Marks.{Marks, Past, nothing, and_then, until, from, rounds, turns_left, rounds_until, is_done}
 use Rattle.mon_slots.specs.Turning.{TurnOr, Passed, UntilIs, RoundsAre, ended_in}
-use Rattle.mon_slots.specs.inner.Rounding.{Ahead, RoundTo, Going, OneTurn, Unless, stop_of}
-use Rattle.mon_slots.proofs.Calls.{empty_turn}
-use Rattle.mon_slots.proofs.Past.{either_way, until_stops, until_goes, until_append, until_length, after_past, rounds_same, round_falls, room_at_last}
+use Rattle.mon_slots.specs.inner.Rounding.{Ahead, RoundTo, Going, Unless, stop_of}
+use Rattle.mon_slots.proofs.Past.{until_stops, until_goes, until_append, until_length, after_past, rounds_same, round_falls, room_at_last}
 
 append_empty : {A : Type 0} (xs : List A) → xs ++ [] ≡ xs
 append_empty [] = refl
@@ -106,11 +105,6 @@ module _ (stop : Floor → Bool) where
         (subst (λ (F : List ℕ). Ahead stop (from 1 (length w.slots)) w r.more F now) (from_step s n below) r.is) one refl;
   }
 
-  pub round_over : (w : Floor) (before ends : List JobEnd) (s n : ℕ) (now : Floor) → n ≤ s → RoundTo stop w before ends (from (s + 1) (n - s)) now → RoundTo stop w before ends [] now
-  round_over w before ends s n now h r =
-      let e : n - s ≡ 0 = omega (arith, h) in
-      subst (λ (k : ℕ). RoundTo stop w before ends (from (s + 1) k) now) e r
-
   pub round_step : (w : Floor) (before ends ends' : List JobEnd) (s n : ℕ) (now now' : Floor) → s < n
       → RoundTo stop w before ends (from (s + 1) (n - s)) now → Unless stop (s + 1) now ends ends' now'
       → RoundTo stop w before ends' (from (s + 1 + 1) (n - (s + 1))) now'
@@ -119,17 +113,6 @@ module _ (stop : Floor → Bool) where
       subst (λ (l : List JobEnd). RoundTo stop w before l (from (s + 1 + 1) (n - (s + 1))) now') (sym u.1)
       (subst (λ (v : Floor). RoundTo stop w before ends (from (s + 1 + 1) (n - (s + 1))) v) (sym u.2) same)
   round_step w before ends ends' s n now now' below r (inr u) = round_turn w before ends ends' s n now now' u.1.told below u.0 r u.1.is u.1.kept
-
--- a slot that is empty is passed, and so is one where the goal is met
-pub unless_empty : (stop : Floor → Bool) (s : ℕ) (w : Floor) (ends : List JobEnd) → job_in s w ≡ None → Unless stop s w ends ends w
-unless_empty stop s w ends none = elim (either_way (stop w)) [
-  | inl h ↦ inl (h, refl, refl)
-  | inr h ↦ inr (h, record { told = Empty; is = empty_turn s w none; kept = sym (append_empty ends) })
-]
-
--- a turn that ends no job keeps nothing
-pub kept_none : (s : ℕ) (w w' : Floor) (t : Turned) (ends : List JobEnd) → TurnOr s w t w' → ended_in t ≡ [] → OneTurn s w ends ends w'
-kept_none s w w' t ends one none = record { told = t; is = one; kept = sym (append_empty ends) ∙ ap (λ (l : List JobEnd). ends ++ l) (sym none) }
 
 -- a whole round
 module _ (stop : Floor → Bool) (size : ℕ) (at_last : (v : Floor) → length v.slots ≡ size → is_done v ≡ true → stop v ≡ true)

@@ -40,7 +40,7 @@ fn lines_of(alloc: Global, text: &str) -> Option<Vec<Line>> {
     Some(lines)
 }
 
-fn read(alloc: Global, text: &str) -> Option<Catalogue> {
+pub(crate) fn read(alloc: Global, text: &str) -> Option<Catalogue> {
     let lines = lines_of(alloc, text)?;
     if lines.len() < 100 {
         read_text(alloc, &lines).ok()

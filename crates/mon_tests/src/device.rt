@@ -2,6 +2,7 @@
 use mon_device::{DeckReader, DeckWriter, StdReader, StdWriter};
 use std::io;
 use std::io::{ErrorKind, Read, Write};
+use std::marker::Brand;
 
 /// A stream whose calls are interrupted so often, and then move a byte; or fail.
 #[derive(Drop)]
@@ -43,11 +44,11 @@ impl Write for Stream {
 
 // Whether a read and a write, interrupted so often, fail as they should.
 fn answers(interruptions: u32, fails: bool) -> bool {
-    let mut reader = StdReader::new(Stream {
+    let mut reader = StdReader::<Stream, Brand>::new(Stream {
         interruptions,
         fails,
     });
-    let mut writer = StdWriter::new(Stream {
+    let mut writer = StdWriter::<Stream, Brand>::new(Stream {
         interruptions,
         fails,
     });

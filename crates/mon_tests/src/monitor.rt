@@ -22,7 +22,7 @@ fn create() -> Option<Command> {
 }
 
 fn is_created(alloc: Global, accounts: &Accounts, catalogue: &mut Catalogue) -> bool {
-    let mut guard = Guard::new();
+    let mut guard = Guard::new(alloc);
     match create() {
         Some(command) => {
             matches!(serve(alloc, accounts, &mut guard, catalogue, command), Ok(printout) if printout.as_slice() == b"CREATE anna NOTE\nDONE\n".as_slice())

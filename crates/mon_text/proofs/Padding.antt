@@ -1,11 +1,12 @@
--- Two names compare as the arrays that they lie in, with zeros behind them.
-use Rattle.std.proofs.Common.{◌≡◌, ℕ, zero, suc, ◌+◌, ◌-◌, ◌<◌, ◌≤◌, ◌==◌, ◌++◌, drop, get_or, nat_le, get_or-drop, get_or-append-add, subst, Bool, true, false, ◌&&◌, List, [], ◌∷◌, length, take, refl, sym, ap, ◌∙◌, arith, nat_cmp, Ordering, true≢false}
+-- Names and the arrays that they lie in, with zeros behind them: how two compare, and the number that begins one.
+use Rattle.std.proofs.Common.{◌≡◌, ℕ, zero, suc, ◌+◌, ◌-◌, ◌*◌, ◌<◌, ◌≤◌, ◌==◌, ◌++◌, drop, get_or, nat_le, get_or-drop, get_or-append-add, subst, Bool, true, false, ◌&&◌, List, [], ◌∷◌, length, length-take, take, refl, sym, ap, ◌∙◌, arith, nat_cmp, Ordering, true≢false}
 use Rattle.std.specs.List.{list_all}
 use Rattle.std.proofs.lemmas.Bool.Decides.{Decides-eqb, nat_tests}
 use Rattle.std.specs.Cmp.Lexicographic.{slice_cmp}
+use Rattle.std.specs.Slice.Scan.{big_endian}
 use Rattle.std.specs.Ordering.{ordering_then}
 use Rattle.mon_text.specs.Characters.{is_letter}
-use Rattle.mon_text.specs.Names.{is_name_character, IsName}
+use Rattle.mon_text.specs.Names.{is_name_character, IsName, first_of, head_of}
 use Rattle.mon_text.specs.inner.Padding.{IsZeroFrom}
 use Rattle.mon_text.proofs.WordOrder.{below, level, above}
 
@@ -79,3 +80,30 @@ zeros_behind n text xs e h = λ k le.
     let at : length text + (k - n) ≡ k = omega arith in
     subst (λ (j : ℕ). get_or (text ++ drop n xs) j 0 ≡ 0) at
     (get_or-append-add text (drop n xs) (k - n) 0 ∙ get_or-drop n xs (k - n) 0 ∙ zeros xs h (n + (k - n)))
+
+-- ---- the number that begins a name
+-- up to its length and behind it, the array has the name's characters and then zeros
+same_at : (n : ℕ) (cs : List ℕ) (i : ℕ) → IsZeroFrom n cs → get_or cs i 0 ≡ get_or (take n cs) i 0
+same_at zero cs i z = z i (omega arith)
+same_at (suc n) [] i z = refl
+same_at (suc n) (c ∷ cs) zero z = refl
+same_at (suc n) (c ∷ cs) (suc i) z = same_at n cs i (λ k h. z (suc k) (omega arith))
+
+-- the first seven characters as they are read
+seven : (q : List ℕ) → first_of 7 q ≡ get_or q 0 0 ∷ get_or q 1 0 ∷ get_or q 2 0 ∷ get_or q 3 0 ∷ get_or q 4 0 ∷ get_or q 5 0 ∷ get_or q 6 0 ∷ []
+seven [] = refl
+seven (a ∷ []) = refl
+seven (a ∷ b ∷ []) = refl
+seven (a ∷ b ∷ c ∷ []) = refl
+seven (a ∷ b ∷ c ∷ d ∷ []) = refl
+seven (a ∷ b ∷ c ∷ d ∷ e ∷ []) = refl
+seven (a ∷ b ∷ c ∷ d ∷ e ∷ f ∷ []) = refl
+seven (a ∷ b ∷ c ∷ d ∷ e ∷ f ∷ g ∷ rest) = refl
+
+-- the bytes in front of an array are the head of the name in it
+pub head_is : (n : ℕ) (cs : List ℕ) → n ≤ length cs → IsZeroFrom n cs →
+    n * 72057594037927936 + get_or cs 0 0 * 281474976710656 + get_or cs 1 0 * 1099511627776 + get_or cs 2 0 * 4294967296
+    + get_or cs 3 0 * 16777216 + get_or cs 4 0 * 65536 + get_or cs 5 0 * 256 + get_or cs 6 0 ≡ head_of (take n cs)
+head_is n cs h z =
+    omega (arith, length-take n cs, same_at n cs 0 z, same_at n cs 1 z, same_at n cs 2 z, same_at n cs 3 z, same_at n cs 4 z, same_at n cs 5 z, same_at n cs 6 z)
+    ∙ sym (ap (λ (xs : List ℕ). big_endian 0 (length (take n cs) ∷ xs)) (seven (take n cs)))

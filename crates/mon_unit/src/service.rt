@@ -1,16 +1,17 @@
 //! The service that answers a program's requests from units and data sets.
-ghost use Rattle.std.specs.Prelude.{◌≡◌, ◌≤◌, length, slice_get, IfOk, OnOk, OnErr};
+ghost use Rattle.std.specs.Prelude.{◌≡◌, ◌≤◌, length, take, slice_get, IfOk, OnOk, OnErr};
 ghost use Rattle.mon_guard.specs.Acting.{read_at};
+ghost use Rattle.mon_guard.specs.Rows.{RowsFit};
 ghost use Rattle.mon_unit.specs.Serving.{serve, answer_of, moved};
-ghost use Rattle.mon_unit.specs.inner.Settling.{reach, asked};
+ghost use Rattle.mon_unit.specs.inner.Settling.{reach, asked, settled, IsNoted};
 
 use crate::note::{NoteAct, NoteTarget};
 use crate::tie::{Target, Tie};
 use crate::units::Units;
 use mon_access::Account;
 use mon_catalogue::{Catalogue, MOST_RECORD_CHARACTERS};
-use mon_guard::{Guard, Reason};
-use mon_text::Line;
+use mon_guard::{Answered, Guard, Reason};
+use mon_text::{Line, Name};
 use sno_ask::{Act, Answer, Request, Service};
 use std::alloc::{AllocError, Global};
 
@@ -29,8 +30,9 @@ pub struct UnitService<'a> {
 
 impl Service for UnitService<'_> {
     ghost use Rattle.mon_unit.specs.Lent.{UnitAnswers};
+    ghost use Rattle.mon_guard.specs.Rows.{RowsFit};
 
-    ghost ready = { λ s. Unit {0} };
+    ghost ready = { λ s. RowsFit s.guard.now s.catalogue.now };
 
     ghost answers = { UnitAnswers };
 
@@ -83,9 +85,11 @@ fn read(
     statement: u64,
     unit: u64,
 ) -> Result<Answer, AllocError>
+    requires fit { RowsFit guard.old catalogue.now }
     ensures served { IfOk result (λ answer. serve account.now (reach catalogue.now units.old) (asked statement (Act.Read unit)) ≡ (answer, reach catalogue.now units.new)) }
     ensures unchanged { OnErr result (units.new ≡ units.old) }
-    ensures guard { guard.new ≡ guard.old }
+    ensures guard { OnErr result (guard.new ≡ guard.old) }
+    ensures fit { RowsFit guard.new catalogue.now }
 {
     let Tie { target, position } = units.tie_at(unit);
     match target {
@@ -93,8 +97,18 @@ fn read(
         Target::Data => read_deck(alloc, units, unit, position),
         Target::Spool => units.denied(statement, NoteAct::Read, unit, Reason::SpoolUnit),
         Target::Set(name) => {
+            let rows = guard.rows();
             let told = guard.read(alloc, account, catalogue, &name, position)?;
-            units.settle(statement, NoteAct::Read, NoteTarget::Set(name), unit, told)
+            settle(
+                guard,
+                rows,
+                units,
+                statement,
+                NoteAct::Read,
+                name,
+                unit,
+                told,
+            )
         }
     }
 }
@@ -110,10 +124,12 @@ fn write(
     line: &Line,
 ) -> Result<Answer, AllocError>
     requires short { length line.now ≤ MOST_RECORD_CHARACTERS }
+    requires fit { RowsFit guard.old catalogue.old }
     ensures served { IfOk result (λ answer. serve account.now (reach catalogue.old units.old) (asked statement (Act.Write unit line.now)) ≡ (answer, reach catalogue.new units.new)) }
     ensures sets { OnErr result (catalogue.new ≡ catalogue.old) }
     ensures unchanged { OnErr result (units.new ≡ units.old) }
-    ensures guard { guard.new ≡ guard.old }
+    ensures guard { OnErr result (guard.new ≡ guard.old) }
+    ensures fit { RowsFit guard.new catalogue.new }
 {
     let Tie { target, position } = units.tie_at(unit);
     match target {
@@ -125,8 +141,18 @@ fn write(
         }
         Target::Set(name) => {
             let line = line.copy(alloc)?;
+            let rows = guard.rows();
             let told = guard.write(account, catalogue, &name, position, line)?;
-            units.settle(statement, NoteAct::Write, NoteTarget::Set(name), unit, told)
+            settle(
+                guard,
+                rows,
+                units,
+                statement,
+                NoteAct::Write,
+                name,
+                unit,
+                told,
+            )
         }
     }
 }
@@ -139,10 +165,12 @@ fn end(
     statement: u64,
     unit: u64,
 ) -> Result<Answer, AllocError>
+    requires fit { RowsFit guard.old catalogue.old }
     ensures served { IfOk result (λ answer. serve account.now (reach catalogue.old units.old) (asked statement (Act.Endfile unit)) ≡ (answer, reach catalogue.new units.new)) }
     ensures sets { OnErr result (catalogue.new ≡ catalogue.old) }
     ensures unchanged { OnErr result (units.new ≡ units.old) }
-    ensures guard { guard.new ≡ guard.old }
+    ensures guard { OnErr result (guard.new ≡ guard.old) }
+    ensures fit { RowsFit guard.new catalogue.new }
 {
     let Tie { target, position } = units.tie_at(unit);
     match target {
@@ -150,11 +178,15 @@ fn end(
         Target::Data => units.denied(statement, NoteAct::Endfile, unit, Reason::InStream),
         Target::Spool => units.denied(statement, NoteAct::Endfile, unit, Reason::SpoolUnit),
         Target::Set(name) => {
+            let rows = guard.rows();
             let told = guard.end(account, catalogue, &name, position);
-            units.settle(
+            settle(
+                guard,
+                rows,
+                units,
                 statement,
                 NoteAct::Endfile,
-                NoteTarget::Set(name),
+                name,
                 unit,
                 told,
             )
@@ -200,5 +232,33 @@ fn read_deck(
             Ok(Answer::Got(line))
         }
         None => Ok(Answer::EndOfFile),
+    }
+}
+
+// Answers what the guard told of a data set, noted where it is to be. Where the growth for the note is refused, the guard is
+// left with the rows that it had before, so that the whole request leaves nothing behind.
+fn settle(
+    guard: &mut Guard,
+    rows: u64,
+    units: &mut Units,
+    statement: u64,
+    act: NoteAct,
+    name: Name,
+    unit: u64,
+    told: Answered,
+) -> Result<Answer, AllocError>
+    ensures answer { IfOk result (λ answer. answer ≡ answer_of told.answer) }
+    ensures settled { OnOk result (units.new ≡ settled statement act (NoteTarget.Set name) unit told units.old) }
+    ensures unchanged { OnErr result (units.new ≡ units.old) }
+    ensures memory { OnErr result (IsNoted told.answer) }
+    ensures kept { OnOk result (guard.new ≡ guard.old) }
+    ensures rows { OnErr result (guard.new ≡ take rows guard.old) }
+{
+    match units.settle(statement, act, NoteTarget::Set(name), unit, told) {
+        Ok(answer) => Ok(answer),
+        Err(AllocError) => {
+            guard.keep_first(rows);
+            Err(AllocError)
+        }
     }
 }

@@ -12,7 +12,7 @@ use Rattle.sno_expression.specs.declared.tree.UnaryOperator.{UnaryOperator}
 use Rattle.sno_expression.specs.Expressions.{Expression, Arguments, Identifier, Constant, Keyword, Unevaluated, Group, Call, Unary, Binary, NoArguments, Omitted, Argument, AreSome, IsOperand, HasLevels, HaveLevels}
 use Rattle.sno_expression.specs.inner.Reading.{Suits, Hole, Begin, After, Under, fill, Stack, Bottom, InGroup, InCall, Due, Named, Whole, State, At, prefixed, joined, begin, first, go_on, closed, after, read, result, Read, and_then, answer, reading, StopsAt, Stops}
 use Rattle.sno_expression.specs.Spelling.{spaced, Joins, Parts, SpellsTo, SpellTo}
-use Rattle.sno_expression.specs.Walking.{opens_call}
+use Rattle.sno_expression.specs.inner.Walking.{opens_call}
 use Rattle.sno_expression.proofs.Levels.{settle, settled}
 
 -- not a parenthesis that touches what stands before it

@@ -14,7 +14,7 @@ use Rattle.sno_expression.specs.declared.tree.Prefix.TheVariants.{OfOperand, OfI
 use Rattle.sno_expression.specs.Marks.{operator_of, prefix_of}
 use Rattle.sno_expression.specs.Expressions.{Expression, Identifier, Constant, Group, Call, Unary, NoArguments, Omitted, Argument, IsOperand}
 use Rattle.sno_expression.specs.inner.Reading.{Suits, Hole, Begin, After, Under, fill, Stack, Bottom, InGroup, InCall, Spot, Due, Prefixed, Named, Whole, State, At, with_prefix, prefixed, joined, begin, close, comma, first, go_on, closed, after, after_prefix, read, result}
-use Rattle.sno_expression.specs.Walking.{opens_call}
+use Rattle.sno_expression.specs.inner.Walking.{opens_call}
 
 abbrev Plain : Hole → Type 0
 Plain Begin = Unit {0}

@@ -16,9 +16,9 @@ use Rattle.sno_expression.specs.declared.walking.Move.{Move}
 use Rattle.sno_expression.specs.declared.walking.Move.TheVariants.{Into}
 use Rattle.sno_expression.specs.Marks.{operator_of, prefix_of}
 use Rattle.sno_expression.specs.Expressions.{Expression, Identifier, NoArguments}
-use Rattle.sno_expression.specs.Walking.{opens_call, inner_of}
+use Rattle.sno_expression.specs.inner.Walking.{opens_call, inner_of}
 use Rattle.sno_expression.specs.inner.Walks.{Walk, moved, take, may_end}
-use Rattle.sno_expression.specs.Walking as walking
+use Rattle.sno_expression.specs.inner.Walking as walking
 use Rattle.sno_expression.specs.inner.Reading.{Hole, Begin, After, Under, fill, Stack, Bottom, InGroup, InCall, Due, Prefixed, Named, Whole, State, At, prefixed, joined, begin, close, comma, first, go_on, closed, after, after_prefix, read, result, parens, variable_due, walk}
 
 abbrev pub walk_of : Option State → Option Walk

@@ -17,7 +17,7 @@ use Rattle.sno_expression.specs.declared.tree.Prefix.TheVariants.{OfOperand, OfI
 use Rattle.sno_expression.specs.Marks.{operator_of, prefix_of, needs_variable, operand_is_variable}
 use Rattle.sno_expression.specs.Expressions.{Expression, Arguments, Identifier, Constant, Keyword, Unevaluated, Group, Call, Unary, Binary, NoArguments, Omitted, Argument, binds_into_right, is_variable, Fits, HasVariables, HaveVariables}
 use Rattle.sno_expression.specs.inner.Counting.{bit, unfit, bad, bads, misfit}
-use Rattle.sno_expression.specs.Walking.{begins_variable, opens_call}
+use Rattle.sno_expression.specs.inner.Walking.{begins_variable, opens_call}
 use Rattle.sno_expression.specs.inner.Reading.{push, Hole, Begin, After, Under, fill, Stack, Bottom, InGroup, InCall, Due, Prefixed, Named, Whole, State, At, with_prefix, prefixed, joined, begin, close, comma, first, go_on, closed, after, after_prefix, read, ended, result, variable_due, walk}
 use Rattle.sno_expression.proofs.Levels.{none_needed}
 

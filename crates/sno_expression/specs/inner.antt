@@ -1,3 +1,4 @@
+pub mod Walking
 pub mod Walks
 pub mod Counting
 pub mod Variables

@@ -2,7 +2,7 @@
 
 ghost use Rattle.std.specs.Prelude.{◌≡◌, ◌≤◌, IfOk, length, drop, true, false, Some, None};
 ghost use Rattle.sno_expression.specs.Marks.{operator_of, prefix_of};
-ghost use Rattle.sno_expression.specs.Walking.{inner_of};
+ghost use Rattle.sno_expression.specs.inner.Walking.{inner_of};
 ghost use Rattle.sno_expression.specs.Expressions as expressions;
 ghost use Rattle.sno_expression.specs.inner.Spines.{is_element};
 ghost use Rattle.sno_expression.specs.inner.Reading.{fill, prefixed, joined, begin, close, comma, first, go_on, closed, after, due, omitted, omitted_last, after_prefix, named, read, ended, result as result_of, parens, Read, reading};

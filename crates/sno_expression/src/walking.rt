@@ -1,7 +1,7 @@
 //! Which tokens may come next in an expression, over data that are copied, with no tree.
 
 ghost use Rattle.std.specs.Prelude.{◌≡◌};
-ghost use Rattle.sno_expression.specs.Walking.{prefixed, joined, begin, close, comma, first, go_on, stops, after_operand, after_prefix, opens_call, after_identifier, step, ends, begins_variable, is_misfit, misfit_index};
+ghost use Rattle.sno_expression.specs.inner.Walking.{prefixed, joined, begin, close, comma, first, go_on, stops, after_operand, after_prefix, opens_call, after_identifier, step, ends, begins_variable, is_misfit, misfit_index};
 
 use crate::tree::{
     BinaryOperator, Prefix, needs_variable, operand_is_variable, operator_of, prefix_of,

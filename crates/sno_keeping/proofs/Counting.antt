@@ -30,7 +30,7 @@ use Rattle.sno_code.specs.Keeping.{Matched, Entered, Undefined, Enters, Refused}
 use Rattle.sno_code.specs.Limits.{Counts}
 use Rattle.sno_store.specs.declared.keyword.Keyword.{Keyword}
 use Rattle.sno_store.specs.declared.keyword.Keyword.TheVariants.{Anchor, FullScan, Trim, StatementLimit, MaximumLength, StatementCount, StatementNumber, FunctionLevel}
-use Rattle.sno_store.specs.declared.level.Level.{Level}
+use Rattle.sno_store.specs.Levels.{Level}
 use Rattle.sno_store.specs.declared.store.Store.{Store as State}
 use Rattle.sno_store.specs.Variables as variables
 use Rattle.sno_store.specs.Variables.{Use, use_of, variable_of}

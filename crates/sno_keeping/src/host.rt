@@ -1,6 +1,6 @@
 //! Who a match asks: the variables of the job, which may read and write records.
-ghost use Rattle.std.specs.Prelude.{◌≡◌, IfOk, OnErr};
-ghost use Rattle.sno_ask.specs.Asking.{Held, Cut};
+ghost use Rattle.std.specs.Prelude.{◌≡◌, IfOk};
+ghost use Rattle.sno_ask.specs.Asking.{Runs};
 ghost use Rattle.sno_pattern.specs.Looks.{LookUp, Assign};
 ghost use Rattle.sno_pattern.specs.Hosts.{WasFound, WasGiven};
 ghost use Rattle.sno_keeping.specs.Using.{used, assigned};
@@ -94,8 +94,7 @@ fn use_variable<S: Service>(
     service: &mut S,
 ) -> Result<Got, AllocError>
     requires { S.ready service.old }
-    ensures held { IfOk result (λ got. Held S.answers (used variable.now state.old) service.old (got, state.new) service.new) }
-    ensures cut { OnErr result (Cut S.answers (used variable.now state.old) service.old service.new) }
+    ensures runs { Runs S.answers (used variable.now state.old) service.old result (λ got. (got, state.new)) service.new }
     ensures counted { state.new.keywords.begun ≡ state.old.keywords.begun }
     ensures ready { S.ready service.new }
 {
@@ -114,8 +113,7 @@ fn assign_variable<S: Service>(
     service: &mut S,
 ) -> Result<Got, AllocError>
     requires { S.ready service.old }
-    ensures held { IfOk result (λ got. Held S.answers (assigned variable.now value state.old) service.old (got, state.new) service.new) }
-    ensures cut { OnErr result (Cut S.answers (assigned variable.now value state.old) service.old service.new) }
+    ensures runs { Runs S.answers (assigned variable.now value state.old) service.old result (λ got. (got, state.new)) service.new }
     ensures counted { state.new.keywords.begun ≡ state.old.keywords.begun }
     ensures ready { S.ready service.new }
 {

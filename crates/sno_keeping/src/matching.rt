@@ -1,7 +1,7 @@
 //! A match within a statement.
-ghost use Rattle.std.specs.Prelude.{◌≡◌, length, IfOk, OnErr};
+ghost use Rattle.std.specs.Prelude.{◌≡◌, length, IfOk};
 ghost use Rattle.sno_talk.specs.Talks.{through};
-ghost use Rattle.sno_ask.specs.Asking.{Held, Cut};
+ghost use Rattle.sno_ask.specs.Asking.{Runs};
 ghost use Rattle.sno_pattern.specs.Places.{MatchesWithin};
 ghost use Rattle.sno_pattern.specs.Steps.{match_of};
 ghost use Rattle.sno_keeping.specs.Matching.{looking, is_anchored, ended_by, matched};
@@ -31,9 +31,8 @@ fn match_in<S: Service>(
     service: &mut S,
 ) -> Result<MatchEnd, AllocError>
     requires { S.ready service.old }
-    ensures held { IfOk result (λ end. Held S.answers (through looking (match_of text.now pattern.now anchored steps) state.old) service.old (end, state.new) service.new) }
+    ensures runs { Runs S.answers (through looking (match_of text.now pattern.now anchored steps) state.old) service.old result (λ end. (end, state.new)) service.new }
     ensures within { IfOk result (MatchesWithin (length text.now)) }
-    ensures cut { OnErr result (Cut S.answers (through looking (match_of text.now pattern.now anchored steps) state.old) service.old service.new) }
     ensures counted { state.new.keywords.begun ≡ state.old.keywords.begun }
     ensures ready { S.ready service.new }
 {
@@ -65,9 +64,8 @@ pub fn matched<S: Service>(
     service: &mut S,
 ) -> Result<MatchEnd, AllocError>
     requires { S.ready service.old }
-    ensures held { IfOk result (λ end. Held S.answers (matched steps text.now pattern.now state.old) service.old (ended_by end, state.new) service.new) }
+    ensures runs { Runs S.answers (matched steps text.now pattern.now state.old) service.old result (λ end. (ended_by end, state.new)) service.new }
     ensures within { IfOk result (MatchesWithin (length text.now)) }
-    ensures cut { OnErr result (Cut S.answers (matched steps text.now pattern.now state.old) service.old service.new) }
     ensures counted { state.new.keywords.begun ≡ state.old.keywords.begun }
     ensures ready { S.ready service.new }
 {

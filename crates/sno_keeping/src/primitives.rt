@@ -3,7 +3,7 @@ ghost use Rattle.std.specs.Prelude.{◌≡◌, IfOk, OnErr};
 ghost use Rattle.mon_text.specs.Stops.{Gives};
 ghost use Rattle.sno_value.specs.Values.{null};
 ghost use Rattle.sno_value.specs.Primitives.{argument, primitive_named};
-ghost use Rattle.sno_ask.specs.Asking.{Held, Cut};
+ghost use Rattle.sno_ask.specs.Asking.{Runs};
 ghost use Rattle.sno_ask.specs.Fitting.{IsShort};
 ghost use Rattle.sno_ask.specs.declared.request.Act.TheVariants.{Endfile as Ending, Rewind as Rewinding};
 ghost use Rattle.sno_talk.specs.Talks.{Ends};
@@ -74,8 +74,7 @@ fn change_state(
 fn ask_for<S: Service>(act: Act, state: &Store, service: &mut S) -> Result<Got, AllocError>
     requires ready { S.ready service.old }
     requires short { IsShort act }
-    ensures held { IfOk result (λ got. Held S.answers (asked act state.now) service.old (got, state.now) service.new) }
-    ensures cut { OnErr result (Cut S.answers (asked act state.now) service.old service.new) }
+    ensures runs { Runs S.answers (asked act state.now) service.old result (λ got. (got, state.now)) service.new }
     ensures ready { S.ready service.new }
 {
     let request = Request {
@@ -92,8 +91,7 @@ fn ask_for<S: Service>(act: Act, state: &Store, service: &mut S) -> Result<Got, 
 #[tactic(auto, using(sno_talk::proofs::Held::talking))]
 fn endfile<S: Service>(unit: &Value, state: &Store, service: &mut S) -> Result<Got, AllocError>
     requires { S.ready service.old }
-    ensures held { IfOk result (λ got. Held S.answers (on_unit Ending (unit_in unit.now) state.now) service.old (got, state.now) service.new) }
-    ensures cut { OnErr result (Cut S.answers (on_unit Ending (unit_in unit.now) state.now) service.old service.new) }
+    ensures runs { Runs S.answers (on_unit Ending (unit_in unit.now) state.now) service.old result (λ got. (got, state.now)) service.new }
     ensures ready { S.ready service.new }
 {
     match unit_in(unit) {
@@ -108,8 +106,7 @@ fn endfile<S: Service>(unit: &Value, state: &Store, service: &mut S) -> Result<G
 #[tactic(auto, using(sno_talk::proofs::Held::talking))]
 fn rewind<S: Service>(unit: &Value, state: &Store, service: &mut S) -> Result<Got, AllocError>
     requires { S.ready service.old }
-    ensures held { IfOk result (λ got. Held S.answers (on_unit Rewinding (unit_in unit.now) state.now) service.old (got, state.now) service.new) }
-    ensures cut { OnErr result (Cut S.answers (on_unit Rewinding (unit_in unit.now) state.now) service.old service.new) }
+    ensures runs { Runs S.answers (on_unit Rewinding (unit_in unit.now) state.now) service.old result (λ got. (got, state.now)) service.new }
     ensures ready { S.ready service.new }
 {
     match unit_in(unit) {
@@ -131,8 +128,7 @@ fn on_state<S: Service>(
     service: &mut S,
 ) -> Result<Got, AllocError>
     requires { S.ready service.old }
-    ensures held { IfOk result (λ got. Held S.answers (done which (argument 0 arguments.now) (argument 1 arguments.now) (argument 2 arguments.now) state.old) service.old (got, state.new) service.new) }
-    ensures cut { OnErr result (Cut S.answers (done which (argument 0 arguments.now) (argument 1 arguments.now) (argument 2 arguments.now) state.old) service.old service.new) }
+    ensures runs { Runs S.answers (done which (argument 0 arguments.now) (argument 1 arguments.now) (argument 2 arguments.now) state.old) service.old result (λ got. (got, state.new)) service.new }
     ensures counted { state.new.keywords.begun ≡ state.old.keywords.begun }
     ensures ready { S.ready service.new }
 {
@@ -189,8 +185,7 @@ pub fn primitive<S: Service>(
     service: &mut S,
 ) -> Result<Got, AllocError>
     requires { S.ready service.old }
-    ensures held { IfOk result (λ got. Held S.answers (primitive name.now arguments.now state.old) service.old (got, state.new) service.new) }
-    ensures cut { OnErr result (Cut S.answers (primitive name.now arguments.now state.old) service.old service.new) }
+    ensures runs { Runs S.answers (primitive name.now arguments.now state.old) service.old result (λ got. (got, state.new)) service.new }
     ensures counted { state.new.keywords.begun ≡ state.old.keywords.begun }
     ensures ready { S.ready service.new }
 {

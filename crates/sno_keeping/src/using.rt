@@ -3,7 +3,7 @@ ghost use Rattle.std.specs.Prelude.{◌≡◌, ◌≤◌, length, IfOk, OnErr};
 ghost use Rattle.sno_talk.specs.Talks.{ask};
 ghost use Rattle.sno_value.specs.Values.{text_of};
 ghost use Rattle.sno_value.specs.declared.value.Value.TheVariants as value;
-ghost use Rattle.sno_ask.specs.Asking.{Held, Cut};
+ghost use Rattle.sno_ask.specs.Asking.{Held, Runs};
 ghost use Rattle.sno_ask.specs.declared.request.Act.TheVariants.{Write as Writing};
 ghost use Rattle.sno_prototype.specs.Formats.{records};
 ghost use Rattle.sno_store.specs.Variables.{Reads};
@@ -48,8 +48,7 @@ fn read<S: Service>(
     service: &mut S,
 ) -> Result<Got, AllocError>
     requires { S.ready service.old }
-    ensures held { IfOk result (λ got. Held S.answers (used_by name.now (Reads input) state.old) service.old (got, state.new) service.new) }
-    ensures cut { OnErr result (Cut S.answers (used_by name.now (Reads input) state.old) service.old service.new) }
+    ensures runs { Runs S.answers (used_by name.now (Reads input) state.old) service.old result (λ got. (got, state.new)) service.new }
     ensures counted { state.new.keywords.begun ≡ state.old.keywords.begun }
     ensures ready { S.ready service.new }
 {
@@ -76,8 +75,7 @@ pub fn used<S: Service>(
     service: &mut S,
 ) -> Result<Got, AllocError>
     requires { S.ready service.old }
-    ensures held { IfOk result (λ got. Held S.answers (used name.now state.old) service.old (got, state.new) service.new) }
-    ensures cut { OnErr result (Cut S.answers (used name.now state.old) service.old service.new) }
+    ensures runs { Runs S.answers (used name.now state.old) service.old result (λ got. (got, state.new)) service.new }
     ensures counted { state.new.keywords.begun ≡ state.old.keywords.begun }
     ensures ready { S.ready service.new }
 {
@@ -125,8 +123,7 @@ fn write_records<S: Service>(
     service: &mut S,
 ) -> Result<Got, AllocError>
     requires { S.ready service.old }
-    ensures held { IfOk result (λ got. Held S.answers (write_all output.unit (records output.format text.now) state.now) service.old (got, state.now) service.new) }
-    ensures cut { OnErr result (Cut S.answers (write_all output.unit (records output.format text.now) state.now) service.old service.new) }
+    ensures runs { Runs S.answers (write_all output.unit (records output.format text.now) state.now) service.old result (λ got. (got, state.now)) service.new }
     ensures ready { S.ready service.new }
 {
     records_follow();
@@ -155,8 +152,7 @@ fn write_value<S: Service>(
     service: &mut S,
 ) -> Result<Got, AllocError>
     requires { S.ready service.old }
-    ensures held { IfOk result (λ got. Held S.answers (write_text output (text_of value.now) state.now) service.old (got, state.now) service.new) }
-    ensures cut { OnErr result (Cut S.answers (write_text output (text_of value.now) state.now) service.old service.new) }
+    ensures runs { Runs S.answers (write_text output (text_of value.now) state.now) service.old result (λ got. (got, state.now)) service.new }
     ensures ready { S.ready service.new }
 {
     match value.to_text(alloc)? {
@@ -184,8 +180,7 @@ pub fn assigned<S: Service>(
     service: &mut S,
 ) -> Result<Got, AllocError>
     requires { S.ready service.old }
-    ensures held { IfOk result (λ got. Held S.answers (assigned name.now value state.old) service.old (got, state.new) service.new) }
-    ensures cut { OnErr result (Cut S.answers (assigned name.now value state.old) service.old service.new) }
+    ensures runs { Runs S.answers (assigned name.now value state.old) service.old result (λ got. (got, state.new)) service.new }
     ensures counted { state.new.keywords.begun ≡ state.old.keywords.begun }
     ensures ready { S.ready service.new }
 {

@@ -2,8 +2,9 @@
 use Rattle.std.specs.Prelude.{ℕ, zero, suc, ◌+◌, ◌-◌, ◌≤◌, List, [], ◌∷◌, length, take, drop, Bool, true, false, cond, if◌then◌else◌, nat_eq, Option, Some, None}
 use Rattle.std.proofs.Common.{◌≡◌, refl, sym, ap, ◌∙◌, arith, length-drop, get_or, drop-cons, add-one, ◌<◌, ◌≢◌, subst}
 use Rattle.std.specs.List.{filter}
-use Rattle.sno_pattern.specs.Steps.{upward, part, closes, balanced_ends}
-use Rattle.sno_pattern.specs.inner.Reaching.{open_after}
+use Rattle.sno_pattern.specs.Steps.{upward, part, balanced_ends}
+use Rattle.sno_pattern.specs.inner.Reaching.{closes, open_after}
+use Rattle.sno_pattern.proofs.Pairs.{pairs_close}
 
 -- the ends after c of parts that pass the test, where these characters follow c
 abbrev pub ends_where : (List ℕ → Bool) → ℕ → List ℕ → List ℕ
@@ -29,7 +30,8 @@ filter_is test c (x ∷ xs) =
 
 pub balanced_is : (text : List ℕ) (c : ℕ) → balanced_ends text c ≡ ends_where (closes 0) c (drop c text)
 balanced_is text c =
-    ap (λ k. filter (λ e. closes 0 (part text c e)) (upward (c + 1) k)) (sym (length-drop c text))
+    ap (λ (test : List ℕ → Bool). filter (λ e. test (part text c e)) (upward (c + 1) (length text - c))) pairs_close
+    ∙ ap (λ k. filter (λ e. closes 0 (part text c e)) (upward (c + 1) k)) (sym (length-drop c text))
     ∙ filter_is (closes 0) c (drop c text)
 
 abbrev closes_open : Option ℕ → List ℕ → Bool

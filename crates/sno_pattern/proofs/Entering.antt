@@ -1,24 +1,19 @@
 -- Patterns met without goals of their own in memory.
-use Rattle.std.proofs.Common.{◌≡◌, ◌≢◌, ℕ, zero, suc, ◌-◌, ◌≤◌, List, [], ◌∷◌, ◌++◌, length, refl, sym, ap, ◌∙◌, arith}
-use Rattle.std.specs.declared.rc.Rc.{Rc}
-use Rattle.std.specs.declared.alloc.Global.{Global}
+use Rattle.std.proofs.Common.{◌≡◌, ◌≢◌, ℕ, zero, suc, ◌-◌, ◌≤◌, List, ◌∷◌, length, refl, sym, ap, ◌∙◌, arith}
 use Rattle.sno_nodes.specs.Patterns.{Pattern}
 use Rattle.sno_nodes.specs.Patterns as pattern
 use Rattle.sno_pattern.specs.declared.ending.Pending.{Pending}
-use Rattle.sno_pattern.specs.declared.goals.Goals.{Goals}
-use Rattle.sno_pattern.specs.declared.goals.Waiting.{Waiting}
-use Rattle.sno_pattern.specs.declared.choices.Choice.{Choice}
-use Rattle.sno_pattern.specs.declared.choices.Choice.TheVariants.{Second}
-use Rattle.sno_pattern.specs.declared.choices.Turn.{Turn}
+use Rattle.sno_pattern.specs.declared.trail.Waiting.{Waiting}
+use Rattle.sno_pattern.specs.declared.trail.Kind.TheVariants.{Second}
 use Rattle.sno_pattern.specs.declared.choices.Turn.TheVariants.{Go}
 use Rattle.sno_pattern.specs.declared.reach.Reach.TheVariants.{Here, Nowhere}
 use Rattle.sno_pattern.specs.Steps.{Goal, Meet, EndConditional, EndImmediate, Trying, on_failure, row, outcome}
 use Rattle.sno_pattern.specs.inner.Reaching.{reached, IsQuiet}
-use Rattle.sno_pattern.specs.inner.Stack.{goals_of, waiting_of, resume, AllWithin, Led}
+use Rattle.sno_pattern.specs.inner.Stack.{Choice, waiting_of, resume, AllWithin, Led}
 use Rattle.sno_pattern.proofs.Table.{takes_off, no_step_left}
 use Rattle.sno_pattern.proofs.Reaches.{row_here}
 use Rattle.sno_pattern.proofs.Missing.{missed_now}
-use Rattle.sno_pattern.proofs.Pushing.{resume_push, second_is}
+use Rattle.sno_pattern.proofs.Pushing.{choice, ahead}
 
 module _ (text : List ℕ) (c : ℕ) (w : List Pending) where
   -- where a pattern is missed at once, what is behind it does not matter
@@ -50,10 +45,9 @@ module _ (text : List ℕ) (c : ℕ) (w : List Pending) where
         alt_on n ∙ ap (λ k. on_failure (outcome text (Meet a ∷ r) c w k) next) one ∙ ap (λ t. on_failure t next) (missed_now text r c w (n - 1) a h)
 
     -- the second is left to be tried
-    pub alt_leaves : (old : List Choice) (gs : Rc Goals Global) (w' : Rc Waiting Global) (n : ℕ) → goals_of gs.value ≡ Meet b ∷ r → waiting_of text w'.value ≡ w → resume text old (row text (outcome text) (Meet (pattern.Alt a b)) r c w n) ≡ resume text (old ++ Second gs c w' ∷ []) (outcome text (Meet a ∷ r) c w n)
-    alt_leaves old gs w' n eg ew =
-        ap (resume text old) (alt_on n ∙ sym (second_is text gs c w' (Meet b ∷ r) w eg ew (outcome text (Meet a ∷ r) c w n)))
-        ∙ sym (resume_push text old (Second gs c w') (outcome text (Meet a ∷ r) c w n))
+    pub alt_leaves : (old : List Choice) (waits : List Waiting) (n : ℕ) → waiting_of text waits ≡ w → resume text old (row text (outcome text) (Meet (pattern.Alt a b)) r c w n) ≡ resume text (choice Second (Meet b ∷ r) c waits ∷ old) (outcome text (Meet a ∷ r) c w n)
+    alt_leaves old waits n e =
+        ap (resume text old) (alt_on n ∙ ap (λ l. on_failure (outcome text (Meet a ∷ r) c w n) (λ n'. outcome text (Meet b ∷ r) c l n')) (sym e))
 
   pub conditional_on : (r : List Goal) (a : Pattern) (v : List ℕ) (n : ℕ) → row text (outcome text) (Meet (pattern.Conditional a v)) r c w n ≡ outcome text (Meet a ∷ EndConditional v c ∷ r) c w n
   unfolding row
@@ -98,18 +92,5 @@ module _ (text : List ℕ) (old : List Choice) (t : Trying) (n : ℕ) where
         quiet = q;
       }
 
-  pub goes : (p : Pattern) (r : List Goal) (c : ℕ) (new : List Choice) (m : ℕ) (gs : Rc Goals Global) (w : Rc Waiting Global) → goals_of gs.value ≡ Meet p ∷ r → Coming text old t n p r c (waiting_of text w.value) new m → Led text old t n (Go gs c w) new m
-  goes p r c new m gs w e k = record {
-    comes = k.comes ∙ ap (λ l. resume text new (outcome text l c (waiting_of text w.value) m)) (sym e);
-    fewer = k.fewer;
-    all = k.all;
-    here = k.here;
-  }
-
-  pub led_on : (p : Pattern) (r : List Goal) (c : ℕ) (w : List Pending) (new : List Choice) (m : ℕ) {turn : Turn} {newest : List Choice} {k : ℕ} → Entering text old t n p r c w new m → Led text new (row text (outcome text) (Meet p) r c w m) m turn newest k → Led text old t n turn newest k
-  led_on p r c w new m e d = record {
-    comes = e.comes ∙ d.comes;
-    fewer = (let g = e.fewer in let f = d.fewer in omega arith);
-    all = d.all;
-    here = d.here;
-  }
+  pub goes : (p : Pattern) (r : List Goal) (c : ℕ) (w : List Waiting) (new : List Choice) (m : ℕ) → Coming text old t n p r c (waiting_of text w) new m → Led text old t n (Go c) (ahead (Meet p ∷ r) w new) m
+  goes p r c w new m k = record { comes = k.comes; fewer = k.fewer; all = k.all; here = k.here }

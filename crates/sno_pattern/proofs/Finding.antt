@@ -10,7 +10,7 @@ use Rattle.sno_talk.specs.Talks.{Ends, Asks}
 use Rattle.sno_nodes.specs.Patterns.{Pattern}
 use Rattle.sno_nodes.specs.Patterns as pattern
 use Rattle.sno_pattern.specs.declared.ending.Pending.{Pending}
-use Rattle.sno_pattern.specs.Steps.{Goal, Meet, More, EndConditional, EndImmediate, End, Success, Failure, WholeFails, OutOfSteps, Fault, Trying, Way, ends, after_end, on_failure, at_each, upward, part, is_one_of, begins_with, closes, balanced_ends, row, attempt, outcome}
+use Rattle.sno_pattern.specs.Steps.{Goal, Meet, More, EndConditional, EndImmediate, End, Success, Failure, WholeFails, OutOfSteps, Fault, Trying, Way, ends, after_end, on_failure, at_each, upward, part, is_one_of, begins_with, in_pairs, balanced_ends, row, attempt, outcome}
 use Rattle.sno_pattern.specs.Places.{IsSimple, turns, one_end, ends_of, Finds, Comes}
 
 -- each is at a cursor from c on, and within the text
@@ -142,7 +142,7 @@ ends_between text (pattern.Break s) c h = between_one (length text) c (c + posit
 ends_between text pattern.Rem c h = (h, omega arith, tt)
 ends_between text pattern.Arb c h = between_upward (length text) (length text + 1 - c) c (omega arith)
 ends_between text pattern.Bal c h =
-    between_less (length text) c (c + 1) (balanced_ends text c) (omega arith) (between_filter (length text) (c + 1) (λ e. closes 0 (part text c e)) (upward (c + 1) (length text - c)) (between_upward (length text) (length text - c) (c + 1) (omega arith)))
+    between_less (length text) c (c + 1) (balanced_ends text c) (omega arith) (between_filter (length text) (c + 1) (λ e. in_pairs (part text c e)) (upward (c + 1) (length text - c)) (between_upward (length text) (length text - c) (c + 1) (omega arith)))
 ends_between text (pattern.Cat a b) c h = between_flat (length text) c (ends_of text b) (ends_of text a c) (λ e i. ends_between text b e i) (ends_between text a c h)
 ends_between text (pattern.Alt a b) c h = between_append (length text) c (ends_of text a c) (ends_of text b c) (ends_between text a c h) (ends_between text b c h)
 ends_between text (pattern.Arbno a) c h = between_turns (length text) (ends_of text a) (λ e i. ends_between text a e i) (length text - c) c h

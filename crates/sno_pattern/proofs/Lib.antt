@@ -1,4 +1,5 @@
 pub mod Balance
+pub mod Cells
 pub mod Counted
 pub mod Entering
 pub mod Exact
@@ -6,6 +7,7 @@ mod Examples
 pub mod Finding
 pub mod Firsts
 pub mod Missing
+pub mod Pairs
 pub mod Passing
 pub mod Pushing
 pub mod Reaches

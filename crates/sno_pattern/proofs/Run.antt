@@ -1,30 +1,20 @@
 -- A run on the stack, step by step, and a match, start by start.
-use Rattle.std.proofs.Common.{◌≡◌, ◌≢◌, ℕ, suc, ◌+◌, ◌-◌, ◌≤◌, List, [], ◌∷◌, ◌++◌, length, refl, sym, ap, ◌∙◌, subst, arith}
-use Rattle.std.specs.Prelude.{Result, Ok, Err, OnErr, reverse, Bool, if◌then◌else◌}
-use Rattle.std.proofs.lemmas.List.{append_assoc, reverse-append}
-use Rattle.std.specs.declared.rc.Rc.{Rc}
-use Rattle.std.specs.declared.alloc.Global.{Global}
+use Rattle.std.proofs.Common.{◌≡◌, ◌≢◌, ℕ, suc, ◌+◌, ◌-◌, ◌≤◌, List, [], ◌∷◌, length, refl, sym, ap, ◌∙◌, subst, arith}
+use Rattle.std.specs.Prelude.{Result, Ok, Err, OnErr, Bool, if◌then◌else◌}
 use Rattle.sno_talk.specs.Talks.{Talk, Ends, ◌>>=◌}
 use Rattle.sno_talk.specs.Holding.{Held, Cut}
 use Rattle.sno_talk.proofs.Held.{held_then, cut_here, cut_first, cut_then}
 use Rattle.sno_talk.proofs.Binds.{then_then}
 use Rattle.sno_nodes.specs.Patterns.{Pattern}
-use Rattle.sno_nodes.specs.Nodes.{pattern_of}
-use Rattle.sno_nodes.specs.declared.node.Node.{Node}
-use Rattle.sno_nodes.specs.declared.node.Node.TheVariants as node
 use Rattle.sno_pattern.specs.declared.ending.Pending.{Pending}
 use Rattle.sno_pattern.specs.declared.ending.MatchEnd.{MatchEnd}
 use Rattle.sno_pattern.specs.declared.ending.MatchEnd.TheVariants as end
 use Rattle.sno_pattern.specs.Looks.{Look, Told, Fits}
 use Rattle.sno_pattern.specs.Steps.{Goal, Meet, End, Success, Failure, OutOfSteps, Outcome, Trying, row, outcome, Finish, settle, from_starts, match_of}
-use Rattle.sno_pattern.specs.declared.goals.Goals.{Goals}
-use Rattle.sno_pattern.specs.declared.goals.Waiting.{Waiting}
-use Rattle.sno_pattern.specs.declared.choices.Choice.{Choice}
 use Rattle.sno_pattern.specs.declared.choices.Turn.TheVariants.{Go, Stay}
 use Rattle.sno_pattern.specs.declared.choices.Ended.{Ended}
-use Rattle.sno_pattern.specs.inner.Reaching.{IsQuiet}
 use Rattle.sno_pattern.specs.inner.Running.{finishing}
-use Rattle.sno_pattern.specs.inner.Stack.{goals_of, waiting_of, end_of, resume, AllWithin, Moved}
+use Rattle.sno_pattern.specs.inner.Stack.{Choice, Ahead, waiting_of, end_of, resume, AllWithin, Moved}
 use Rattle.sno_pattern.proofs.Table.{takes_off, none_left, no_step_left}
 use Rattle.sno_pattern.proofs.Pushing.{resume_last}
 
@@ -32,32 +22,6 @@ use Rattle.sno_pattern.proofs.Pushing.{resume_last}
 pub err_holds : {T E P : Type 0} (r : Result T E) → P → OnErr r P
 err_holds (Ok x) p = tt
 err_holds (Err e) p = p
-
-pub quiet_of : (a : Node) → ((v : _) → a ≡ node.Defer v → ⊥) → ((v : _) → a ≡ node.Cursor v → ⊥) → IsQuiet (pattern_of a)
-quiet_of (node.Text s) h k = tt
-quiet_of (node.Len n) h k = tt
-quiet_of (node.Pos n) h k = tt
-quiet_of (node.RPos n) h k = tt
-quiet_of (node.Tab n) h k = tt
-quiet_of (node.RTab n) h k = tt
-quiet_of node.Rem h k = tt
-quiet_of (node.Any s) h k = tt
-quiet_of (node.NotAny s) h k = tt
-quiet_of (node.Span s) h k = tt
-quiet_of (node.Break s) h k = tt
-quiet_of node.Arb h k = tt
-quiet_of node.Bal h k = tt
-quiet_of (node.Cat' d p a q b) h k = tt
-quiet_of (node.Alt' d p a q b) h k = tt
-quiet_of (node.Arbno' d p a) h k = tt
-quiet_of (node.Conditional' d p a v) h k = tt
-quiet_of (node.Immediate' d p a v) h k = tt
-quiet_of (node.Cursor v) h k = k v refl
-quiet_of (node.Defer v) h k = h v refl
-quiet_of node.Fail h k = tt
-quiet_of node.Abort h k = tt
-quiet_of node.Fence h k = tt
-quiet_of node.Succeed h k = tt
 
 -- so far: whatever the goals that are there now come out as, with the choices that are open, the whole comes out as
 pub record On {S : Type 0} (tells : S → Look → Told → S → Type 0) (broken : S → Look → S → Type 0) (text : List ℕ) (s : S) (whole : Trying) (t : S) (gs : List Goal) (c : ℕ) (p : List Pending) (choices : List Choice) (n : ℕ) : Type 0 where
@@ -67,14 +31,6 @@ pub record On {S : Type 0} (tells : S → Look → Told → S → Type 0) (broke
   pub here : c ≤ length text
 
 module _ {S : Type 0} (tells : S → Look → Told → S → Type 0) (broken : S → Look → S → Type 0) (text : List ℕ) (s : S) (whole : Trying) where
-  pub on_start : (gs : List Goal) (c : ℕ) (p : List Pending) (n : ℕ) → whole ≡ outcome text gs c p n → c ≤ length text → On tells broken text s whole s gs c p [] n
-  on_start gs c p n e h = record {
-    held = λ b v k. subst (λ (z : Trying). Held tells Fits z s b v) (sym e) k;
-    cut = λ v k. subst (λ (z : Trying). Cut tells Fits broken z s v) (sym e) k;
-    all = tt;
-    here = h;
-  }
-
   pub on_cut : (t : S) {gs : List Goal} {c n : ℕ} {p : List Pending} {choices : List Choice} → On tells broken text s whole t gs c p choices n → Cut tells Fits broken whole s t
   on_cut t {gs} {c} {n} {p} {choices} k = k.cut t (cut_here tells Fits broken (resume text choices (outcome text gs c p n)) t)
 
@@ -82,17 +38,17 @@ module _ {S : Type 0} (tells : S → Look → Told → S → Type 0) (broken : S
     off : (g : Goal) (r : List Goal) → n ≢ 0 → resume text choices (outcome text (g ∷ r) c p n) ≡ resume text choices (row text (outcome text) g r c p (n - 1))
     off g r h = let one : n ≡ suc (n - 1) = omega arith in ap (resume text choices) (ap (outcome text (g ∷ r) c p) one ∙ takes_off text g r c p (n - 1))
 
-    pub on_step : (g : Goal) (r : List Goal) {u : S} {gs' : Rc Goals Global} {c' : ℕ} {w' : Rc Waiting Global} {new : List Choice} {m : ℕ} → n ≢ 0 → On tells broken text s whole t (g ∷ r) c p choices n → Moved tells broken text t choices (row text (outcome text) g r c p (n - 1)) (n - 1) u (Go gs' c' w') new m → On tells broken text s whole u (goals_of gs'.value) c' (waiting_of text w'.value) new m
-    on_step g r {u} {gs'} {c'} {w'} {new} {m} h k d = record {
+    pub on_step : (g : Goal) (r : List Goal) {u : S} {c' : ℕ} {new : Ahead} {m : ℕ} → n ≢ 0 → On tells broken text s whole t (g ∷ r) c p choices n → Moved tells broken text t choices (row text (outcome text) g r c p (n - 1)) (n - 1) u (Go c') new m → On tells broken text s whole u new.goals c' (waiting_of text new.waits) new.opens m
+    on_step g r {u} {c'} {new} {m} h k d = record {
       held = λ b v x. k.held b v (subst (λ (z : Trying). Held tells Fits z t b v) (sym (off g r h)) (d.held b v x));
       cut = λ v x. k.cut v (subst (λ (z : Trying). Cut tells Fits broken z t v) (sym (off g r h)) (d.cut v x));
       all = d.all;
       here = d.here;
     }
 
-    pub on_stays : (g : Goal) (r : List Goal) {u : S} {e : Ended} {new : List Choice} {m : ℕ} → n ≢ 0 → On tells broken text s whole t (g ∷ r) c p choices n → Moved tells broken text t choices (row text (outcome text) g r c p (n - 1)) (n - 1) u (Stay e) new m → Held tells Fits whole s (record { end = end_of text e; left = m }) u
+    pub on_stays : (g : Goal) (r : List Goal) {u : S} {e : Ended} {new : Ahead} {m : ℕ} → n ≢ 0 → On tells broken text s whole t (g ∷ r) c p choices n → Moved tells broken text t choices (row text (outcome text) g r c p (n - 1)) (n - 1) u (Stay e) new m → Held tells Fits whole s (record { end = end_of e; left = m }) u
     on_stays g r {u} {e} {new} {m} h k d =
-        let o : Outcome = record { end = end_of text e; left = m } in
+        let o : Outcome = record { end = end_of e; left = m } in
         k.held o u (subst (λ (z : Trying). Held tells Fits z t o u) (sym (off g r h)) (d.held o u (subst (λ (z : Trying). Held tells Fits z u o u) (sym (d.here m)) (refl, refl))))
 
     pub on_breaks : (g : Goal) (r : List Goal) (u : S) → n ≢ 0 → On tells broken text s whole t (g ∷ r) c p choices n → Cut tells Fits broken (resume text choices (row text (outcome text) g r c p (n - 1))) t u → Cut tells Fits broken whole s u
@@ -164,10 +120,6 @@ module _ {S : Type 0} (tells : S → Look → Told → S → Type 0) (broken : S
 
     pub came_stops : (u : S) (o : Outcome) → Held tells Fits start t o u → Cut tells Fits broken whole s u
     came_stops u o h = then_cut u o u h (cut_here tells Fits broken (rest o) u)
-
--- one more, taken off a list at its end and put on another that is read backwards
-pub collect : (ws list : List Pending) (p : Pending) → (ws ++ p ∷ []) ++ reverse list ≡ ws ++ reverse (list ++ p ∷ [])
-collect ws list p = append_assoc ws (p ∷ []) (reverse list) ∙ ap (λ xs. ws ++ xs) (sym (reverse-append list (p ∷ [])))
 
 abbrev pub pending : List ℕ → List ℕ → Pending
 pending v t = record { variable = v; text = t }

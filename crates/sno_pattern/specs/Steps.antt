@@ -1,7 +1,7 @@
 -- The step table: what a match does goal by goal, and what it asks of its host (SNOBOL4 book, chapter 2 and chapter 8; the
 -- number of steps, BAL and ARBNO are own).
-use Rattle.std.specs.Prelude.{ℕ, zero, suc, ◌+◌, ◌-◌, List, [], ◌∷◌, ◌++◌, length, take, drop, Bool, true, false, not, ◌&&◌, if◌then◌else◌, nat_eq, nat_le, nat_lt}
-use Rattle.std.specs.List.{starts_with, filter, list_any, prefix_len, position_or_len}
+use Rattle.std.specs.Prelude.{ℕ, zero, suc, ◌+◌, ◌-◌, List, [], ◌∷◌, ◌++◌, length, take, drop, Bool, false, not, ◌&&◌, if◌then◌else◌, nat_eq, nat_le, nat_lt}
+use Rattle.std.specs.List.{starts_with, filter, list_any, list_all, prefix_len, position_or_len}
 use Rattle.sno_talk.specs.Talks.{Talk, Ends, ask, ◌>>=◌}
 use Rattle.sno_text.specs.declared.fault.Fault.{Fault as AFault}
 use Rattle.sno_nodes.specs.Patterns.{Pattern}
@@ -81,16 +81,17 @@ abbrev pub begins_with : (ℕ → Bool) → List ℕ → Bool
 begins_with test [] = false
 begins_with test (x ∷ xs) = test x
 
--- with so many `(` open before it, a text closes them all, and no `)` stands in it where none is open
-abbrev pub closes : ℕ → List ℕ → Bool
-closes zero [] = true
-closes (suc k) [] = false
-closes zero (x ∷ xs) = if nat_eq x 40 then closes 1 xs else if nat_eq x 41 then false else closes zero xs
-closes (suc k) (x ∷ xs) = if nat_eq x 40 then closes (suc (suc k)) xs else if nat_eq x 41 then closes k xs else closes (suc k) xs
+-- how often a character stands in a text
+abbrev pub times : ℕ → List ℕ → ℕ
+times c text = length (filter (λ x. nat_eq x c) text)
+
+-- parentheses are in pairs where there are as many `)` as `(`, and no beginning of the text has more `)` than `(`
+abbrev pub in_pairs : List ℕ → Bool
+in_pairs text = nat_eq (times 41 text) (times 40 text) && list_all (λ n. nat_le (times 41 (take n text)) (times 40 (take n text))) (upward 0 (length text))
 
 -- where a part that begins here, is not null and has its parentheses in pairs can end
 abbrev pub balanced_ends : List ℕ → ℕ → List ℕ
-balanced_ends text c = filter (λ e. closes 0 (part text c e)) (upward (c + 1) (length text - c))
+balanced_ends text c = filter (λ e. in_pairs (part text c e)) (upward (c + 1) (length text - c))
 
 -- the pattern that a variable stands for
 abbrev pub pattern_found : Looked → Pattern

@@ -1,3 +1,4 @@
 pub mod Reaching
 pub mod Stack
+pub mod Cells
 pub mod Running

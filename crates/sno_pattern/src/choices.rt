@@ -1,64 +1,30 @@
-//! What is tried next: the goals that are met now, and the choices that are open.
+//! What comes after a goal: how goals are tried at several cursors, and how the last choice is taken.
 ghost use Rattle.std.specs.Prelude.{◌≡◌, ◌≤◌, ◌+◌, ◌-◌, ◌∷◌, List, length, IfOk};
 ghost use Rattle.sno_nodes.specs.Nodes.{pattern_of};
 ghost use Rattle.sno_pattern.specs.declared.ending.Pending.{Pending as Waits};
 ghost use Rattle.sno_pattern.specs.Steps.{Goal as Aim, Meet, Failure, ends, at_each, upward, balanced_ends, outcome};
-ghost use Rattle.sno_pattern.specs.inner.Stack.{goal_of, goals_of, waiting_of, AllWithin, Led};
+ghost use Rattle.sno_pattern.specs.inner.Stack.{waiting_of, AllWithin, Led};
 
-use crate::goals::{Goal, Goals, Waiting};
 use crate::reach::{misses, next_balanced};
+use crate::trail::{Goal, Kind, Trail};
 use sno_nodes::Node;
 use sno_text::Fault;
-use std::alloc::{AllocError, Global};
-use std::rc::Rc;
+use std::alloc::AllocError;
 
-/// What is tried where all that comes after it fails.
-#[derive(Drop)]
-pub(crate) enum Choice {
-    /// These goals, from a cursor.
-    Second(Rc<Goals>, usize, Rc<Waiting>),
-    /// These goals from this cursor, and then from each later one.
-    Each(Rc<Goals>, usize, Rc<Waiting>),
-    /// These goals from this cursor, and then from each later one before which parentheses are in pairs.
-    Balanced(Rc<Goals>, usize, Rc<Waiting>),
-    /// Nothing: the whole match fails.
-    Whole,
-}
-
-/// How goals come out.
+/// How goals end where they don't come out.
 #[derive(Drop)]
 pub(crate) enum Ended {
-    Success(usize, Rc<Waiting>),
     Failure,
     WholeFails,
     OutOfSteps,
     Fault(Fault),
 }
 
-/// What comes after a goal was taken.
+/// What comes after a goal was taken: the goals ahead from a cursor, or an end.
 #[derive(Drop)]
 pub(crate) enum Turn {
-    Go(Rc<Goals>, usize, Rc<Waiting>),
+    Go(usize),
     Stay(Ended),
-}
-
-/// A goal in front of others.
-pub(crate) fn before(alloc: Global, goal: Goal, rest: Rc<Goals>) -> Result<Rc<Goals>, AllocError>
-    ensures { IfOk result (λ gs. goals_of gs.value ≡ goal_of goal ∷ goals_of rest.value) }
-{
-    Ok(Rc::new(alloc, Goals::Next(goal, rest))?)
-}
-
-/// A goal in front of others that are shared.
-pub(crate) fn before_shared(
-    alloc: Global,
-    goal: Goal,
-    rest: &Rc<Goals>,
-) -> Result<Rc<Goals>, AllocError>
-    ensures { IfOk result (λ gs. goals_of gs.value ≡ goal_of goal ∷ goals_of rest.now.value) }
-{
-    let rest = rest.clone()?;
-    before(alloc, goal, rest)
 }
 
 /// The first cursor from here on where this pattern is not missed at once, or the last one, or where no step is left.
@@ -78,82 +44,68 @@ fn skip_node(text: &[u8], node: &Node, from: usize, left: &mut u64) -> usize
     at
 }
 
-/// The first cursor from here on where these goals are not missed at once, or the last one, or where no step is left.
-fn skip(text: &[u8], goals: &Goals, from: usize, left: &mut u64) -> usize
+/// The first cursor from here on where the goals ahead are not missed at once, or the last one, or where no step is left.
+fn skip(text: &[u8], trail: &Trail, from: usize, left: &mut u64) -> usize
     requires { from ≤ length text.now }
     ensures within { result ≤ length text.now }
     ensures fewer { left.new ≤ left.old }
-    ensures same { (p : List Waits) → at_each (outcome text.now) (goals_of goals.now) (upward from (length text.now + 1 - from)) p left.old ≡ at_each (outcome text.now) (goals_of goals.now) (upward result (length text.now + 1 - result)) p left.new }
+    ensures same { (p : List Waits) → at_each (outcome text.now) trail.now.goals (upward from (length text.now + 1 - from)) p left.old ≡ at_each (outcome text.now) trail.now.goals (upward result (length text.now + 1 - result)) p left.new }
 {
-    match goals {
-        Goals::Next(Goal::Meet(node), _) => skip_node(text, node, from, left),
+    match trail.first() {
+        Some(Goal::Meet(node)) => skip_node(text, node, from, left),
         _ => from,
     }
 }
 
-/// These goals from a cursor, and where they fail from each later one.
+/// The goals ahead from a cursor, and where they fail from each later one.
 pub(crate) fn each(
     text: &[u8],
-    goals: Rc<Goals>,
     from: usize,
-    waiting: Rc<Waiting>,
-    choices: &mut Vec<Choice>,
+    trail: &mut Trail,
     left: &mut u64,
 ) -> Result<Turn, AllocError>
     requires cursor { from ≤ length text.now }
-    requires all { AllWithin (length text.now) choices.old.items }
-    ensures { IfOk result (λ turn. Led text.now choices.old.items (at_each (outcome text.now) (goals_of goals.value) (upward from (length text.now + 1 - from)) (waiting_of text.now waiting.value) left.old) left.old turn choices.new.items left.new) }
+    requires all { AllWithin (length text.now) trail.old.opens }
+    ensures { IfOk result (λ turn. Led text.now trail.old.opens (at_each (outcome text.now) trail.old.goals (upward from (length text.now + 1 - from)) (waiting_of text.now trail.old.waits) left.old) left.old turn trail.new left.new) }
 {
-    let at = skip(text, &goals, from, left);
+    let at = skip(text, trail, from, left);
     if at >= text.len() {
-        return Ok(Turn::Go(goals, at, waiting));
+        return Ok(Turn::Go(at));
     }
-    let goals_later = goals.clone()?;
-    let waiting_later = waiting.clone()?;
-    choices.push(Choice::Each(goals_later, at + 1, waiting_later))?;
-    Ok(Turn::Go(goals, at, waiting))
+    trail.leave(Kind::Each, at + 1)?;
+    Ok(Turn::Go(at))
 }
 
-/// These goals from a cursor, and where they fail from each later one before which parentheses are in pairs.
+/// The goals ahead from a cursor, and where they fail from each later one before which parentheses are in pairs.
 pub(crate) fn balanced(
     text: &[u8],
-    goals: Rc<Goals>,
     at: usize,
-    waiting: Rc<Waiting>,
-    choices: &mut Vec<Choice>,
+    trail: &mut Trail,
     left: u64,
 ) -> Result<Turn, AllocError>
     requires cursor { at ≤ length text.now }
-    requires all { AllWithin (length text.now) choices.old.items }
-    ensures { IfOk result (λ turn. Led text.now choices.old.items (at_each (outcome text.now) (goals_of goals.value) (at ∷ balanced_ends text.now at) (waiting_of text.now waiting.value) left) left turn choices.new.items left) }
+    requires all { AllWithin (length text.now) trail.old.opens }
+    ensures { IfOk result (λ turn. Led text.now trail.old.opens (at_each (outcome text.now) trail.old.goals (at ∷ balanced_ends text.now at) (waiting_of text.now trail.old.waits) left) left turn trail.new left) }
 {
     match next_balanced(text, at) {
-        None => Ok(Turn::Go(goals, at, waiting)),
+        None => Ok(Turn::Go(at)),
         Some(next) => {
-            let goals_later = goals.clone()?;
-            let waiting_later = waiting.clone()?;
-            choices.push(Choice::Balanced(goals_later, next, waiting_later))?;
-            Ok(Turn::Go(goals, at, waiting))
+            trail.leave(Kind::Balanced, next)?;
+            Ok(Turn::Go(at))
         }
     }
 }
 
 /// Goes on with the last choice.
-pub(crate) fn back(
-    text: &[u8],
-    choices: &mut Vec<Choice>,
-    left: &mut u64,
-) -> Result<Turn, AllocError>
-    requires { AllWithin (length text.now) choices.old.items }
-    ensures { IfOk result (λ turn. Led text.now choices.old.items (ends Failure left.old) left.old turn choices.new.items left.new) }
+pub(crate) fn back(text: &[u8], trail: &mut Trail, left: &mut u64) -> Result<Turn, AllocError>
+    requires { AllWithin (length text.now) trail.old.opens }
+    ensures { IfOk result (λ turn. Led text.now trail.old.opens (ends Failure left.old) left.old turn trail.new left.new) }
 {
-    match choices.pop() {
+    match trail.back() {
         None => Ok(Turn::Stay(Ended::Failure)),
-        Some(Choice::Second(goals, at, waiting)) => Ok(Turn::Go(goals, at, waiting)),
-        Some(Choice::Each(goals, at, waiting)) => each(text, goals, at, waiting, choices, left),
-        Some(Choice::Balanced(goals, at, waiting)) => {
-            balanced(text, goals, at, waiting, choices, *left)
-        }
-        Some(Choice::Whole) => Ok(Turn::Stay(Ended::WholeFails)),
+        Some((Kind::Second, at)) => Ok(Turn::Go(at)),
+        Some((Kind::Each, at)) => each(text, at, trail, left),
+        Some((Kind::Balanced, at)) => balanced(text, at, trail, *left),
+        Some((Kind::Whole, _)) => Ok(Turn::Stay(Ended::WholeFails)),
     }
 }

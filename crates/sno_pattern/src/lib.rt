@@ -3,7 +3,6 @@
 
 mod choices;
 pub mod ending;
-mod goals;
 pub mod host;
 pub mod laws;
 mod matching;
@@ -14,6 +13,7 @@ mod running;
 mod starting;
 mod straight;
 mod taking;
+mod trail;
 
 pub use ending::{Assignments, MatchEnd, Pending};
 pub use host::{Looked, MatchHost, Stop, Taken};

@@ -1,5 +1,5 @@
 //! A whole match.
-ghost use Rattle.std.specs.Prelude.{◌≡◌, ◌≤◌, ◌+◌, ◌-◌, length, IfOk, OnErr, reverse};
+ghost use Rattle.std.specs.Prelude.{◌≡◌, ◌≤◌, ◌+◌, ◌-◌, length, IfOk, OnErr};
 ghost use Rattle.mon_text.specs.Lines.{IsLine};
 ghost use Rattle.sno_talk.specs.Holding.{Held, Cut};
 ghost use Rattle.sno_nodes.specs.Nodes.{pattern_of};
@@ -9,46 +9,30 @@ ghost use Rattle.sno_pattern.specs.Places.{MatchesWithin};
 ghost use Rattle.sno_pattern.specs.inner.Running.{finishing};
 ghost use Rattle.sno_pattern.specs.inner.Stack.{waiting_of};
 
-use crate::choices::{Choice, Ended};
+use crate::choices::Ended;
 use crate::ending::{Assignments, MatchEnd, Pending};
-use crate::goals::Waiting;
 use crate::host::MatchHost;
 use crate::running::run;
-use crate::starting::{Start, skip_starts};
+use crate::starting::skip_starts;
 use crate::straight::go_straight;
 use crate::taking::part_of;
+use crate::trail::{Trail, Waiting};
 use sno_nodes::{Node, Pat};
 use sno_text::Text;
 use std::alloc::{AllocError, Global};
 use std::rc::Rc;
 
-/// The assignments that wait, with their texts, the newest first.
-#[tactic(auto, using(crate::proofs::Run::collect))]
-fn newest_first(alloc: Global, text: &[u8], waiting: &Waiting) -> Result<Vec<Pending>, AllocError>
+/// The assignments that wait, with their texts.
+fn assignments_of(alloc: Global, text: &[u8], waits: &[Waiting]) -> Result<Assignments, AllocError>
     requires { IsLine text.now }
-    ensures { IfOk result (λ list. reverse list.items ≡ waiting_of text.now waiting.now) }
+    ensures { IfOk result (λ assignments. assignments ≡ waiting_of text.now waits.now) }
 {
     let mut list: Vec<Pending> = Vec::new(alloc);
-    let mut rest = waiting;
-    while let Waiting::And(variable, from, to, older) = rest {
-        let variable = variable.copy()?;
-        let part = part_of(alloc, text, *from, *to)?;
-        list.push(Pending {
-            variable,
-            text: part,
-        })?;
-        rest = older;
+    for waiting in waits {
+        let variable = waiting.variable.copy()?;
+        let text = part_of(alloc, text, waiting.from, waiting.to)?;
+        list.push(Pending { variable, text })?;
     }
-    Ok(list)
-}
-
-/// The assignments that wait, with their texts.
-fn assignments_of(alloc: Global, text: &[u8], waiting: &Waiting) -> Result<Assignments, AllocError>
-    requires { IsLine text.now }
-    ensures { IfOk result (λ assignments. assignments ≡ waiting_of text.now waiting.now) }
-{
-    let mut list = newest_first(alloc, text, waiting)?;
-    list.reverse();
     Ok(Assignments::of_list(list))
 }
 
@@ -72,25 +56,26 @@ fn matches_from<H: MatchHost>(
     ensures ready { H.ready host.new }
 {
     let node: &Node = pattern;
-    let start = Start::new(alloc, pattern)?;
-    let mut choices: Vec<Choice> = Vec::new(alloc);
+    let mut trail = Trail::new(alloc);
     let mut left = limit;
     let mut from = first;
     while from < starts {
-        let attempt = run(alloc, text, &start, from, left, &mut choices, host)?;
-        match attempt.ended {
-            Ended::Success(to, waiting) => {
-                let pending = assignments_of(alloc, text, &waiting)?;
+        let attempt = run(alloc, text, pattern, from, left, &mut trail, host)?;
+        match attempt.out {
+            Ok(to) => {
+                let pending = assignments_of(alloc, text, trail.waits())?;
                 return Ok(MatchEnd::Matched { from, to, pending });
             }
-            Ended::Failure => {
-                left = attempt.left;
-                let later = skip_starts(text, node, from + 1, starts, &mut left);
-                from = later;
-            }
-            Ended::WholeFails => return Ok(MatchEnd::NoMatch),
-            Ended::OutOfSteps => return Ok(MatchEnd::Limit),
-            Ended::Fault(fault) => return Ok(MatchEnd::Fault(fault)),
+            Err(ended) => match ended {
+                Ended::Failure => {
+                    left = attempt.left;
+                    let later = skip_starts(text, node, from + 1, starts, &mut left);
+                    from = later;
+                }
+                Ended::WholeFails => return Ok(MatchEnd::NoMatch),
+                Ended::OutOfSteps => return Ok(MatchEnd::Limit),
+                Ended::Fault(fault) => return Ok(MatchEnd::Fault(fault)),
+            },
         }
     }
     Ok(MatchEnd::NoMatch)

@@ -1,36 +1,12 @@
-//! Where a match starts: the starts that are missed at once, and the lists that all others share.
-ghost use Rattle.std.specs.Prelude.{◌≡◌, ◌≤◌, ◌+◌, ◌-◌, ◌∷◌, [], List, Some, length, IfOk, IfSome};
+//! Where a match starts: the starts that are missed at once.
+ghost use Rattle.std.specs.Prelude.{◌≡◌, ◌≤◌, ◌+◌, ◌-◌, ◌∷◌, List, Some, length, IfSome};
 ghost use Rattle.sno_nodes.specs.Nodes.{pattern_of};
 ghost use Rattle.sno_pattern.specs.declared.ending.Pending.{Pending as Waits};
 ghost use Rattle.sno_pattern.specs.Steps.{Goal as Aim, Meet, Failure, ends, outcome, from_starts};
-ghost use Rattle.sno_pattern.specs.declared.goals.Waiting.TheVariants.{Empty};
 ghost use Rattle.sno_pattern.specs.inner.Reaching.{first_part};
-ghost use Rattle.sno_pattern.specs.inner.Stack.{goals_of};
 
-use crate::choices::before;
-use crate::goals::{Goal, Goals, Waiting};
 use crate::reach::misses;
 use sno_nodes::Node;
-use std::alloc::{AllocError, Global};
-use std::rc::Rc;
-
-/// The goals and the waiting assignments with which each start begins.
-#[derive(Drop)]
-pub(crate) struct Start {
-    pub(crate) goals: Rc<Goals>,
-    pub(crate) waiting: Rc<Waiting>,
-}
-
-impl Start {
-    pub(crate) fn new(alloc: Global, pattern: &Rc<Node>) -> Result<Start, AllocError>
-        ensures { IfOk result (λ start. (goals_of start.goals.value ≡ Meet (pattern_of pattern.now.value) ∷ []) × (start.waiting.value ≡ Empty)) }
-    {
-        let done = Rc::new(alloc, Goals::Done)?;
-        let goals = before(alloc, Goal::Meet(pattern.clone()?), done)?;
-        let waiting = Rc::new(alloc, Waiting::Empty)?;
-        Ok(Start { goals, waiting })
-    }
-}
 
 /// The part of a pattern that is met right after it, where there is one such part.
 fn first_part(node: &Node) -> Option<&Node>

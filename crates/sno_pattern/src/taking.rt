@@ -5,13 +5,13 @@ ghost use Rattle.sno_talk.specs.Holding.{Cut};
 ghost use Rattle.sno_nodes.specs.Nodes.{pattern_of};
 ghost use Rattle.sno_pattern.specs.Looks.{Fits};
 ghost use Rattle.sno_pattern.specs.Steps.{part, pattern_found, row, outcome};
-ghost use Rattle.sno_pattern.specs.inner.Stack.{goal_of, goals_of, waiting_of, AllWithin, Moved, resume, assigning, looking};
+ghost use Rattle.sno_pattern.specs.inner.Stack.{goal_of, waiting_of, AllWithin, Moved, resume, assigning, looking};
 
-use crate::choices::{Choice, Ended, Turn, back, before_shared};
-use crate::goals::{Goal, Goals, Waiting};
+use crate::choices::{Ended, Turn, back};
 use crate::host::{Looked, MatchHost, Stop, Taken};
 use crate::meeting::meet;
 use crate::rows::one_more;
+use crate::trail::{Goal, Trail, Waiting};
 use sno_nodes::Node;
 use sno_text::Text;
 use std::alloc::{AllocError, Global};
@@ -52,23 +52,21 @@ fn assigned<H: MatchHost>(
     text: &[u8],
     variable: &Text,
     taken: Taken,
-    rest: &Rc<Goals>,
     at: usize,
-    waiting: &Rc<Waiting>,
-    choices: &mut Vec<Choice>,
+    trail: &mut Trail,
     left: &mut u64,
     host: &mut H,
 ) -> Result<Turn, AllocError>
     requires ready { H.ready host.old }
     requires cursor { at ≤ length text.now }
-    requires all { AllWithin (length text.now) choices.old.items }
-    ensures moved { IfOk result (λ turn. Moved H.tells H.broken text.now host.old choices.old.items (assigning text.now variable.now taken (goals_of rest.now.value) at (waiting_of text.now waiting.now.value) left.old) left.old host.new turn choices.new.items left.new) }
-    ensures cut { OnErr result (Cut H.tells Fits H.broken (resume text.now choices.old.items (assigning text.now variable.now taken (goals_of rest.now.value) at (waiting_of text.now waiting.now.value) left.old)) host.old host.new) }
+    requires all { AllWithin (length text.now) trail.old.opens }
+    ensures moved { IfOk result (λ turn. Moved H.tells H.broken text.now host.old trail.old.opens (assigning text.now variable.now taken trail.old.goals at (waiting_of text.now trail.old.waits) left.old) left.old host.new turn trail.new left.new) }
+    ensures cut { OnErr result (Cut H.tells Fits H.broken (resume text.now trail.old.opens (assigning text.now variable.now taken trail.old.goals at (waiting_of text.now trail.old.waits) left.old)) host.old host.new) }
     ensures ready { H.ready host.new }
 {
     match host.assign(variable, taken) {
-        Ok(()) => Ok(Turn::Go(rest.clone()?, at, waiting.clone()?)),
-        Err(Stop::Fail) => Ok(back(text, choices, left)?),
+        Ok(()) => Ok(Turn::Go(at)),
+        Err(Stop::Fail) => Ok(back(text, trail, left)?),
         Err(Stop::Fault(fault)) => Ok(Turn::Stay(Ended::Fault(fault))),
         Err(Stop::Memory) => Err(AllocError),
     }
@@ -79,58 +77,54 @@ fn looked<H: MatchHost>(
     alloc: Global,
     text: &[u8],
     variable: &Text,
-    rest: &Rc<Goals>,
     at: usize,
-    waiting: &Rc<Waiting>,
-    choices: &mut Vec<Choice>,
+    trail: &mut Trail,
     left: &mut u64,
     host: &mut H,
 ) -> Result<Turn, AllocError>
     requires ready { H.ready host.old }
     requires cursor { at ≤ length text.now }
-    requires all { AllWithin (length text.now) choices.old.items }
-    ensures moved { IfOk result (λ turn. Moved H.tells H.broken text.now host.old choices.old.items (looking text.now variable.now (goals_of rest.now.value) at (waiting_of text.now waiting.now.value) left.old) left.old host.new turn choices.new.items left.new) }
-    ensures cut { OnErr result (Cut H.tells Fits H.broken (resume text.now choices.old.items (looking text.now variable.now (goals_of rest.now.value) at (waiting_of text.now waiting.now.value) left.old)) host.old host.new) }
+    requires all { AllWithin (length text.now) trail.old.opens }
+    ensures moved { IfOk result (λ turn. Moved H.tells H.broken text.now host.old trail.old.opens (looking text.now variable.now trail.old.goals at (waiting_of text.now trail.old.waits) left.old) left.old host.new turn trail.new left.new) }
+    ensures cut { OnErr result (Cut H.tells Fits H.broken (resume text.now trail.old.opens (looking text.now variable.now trail.old.goals at (waiting_of text.now trail.old.waits) left.old)) host.old host.new) }
     ensures ready { H.ready host.new }
 {
     match host.look_up(variable) {
         Ok(found) => {
             let node = node_found(alloc, found)?;
-            let goals = before_shared(alloc, Goal::Meet(node), rest)?;
-            Ok(Turn::Go(goals, at, waiting.clone()?))
+            trail.push(Goal::Meet(node))?;
+            Ok(Turn::Go(at))
         }
-        Err(Stop::Fail) => Ok(back(text, choices, left)?),
+        Err(Stop::Fail) => Ok(back(text, trail, left)?),
         Err(Stop::Fault(fault)) => Ok(Turn::Stay(Ended::Fault(fault))),
         Err(Stop::Memory) => Err(AllocError),
     }
 }
 
-/// Takes a goal off.
+/// Meets a goal that was taken off.
 pub(crate) fn take<H: MatchHost>(
     alloc: Global,
     text: &[u8],
-    goal: &Goal,
-    rest: &Rc<Goals>,
+    goal: Goal,
     at: usize,
-    waiting: &Rc<Waiting>,
-    choices: &mut Vec<Choice>,
+    trail: &mut Trail,
     left: &mut u64,
     host: &mut H,
 ) -> Result<Turn, AllocError>
     requires ready { H.ready host.old }
     requires printable { IsLine text.now }
     requires cursor { at ≤ length text.now }
-    requires all { AllWithin (length text.now) choices.old.items }
-    ensures moved { IfOk result (λ turn. Moved H.tells H.broken text.now host.old choices.old.items (row text.now (outcome text.now) (goal_of goal.now) (goals_of rest.now.value) at (waiting_of text.now waiting.now.value) left.old) left.old host.new turn choices.new.items left.new) }
-    ensures cut { OnErr result (Cut H.tells Fits H.broken (resume text.now choices.old.items (row text.now (outcome text.now) (goal_of goal.now) (goals_of rest.now.value) at (waiting_of text.now waiting.now.value) left.old)) host.old host.new) }
+    requires all { AllWithin (length text.now) trail.old.opens }
+    ensures moved { IfOk result (λ turn. Moved H.tells H.broken text.now host.old trail.old.opens (row text.now (outcome text.now) (goal_of goal) trail.old.goals at (waiting_of text.now trail.old.waits) left.old) left.old host.new turn trail.new left.new) }
+    ensures cut { OnErr result (Cut H.tells Fits H.broken (resume text.now trail.old.opens (row text.now (outcome text.now) (goal_of goal) trail.old.goals at (waiting_of text.now trail.old.waits) left.old)) host.old host.new) }
     ensures ready { H.ready host.new }
 {
     match goal {
         Goal::Meet(shared) => {
-            let node: &Node = shared;
+            let node: &Node = &shared;
             match node {
                 Node::Defer(variable) => match looked(
-                    alloc, text, variable, rest, at, waiting, choices, left, host,
+                    alloc, text, variable, at, trail, left, host,
                 ) {
                     Ok(turn) => Ok(turn),
                     Err(e) => Err(e),
@@ -139,46 +133,37 @@ pub(crate) fn take<H: MatchHost>(
                     text,
                     variable,
                     Taken::Cursor(at as u64),
-                    rest,
                     at,
-                    waiting,
-                    choices,
+                    trail,
                     left,
                     host,
                 ) {
                     Ok(turn) => Ok(turn),
                     Err(e) => Err(e),
                 },
-                _ => match meet(alloc, text, shared, rest, at, waiting, choices, left) {
+                _ => match meet(text, &shared, at, trail, left) {
                     Ok(turn) => Ok(turn),
                     Err(e) => Err(e),
                 },
             }
         }
         Goal::More(shared, from) => {
-            if at == *from {
-                return Ok(back(text, choices, left)?);
+            if at == from {
+                return Ok(back(text, trail, left)?);
             }
-            Ok(one_more(alloc, text, shared, rest, at, waiting, choices, *left)?)
+            Ok(one_more(text, &shared, at, trail, *left)?)
         }
         Goal::EndConditional(variable, from) => {
-            let older = waiting.clone()?;
-            let more = Rc::new(alloc, Waiting::And(variable.copy()?, *from, at, older))?;
-            Ok(Turn::Go(rest.clone()?, at, more))
+            trail.wait(Waiting {
+                variable,
+                from,
+                to: at,
+            })?;
+            Ok(Turn::Go(at))
         }
         Goal::EndImmediate(variable, from) => {
-            let taken = part_of(alloc, text, *from, at)?;
-            match assigned(
-                text,
-                variable,
-                Taken::Part(taken),
-                rest,
-                at,
-                waiting,
-                choices,
-                left,
-                host,
-            ) {
+            let taken = part_of(alloc, text, from, at)?;
+            match assigned(text, &variable, Taken::Part(taken), at, trail, left, host) {
                 Ok(turn) => Ok(turn),
                 Err(e) => Err(e),
             }

@@ -2,5 +2,6 @@ mod Numbers
 mod Identifiers
 mod Listing
 mod Apart
+pub mod Different
 mod Cutting
 mod Decimals

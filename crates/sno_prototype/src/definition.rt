@@ -1,8 +1,9 @@
 //! Functions as DEFINE says them.
-ghost use Rattle.std.specs.Prelude.{◌≡◌, IfOk, IsSome, IsErrOf};
+ghost use Rattle.std.specs.Prelude.{◌≡◌, true, IfOk, IsSome, IsErrOf};
 ghost use Rattle.mon_text.specs.Stops.{Gives};
 ghost use Rattle.sno_value.specs.Values.{text_of};
 ghost use Rattle.sno_prototype.specs.Definitions.{prototype_in, entry_in, definition_in};
+ghost use Rattle.sno_prototype.specs.Prototypes.{names_of, are_different};
 
 use crate::argument::text_in;
 use crate::prototype::{Prototype, read_prototype};
@@ -28,29 +29,35 @@ pub struct Function {
 }
 
 impl Model for Function {
+    ghost use Rattle.std.specs.Prelude.{◌≡◌, true};
+    ghost use Rattle.sno_prototype.specs.Prototypes.{names_of, are_different};
     ghost use Rattle.sno_prototype.specs.declared.definition.Definition.{Definition};
 
     ghost Value = { Definition };
 
     ghost view = { λ f. f.definition.value };
+
+    ghost invariant = { λ f. are_different (names_of f.definition.value.prototype) ≡ true };
 }
 
 impl Function {
-    /// A function that is defined so.
+    /// A function that is defined so, whose variables have different names.
     ///
     /// # Errors
     ///
     /// Where a growth was refused.
     pub fn new(alloc: Global, definition: Definition) -> Result<Function, AllocError>
+        requires { are_different (names_of definition.prototype) ≡ true }
         ensures { IfOk result (λ f. f ≡ definition) }
     {
         let definition = Rc::new(alloc, definition)?;
         Ok(Function { definition })
     }
 
-    /// What was said of it.
+    /// What was said of it. Its variables have different names.
     pub fn definition(&self) -> &Definition
-        ensures { result.now ≡ self.now }
+        ensures same { result.now ≡ self.now }
+        ensures different { are_different (names_of result.now.prototype) ≡ true }
     {
         self.definition.as_ref()
     }

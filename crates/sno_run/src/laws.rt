@@ -1,9 +1,14 @@
 //! Laws of turns. Each is the contract of a function that does nothing.
-ghost use Rattle.sno_run.specs.Laws.{TurnsAlike, BrokenGoesOn, NoTurnEndsEarly};
+ghost use Rattle.sno_run.specs.Laws.{TurnsAlike, ManyTurnsAlike, BrokenGoesOn, NoTurnEndsEarly};
 
 /// Two turns of one job whose answers begin alike ask the same, and end alike.
 pub fn turns_alike()
     ensures { TurnsAlike }
+{}
+
+/// Two runs of one job, of so many turns each or to the end, whose answers begin alike ask the same, and end alike.
+pub fn many_turns_alike()
+    ensures { ManyTurnsAlike }
 {}
 
 /// What a turn was broken off after goes on to a whole turn.

@@ -9,5 +9,6 @@ pub mod laws;
 mod turning;
 
 pub use ending::{Ending, Step};
+pub use sno_ask::{Act, Answer, Request, Script, Service};
 pub use sno_keeping::Limits;
 pub use turning::{Job, statement_turn};

@@ -14,7 +14,7 @@ use Rattle.sno_expression.specs.Expressions.{Expression, Unary}
 use Rattle.sno_expression.specs.Spelling.{spaced, SpellsTo}
 use Rattle.sno_expression.specs.inner.Reading.{Stops, reading}
 use Rattle.sno_statement.specs.declared.walking.Role.{Role}
-use Rattle.sno_statement.specs.Walking.{stands}
+use Rattle.sno_statement.specs.inner.Walking.{stands}
 use Rattle.sno_statement.specs.Statements.{Target, To, Computed, Goto, NoGoto, Always, OnSuccess, OnFailure, OnBoth, Object, NoObject, NullObject, ValueObject, Body, NoBody, Does, Statement, Says, TargetHasLevels, GotoHasLevels, PatternHasLevels, ObjectHasLevels, StatementHasLevels}
 use Rattle.sno_statement.specs.Spelling.{TargetTo, OutcomeTo, LeadsTo, ColonTo, GotoTo, PatternTo, ObjectTo, Spells}
 use Rattle.sno_statement.specs.inner.Reading.{Aimed, computed, inside, target_in, always, both, next, chosen, goto_in, going, ending, giving, by_object, object_in, pattern_then, matching, by_subject, subject_then, acting, by_first, statement_in}
@@ -77,19 +77,19 @@ last_read on b (OnBoth t u) ts h v s = colon_read on b (OnBoth t u) ts h v s
 colon_stops : (alone : Bool) (g : Goto) (ts : List Token) → ColonTo g ts → Stops alone ts
 colon_stops alone g ts s = subst (Stops alone) (sym s.2) tt
 
-goto_stops : (alone : Bool) (g : Goto) (ts : List Token) → GotoTo g ts → Stops alone ts
+pub goto_stops : (alone : Bool) (g : Goto) (ts : List Token) → GotoTo g ts → Stops alone ts
 goto_stops alone NoGoto ts s = subst (Stops alone) (sym s) tt
 goto_stops alone (Always t) ts s = colon_stops alone (Always t) ts s
 goto_stops alone (OnSuccess t) ts s = colon_stops alone (OnSuccess t) ts s
 goto_stops alone (OnFailure t) ts s = colon_stops alone (OnFailure t) ts s
 goto_stops alone (OnBoth t u) ts s = colon_stops alone (OnBoth t u) ts s
 
-object_stops : (alone : Bool) (o : Object) (g : Goto) (ts m : List Token) → ObjectTo o ts m → GotoTo g m → Stops alone ts
+pub object_stops : (alone : Bool) (o : Object) (g : Goto) (ts m : List Token) → ObjectTo o ts m → GotoTo g m → Stops alone ts
 object_stops alone NoObject g ts m s e = subst (Stops alone) (sym s) (goto_stops alone g m e)
 object_stops alone NullObject g ts m s e = subst (Stops alone) (sym s) tt
 object_stops alone (ValueObject t) g ts m s e = subst (Stops alone) (sym s.1) tt
 
-pattern_stops : (p : Option Expression) (o : Object) (g : Goto) (ts m n : List Token) → PatternTo p ts m → ObjectTo o m n → GotoTo g n → Stops true ts
+pub pattern_stops : (p : Option Expression) (o : Object) (g : Goto) (ts m n : List Token) → PatternTo p ts m → ObjectTo o m n → GotoTo g n → Stops true ts
 pattern_stops None o g ts m n s d e = subst (Stops true) (sym s) (object_stops true o g m n d e)
 pattern_stops (Some p) o g ts m n s d e = stops_blank p ts m s
 

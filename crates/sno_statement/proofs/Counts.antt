@@ -5,13 +5,13 @@ use Rattle.sno_token.specs.declared.Token.{Token}
 use Rattle.sno_expression.specs.declared.tree.UnaryOperator.TheVariants.{Indirect}
 use Rattle.sno_expression.specs.Expressions.{Expression, Unary}
 use Rattle.sno_expression.specs.inner.Counting.{bit, bad}
-use Rattle.sno_expression.specs.Walking.{is_misfit}
+use Rattle.sno_expression.specs.inner.Walking.{is_misfit}
 use Rattle.sno_statement.specs.declared.walking.Stage.{Stage}
 use Rattle.sno_statement.specs.declared.walking.Stage.TheVariants.{In}
 use Rattle.sno_statement.specs.declared.walking.SubjectKind.{SubjectKind}
 use Rattle.sno_statement.specs.Statements.{Target, To, Computed, Goto, NoGoto, Always, OnSuccess, OnFailure, OnBoth, Object, NoObject, NullObject, ValueObject, Body, NoBody, Does, Statement, Says, kind_of, can_be_set, is_pattern, CanBeSet, TargetHasVariables, GotoHasVariables, PatternHasVariables, ObjectHasVariables, BodyHasVariables, StatementHasVariables}
-use Rattle.sno_statement.specs.Walking.{Walk, At, take, may_end, role}
-use Rattle.sno_statement.specs.Faults.{is_unset}
+use Rattle.sno_statement.specs.inner.Walking.{Walk, At, take, may_end, role}
+use Rattle.sno_statement.specs.inner.Faults.{is_unset}
 use Rattle.sno_expression.proofs.Variables.{no_bad, all_variables}
 
 abbrev pub bad_target : Target → ℕ

@@ -16,7 +16,7 @@ use Rattle.sno_expression.specs.Expressions.{Expression, Identifier, Constant, K
 use Rattle.sno_statement.specs.declared.fault.Fault.{Fault}
 use Rattle.sno_statement.specs.declared.fault.FaultKind.TheVariants.{MissingBlank, Unfit, NoVariable}
 use Rattle.sno_statement.specs.Statements.{Target, To, Computed, NoGoto, Always, OnSuccess, OnFailure, OnBoth, NoObject, NullObject, ValueObject, NoBody, Does, Statement, Says}
-use Rattle.sno_statement.specs.Faults.{FaultAt, fault}
+use Rattle.sno_statement.specs.inner.Faults.{FaultAt, fault}
 use Rattle.sno_statement.specs.inner.Reading.{statement_in}
 
 -- tokens, each with whether a blank stands before it, and where it matters whether one follows; every constant is the

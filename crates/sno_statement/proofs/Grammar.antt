@@ -1,9 +1,9 @@
--- The laws of the grammar, and what a fault says.
+-- What the walk takes and notes, by the grammar, and that tokens spell one statement at the most.
 use Rattle.std.proofs.Common.{arith, ◌≡◌, ℕ, ◌+◌, List, [], ◌∷◌, refl, ap, ◌∙◌, subst}
-use Rattle.std.specs.Prelude.{Bool, true, false, nat_le, Option, Some, None, Ok, Err, if◌then◌else◌}
+use Rattle.std.specs.Prelude.{Bool, true, false, nat_le, Option, Some, None, Ok, if◌then◌else◌}
 use Rattle.sno_token.specs.declared.Token.{Token}
 use Rattle.sno_expression.specs.inner.Counting.{bit}
-use Rattle.sno_expression.specs.Walking.{is_misfit, misfit_index}
+use Rattle.sno_expression.specs.inner.Walking.{is_misfit, misfit_index}
 use Rattle.sno_statement.specs.declared.fault.Fault.{Fault}
 use Rattle.sno_statement.specs.declared.fault.FaultKind.TheVariants.{Unfit}
 use Rattle.sno_statement.specs.declared.statement.Statement.{Statement as AStatement}
@@ -12,12 +12,13 @@ use Rattle.sno_statement.specs.declared.walking.Stage.TheVariants.{In}
 use Rattle.sno_statement.specs.declared.walking.SubjectKind.{SubjectKind}
 use Rattle.sno_statement.specs.Statements.{Statement, StatementHasLevels, StatementHasVariables}
 use Rattle.sno_statement.specs.Spelling.{Spells}
-use Rattle.sno_statement.specs.Walking.{Walk, At, take, begins, may_end, role}
-use Rattle.sno_statement.specs.Faults.{FaultAt, refused_as, then_on, refusal_from, refusal, subject_kind, is_unset, note, least, noted_at, noted_here, then_note, noted_from, noted, earlier, fault}
+use Rattle.sno_statement.specs.inner.Walking.{Walk, At, take, begins, may_end, role}
+use Rattle.sno_statement.specs.inner.Faults.{FaultAt, refused_as, then_on, refusal_from, refusal, subject_kind, is_unset, note, least, noted_at, noted_here, then_note, noted_from, noted, earlier, fault}
 use Rattle.sno_statement.specs.inner.Reading.{statement_in}
 use Rattle.sno_statement.specs.inner.Variables.{fitting}
 use Rattle.sno_statement.specs.Told.{statement_of, Parsed}
-use Rattle.sno_statement.specs.Laws.{NotesExactly, OneStatement, Taken}
+use Rattle.sno_statement.specs.Laws.{OneStatement}
+use Rattle.sno_statement.specs.inner.Laws.{NotesExactly, Taken}
 use Rattle.sno_statement.proofs.Completing.{statement_read}
 use Rattle.sno_statement.proofs.Sound.{statement_sound}
 use Rattle.sno_statement.proofs.Counts.{bad_statement, statement_good, statement_variables, count_at, count, plus, on_walk, walked, bads}
@@ -91,7 +92,7 @@ pub least_none : (a b : Option ℕ) → a ≡ None → b ≡ None → least a b 
 least_none None b d e = e
 least_none (Some i) b d e = cc
 
-pub none_least : (a b : Option ℕ) → least a b ≡ None → a ≡ None
+none_least : (a b : Option ℕ) → least a b ≡ None → a ≡ None
 none_least None b e = refl
 none_least (Some i) None e = cc
 none_least (Some i) (Some j) e = at (nat_le i j) e
@@ -100,7 +101,7 @@ none_least (Some i) (Some j) e = at (nat_le i j) e
     at true d = cc
     at false d = cc
 
-pub none_later : (a b : Option ℕ) → least a b ≡ None → b ≡ None
+none_later : (a b : Option ℕ) → least a b ≡ None → b ≡ None
 none_later None b e = e
 none_later (Some i) b e = let d = none_least (Some i) b e in cc
 
@@ -173,31 +174,20 @@ uncounted k (t ∷ ts) w i n e d = at (take w t) e d (λ v c b. uncounted k ts v
 all_seen : (ts : List Token) (s : Statement) → StatementHasLevels s → Spells s ts → walked (subject_kind ts) begins ts ≡ Some (bad_statement s)
 all_seen ts s v p = statement_walks ts ∙ ap bads (statement_read s ts v p)
 
-no_variable_noted : (ts : List Token) (s : Statement) → StatementHasLevels s → Spells s ts → StatementHasVariables s → noted ts ≡ None
+pub no_variable_noted : (ts : List Token) (s : Statement) → StatementHasLevels s → Spells s ts → StatementHasVariables s → noted ts ≡ None
 no_variable_noted ts s v p h = unnoted (subject_kind ts) ts begins 0 (all_seen ts s v p ∙ ap Some (statement_good s h))
 
 pub notes_exactly : NotesExactly
 notes_exactly ts s v p =
     (λ a. statement_variables s (uncounted (subject_kind ts) ts begins 0 (bad_statement s) (all_seen ts s v p) a), no_variable_noted ts s v p)
 
-not_noted : (o : Option ℕ) (f : Option Fault) → earlier o f ≡ None → o ≡ None
+pub not_noted : (o : Option ℕ) (f : Option Fault) → earlier o f ≡ None → o ≡ None
 not_noted None f e = refl
 not_noted (Some i) f e = cc
 
-not_refused : (o : Option ℕ) (f : Option Fault) → earlier o f ≡ None → f ≡ None
+pub not_refused : (o : Option ℕ) (f : Option Fault) → earlier o f ≡ None → f ≡ None
 not_refused None f e = e
 not_refused (Some i) f e = cc
-
--- where there is a fault no statement fits
-pub parsed_err : (ts : List Token) (f : Fault) → fault ts ≡ Some f → Parsed ts (Err f)
-parsed_err ts f e = (
-  e,
-  λ s v h p.
-      let a : noted ts ≡ None = no_variable_noted ts s v p h in
-      let b : refusal ts ≡ None = (taken ts).1 s v p in
-      let d : fault ts ≡ None = ap (λ (o : Option ℕ). earlier o (refusal ts)) a ∙ b in
-      cc,
-)
 
 -- a statement that is read and has its variables is the one that the tokens spell
 pub parsed_ok : (ts : List Token) (s : AStatement) → fitting (statement_in ts) ≡ Some (statement_of s) → Parsed ts (Ok s)

@@ -9,3 +9,7 @@ pub mod Passing
 pub mod Grammar
 pub mod Prefixes
 pub mod Loop
+pub mod Marked
+pub mod Placed
+pub mod Placing
+pub mod Leftmost

@@ -1,14 +1,13 @@
--- The loop over the tokens, one turn and the end.
-use Rattle.std.proofs.Common.{arith, ◌≡◌, ℕ, ◌+◌, ◌<◌, length, List, [], ◌∷◌, drop, get_or, refl, sym, ap, ◌∙◌, add-one, drop-cons}
+-- The loop over the tokens, one turn after the other.
+use Rattle.std.proofs.Common.{arith, ◌≡◌, ℕ, ◌+◌, ◌<◌, length, List, ◌∷◌, drop, get_or, refl, sym, ap, ◌∙◌, add-one, drop-cons}
 use Rattle.std.specs.Prelude.{Bool, true, false, nat_le, Option, Some, None, if◌then◌else◌}
 use Rattle.std.proofs.lemmas.Bool.Decides.{nat_tests}
 use Rattle.sno_token.specs.declared.Token.{Token}
 use Rattle.sno_statement.specs.declared.fault.Fault.{Fault}
 use Rattle.sno_statement.specs.declared.fault.FaultKind.{FaultKind}
-use Rattle.sno_statement.specs.declared.fault.FaultKind.TheVariants.{Unfit}
 use Rattle.sno_statement.specs.declared.walking.SubjectKind.{SubjectKind}
-use Rattle.sno_statement.specs.Walking.{Walk, take, may_end}
-use Rattle.sno_statement.specs.Faults.{FaultAt, refused_as, then_on, refusal_from, refusal, least, noted_here, then_note, noted_from, noted, earlier, fault}
+use Rattle.sno_statement.specs.inner.Walking.{Walk, take}
+use Rattle.sno_statement.specs.inner.Faults.{FaultAt, refused_as, then_on, refusal_from, refusal, least, noted_here, then_note, noted_from, noted, earlier, fault}
 
 le_le : (i j k : ℕ) → nat_le i j ≡ true → nat_le j k ≡ true → nat_le i k ≡ true
 le_le i j k e d = grind (arith, nat_tests)
@@ -20,7 +19,7 @@ least_none : (a : Option ℕ) → least a None ≡ a
 least_none None = refl
 least_none (Some i) = refl
 
-pub least_least : (a b c : Option ℕ) → least (least a b) c ≡ least a (least b c)
+least_least : (a b c : Option ℕ) → least (least a b) c ≡ least a (least b c)
 least_least None b c = refl
 least_least (Some i) None c = refl
 least_least (Some i) (Some j) None = least_none (least (Some i) (Some j))
@@ -59,13 +58,6 @@ here_note k w t ts m i l f d e h =
     h ∙ (ap (λ (x : List Token). least l (noted_from k i w x)) d
     ∙ (ap (λ (o : Option Walk). least l (then_note o (λ x. least (noted_here k i w t) (noted_from k (i + 1) x m)))) e
     ∙ least_none l))
-
--- at the end
-pub end_refusal : (w : Walk) (ts : List Token) (i : ℕ) (b : Bool) (f : Option Fault) → ts ≡ [] → b ≡ may_end w → f ≡ refusal_from i w ts → f ≡ (if b then None else Some (FaultAt i Unfit))
-end_refusal w ts i b f d e h = h ∙ (ap (refusal_from i w) d ∙ ap (λ (x : Bool). if x then None else Some (FaultAt i Unfit)) (sym e))
-
-pub end_note : (k : SubjectKind) (w : Walk) (ts : List Token) (i : ℕ) (l f : Option ℕ) → ts ≡ [] → f ≡ least l (noted_from k i w ts) → f ≡ l
-end_note k w ts i l f d h = h ∙ (ap (λ (x : List Token). least l (noted_from k i w x)) d ∙ least_none l)
 
 pub fault_is : (ts : List Token) (l : Option ℕ) (f g : Option Fault) → noted ts ≡ l → refusal ts ≡ f → g ≡ earlier l f → g ≡ fault ts
 fault_is ts l f g a b e = e ∙ (sym (ap (earlier l) b) ∙ sym (ap (λ (o : Option ℕ). earlier o (refusal ts)) a))

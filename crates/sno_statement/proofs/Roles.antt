@@ -12,13 +12,13 @@ use Rattle.sno_expression.specs.declared.tree.UnaryOperator.TheVariants as unary
 use Rattle.sno_expression.specs.Marks.{prefix_of}
 use Rattle.sno_expression.specs.Expressions.{Expression, Identifier, Constant, Keyword, Unevaluated, Group, Call, Unary, Binary, IsOperand}
 use Rattle.sno_expression.specs.Spelling.{spaced, SpellsTo}
-use Rattle.sno_expression.specs.Walking.{opens_call}
+use Rattle.sno_expression.specs.inner.Walking.{opens_call}
 use Rattle.sno_expression.specs.inner.Reading.{Stops}
 use Rattle.sno_statement.specs.declared.walking.Role.TheVariants.{Assigns, Goes, Follows, Touches}
 use Rattle.sno_statement.specs.Statements.{kind_of}
 use Rattle.sno_statement.specs.declared.walking.SubjectKind.TheVariants as kind
-use Rattle.sno_statement.specs.Walking.{stands, role_by, role}
-use Rattle.sno_statement.specs.Faults.{subject_kind}
+use Rattle.sno_statement.specs.inner.Walking.{stands, role_by, role}
+use Rattle.sno_statement.specs.inner.Faults.{subject_kind}
 
 not_goes : (b : Bool) → stands b ≡ Goes → ⊥
 not_goes true e = cc

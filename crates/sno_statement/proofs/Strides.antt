@@ -13,19 +13,19 @@ use Rattle.sno_expression.specs.declared.walking.Move.{Move}
 use Rattle.sno_expression.specs.declared.walking.Move.TheVariants as move
 use Rattle.sno_expression.specs.Expressions.{Expression}
 use Rattle.sno_expression.specs.inner.Counting.{bit, bad}
-use Rattle.sno_expression.specs.Walking.{is_misfit, opens_call, ends, inner_of, outer_of}
+use Rattle.sno_expression.specs.inner.Walking.{is_misfit, opens_call, ends, inner_of, outer_of}
 use Rattle.sno_expression.specs.inner.Walks.{moved}
-use Rattle.sno_expression.specs.Walking as walking
+use Rattle.sno_expression.specs.inner.Walking as walking
 use Rattle.sno_expression.specs.inner.Walks as walks
-use Rattle.sno_expression.specs.inner.Reading.{State, Stack, Reading, Read, reading, answer, and_then, read, result, start, walk, parens, position, Spot}
+use Rattle.sno_expression.specs.inner.Reading.{State, Reading, Read, reading, answer, and_then, read, result, start, walk, parens, position}
 use Rattle.sno_expression.specs.inner.Reading as reading
 use Rattle.sno_statement.specs.declared.walking.Field.{Field}
 use Rattle.sno_statement.specs.declared.walking.Field.TheVariants.{Subject, Pattern}
 use Rattle.sno_statement.specs.declared.walking.Stage.TheVariants.{In}
 use Rattle.sno_statement.specs.declared.walking.Advance.{Advance}
 use Rattle.sno_statement.specs.declared.walking.SubjectKind.{SubjectKind}
-use Rattle.sno_statement.specs.Walking.{Walk, At, stands, role_by, role, alone, within, continued, enter, leave, in_field, advanced, may_close}
-use Rattle.sno_statement.specs.Faults.{is_unset}
+use Rattle.sno_statement.specs.inner.Walking.{Walk, At, stands, role_by, role, alone, within, continued, enter, leave, in_field, advanced, may_close}
+use Rattle.sno_statement.specs.inner.Faults.{is_unset}
 use Rattle.sno_expression.proofs.Steps.{walk_of, read_walks, is_some, end_walks}
 use Rattle.sno_expression.proofs.Variables.{bad_state, read_counts, end_counts}
 use Rattle.sno_statement.proofs.Counts.{plus, on_walk, walked, plus_zero, plus_plus}
@@ -41,10 +41,6 @@ after_field k f (Read (Some u) rest) = plus (bad u) (left k f rest)
 
 abbrev walk_in : Field → walks.Walk → Walk
 walk_in f (walks.At ps p) = At ps (In f p)
-
-at_bottom : (ps : List Paren) (p : Position) → ends (inner_of ps) p ≡ true → ps ≡ []
-at_bottom [] p e = refl
-at_bottom (q ∷ ps) p e = cc
 
 -- a token that a complete part does not take is no misfit
 no_misfit : (alone : Bool) (p : Position) (b a : Bool) (t : TokenKind) → ends None p ≡ true → walking.step alone None p b a t ≡ None → is_misfit p b t ≡ false
@@ -87,7 +83,7 @@ stands_unset k Pattern true = refl
 stands_unset k Pattern false = refl
 stands_unset k _ b = refl
 
-taken_sets : (k : SubjectKind) (f : Field) (alone : Bool) (q : Option Paren) (p : Position) (b a : Bool) (t : TokenKind) (m : Move) → walking.step alone q p b a t ≡ Some m → is_unset k f (role_by b a t) ≡ false
+pub taken_sets : (k : SubjectKind) (f : Field) (alone : Bool) (q : Option Paren) (p : Position) (b a : Bool) (t : TokenKind) (m : Move) → walking.step alone q p b a t ≡ Some m → is_unset k f (role_by b a t) ≡ false
 taken_sets k f alone q p b a (token.Part s) m e = cc (not_a_part alone q p b a s)
 taken_sets k f alone q p b a _ m e = stands_unset k f b
 

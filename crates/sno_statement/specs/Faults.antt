@@ -1,107 +1,54 @@
--- The leftmost fault of a statement's tokens (own).
-use Rattle.std.specs.Prelude.{ℕ, ◌+◌, nat_le, Bool, true, false, List, [], ◌∷◌, Option, Some, None, ◌||◌, not, if◌then◌else◌}
-use Rattle.sno_token.specs.declared.Mark.TheVariants.{Dollar, Ampersand}
+-- What the leftmost fault of a statement's tokens is (own).
+use Rattle.std.specs.Prelude.{◌≡◌, ◌<◌, ◌≤◌, ℕ, Bool, true, false, List, [], ◌∷◌, ◌++◌, length, get_or}
 use Rattle.sno_token.specs.declared.Token.{Token}
-use Rattle.sno_token.specs.declared.TokenKind.{TokenKind}
-use Rattle.sno_token.specs.declared.TokenKind.TheVariants as token
 use Rattle.sno_expression.specs.Spelling.{spaced}
-use Rattle.sno_expression.specs.Walking.{opens_call, is_misfit, misfit_index}
 use Rattle.sno_statement.specs.declared.fault.FaultKind.{FaultKind}
 use Rattle.sno_statement.specs.declared.fault.FaultKind.TheVariants.{MissingBlank, Unfit, NoVariable}
 use Rattle.sno_statement.specs.declared.fault.Fault.{Fault}
-use Rattle.sno_statement.specs.declared.walking.Role.{Role}
-use Rattle.sno_statement.specs.declared.walking.Role.TheVariants.{Assigns}
-use Rattle.sno_statement.specs.declared.walking.Field.{Field}
-use Rattle.sno_statement.specs.declared.walking.Field.TheVariants.{Subject, Pattern}
-use Rattle.sno_statement.specs.declared.walking.Stage.{Stage}
-use Rattle.sno_statement.specs.declared.walking.Stage.TheVariants.{In}
-use Rattle.sno_statement.specs.declared.walking.SubjectKind.{SubjectKind}
-use Rattle.sno_statement.specs.declared.walking.SubjectKind.TheVariants as kind
-use Rattle.sno_statement.specs.Statements.{can_be_set}
-use Rattle.sno_statement.specs.Walking.{Walk, At, take, begins, may_end, role}
+use Rattle.sno_statement.specs.Statements.{Statement, StatementHasLevels, StatementHasVariables}
+use Rattle.sno_statement.specs.Spelling.{Spells}
+use Rattle.sno_statement.specs.Lacking.{lacking_in}
 
-abbrev pub is_taken : Option Walk → Bool
-is_taken None = false
-is_taken (Some w) = true
+-- the tokens spell a statement, whether or not a variable stands in each place that needs one
+abbrev pub IsSpelled : List Token → Type 0
+IsSpelled ts = (s : Statement) × StatementHasLevels s × Spells s ts
 
-abbrev pub takes : Walk → Token → Bool
-takes w t = is_taken (take w t)
+-- the tokens spell a statement with a variable in each place that needs one
+abbrev pub IsFit : List Token → Type 0
+IsFit ts = (s : Statement) × StatementHasLevels s × StatementHasVariables s × Spells s ts
 
--- a blank is missing where the token would be taken with other blanks round it
-abbrev pub refused_as : Walk → TokenKind → FaultKind
-refused_as w k =
-    if takes w (spaced false false k) || takes w (spaced false true k) || takes w (spaced true false k) || takes w (spaced true true k)
-    then MissingBlank else Unfit
+-- the tokens begin a statement: with further ones, or none, they spell one
+abbrev pub Begins : List Token → Type 0
+Begins ts = (rest : List Token) × IsSpelled (ts ++ rest)
 
-abbrev pub FaultAt : ℕ → FaultKind → Fault
-FaultAt i k = record { at = i; kind = k }
+-- the beginning ends before the tokens left: with the next of them the tokens taken begin no statement
+abbrev pub EndsBefore : List Token → List Token → Type 0
+EndsBefore taken [] = Unit {0}
+EndsBefore taken (t ∷ left) = Begins (taken ++ t ∷ []) → ⊥
 
-abbrev pub then_on : Option Walk → Option Fault → (Walk → Option Fault) → Option Fault
-then_on None fault on = fault
-then_on (Some w) fault on = on w
+-- with some choice of blanks before and behind it the token would go on
+abbrev pub GoesOnSpaced : List Token → Token → Type 0
+GoesOnSpaced taken t = (before : Bool) × (after : Bool) × Begins (taken ++ spaced before after t.kind ∷ [])
 
--- the first token that is not taken, or the end
-abbrev pub refusal_from : ℕ → Walk → List Token → Option Fault
-refusal_from i w [] = if may_end w then None else Some (FaultAt i Unfit)
-refusal_from i w (t ∷ ts) = then_on (take w t) (Some (FaultAt i (refused_as w t.kind))) (λ v. refusal_from (i + 1) v ts)
+-- why the beginning ends there: a blank is missing where the next token would go on with other blanks round it, and else it
+-- does not fit; where no token is left, those taken are no statement
+abbrev pub Stops : FaultKind → List Token → List Token → Type 0
+Stops Unfit taken [] = IsSpelled taken → ⊥
+Stops Unfit taken (t ∷ left) = GoesOnSpaced taken t → ⊥
+Stops MissingBlank taken [] = ⊥
+Stops MissingBlank taken (t ∷ left) = GoesOnSpaced taken t
+Stops NoVariable taken left = ⊥
 
-abbrev pub refusal : List Token → Option Fault
-refusal ts = refusal_from 0 begins ts
+-- in each statement that the tokens begin a variable is lacking, at this place or before it
+abbrev pub Lacks : List Token → ℕ → Type 0
+Lacks ts at = (rest : List Token) (s : Statement) → StatementHasLevels s → Spells s (ts ++ rest) → (i : ℕ) × (i ≤ at) × (get_or (lacking_in (ts ++ rest) s) i false ≡ true)
 
--- what the subject is, by the first two tokens
-abbrev pub opens : List Token → Bool
-opens [] = false
-opens (t ∷ ts) = opens_call t.blank_before t.kind
+-- what is blamed: the first place up to which a variable is lacking whatever follows; and where there is none, the place where
+-- the beginning ends, for why it ends there
+abbrev pub Blames : FaultKind → ℕ → List Token → List Token → Type 0
+Blames NoVariable at taken left = Lacks taken at × ((i : ℕ) → i < at → Lacks taken i → ⊥)
+Blames kind at taken left = (at ≡ length taken) × ((i : ℕ) → Lacks taken i → ⊥) × Stops kind taken left
 
-abbrev pub kind_by : TokenKind → Bool → SubjectKind
-kind_by (token.Identifier n) call = if call then kind.Other else kind.Variable
-kind_by (token.Mark Dollar) call = kind.Variable
-kind_by (token.Mark Ampersand) call = kind.Keyword
-kind_by _ call = kind.Other
-
-abbrev pub subject_kind : List Token → SubjectKind
-subject_kind [] = kind.Other
-subject_kind (t ∷ ts) = kind_by t.kind (opens ts)
-
--- is a token the `=` that assigns to a subject that may not be assigned to
-abbrev pub is_unset : SubjectKind → Field → Role → Bool
-is_unset k Subject Assigns = not (can_be_set k false)
-is_unset k Pattern Assigns = not (can_be_set k true)
-is_unset k _ _ = false
-
-abbrev pub note : Bool → ℕ → Option ℕ
-note b at = if b then Some at else None
-
-abbrev pub least : Option ℕ → Option ℕ → Option ℕ
-least None o = o
-least (Some i) None = Some i
-least (Some i) (Some j) = if nat_le i j then Some i else Some j
-
--- where, if anywhere, stands what is no variable and should be one, as token i shows: an element of an expression, or the
--- subject, which stands first
-abbrev pub noted_at : SubjectKind → ℕ → Stage → Token → Option ℕ
-noted_at k i (In f position) t = least (note (is_misfit position t.blank_before t.kind) (misfit_index i position)) (note (is_unset k f (role t)) 0)
-noted_at k i _ t = None
-
-abbrev pub noted_here : SubjectKind → ℕ → Walk → Token → Option ℕ
-noted_here k i (At ps stage) t = noted_at k i stage t
-
-abbrev pub then_note : Option Walk → (Walk → Option ℕ) → Option ℕ
-then_note None on = None
-then_note (Some w) on = on w
-
--- the leftmost of those among the tokens taken
-abbrev pub noted_from : SubjectKind → ℕ → Walk → List Token → Option ℕ
-noted_from k i w [] = None
-noted_from k i w (t ∷ ts) = then_note (take w t) (λ v. least (noted_here k i w t) (noted_from k (i + 1) v ts))
-
-abbrev pub noted : List Token → Option ℕ
-noted ts = noted_from (subject_kind ts) 0 begins ts
-
-abbrev pub earlier : Option ℕ → Option Fault → Option Fault
-earlier None f = f
-earlier (Some i) f = Some (FaultAt i NoVariable)
-
--- the leftmost fault: what is noted lies among the tokens taken, so before the refusal
-abbrev pub fault : List Token → Option Fault
-fault ts = earlier (noted ts) (refusal ts)
+-- the leftmost fault of tokens: what is blamed of their longest beginning that begins a statement
+abbrev pub IsFault : List Token → Fault → Type 0
+IsFault ts f = (taken : List Token) × (left : List Token) × (ts ≡ taken ++ left) × Begins taken × EndsBefore taken left × Blames f.kind f.at taken left

@@ -1,6 +1,6 @@
 pub mod Statements
 pub mod Spelling
-pub mod Walking
+pub mod Lacking
 pub mod Faults
 pub mod Told
 pub mod Laws

@@ -13,7 +13,7 @@ use Rattle.sno_statement.specs.declared.statement.Body.{Body as ABody}
 use Rattle.sno_statement.specs.declared.statement.Statement.{Statement as AStatement}
 use Rattle.sno_statement.specs.Statements.{Target, To, Computed, Goto, NoGoto, Always, OnSuccess, OnFailure, OnBoth, Object, NoObject, NullObject, ValueObject, Body, NoBody, Does, Statement, Says, StatementHasLevels, StatementHasVariables}
 use Rattle.sno_statement.specs.Spelling.{Spells}
-use Rattle.sno_statement.specs.Faults.{fault}
+use Rattle.sno_statement.specs.Faults.{IsFault}
 
 abbrev pub target_of : ATarget → Target
 target_of (target.Label l) = To l
@@ -39,9 +39,9 @@ abbrev pub statement_of : AStatement → Statement
 statement_of s = Says (body_of s.body) (goto_of s.goto)
 
 -- the statement that the tokens spell, with levels and with a variable in each place that needs one, and the only one that
--- they spell; or the leftmost fault, where there is no such statement
+-- they spell; or their leftmost fault
 abbrev pub Parsed : List Token → Result AStatement Fault → Type 0
 Parsed ts (Ok s) =
     StatementHasLevels (statement_of s) × StatementHasVariables (statement_of s) × Spells (statement_of s) ts
     × ((t : Statement) → StatementHasLevels t → Spells t ts → t ≡ statement_of s)
-Parsed ts (Err f) = (fault ts ≡ Some f) × ((t : Statement) → StatementHasLevels t → StatementHasVariables t → Spells t ts → ⊥)
+Parsed ts (Err f) = IsFault ts f

@@ -1,3 +1,6 @@
+pub mod Walking
+pub mod Faults
 pub mod Reading
 pub mod Told
 pub mod Variables
+pub mod Laws

@@ -1,7 +1,7 @@
 //! The leftmost fault of a statement's tokens, found without a tree.
 
 ghost use Rattle.std.specs.Prelude.{◌≡◌, ◌<◌, IfOk, Some, length};
-ghost use Rattle.sno_statement.specs.Faults.{opens, kind_by, subject_kind, is_unset, note, least, noted_at, earlier, fault};
+ghost use Rattle.sno_statement.specs.inner.Faults.{opens, kind_by, subject_kind, is_unset, note, least, noted_at, earlier, fault};
 ghost use Rattle.sno_statement.specs.Statements.{can_be_set};
 
 use crate::fault::{Fault, FaultKind};

@@ -1,7 +1,7 @@
 //! The parser of statements.
 
 ghost use Rattle.std.specs.Prelude.{◌≡◌, Some, None, IfOk};
-ghost use Rattle.sno_statement.specs.Faults.{fault};
+ghost use Rattle.sno_statement.specs.inner.Faults.{fault};
 ghost use Rattle.sno_statement.specs.Told.{Parsed};
 ghost use Rattle.sno_statement.specs.inner.Reading.{statement_in};
 ghost use Rattle.sno_statement.specs.inner.Variables.{fitting};

@@ -1,10 +1,10 @@
 //! Which tokens may come next in a statement, over data that are copied, with no tree.
 
 ghost use Rattle.std.specs.Prelude.{◌≡◌, IfOk, Some, None};
-ghost use Rattle.sno_expression.specs.Walking.{inner_of, outer_of};
+ghost use Rattle.sno_expression.specs.inner.Walking.{inner_of, outer_of};
 ghost use Rattle.sno_expression.specs.Spelling.{spaced};
-ghost use Rattle.sno_statement.specs.Walking.{stands, role_by, role, alone, within, continued, enter, after_subject, after_pattern, after_object, after_element, leave, at_first, after_equals, other, after_colon, after_outcome, in_target, after_target, advance, advanced, may_close, finishes, may_end, take};
-ghost use Rattle.sno_statement.specs.Faults.{takes, refused_as};
+ghost use Rattle.sno_statement.specs.inner.Walking.{stands, role_by, role, alone, within, continued, enter, after_subject, after_pattern, after_object, after_element, leave, at_first, after_equals, other, after_colon, after_outcome, in_target, after_target, advance, advanced, may_close, finishes, may_end, take};
+ghost use Rattle.sno_statement.specs.inner.Faults.{takes, refused_as};
 ghost use Rattle.sno_statement.specs.inner.Told.{parens_of, walk_of, Stepped};
 
 use crate::fault::FaultKind;

@@ -1,4 +1,4 @@
-mod Looking
+pub mod Looking
 pub mod Places
 pub mod Defining
 pub mod Changing
@@ -7,5 +7,6 @@ pub mod Written
 pub mod Binding
 pub mod Leaving
 mod Steps
-mod Restoring
+pub mod Restoring
 mod Nesting
+pub mod Exchanged

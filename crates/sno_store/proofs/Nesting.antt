@@ -1,5 +1,5 @@
 -- What is saved for the calls that are open.
-use Rattle.std.proofs.Common.{◌≡◌, ℕ, Bool, true, false, List, [], ◌∷◌, drop, refl, Ok, Err}
+use Rattle.std.proofs.Common.{◌≡◌, Bool, true, false, List, [], ◌∷◌, drop, refl, Ok, Err}
 use Rattle.std.specs.Prelude.{Result, if◌then◌else◌}
 use Rattle.sno_text.specs.declared.fault.Fault.{Fault}
 use Rattle.sno_value.specs.Values.{number_of}
@@ -8,11 +8,11 @@ use Rattle.sno_text.specs.declared.fault.Fault.TheVariants as fault
 use Rattle.sno_prototype.specs.Arguments.{go_on, or_fault, name_in, input_in, output_in}
 use Rattle.sno_prototype.specs.Definitions.{definition_in}
 use Rattle.sno_store.specs.declared.keyword.Keyword.{Keyword}
-use Rattle.sno_store.specs.declared.level.Level.{Level}
+use Rattle.sno_store.specs.Levels.{Level}
 use Rattle.sno_store.specs.declared.store.Store.{Store as State}
 use Rattle.sno_store.specs.Keywords.{is_settable, with_keyword}
 use Rattle.sno_store.specs.States.{with_keywords, with_keyword_set}
-use Rattle.sno_store.specs.Calls.{left, left_by}
+use Rattle.sno_store.specs.Calls.{left_by}
 use Rattle.sno_store.specs.Laws.{KeepsLevels, LevelsStay, CallsNest}
 
 behind : {A : Type 0} (s : State) (r : Result A Fault) (go : A → Result State Fault) → ((a : A) → KeepsLevels s (go a)) → KeepsLevels s (go_on r go)

@@ -13,7 +13,7 @@ use Rattle.sno_store.proofs.Looking.{same}
 
 -- WHAT IS WRITTEN AT A PLACE
 
-keys_stay : (vs : Variables) (i : ℕ) (x : Variable) → keys_of (set_value_at vs i x) ≡ keys_of vs
+pub keys_stay : (vs : Variables) (i : ℕ) (x : Variable) → keys_of (set_value_at vs i x) ≡ keys_of vs
 keys_stay [] i x = refl
 keys_stay (e ∷ es) zero x = refl
 keys_stay (e ∷ es) (suc i) x = ap (λ names. e.0 ∷ names) (keys_stay es i x)
@@ -38,7 +38,7 @@ at_first name (e ∷ es) x within = by (same name e.0) refl within (λ h. at_fir
 zero_within : (n : ℕ) → nat_lt 0 (suc n) ≡ false → n < 0
 zero_within n h = grind (arith, nat_tests)
 
-place : (name : List ℕ) (vs : Variables) (i : ℕ) → position (same name) (keys_of vs) ≡ Some i
+pub place : (name : List ℕ) (vs : Variables) (i : ℕ) → position (same name) (keys_of vs) ≡ Some i
     → (position_or_len (same name) (keys_of vs) ≡ i) × (nat_lt (position_or_len (same name) (keys_of vs)) (length (keys_of vs)) ≡ true)
 place name vs i = by (nat_lt (position_or_len (same name) (keys_of vs)) (length (keys_of vs)))
   where

@@ -5,7 +5,8 @@ use Rattle.sno_value.specs.declared.value.Value.{Value}
 use Rattle.sno_prototype.specs.Prototypes.{names_of}
 use Rattle.sno_store.specs.declared.variable.Variable.{Variable}
 use Rattle.sno_store.specs.Variables.{Variables, variable_of, value_of, given}
-use Rattle.sno_store.specs.Calls.{Bindings, saved, assigned, left_by}
+use Rattle.sno_store.specs.Levels.{Bindings}
+use Rattle.sno_store.specs.Calls.{saved, assigned, left_by}
 use Rattle.sno_store.proofs.Looking.{same, put_is_found, others_stay, one_variable}
 use Rattle.sno_store.specs.Laws.{AssociationsStay, CallRestores, CallLeavesOthers}
 
@@ -13,7 +14,7 @@ use Rattle.sno_store.specs.Laws.{AssociationsStay, CallRestores, CallLeavesOther
 has_given : (name n : List ℕ) (v : Value) (vs : Variables) → same name n ≡ true → value_of name (given n v vs) ≡ v
 has_given name n v vs h = ap (λ (x : Variable). x.value) (one_variable name n (given n v vs) h ∙ put_is_found n (record (variable_of n vs) { value = v }) vs)
 
-other_given : (name n : List ℕ) (v : Value) (vs : Variables) → same name n ≡ false → value_of name (given n v vs) ≡ value_of name vs
+pub other_given : (name n : List ℕ) (v : Value) (vs : Variables) → same name n ≡ false → value_of name (given n v vs) ≡ value_of name vs
 other_given name n v vs h = ap (λ (x : Variable). x.value) (others_stay n name (record (variable_of n vs) { value = v }) vs h)
 
 module _ (old : Variables) (name : List ℕ) where

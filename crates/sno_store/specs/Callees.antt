@@ -2,7 +2,6 @@
 use Rattle.std.specs.Prelude.{List, [], ◌∷◌, ℕ, Bool, false, ◌||◌, bytes_eq, codes, Option, Some, None, is_some, if◌then◌else◌}
 use Rattle.sno_value.specs.Primitives.{primitive_named}
 use Rattle.sno_prototype.specs.declared.definition.Definition.{Definition}
-use Rattle.sno_store.specs.declared.callee.Change.{Change}
 use Rattle.sno_store.specs.declared.callee.Change.TheVariants.{Define, Input, Output, Detach}
 use Rattle.sno_store.specs.declared.callee.StateFunction.{StateFunction}
 use Rattle.sno_store.specs.declared.callee.StateFunction.TheVariants.{Changes, Endfile, Rewind}

@@ -11,7 +11,8 @@ use Rattle.sno_store.specs.declared.store.Store.{Store as State}
 use Rattle.sno_store.specs.Variables.{Variables, variable_of, value_of, put, noted}
 use Rattle.sno_store.specs.declared.keyword.Keyword.{Keyword}
 use Rattle.sno_store.specs.States.{with_value, with_name, with_statement, with_input, with_output, without_associations, with_function, with_keyword_set}
-use Rattle.sno_store.specs.Calls.{Bindings, assigned, level_of, entered, left}
+use Rattle.sno_store.specs.Levels.{Bindings}
+use Rattle.sno_store.specs.Calls.{assigned, level_of, entered, left}
 
 -- what was put is found
 abbrev pub PutIsFound : Type 0

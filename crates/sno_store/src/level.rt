@@ -1,21 +1,40 @@
-//! What a call has to restore.
-ghost use Rattle.std.specs.Prelude.{◌≡◌, ◌<◌, ◌^◌, ◌∷◌, [], length, drop, IfOk, OnOk, OnErr, MatchOption};
-ghost use Rattle.std.specs.Option.{option_copied};
-ghost use Rattle.sno_store.specs.Calls.{assigned, name_of, saved_by, statement_of};
+//! What a call has to restore, and how calls begin and end.
+ghost use Rattle.std.specs.Prelude.{◌≡◌, ◌<◌, ◌^◌, ◌∷◌, ◌++◌, [], length, drop, slice_get, unwrap_or, option_map, vec_len, vec_capacity, IfOk, OnOk, OnErr};
+ghost use Rattle.sno_value.specs.Values.{null};
+ghost use Rattle.sno_store.specs.Calls.{assigned, bindings_of, given_by, level_with, saved_by, statement_of};
+ghost use Rattle.sno_store.specs.inner.Exchanging.{fitted, values_for};
 
 use crate::keyword::StatementNumber;
-use crate::variables::Variables;
-use sno_prototype::Bindings;
-use sno_text::Named;
+use crate::variables::{Variables, value_at};
+use sno_prototype::{Function, Prototype};
+use sno_value::Value;
 use std::alloc::{AllocError, Global};
 use std::marker::Model;
+use std::mem;
 
-/// A call: the function's name, the values of its variables before, and the statement that called.
+/// A call: the function, the values of its variables before, and the statement that called.
 #[derive(Drop)]
 pub struct Level {
-    pub name: Named,
-    pub saved: Bindings,
-    pub statement: StatementNumber,
+    function: Function,
+    // That of the function's name first, then those of its parameters and of its locals.
+    values: Vec<Value>,
+    statement: StatementNumber,
+}
+
+impl Model for Level {
+    ghost use Rattle.std.specs.Prelude.{◌≡◌, length};
+    ghost use Rattle.std.specs.Coded.{codes};
+    ghost use Rattle.sno_nodes.specs.inner.Codes.{pattern_code};
+    ghost use Rattle.sno_prototype.specs.Prototypes.{names_of};
+    ghost use Rattle.sno_store.specs.Levels.{Level as Kept, paired};
+
+    ghost Value = { Kept };
+
+    ghost coded = { Prim.hlevel (codes, pattern_code) };
+
+    ghost view = { λ l. record { name = l.function.prototype.name; saved = paired (names_of l.function.prototype) l.values.items; statement = l.statement } };
+
+    ghost invariant = { λ l. length l.values.items ≡ length (names_of l.function.prototype) };
 }
 
 /// The calls that are not at their end, the innermost first.
@@ -23,19 +42,67 @@ pub struct Level {
 pub struct Levels {
     // The innermost stands last.
     levels: Vec<Level>,
+    // Room for the values of further calls.
+    spares: Vec<Vec<Value>>,
 }
 
 impl Model for Levels {
     ghost use Rattle.std.specs.Prelude.{List, reverse};
     ghost use Rattle.std.specs.Coded.{codes};
     ghost use Rattle.sno_nodes.specs.inner.Codes.{pattern_code};
-    ghost use Rattle.sno_store.specs.declared.level.Level.{Level};
+    ghost use Rattle.sno_store.specs.Levels.{Level as Kept};
 
-    ghost Value = { List Level };
+    ghost Value = { List Kept };
 
     ghost coded = { Prim.hlevel (codes, pattern_code) };
 
     ghost view = { λ l. reverse l.levels.items };
+}
+
+// So many values behind others: those that are missing are null, and further ones are left out.
+#[tactic(auto, using(crate::proofs::Exchanged::fitting))]
+fn fit(values: &mut Vec<Value>, arguments: &[Value], count: usize) -> Result<(), AllocError>
+    ensures { OnOk result (values.new.items ≡ values.old.items ++ fitted count arguments.now) }
+{
+    let mut at = 0;
+    while at < count {
+        let value = value_at(arguments, at)?;
+        values.push(value)?;
+        at += 1;
+    }
+    Ok(())
+}
+
+/// What a call gives the function's variables.
+fn fill(
+    values: &mut Vec<Value>,
+    prototype: &Prototype,
+    arguments: &[Value],
+) -> Result<(), AllocError>
+    requires { values.old.items ≡ [] }
+    ensures { OnOk result (values.new.items ≡ values_for prototype.now arguments.now) }
+{
+    values.push(Value::null())?;
+    fit(values, arguments, prototype.parameters.len())?;
+    fit(values, &[], prototype.locals.len())
+}
+
+/// A further call, for which there is room.
+fn add(levels: &mut Vec<Level>, level: Level)
+    requires { vec_len levels.old < vec_capacity levels.old }
+    ensures { levels.new.items ≡ levels.old.items ++ level ∷ [] }
+{
+    let _pushed = levels.push(level);
+}
+
+// The first value, or the null string where there is none.
+fn take_first(values: &mut Vec<Value>) -> Value
+    ensures { result ≡ unwrap_or (slice_get values.old.items 0) null }
+{
+    match values.get_mut(0) {
+        Some(value) => mem::replace(value, Value::null()),
+        None => Value::null(),
+    }
 }
 
 impl Levels {
@@ -45,6 +112,7 @@ impl Levels {
     {
         Levels {
             levels: Vec::new(alloc),
+            spares: Vec::new(alloc),
         }
     }
 
@@ -56,63 +124,103 @@ impl Levels {
         self.levels.len() as u64
     }
 
-    /// A further call.
-    ///
-    /// # Errors
-    ///
-    /// Where a growth was refused; nothing has changed then.
-    pub fn push(&mut self, level: Level) -> Result<(), AllocError>
-        ensures pushed { OnOk result (self.new ≡ level ∷ self.old) }
-        ensures unchanged { OnErr result (self.new ≡ self.old) }
+    /// Room for the values of a call.
+    fn room(&mut self, alloc: Global) -> Vec<Value>
+        ensures room { result.items ≡ [] }
+        ensures same { self.new ≡ self.old }
     {
-        self.levels.push(level)?;
-        Ok(())
-    }
-
-    /// Takes the innermost call.
-    pub fn pop(&mut self) -> Option<Level>
-        ensures { MatchOption result ((self.old ≡ []) × (self.new ≡ [])) (λ level. self.old ≡ level ∷ self.new) }
-    {
-        self.levels.pop()
-    }
-
-    /// The name of the function that was called last.
-    pub fn name(&self) -> Option<&Named>
-        ensures { option_copied result ≡ name_of self.now }
-    {
-        match self.levels.last() {
-            Some(level) => Some(&level.name),
-            None => None,
+        match self.spares.pop() {
+            Some(values) => {
+                let mut values = values;
+                values.clear();
+                values
+            }
+            None => Vec::new(alloc),
         }
     }
 
-    /// Ends the innermost call: its variables have again what they had. It tells the statement that called.
+    /// Keeps the room of a call's values for another call, where it can be kept, and gives the first of them.
+    fn keep(&mut self, values: Vec<Value>) -> Value
+        ensures first { result ≡ unwrap_or (slice_get values.items 0) null }
+        ensures same { self.new ≡ self.old }
+    {
+        let mut values = values;
+        let first = take_first(&mut values);
+        values.clear();
+        let _kept = self.spares.push(values);
+        first
+    }
+
+    /// A further call, with arguments: its variables have what it gives them.
     ///
     /// # Errors
     ///
     /// Where a growth was refused; nothing has changed then.
-    pub fn end(&mut self, variables: &mut Variables) -> Result<Option<StatementNumber>, AllocError>
-        ensures statement { IfOk result (λ statement. statement ≡ statement_of self.old) }
+    #[tactic(auto, using(crate::proofs::Exchanged::beginning))]
+    pub fn begin(
+        &mut self,
+        alloc: Global,
+        function: &Function,
+        arguments: &[Value],
+        statement: StatementNumber,
+        variables: &mut Variables,
+    ) -> Result<(), AllocError>
+        ensures begun { OnOk result (self.new ≡ level_with function.now statement variables.old ∷ self.old) }
+        ensures assigned { OnOk result (variables.new ≡ assigned (bindings_of function.now.prototype arguments.now) variables.old) }
+        ensures unchanged { OnErr result ((self.new ≡ self.old) × (variables.new ≡ variables.old)) }
+    {
+        let function = function.copy()?;
+        let mut values = self.room(alloc);
+        fill(&mut values, &function.definition().prototype, arguments)?;
+        self.levels.reserve(1)?;
+        variables.exchange(alloc, &function.definition().prototype, &mut values)?;
+        let level = Level {
+            function,
+            values,
+            statement,
+        };
+        add(&mut self.levels, level);
+        Ok(())
+    }
+
+    /// Ends the innermost call: its variables have again what they had. It tells the statement that called, and the value of
+    /// the function's name at the end; `None` where there is no call.
+    ///
+    /// # Errors
+    ///
+    /// Where a growth was refused; nothing has changed then.
+    #[tactic(auto, using(crate::proofs::Exchanged::ending))]
+    pub fn end(
+        &mut self,
+        variables: &mut Variables,
+    ) -> Result<Option<(StatementNumber, Value)>, AllocError>
+        ensures statement { IfOk result (λ back. option_map (λ b. b.0) back ≡ statement_of self.old) }
+        ensures value { IfOk result (λ back. unwrap_or (option_map (λ b. b.1) back) null ≡ given_by self.old variables.old) }
         ensures ended { OnOk result (self.new ≡ drop 1 self.old) }
         ensures assigned { OnOk result (variables.new ≡ assigned (saved_by self.old) variables.old) }
         ensures unchanged { OnErr result ((self.new ≡ self.old) × (variables.new ≡ variables.old)) }
     {
+        let alloc = *self.levels.allocator();
         let Some(
             Level {
-                name,
-                saved,
+                function,
+                values,
                 statement,
             },
         ) = self.levels.pop()
         else {
             return Ok(None);
         };
-        match variables.assign(saved) {
-            Ok(()) => Ok(Some(statement)),
-            Err(saved) => {
+        let mut values = values;
+        match variables.exchange(alloc, &function.definition().prototype, &mut values) {
+            Ok(()) => {
+                let value = self.keep(values);
+                Ok(Some((statement, value)))
+            }
+            Err(_) => {
                 let level = Level {
-                    name,
-                    saved,
+                    function,
+                    values,
                     statement,
                 };
                 let _pushed = self.levels.push(level);

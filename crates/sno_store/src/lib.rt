@@ -3,6 +3,7 @@
 
 mod assigning;
 pub mod callee;
+mod exchanging;
 mod first;
 pub mod function;
 pub mod keyword;

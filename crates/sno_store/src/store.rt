@@ -5,7 +5,7 @@ ghost use Rattle.mon_text.specs.Stops.{Gives};
 ghost use Rattle.sno_value.specs.Values.{text_of};
 ghost use Rattle.sno_store.specs.Variables.{variable_of, value_of, use_of, seen, is_named};
 ghost use Rattle.sno_store.specs.States.{first_state, with_value, with_name, kept_of, with_input, with_output, without_associations, with_function, function_of, value_of_keyword, with_keyword_set, may_begin, with_statement};
-ghost use Rattle.sno_store.specs.Calls.{level_of, entered, left, given_back};
+ghost use Rattle.sno_store.specs.Calls.{entered, left, given_back};
 ghost use Rattle.sno_store.specs.Memory.{may_grow};
 ghost use Rattle.sno_store.specs.inner.Answers.{Answers};
 
@@ -13,12 +13,12 @@ use crate::callee::Callee;
 use crate::first::first_variables;
 use crate::function::Functions;
 use crate::keyword::{Keyword, Keywords, StatementNumber};
-use crate::level::{Level, Levels};
+use crate::level::Levels;
 use crate::naming::name_of;
 use crate::variable::Found;
-use crate::variables::{Variables, copy_of};
+use crate::variables::Variables;
 use mon_text::{Line, Stop};
-use sno_prototype::{Definition, Function, Input, Output, definition_in, input_in, output_in};
+use sno_prototype::{Function, Input, Output, definition_in, input_in, output_in};
 use sno_text::{Fault, Named, Text};
 use sno_value::Value;
 use std::alloc::{AllocError, Global};
@@ -196,7 +196,7 @@ impl Store {
     ///
     /// `WrongType` or `Prototype` for the prototype, then `WrongType` for the entry; `Memory` where a growth was refused.
     /// Nothing has changed then.
-    #[tactic(auto, using(crate::proofs::Growing::growing))]
+    #[tactic(auto, using(crate::proofs::Growing::growing, sno_prototype::proofs::Different::different))]
     pub fn define(
         &mut self,
         alloc: Global,
@@ -276,18 +276,6 @@ impl Store {
         self.levels.len()
     }
 
-    fn level_of(&self, alloc: Global, definition: &Definition) -> Result<Level, AllocError>
-        ensures { IfOk result (λ level. level ≡ level_of definition.now self.now) }
-    {
-        let saved = self.variables.saved(alloc, &definition.prototype)?;
-        let name = copy_of(&definition.prototype.name)?;
-        Ok(Level {
-            name,
-            saved,
-            statement: self.keywords.statement(),
-        })
-    }
-
     /// Calls a function with arguments: saves what its variables have, and gives them what the call gives them.
     ///
     /// # Errors
@@ -303,30 +291,9 @@ impl Store {
         ensures unchanged { OnErr result (self.new ≡ self.old) }
         ensures counted { self.new.keywords ≡ self.old.keywords }
     {
-        let definition = function.definition();
-        let level = self.level_of(alloc, definition)?;
-        self.levels.push(level)?;
-        match self
-            .variables
-            .start(alloc, &definition.prototype, arguments)
-        {
-            Ok(()) => Ok(()),
-            Err(_) => {
-                let _level = self.levels.pop();
-                Err(AllocError)
-            }
-        }
-    }
-
-    /// The value of the function that was called last, which is the null string where there is no call.
-    #[tactic(auto, using(crate::proofs::Leaving::leaving))]
-    fn result(&self) -> Result<Value, AllocError>
-        ensures { IfOk result (λ v. v ≡ given_back self.now) }
-    {
-        match self.levels.name() {
-            Some(name) => self.variables.value(name),
-            None => Ok(Value::null()),
-        }
+        let statement = self.keywords.statement();
+        self.levels
+            .begin(alloc, function, arguments, statement, &mut self.variables)
     }
 
     /// Ends the innermost call: restores what its variables had, and gives the value of the function's name. Where there is
@@ -342,10 +309,12 @@ impl Store {
         ensures unchanged { OnErr result (self.new ≡ self.old) }
         ensures counted { self.new.keywords.begun ≡ self.old.keywords.begun }
     {
-        let value = self.result()?;
-        if let Some(statement) = self.levels.end(&mut self.variables)? {
-            self.keywords.go_back(statement);
+        match self.levels.end(&mut self.variables)? {
+            Some((statement, value)) => {
+                self.keywords.go_back(statement);
+                Ok(value)
+            }
+            None => Ok(Value::null()),
         }
-        Ok(value)
     }
 }

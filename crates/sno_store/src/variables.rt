@@ -1,5 +1,5 @@
 //! The variables of a job by their names.
-ghost use Rattle.std.specs.Prelude.{◌≡◌, ◌∷◌, ◌++◌, [], false, position, slice_get, unwrap_or, OnOk, OnErr, IfOk, IfErr};
+ghost use Rattle.std.specs.Prelude.{◌≡◌, ◌∷◌, ◌++◌, ◌≤◌, [], true, false, length, drop, if◌then◌else◌, position, slice_get, unwrap_or, OnOk, OnErr, IfOk, IfErr};
 ghost use Rattle.std.specs.Borrow.{sem};
 ghost use Rattle.std.specs.Option.{option_copied, option_copied_mut};
 ghost use Rattle.std.specs.Map.{lookup, keys_of};
@@ -8,10 +8,13 @@ ghost use Rattle.std.specs.Cmp.Lexicographic.{pointwise};
 ghost use Rattle.sno_store.specs.Variables.{variable_of, value_of, use_of, seen, is_named, put, given, reading, writing, detached, noted};
 ghost use Rattle.sno_store.specs.inner.Lending.{LendsVariable};
 ghost use Rattle.sno_value.specs.Values.{null};
-ghost use Rattle.sno_prototype.specs.Prototypes.{names_of};
-ghost use Rattle.sno_store.specs.Calls.{paired, value_now, saved, assigned, bindings_of};
+ghost use Rattle.sno_prototype.specs.Prototypes.{names_of, are_different};
+ghost use Rattle.sno_store.specs.Levels.{paired};
+ghost use Rattle.sno_store.specs.Calls.{assigned};
+ghost use Rattle.sno_store.specs.inner.Exchanging.{values_now};
 
 use crate::assigning::{assign_all, place_of};
+use crate::exchanging::{exchange_all, find_places};
 use crate::variable::{Found, Variable};
 use indexmap::IndexMap;
 use sno_prototype::{Bindings, Input, Output, Prototype};
@@ -24,6 +27,8 @@ use std::marker::Model;
 #[derive(Drop)]
 pub struct Variables {
     variables: IndexMap<Text, Variable>,
+    // Room for the places of a call's variables.
+    places: Vec<usize>,
 }
 
 impl Model for Variables {
@@ -49,6 +54,7 @@ impl Variables {
     {
         Variables {
             variables: IndexMap::new(alloc),
+            places: Vec::new(alloc),
         }
     }
 
@@ -244,41 +250,37 @@ impl Variables {
         Ok(named)
     }
 
-    fn save_one(&self, name: &Named, bindings: &mut Bindings) -> Result<(), AllocError>
-        ensures { OnOk result (bindings.new ≡ value_now self.now name.now ∷ bindings.old) }
+    fn add_value(&self, name: &Named, values: &mut Vec<Value>) -> Result<(), AllocError>
+        ensures { OnOk result (values.new.items ≡ values.old.items ++ value_of name.now self.now ∷ []) }
     {
         let value = self.value(name)?;
-        let name = copy_of(name)?;
-        bindings.push(name, value)
+        values.push(value)?;
+        Ok(())
     }
 
-    /// Puts names with the values that they have before others.
-    #[tactic(auto, using(crate::proofs::Binding::one_before, crate::proofs::Binding::none_left))]
-    fn save(&self, names: &[Named], bindings: &mut Bindings) -> Result<(), AllocError>
-        ensures { OnOk result (bindings.new ≡ saved names.now self.now ++ bindings.old) }
+    /// Puts the values of names behind others.
+    #[tactic(auto, using(crate::proofs::Exchanged::adding))]
+    fn add_values(&self, names: &[Named], values: &mut Vec<Value>) -> Result<(), AllocError>
+        ensures { OnOk result (values.new.items ≡ values.old.items ++ values_now names.now self.now) }
     {
-        let mut left = names.len();
-        while left > 0 {
-            left -= 1;
-            self.save_one(&names[left], bindings)?;
+        let mut at = 0;
+        while at < names.len() {
+            self.add_value(&names[at], values)?;
+            at += 1;
         }
         Ok(())
     }
 
     /// The values that a function's variables have.
-    ///
-    /// # Errors
-    ///
-    /// Where a growth was refused.
-    #[tactic(auto, using(crate::proofs::Binding::saved_all))]
-    pub fn saved(&self, alloc: Global, prototype: &Prototype) -> Result<Bindings, AllocError>
-        ensures { IfOk result (λ b. b ≡ saved (names_of prototype.now) self.now) }
+    #[tactic(auto, using(crate::proofs::Exchanged::three_more))]
+    fn values_now(&self, alloc: Global, prototype: &Prototype) -> Result<Vec<Value>, AllocError>
+        ensures { IfOk result (λ values. values.items ≡ values_now (names_of prototype.now) self.now) }
     {
-        let mut bindings = Bindings::new(alloc);
-        self.save(prototype.locals.as_slice(), &mut bindings)?;
-        self.save(prototype.parameters.as_slice(), &mut bindings)?;
-        self.save_one(&prototype.name, &mut bindings)?;
-        Ok(bindings)
+        let mut values = Vec::new(alloc);
+        self.add_value(&prototype.name, &mut values)?;
+        self.add_values(prototype.parameters.as_slice(), &mut values)?;
+        self.add_values(prototype.locals.as_slice(), &mut values)?;
+        Ok(values)
     }
 
     /// Gives each variable its value.
@@ -300,25 +302,72 @@ impl Variables {
         }
     }
 
-    /// Gives a function's variables what a call gives them.
+    /// Exchanges the values of a function's variables for others, if all are named, and tells whether they are.
+    #[tactic(auto, using(crate::proofs::Exchanged::all_exchanged))]
+    fn exchange_named(
+        &mut self,
+        prototype: &Prototype,
+        values: &mut Vec<Value>,
+    ) -> Result<bool, AllocError>
+        requires different { are_different (names_of prototype.now) ≡ true }
+        requires as_many { length values.old.items ≡ length (names_of prototype.now) }
+        ensures assigned { IfOk result (λ are. self.new ≡ (if are then assigned (paired (names_of prototype.now) values.old.items) self.old else self.old)) }
+        ensures taken { IfOk result (λ are. values.new.items ≡ (if are then values_now (names_of prototype.now) self.old else values.old.items)) }
+        ensures unchanged { OnErr result ((self.new ≡ self.old) × (values.new.items ≡ values.old.items)) }
+    {
+        if find_places(&self.variables, prototype, &mut self.places)? {
+            exchange_all(&mut self.variables, self.places.as_slice(), values);
+            Ok(true)
+        } else {
+            Ok(false)
+        }
+    }
+
+    /// The same where one of them may not be named yet: names and values are copied.
+    fn exchange_any(
+        &mut self,
+        alloc: Global,
+        prototype: &Prototype,
+        values: &mut Vec<Value>,
+    ) -> Result<(), AllocError>
+        requires as_many { length values.old.items ≡ length (names_of prototype.now) }
+        ensures assigned { OnOk result (self.new ≡ assigned (paired (names_of prototype.now) values.old.items) self.old) }
+        ensures taken { OnOk result (values.new.items ≡ values_now (names_of prototype.now) self.old) }
+        ensures unchanged { OnErr result ((self.new ≡ self.old) × (values.new.items ≡ values.old.items)) }
+    {
+        let taken = self.values_now(alloc, prototype)?;
+        let bindings = bindings_of(alloc, prototype, values.as_slice())?;
+        match self.assign(bindings) {
+            Ok(()) => {
+                *values = taken;
+                Ok(())
+            }
+            Err(_) => Err(AllocError),
+        }
+    }
+
+    /// Exchanges the values of a function's variables for others, one for each. No value is copied where all are named, as they
+    /// are after a first call.
     ///
     /// # Errors
     ///
     /// Where a growth was refused; nothing has changed then.
-    pub fn start(
+    pub fn exchange(
         &mut self,
         alloc: Global,
         prototype: &Prototype,
-        arguments: &[Value],
+        values: &mut Vec<Value>,
     ) -> Result<(), AllocError>
-        ensures started { OnOk result (self.new ≡ assigned (bindings_of prototype.now arguments.now) self.old) }
-        ensures unchanged { OnErr result (self.new ≡ self.old) }
+        requires different { are_different (names_of prototype.now) ≡ true }
+        requires as_many { length values.old.items ≡ length (names_of prototype.now) }
+        ensures assigned { OnOk result (self.new ≡ assigned (paired (names_of prototype.now) values.old.items) self.old) }
+        ensures taken { OnOk result (values.new.items ≡ values_now (names_of prototype.now) self.old) }
+        ensures unchanged { OnErr result ((self.new ≡ self.old) × (values.new.items ≡ values.old.items)) }
     {
-        let bindings = bindings_of(alloc, prototype, arguments)?;
-        match self.assign(bindings) {
-            Ok(()) => Ok(()),
-            Err(_) => Err(AllocError),
+        if self.exchange_named(prototype, values)? {
+            return Ok(());
         }
+        self.exchange_any(alloc, prototype, values)
     }
 }
 
@@ -343,19 +392,31 @@ fn bind(names: &[Named], values: &[Value], bindings: &mut Bindings) -> Result<()
     Ok(())
 }
 
-/// What a call gives the function's variables.
-#[tactic(auto, using(crate::proofs::Binding::bound_all))]
+// The values behind so many.
+fn behind(values: &[Value], count: usize) -> &[Value]
+    requires { count ≤ length values.now }
+    ensures { result.now ≡ drop count values.now }
+{
+    &values[count..]
+}
+
+/// The names of a function's variables with values.
+#[tactic(auto, using(crate::proofs::Exchanged::binding))]
 fn bindings_of(
     alloc: Global,
     prototype: &Prototype,
-    arguments: &[Value],
+    values: &[Value],
 ) -> Result<Bindings, AllocError>
-    ensures { IfOk result (λ b. b ≡ bindings_of prototype.now arguments.now) }
+    requires { length values.now ≡ length (names_of prototype.now) }
+    ensures { IfOk result (λ b. b ≡ paired (names_of prototype.now) values.now) }
 {
     let mut bindings = Bindings::new(alloc);
-    bind(prototype.locals.as_slice(), &[], &mut bindings)?;
-    bind(prototype.parameters.as_slice(), arguments, &mut bindings)?;
-    bind_one(&prototype.name, Value::null(), &mut bindings)?;
+    let parameters = prototype.parameters.as_slice();
+    let further = behind(values, 1 + parameters.len());
+    bind(prototype.locals.as_slice(), further, &mut bindings)?;
+    bind(parameters, behind(values, 1), &mut bindings)?;
+    let value = value_at(values, 0)?;
+    bind_one(&prototype.name, value, &mut bindings)?;
     Ok(bindings)
 }
 
@@ -364,14 +425,19 @@ fn bindings_of(
 /// # Errors
 ///
 /// Where as many share it as can be counted.
-pub fn copy_of(name: &Named) -> Result<Named, AllocError>
+fn copy_of(name: &Named) -> Result<Named, AllocError>
     ensures { IfOk result (λ copy. copy ≡ name.now) }
 {
     let text = name.text().copy()?;
     Ok(Named::new(text, name.place()))
 }
 
-fn value_at(values: &[Value], place: usize) -> Result<Value, AllocError>
+/// The value at a place, and the null string where there is none.
+///
+/// # Errors
+///
+/// Where as many share it as can be counted.
+pub(crate) fn value_at(values: &[Value], place: usize) -> Result<Value, AllocError>
     ensures { IfOk result (λ v. v ≡ unwrap_or (slice_get values.now place) null) }
 {
     match values.get(place) {

@@ -1,33 +1,22 @@
 -- One statement after the other.
-use Rattle.std.proofs.Common.{◌≡◌, ◌+◌, ℕ, List, [], ◌∷◌, ◌++◌, drop, map, Option, Some, None, Result, Ok, Err, refl, sym, ap, ◌∙◌, subst, append-nil}
+use Rattle.std.proofs.Common.{◌≡◌, ◌+◌, ℕ, List, [], ◌∷◌, ◌++◌, drop, map, None, Result, Ok, Err, sym, ap, ◌∙◌, subst, append-nil}
 use Rattle.std.proofs.lemmas.List.{map-append}
 use Rattle.std.proofs.Common.{append_assoc}
 use Rattle.sno_cards.specs.declared.refusal.SyntaxError.{SyntaxError}
 use Rattle.sno_cards.specs.Texts.{Placed}
 use Rattle.sno_lexer.specs.Listed.{TokenList}
-use Rattle.sno_token.specs.declared.Token.{Token}
-use Rattle.sno_statement.specs.declared.fault.Fault.{Fault}
-use Rattle.sno_statement.specs.Statements.{Statement, StatementHasLevels, StatementHasVariables}
-use Rattle.sno_statement.specs.Spelling.{Spells}
-use Rattle.sno_statement.specs.Faults.{fault}
+use Rattle.sno_statement.specs.Statements.{Statement}
 use Rattle.sno_statement.specs.Told.{statement_of}
 use Rattle.sno_statement.specs.declared.statement.Statement.{Statement as AStatement}
 use Rattle.sno_syntax.specs.Labels.{LabelList}
 use Rattle.sno_syntax.specs.Refusals.{label_of, tokens_of, label_first, grammar_refusal, stage_refusal, statement_refusal, with_label, either, statements_refusal, labels_from}
 use Rattle.sno_syntax.specs.Programs.{AreTokensOf, SpellsBehind, SpellFrom}
-use Rattle.sno_statement.proofs.Grammar.{parsed_err}
+use Rattle.sno_statement.proofs.Leftmost.{fit_none}
 
--- what spells a statement has no fault and is not refused
-no_fault : (s : Statement) (ts : List Token) → StatementHasLevels s → StatementHasVariables s → Spells s ts → fault ts ≡ None
-no_fault s ts levels variables spells = at (fault ts) refl
-  where
-    at : (f : Option Fault) → fault ts ≡ f → f ≡ None
-    at None e = refl
-    at (Some f) e = absurd ((parsed_err ts f e).1 s levels variables spells)
-
+-- what spells a statement is not refused
 pub clean : (text : List Placed) (s : Statement) (tokens : Result TokenList SyntaxError) → AreTokensOf s tokens → stage_refusal text tokens ≡ None
 clean text s (Err refusal) spells = absurd spells
-clean text s (Ok list) spells = ap (grammar_refusal text list.offsets) (no_fault s list.tokens spells.0 spells.1 spells.2)
+clean text s (Ok list) spells = ap (grammar_refusal text list.offsets) (fit_none list.tokens (s, spells.0, spells.1, spells.2))
 
 pub no_refusal : (labels : LabelList) (text : List Placed) (s : Statement) → SpellsBehind labels text s → statement_refusal labels text ≡ None
 no_refusal labels text s spells =

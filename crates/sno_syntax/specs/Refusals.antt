@@ -1,6 +1,6 @@
 -- The first refusal of a program (own; after Griswold, Poage and Polonsky, "The SNOBOL4 Programming Language", 2nd edition,
 -- chapter 1).
-use Rattle.std.specs.Prelude.{ℕ, ◌+◌, nat_lt, not, bytes_eq, List, [], ◌∷◌, length, get_or, Option, Some, None, Result, Ok, Err, if◌then◌else◌}
+use Rattle.std.specs.Prelude.{◌≡◌, ℕ, ◌+◌, nat_lt, not, bytes_eq, List, [], ◌∷◌, length, get_or, Option, Some, None, Result, Ok, Err, if◌then◌else◌}
 use Rattle.std.specs.List.{position_or_len}
 use Rattle.indexmap.specs.IndexMap.{insert_entry}
 use Rattle.mon_text.specs.Characters.{is_blank}
@@ -19,7 +19,8 @@ use Rattle.sno_lexer.specs.Lexed.{lexed}
 use Rattle.sno_statement.specs.declared.fault.FaultKind.{FaultKind}
 use Rattle.sno_statement.specs.declared.fault.FaultKind.TheVariants.{MissingBlank, Unfit, NoVariable}
 use Rattle.sno_statement.specs.declared.fault.Fault.{Fault}
-use Rattle.sno_statement.specs.Faults.{fault}
+use Rattle.sno_statement.specs.Faults.{IsFault}
+use Rattle.sno_statement.specs.inner.Faults.{fault}
 use Rattle.sno_syntax.specs.declared.start.Start.{Start}
 use Rattle.sno_syntax.specs.Labels.{LabelList, label_in, is_bad_label, label_fault}
 use Rattle.sno_syntax.specs.Places.{place_at, end_of, refused}
@@ -59,7 +60,7 @@ with_place text (Err f) = Err (lex_refusal text f)
 abbrev pub tokens_of : List Placed → Result TokenList SyntaxError
 tokens_of text = with_place text (lexed (text_of text) (length (label_in (text_of text))))
 
--- the token stage, and then the grammar
+-- the token stage, and then the grammar, whose fault is the leftmost (`IsFault` of sno_statement, by its law `FaultIsLeftmost`)
 abbrev pub stage_refusal : List Placed → Result TokenList SyntaxError → Option SyntaxError
 stage_refusal text (Err refusal) = Some refusal
 stage_refusal text (Ok list) = grammar_refusal text list.offsets (fault list.tokens)
@@ -79,6 +80,20 @@ label_first text None later = later
 -- of a statement, where these labels are defined before it
 abbrev pub statement_refusal : LabelList → List Placed → Option SyntaxError
 statement_refusal labels text = label_first text (label_fault labels (label_of text)) (stage_refusal text (tokens_of text))
+
+-- what refuses the text of a statement behind its label: what the token stage refuses, or else the leftmost fault of its tokens
+abbrev pub IsRefusedBehind : List Placed → Result TokenList SyntaxError → SyntaxError → Type 0
+IsRefusedBehind text (Err refusal) e = e ≡ refusal
+IsRefusedBehind text (Ok list) e = (f : Fault) × IsFault list.tokens f × (e ≡ fault_refusal text list.offsets f)
+
+-- what refuses it: what is wrong with its label, or else what refuses it behind that
+abbrev pub IsRefusedBy : List Placed → Option SyntaxCode → SyntaxError → Type 0
+IsRefusedBy text (Some code) e = e ≡ refused code (place_at text 0)
+IsRefusedBy text None e = IsRefusedBehind text (tokens_of text) e
+
+-- the refusal that a statement has, where these labels are defined before it
+abbrev pub IsRefusalOf : LabelList → List Placed → SyntaxError → Type 0
+IsRefusalOf labels text e = IsRefusedBy text (label_fault labels (label_of text)) e
 
 -- ALL STATEMENTS
 

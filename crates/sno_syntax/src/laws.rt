@@ -1,5 +1,5 @@
 //! What holds of programs and the cards that spell them, each the contract of a function that does nothing.
-ghost use Rattle.sno_syntax.specs.Laws.{OneProgram, NotRefused};
+ghost use Rattle.sno_syntax.specs.Laws.{OneProgram, NotRefused, RefusedExactly};
 
 /// Cards spell at most one program: precedence, the sides of operators and blanks leave no choice.
 pub fn one_program()
@@ -9,4 +9,10 @@ pub fn one_program()
 /// No program of the language is refused: where cards spell a program, they have no refusal.
 pub fn not_refused()
     ensures { NotRefused }
+{}
+
+/// A statement is refused exactly by the refusal that it has: that of its label, or else of the token stage, or else of the
+/// leftmost fault of its tokens.
+pub fn refused_exactly()
+    ensures { RefusedExactly }
 {}

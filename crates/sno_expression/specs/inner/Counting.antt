@@ -3,7 +3,7 @@ use Rattle.std.specs.Prelude.{ℕ, ◌+◌, Bool, true, false, List, [], ◌∷�
 use Rattle.sno_token.specs.declared.Token.{Token}
 use Rattle.sno_expression.specs.Marks.{needs_variable, operand_is_variable}
 use Rattle.sno_expression.specs.Expressions.{Expression, Arguments, Identifier, Constant, Keyword, Unevaluated, Group, Call, Unary, Binary, NoArguments, Omitted, Argument, is_variable}
-use Rattle.sno_expression.specs.Walking.{is_misfit}
+use Rattle.sno_expression.specs.inner.Walking.{is_misfit}
 use Rattle.sno_expression.specs.inner.Walks.{Walk, At, take}
 
 abbrev pub bit : Bool → ℕ

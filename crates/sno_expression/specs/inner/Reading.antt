@@ -16,7 +16,7 @@ use Rattle.sno_expression.specs.declared.walking.Position.{Position}
 use Rattle.sno_expression.specs.declared.walking.Position.TheVariants.{AtStart, AfterBinary, AfterUnary, AfterPrefix, AfterIdentifier, AfterOperand}
 use Rattle.sno_expression.specs.Marks.{operator_of, prefix_of, needs_variable, operand_is_variable}
 use Rattle.sno_expression.specs.Expressions.{Expression, Arguments, Identifier, Constant, Keyword, Unevaluated, Group, Call, Unary, Binary, NoArguments, Omitted, Argument, binds_into_right, IsOperand}
-use Rattle.sno_expression.specs.Walking.{opens_call, stops, inner_of}
+use Rattle.sno_expression.specs.inner.Walking.{opens_call, stops, inner_of}
 use Rattle.sno_expression.specs.inner.Walks.{Walk}
 use Rattle.sno_expression.specs.inner.Walks as walks
 

@@ -6,7 +6,7 @@ use Rattle.sno_expression.specs.declared.walking.Position.{Position}
 use Rattle.sno_expression.specs.declared.walking.Position.TheVariants.{AtStart}
 use Rattle.sno_expression.specs.declared.walking.Move.{Move}
 use Rattle.sno_expression.specs.declared.walking.Move.TheVariants.{Into, Within, Out}
-use Rattle.sno_expression.specs.Walking.{step, inner_of, outer_of, ends}
+use Rattle.sno_expression.specs.inner.Walking.{step, inner_of, outer_of, ends}
 
 -- the open parentheses, the innermost first, and where among them the walk stands
 pub data Walk : Type 0 where

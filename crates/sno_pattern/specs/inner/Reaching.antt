@@ -27,6 +27,13 @@ reached text (pattern.Break s) c =
 reached text pattern.Fail c = Nowhere
 reached text _ c = Depends
 
+-- with so many `(` open before it, a text closes them all, and no `)` stands in it where none is open
+abbrev pub closes : ℕ → List ℕ → Bool
+closes zero [] = true
+closes (suc k) [] = false
+closes zero (x ∷ xs) = if nat_eq x 40 then closes 1 xs else if nat_eq x 41 then false else closes zero xs
+closes (suc k) (x ∷ xs) = if nat_eq x 40 then closes (suc (suc k)) xs else if nat_eq x 41 then closes k xs else closes (suc k) xs
+
 -- how many `(` are open after one more character
 abbrev pub open_after : ℕ → ℕ → Option ℕ
 open_after zero x = if nat_eq x 40 then Some 1 else if nat_eq x 41 then None else Some zero

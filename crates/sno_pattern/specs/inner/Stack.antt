@@ -1,16 +1,13 @@
 -- Goals, choices and turns of the program, by the definitions.
-use Rattle.std.specs.Prelude.{◌≡◌, ℕ, ◌+◌, ◌-◌, ◌≤◌, List, [], ◌∷◌, ◌++◌, length}
+use Rattle.std.specs.Prelude.{◌≡◌, ℕ, ◌+◌, ◌-◌, ◌≤◌, List, [], ◌∷◌, length, map}
 use Rattle.sno_talk.specs.Talks.{Asks}
 use Rattle.sno_talk.specs.Holding.{Held, Cut}
 use Rattle.sno_nodes.specs.Nodes.{pattern_of}
-use Rattle.sno_pattern.specs.declared.goals.Goal.{Goal as AGoal}
-use Rattle.sno_pattern.specs.declared.goals.Goal.TheVariants as goal
-use Rattle.sno_pattern.specs.declared.goals.Goals.{Goals}
-use Rattle.sno_pattern.specs.declared.goals.Goals.TheVariants.{Done, Next'}
-use Rattle.sno_pattern.specs.declared.goals.Waiting.{Waiting}
-use Rattle.sno_pattern.specs.declared.goals.Waiting.TheVariants.{Empty, And'}
-use Rattle.sno_pattern.specs.declared.choices.Choice.{Choice}
-use Rattle.sno_pattern.specs.declared.choices.Choice.TheVariants.{Second, Each, Balanced, Whole}
+use Rattle.sno_pattern.specs.declared.trail.Goal.{Goal as AGoal}
+use Rattle.sno_pattern.specs.declared.trail.Goal.TheVariants as goal
+use Rattle.sno_pattern.specs.declared.trail.Waiting.{Waiting}
+use Rattle.sno_pattern.specs.declared.trail.Kind.{Kind}
+use Rattle.sno_pattern.specs.declared.trail.Kind.TheVariants as kind
 use Rattle.sno_pattern.specs.declared.choices.Turn.{Turn}
 use Rattle.sno_pattern.specs.declared.choices.Turn.TheVariants.{Go, Stay}
 use Rattle.sno_pattern.specs.declared.choices.Ended.{Ended}
@@ -18,7 +15,7 @@ use Rattle.sno_pattern.specs.declared.choices.Ended.TheVariants as ended
 use Rattle.sno_pattern.specs.declared.ending.Pending.{Pending}
 use Rattle.sno_pattern.specs.declared.host.Taken.{Taken}
 use Rattle.sno_pattern.specs.Looks.{Look, LookUp, Assign, Told, Fits}
-use Rattle.sno_pattern.specs.Steps.{Goal, Meet, More, EndConditional, EndImmediate, End, Success, Failure, WholeFails, OutOfSteps, Fault, Outcome, Trying, ends, on_failure, at_each, upward, part, balanced_ends, with_found, if_given, outcome}
+use Rattle.sno_pattern.specs.Steps.{Goal, Meet, More, EndConditional, EndImmediate, End, Failure, WholeFails, OutOfSteps, Fault, Outcome, Trying, ends, on_failure, at_each, upward, part, balanced_ends, with_found, if_given, outcome}
 
 abbrev pub goal_of : AGoal → Goal
 goal_of (goal.Meet p) = Meet (pattern_of p.value)
@@ -26,68 +23,77 @@ goal_of (goal.More p c) = More (pattern_of p.value) c
 goal_of (goal.EndConditional v c) = EndConditional v c
 goal_of (goal.EndImmediate v c) = EndImmediate v c
 
-abbrev pub goals_of : Goals → List Goal
-goals_of Done = []
-goals_of (Next' g p r) = goal_of g ∷ goals_of r
+-- goals that are left to be tried from a cursor
+pub record Choice : Type 0 where
+  pub kind : Kind
+  pub goals : List Goal
+  pub at : ℕ
+  pub waits : List Waiting
 
--- the assignments that wait, the oldest first
-abbrev pub waiting_of : List ℕ → Waiting → List Pending
-waiting_of text Empty = []
-waiting_of text (And' v from to p older) = waiting_of text older ++ record { variable = v; text = part text from to } ∷ []
+-- what is still ahead: the goals that are met next, the assignments that wait, the oldest first, and the open choices, the
+-- last first
+pub record Ahead : Type 0 where
+  pub goals : List Goal
+  pub waits : List Waiting
+  pub opens : List Choice
 
-abbrev pub end_of : List ℕ → Ended → End
-end_of text (ended.Success c w) = Success c (waiting_of text w.value)
-end_of text ended.Failure = Failure
-end_of text ended.WholeFails = WholeFails
-end_of text ended.OutOfSteps = OutOfSteps
-end_of text (ended.Fault f) = Fault f
+abbrev pub nothing_ahead : Ahead
+nothing_ahead = record { goals = []; waits = []; opens = [] }
+
+-- the assignments that wait, with their texts
+abbrev pub waiting_of : List ℕ → List Waiting → List Pending
+waiting_of text waits = map (λ (w : Waiting). record { variable = w.variable; text = part text w.from w.to }) waits
+
+abbrev pub end_of : Ended → End
+end_of ended.Failure = Failure
+end_of ended.WholeFails = WholeFails
+end_of ended.OutOfSteps = OutOfSteps
+end_of (ended.Fault f) = Fault f
+
+-- what goals come to that are tried so from a cursor
+abbrev pub tried : List ℕ → Kind → List Goal → ℕ → List Pending → ℕ → Trying
+tried text kind.Second gs c p n = outcome text gs c p n
+tried text kind.Each gs c p n = at_each (outcome text) gs (upward c (length text + 1 - c)) p n
+tried text kind.Balanced gs c p n = at_each (outcome text) gs (c ∷ balanced_ends text c) p n
+tried text kind.Whole gs c p n = ends WholeFails n
 
 -- what a choice tries
 abbrev pub second : List ℕ → Choice → ℕ → Trying
-second text (Second gs c w) n = outcome text (goals_of gs.value) c (waiting_of text w.value) n
-second text (Each gs c w) n = at_each (outcome text) (goals_of gs.value) (upward c (length text + 1 - c)) (waiting_of text w.value) n
-second text (Balanced gs c w) n = at_each (outcome text) (goals_of gs.value) (c ∷ balanced_ends text c) (waiting_of text w.value) n
-second text Whole n = ends WholeFails n
+second text x n = tried text x.kind x.goals x.at (waiting_of text x.waits) n
 
 -- an attempt with choices still open, of which the last is tried first
 abbrev pub resume : List ℕ → List Choice → Trying → Trying
 resume text [] t = t
-resume text (x ∷ xs) t = on_failure (resume text xs t) (second text x)
+resume text (x ∷ xs) t = resume text xs (on_failure t (second text x))
 
 -- how it goes on from a turn
-abbrev pub turned : List ℕ → Turn → ℕ → Trying
-turned text (Go gs c w) n = outcome text (goals_of gs.value) c (waiting_of text w.value) n
-turned text (Stay e) n = ends (end_of text e) n
-
-abbrev pub ChoiceWithin : ℕ → Choice → Type 0
-ChoiceWithin l (Second gs c w) = c ≤ l
-ChoiceWithin l (Each gs c w) = c ≤ l
-ChoiceWithin l (Balanced gs c w) = c ≤ l
-ChoiceWithin l Whole = Unit {0}
+abbrev pub turned : List ℕ → Ahead → Turn → ℕ → Trying
+turned text new (Go c) n = outcome text new.goals c (waiting_of text new.waits) n
+turned text new (Stay e) n = ends (end_of e) n
 
 abbrev pub AllWithin : ℕ → List Choice → Type 0
 AllWithin l [] = Unit {0}
-AllWithin l (x ∷ xs) = ChoiceWithin l x × AllWithin l xs
+AllWithin l (x ∷ xs) = (x.at ≤ l) × AllWithin l xs
 
 -- a turn goes on within the text, or ends whatever choices are open
-abbrev pub TurnWithin : List ℕ → List Choice → Turn → Type 0
-TurnWithin text new (Go gs c w) = c ≤ length text
-TurnWithin text new (Stay e) = (n : ℕ) → resume text new (ends (end_of text e) n) ≡ ends (end_of text e) n
+abbrev pub TurnWithin : List ℕ → Ahead → Turn → Type 0
+TurnWithin text new (Go c) = c ≤ length text
+TurnWithin text new (Stay e) = (n : ℕ) → resume text new.opens (ends (end_of e) n) ≡ ends (end_of e) n
 
--- with no word to the host: an attempt with the choices so far is the turn with the choices after it
-pub record Led (text : List ℕ) (old : List Choice) (t : Trying) (n : ℕ) (turn : Turn) (new : List Choice) (m : ℕ) : Type 0 where
-  pub comes : resume text old t ≡ resume text new (turned text turn m)
+-- with no word to the host: an attempt with the choices so far is the turn with what is ahead after it
+pub record Led (text : List ℕ) (old : List Choice) (t : Trying) (n : ℕ) (turn : Turn) (new : Ahead) (m : ℕ) : Type 0 where
+  pub comes : resume text old t ≡ resume text new.opens (turned text new turn m)
   pub fewer : m ≤ n
-  pub all : AllWithin (length text) new
+  pub all : AllWithin (length text) new.opens
   pub here : TurnWithin text new turn
 
 -- with the host gone from s to u: what holds of the turn with the choices after it, from u, holds of the attempt with those
 -- before, from s
-pub record Moved {S : Type 0} (tells : S → Look → Told → S → Type 0) (broken : S → Look → S → Type 0) (text : List ℕ) (s : S) (old : List Choice) (t : Trying) (n : ℕ) (u : S) (turn : Turn) (new : List Choice) (m : ℕ) : Type 0 where
-  pub held : (b : Outcome) (v : S) → Held tells Fits (resume text new (turned text turn m)) u b v → Held tells Fits (resume text old t) s b v
-  pub cut : (v : S) → Cut tells Fits broken (resume text new (turned text turn m)) u v → Cut tells Fits broken (resume text old t) s v
+pub record Moved {S : Type 0} (tells : S → Look → Told → S → Type 0) (broken : S → Look → S → Type 0) (text : List ℕ) (s : S) (old : List Choice) (t : Trying) (n : ℕ) (u : S) (turn : Turn) (new : Ahead) (m : ℕ) : Type 0 where
+  pub held : (b : Outcome) (v : S) → Held tells Fits (resume text new.opens (turned text new turn m)) u b v → Held tells Fits (resume text old t) s b v
+  pub cut : (v : S) → Cut tells Fits broken (resume text new.opens (turned text new turn m)) u v → Cut tells Fits broken (resume text old t) s v
   pub fewer : m ≤ n
-  pub all : AllWithin (length text) new
+  pub all : AllWithin (length text) new.opens
   pub here : TurnWithin text new turn
 
 -- the attempts that ask

@@ -14,7 +14,7 @@ use Rattle.sno_expression.specs.inner.Reading.{Reading, Read, reading}
 use Rattle.sno_statement.specs.declared.walking.Role.{Role}
 use Rattle.sno_statement.specs.declared.walking.Role.TheVariants.{Assigns, Goes, Follows, Touches}
 use Rattle.sno_statement.specs.Statements.{Target, To, Computed, Goto, NoGoto, Always, OnSuccess, OnFailure, OnBoth, NoObject, NullObject, ValueObject, Body, NoBody, Does, Statement, Says}
-use Rattle.sno_statement.specs.Walking.{role}
+use Rattle.sno_statement.specs.inner.Walking.{role}
 
 -- a target and the tokens behind it, if one is there
 pub data Aim : Type 0 where

@@ -11,8 +11,8 @@ use Rattle.sno_statement.specs.declared.walking.Parens.TheVariants as parens
 use Rattle.sno_statement.specs.declared.walking.Walk.{Walk as AWalk}
 use Rattle.sno_statement.specs.declared.reading.Aim.{Aim as AnAim}
 use Rattle.sno_statement.specs.Statements.{Goto, Statement}
-use Rattle.sno_statement.specs.Walking.{Walk, At, take}
-use Rattle.sno_statement.specs.Faults.{refused_as}
+use Rattle.sno_statement.specs.inner.Walking.{Walk, At, take}
+use Rattle.sno_statement.specs.inner.Faults.{refused_as}
 use Rattle.sno_statement.specs.Told.{target_of, goto_of, statement_of}
 use Rattle.sno_statement.specs.inner.Reading.{Aim, Missed, Aimed}
 

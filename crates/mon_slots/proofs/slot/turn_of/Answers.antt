@@ -8,11 +8,17 @@ use Rattle.mon_slots.proofs.slot.turn_of.Goals as goal
 pub shape_of-slot : goal.shape_of-slot
 shape_of-slot c = sym (same_loans _ _ _ c.statement_turn.ensures.turn.1).units
 
-pub returns : goal.returns
-returns c =
+pub returns-clause-step : goal.returns-clause-step
+returns-clause-step c =
     let same = same_loans _ _ _ c.statement_turn.ensures.turn.1 in
     let done = turn_done c.args.slot.now.account (job_of c.args.slot.now.job) _ _ _ _ _ refl c.statement_turn.ensures.turn.1 c.statement_turn.ensures.turn.2 in
     elim done [
       | inl h ↦ record { number = refl; account = refl; is = inl (search rules) }
       | inr h ↦ record { number = refl; account = refl; is = inr (record { exchanges = h.exchanges; started = h.started; begun = h.begun; memory = h.memory; left = (let k = h.left in search rules) }) }
     ]
+
+pub returns-clause-fit : goal.returns-clause-fit
+returns-clause-fit c =
+    let same = same_loans _ _ _ c.statement_turn.ensures.turn.1 in
+    let ready = c.statement_turn.ensures.ready in
+    λ k d within. let at = ready k d in search rules

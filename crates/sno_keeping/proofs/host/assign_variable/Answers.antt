@@ -1,9 +1,11 @@
 use Rattle.sno_talk.proofs.Held.{cut_here}
 use Rattle.sno_ask.specs.Fitting.{Fits}
-use Rattle.sno_pattern.proofs.Run.{err_holds}
+use Rattle.sno_ask.proofs.Runs.{broken}
 use Rattle.sno_keeping.specs.Using.{assigned}
 use Rattle.sno_keeping.proofs.host.assign_variable.Goals as goal
 
-pub returns-in_err-copy-clause-cut : goal.returns-in_err-copy-clause-cut
-returns-in_err-copy-clause-cut g c =
-    err_holds _ (cut_here g.S.Service.answers Fits (λ _ _ _. ⊥) (assigned c.args.variable.now c.args.value c.args.state.now) c.args.service.now)
+pub returns-in_err-copy-clause-runs : goal.returns-in_err-copy-clause-runs
+returns-in_err-copy-clause-runs g c =
+    let t = assigned c.args.variable.now c.args.value c.args.state.now in
+    broken g.S.Service.answers t c.args.service.now c.from_residual.result _ c.args.service.now c.from_residual.ensures.0
+    (cut_here g.S.Service.answers Fits (λ _ _ _. ⊥) t c.args.service.now)

@@ -3,8 +3,8 @@ use Rattle.sno_pattern.specs.Steps.{match_of}
 use Rattle.sno_keeping.proofs.Loans.{held_loans, cut_loans, held_service, cut_service}
 use Rattle.sno_keeping.proofs.matching.match_in.Goals as goal
 
-pub returns-in-Ok-clause-held : goal.returns-in-Ok-clause-held
-returns-in-Ok-clause-held g c =
+pub returns-in-Ok-clause-runs : goal.returns-in-Ok-clause-runs
+returns-in-Ok-clause-runs g c =
     let m = match_of c.args.text.now c.args.pattern.now c.args.anchored c.args.steps in
     let same = held_loans g.S.Service.answers m _ _ _ c.in-Ok.ensures.held in
     let whole = held_service g.S.Service.answers m _ _ _ c.in-Ok.ensures.held in
@@ -16,8 +16,8 @@ returns-in-Ok-clause-ready g c =
     let same = held_loans g.S.Service.answers m _ _ _ c.in-Ok.ensures.held in
     search rules
 
-pub returns-in-Err-clause-cut : goal.returns-in-Err-clause-cut
-returns-in-Err-clause-cut g c =
+pub returns-in-Err-clause-runs : goal.returns-in-Err-clause-runs
+returns-in-Err-clause-runs g c =
     let m = match_of c.args.text.now c.args.pattern.now c.args.anchored c.args.steps in
     let same = cut_loans g.S.Service.answers m _ _ c.in-Err.ensures.cut in
     let whole = cut_service g.S.Service.answers m _ _ c.in-Err.ensures.cut in

@@ -9,15 +9,14 @@ returns-in_default g c =
     let said = c.characters-characters.ensures in
     let is : IsFormat c.args.output.format = is_format c.args.output.format c.characters-characters.result said.value said.positive said.fits in
     record {
-      held = c.loop-line.invariant.held Fails c.write.new.service
+      runs = c.loop-line.invariant.held Fails c.write.new.service
           (fails_at g.S.Service.answers c.records_follow.ensures c.args.output.unit c.args.output.format is c.args.text.now c.args.state.now c.loop-line.from c.in_ok-line.line c.in_ok-write.field-0 c.loop-line.service
           c.write.new.service c.in_ok-line.ensures.laid_out c.in_ok-write.ensures.held c.in_default.not-Done);
-      cut = tt;
       ready = search rules;
     }
 
-pub returns-then-len-from-clause-held : goal.returns-then-len-from-clause-held
-returns-then-len-from-clause-held g c =
+pub returns-then-len-from-clause-runs : goal.returns-then-len-from-clause-runs
+returns-then-len-from-clause-runs g c =
     let said = c.characters-characters.ensures in
     let is : IsFormat c.args.output.format = is_format c.args.output.format c.characters-characters.result said.value said.positive said.fits in
     let last : length c.args.text.now - c.loop-line.from ≤ c.characters-characters.result = omega (arith, c.if-len-from.true, c.len.ensures) in

@@ -1,6 +1,7 @@
 use Rattle.std.proofs.Common.{length, ◌-◌, ◌≡◌, ◌≤◌}
 use Rattle.std.specs.Prelude.{drop}
-use Rattle.sno_pattern.specs.Steps.{closes, balanced_ends}
+use Rattle.sno_pattern.specs.Steps.{balanced_ends}
+use Rattle.sno_pattern.specs.inner.Reaching.{closes}
 use Rattle.sno_pattern.proofs.Balance.{ends_where}
 use Rattle.sno_pattern.proofs.reach.next_balanced.Given as goal
 

@@ -1,7 +1,6 @@
-use Rattle.std.proofs.Common.{refl, sym}
+use Rattle.std.proofs.Common.{sym}
 use Rattle.std.proofs.lemmas.Result.{IfOk-weaker}
 use Rattle.sno_nodes.specs.Nodes.{pattern_of}
-use Rattle.sno_pattern.specs.inner.Stack.{goals_of, waiting_of}
 use Rattle.sno_pattern.proofs.Pushing.{stands, misses}
 use Rattle.sno_pattern.proofs.Reaches.{parted_of}
 use Rattle.sno_pattern.proofs.rows.plain.Goals as goal
@@ -12,8 +11,10 @@ parted-requires-clause-parted c =
 
 pub returns-in-Here : goal.returns-in-Here
 returns-in-Here c =
-    stands c.args.text.now (goals_of c.args.rest.value) c.args.at (waiting_of c.args.text.now c.args.waiting.value) c.args.choices.now.items c.requires.all c.args.left.now (pattern_of c.args.node.now.value) c.in-Here.end c.args.rest c.args.waiting refl refl (rw c.deref.ensures at (sym c.in-Here.ensures.value)) c.in-Here.ensures.within
+    let a = c.args.trail.now in
+    stands c.args.text.now a.goals c.args.at a.waits a.opens c.requires.all c.args.left.now (pattern_of c.args.node.now.value) c.in-Here.end (rw c.deref.ensures at (sym c.in-Here.ensures.value)) c.in-Here.ensures.within
 
 pub returns-in-Nowhere : goal.returns-in-Nowhere
 returns-in-Nowhere c =
-    IfOk-weaker _ _ _ (λ t b. misses c.args.text.now (goals_of c.args.rest.value) c.args.at (waiting_of c.args.text.now c.args.waiting.value) c.args.choices.now.items c.requires.all c.args.left.now (pattern_of c.args.node.now.value) (rw c.deref.ensures at (sym c.in-Nowhere.ensures.value)) b) c.back.ensures
+    let a = c.args.trail.now in
+    IfOk-weaker _ _ _ (λ t b. misses c.args.text.now a.goals c.args.at a.waits a.opens c.requires.all c.args.left.now (pattern_of c.args.node.now.value) (rw c.deref.ensures at (sym c.in-Nowhere.ensures.value)) b) c.back.ensures

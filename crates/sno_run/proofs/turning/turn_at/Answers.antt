@@ -8,13 +8,13 @@ use Rattle.sno_run.proofs.turning.turn_at.Goals as goal
 
 pub returns-in_err-next-in-Some-clause-cut : goal.returns-in_err-next-in-Some-clause-cut
 returns-in_err-next-in-Some-clause-cut g c =
-    at_err _ (Cut g.S.Service.answers (turn_coded c.args.program.now (point_seen c.args.point) c.args.state.now) c.args.service.now c.run_line.new.service) (rw c.in-At.is (turn_cut c.args.program.now g.S.Service.answers c.in-At.index c.in-Some.line.now c.args.state.now (sym c.in-Some.ensures.line) c.args.service.now c.run_line.new.service c.in_err-next-in-Some.ensures.cut))
+    at_err _ (Cut g.S.Service.answers (turn_coded c.args.program.now (point_seen c.args.point) c.args.state.now) c.args.service.now c.run_line.new.service) (rw c.in-At.is (turn_cut c.args.program.now g.S.Service.answers c.in-At.index c.in-Some.line.now c.args.state.now (sym c.in-Some.ensures.line) c.args.service.now c.run_line.new.service c.in_err-next-in-Some.ensures.runs))
 
 pub returns-in_ok-next-in-Some-clause-held : goal.returns-in_ok-next-in-Some-clause-held
 returns-in_ok-next-in-Some-clause-held g c =
     rw c.in-At.is
     (turn_held c.args.program.now g.S.Service.answers c.in-At.index c.in-Some.line.now c.args.state.now (sym c.in-Some.ensures.line) (next_seen c.in_ok-next-in-Some.next) c.run_line.new.state c.args.service.now c.run_line.new.service
-    (turned_of c.settled.result) c.in_ok-next-in-Some.ensures.held c.settled.ensures)
+    (turned_of c.settled.result) c.in_ok-next-in-Some.ensures.runs c.settled.ensures)
 
 pub returns-in-None-clause-held : goal.returns-in-None-clause-held
 returns-in-None-clause-held g c =

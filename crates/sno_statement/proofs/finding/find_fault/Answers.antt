@@ -2,7 +2,7 @@ use Rattle.std.proofs.Common.{◌+◌, ◌∙◌, sym, ap, ◌∷◌, drop}
 use Rattle.std.specs.Prelude.{Some}
 use Rattle.sno_token.specs.declared.Token.{Token}
 use Rattle.sno_statement.specs.declared.walking.SubjectKind.{SubjectKind}
-use Rattle.sno_statement.specs.Faults.{FaultAt, refusal, noted, least, noted_at, subject_kind}
+use Rattle.sno_statement.specs.inner.Faults.{FaultAt, refusal, noted, least, noted_at, subject_kind}
 use Rattle.sno_statement.specs.inner.Told.{walk_of}
 use Rattle.sno_statement.proofs.Loop.{more, on_refusal, here_refusal, on_note, here_note, fault_is}
 use Rattle.sno_statement.proofs.finding.find_fault.Goals as goal

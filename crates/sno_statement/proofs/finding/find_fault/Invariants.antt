@@ -1,5 +1,5 @@
 use Rattle.std.proofs.Common.{◌≡◌, drop}
-use Rattle.sno_statement.specs.Faults.{refusal, refusal_from, noted, noted_from, least, subject_kind}
+use Rattle.sno_statement.specs.inner.Faults.{refusal, refusal_from, noted, noted_from, least, subject_kind}
 use Rattle.sno_statement.specs.inner.Told.{walk_of}
 use Rattle.sno_statement.proofs.finding.find_fault.Given as goal
 

@@ -1,7 +1,7 @@
 use Rattle.std.proofs.Common.{sym, ap, ◌∙◌}
 use Rattle.std.specs.Prelude.{Option}
 use Rattle.sno_expression.specs.declared.walking.Paren.{Paren}
-use Rattle.sno_statement.specs.Walking.{advance, advanced}
+use Rattle.sno_statement.specs.inner.Walking.{advance, advanced}
 use Rattle.sno_statement.specs.inner.Told.{parens_of}
 use Rattle.sno_statement.proofs.walking.walk_on.Goals as goal
 

@@ -1,5 +1,5 @@
 use Rattle.std.proofs.Common.{◌≡◌, ◌≤◌, ◌++◌, length, drop}
-use Rattle.sno_store.specs.Calls.{paired}
+use Rattle.sno_store.specs.Levels.{paired}
 use Rattle.sno_store.proofs.variables.bind.Given as goal
 
 abbrev pub invariant-loop-left : goal.invariant-loop-left

@@ -1,9 +1,13 @@
 use Rattle.std.proofs.Common.{rules}
-use Rattle.mon_catalogue.specs.Writing.{Cut, recorded}
-use Rattle.mon_catalogue.proofs.Changing.{changed_there}
+use Rattle.mon_guard.proofs.Fitting.{kept_left, left_changed}
 use Rattle.mon_guard.proofs.guard.Guard.end.Goals as goal
 
 pub returns-clause-sets : goal.returns-clause-sets
 returns-clause-sets c =
-    let there = changed_there c.args.name.now (recorded (Cut c.args.position)) c.args.catalogue.now c.in-Some.set.now c.in-Some.ensures.found in
-    search (rules, there)
+    let left = left_changed c.args.name.now _ c.in-Some.set.now _ c.args.catalogue.now c.end_by-answered.ensures.set c.in-Some.ensures.found in
+    search (rules, left)
+
+pub returns-clause-fit : goal.returns-clause-fit
+returns-clause-fit c =
+    kept_left c.args.account.now c.args.name.now _ c.in-Some.set.now _ c.args.catalogue.now _ _
+    c.keep_unless.ensures c.end_by-answered.ensures.set c.in-Some.ensures.found c.requires.fit

@@ -1,9 +1,17 @@
 use Rattle.std.proofs.Common.{rules}
-use Rattle.mon_catalogue.specs.Writing.{Put, recorded}
-use Rattle.mon_catalogue.proofs.Changing.{changed_there}
+use Rattle.mon_guard.proofs.Fitting.{kept_left, left_fits, left_changed}
 use Rattle.mon_guard.proofs.guard.Guard.write.Goals as goal
 
-pub returns-in-Ok-clause-sets : goal.returns-in-Ok-clause-sets
-returns-in-Ok-clause-sets c =
-    let there = changed_there c.args.name.now (recorded (Put c.args.position c.args.line)) c.args.catalogue.now c.in-Some.set.now c.in-Some.ensures.found in
-    search (rules, there)
+pub returns-in_err-answered-clause-fit : goal.returns-in_err-answered-clause-fit
+returns-in_err-answered-clause-fit c =
+    left_fits c.args.self.now c.args.name.now _ c.in-Some.set.now c.args.catalogue.now c.in_err-answered.ensures.unchanged c.in-Some.ensures.found c.requires.fit
+
+pub returns-clause-sets : goal.returns-clause-sets
+returns-clause-sets c =
+    let left = left_changed c.args.name.now _ c.in-Some.set.now _ c.args.catalogue.now c.in_ok-answered.ensures.set c.in-Some.ensures.found in
+    search (rules, left)
+
+pub returns-clause-fit : goal.returns-clause-fit
+returns-clause-fit c =
+    kept_left c.args.account.now c.args.name.now _ c.in-Some.set.now _ c.args.catalogue.now _ _
+    c.keep_unless.ensures c.in_ok-answered.ensures.set c.in-Some.ensures.found c.requires.fit

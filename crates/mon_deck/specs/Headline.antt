@@ -1,0 +1,48 @@
+-- The headline (own): what a deck that is run does, and what it prints, told by one list.
+use Rattle.std.specs.Prelude.{◌≡◌, ℕ, false, List, ◌++◌, None}
+use Rattle.std.specs.List.{AllByRecursion}
+use Rattle.std.specs.Str.Lines.{lines}
+use Rattle.mon_slots.specs.Floors.{job_in}
+use Rattle.mon_slots.specs.Marks.{Marks}
+use Rattle.mon_monitor.specs.Events.{Event}
+use Rattle.mon_monitor.specs.Papers.{papers_text}
+use Rattle.mon_monitor.specs.Played.{Played}
+use Rattle.mon_monitor.specs.History.{Entry, history, papers_in, cards_in, own}
+use Rattle.mon_monitor.specs.Headline.{IsJob, job_of, cards_of, Lead, IsRight}
+use Rattle.mon_cards.specs.Decks.{Deck, Stopped}
+use Rattle.mon_cards.specs.Sections.{deck_of}
+use Rattle.mon_feed.specs.declared.options.Options.{Options}
+use Rattle.mon_feed.specs.Scenes.{events_in, played_scene}
+use Rattle.mon_feed.specs.Printouts.{closing, output_of}
+use Rattle.mon_deck.specs.Runs.{scene_of}
+
+-- what the cards of a deck ask for, in order: its jobs are numbered from 1
+abbrev pub asked_of : Options → List ℕ → List Event
+asked_of options bytes = events_in 0 (scene_of options bytes)
+
+-- the list: all that its jobs ask and its commands order, each with its answer, and who enters and ends
+abbrev pub history_of : Options → Marks → List ℕ → List Entry
+history_of options m bytes = let scene = scene_of options bytes in history (asked_of options bytes) m scene.world
+
+-- These entries tell all of a deck, from its account table and its catalogue on.
+pub record TellsAll (options : Options) (m : Marks) (bytes : List ℕ) (deck : Deck) (entries : List Entry) (last : Played) : Type 0 where
+  -- In its order, each command and each job that its cards ask for is there, and no other.
+  pub cards : cards_in entries ≡ cards_of (asked_of options bytes)
+  -- Of each job there is what its program means, up to its end or to where it was broken off for want of memory, and nothing
+  -- else: what it asks, as it is answered, and what it prints.
+  pub jobs : (n : ℕ) → IsJob deck.accounts last.after.floor.slots (job_of n (asked_of options bytes)) (own n entries)
+  -- Behind `$STOP` each job has ended.
+  pub ended : deck.cards.ending ≡ Stopped → (s : ℕ) → job_in s last.after.floor ≡ None
+  -- Each entry is answered over the data sets as the one before it left them, the first over the deck's catalogue; and the last
+  -- leaves the catalogue that is written.
+  pub lead : Lead deck.accounts deck.catalogue entries last.after.floor.sets
+  -- A record is got, a data set changed, a record, list or name shown, exactly where that is asked and then granted; and each
+  -- denial names the entry that decides, or what is missing.
+  pub granted : AllByRecursion (IsRight deck.accounts) entries
+  -- The output is what the entries print, in order, and then the catalogue.
+  pub output : output_of options m bytes ≡ papers_text (papers_in entries) ++ closing last.after.floor.sets deck.cards.ending
+
+-- For every deck that is run, wherever memory breaks its turns off.
+abbrev pub Headline : Type 0
+Headline = (options : Options) (m : Marks) (bytes : List ℕ) → options.check ≡ false
+    → TellsAll options m bytes (deck_of (lines bytes)) (history_of options m bytes) (played_scene 0 m (scene_of options bytes))

@@ -1,0 +1,226 @@
+-- What keeps rows fitting the sets.
+use Rattle.std.proofs.Common.{◌≡◌, ◌≢◌, ℕ, Bool, true, false, cond, not, List, [], ◌∷◌, ◌++◌, ◌⊎◌, inl, inr, length, take, filter, Option, None, Some, option_map, slice_index_or, Result, Ok, Err, refl, sym, ap, subst, ◌∙◌}
+use Rattle.std.specs.Prelude.{bytes_eq, OnOk, OnErr}
+use Rattle.std.specs.List.{Contains}
+use Rattle.std.specs.Map.{values_of}
+use Rattle.std.specs.Prelude.{slice_get}
+use Rattle.std.proofs.lemmas.Option.{slice_get_within, slice_get-get_or, slice_get-map}
+use Rattle.std.specs.Prelude.{is_some}
+use Rattle.indexmap.specs.IndexMap.{IndexMap, get, insert_entry}
+use Rattle.indexmap.proofs.CallerLemmas.{insert_entry-new}
+use Rattle.std.proofs.lemmas.List.Elements.{All-push, All-contains, All-filter, filter_passes}
+use Rattle.std.proofs.lemmas.List.{map-append}
+use Rattle.std.proofs.Math.Seq.{take-append_seam, take-length}
+use Rattle.std.proofs.lemmas.Bool.{not-true}
+use Rattle.std.proofs.lemmas.Slice.Eq.{bytes_eq-Decides}
+use Rattle.std.proofs.lemmas.Bool.Decides.{not_from_Decides}
+use Rattle.mon_access.specs.declared.account.Account.{Account}
+use Rattle.mon_access.specs.declared.compiled.Ready.{Ready}
+use Rattle.mon_catalogue.specs.declared.data_set.DataSet.{DataSet}
+use Rattle.mon_catalogue.specs.Sets.{Sets, find_set}
+use Rattle.mon_catalogue.specs.Writing.{Change, recorded}
+use Rattle.mon_catalogue.specs.Changes.{with_changed, without_set, with_acl, listed}
+use Rattle.mon_catalogue.proofs.Changed.{other_sets_stay, named_set_changes}
+use Rattle.mon_acl.specs.declared.entries.Entry.{Entry}
+use Rattle.mon_guard.specs.declared.rows.Row.{Row}
+use Rattle.mon_guard.specs.Acting.{changed}
+use Rattle.mon_guard.specs.Owning.{new_set, created_unless, created}
+use Rattle.mon_guard.specs.inner.Judging.{set_after}
+use Rattle.mon_guard.proofs.Owned.{behind}
+use Rattle.mon_guard.proofs.Acting.{left_as_it_was}
+use Rattle.mon_catalogue.proofs.Changing.{changed_there}
+use Rattle.mon_catalogue.specs.declared.catalogue.CreateError.TheVariants.{NameTaken, CatalogueFull}
+use Rattle.std.specs.Prelude.{nat_le, if◌then◌else◌}
+use Rattle.mon_text.specs.declared.stop.Stop.{Stop}
+use Rattle.mon_text.specs.Stops.{refused_as}
+use Rattle.mon_catalogue.specs.declared.catalogue.CreateError.{CreateError}
+use Rattle.mon_catalogue.specs.Sets.{create_refusal}
+use Rattle.mon_guard.specs.Rows.{ready_on, row_on, Fits, RowsFit, FitOn, is_beside, rows_beside, MayKeep, Begins}
+
+-- rows that fit go on fitting where each by itself does
+still_fit : (rows : List Row) (sets after : Sets) → ((row : Row) → Fits sets row → Fits after row) → RowsFit rows sets → RowsFit rows after
+still_fit rows sets after step fit = λ k d within. step _ (fit k d within)
+
+-- the rows of a name fit its set
+fits_there : (account : Account) (ready : Ready) (o : Option DataSet) (set : DataSet) → o ≡ Some set → option_map (ready_on account) o ≡ Some ready
+    → ready ≡ ready_on account set
+fits_there account ready o set is fits =
+    let same : Some (ready_on account set) ≡ Some ready = sym (ap (option_map (ready_on account)) is) ∙ fits in cc
+
+pub fit_on : (rows : List Row) (sets : Sets) (name : List ℕ) (set : DataSet) → RowsFit rows sets → find_set name sets ≡ Some set → FitOn name set rows
+fit_on rows sets name set fit there row has same =
+    fits_there row.account row.ready (find_set row.set sets) set (ap (λ n. find_set n sets) same ∙ there) (All-contains (Fits sets) rows row fit has)
+
+-- a row that is kept fits
+pub kept_fit : (account : Account) (name : List ℕ) (set : DataSet) (sets : Sets) (old new : List Row) → MayKeep account name set old new
+    → find_set name sets ≡ Some set → RowsFit old sets → RowsFit new sets
+kept_fit account name set sets old new (inl same) there fit = subst (λ (r : List Row). RowsFit r sets) (sym same) fit
+kept_fit account name set sets old new (inr more) there fit =
+    subst (λ (r : List Row). RowsFit r sets) (sym more)
+    (All-push (Fits sets) old (row_on account name set) fit (ap (option_map (ready_on account)) there))
+
+pub kept_begins : (account : Account) (name : List ℕ) (set : DataSet) (old new : List Row) → MayKeep account name set old new → Begins old new
+kept_begins account name set old new (inl same) = ap (take (length old)) same ∙ take-length old
+kept_begins account name set old new (inr more) = ap (take (length old)) more ∙ take-append_seam old (row_on account name set ∷ [])
+
+-- what is done to records changes no decision
+same_ready : (account : Account) (change : Change) (o : Option DataSet)
+    → option_map (ready_on account) (option_map (recorded change) o) ≡ option_map (ready_on account) o
+same_ready account change None = refl
+same_ready account change (Some set) = refl
+
+change_fits : (name : List ℕ) (change : Option Change) (sets : Sets) (row : Row) → Fits sets row → Fits (changed name change sets) row
+change_fits name None sets row fits = fits
+change_fits name (Some change) sets row fits = by (bytes_eq row.set name) refl
+  where
+    by : (b : Bool) → bytes_eq row.set name ≡ b → Fits (with_changed name (recorded change) sets) row
+    by true e =
+        let same : row.set ≡ name = (bytes_eq-Decides row.set name).0 e in
+        ap (λ n. option_map (ready_on row.account) (find_set n (with_changed name (recorded change) sets))) same
+        ∙ ap (option_map (ready_on row.account)) (named_set_changes name sets (recorded change)).1
+        ∙ same_ready row.account change (find_set name sets)
+        ∙ ap (λ n. option_map (ready_on row.account) (find_set n sets)) (sym same)
+        ∙ fits
+    by false e =
+        ap (option_map (ready_on row.account)) (other_sets_stay name row.set sets (recorded change) (not_from_Decides _ (bytes_eq-Decides row.set name) e)).1
+        ∙ fits
+
+pub changed_fit : (rows : List Row) (name : List ℕ) (change : Option Change) (sets : Sets) → RowsFit rows sets → RowsFit rows (changed name change sets)
+changed_fit rows name change sets = still_fit rows sets (changed name change sets) (change_fits name change sets)
+
+-- the rows of other sets fit, whatever becomes of the set of this name
+beside_fit : (rows : List Row) (name : List ℕ) (sets after : Sets)
+    → ((other : List ℕ) → other ≢ name → find_set other after ≡ find_set other sets) → RowsFit rows sets → RowsFit (rows_beside name rows) after
+beside_fit rows name sets after stays fit = λ k d within.
+    let passes = filter_passes (is_beside name) rows k d within in
+    let fits = All-filter (is_beside name) (Fits sets) rows fit k d within in
+    let row = slice_index_or (rows_beside name rows) k d in
+    let differ : row.set ≢ name = not_from_Decides _ (bytes_eq-Decides row.set name) (not-true _ passes) in
+    ap (option_map (ready_on row.account)) (stays row.set differ) ∙ fits
+
+pub listed_fit : (rows : List Row) (name : List ℕ) (acl : List Entry) (sets : Sets) → RowsFit rows sets → RowsFit (rows_beside name rows) (with_acl name acl sets)
+listed_fit rows name acl sets =
+    beside_fit rows name sets (with_acl name acl sets) (λ other differ. (other_sets_stay name other sets (listed acl) differ).1)
+
+pub without_fit : (rows : List Row) (name : List ℕ) (sets : Sets) → RowsFit rows sets → RowsFit (rows_beside name rows) (without_set name sets)
+without_fit rows name sets =
+    beside_fit rows name sets (without_set name sets) (λ other differ. (other_sets_stay name other sets (λ set. set) differ).0)
+
+-- a new set has no rows
+create_fits : (name : List ℕ) (set : DataSet) (sets : Sets) → find_set name sets ≡ None → (row : Row) → Fits sets row → Fits (sets ++ (name, set) ∷ []) row
+create_fits name set sets absent row fits = ap (option_map (ready_on row.account)) (behind row.set name set differ sets) ∙ fits
+  where
+    differ : row.set ≢ name
+    differ same =
+        let no : None ≡ Some row.ready = sym (ap (λ n. option_map (ready_on row.account) (find_set n sets)) same ∙ ap (option_map (ready_on row.account)) absent) ∙ fits in
+        absurd cc
+
+pub created_fit : (rows : List Row) (account : Account) (name : List ℕ) (sets : Sets) → RowsFit rows sets → RowsFit rows (created account sets name).1
+created_fit rows account name sets = by (find_set name sets) refl (nat_le 1000 (length sets))
+  where
+    by : (o : Option DataSet) → find_set name sets ≡ o → (full : Bool) → RowsFit rows sets
+        → RowsFit rows (created_unless (if is_some o then Some NameTaken else if full then Some CatalogueFull else None) account sets name).1
+    by None is true fit = fit
+    by None is false fit = still_fit rows sets _ (create_fits name (new_set account) sets is) fit
+    by (Some set) is full fit = fit
+
+-- where a set is left as the act leaves it
+pub changed_so : (name : List ℕ) (change : Option Change) (sets : Sets) (set : DataSet) → Some set ≡ find_set name sets
+    → with_changed name (λ _. set_after change set) sets ≡ changed name change sets
+changed_so name None sets set there = left_as_it_was name sets set there
+changed_so name (Some change) sets set there = changed_there name (recorded change) sets set there
+
+after_ready : (account : Account) (change : Option Change) (set : DataSet) → ready_on account (set_after change set) ≡ ready_on account set
+after_ready account None set = refl
+after_ready account (Some change) set = refl
+
+-- a row that is kept of a set as the act leaves it fits
+pub kept_after : (account : Account) (name : List ℕ) (change : Option Change) (set : DataSet) (sets : Sets) (old new : List Row)
+    → MayKeep account name (set_after change set) old new → Some set ≡ find_set name sets → RowsFit old sets → RowsFit new (changed name change sets)
+kept_after account name change set sets old new kept there fit =
+    changed_fit new name change sets
+    (kept_fit account name set sets old new
+    (subst (λ (r : Ready). (new ≡ old) ⊎ (new ≡ old ++ (record { account = account; set = name; ready = r }) ∷ [])) (after_ready account change set) kept)
+    (sym there) fit)
+
+pub ruleset fitting = (fit_on, kept_fit, kept_begins, listed_fit, without_fit, created_fit, take-length)
+
+-- in the forms that the guard's calls leave
+pub without_fits : (rows new : List Row) (name : List ℕ) (sets after : Sets) → new ≡ rows_beside name rows → after ≡ without_set name sets
+    → RowsFit rows sets → RowsFit new after
+without_fits rows new name sets after is left fit =
+    subst (λ (r : List Row). RowsFit r after) (sym is) (subst (λ (s : Sets). RowsFit (rows_beside name rows) s) (sym left) (without_fit rows name sets fit))
+
+pub listed_fits : (rows new : List Row) (name : List ℕ) (acl : List Entry) (sets after : Sets) → new ≡ rows_beside name rows → after ≡ with_acl name acl sets
+    → RowsFit rows sets → RowsFit new after
+listed_fits rows new name acl sets after is left fit =
+    subst (λ (r : List Row). RowsFit r after) (sym is) (subst (λ (s : Sets). RowsFit (rows_beside name rows) s) (sym left) (listed_fit rows name acl sets fit))
+
+absent_where : (o : Option DataSet) (full : Bool) → None ≡ (if is_some o then Some NameTaken else if full then Some CatalogueFull else None) → o ≡ None
+absent_where None full e = refl
+absent_where (Some set) full e = absurd cc
+
+pub put_last_fits : (r : Result (Unit {0}) (Stop CreateError)) (rows : List Row) (name : List ℕ) (set : DataSet) (sets after : Sets)
+    → refused_as r ≡ create_refusal name sets → OnOk r (after ≡ sets ++ (name, set) ∷ []) → OnErr r (after ≡ sets) → RowsFit rows sets → RowsFit rows after
+put_last_fits (Ok done) rows name set sets after refused put not fit =
+    subst (λ (s : Sets). RowsFit rows s) (sym put)
+    (still_fit rows sets _ (create_fits name set sets (absent_where (find_set name sets) (nat_le 1000 (length sets)) refused)) fit)
+put_last_fits (Err stop) rows name set sets after refused put not fit = subst (λ (s : Sets). RowsFit rows s) (sym not) fit
+
+pub kept_left : (account : Account) (name : List ℕ) (left set : DataSet) (change : Option Change) (sets : Sets) (old new : List Row)
+    → MayKeep account name left old new → left ≡ set_after change set → Some set ≡ find_set name sets → RowsFit old sets
+    → RowsFit new (with_changed name (λ _. left) sets)
+kept_left account name left set change sets old new kept is there fit =
+    subst (λ (s : DataSet). RowsFit new (with_changed name (λ _. s) sets)) (sym is)
+    (subst (λ (s : Sets). RowsFit new s) (sym (changed_so name change sets set there))
+    (kept_after account name change set sets old new (subst (λ (s : DataSet). MayKeep account name s old new) is kept) there fit))
+
+pub left_fits : (rows : List Row) (name : List ℕ) (left set : DataSet) (sets : Sets) → left ≡ set → Some set ≡ find_set name sets → RowsFit rows sets
+    → RowsFit rows (with_changed name (λ _. left) sets)
+left_fits rows name left set sets is there fit =
+    subst (λ (s : DataSet). RowsFit rows (with_changed name (λ _. s) sets)) (sym is)
+    (subst (λ (s : Sets). RowsFit rows s) (sym (left_as_it_was name sets set there)) fit)
+
+pub left_changed : (name : List ℕ) (left set : DataSet) (change : Option Change) (sets : Sets) → left ≡ set_after change set → Some set ≡ find_set name sets
+    → with_changed name (λ _. left) sets ≡ changed name change sets
+left_changed name left set change sets is there = ap (λ (s : DataSet). with_changed name (λ _. s) sets) is ∙ changed_so name change sets set there
+
+-- how rows are stored
+one_more : {E : Type 0} {K : Type 0} (r : Result (Option Row) E) (old new put : List (K × Row)) (key : K) (row : Row)
+    → OnOk r (new ≡ put) → OnErr r (new ≡ old) → put ≡ old ++ (key, row) ∷ []
+    → (values_of new ≡ values_of old) ⊎ (values_of new ≡ values_of old ++ row ∷ [])
+one_more {E} {K} (Ok x) old new put key row done not one = inr (ap values_of (done ∙ one) ∙ map-append (λ (e : K × Row). e.1) old _)
+one_more (Err x) old new put key row done not one = inl (ap values_of not)
+
+is_none : {A : Type 0} (o : Option A) → is_some o ≡ false → o ≡ None
+is_none None e = refl
+is_none (Some x) e = absurd cc
+
+pub stored_one_more : {E K S : Type 0} (eq : K → K → Bool) (m : IndexMap K Row S) (r : Result (Option Row) E) (new : List (K × Row)) (key : K) (row kept : Row)
+    → is_some (get eq m key) ≡ false → row ≡ kept → OnOk r (new ≡ insert_entry eq m.entries key row) → OnErr r (new ≡ m.entries)
+    → (values_of new ≡ values_of m.entries) ⊎ (values_of new ≡ values_of m.entries ++ kept ∷ [])
+stored_one_more eq m r new key row kept absent is done not =
+    subst (λ (k : Row). (values_of new ≡ values_of m.entries) ⊎ (values_of new ≡ values_of m.entries ++ k ∷ [])) is
+    (one_more r m.entries new (insert_entry eq m.entries key row) key row done not (insert_entry-new eq m key row (is_none (get eq m key) absent)))
+
+module _ {K : Type 0} (p : Row → Bool) where
+  abbrev test : K × Row → Bool
+  test e = p e.1
+
+  stored_by : (e : K × Row) (es : List (K × Row)) (b : Bool) → values_of (filter test es) ≡ filter p (values_of es)
+      → values_of (cond b (e ∷ filter test es) (filter test es)) ≡ cond b (e.1 ∷ filter p (values_of es)) (filter p (values_of es))
+  stored_by e es true rest = ap (λ (rows : List Row). e.1 ∷ rows) rest
+  stored_by e es false rest = rest
+
+  pub stored_beside : (entries : List (K × Row)) → values_of (filter test entries) ≡ filter p (values_of entries)
+  stored_beside [] = refl
+  stored_beside (e ∷ es) = stored_by e es (p e.1) (stored_beside es)
+
+has_at : {X : Type 0} (xs : List X) (i : ℕ) (x : X) → slice_get xs i ≡ Some x → Contains xs x
+has_at xs i x h =
+    let within = slice_get_within xs i x h in
+    let same : Some (slice_index_or xs i x) ≡ Some x = sym (slice_get-get_or xs i x within) ∙ h in
+    (i, within, cc)
+
+pub at_place : {K : Type 0} (entries : List (K × Row)) (i : ℕ) (e : K × Row) → slice_get entries i ≡ Some e → Contains (values_of entries) e.1
+at_place {K} entries i e h = has_at (values_of entries) i e.1 (slice_get-map (λ (e : K × Row). e.1) entries i ∙ ap (option_map (λ (e : K × Row). e.1)) h)

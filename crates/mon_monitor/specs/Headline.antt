@@ -1,0 +1,266 @@
+-- What the history tells (own): a job's own entries are what its program means, each entry is answered as the data sets stand
+-- then, and what is granted, denied and printed follows. The law `history_tells` says it of all events.
+use Rattle.std.specs.Prelude.{◌≡◌, ◌≢◌, ◌⊎◌, ◌↔◌, ◌==◌, ℕ, ◌≤◌, List, [], ◌∷◌, ◌++◌, map, Option, Some, None, if◌then◌else◌}
+use Rattle.std.specs.List.{AllByRecursion, flat_map}
+use Rattle.sno_ask.specs.Asking.{Asking, Exchange, Tells, Begins}
+use Rattle.sno_ask.specs.declared.request.Act.{Act}
+use Rattle.sno_ask.specs.declared.request.Act.TheVariants.{Read, Write, Endfile, Rewind}
+use Rattle.sno_ask.specs.declared.answer.Answer.{Answer}
+use Rattle.sno_ask.specs.declared.answer.Answer.TheVariants.{Done, Got, EndOfFile, Denied, Full}
+use Rattle.sno_run.specs.declared.ending.Ending.TheVariants.{Memory}
+use Rattle.sno_run.specs.declared.ending.Step.{Step}
+use Rattle.sno_run.specs.declared.ending.Step.TheVariants as step
+use Rattle.sno_run.specs.Jobs.{Job, all_turns, turns_of, first_job, statements_begun}
+use Rattle.sno_cards.specs.Statements.{statements_of}
+use Rattle.sno_syntax.specs.Programs.{Program}
+use Rattle.mon_access.specs.declared.account.Account.{Account}
+use Rattle.mon_access.specs.Accounts.{find_account}
+use Rattle.mon_catalogue.specs.Sets.{Sets}
+use Rattle.mon_guard.specs.declared.answer.Reason.{Reason}
+use Rattle.mon_guard.specs.Lending.{AclPart, names_lent}
+use Rattle.mon_guard.specs.Laws.{AreForReading, IsForSeeing}
+use Rattle.mon_command.specs.declared.command.Command.{Command}
+use Rattle.mon_command.specs.declared.command.Command.TheVariants.{Create, Delete, SetAcl, ShowAcl, List as Listing, Catalog}
+use Rattle.mon_command.specs.declared.reply.Reply.{Reply}
+use Rattle.mon_command.specs.declared.reply.Reply.TheVariants as reply
+use Rattle.mon_command.specs.Commands.{account_of}
+use Rattle.mon_command.specs.Commanded as commands
+use Rattle.mon_command.specs.Commanded.{Told, Records, Shown, Names, answered}
+use Rattle.mon_command.specs.Laws as commanding
+use Rattle.mon_command.specs.Laws.{IsKnown, IsWhy}
+use Rattle.mon_unit.specs.declared.tie.Target.{Target}
+use Rattle.mon_unit.specs.declared.tie.Target.TheVariants.{Untied, Data, Spool, Set}
+use Rattle.mon_unit.specs.declared.note.Note.{Note}
+use Rattle.mon_unit.specs.declared.note.Why.{Why}
+use Rattle.mon_unit.specs.declared.note.Why.TheVariants as why
+use Rattle.mon_unit.specs.State.{UnitState}
+use Rattle.mon_unit.specs.Serving.{serve, unit_of, note_act, note_target}
+use Rattle.mon_unit.specs.Laws as units
+use Rattle.mon_unit.specs.Laws.{target_of, ReadsDeck, ReadsSet, WhyDenied}
+use Rattle.mon_job.specs.declared.deck.JobDeck.{JobDeck}
+use Rattle.mon_job.specs.declared.job_end.JobEnd.{JobEnd}
+use Rattle.mon_job.specs.declared.refusal.LoadError.{LoadError}
+use Rattle.mon_slots.specs.Floors.{SlotState, seat_at}
+use Rattle.mon_slots.specs.Loads.{first_units, with_ties, program_in, deck_refusal}
+use Rattle.mon_slots.specs.Marks.{Marks}
+use Rattle.mon_monitor.specs.Worlds.{World, first_world}
+use Rattle.mon_monitor.specs.Events.{Event, Serve, Load, Give, Drain}
+use Rattle.mon_monitor.specs.Papers.{Paper}
+use Rattle.mon_monitor.specs.Played.{played}
+use Rattle.mon_monitor.specs.History.{Exchanged, Entry, Entered, Refused, Asked, Ended, Ordered, history, papers_in, cards_in, own}
+
+-- A JOB
+
+-- what was asked and answered, as a program sees it
+abbrev pub exchange : Exchanged → Exchange
+exchange e = record { asked = e.request; reply = e.answer }
+
+-- each of these as a program sees it
+abbrev pub exchanges : List Exchanged → List Exchange
+exchanges asked = map exchange asked
+
+-- these are of one job, for one account, and each leaves the job's units to the next
+abbrev pub Follow : ℕ → Account → UnitState → List Exchanged → UnitState → Type 0
+Follow n account units [] after = after ≡ units
+Follow n account units (e ∷ asked) after =
+    (e.number ≡ n) × (e.account ≡ account) × (e.reach.units ≡ units) × Follow n account (serve e.account e.reach e.request).1.units asked after
+
+-- the line that a request adds to the spool: one that it writes to a unit that is tied to it
+abbrev pub spool_line : Act → Target → List (List ℕ)
+spool_line (Write u line) Spool = line ∷ []
+spool_line (Write u line) Untied = []
+spool_line (Write u line) Data = []
+spool_line (Write u line) (Set name) = []
+spool_line (Read u) target = []
+spool_line (Endfile u) target = []
+spool_line (Rewind u) target = []
+
+-- the lines that these exchanges add to the spool
+abbrev pub spooled : List Exchanged → List (List ℕ)
+spooled asked = flat_map (λ e. spool_line e.request.act (target_of e.reach.units e.request)) asked
+
+-- the note of an exchange, of what it asked and why that was not done
+abbrev pub note_on : Exchanged → Why → Note
+note_on e why = record {
+  statement = e.request.statement;
+  act = note_act e.request.act;
+  target = note_target (unit_of e.request.act) (target_of e.reach.units e.request);
+  why = why;
+}
+
+-- an exchange is noted where it was denied, or where there was no room
+abbrev pub note_by : Answer → Exchanged → List Note
+note_by (Denied reason) e = note_on e (why.Denied reason) ∷ []
+note_by Full e = note_on e why.Full ∷ []
+note_by Done e = []
+note_by (Got line) e = []
+note_by EndOfFile e = []
+
+-- the notes of these exchanges
+abbrev pub noted : List Exchanged → List Note
+noted asked = flat_map (λ e. note_by e.answer e) asked
+
+-- a program has asked all that it asks up to its end, and ends so; or memory broke it off, at a beginning of what it would ask
+abbrev pub EndsSo : Asking (Step × Job) → List Exchange → ℕ → JobEnd → Type 0
+EndsSo talk x most end =
+    ((job : Job) × Tells talk x (step.Ended end.ending, job) × (end.statements ≡ statements_begun job))
+    ⊎ ((end.ending ≡ Memory) × Begins talk x × (end.statements ≤ most))
+
+-- a job that was refused: that is all there is of it
+pub record WasRefused (accounts : List Account) (deck : JobDeck) (entries : List Entry) : Type 0 where
+  pub refusal : LoadError
+  pub why : deck_refusal accounts deck ≡ Some refusal
+  pub all : entries ≡ Refused deck refusal ∷ []
+
+-- a job that was loaded: for the account of its card, with the program that its cards spell and the units that they tie; and
+-- what it has asked up to now
+pub record Course (accounts : List Account) (deck : JobDeck) : Type 0 where
+  pub good : deck_refusal accounts deck ≡ None
+  pub account : Account
+  pub known : find_account accounts deck.account ≡ Some account
+  pub program : Program
+  pub spelled : program_in (statements_of deck.lines) ≡ Some program
+  pub asked : List Exchanged
+  pub units : UnitState
+  pub follow : Follow deck.number account (with_ties deck.ties (first_units deck.lines)) asked units
+
+-- the job as its cards say it
+abbrev pub job_in_cards : (accounts : List Account) (deck : JobDeck) → Course accounts deck → Job
+job_in_cards accounts deck c = first_job c.program deck.limits
+
+-- It goes on, in its slot: so far it has asked all that its program asks in so many turns, and nothing else.
+pub record GoesOn (accounts : List Account) (deck : JobDeck) (slots : List (Option SlotState)) (entries : List Entry) : Type 0 where
+  pub course : Course accounts deck
+  pub all : entries ≡ Entered deck ∷ map Asked course.asked
+  pub slot : ℕ
+  pub state : SlotState
+  pub sits : seat_at slot slots ≡ Some state
+  pub number : state.number ≡ deck.number
+  pub account : state.account ≡ course.account
+  pub units : state.units ≡ course.units
+  pub turns : ℕ
+  pub asks : Tells (turns_of turns (job_in_cards accounts deck course)) (exchanges course.asked) (step.Goes, state.job)
+
+-- It has ended: it has asked all that its program asks up to its end, and nothing else, or where memory broke it off a
+-- beginning of that; and what it prints is what these exchanges spooled and noted, and how it ended.
+pub record HasEnded (accounts : List Account) (deck : JobDeck) (entries : List Entry) : Type 0 where
+  pub course : Course accounts deck
+  pub end : JobEnd
+  pub all : entries ≡ Entered deck ∷ (map Asked course.asked ++ Ended end ∷ [])
+  pub asks : EndsSo (all_turns (job_in_cards accounts deck course)) (exchanges course.asked) deck.limits.statements end
+  pub number : end.number ≡ deck.number
+  pub account : end.account ≡ course.account.name
+  pub spool : end.spool ≡ spooled course.asked
+  pub notes : end.notes ≡ noted course.asked
+
+-- all that there is of the job of some number; of a number that no job has there is nothing
+abbrev pub IsJob : List Account → List (Option SlotState) → Option JobDeck → List Entry → Type 0
+IsJob accounts slots None entries = entries ≡ []
+IsJob accounts slots (Some deck) entries =
+    WasRefused accounts deck entries ⊎ (GoesOn accounts deck slots entries ⊎ HasEnded accounts deck entries)
+
+-- the job of a number among events, if there is one
+abbrev pub job_of : ℕ → List Event → Option JobDeck
+job_of n [] = None
+job_of n (Load deck ∷ events) = if deck.number == n then Some deck else job_of n events
+job_of n (Serve command ∷ events) = job_of n events
+job_of n (Give slot count ∷ events) = job_of n events
+job_of n (Drain ∷ events) = job_of n events
+
+-- no two jobs have one number
+abbrev pub NumbersDiffer : List Event → Type 0
+NumbersDiffer [] = Unit {0}
+NumbersDiffer (Load deck ∷ events) = (job_of deck.number events ≡ None) × NumbersDiffer events
+NumbersDiffer (Serve command ∷ events) = NumbersDiffer events
+NumbersDiffer (Give slot count ∷ events) = NumbersDiffer events
+NumbersDiffer (Drain ∷ events) = NumbersDiffer events
+
+-- the cards that are served or loaded among events: all but turns
+abbrev pub cards_of : List Event → List Event
+cards_of [] = []
+cards_of (Load deck ∷ events) = Load deck ∷ cards_of events
+cards_of (Serve command ∷ events) = Serve command ∷ cards_of events
+cards_of (Give slot count ∷ events) = cards_of events
+cards_of (Drain ∷ events) = cards_of events
+
+-- ONE AFTER ANOTHER
+
+-- an entry stands over these data sets, and is answered as they say
+abbrev pub StandsOver : List Account → Sets → Entry → Type 0
+StandsOver accounts sets (Asked e) = (e.reach.sets ≡ sets) × (e.answer ≡ (serve e.account e.reach e.request).0)
+StandsOver accounts sets (Ordered before command answer) = (before ≡ sets) × (answer ≡ (answered accounts before command).answer)
+StandsOver accounts sets (Entered deck) = Unit {0}
+StandsOver accounts sets (Refused deck refusal) = Unit {0}
+StandsOver accounts sets (Ended end) = Unit {0}
+
+-- the data sets that an entry leaves where it stands over these
+abbrev pub sets_after : List Account → Sets → Entry → Sets
+sets_after accounts sets (Asked e) = (serve e.account e.reach e.request).1.sets
+sets_after accounts sets (Ordered before command answer) = (answered accounts before command).sets
+sets_after accounts sets (Entered deck) = sets
+sets_after accounts sets (Refused deck refusal) = sets
+sets_after accounts sets (Ended end) = sets
+
+-- entries lead from data sets to data sets: each stands over those that the one before it left
+abbrev pub Lead : List Account → Sets → List Entry → Sets → Type 0
+Lead accounts before [] after = after ≡ before
+Lead accounts before (entry ∷ entries) after =
+    StandsOver accounts before entry × Lead accounts (sets_after accounts before entry) entries after
+
+-- WHAT IS GRANTED
+
+-- A request of a job: a record is got, and a data set changed, exactly where that is asked and the access check grants it on
+-- the list as it stands; and it is denied exactly for the entry that decides, or for what is missing.
+pub record IsRightRequest (e : Exchanged) : Type 0 where
+  pub got : (line : List ℕ) → (e.answer ≡ Got line) ↔ (ReadsDeck e.reach.units e.request line ⊎ ReadsSet e.account e.reach e.request line)
+  pub changed : units.ChangesExactly e.account e.reach e.request
+  pub denied : (reason : Reason) → (e.answer ≡ Denied reason) ↔ WhyDenied e.account e.reach e.request reason
+
+-- a command that shows records, a list or names shows what is lent to the account; any other is told one line
+abbrev pub ShowsRightly : Account → Sets → Command → commands.Answer → Type 0
+ShowsRightly account sets (Listing _ name) answer = (records : List (List ℕ)) → (answer ≡ Records records) ↔ AreForReading account sets name records
+ShowsRightly account sets (ShowAcl _ name) answer = (list : AclPart) → (answer ≡ Shown list) ↔ IsForSeeing account sets name list
+ShowsRightly account sets (Catalog _) answer = answer ≡ Names (names_lent account sets)
+ShowsRightly account sets (Create _ name) answer = (reply : Reply) × (answer ≡ Told reply)
+ShowsRightly account sets (Delete _ name) answer = (reply : Reply) × (answer ≡ Told reply)
+ShowsRightly account sets (SetAcl _ name text) answer = (reply : Reply) × (answer ≡ Told reply)
+
+-- A command: an account that is unknown is told so; for a known one, data sets change, and records, lists and names are shown,
+-- exactly where it asks and that is granted; and it is denied exactly for the entry that decides, or for what is missing.
+pub record IsRightCommand (accounts : List Account) (sets : Sets) (command : Command) (answer : commands.Answer) : Type 0 where
+  pub unknown : find_account accounts (account_of command) ≡ None → answer ≡ Told reply.NoAccount
+  pub changed : commanding.ChangesExactly accounts sets command
+  pub shown : (account : Account) → IsKnown accounts command account → ShowsRightly account sets command answer
+  pub denied : (account : Account) → IsKnown accounts command account → (reason : Reason)
+      → (answer ≡ Told (reply.Denied reason)) ↔ IsWhy account command sets reason
+
+-- an entry got, changed and showed what was granted, and its denial says why
+abbrev pub IsRight : List Account → Entry → Type 0
+IsRight accounts (Asked e) = IsRightRequest e
+IsRight accounts (Ordered sets command answer) = IsRightCommand accounts sets command answer
+IsRight accounts (Entered deck) = Unit {0}
+IsRight accounts (Refused deck refusal) = Unit {0}
+IsRight accounts (Ended end) = Unit {0}
+
+-- ALL OF IT
+
+-- These entries are the history of these events: all that they have brought about in this world, which printed these papers and
+-- left that world.
+pub record IsHistory (events : List Event) (w : World) (entries : List Entry) (papers : List Paper) (after : World) : Type 0 where
+  -- each command and each job stands in it, in the order in which they are asked
+  pub cards : cards_in entries ≡ cards_of events
+  -- of each job there is what its program means, and nothing else
+  pub jobs : (n : ℕ) → IsJob w.accounts after.floor.slots (job_of n events) (own n entries)
+  -- each entry is answered over the data sets that the one before it left, and nothing else changes them
+  pub lead : Lead w.accounts w.floor.sets entries after.floor.sets
+  -- what is got, changed, shown is what is granted, and each denial says why
+  pub granted : AllByRecursion (IsRight w.accounts) entries
+  -- what is printed is what the entries print
+  pub printed : papers ≡ papers_in entries
+
+-- From empty slots on, whatever is asked and wherever memory breaks turns off.
+abbrev pub HistoryTells : Type 0
+HistoryTells = (slots : ℕ) (accounts : List Account) (sets : Sets) (events : List Event) (m : Marks) → slots ≢ 0 → NumbersDiffer events
+    → (let w = first_world slots accounts sets in
+    let p = played events m w in
+    IsHistory events w (history events m w) p.papers p.after)

@@ -1,0 +1,145 @@
+-- The history (own): the one list of all that jobs ask and commands order, each over the data sets as they stand then, with
+-- what was answered; and of the jobs that enter and end.
+use Rattle.std.specs.Prelude.{ℕ, ◌==◌, Bool, true, false, List, [], ◌∷◌, ◌++◌, length, map, filter, take, Option, Some, None, Result, Ok, Err, if◌then◌else◌}
+use Rattle.std.specs.List.{flat_map}
+use Rattle.sno_talk.specs.Talks.{Ends, Asks}
+use Rattle.sno_ask.specs.Asking.{Asking}
+use Rattle.sno_ask.specs.declared.request.Request.{Request}
+use Rattle.sno_ask.specs.declared.answer.Answer.{Answer}
+use Rattle.sno_run.specs.Jobs.{turn_of}
+use Rattle.mon_access.specs.declared.account.Account.{Account}
+use Rattle.mon_catalogue.specs.Sets.{Sets}
+use Rattle.mon_command.specs.declared.command.Command.{Command}
+use Rattle.mon_command.specs.Commanded as commands
+use Rattle.mon_command.specs.Commanded.{answered, printed}
+use Rattle.mon_unit.specs.Serving.{Reach, serve}
+use Rattle.mon_job.specs.declared.deck.JobDeck.{JobDeck}
+use Rattle.mon_job.specs.declared.job_end.JobEnd.{JobEnd}
+use Rattle.mon_job.specs.declared.refusal.LoadError.{LoadError}
+use Rattle.mon_slots.specs.declared.turned.Turned.{Turned}
+use Rattle.mon_slots.specs.declared.turned.Turned.TheVariants as turn
+use Rattle.mon_slots.specs.Floors.{SlotState, Floor, job_in}
+use Rattle.mon_slots.specs.Turns.{reached, only}
+use Rattle.mon_slots.specs.Marks.{Mark, Marks, mark_of, later, may_break, turn_as, never, rounds, turns_left, is_done, has_room, room}
+use Rattle.mon_monitor.specs.Worlds.{World, with_floor}
+use Rattle.mon_monitor.specs.Events.{Event, Serve, Load, Give, Drain}
+use Rattle.mon_monitor.specs.Papers.{Paper, OfCommand, OfJob, OfRefused}
+use Rattle.mon_monitor.specs.Played.{loading, happened}
+
+-- a request of a job: the job's number, the account that it is for, what its requests reach then, what it asks, and the answer
+pub record Exchanged : Type 0 where
+  pub number : ℕ
+  pub account : Account
+  pub reach : Reach
+  pub request : Request
+  pub answer : Answer
+
+-- what happened, one thing at a time
+pub data Entry : Type 0 where
+  -- a job is loaded
+  Entered : JobDeck → Entry
+  -- a job is not loaded, and why
+  Refused : JobDeck → LoadError → Entry
+  -- a job asks, and is answered
+  Asked : Exchanged → Entry
+  -- a job has ended
+  Ended : JobEnd → Entry
+  -- a command is served over these data sets, and is answered
+  Ordered : Sets → Command → commands.Answer → Entry
+
+-- all that a program asks, each answered by `serve`
+abbrev pub asked_by : {A : Type 0} → ℕ → Account → Asking A → Reach → List Exchanged
+asked_by n account (Ends a) reach = []
+asked_by n account (Asks q f) reach =
+    record { number = n; account = account; reach = reach; request = q; answer = (serve account reach q).0 }
+    ∷ asked_by n account (f (serve account reach q).0) (serve account reach q).1
+
+-- what a job asks in a turn
+abbrev pub whole_turn : SlotState → Sets → List Exchanged
+whole_turn slot sets = asked_by slot.number slot.account (turn_of slot.job) (reached sets slot)
+
+-- so much of it as was answered, where memory broke the turn off
+abbrev pub broken_turn : Bool → Mark → SlotState → Sets → List Exchanged
+broken_turn false m slot sets = whole_turn slot sets
+broken_turn true m slot sets = take m.exchanges (whole_turn slot sets)
+
+-- what is asked in a turn of a slot, with a mark where memory may break it off: nothing, where no job sits there
+abbrev pub asked_in : Option Mark → Option SlotState → Sets → List Exchanged
+asked_in m None sets = []
+asked_in None (Some slot) sets = whole_turn slot sets
+asked_in (Some m) (Some slot) sets = broken_turn (may_break slot.job) m slot sets
+
+-- a job that has ended with its turn
+abbrev pub end_entry : Turned → List Entry
+end_entry turn.Empty = []
+end_entry turn.Goes = []
+end_entry (turn.Ended e) = Ended e ∷ []
+
+-- a turn of the job in a slot
+abbrev pub turn_entries : Option Mark → ℕ → Floor → List Entry
+turn_entries m s w = map Asked (asked_in m (job_in s w) w.sets) ++ end_entry (turn_as m s w).0
+
+-- turns of the jobs in these slots, until the floor is one to stop at
+abbrev pub entries_until : (Floor → Bool) → List ℕ → Marks → Floor → List Entry
+entries_until stop [] m w = []
+entries_until stop (s ∷ E) m w =
+    if stop w then []
+    else turn_entries (mark_of m) s w ++ entries_until stop E (later m) (turn_as (mark_of m) s w).1
+
+-- rounds of turns, until the floor is one to stop at
+abbrev pub entries_of_rounds : (Floor → Bool) → Marks → Floor → List Entry
+entries_of_rounds stop m w = entries_until stop (rounds (turns_left w.slots) (length w.slots)) m w
+
+-- a job that is loaded, or refused
+abbrev pub load_entry : JobDeck → Result ℕ LoadError → List Entry
+load_entry deck (Ok slot) = Entered deck ∷ []
+load_entry deck (Err refusal) = Refused deck refusal ∷ []
+
+-- one event: a command is served; a job enters, behind the turns that make room for it; turns are taken
+abbrev pub event_entries : Event → Marks → World → List Entry
+event_entries (Serve command) m w = Ordered w.floor.sets command (answered w.accounts w.floor.sets command).answer ∷ []
+event_entries (Load deck) m w =
+    entries_of_rounds has_room m w.floor ++ load_entry deck (loading deck (with_floor w (room m w.floor).after)).0
+event_entries (Give slot count) m w = entries_until never (only slot count) m w.floor
+event_entries Drain m w = entries_of_rounds is_done m w.floor
+
+-- all of these events
+abbrev pub history : List Event → Marks → World → List Entry
+history [] m w = []
+history (event ∷ events) m w = event_entries event m w ++ history events (happened event m w).marks (happened event m w).after
+
+-- what an entry prints: a command its answer, a job what it printed up to its end, or why it was refused
+abbrev pub paper_of : Entry → List Paper
+paper_of (Entered deck) = []
+paper_of (Refused deck refusal) = OfRefused deck.number deck.account refusal ∷ []
+paper_of (Asked e) = []
+paper_of (Ended e) = OfJob e ∷ []
+paper_of (Ordered sets command answer) = OfCommand (printed command answer) ∷ []
+
+-- what entries print, in order
+abbrev pub papers_in : List Entry → List Paper
+papers_in entries = flat_map paper_of entries
+
+-- the card that an entry answers, if it answers one
+abbrev pub card_of : Entry → List Event
+card_of (Entered deck) = Load deck ∷ []
+card_of (Refused deck refusal) = Load deck ∷ []
+card_of (Asked e) = []
+card_of (Ended e) = []
+card_of (Ordered sets command answer) = Serve command ∷ []
+
+-- the cards that entries answer, in order
+abbrev pub cards_in : List Entry → List Event
+cards_in entries = flat_map card_of entries
+
+-- an entry is of the job of this number
+abbrev pub is_of : ℕ → Entry → Bool
+is_of n (Entered deck) = deck.number == n
+is_of n (Refused deck refusal) = deck.number == n
+is_of n (Asked e) = e.number == n
+is_of n (Ended e) = e.number == n
+is_of n (Ordered sets command answer) = false
+
+-- the job's own entries
+abbrev pub own : ℕ → List Entry → List Entry
+own n entries = filter (is_of n) entries

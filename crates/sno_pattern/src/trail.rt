@@ -1,0 +1,235 @@
+//! What is still ahead of a match: the goals that are met next, the assignments that wait, and the choices that are open.
+//!
+//! The goals stand in one vector, each with the place of those behind it. So choices share them, a goal takes no memory of its
+//! own, and where a choice is taken all that came after it is cut off.
+ghost use Rattle.std.specs.Prelude.{◌≡◌, [], ◌∷◌, ◌++◌, drop, IfOk, IfSome};
+ghost use Rattle.std.specs.Option.{MatchOption};
+ghost use Rattle.sno_pattern.specs.inner.Stack.{goal_of, nothing_ahead};
+
+use sno_nodes::Node;
+use sno_text::Text;
+use std::alloc::{AllocError, Global};
+use std::marker::Model;
+use std::rc::Rc;
+
+/// What is still to be met.
+#[derive(Drop)]
+pub(crate) enum Goal {
+    Meet(Rc<Node>),
+    /// Another turn of ARBNO, if the last one, from here, moved on.
+    More(Rc<Node>, usize),
+    /// The part from here on waits to be assigned.
+    EndConditional(Text, usize),
+    /// The part from here on is assigned now.
+    EndImmediate(Text, usize),
+}
+
+/// An assignment that waits: a variable, and the two cursors between which its text stands.
+#[derive(Drop)]
+pub(crate) struct Waiting {
+    pub(crate) variable: Text,
+    pub(crate) from: usize,
+    pub(crate) to: usize,
+}
+
+/// How goals are tried where all that comes before them fails.
+#[derive(Clone, Copy)]
+pub(crate) enum Kind {
+    /// From a cursor.
+    Second,
+    /// From a cursor, and then from each later one.
+    Each,
+    /// From a cursor, and then from each later one before which parentheses are in pairs.
+    Balanced,
+    /// Not at all: the whole match fails.
+    Whole,
+}
+
+/// A goal, and the place of those behind it.
+#[derive(Drop)]
+pub(crate) struct Cell {
+    goal: Goal,
+    rest: usize,
+}
+
+/// An open choice: how its goals are tried and from which cursor, their place, and how much was kept and waited before it.
+#[derive(Clone, Copy)]
+pub(crate) struct Open {
+    kind: Kind,
+    at: usize,
+    top: usize,
+    kept: usize,
+    waits: usize,
+}
+
+/// What is still ahead. The place of a goal is how many stand up to it, so that 0 is no goal's.
+#[derive(Drop)]
+pub(crate) struct Trail {
+    cells: Vec<Cell>,
+    top: usize,
+    /// Up to here choices need the goals.
+    kept: usize,
+    waits: Vec<Waiting>,
+    opens: Vec<Open>,
+}
+
+impl Model for Trail {
+    ghost use Rattle.std.specs.Prelude.{reverse};
+    ghost use Rattle.std.specs.Coded.{codes};
+    ghost use Rattle.sno_nodes.specs.inner.Codes.{pattern_code};
+    ghost use Rattle.sno_pattern.specs.inner.Stack.{Ahead};
+
+    ghost Value = { Ahead };
+
+    ghost coded = { Prim.hlevel (codes, pattern_code) };
+
+    ghost use Rattle.sno_pattern.specs.inner.Cells.{ahead_of, IsTrail};
+
+    ghost view = { λ t. ahead_of (reverse t.cells.items) t.top t.waits.items (reverse t.opens.items) };
+
+    ghost invariant = { λ t. IsTrail (reverse t.cells.items) t.top t.kept t.waits.items (reverse t.opens.items) };
+}
+
+impl Goal {
+    // The same goal once more.
+    fn copy(&self) -> Result<Goal, AllocError>
+        ensures { IfOk result (λ g. goal_of g ≡ goal_of self.now) }
+    {
+        match self {
+            Goal::Meet(node) => Ok(Goal::Meet(node.clone()?)),
+            Goal::More(node, from) => Ok(Goal::More(node.clone()?, *from)),
+            Goal::EndConditional(variable, from) => {
+                Ok(Goal::EndConditional(variable.copy()?, *from))
+            }
+            Goal::EndImmediate(variable, from) => Ok(Goal::EndImmediate(variable.copy()?, *from)),
+        }
+    }
+}
+
+impl Trail {
+    /// A trail with nothing ahead.
+    pub(crate) fn new(alloc: Global) -> Trail
+        ensures { result ≡ nothing_ahead }
+    {
+        Trail {
+            cells: Vec::new(alloc),
+            top: 0,
+            kept: 0,
+            waits: Vec::new(alloc),
+            opens: Vec::new(alloc),
+        }
+    }
+
+    /// Takes off all there is, and keeps the room.
+    pub(crate) fn clear(&mut self)
+        ensures { self.new ≡ nothing_ahead }
+    {
+        self.cells.clear();
+        self.top = 0;
+        self.kept = 0;
+        self.waits.clear();
+        self.opens.clear();
+    }
+
+    /// A goal in front of the others.
+    ///
+    /// # Errors
+    ///
+    /// Where a growth was refused; so it is for each call here.
+    pub(crate) fn push(&mut self, goal: Goal) -> Result<(), AllocError>
+        ensures { IfOk result (λ u. self.new ≡ record { goals = goal_of goal ∷ self.old.goals; waits = self.old.waits; opens = self.old.opens }) }
+    {
+        let rest = self.top;
+        self.cells.push(Cell { goal, rest })?;
+        self.top = self.cells.len();
+        Ok(())
+    }
+
+    /// The goal in front, if there is one.
+    pub(crate) fn first(&self) -> Option<&Goal>
+        ensures { IfSome result (λ goal. self.now.goals ≡ goal_of goal.now ∷ drop 1 self.now.goals) }
+    {
+        if self.top == 0 {
+            return None;
+        }
+        Some(&self.cells[self.top - 1].goal)
+    }
+
+    /// Goes past the goal in front.
+    pub(crate) fn pass(&mut self)
+        ensures { self.new ≡ record { goals = drop 1 self.old.goals; waits = self.old.waits; opens = self.old.opens } }
+    {
+        if self.top > 0 {
+            self.top = self.cells[self.top - 1].rest;
+        }
+    }
+
+    /// Takes the goal in front off, if there is one. One that a choice needs is copied, and any other is moved out, so that a
+    /// pattern which leaves no choice takes no further memory.
+    pub(crate) fn next(&mut self) -> Result<Option<Goal>, AllocError>
+        ensures { IfOk result (λ found. MatchOption found ((self.old.goals ≡ []) × (self.new ≡ self.old)) (λ goal. self.old ≡ record { goals = goal_of goal ∷ self.new.goals; waits = self.new.waits; opens = self.new.opens })) }
+    {
+        if self.top == 0 {
+            return Ok(None);
+        }
+        if self.top <= self.kept || self.top < self.cells.len() {
+            let cell = &self.cells[self.top - 1];
+            let goal = cell.goal.copy()?;
+            self.top = cell.rest;
+            return Ok(Some(goal));
+        }
+        match self.cells.pop() {
+            Some(cell) => {
+                self.top = cell.rest;
+                Ok(Some(cell.goal))
+            }
+            None => Ok(None),
+        }
+    }
+
+    /// An assignment that waits from now on.
+    pub(crate) fn wait(&mut self, waiting: Waiting) -> Result<(), AllocError>
+        ensures { IfOk result (λ u. self.new ≡ record { goals = self.old.goals; waits = self.old.waits ++ waiting ∷ []; opens = self.old.opens }) }
+    {
+        Ok(self.waits.push(waiting)?)
+    }
+
+    /// The assignments that wait, the oldest first.
+    pub(crate) fn waits(&self) -> &[Waiting]
+        ensures { result.now ≡ self.now.waits }
+    {
+        &self.waits
+    }
+
+    /// Leaves the goals ahead to be tried so, from a cursor, where all that comes before fails.
+    pub(crate) fn leave(&mut self, kind: Kind, at: usize) -> Result<(), AllocError>
+        ensures { IfOk result (λ u. self.new ≡ record { goals = self.old.goals; waits = self.old.waits; opens = record { kind = kind; goals = self.old.goals; at = at; waits = self.old.waits } ∷ self.old.opens }) }
+    {
+        let open = Open {
+            kind,
+            at,
+            top: self.top,
+            kept: self.kept,
+            waits: self.waits.len(),
+        };
+        self.opens.push(open)?;
+        self.kept = self.cells.len();
+        Ok(())
+    }
+
+    /// Goes back to the last choice, if one is open, and takes it off. It tells how its goals are tried, and from which cursor.
+    pub(crate) fn back(&mut self) -> Option<(Kind, usize)>
+        ensures { MatchOption result ((self.old.opens ≡ []) × (self.new.opens ≡ [])) (λ left. self.old.opens ≡ record { kind = left.0; goals = self.new.goals; at = left.1; waits = self.new.waits } ∷ self.new.opens) }
+    {
+        match self.opens.pop() {
+            None => None,
+            Some(open) => {
+                self.cells.truncate(self.kept);
+                self.waits.truncate(open.waits);
+                self.top = open.top;
+                self.kept = open.kept;
+                Some((open.kind, open.at))
+            }
+        }
+    }
+}

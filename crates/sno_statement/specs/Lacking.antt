@@ -1,0 +1,88 @@
+-- Where a statement lacks a variable: for each of its tokens, whether an element begins there that should be a variable and
+-- is none (own).
+use Rattle.std.specs.Prelude.{Bool, false, not, ◌&&◌, ◌++◌, List, [], ◌∷◌, Option, Some, None}
+use Rattle.sno_token.specs.declared.Outcome.{Outcome}
+use Rattle.sno_token.specs.declared.Outcome.TheVariants.{Success, Failure}
+use Rattle.sno_token.specs.declared.Part.TheVariants.{On}
+use Rattle.sno_token.specs.declared.Token.{Token}
+use Rattle.sno_token.specs.declared.TokenKind.{TokenKind}
+use Rattle.sno_token.specs.declared.TokenKind.TheVariants as token
+use Rattle.sno_expression.specs.declared.tree.BinaryOperator.{BinaryOperator}
+use Rattle.sno_expression.specs.declared.tree.BinaryOperator.TheVariants.{Concatenation}
+use Rattle.sno_expression.specs.declared.tree.UnaryOperator.TheVariants.{Indirect}
+use Rattle.sno_expression.specs.Marks.{needs_variable, operand_is_variable}
+use Rattle.sno_expression.specs.Expressions.{Expression, Arguments, Identifier, Constant, Keyword, Unevaluated, Group, Call, Unary, Binary, NoArguments, Omitted, Argument, is_variable}
+use Rattle.sno_statement.specs.Statements.{Target, To, Computed, Goto, NoGoto, Always, OnSuccess, OnFailure, OnBoth, Object, NoObject, NullObject, ValueObject, Body, NoBody, Does, Statement, Says, kind_of, can_be_set, is_pattern}
+
+-- between two operands stands a mark, and none where they are concatenated
+abbrev pub between : BinaryOperator → List Bool
+between Concatenation = []
+between _ = false ∷ []
+
+-- behind the arguments so far stands a comma, and none where there are none
+abbrev pub comma_behind : Arguments → List Bool
+comma_behind NoArguments = []
+comma_behind _ = false ∷ []
+
+-- for each token of a tree, does an element begin there that should be a variable and is none; needed: should the tree be one
+abbrev mutual
+  pub lacking : Bool → Expression → List Bool
+  lacking needed (Identifier n) = false ∷ []
+  lacking needed (Constant c) = needed ∷ []
+  lacking needed (Keyword n) = needed ∷ false ∷ []
+  lacking needed (Unevaluated n) = needed ∷ false ∷ []
+  lacking needed (Group t) = needed ∷ (lacking false t ++ false ∷ [])
+  lacking needed (Call f args) = needed ∷ false ∷ (lacking_among args ++ false ∷ [])
+  lacking needed (Unary s t) = (needed && not (is_variable (Unary s t))) ∷ lacking (operand_is_variable s) t
+  lacking needed (Binary o l r) = lacking needed l ++ (between o ++ lacking (needs_variable o) r)
+
+  pub lacking_among : Arguments → List Bool
+  lacking_among NoArguments = []
+  lacking_among (Omitted args) = lacking_among args ++ comma_behind args
+  lacking_among (Argument args t) = lacking_among args ++ (comma_behind args ++ lacking false t)
+
+-- should the subject be a variable and is none: an object is given, and the subject may not be assigned to
+abbrev pub is_wrong : Expression → Option Expression → Object → Bool
+is_wrong s p NoObject = false
+is_wrong s p _ = not (can_be_set (kind_of s) (is_pattern p))
+
+-- for each token of a part of a statement; before an object stands its `=`
+abbrev pub lacking_pattern : Option Expression → List Bool
+lacking_pattern None = []
+lacking_pattern (Some p) = lacking false p
+
+abbrev pub lacking_object : Object → List Bool
+lacking_object NoObject = []
+lacking_object NullObject = false ∷ []
+lacking_object (ValueObject t) = false ∷ lacking false t
+
+abbrev pub lacking_body : Body → List Bool
+lacking_body NoBody = []
+lacking_body (Does s p o) = lacking (is_wrong s p o) s ++ (lacking_pattern p ++ lacking_object o)
+
+-- for each token of a target, with its parentheses
+abbrev pub lacking_target : Target → List Bool
+lacking_target (To l) = false ∷ false ∷ false ∷ []
+lacking_target (Computed t) = false ∷ (lacking false (Unary Indirect t) ++ false ∷ [])
+
+-- for each token of a goto that names this outcome first, if it names both
+abbrev pub lacking_goto : Outcome → Goto → List Bool
+lacking_goto o NoGoto = []
+lacking_goto o (Always t) = false ∷ lacking_target t
+lacking_goto o (OnSuccess t) = false ∷ false ∷ lacking_target t
+lacking_goto o (OnFailure t) = false ∷ false ∷ lacking_target t
+lacking_goto Success (OnBoth s f) = false ∷ false ∷ (lacking_target s ++ false ∷ lacking_target f)
+lacking_goto Failure (OnBoth s f) = false ∷ false ∷ (lacking_target f ++ false ∷ lacking_target s)
+
+-- the outcome that tokens name first, and success where they name none
+abbrev pub named_by : TokenKind → Outcome → Outcome
+named_by (token.Part (On o)) later = o
+named_by _ later = later
+
+abbrev pub named_first : List Token → Outcome
+named_first [] = Success
+named_first (t ∷ ts) = named_by t.kind (named_first ts)
+
+-- for each token of a statement that the tokens spell
+abbrev pub lacking_in : List Token → Statement → List Bool
+lacking_in ts (Says b g) = lacking_body b ++ lacking_goto (named_first ts) g
