@@ -1,0 +1,191 @@
+#!/usr/bin/env python3
+"""job_decks.py CASE [SIZE]: writes a deck whose work is that of jobs, or of many commands. SIZE is 1, the whole, or less.
+
+The cases, at their whole size:
+
+  copy            100,000 records read from one data set and written to another, by a named user
+  copy_by_groups  the same by an account of 16 further groups, of which the lists name the last
+  spool           100,000 records read from a data set and printed
+  match           100 matches of 503,503 steps, nearly all of it one text that is tried at each cursor
+  alternatives    one match of 10,000,000 steps that backs up through ARBNO, an alternation and conditional assignments
+  recursion       a left-recursive pattern, until 10,000,000 steps are taken: the most goals and choices that there can be
+  loop            10,000,000 statements of arithmetic
+  functions       some 910,000 statements, nearly all within calls of a function of three arguments and a local
+  strings         870,031 statements: words cut off a text by a pattern, and counted in variables named by them
+  lists           the case of decks.py: 20,000 commands, 2,018,000 access checks on lists of 100 named entries
+  many_names      20,000 $CATALOG over 1,000 data sets of 100 named entries; a list is set anew now and then
+  joined          1,000 statements of 996 joined names, read and refused at the END line, so that nothing runs
+  statements      100,000 statements of a card each, read and refused at the END line
+"""
+
+import random
+import sys
+
+sys.dont_write_bytecode = True  # the repository has no folder for it
+import decks
+
+PAYROLL_LIST = "user::rwx,user:lisa:rw-,group::r--,mask::rw-,other::---"
+TEAM_LIST = "user::rwx,group::r--,group:team:rw-,mask::rw-,other::---"
+
+
+def opening(catalogue=(), lisa="lisa staff"):
+    return ["$ACCOUNTS", "anna admin", lisa, "hugo ops staff", "$CATALOGUE", *catalogue, "$STREAM"]
+
+
+def job(card, lines, catalogue=(), lisa="lisa staff", behind=()):
+    """A deck of one job, and what stands behind it."""
+    return [*opening(catalogue, lisa), card, *lines, "$EOJ", *behind, "$STOP"]
+
+
+def records(count, acl=PAYROLL_LIST):
+    tail = "ABCDEFGHIJKLMNOPQRSTUVWXYZ0123456789"
+    return [f"$SET BIG anna admin {count}", acl, *(f"RECORD {i:06} {tail}" for i in range(count))]
+
+
+def copies(size, acl, lisa):
+    sets = [*records(int(100_000 * size), acl), "$SET OUT anna admin 0", acl]
+    program = ["$UNIT 8 BIG", "$UNIT 9 OUT", "  INPUT('R',8); OUTPUT('W',9)", "L W = R :S(L)", "END"]
+    return job("$JOB lisa ST=200000", program, sets, lisa)
+
+
+def copy(size):
+    return copies(size, PAYROLL_LIST, "lisa staff")
+
+
+def copy_by_groups(size):
+    groups = [f"g{i:02}" for i in range(15)]
+    return copies(size, TEAM_LIST, " ".join(["lisa staff", *groups, "team"]))
+
+
+def spool(size):
+    return job("$JOB lisa ST=200000", ["$UNIT 5 BIG", "L OUTPUT = INPUT :S(L)", "END"], records(int(100_000 * size)))
+
+
+def match(size):
+    count = int(100 * size)
+    program = ["  S = DUPL('A',1000)", f"L N = LT(N,{count}) N + 1 :F(END)", "  S ARB 'B' :F(L)", "END"]
+    return job("$JOB lisa MATCH=1000000", program)
+
+
+def alternatives(size):
+    program = ["  S = DUPL('XYZ',1500)", "  S POS(0) ARBNO(('X' | 'YZ' | 'Y' | 'Z') . V) 'W'", "END"]
+    return job(f"$JOB lisa MATCH={int(10_000_000 * size)}", program)
+
+
+def recursion(size):
+    return job(f"$JOB lisa MATCH={int(10_000_000 * size)}", ["  Q = *Q 'C' | 'D'", "  'E' Q", "END"])
+
+
+def loop(size):
+    count = int(10_000_000 * size)
+    program = ["  I = 0", "L I = I + 1", "  S = S + I * 3 - 1", f"  LT(I,{count}) :S(L)", "END"]
+    return job(f"$JOB lisa ST={count}", program)
+
+
+def functions(size):
+    return job(
+        "$JOB lisa ST=5000000",
+        [
+            "  DEFINE('TAK(X,Y,Z)R') :(GO)",
+            "TAK TAK = GE(Y,X) Z :S(RETURN)",
+            "  R = TAK(Y - 1,Z,X)",
+            "  TAK = TAK(TAK(X - 1,Y,Z),R,TAK(Z - 1,X,Y)) :(RETURN)",
+            f"GO N = LT(N,{int(350 * size)}) N + 1 :F(END)",
+            "  X = TAK(12,8,4) :(GO)",
+            "END",
+        ],
+    )
+
+
+def strings(size):
+    return job(
+        "$JOB lisa ST=1000000",
+        [
+            "  W = BREAK(' ') . X SPAN(' ')",
+            "G S = 'THE QUICK BROWN FOX JUMPS OVER THE LAZY DOG AND RUNS AWAY AGAIN '",
+            "L S W = :F(T)",
+            "  $('C.' X) = $('C.' X) + 1 :(L)",
+            f"T N = LT(N,{int(30_000 * size)}) N + 1 :S(G)",
+            "  OUTPUT = $'C.THE'",
+            "END",
+        ],
+    )
+
+
+def lists(size):
+    return decks.drawn_lists(int(1_000 * size), 20_000)
+
+
+def many_names(size):
+    dice, sets = random.Random(7), int(1_000 * size)
+    accounts = [f"user{i:03}" for i in range(200)]
+    yield "$ACCOUNTS"
+    for i, account in enumerate(accounts):
+        yield " ".join([account, *(f"team{group:02}" for group in [i % 40, *((i * 11 + k) % 40 for k in range(1, 5))])])
+    yield "$CATALOGUE"
+    for i in range(sets):
+        yield f"$SET DATA{i:04} user000 team{dice.randrange(40):02} 0"
+        entries = ["user::rwx", "group::r--", "mask::rwx", "other::---"]
+        entries += [f"user:{name}:r--" for name in dice.sample(accounts, 65)]
+        entries += [f"group:team{name:02}:{dice.choice(['r--', '---', 'r-x'])}" for name in dice.sample(range(40), 35)]
+        yield ",".join(entries)
+    yield "$STREAM"
+    for k in range(20_000):
+        if k % 150 == 0:
+            yield f"$SETACL user000 DATA{dice.randrange(sets):04} u::rwx,g::r,o::---"
+        yield f"$CATALOG {dice.choice(accounts)}"
+    yield "$STOP"
+
+
+def wrapped(words):
+    """The cards of a statement whose object is these words, joined."""
+    text = "  X ="
+    for word in words:
+        if len(text) + len(word) + 1 > 190:
+            yield text
+            text = "+"
+        text += " " + word
+    yield text
+
+
+def refused(lines):
+    """A deck whose one job is read, and refused for a label that is missing."""
+    return job("$JOB lisa", [*lines, "END NOWHERE"])
+
+
+def joined(size):
+    return refused(card for i in range(int(1_000 * size)) for card in wrapped(f"W{(k * 7 + i) % 97}" for k in range(996)))
+
+
+def statements(size):
+    return refused(f"  N{i % 500} = N{(i * 3) % 500} + {i}" for i in range(int(100_000 * size)))
+
+
+CASES = {
+    write.__name__: write
+    for write in (
+        copy,
+        copy_by_groups,
+        spool,
+        match,
+        alternatives,
+        recursion,
+        loop,
+        functions,
+        strings,
+        lists,
+        many_names,
+        joined,
+        statements,
+    )
+}
+
+
+def deck(case, size=1):
+    return "\n".join(CASES[case](size)) + "\n"
+
+
+if __name__ == "__main__":
+    if len(sys.argv) not in (2, 3) or sys.argv[1] not in CASES:
+        sys.exit(__doc__)
+    sys.stdout.write(deck(sys.argv[1], float(sys.argv[2]) if len(sys.argv) == 3 else 1))
