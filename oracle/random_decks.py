@@ -1,7 +1,7 @@
 """Random decks with commands and jobs, and what they have to print.
 
 python3 random_decks.py COUNT SEED FOLDER [SLOTS] writes FOLDER/N.deck, FOLDER/N.stdout and FOLDER/N.status;
-python3 random_decks.py --compare FOLDER SLOTS COMMAND.. runs the command on each and tells what differs."""
+python3 random_decks.py --compare FOLDER SLOTS COMMAND.. runs the command on each, tells what differs, and then has status 1."""
 import os
 import random
 import subprocess
@@ -108,12 +108,13 @@ def compare(folder, slots, command):
     different = 0
     for f in decks:
         base = folder + '/' + f[:-5]
-        got = subprocess.run(command + ['--slots', slots], stdin=open(base + '.deck'), capture_output=True, text=True)
+        got = subprocess.run(command + ['--slots', slots], stdin=open(base + '.deck'), capture_output=True, text=True, timeout=60)
         wanted = open(base + '.stdout').read(), open(base + '.status').read()
         if (got.stdout, '%d\n%s' % (got.returncode, got.stderr)) != wanted:
             different += 1
             print('DIFFERENT', base)
     print('%d decks, %d different' % (len(decks), different))
+    sys.exit(1 if different or not decks else 0)
 
 
 if __name__ == '__main__':

@@ -108,7 +108,7 @@ def main():
     with tempfile.TemporaryDirectory() as room:
         open(room + '/shim.c', 'w').write(SHIM.replace('#include <string.h>', '#include <string.h>\n#include <unistd.h>'))
         subprocess.run(['cc', '-shared', '-fPIC', '-O1', '-o', room + '/shim.so', room + '/shim.c', '-ldl'], check=True)
-        failed = False
+        failed, total = False, 0
         for deck in decks:
             data = open(deck, 'rb').read()
             whole = monitor.run(data)
@@ -119,7 +119,7 @@ def main():
                 mark = room + '/refused'
                 if os.path.islink(mark):
                     os.unlink(mark)
-                got = subprocess.run([program], input=data, capture_output=True,
+                got = subprocess.run([program], input=data, capture_output=True, timeout=60,
                                      env={'LD_PRELOAD': room + '/shim.so', 'REFUSE': str(n), 'REFUSED': mark})
                 out, err = got.stdout.decode(), got.stderr.decode()
                 if not os.path.islink(mark):
@@ -135,8 +135,10 @@ def main():
                     good = got.returncode == whole[2] and err == whole[1] and 'END MEMORY AFTER ' in out and is_explained(data, out)
                 if not good:
                     bad.append(n)
-            failed = failed or bool(bad)
+            failed = failed or bool(bad) or n == 1
+            total += n - 1
             print('%s: %d growths: %s; wrong: %s' % (deck, n - 1, counts, bad))
+        print('%d growths refused on %d decks' % (total, len(decks)))
     sys.exit(1 if failed else 0)
 
 

@@ -1,0 +1,116 @@
+"""Each read and each write failing in turn: what a program prints then, beside what monitor.py says of it.
+
+python3 failing_streams.py PROGRAM DECK..    (needs a C compiler; PROGRAM reads and writes by read and write)
+
+Decks are good ones. The k-th call fails, for each k that there is: it and all later ones, or it alone. Calls move as many bytes
+as they are asked to, or 7, or 1. Each such run has to tell the fault and to end with status 3. Where a read failed, it has
+printed what the lines that were read whole cause; where a write failed, a beginning of the output, of calls that move one byte
+exactly as many bytes as calls went before."""
+import functools
+import os
+import subprocess
+import sys
+import tempfile
+import monitor
+from monitor import Deck, Monitor, in_a_large_stack
+
+SHIM = r'''
+#define _GNU_SOURCE
+#include <dlfcn.h>
+#include <errno.h>
+#include <stdlib.h>
+#include <unistd.h>
+static long number(const char *name) {
+    const char *n = getenv(name);
+    return n ? atol(n) : 0;
+}
+static int fails(int file) {
+    static long calls;
+    if (file != number("FAIL_FILE")) return 0;
+    ++calls;
+    if (calls < number("FAIL_CALL") || (calls > number("FAIL_CALL") && number("FAIL_ONCE"))) return 0;
+    int made = symlink("yes", getenv("FAILED"));
+    (void)made;
+    errno = EIO;
+    return 1;
+}
+static size_t moved(size_t n) {
+    size_t most = number("MOST");
+    return most && most < n ? most : n;
+}
+ssize_t read(int file, void *into, size_t n) {
+    static ssize_t (*next)(int, void *, size_t);
+    if (!next) next = dlsym(RTLD_NEXT, "read");
+    if (file != 0) return next(file, into, n);
+    return fails(file) ? -1 : next(file, into, moved(n));
+}
+ssize_t write(int file, const void *from, size_t n) {
+    static ssize_t (*next)(int, const void *, size_t);
+    if (!next) next = dlsym(RTLD_NEXT, "write");
+    if (file != 1) return next(file, from, n);
+    return fails(file) ? -1 : next(file, from, moved(n));
+}
+'''
+FILES = {'read': 0, 'write': 1}
+
+
+@functools.lru_cache(maxsize=None)
+def printed(lines):
+    """What whole lines print."""
+    deck = Deck(Monitor(4))
+    try:
+        for line in lines.split(b'\n')[:-1]:
+            deck.take(line[:-1] if line.endswith(b'\r') else line)
+    except EOFError:
+        pass
+    return ''.join(line + '\n' for line in deck.monitor.out)
+
+
+def is_due(data, whole, call, k, most, out):
+    """Whether this is what stands written where the k-th call fails."""
+    moved = (most or len(data)) * (k - 1)
+    if call == 'read':
+        return out == printed(data[:data.rfind(b'\n', 0, moved) + 1])
+    return whole.startswith(out) and (most != 1 or len(out) == moved)
+
+
+def failing(program, data, room, call, most, once):
+    """(how many calls were made to fail, the numbers of those behind which something else was seen)"""
+    whole, wrong, k = monitor.run(data)[0], [], 0
+    mark = room + '/failed'
+    while True:
+        k += 1
+        got = subprocess.run([program], input=data, capture_output=True, timeout=60, env={
+            'LD_PRELOAD': room + '/shim.so', 'FAIL_FILE': str(FILES[call]), 'FAIL_CALL': str(k), 'FAIL_ONCE': str(int(once)),
+            'MOST': str(most), 'FAILED': mark})
+        if not os.path.islink(mark):
+            return k - 1, wrong
+        os.unlink(mark)
+        if (got.returncode, got.stderr.decode()) != (3, 'snomon: %s fault\n' % call) or not is_due(
+                data, whole, call, k, most, got.stdout.decode()):
+            wrong.append(k)
+
+
+def main():
+    program, decks = sys.argv[1], sys.argv[2:]
+    total, failed = 0, False
+    with tempfile.TemporaryDirectory() as room:
+        open(room + '/shim.c', 'w').write(SHIM)
+        subprocess.run(['cc', '-shared', '-fPIC', '-O1', '-o', room + '/shim.so', room + '/shim.c', '-ldl'], check=True)
+        for deck in decks:
+            data = open(deck, 'rb').read()
+            for call in FILES:
+                for most in (0, 7, 1):
+                    for once in (False, True):
+                        count, wrong = failing(program, data, room, call, most, once)
+                        total += count
+                        if wrong or not count:
+                            failed = True
+                            print('%s: the %s fails%s, %s bytes a call: %d calls; wrong: %s' % (
+                                deck, call, ' once' if once else '', most or 'all', count, wrong))
+    print('%d reads and writes failed' % total)
+    sys.exit(1 if failed else 0)
+
+
+if __name__ == '__main__':
+    in_a_large_stack(main)
