@@ -1,6 +1,6 @@
 -- What the history tells of each job, event by event.
-use Rattle.std.proofs.Common.{◌≡◌, ◌≢◌, ◌⊎◌, ◌==◌, ℕ, zero, suc, ◌-◌, ◌≤◌, Bool, true, false, List, [], ◌∷◌, ◌++◌, length, map, replicate, Option, Some, None, Result, Ok, Err, refl, ap, sym, ◌∙◌, subst, inl, inr, arith, append_assoc, append-nil}
-use Rattle.std.specs.Prelude.{if◌then◌else◌, is_some, slice_get}
+use Rattle.std.proofs.Common.{◌≡◌, ◌≢◌, ◌⊎◌, ◌==◌, ℕ, zero, suc, ◌-◌, ◌≤◌, Bool, true, false, List, [], ◌∷◌, ◌++◌, length, map, replicate, Option, Some, None, refl, ap, sym, ◌∙◌, subst, inl, inr, arith, append_assoc, append-nil}
+use Rattle.std.specs.Prelude.{if◌then◌else◌, is_some}
 use Rattle.std.proofs.lemmas.List.Elements.{filter-append}
 use Rattle.std.proofs.lemmas.Bool.{eq-eqb, eqb-true}
 use Rattle.sno_run.specs.declared.ending.Ending.{Ending}
@@ -12,7 +12,6 @@ use Rattle.sno_cards.specs.Statements.{statements_of}
 use Rattle.sno_syntax.specs.Programs.{Program}
 use Rattle.mon_access.specs.declared.account.Account.{Account}
 use Rattle.mon_access.specs.Accounts.{find_account}
-use Rattle.mon_unit.specs.declared.units.UnitError.{UnitError}
 use Rattle.mon_unit.specs.State.{UnitState}
 use Rattle.mon_unit.specs.Serving.{Reach, serve}
 use Rattle.mon_unit.specs.Runs.{run}
@@ -21,16 +20,15 @@ use Rattle.mon_command.specs.Commanded.{answered}
 use Rattle.mon_job.specs.declared.deck.UnitCard.{UnitCard}
 use Rattle.mon_job.specs.declared.deck.JobDeck.{JobDeck}
 use Rattle.mon_job.specs.declared.refusal.LoadError.{LoadError}
-use Rattle.mon_job.specs.declared.refusal.LoadError.TheVariants.{NoSlot, NoAccount, Cards}
-use Rattle.mon_slots.specs.Floors.{SlotState, Floor, floor, seated, seat_at, with_seat, job_in, first_free}
-use Rattle.mon_slots.specs.Loads.{first_of, slot_refusal, account_refusal, first_units, tied_by, with_ties, ties_refusal, program_refusal, program_in, deck_refusal, load_refusal, loaded_slot, slot_by, slot_in, loaded_by, loaded}
+use Rattle.mon_slots.specs.Floors.{SlotState, Floor, floor, seat_at, with_seat, job_in, first_free}
+use Rattle.mon_slots.specs.Loads.{first_of, slot_refusal, account_refusal, first_units, tied_by, with_ties, program_refusal, program_in, deck_refusal, loaded_slot, slot_by, slot_in, loaded_by, loaded}
 use Rattle.mon_slots.specs.Turns.{reached, ran, ends_by, only}
 use Rattle.mon_slots.specs.Marks.{Mark, Marks, mark_of, later, may_break, broken_by, ran_as, turn_as_by, turn_as, Past, nothing, and_then, until, never, rounds, turns_left, is_done, has_room, room}
 use Rattle.mon_monitor.specs.Worlds.{World, world}
 use Rattle.mon_monitor.specs.Events.{Event, Serve, Load, Give, Drain}
 use Rattle.mon_monitor.specs.Played.{happened, played}
-use Rattle.mon_monitor.specs.History.{Exchanged, Entry, Entered, Refused, Asked, Ended, Ordered, whole_turn, broken_turn, asked_in, end_entry, turn_entries, entries_until, load_entry, event_entries, history, is_of, own}
-use Rattle.mon_monitor.specs.Headline.{exchanges, Course, WasRefused, IsJob, job_of, NumbersDiffer}
+use Rattle.mon_monitor.specs.History.{Entry, Entered, Refused, Asked, Ordered, whole_turn, broken_turn, asked_in, end_entry, turn_entries, entries_until, load_entry, event_entries, history, is_of, own}
+use Rattle.mon_monitor.specs.Headline.{IsJob, job_of, NumbersDiffer}
 use Rattle.mon_monitor.proofs.Exchanging.{whole_told, cut_told, whole_tells, cut_begins}
 use Rattle.mon_monitor.proofs.Seating.{IsSeat, seat_changed, free_seat}
 use Rattle.mon_monitor.proofs.Telling.{same_or_not, not_same, AreOf, none_of, more_of, number_is, number_not, own_more, own_same, Sitting, goes_on, Turn, Again, IsToCome, SoFar, still_job, turn_far}

@@ -1,38 +1,31 @@
 -- The history of events tells each job's talk, one after another.
-use Rattle.std.proofs.Common.{◌≡◌, ◌≢◌, ◌⊎◌, ◌==◌, ℕ, zero, suc, ◌+◌, ◌-◌, ◌≤◌, Bool, true, false, List, [], ◌∷◌, ◌++◌, length, map, filter, take, min, replicate, Option, Some, None, Result, Ok, Err, refl, ap, sym, ◌∙◌, subst, inl, inr, arith, append_assoc, append-nil}
-use Rattle.std.specs.Prelude.{if◌then◌else◌, is_some}
-use Rattle.std.specs.List.{AllByRecursion, flat_map}
+use Rattle.std.proofs.Common.{◌≡◌, ◌≢◌, ◌⊎◌, ◌==◌, ℕ, zero, suc, ◌+◌, ◌-◌, ◌≤◌, Bool, true, false, List, [], ◌∷◌, ◌++◌, map, Option, Some, None, refl, ap, sym, ◌∙◌, subst, inl, inr, arith, append_assoc, append-nil}
+use Rattle.std.specs.Prelude.{if◌then◌else◌}
 use Rattle.std.proofs.lemmas.List.{map-append}
 use Rattle.std.proofs.lemmas.List.Elements.{filter-append}
 use Rattle.std.proofs.lemmas.List.Concat.{flat_map-append}
 use Rattle.std.proofs.lemmas.Bool.{eq-eqb, eqb-true, eqb-false}
-use Rattle.sno_talk.specs.Talks.{◌>>=◌}
-use Rattle.sno_talk.specs.Endings.{EndsIn}
-use Rattle.sno_ask.specs.Asking.{Asking, Exchange, Tells, Begins}
+use Rattle.sno_ask.specs.Asking.{Exchange, Tells, Begins}
 use Rattle.sno_ask.specs.Fitting.{Fits}
 use Rattle.sno_run.specs.declared.ending.Ending.{Ending}
 use Rattle.sno_run.specs.declared.ending.Ending.TheVariants.{Memory}
 use Rattle.sno_run.specs.declared.ending.Step.{Step}
 use Rattle.sno_run.specs.declared.ending.Step.TheVariants as step
-use Rattle.sno_run.specs.Jobs.{Job, turn_of, turns_of, all_turns, first_job, statements_begun}
+use Rattle.sno_run.specs.Jobs.{Job, turn_of, turns_of, statements_begun}
 use Rattle.mon_access.specs.declared.account.Account.{Account}
 use Rattle.mon_unit.specs.declared.note.Note.{Note}
 use Rattle.mon_unit.specs.State.{UnitState}
 use Rattle.mon_unit.specs.Serving.{serve}
-use Rattle.mon_unit.specs.Runs.{run, run_cut}
-use Rattle.mon_catalogue.specs.Sets.{Sets}
 use Rattle.mon_job.specs.declared.deck.JobDeck.{JobDeck}
-use Rattle.mon_job.specs.declared.job_end.JobEnd.{JobEnd}
-use Rattle.mon_slots.specs.Floors.{SlotState, Floor, floor, seat_at, with_seat, job_in}
+use Rattle.mon_slots.specs.Floors.{SlotState, seat_at, with_seat}
 use Rattle.mon_slots.specs.Loads.{first_units, with_ties}
-use Rattle.mon_slots.specs.Turns.{reached, after_turn, seat, told, ends_by}
-use Rattle.mon_slots.specs.Marks.{Mark, Marks, mark_of, later, counted, may_break, broken_by, ran_as, turn_as_by, turn_as, Past, nothing, and_then, until}
+use Rattle.mon_slots.specs.Turns.{seat, told}
 use Rattle.mon_monitor.specs.Events.{Event}
-use Rattle.mon_monitor.specs.History.{Exchanged, Entry, Entered, Refused, Asked, Ended, Ordered, asked_by, broken_turn, asked_in, end_entry, turn_entries, entries_until, is_of, own}
-use Rattle.mon_monitor.specs.Headline.{job_in_cards, exchange, exchanges, Follow, spooled, noted, EndsSo, WasRefused, Course, GoesOn, HasEnded, IsJob, job_of}
+use Rattle.mon_monitor.specs.History.{Exchanged, Entry, Entered, Asked, end_entry, is_of, own}
+use Rattle.mon_monitor.specs.Headline.{job_in_cards, exchange, exchanges, Follow, spooled, noted, Course, GoesOn, IsJob, job_of}
 use Rattle.mon_monitor.proofs.Talking.{tells_then, begins_then, begins_first}
-use Rattle.mon_monitor.proofs.Exchanging.{Told, whole_told, cut_told, whole_tells, cut_begins, follow_both}
-use Rattle.mon_monitor.proofs.Seating.{IsSeat, seat_changed, taken_seat, free_seat}
+use Rattle.mon_monitor.proofs.Exchanging.{Told, follow_both}
+use Rattle.mon_monitor.proofs.Seating.{seat_changed, taken_seat}
 
 -- WHOSE ENTRIES
 
