@@ -268,7 +268,7 @@ struct Askers {
     hugo: Account,
 }
 
-fn askers(alloc: Global) -> Option<Askers> {
+fn askers_of(alloc: Global) -> Option<Askers> {
     let anna = account(alloc, (b"anna", b"admin", b""))?;
     let lisa = account(alloc, (b"lisa", b"staff", b""))?;
     let hugo = account(alloc, (b"hugo", b"ops", b"staff"))?;
@@ -318,7 +318,7 @@ fn keeps_and_drops(alloc: Global, desk: &mut Desk, askers: &Askers) -> bool {
 }
 
 fn keeps_rows(alloc: Global) -> bool {
-    match (askers(alloc), payroll(alloc)) {
+    match (askers_of(alloc), payroll(alloc)) {
         (Some(askers), Some(mut desk)) => keeps_and_drops(alloc, &mut desk, &askers),
         _ => false,
     }
