@@ -56,14 +56,14 @@ FILES = {'read': 0, 'write': 1}
 
 @functools.lru_cache(maxsize=None)
 def printed(lines):
-    """What whole lines print."""
-    deck = Deck(Monitor(4))
+    """What whole lines print; with `$STOP` among them that is all, the catalogue too."""
+    deck, end = Deck(Monitor(4)), []
     try:
         for line in lines.split(b'\n')[:-1]:
             deck.take(line[:-1] if line.endswith(b'\r') else line)
     except EOFError:
-        pass
-    return ''.join(line + '\n' for line in deck.monitor.out)
+        end = deck.monitor.catalogue()
+    return ''.join(line + '\n' for line in deck.monitor.out + end)
 
 
 def is_due(data, whole, call, k, most, out):
