@@ -1,6 +1,6 @@
 //! Programs and answers, from the lines of a case.
 use anyhow::{Context, Result};
-use mon_guard::Reason;
+use mon_answer::Reason;
 use mon_text::{Line, LineError, Stop, read_line};
 use sno_ask::Answer;
 use sno_syntax::{Program, parse, statements};

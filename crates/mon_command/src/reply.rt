@@ -4,7 +4,7 @@ ghost use Rattle.mon_command.specs.Replies.{reason_text, reply_text, reply_line}
 
 use crate::printing::{put_entry, put_list_refusal};
 use mon_acl::AclError;
-use mon_guard::Reason;
+use mon_answer::Reason;
 use std::alloc::AllocError;
 
 /// What a command is told in one line: that it is done, or why it is not.

@@ -5,10 +5,10 @@ use Rattle.mon_access.specs.declared.access.Decision.{Decision}
 use Rattle.mon_access.specs.declared.access.Decision.TheVariants as decision
 use Rattle.mon_catalogue.specs.declared.data_set.SetFull.{SetFull}
 use Rattle.mon_catalogue.specs.Writing.{put_refusal}
-use Rattle.mon_guard.specs.declared.answer.Reason.{Reason}
-use Rattle.mon_guard.specs.declared.answer.Reason.TheVariants.{NoSet}
-use Rattle.mon_guard.specs.declared.answer.GuardAnswer.{GuardAnswer}
-use Rattle.mon_guard.specs.declared.answer.GuardAnswer.TheVariants as answer
+use Rattle.mon_answer.specs.declared.answer.Reason.{Reason}
+use Rattle.mon_answer.specs.declared.answer.Reason.TheVariants.{NoSet}
+use Rattle.mon_answer.specs.declared.answer.Answer.{Answer}
+use Rattle.mon_answer.specs.declared.answer.Answer.TheVariants as answer
 use Rattle.mon_guard.specs.Deciding.{decision_on, by_decision}
 use Rattle.mon_guard.specs.Reasons.{reason_of}
 use Rattle.mon_guard.specs.Acting.{Act, Read, Write, End, Acted, asks, done, or_denied, acted_on, acted, only_answered, read_at, written_at}
@@ -32,7 +32,7 @@ left_as_it_was name (named ∷ sets) set = by (pointwise nat_eq name named.0) (l
 pub ruleset changes = (left_as_it_was)
 
 -- what is done is no denial
-abbrev is_denial : GuardAnswer → Bool
+abbrev is_denial : Answer → Bool
 is_denial answer.Done = false
 is_denial (answer.Got line) = false
 is_denial answer.EndOfFile = false

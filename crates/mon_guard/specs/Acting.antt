@@ -8,10 +8,10 @@ use Rattle.mon_catalogue.specs.declared.data_set.SetFull.{SetFull}
 use Rattle.mon_catalogue.specs.Sets.{Sets, find_set}
 use Rattle.mon_catalogue.specs.Changes.{with_changed}
 use Rattle.mon_catalogue.specs.Writing.{Change, Put, Cut, put_at, cut_at, put_refusal, recorded}
-use Rattle.mon_guard.specs.declared.answer.Reason.{Reason}
-use Rattle.mon_guard.specs.declared.answer.Reason.TheVariants as reason
-use Rattle.mon_guard.specs.declared.answer.GuardAnswer.{GuardAnswer}
-use Rattle.mon_guard.specs.declared.answer.GuardAnswer.TheVariants.{Done, Got, EndOfFile, Denied, Full}
+use Rattle.mon_answer.specs.declared.answer.Reason.{Reason}
+use Rattle.mon_answer.specs.declared.answer.Reason.TheVariants as reason
+use Rattle.mon_answer.specs.declared.answer.Answer.{Answer}
+use Rattle.mon_answer.specs.declared.answer.Answer.TheVariants.{Done, Got, EndOfFile, Denied, Full}
 use Rattle.mon_guard.specs.declared.answer.Answered.{Answered}
 use Rattle.mon_guard.specs.Deciding.{to_read, to_write, where_granted}
 
@@ -22,12 +22,12 @@ pub data Act : Type 0 where
 
 -- what an act comes to: its answer, where the position moves to, and what is done to the records
 pub record Acted : Type 0 where
-  pub answer : GuardAnswer
+  pub answer : Answer
   pub position : Option ℕ
   pub change : Option Change
 
 -- nothing moves and nothing changes
-abbrev pub only_answered : GuardAnswer → Acted
+abbrev pub only_answered : Answer → Acted
 only_answered answer = record { answer = answer; position = None; change = None }
 
 -- the record at the position, which then is the next one's

@@ -5,8 +5,8 @@ use Rattle.mon_acl.specs.declared.entries.Tag.TheVariants as tag
 use Rattle.mon_acl.specs.declared.entries.Entry.{Entry}
 use Rattle.mon_access.specs.declared.access.Decider.{Decider}
 use Rattle.mon_access.specs.declared.access.Decider.TheVariants as decider
-use Rattle.mon_guard.specs.declared.answer.Reason.{Reason}
-use Rattle.mon_guard.specs.declared.answer.Reason.TheVariants.{By}
+use Rattle.mon_answer.specs.declared.answer.Reason.{Reason}
+use Rattle.mon_answer.specs.declared.answer.Reason.TheVariants.{By}
 
 -- what is named of an entry; where there is none, the type alone
 abbrev pub reason_at : Tag → Option Entry → Reason

@@ -6,7 +6,7 @@ ghost use Rattle.mon_acl.specs.Forms.{MayTakeMemory};
 ghost use Rattle.mon_access.specs.Matches.{is_owner};
 ghost use Rattle.mon_catalogue.specs.Sets.{create_refusal, find_set};
 ghost use Rattle.mon_catalogue.specs.Changes.{with_acl};
-ghost use Rattle.mon_guard.specs.declared.answer.Reason.{Reason};
+ghost use Rattle.mon_answer.specs.declared.answer.Reason.{Reason};
 ghost use Rattle.mon_guard.specs.Deciding.{to_read, to_write, to_execute, decision_on, decided, where_granted};
 ghost use Rattle.mon_guard.specs.Lending.{records_lent, acl_lent, name_lent};
 ghost use Rattle.mon_guard.specs.Owning.{owner_denial, removed, acl_set, created, new_list};
@@ -14,11 +14,12 @@ ghost use Rattle.mon_guard.specs.Acting.{Read, Write, End, acted, changed, told,
 ghost use Rattle.mon_guard.specs.inner.Judging.{acted_by, set_after};
 ghost use Rattle.mon_guard.specs.Answers.{guard_answer, acl_answer};
 
-use crate::answer::{AclAnswer, Answered, Decided, GuardAnswer, Reason};
+use crate::answer::{AclAnswer, Answered, Decided, guard_answer, reason_of};
 use crate::rows::Rows;
 use crate::shown::{ShownAcl, ShownName};
 use mon_access::{Account, Decision, check, is_one};
 use mon_acl::{Acl, AclError, AclText, Perms};
+use mon_answer::{Answer, Reason};
 use mon_catalogue::{
     Catalogue, CreateError, DataSet, MOST_RECORD_CHARACTERS, NoSet, Records, SetFull,
 };
@@ -181,12 +182,12 @@ impl Guard {
     }
 
     /// Whether a set's permission list is shown to an account: it is `Done` for the owner, and where x is granted.
-    pub fn show(&self, account: &Account, catalogue: &Catalogue, name: &Name) -> GuardAnswer
+    pub fn show(&self, account: &Account, catalogue: &Catalogue, name: &Name) -> Answer
         ensures { result ≡ guard_answer (acl_lent account.now catalogue.now name.now) }
     {
         match self.acl(account, catalogue, name) {
-            Ok(_) => GuardAnswer::Done,
-            Err(reason) => GuardAnswer::Denied(reason),
+            Ok(_) => Answer::Done,
+            Err(reason) => Answer::Denied(reason),
         }
     }
 
@@ -242,17 +243,17 @@ impl Guard {
         catalogue: &mut Catalogue,
         name: &Name,
         text: &AclText,
-    ) -> Result<GuardAnswer, Stop<AclError>>
+    ) -> Result<Answer, Stop<AclError>>
         ensures answer { Gives (λ answer. answer) result (acl_answer (acl_set account.now catalogue.old name.now text.now).0) }
         ensures sets { OnOk result (catalogue.new ≡ (acl_set account.now catalogue.old name.now text.now).1) }
         ensures unchanged { OnErr result (catalogue.new ≡ catalogue.old) }
-        ensures denied { (reason : Reason) → (result ≡ Ok (GuardAnswer.Denied reason)) ↔ (owner_denial account.now catalogue.old name.now ≡ Some reason) }
+        ensures denied { (reason : Reason) → (result ≡ Ok (Answer.Denied reason)) ↔ (owner_denial account.now catalogue.old name.now ≡ Some reason) }
         ensures memory { IsErrOf result Stop.Memory → MayTakeMemory text.now }
         ensures fit { RowsFit self.old catalogue.old → RowsFit self.new catalogue.new }
     {
         match self.try_set_acl(alloc, account, catalogue, name, text) {
-            Ok(AclAnswer::Done) => Ok(GuardAnswer::Done),
-            Ok(AclAnswer::Denied(reason)) => Ok(GuardAnswer::Denied(reason)),
+            Ok(AclAnswer::Done) => Ok(Answer::Done),
+            Ok(AclAnswer::Denied(reason)) => Ok(Answer::Denied(reason)),
             Ok(AclAnswer::BadList(error)) => Err(Stop::Refused(error)),
             Err(AllocError) => Err(Stop::Memory),
         }
@@ -287,17 +288,12 @@ impl Guard {
     }
 
     /// Takes a set out of the catalogue, as `try_remove` does.
-    pub fn remove(
-        &mut self,
-        account: &Account,
-        catalogue: &mut Catalogue,
-        name: &Name,
-    ) -> GuardAnswer
+    pub fn remove(&mut self, account: &Account, catalogue: &mut Catalogue, name: &Name) -> Answer
         ensures answer { result ≡ guard_answer (removed account.now catalogue.old name.now).0 }
         ensures sets { catalogue.new ≡ (removed account.now catalogue.old name.now).1 }
         ensures fit { RowsFit self.old catalogue.old → RowsFit self.new catalogue.new }
     {
-        GuardAnswer::of(self.try_remove(account, catalogue, name))
+        guard_answer(self.try_remove(account, catalogue, name))
     }
 
     /// Reads the record at a position, counted from 0, of the set of a name, where r is granted on it. The position is then
@@ -477,12 +473,12 @@ fn read_at(alloc: Global, records: &Records, position: u64) -> Result<Answered, 
         Some(line) => {
             let line = line.copy(alloc)?;
             Ok(Answered {
-                answer: GuardAnswer::Got(line),
+                answer: Answer::Got(line),
                 position: position + 1,
             })
         }
         None => Ok(Answered {
-            answer: GuardAnswer::EndOfFile,
+            answer: Answer::EndOfFile,
             position,
         }),
     }
@@ -500,7 +496,7 @@ fn read_by(
 {
     match decision {
         Decision::Granted => read_at(alloc, &set.records, position),
-        Decision::Denied(decider) => Ok(Answered::denied(Reason::of(decider, &set.acl), position)),
+        Decision::Denied(decider) => Ok(Answered::denied(reason_of(decider, &set.acl), position)),
     }
 }
 
@@ -523,7 +519,7 @@ fn write_by(
             Err(Stop::Refused(SetFull)) => Ok(Answered::full(position)),
             Err(Stop::Memory) => Err(AllocError),
         },
-        Decision::Denied(decider) => Ok(Answered::denied(Reason::of(decider, &set.acl), position)),
+        Decision::Denied(decider) => Ok(Answered::denied(reason_of(decider, &set.acl), position)),
     }
 }
 
@@ -537,7 +533,7 @@ fn end_by(decision: Decision, set: &mut DataSet, position: u64) -> Answered
             set.cut_at(position);
             Answered::done(set.records.len())
         }
-        Decision::Denied(decider) => { Answered::denied(Reason::of(decider, &set.acl), position) }
+        Decision::Denied(decider) => { Answered::denied(reason_of(decider, &set.acl), position) }
     }
 }
 
@@ -554,7 +550,7 @@ fn permit(account: &Account, set: &DataSet, request: Perms) -> Result<(), Reason
 {
     match decision_on(account, set, request) {
         Decision::Granted => Ok(()),
-        Decision::Denied(decider) => Err(Reason::of(decider, &set.acl)),
+        Decision::Denied(decider) => Err(reason_of(decider, &set.acl)),
     }
 }
 

@@ -11,8 +11,9 @@ pub mod laws;
 pub mod rows;
 pub mod shown;
 
-pub use answer::{AclAnswer, Answered, Decided, GuardAnswer, Reason};
+pub use answer::{AclAnswer, Answered, Decided};
 pub use guard::Guard;
 pub use mon_acl::AclText;
+pub use mon_answer::{Answer as GuardAnswer, Reason};
 pub use rows::{MOST_ROWS, Row};
 pub use shown::{ShownAcl, ShownName};

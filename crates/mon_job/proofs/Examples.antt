@@ -6,7 +6,7 @@ use Rattle.sno_text.specs.declared.fault.Fault.TheVariants.{Arithmetic}
 use Rattle.sno_cards.specs.declared.refusal.SyntaxCode.TheVariants.{BadConstant}
 use Rattle.sno_run.specs.declared.ending.Ending.TheVariants.{Normal, MatchLimit, Fault}
 use Rattle.mon_acl.specs.declared.entries.Tag.TheVariants.{Mask}
-use Rattle.mon_guard.specs.declared.answer.Reason.TheVariants.{By, NoSet, NoUnit}
+use Rattle.mon_answer.specs.declared.answer.Reason.TheVariants.{By, NoSet, NoUnit}
 use Rattle.mon_unit.specs.declared.note.NoteAct.TheVariants.{Read, Write}
 use Rattle.mon_unit.specs.declared.note.NoteTarget.TheVariants as target
 use Rattle.mon_unit.specs.declared.note.Why.TheVariants.{Denied, Full}

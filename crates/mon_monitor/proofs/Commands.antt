@@ -21,8 +21,8 @@ use Rattle.mon_catalogue.specs.declared.catalogue.CreateError.TheVariants.{NameT
 use Rattle.mon_catalogue.specs.Sets.{Sets, find_set, NamesDiffer, create_refusal}
 use Rattle.mon_catalogue.specs.Changes.{without_set, with_acl, listed}
 use Rattle.mon_catalogue.proofs.Changed.{other_sets_stay, named_set_changes, order_stays}
-use Rattle.mon_guard.specs.declared.answer.Reason.{Reason}
-use Rattle.mon_guard.specs.declared.answer.Reason.TheVariants.{NoSet, NotOwner}
+use Rattle.mon_answer.specs.declared.answer.Reason.{Reason}
+use Rattle.mon_answer.specs.declared.answer.Reason.TheVariants.{NoSet, NotOwner}
 use Rattle.mon_guard.specs.Deciding.{to_read, to_execute, decision_on, is_granted, by_decision, where_granted, may_be_shown}
 use Rattle.mon_guard.specs.Lending.{AclPart, NamePart, acl_part, name_part, records_of, acl_of, names_shown, names_lent}
 use Rattle.mon_guard.specs.Owning.{owner_denial_of, removed_unless, given, acl_set_unless, new_set, created_unless}

@@ -11,15 +11,15 @@ use Rattle.mon_catalogue.specs.declared.data_set.DataSet.{DataSet}
 use Rattle.mon_catalogue.specs.Sets.{Sets, find_set}
 use Rattle.mon_catalogue.specs.Writing.{Change, Put, Cut, put_refusal, recorded}
 use Rattle.mon_catalogue.proofs.Changed.{named_set_changes}
-use Rattle.mon_guard.specs.declared.answer.GuardAnswer.TheVariants.{Denied}
+use Rattle.mon_answer.specs.declared.answer.Answer.TheVariants.{Denied}
 use Rattle.mon_guard.specs.Reasons.{reason_of}
 use Rattle.mon_guard.specs.Deciding.{to_read, to_write, decision_on, is_granted, by_decision}
 use Rattle.mon_guard.specs.Acting.{Acted, only_answered, read_at, written_at, ended_at, or_denied, changed}
 use Rattle.sno_ask.specs.declared.request.Act.{Act}
 use Rattle.sno_ask.specs.declared.request.Act.TheVariants.{Read, Write, Endfile, Rewind}
 use Rattle.sno_ask.specs.declared.request.Request.{Request}
-use Rattle.sno_ask.specs.declared.answer.Answer.{Answer}
-use Rattle.sno_ask.specs.declared.answer.Answer.TheVariants as answer
+use Rattle.mon_answer.specs.declared.answer.Answer.{Answer}
+use Rattle.mon_answer.specs.declared.answer.Answer.TheVariants as answer
 use Rattle.mon_unit.specs.declared.tie.Target.{Target}
 use Rattle.mon_unit.specs.declared.tie.Target.TheVariants.{Untied, Data, Spool, Set}
 use Rattle.mon_unit.specs.declared.tie.Tie.{Tie}
@@ -27,7 +27,7 @@ use Rattle.mon_unit.specs.declared.note.NoteAct.{NoteAct}
 use Rattle.mon_unit.specs.declared.note.NoteTarget.{NoteTarget}
 use Rattle.mon_unit.specs.State.{UnitState}
 use Rattle.mon_unit.specs.Tying.{or_untied, tie_at}
-use Rattle.mon_unit.specs.Serving.{Reach, unit_of, note_act, note_target, noted, moved, spooled, on_set, acted_at, answer_of, Effect, effect_of, set_at, set_of, looked, changed_at, effect, serve}
+use Rattle.mon_unit.specs.Serving.{Reach, unit_of, note_act, note_target, noted, moved, spooled, on_set, acted_at, Effect, effect_of, set_at, set_of, looked, changed_at, effect, serve}
 use Rattle.mon_unit.specs.Laws.{Same}
 use Rattle.mon_unit.proofs.Looks.{serve_alike}
 use Rattle.mon_monitor.specs.Agreeing.{LooksAlike, Both, TiesFit}
@@ -265,7 +265,7 @@ moved_ties u (Some p) units = refl
 
 effect_ties : (q : Request) (target : Target) (units : UnitState) (x : Acted) → (effect_of q target units x).units.ties ≡ placed (unit_of q.act) x.position units.ties
 effect_ties q target units x =
-    noted_ties q.statement (note_act q.act) (note_target (unit_of q.act) target) (answer_of x.answer) (moved (unit_of q.act) x.position (spooled q.act target units))
+    noted_ties q.statement (note_act q.act) (note_target (unit_of q.act) target) x.answer (moved (unit_of q.act) x.position (spooled q.act target units))
     ∙ moved_ties (unit_of q.act) x.position (spooled q.act target units)
     ∙ ap (placed (unit_of q.act) x.position) (spooled_ties q.act target units)
 

@@ -5,7 +5,7 @@ use Rattle.sno_talk.specs.Talks.{Talk, Ends, Asks, ◌>>=◌}
 use Rattle.sno_talk.specs.Endings.{EndsIn}
 use Rattle.sno_talk.proofs.Enough.{ends_in_then, each_ends}
 use Rattle.sno_ask.specs.declared.request.Request.{Request}
-use Rattle.sno_ask.specs.declared.answer.Answer.{Answer}
+use Rattle.mon_answer.specs.declared.answer.Answer.{Answer}
 use Rattle.sno_ask.specs.Asking.{Asking}
 use Rattle.sno_expression.specs.Expressions.{Expression}
 use Rattle.sno_store.specs.declared.store.Store.{Store as State}

@@ -6,24 +6,23 @@ use Rattle.mon_access.specs.declared.access.Decision.TheVariants as decision
 use Rattle.mon_catalogue.specs.declared.data_set.DataSet.{DataSet}
 use Rattle.mon_catalogue.specs.declared.data_set.SetFull.{SetFull}
 use Rattle.mon_catalogue.specs.Writing.{Change, put_refusal}
-use Rattle.mon_guard.specs.declared.answer.Reason.{Reason}
-use Rattle.mon_guard.specs.declared.answer.Reason.TheVariants.{NoSet, NoUnit, InStream, SpoolUnit}
-use Rattle.mon_guard.specs.declared.answer.GuardAnswer.TheVariants as guard
+use Rattle.mon_answer.specs.declared.answer.Reason.{Reason}
+use Rattle.mon_answer.specs.declared.answer.Reason.TheVariants.{NoSet, NoUnit, InStream, SpoolUnit}
 use Rattle.mon_guard.specs.Deciding.{decision_on, by_decision}
 use Rattle.mon_guard.specs.Reasons.{reason_of}
 use Rattle.mon_guard.specs.Acting as acting
 use Rattle.mon_guard.specs.Acting.{Acted, only_answered, read_at, written_at, asks, done, or_denied, acted_on}
 use Rattle.sno_ask.specs.declared.request.Act.{Act}
 use Rattle.sno_ask.specs.declared.request.Act.TheVariants.{Read, Write, Endfile, Rewind}
-use Rattle.sno_ask.specs.declared.answer.Answer.TheVariants as answer
+use Rattle.mon_answer.specs.declared.answer.Answer.TheVariants as answer
 use Rattle.mon_unit.specs.declared.tie.Target.{Target}
 use Rattle.mon_unit.specs.declared.tie.Target.TheVariants.{Untied, Data, Spool, Set}
 use Rattle.mon_unit.specs.State.{UnitState}
-use Rattle.mon_unit.specs.Serving.{answer_of, acted_at}
+use Rattle.mon_unit.specs.Serving.{acted_at}
 
 -- it is denied, or what is granted is done
 pub acted_cases : (P : Acted → Type 0) (account : Account) (act : acting.Act)
-    → ((reason : Reason) → P (only_answered (guard.Denied reason))) → ((records : List (List ℕ)) → P (done act records))
+    → ((reason : Reason) → P (only_answered (answer.Denied reason))) → ((records : List (List ℕ)) → P (done act records))
     → (set : Option DataSet) → P (acted_on account act set)
 acted_cases P account act denied doing None = denied NoSet
 acted_cases P account act denied doing (Some set) = by (decision_on account set (asks act))
@@ -34,10 +33,10 @@ acted_cases P account act denied doing (Some set) = by (decision_on account set 
 
 -- what anything done can come to
 pub record Outcomes (P : Acted → Type 0) : Type 0 where
-  pub past : P (only_answered guard.EndOfFile)
-  pub full : P (only_answered guard.Full)
-  pub got : (line : List ℕ) (position : ℕ) → P (record { answer = guard.Got line; position = Some position; change = None })
-  pub changes : (position : ℕ) (change : Change) → P (record { answer = guard.Done; position = Some position; change = Some change })
+  pub past : P (only_answered answer.EndOfFile)
+  pub full : P (only_answered answer.Full)
+  pub got : (line : List ℕ) (position : ℕ) → P (record { answer = answer.Got line; position = Some position; change = None })
+  pub changes : (position : ℕ) (change : Change) → P (record { answer = answer.Done; position = Some position; change = Some change })
 
 pub done_cases : (P : Acted → Type 0) → Outcomes P → (act : acting.Act) (records : List (List ℕ)) → P (done act records)
 done_cases P all (acting.Read p) records = by (slice_get records p)
@@ -54,27 +53,27 @@ done_cases P all (acting.End p) records = all.changes _ _
 
 -- what is denied, what has no room and what is past the end comes to nothing else
 pub record IsPlain (a : Acted) : Type 0 where
-  pub denied : (reason : Reason) → answer_of a.answer ≡ answer.Denied reason → a ≡ only_answered (guard.Denied reason)
-  pub full : answer_of a.answer ≡ answer.Full → a ≡ only_answered guard.Full
-  pub past : answer_of a.answer ≡ answer.EndOfFile → a ≡ only_answered guard.EndOfFile
+  pub denied : (reason : Reason) → a.answer ≡ answer.Denied reason → a ≡ only_answered (answer.Denied reason)
+  pub full : a.answer ≡ answer.Full → a ≡ only_answered answer.Full
+  pub past : a.answer ≡ answer.EndOfFile → a ≡ only_answered answer.EndOfFile
 
-plain_denied : (why : Reason) → IsPlain (only_answered (guard.Denied why))
+plain_denied : (why : Reason) → IsPlain (only_answered (answer.Denied why))
 plain_denied why = record {
-  denied = λ reason h. ap (λ (r : Reason). only_answered (guard.Denied r)) (cc (h));
+  denied = λ reason h. ap (λ (r : Reason). only_answered (answer.Denied r)) (cc (h));
   full = λ h. absurd cc;
   past = λ h. absurd cc;
 }
 
-plain_full : IsPlain (only_answered guard.Full)
+plain_full : IsPlain (only_answered answer.Full)
 plain_full = record { denied = λ reason h. absurd cc; full = λ h. refl; past = λ h. absurd cc }
 
-plain_past : IsPlain (only_answered guard.EndOfFile)
+plain_past : IsPlain (only_answered answer.EndOfFile)
 plain_past = record { denied = λ reason h. absurd cc; full = λ h. absurd cc; past = λ h. refl }
 
-plain_got : (line : List ℕ) (position : ℕ) → IsPlain (record { answer = guard.Got line; position = Some position; change = None })
+plain_got : (line : List ℕ) (position : ℕ) → IsPlain (record { answer = answer.Got line; position = Some position; change = None })
 plain_got line position = record { denied = λ reason h. absurd cc; full = λ h. absurd cc; past = λ h. absurd cc }
 
-plain_done : (position : Option ℕ) (change : Option Change) → IsPlain (record { answer = guard.Done; position = position; change = change })
+plain_done : (position : Option ℕ) (change : Option Change) → IsPlain (record { answer = answer.Done; position = position; change = change })
 plain_done position change = record { denied = λ reason h. absurd cc; full = λ h. absurd cc; past = λ h. absurd cc }
 
 plain_on : (account : Account) (act : acting.Act) (set : Option DataSet) → IsPlain (acted_on account act set)

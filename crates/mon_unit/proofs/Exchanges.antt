@@ -7,9 +7,8 @@ use Rattle.mon_catalogue.specs.declared.data_set.DataSet.{DataSet}
 use Rattle.mon_catalogue.specs.declared.data_set.SetFull.{SetFull}
 use Rattle.mon_catalogue.specs.Sets.{Sets, find_set}
 use Rattle.mon_catalogue.specs.Writing.{Change, Put, Cut, put_refusal}
-use Rattle.mon_guard.specs.declared.answer.Reason.{Reason}
-use Rattle.mon_guard.specs.declared.answer.Reason.TheVariants.{NoUnit, InStream, SpoolUnit}
-use Rattle.mon_guard.specs.declared.answer.GuardAnswer.TheVariants as guard
+use Rattle.mon_answer.specs.declared.answer.Reason.{Reason}
+use Rattle.mon_answer.specs.declared.answer.Reason.TheVariants.{NoUnit, InStream, SpoolUnit}
 use Rattle.mon_guard.specs.Deciding.{decision_on, by_decision, to_write}
 use Rattle.mon_guard.specs.Acting as acting
 use Rattle.mon_guard.specs.Acting.{Acted, only_answered, read_at, written_at, ended_at, or_denied, acted_on, acted, changed}
@@ -17,11 +16,11 @@ use Rattle.mon_guard.specs.Laws.{IsThere, IsGranted, WhyNotAct}
 use Rattle.mon_guard.proofs.Acting.{acts_where_granted}
 use Rattle.sno_ask.specs.declared.request.Act.{Act}
 use Rattle.sno_ask.specs.declared.request.Act.TheVariants.{Read, Write, Endfile, Rewind}
-use Rattle.sno_ask.specs.declared.answer.Answer.TheVariants.{Done, Denied}
+use Rattle.mon_answer.specs.declared.answer.Answer.TheVariants.{Done, Denied}
 use Rattle.mon_unit.specs.declared.tie.Target.{Target}
 use Rattle.mon_unit.specs.declared.tie.Target.TheVariants.{Untied, Data, Spool, Set}
 use Rattle.mon_unit.specs.State.{UnitState}
-use Rattle.mon_unit.specs.Serving.{answer_of, acted_at, set_at, looked, changed_at}
+use Rattle.mon_unit.specs.Serving.{acted_at, set_at, looked, changed_at}
 use Rattle.mon_unit.specs.Laws.{AsksChange, AsksGuard, IsOfData, IsOfSpool, ChangedWhereGranted, DenialsSayWhy, target_of, position_of}
 use Rattle.mon_unit.proofs.Acting.{acted_cases, is_plain}
 
@@ -39,7 +38,7 @@ module _ (account : Account) (units : UnitState) (sets : Sets) (p : ℕ) where
       × IsThere name sets set × IsGranted account set to_write × AsksChange act p set.records change
 
   abbrev Made : Act → Target → List ℕ → Change → Type 0
-  Made act target name change = (answer_of (came act target).answer ≡ Done) × (after act target ≡ changed name (Some change) sets)
+  Made act target name change = ((came act target).answer ≡ Done) × (after act target ≡ changed name (Some change) sets)
 
   -- what is granted is what is done
   granted_is : (act : acting.Act) (name : List ℕ) (set : DataSet) → IsThere name sets set → IsGranted account set (acting.asks act)
@@ -47,9 +46,9 @@ module _ (account : Account) (units : UnitState) (sets : Sets) (p : ℕ) where
   granted_is act name set there granted = (acts_where_granted account act sets name).done_where set there granted
 
   made_by : (act : Act) (name : List ℕ) (change : Change) (position : Option ℕ) → set_at act (Set name) ≡ Some name
-      → came act (Set name) ≡ record { answer = guard.Done; position = position; change = Some change } → Made act (Set name) name change
+      → came act (Set name) ≡ record { answer = Done; position = position; change = Some change } → Made act (Set name) name change
   made_by act name change position looks e = (
-    ap (λ (a : Acted). answer_of a.answer) e,
+    ap (λ (a : Acted). a.answer) e,
     ap (λ (a : Acted). changed_at (set_at act (Set name)) a.change sets) e ∙ ap (λ (o : Option (List ℕ)). changed_at o (Some change) sets) looks,
   )
 
@@ -128,12 +127,12 @@ module _ (account : Account) (units : UnitState) (sets : Sets) (p : ℕ) where
       ⊎ ((name : List ℕ) × (a : acting.Act) × (target ≡ Set name) × AsksGuard act p a × WhyNotAct account a sets name reason)))
 
   abbrev IsDenied : Act → Target → Reason → Type 0
-  IsDenied act target reason = answer_of (came act target).answer ≡ Denied reason
+  IsDenied act target reason = (came act target).answer ≡ Denied reason
 
   same_reason : (one other : Reason) → Denied one ≡ Denied other → other ≡ one
   same_reason one other h = cc (h)
 
-  read_is_none : (reason : Reason) (o : Option (List ℕ)) → ¬ (answer_of (read_at p o).answer ≡ Denied reason)
+  read_is_none : (reason : Reason) (o : Option (List ℕ)) → ¬ ((read_at p o).answer ≡ Denied reason)
   read_is_none reason None h = absurd cc
   read_is_none reason (Some line) h = absurd cc
 
@@ -177,11 +176,11 @@ module _ (account : Account) (units : UnitState) (sets : Sets) (p : ℕ) where
   on_the_spool (Rewind u) never = absurd (never tt)
 
   abbrev Answers : List ℕ → Reason → acting.Act → Type 0
-  Answers name reason b = answer_of (acted account b sets name).answer ≡ Denied reason
+  Answers name reason b = (acted account b sets name).answer ≡ Denied reason
 
   on_the_set : (act : Act) (name : List ℕ) (reason : Reason) (a : acting.Act) → AsksGuard act p a → WhyNotAct account a sets name reason
       → IsDenied act (Set name) reason
-  on_the_set act name reason a asks never = by act asks (ap (λ (x : Acted). answer_of x.answer) (((acts_where_granted account a sets name).denied_where reason).1 never))
+  on_the_set act name reason a asks never = by act asks (ap (λ (x : Acted). x.answer) (((acts_where_granted account a sets name).denied_where reason).1 never))
     where
       by : (act : Act) → AsksGuard act p a → Answers name reason a → IsDenied act (Set name) reason
       by (Read u) is h = subst (Answers name reason) is h

@@ -3,7 +3,7 @@ use Rattle.std.proofs.Common.{◌≡◌, List, [], ◌∷◌, length, sym, ap, �
 use Rattle.sno_talk.specs.Talks.{Ends, Asks}
 use Rattle.sno_talk.specs.Exchanges.{Answered}
 use Rattle.sno_ask.specs.declared.request.Request.{Request}
-use Rattle.sno_ask.specs.declared.answer.Answer.{Answer}
+use Rattle.mon_answer.specs.declared.answer.Answer.{Answer}
 use Rattle.sno_ask.specs.Asking.{Asking, Exchange, Tells, Begins}
 use Rattle.mon_access.specs.declared.account.Account.{Account}
 use Rattle.mon_unit.specs.declared.service.UnitService.{UnitService}

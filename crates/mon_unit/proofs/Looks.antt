@@ -13,9 +13,9 @@ use Rattle.mon_catalogue.proofs.Changed.{other_sets_stay, named_set_changes, ord
 use Rattle.sno_ask.specs.declared.request.Act.{Act}
 use Rattle.sno_ask.specs.declared.request.Act.TheVariants.{Read, Write, Endfile, Rewind}
 use Rattle.sno_ask.specs.declared.request.Request.{Request}
-use Rattle.sno_ask.specs.declared.answer.Answer.{Answer}
+use Rattle.mon_answer.specs.declared.answer.Answer.{Answer}
 use Rattle.sno_ask.specs.Asking.{Asking}
-use Rattle.sno_ask.specs.declared.answer.Answer.TheVariants.{Done, Got, EndOfFile, Denied, Full}
+use Rattle.mon_answer.specs.declared.answer.Answer.TheVariants.{Done, Got, EndOfFile, Denied, Full}
 use Rattle.mon_unit.specs.declared.tie.Target.{Target}
 use Rattle.mon_unit.specs.declared.tie.Target.TheVariants.{Untied, Data, Spool, Set}
 use Rattle.mon_unit.specs.declared.tie.Tie.{Tie}
@@ -23,7 +23,7 @@ use Rattle.mon_unit.specs.declared.note.NoteAct.{NoteAct}
 use Rattle.mon_unit.specs.declared.note.NoteTarget.{NoteTarget}
 use Rattle.mon_unit.specs.State.{UnitState}
 use Rattle.mon_unit.specs.Tying.{or_untied, tie_at}
-use Rattle.mon_unit.specs.Serving.{Reach, unit_of, note_act, note_target, acted_at, answer_of, noted, moved, spooled, Effect, set_at, set_of, looked, changed_at, effect, serve}
+use Rattle.mon_unit.specs.Serving.{Reach, unit_of, note_act, note_target, acted_at, noted, moved, spooled, Effect, set_at, set_of, looked, changed_at, effect, serve}
 use Rattle.mon_unit.specs.Runs.{run, run_cut}
 use Rattle.mon_unit.specs.Laws.{targets, TiedTo, Same, LooksOnce, OneLook, OneChange, KeepsToTies}
 use Rattle.mon_unit.proofs.Runs.{run_keeps, run_cut_keeps}
@@ -128,7 +128,7 @@ targets_stay account reach q =
     let position = (tie_at reach.units (unit_of q.act)).position in
     let a = acted_at account q.act reach.units position target (looked (set_of reach.units q) reach.sets) in
     let spooled = spooled q.act target reach.units in
-    note_stays q.statement (note_act q.act) (note_target (unit_of q.act) target) (answer_of a.answer) (moved (unit_of q.act) a.position spooled)
+    note_stays q.statement (note_act q.act) (note_target (unit_of q.act) target) a.answer (moved (unit_of q.act) a.position spooled)
     ∙ move_stays (unit_of q.act) a.position spooled ∙ spool_stays q.act target reach.units
 
 -- so a whole talk keeps to them

@@ -5,8 +5,8 @@ use Rattle.mon_access.specs.declared.account.Account.{Account}
 use Rattle.mon_catalogue.specs.declared.data_set.DataSet.{DataSet}
 use Rattle.mon_catalogue.specs.Sets.{Sets, find_set}
 use Rattle.mon_catalogue.specs.Writing.{Change, Put, Cut, put_refusal}
-use Rattle.mon_guard.specs.declared.answer.Reason.{Reason}
-use Rattle.mon_guard.specs.declared.answer.Reason.TheVariants.{NoUnit, InStream, SpoolUnit}
+use Rattle.mon_answer.specs.declared.answer.Reason.{Reason}
+use Rattle.mon_answer.specs.declared.answer.Reason.TheVariants.{NoUnit, InStream, SpoolUnit}
 use Rattle.mon_guard.specs.Acting as acting
 use Rattle.mon_guard.specs.Acting.{changed}
 use Rattle.mon_guard.specs.Deciding.{to_read, to_write}
@@ -14,7 +14,7 @@ use Rattle.mon_guard.specs.Laws.{IsThere, IsGranted, WhyNotAct}
 use Rattle.sno_ask.specs.declared.request.Act.{Act}
 use Rattle.sno_ask.specs.declared.request.Act.TheVariants.{Read, Write, Endfile, Rewind}
 use Rattle.sno_ask.specs.declared.request.Request.{Request}
-use Rattle.sno_ask.specs.declared.answer.Answer.TheVariants.{Done, Got, EndOfFile, Denied, Full}
+use Rattle.mon_answer.specs.declared.answer.Answer.TheVariants.{Done, Got, EndOfFile, Denied, Full}
 use Rattle.sno_ask.specs.Asking.{Asking}
 use Rattle.mon_unit.specs.declared.tie.Target.{Target}
 use Rattle.mon_unit.specs.declared.tie.Target.TheVariants.{Untied, Data, Spool, Set}

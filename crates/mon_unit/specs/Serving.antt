@@ -4,16 +4,14 @@ use Rattle.mon_access.specs.declared.account.Account.{Account}
 use Rattle.mon_catalogue.specs.declared.data_set.DataSet.{DataSet}
 use Rattle.mon_catalogue.specs.Sets.{Sets, find_set}
 use Rattle.mon_catalogue.specs.Writing.{Change}
-use Rattle.mon_guard.specs.declared.answer.Reason.TheVariants.{NoUnit, InStream, SpoolUnit}
-use Rattle.mon_guard.specs.declared.answer.GuardAnswer.{GuardAnswer}
-use Rattle.mon_guard.specs.declared.answer.GuardAnswer.TheVariants as guard
+use Rattle.mon_answer.specs.declared.answer.Reason.TheVariants.{NoUnit, InStream, SpoolUnit}
+use Rattle.mon_answer.specs.declared.answer.Answer.{Answer}
+use Rattle.mon_answer.specs.declared.answer.Answer.TheVariants.{Done, Got, EndOfFile, Denied, Full}
 use Rattle.mon_guard.specs.Acting as acting
 use Rattle.mon_guard.specs.Acting.{Acted, only_answered, read_at, acted_on, changed}
 use Rattle.sno_ask.specs.declared.request.Act.{Act}
 use Rattle.sno_ask.specs.declared.request.Act.TheVariants.{Read, Write, Endfile, Rewind}
 use Rattle.sno_ask.specs.declared.request.Request.{Request}
-use Rattle.sno_ask.specs.declared.answer.Answer.{Answer}
-use Rattle.sno_ask.specs.declared.answer.Answer.TheVariants.{Done, Got, EndOfFile, Denied, Full}
 use Rattle.mon_unit.specs.declared.tie.Target.{Target}
 use Rattle.mon_unit.specs.declared.tie.Target.TheVariants.{Untied, Data, Spool, Set}
 use Rattle.mon_unit.specs.declared.tie.Tie.{Tie}
@@ -78,21 +76,21 @@ spooled (Rewind u) target units = units
 
 -- back to the first record
 abbrev pub rewound : Acted
-rewound = record { answer = guard.Done; position = Some 0; change = None }
+rewound = record { answer = Done; position = Some 0; change = None }
 
 -- the deck's data are read alone
 abbrev pub on_data : Act → ℕ → List (List ℕ) → Acted
 on_data (Read u) position deck = read_at position (slice_get deck position)
-on_data (Write u line) position deck = only_answered (guard.Denied InStream)
-on_data (Endfile u) position deck = only_answered (guard.Denied InStream)
+on_data (Write u line) position deck = only_answered (Denied InStream)
+on_data (Endfile u) position deck = only_answered (Denied InStream)
 on_data (Rewind u) position deck = rewound
 
 -- the spool is written alone
 abbrev pub on_spool : Act → Acted
-on_spool (Read u) = only_answered (guard.Denied SpoolUnit)
-on_spool (Write u line) = only_answered guard.Done
-on_spool (Endfile u) = only_answered (guard.Denied SpoolUnit)
-on_spool (Rewind u) = only_answered guard.Done
+on_spool (Read u) = only_answered (Denied SpoolUnit)
+on_spool (Write u line) = only_answered Done
+on_spool (Endfile u) = only_answered (Denied SpoolUnit)
+on_spool (Rewind u) = only_answered Done
 
 -- a data set is asked for by the guard; to go back it isn't looked up
 abbrev pub on_set : Account → Act → ℕ → Option DataSet → Acted
@@ -103,18 +101,10 @@ on_set account (Rewind u) position set = rewound
 
 -- what an act comes to, by what its unit is tied to
 abbrev pub acted_at : Account → Act → UnitState → ℕ → Target → Option DataSet → Acted
-acted_at account act units position Untied set = only_answered (guard.Denied NoUnit)
+acted_at account act units position Untied set = only_answered (Denied NoUnit)
 acted_at account act units position Data set = on_data act position units.deck
 acted_at account act units position Spool set = on_spool act
 acted_at account act units position (Set name) set = on_set account act position set
-
--- the guard's answer, as programs see it
-abbrev pub answer_of : GuardAnswer → Answer
-answer_of guard.Done = Done
-answer_of (guard.Got line) = Got line
-answer_of guard.EndOfFile = EndOfFile
-answer_of (guard.Denied reason) = Denied reason
-answer_of guard.Full = Full
 
 -- what a request does: the answer, the units then, and the change of the data set that it looked at
 pub record Effect : Type 0 where
@@ -124,8 +114,8 @@ pub record Effect : Type 0 where
 
 abbrev pub effect_of : Request → Target → UnitState → Acted → Effect
 effect_of q target units acted = record {
-  answer = answer_of acted.answer;
-  units = noted q.statement (note_act q.act) (note_target (unit_of q.act) target) (answer_of acted.answer)
+  answer = acted.answer;
+  units = noted q.statement (note_act q.act) (note_target (unit_of q.act) target) acted.answer
       (moved (unit_of q.act) acted.position (spooled q.act target units));
   change = acted.change;
 }

@@ -1,6 +1,6 @@
 //! What is noted of a job: what it was denied, and where there was no room.
 
-use mon_guard::Reason;
+use mon_answer::Reason;
 use mon_text::Name;
 
 /// What was asked.

@@ -2,15 +2,16 @@
 ghost use Rattle.std.specs.Prelude.{◌≡◌, ◌≤◌, length, take, slice_get, IfOk, OnOk, OnErr};
 ghost use Rattle.mon_guard.specs.Acting.{read_at};
 ghost use Rattle.mon_guard.specs.Rows.{RowsFit};
-ghost use Rattle.mon_unit.specs.Serving.{serve, answer_of, moved};
+ghost use Rattle.mon_unit.specs.Serving.{serve, moved};
 ghost use Rattle.mon_unit.specs.inner.Settling.{reach, asked, settled, IsNoted};
 
 use crate::note::{NoteAct, NoteTarget};
 use crate::tie::{Target, Tie};
 use crate::units::Units;
 use mon_access::Account;
+use mon_answer::Reason;
 use mon_catalogue::{Catalogue, MOST_RECORD_CHARACTERS};
-use mon_guard::{Answered, Guard, Reason};
+use mon_guard::{Answered, Guard};
 use mon_text::{Line, Name};
 use sno_ask::{Act, Answer, Request, Service};
 use std::alloc::{AllocError, Global};
@@ -222,7 +223,7 @@ fn read_deck(
     unit: u64,
     position: u64,
 ) -> Result<Answer, AllocError>
-    ensures answer { IfOk result (λ answer. answer ≡ answer_of (read_at position (slice_get units.old.deck position)).answer) }
+    ensures answer { IfOk result (λ answer. answer ≡ (read_at position (slice_get units.old.deck position)).answer) }
     ensures read { OnOk result (units.new ≡ moved unit (read_at position (slice_get units.old.deck position)).position units.old) }
     ensures unchanged { OnErr result (units.new ≡ units.old) }
 {
@@ -247,7 +248,7 @@ fn settle(
     unit: u64,
     told: Answered,
 ) -> Result<Answer, AllocError>
-    ensures answer { IfOk result (λ answer. answer ≡ answer_of told.answer) }
+    ensures answer { IfOk result (λ answer. answer ≡ told.answer) }
     ensures settled { OnOk result (units.new ≡ settled statement act (NoteTarget.Set name) unit told units.old) }
     ensures unchanged { OnErr result (units.new ≡ units.old) }
     ensures memory { OnErr result (IsNoted told.answer) }

@@ -3,15 +3,15 @@ ghost use Rattle.std.specs.Prelude.{◌≡◌, ◌<◌, ◌-◌, ◌^◌, [], �
 ghost use Rattle.std.specs.List.{list_any};
 ghost use Rattle.std.specs.Result.{result_err};
 ghost use Rattle.mon_unit.specs.Tying.{new_units, tie_refusal, tie_at, tied_to, first_target, with_tie, is_a_set, share, meets, is_set};
-ghost use Rattle.mon_unit.specs.Serving.{answer_of, noted, with_note};
+ghost use Rattle.mon_unit.specs.Serving.{noted, with_note};
 ghost use Rattle.mon_unit.specs.inner.Settling.{placed, settled, IsNoted};
 
 use crate::lists::{Lines, Notes};
 use crate::note::{Note, NoteAct, NoteTarget, Why};
 use crate::tie::{Target, Tie};
-use mon_guard::{Answered, GuardAnswer, Reason};
+use mon_answer::{Answer, Reason};
+use mon_guard::Answered;
 use mon_text::{Line, Name};
-use sno_ask::Answer;
 use std::alloc::{AllocError, Global};
 use std::marker::Model;
 use thiserror::Error;
@@ -219,32 +219,22 @@ impl Units {
         unit: u64,
         told: Answered,
     ) -> Result<Answer, AllocError>
-        ensures answer { IfOk result (λ answer. answer ≡ answer_of told.answer) }
+        ensures answer { IfOk result (λ answer. answer ≡ told.answer) }
         ensures settled { OnOk result (self.new ≡ settled statement act target unit told self.old) }
         ensures unchanged { OnErr result (self.new ≡ self.old) }
         ensures memory { OnErr result (IsNoted told.answer) }
     {
         let Answered { answer, position } = told;
-        match answer {
-            GuardAnswer::Done => {
-                self.place(unit, position);
-                Ok(Answer::Done)
-            }
-            GuardAnswer::Got(line) => {
-                self.place(unit, position);
-                Ok(Answer::Got(line))
-            }
-            GuardAnswer::EndOfFile => Ok(Answer::EndOfFile),
-            GuardAnswer::Denied(reason) => {
+        match &answer {
+            Answer::Done | Answer::Got(_) => self.place(unit, position),
+            Answer::EndOfFile => {}
+            Answer::Denied(reason) => {
                 let why = Why::Denied(reason.copy());
                 self.note(statement, act, target, why)?;
-                Ok(Answer::Denied(reason))
             }
-            GuardAnswer::Full => {
-                self.note(statement, act, target, Why::Full)?;
-                Ok(Answer::Full)
-            }
+            Answer::Full => self.note(statement, act, target, Why::Full)?,
         }
+        Ok(answer)
     }
 
     // Whether a unit is tied to a data set.

@@ -1,11 +1,11 @@
 -- Each request has an answer that fits: it may be denied.
 use Rattle.std.proofs.Common.{IsTrue, refl}
-use Rattle.mon_guard.specs.declared.answer.Reason.TheVariants.{NoUnit}
+use Rattle.mon_answer.specs.declared.answer.Reason.TheVariants.{NoUnit}
 use Rattle.sno_ask.specs.declared.request.Act.{Act}
 use Rattle.sno_ask.specs.declared.request.Act.TheVariants.{Read, Write, Endfile, Rewind}
 use Rattle.sno_ask.specs.declared.request.Request.{Request}
-use Rattle.sno_ask.specs.declared.answer.Answer.{Answer}
-use Rattle.sno_ask.specs.declared.answer.Answer.TheVariants.{Denied}
+use Rattle.mon_answer.specs.declared.answer.Answer.{Answer}
+use Rattle.mon_answer.specs.declared.answer.Answer.TheVariants.{Denied}
 use Rattle.sno_ask.specs.Fitting.{fits, Fits}
 
 may_be_denied : (act : Act) → IsTrue (fits act (Denied NoUnit))

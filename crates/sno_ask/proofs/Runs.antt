@@ -2,7 +2,7 @@
 use Rattle.std.proofs.Common.{Result, Ok, Err}
 use Rattle.std.specs.Result.{IsErr}
 use Rattle.sno_ask.specs.declared.request.Request.{Request}
-use Rattle.sno_ask.specs.declared.answer.Answer.{Answer}
+use Rattle.mon_answer.specs.declared.answer.Answer.{Answer}
 use Rattle.sno_ask.specs.Asking.{Asking, Cut, Runs}
 
 pub broken : {S A R E : Type 0} (answers : S → Request → Answer → S → Type 0) (t : Asking A) (s : S) (r : Result R E) (after : R → A) (s' : S) → IsErr r → Cut answers t s s' → Runs answers t s r after s'

@@ -4,7 +4,7 @@ use Rattle.sno_talk.specs.Talks as talks
 use Rattle.sno_talk.specs.Exchanges as exchanges
 use Rattle.sno_talk.specs.Holding as holding
 use Rattle.sno_ask.specs.declared.request.Request.{Request}
-use Rattle.sno_ask.specs.declared.answer.Answer.{Answer}
+use Rattle.mon_answer.specs.declared.answer.Answer.{Answer}
 use Rattle.sno_ask.specs.Fitting.{Fits}
 
 -- what is asked until there is an A

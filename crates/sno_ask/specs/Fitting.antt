@@ -3,8 +3,8 @@ use Rattle.std.specs.Prelude.{Bool, true, false, ◌≤◌, length, IsTrue}
 use Rattle.sno_ask.specs.declared.request.Act.{Act}
 use Rattle.sno_ask.specs.declared.request.Act.TheVariants.{Read, Write, Endfile, Rewind}
 use Rattle.sno_ask.specs.declared.request.Request.{Request}
-use Rattle.sno_ask.specs.declared.answer.Answer.{Answer}
-use Rattle.sno_ask.specs.declared.answer.Answer.TheVariants.{Done, Got, EndOfFile, Denied, Full}
+use Rattle.mon_answer.specs.declared.answer.Answer.{Answer}
+use Rattle.mon_answer.specs.declared.answer.Answer.TheVariants.{Done, Got, EndOfFile, Denied, Full}
 
 abbrev pub fits : Act → Answer → Bool
 fits (Read u) (Got line) = true

@@ -3,8 +3,8 @@ use Rattle.std.specs.Prelude.{List, [], ◌∷◌, ◌++◌, if◌then◌else◌
 use Rattle.sno_ask.specs.declared.request.Act.{Act}
 use Rattle.sno_ask.specs.declared.request.Act.TheVariants.{Read, Write, Endfile, Rewind}
 use Rattle.sno_ask.specs.declared.request.Request.{Request}
-use Rattle.sno_ask.specs.declared.answer.Answer.{Answer}
-use Rattle.sno_ask.specs.declared.answer.Answer.TheVariants.{Done, EndOfFile}
+use Rattle.mon_answer.specs.declared.answer.Answer.{Answer}
+use Rattle.mon_answer.specs.declared.answer.Answer.TheVariants.{Done, EndOfFile}
 use Rattle.sno_ask.specs.Fitting.{fits}
 
 -- the answers that are left, and what was asked, in order

@@ -3,7 +3,7 @@ ghost use Rattle.std.specs.Prelude.{◌≡◌, IfOk, IsTrue};
 ghost use Rattle.sno_ask.specs.Fitting.{fits};
 ghost use Rattle.sno_ask.specs.Scripts.{unscripted};
 
-use crate::answer::Answer;
+use mon_answer::Answer;
 use mon_text::Line;
 use std::alloc::{AllocError, Global};
 

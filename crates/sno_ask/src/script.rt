@@ -3,9 +3,9 @@ ghost use Rattle.std.specs.Prelude.{◌≡◌, [], IfOk, OnErr, IsTrue};
 ghost use Rattle.sno_ask.specs.Fitting.{Fits, IsShort, fits};
 ghost use Rattle.sno_ask.specs.Scripts.{next_answer, scripted};
 
-use crate::answer::Answer;
 use crate::request::{Act, Request};
 use crate::service::Service;
+use mon_answer::Answer;
 use std::alloc::{AllocError, Global};
 use std::marker::Model;
 

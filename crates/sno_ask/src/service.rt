@@ -2,14 +2,14 @@
 ghost use Rattle.std.specs.Prelude.{◌≡◌, IfOk, OnErr};
 ghost use Rattle.sno_ask.specs.Fitting.{Fits, IsShort};
 
-use crate::answer::Answer;
 use crate::request::Request;
+use mon_answer::Answer;
 use std::alloc::AllocError;
 
 /// Whoever answers the requests of a program.
 pub trait Service {
     ghost use Rattle.sno_ask.specs.declared.request.Request.{Request};
-    ghost use Rattle.sno_ask.specs.declared.answer.Answer.{Answer};
+    ghost use Rattle.mon_answer.specs.declared.answer.Answer.{Answer};
 
     /// What holds before and after each request.
     ghost ready: { Self → Type 0 };

@@ -9,8 +9,8 @@ use Rattle.sno_talk.proofs.Hosts.{through_ends}
 use Rattle.sno_ask.specs.Asking.{Asking}
 use Rattle.sno_ask.specs.declared.request.Act.{Act}
 use Rattle.sno_ask.specs.declared.request.Act.TheVariants as act
-use Rattle.sno_ask.specs.declared.answer.Answer.{Answer}
-use Rattle.sno_ask.specs.declared.answer.Answer.TheVariants as answer
+use Rattle.mon_answer.specs.declared.answer.Answer.{Answer}
+use Rattle.mon_answer.specs.declared.answer.Answer.TheVariants as answer
 use Rattle.sno_text.specs.declared.fault.Fault.{Fault as AFault}
 use Rattle.sno_value.specs.declared.value.Value.{Value}
 use Rattle.sno_value.specs.Values.{pattern_of, text_of, number_of}

@@ -5,7 +5,7 @@ use Rattle.sno_talk.specs.Holding as holding
 use Rattle.sno_talk.proofs.Held.{held_keeps, cut_keeps}
 use Rattle.sno_talk.proofs.Hosts.{held_through, cut_through}
 use Rattle.sno_ask.specs.declared.request.Request.{Request}
-use Rattle.sno_ask.specs.declared.answer.Answer.{Answer}
+use Rattle.mon_answer.specs.declared.answer.Answer.{Answer}
 use Rattle.sno_ask.specs.Fitting.{Fits as Suits}
 use Rattle.sno_ask.specs.Asking.{Held, Cut}
 use Rattle.sno_pattern.specs.Looks.{Look, Told, Fits}

@@ -8,8 +8,8 @@ use Rattle.sno_ask.specs.Asking.{Asking, Held, Cut}
 use Rattle.sno_ask.specs.Fitting.{Fits}
 use Rattle.sno_ask.specs.declared.request.Act.TheVariants.{Write}
 use Rattle.sno_ask.specs.declared.request.Request.{Request}
-use Rattle.sno_ask.specs.declared.answer.Answer.{Answer}
-use Rattle.sno_ask.specs.declared.answer.Answer.TheVariants as answer
+use Rattle.mon_answer.specs.declared.answer.Answer.{Answer}
+use Rattle.mon_answer.specs.declared.answer.Answer.TheVariants as answer
 use Rattle.sno_value.specs.Values.{null}
 use Rattle.sno_code.specs.declared.got.Got.{Got}
 use Rattle.sno_code.specs.declared.got.Got.TheVariants.{Gives, Fails}

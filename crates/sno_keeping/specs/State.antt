@@ -1,7 +1,7 @@
 -- The state of a job as what programs rest on (own): all that statements do to it.
 use Rattle.std.specs.Prelude.{ℕ, ◌-◌}
 use Rattle.sno_ask.specs.declared.request.Request.{Request}
-use Rattle.sno_ask.specs.declared.answer.Answer.{Answer}
+use Rattle.mon_answer.specs.declared.answer.Answer.{Answer}
 use Rattle.sno_code.specs.Keeping.{Keeping}
 use Rattle.sno_store.specs.declared.store.Store.{Store as State}
 use Rattle.sno_keeping.specs.declared.limits.Limits.{Limits}

@@ -4,8 +4,8 @@ use Rattle.std.specs.Prelude.{ℕ, List, [], ◌∷◌, Option, Some, None}
 use Rattle.sno_talk.specs.Talks.{Ends, ask, ◌>>=◌}
 use Rattle.sno_ask.specs.Asking.{Asking}
 use Rattle.sno_ask.specs.declared.request.Act.TheVariants.{Read, Write}
-use Rattle.sno_ask.specs.declared.answer.Answer.{Answer}
-use Rattle.sno_ask.specs.declared.answer.Answer.TheVariants as answer
+use Rattle.mon_answer.specs.declared.answer.Answer.{Answer}
+use Rattle.mon_answer.specs.declared.answer.Answer.TheVariants as answer
 use Rattle.sno_text.specs.declared.fault.Fault.TheVariants.{WrongType}
 use Rattle.sno_value.specs.declared.value.Value.{Value}
 use Rattle.sno_value.specs.declared.value.Value.TheVariants.{Text}

@@ -1,7 +1,7 @@
 -- How a host tells that is lent the state of a job and its service.
 use Rattle.std.specs.Prelude.{◌≡◌}
 use Rattle.sno_ask.specs.declared.request.Request.{Request}
-use Rattle.sno_ask.specs.declared.answer.Answer.{Answer}
+use Rattle.mon_answer.specs.declared.answer.Answer.{Answer}
 use Rattle.sno_pattern.specs.Looks.{Look, Told}
 use Rattle.sno_keeping.specs.declared.host.Host.{Host}
 use Rattle.sno_keeping.specs.inner.Telling.{StateTells, StateBroken}

@@ -1,6 +1,6 @@
 -- How a match is told of the state of a job, beside the service: both go from a first pair to a second.
 use Rattle.sno_ask.specs.declared.request.Request.{Request}
-use Rattle.sno_ask.specs.declared.answer.Answer.{Answer}
+use Rattle.mon_answer.specs.declared.answer.Answer.{Answer}
 use Rattle.sno_ask.specs.Asking.{Held, Cut}
 use Rattle.sno_pattern.specs.Looks.{Look, Told}
 use Rattle.sno_store.specs.declared.store.Store.{Store as State}
