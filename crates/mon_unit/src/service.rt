@@ -1,8 +1,9 @@
 //! The service that answers a program's requests from units and data sets.
-ghost use Rattle.std.specs.Prelude.{◌≡◌, ◌≤◌, length, take, slice_get, IfOk, OnOk, OnErr};
+ghost use Rattle.std.specs.Prelude.{◌≡◌, ◌≤◌, length, take, slice_get, IfOk, OnOk, OnErr, IsSome};
 ghost use Rattle.mon_guard.specs.Acting.{read_at};
 ghost use Rattle.mon_guard.specs.Rows.{RowsFit};
 ghost use Rattle.mon_unit.specs.Serving.{serve, answer_of, moved};
+ghost use Rattle.mon_unit.specs.Memory.{MayGrow};
 ghost use Rattle.mon_unit.specs.inner.Settling.{reach, asked, settled, IsNoted};
 
 use crate::note::{NoteAct, NoteTarget};
@@ -29,14 +30,23 @@ pub struct UnitService<'a> {
 }
 
 impl Service for UnitService<'_> {
-    ghost use Rattle.mon_unit.specs.Lent.{UnitAnswers};
+    ghost use Rattle.sno_ask.specs.Fitting.{Fits, IsShort};
+    ghost use Rattle.mon_unit.specs.Lent.{UnitAnswers, reach_of};
     ghost use Rattle.mon_guard.specs.Rows.{RowsFit};
 
     ghost ready = { λ s. RowsFit s.guard.now s.catalogue.now };
 
     ghost answers = { UnitAnswers };
 
-    fn ask(&mut self, request: &Request) -> Result<Answer, AllocError> {
+    fn ask(&mut self, request: &Request) -> Result<Answer, AllocError>
+        requires ready { RowsFit self.old.guard.now self.old.catalogue.now }
+        requires short { IsShort request.now.act }
+        ensures answered { IfOk result (λ answer. UnitAnswers self.old request.now answer self.new) }
+        ensures fits { IfOk result (λ answer. Fits request.now answer) }
+        ensures unchanged { OnErr result (self.new ≡ self.old) }
+        ensures ready { RowsFit self.new.guard.now self.new.catalogue.now }
+        ensures memory { OnErr result (MayGrow self.old.account.now (reach_of self.old) request.now) }
+    {
         match &request.act {
             Act::Read(unit) => read(
                 self.alloc,
@@ -90,6 +100,7 @@ fn read(
     ensures unchanged { OnErr result (units.new ≡ units.old) }
     ensures guard { OnErr result (guard.new ≡ guard.old) }
     ensures fit { RowsFit guard.new catalogue.now }
+    ensures memory { OnErr result (MayGrow account.now (reach catalogue.now units.old) (asked statement (Act.Read unit))) }
 {
     let Tie { target, position } = units.tie_at(unit);
     match target {
@@ -130,6 +141,7 @@ fn write(
     ensures unchanged { OnErr result (units.new ≡ units.old) }
     ensures guard { OnErr result (guard.new ≡ guard.old) }
     ensures fit { RowsFit guard.new catalogue.new }
+    ensures memory { OnErr result (MayGrow account.now (reach catalogue.old units.old) (asked statement (Act.Write unit line.now))) }
 {
     let Tie { target, position } = units.tie_at(unit);
     match target {
@@ -171,6 +183,7 @@ fn end(
     ensures unchanged { OnErr result (units.new ≡ units.old) }
     ensures guard { OnErr result (guard.new ≡ guard.old) }
     ensures fit { RowsFit guard.new catalogue.new }
+    ensures memory { OnErr result (MayGrow account.now (reach catalogue.old units.old) (asked statement (Act.Endfile unit))) }
 {
     let Tie { target, position } = units.tie_at(unit);
     match target {
@@ -203,6 +216,7 @@ fn rewind(
 ) -> Result<Answer, AllocError>
     ensures served { IfOk result (λ answer. serve account.now (reach catalogue.now units.old) (asked statement (Act.Rewind unit)) ≡ (answer, reach catalogue.now units.new)) }
     ensures unchanged { OnErr result (units.new ≡ units.old) }
+    ensures memory { OnErr result (MayGrow account.now (reach catalogue.now units.old) (asked statement (Act.Rewind unit))) }
 {
     let Tie { target, position } = units.tie_at(unit);
     match target {
@@ -225,6 +239,7 @@ fn read_deck(
     ensures answer { IfOk result (λ answer. answer ≡ answer_of (read_at position (slice_get units.old.deck position)).answer) }
     ensures read { OnOk result (units.new ≡ moved unit (read_at position (slice_get units.old.deck position)).position units.old) }
     ensures unchanged { OnErr result (units.new ≡ units.old) }
+    ensures memory { OnErr result (IsSome (slice_get units.old.deck position)) }
 {
     match units.deck_line(alloc, position)? {
         Some(line) => {
