@@ -1,8 +1,9 @@
 //! The service that answers a program's requests from units and data sets.
-ghost use Rattle.std.specs.Prelude.{◌≡◌, ◌≤◌, length, take, slice_get, IfOk, OnOk, OnErr};
+ghost use Rattle.std.specs.Prelude.{◌≡◌, ◌≤◌, length, take, slice_get, IfOk, OnOk, OnErr, IsSome};
 ghost use Rattle.mon_guard.specs.Acting.{read_at};
 ghost use Rattle.mon_guard.specs.Rows.{RowsFit};
 ghost use Rattle.mon_unit.specs.Serving.{serve, moved};
+ghost use Rattle.mon_unit.specs.Memory.{MayGrow};
 ghost use Rattle.mon_unit.specs.inner.Settling.{reach, asked, settled, IsNoted};
 
 use crate::note::{NoteAct, NoteTarget};
@@ -29,15 +30,32 @@ pub struct UnitService<'a> {
     pub units: &'a mut Units,
 }
 
+// Which statement asks, and of which unit.
+#[derive(Clone, Copy)]
+struct Origin {
+    statement: u64,
+    unit: u64,
+}
+
 impl Service for UnitService<'_> {
-    ghost use Rattle.mon_unit.specs.Lent.{UnitAnswers};
+    ghost use Rattle.sno_ask.specs.Fitting.{Fits, IsShort};
+    ghost use Rattle.mon_unit.specs.Lent.{UnitAnswers, reach_of};
     ghost use Rattle.mon_guard.specs.Rows.{RowsFit};
 
     ghost ready = { λ s. RowsFit s.guard.now s.catalogue.now };
 
     ghost answers = { UnitAnswers };
 
-    fn ask(&mut self, request: &Request) -> Result<Answer, AllocError> {
+    fn ask(&mut self, request: &Request) -> Result<Answer, AllocError>
+        requires ready { RowsFit self.old.guard.now self.old.catalogue.now }
+        requires short { IsShort request.now.act }
+        ensures answered { IfOk result (λ answer. UnitAnswers self.old request.now answer self.new) }
+        ensures fits { IfOk result (λ answer. Fits request.now answer) }
+        ensures unchanged { OnErr result (self.new ≡ self.old) }
+        ensures ready { RowsFit self.new.guard.now self.new.catalogue.now }
+        ensures memory { OnErr result (MayGrow self.old.account.now (reach_of self.old) request.now) }
+    {
+        let statement = request.statement;
         match &request.act {
             Act::Read(unit) => read(
                 self.alloc,
@@ -45,8 +63,10 @@ impl Service for UnitService<'_> {
                 self.guard,
                 self.catalogue,
                 self.units,
-                request.statement,
-                *unit,
+                Origin {
+                    statement,
+                    unit: *unit,
+                },
             ),
             Act::Write(unit, line) => write(
                 self.alloc,
@@ -54,8 +74,10 @@ impl Service for UnitService<'_> {
                 self.guard,
                 self.catalogue,
                 self.units,
-                request.statement,
-                *unit,
+                Origin {
+                    statement,
+                    unit: *unit,
+                },
                 line,
             ),
             Act::Endfile(unit) => end(
@@ -63,15 +85,19 @@ impl Service for UnitService<'_> {
                 self.guard,
                 self.catalogue,
                 self.units,
-                request.statement,
-                *unit,
+                Origin {
+                    statement,
+                    unit: *unit,
+                },
             ),
             Act::Rewind(unit) => rewind(
                 self.account,
                 self.catalogue,
                 self.units,
-                request.statement,
-                *unit,
+                Origin {
+                    statement,
+                    unit: *unit,
+                },
             ),
         }
     }
@@ -83,15 +109,16 @@ fn read(
     guard: &mut Guard,
     catalogue: &Catalogue,
     units: &mut Units,
-    statement: u64,
-    unit: u64,
+    origin: Origin,
 ) -> Result<Answer, AllocError>
     requires fit { RowsFit guard.old catalogue.now }
-    ensures served { IfOk result (λ answer. serve account.now (reach catalogue.now units.old) (asked statement (Act.Read unit)) ≡ (answer, reach catalogue.now units.new)) }
+    ensures served { IfOk result (λ answer. serve account.now (reach catalogue.now units.old) (asked origin.statement (Act.Read origin.unit)) ≡ (answer, reach catalogue.now units.new)) }
     ensures unchanged { OnErr result (units.new ≡ units.old) }
     ensures guard { OnErr result (guard.new ≡ guard.old) }
     ensures fit { RowsFit guard.new catalogue.now }
+    ensures memory { OnErr result (MayGrow account.now (reach catalogue.now units.old) (asked origin.statement (Act.Read origin.unit))) }
 {
+    let Origin { statement, unit } = origin;
     let Tie { target, position } = units.tie_at(unit);
     match target {
         Target::Untied => units.denied(statement, NoteAct::Read, unit, Reason::NoUnit),
@@ -100,16 +127,7 @@ fn read(
         Target::Set(name) => {
             let rows = guard.rows();
             let told = guard.read(alloc, account, catalogue, &name, position)?;
-            settle(
-                guard,
-                rows,
-                units,
-                statement,
-                NoteAct::Read,
-                name,
-                unit,
-                told,
-            )
+            settle(guard, rows, units, origin, NoteAct::Read, name, told)
         }
     }
 }
@@ -120,18 +138,19 @@ fn write(
     guard: &mut Guard,
     catalogue: &mut Catalogue,
     units: &mut Units,
-    statement: u64,
-    unit: u64,
+    origin: Origin,
     line: &Line,
 ) -> Result<Answer, AllocError>
     requires short { length line.now ≤ MOST_RECORD_CHARACTERS }
     requires fit { RowsFit guard.old catalogue.old }
-    ensures served { IfOk result (λ answer. serve account.now (reach catalogue.old units.old) (asked statement (Act.Write unit line.now)) ≡ (answer, reach catalogue.new units.new)) }
+    ensures served { IfOk result (λ answer. serve account.now (reach catalogue.old units.old) (asked origin.statement (Act.Write origin.unit line.now)) ≡ (answer, reach catalogue.new units.new)) }
     ensures sets { OnErr result (catalogue.new ≡ catalogue.old) }
     ensures unchanged { OnErr result (units.new ≡ units.old) }
     ensures guard { OnErr result (guard.new ≡ guard.old) }
     ensures fit { RowsFit guard.new catalogue.new }
+    ensures memory { OnErr result (MayGrow account.now (reach catalogue.old units.old) (asked origin.statement (Act.Write origin.unit line.now))) }
 {
+    let Origin { statement, unit } = origin;
     let Tie { target, position } = units.tie_at(unit);
     match target {
         Target::Untied => units.denied(statement, NoteAct::Write, unit, Reason::NoUnit),
@@ -144,16 +163,7 @@ fn write(
             let line = line.copy(alloc)?;
             let rows = guard.rows();
             let told = guard.write(account, catalogue, &name, position, line)?;
-            settle(
-                guard,
-                rows,
-                units,
-                statement,
-                NoteAct::Write,
-                name,
-                unit,
-                told,
-            )
+            settle(guard, rows, units, origin, NoteAct::Write, name, told)
         }
     }
 }
@@ -163,16 +173,17 @@ fn end(
     guard: &mut Guard,
     catalogue: &mut Catalogue,
     units: &mut Units,
-    statement: u64,
-    unit: u64,
+    origin: Origin,
 ) -> Result<Answer, AllocError>
     requires fit { RowsFit guard.old catalogue.old }
-    ensures served { IfOk result (λ answer. serve account.now (reach catalogue.old units.old) (asked statement (Act.Endfile unit)) ≡ (answer, reach catalogue.new units.new)) }
+    ensures served { IfOk result (λ answer. serve account.now (reach catalogue.old units.old) (asked origin.statement (Act.Endfile origin.unit)) ≡ (answer, reach catalogue.new units.new)) }
     ensures sets { OnErr result (catalogue.new ≡ catalogue.old) }
     ensures unchanged { OnErr result (units.new ≡ units.old) }
     ensures guard { OnErr result (guard.new ≡ guard.old) }
     ensures fit { RowsFit guard.new catalogue.new }
+    ensures memory { OnErr result (MayGrow account.now (reach catalogue.old units.old) (asked origin.statement (Act.Endfile origin.unit))) }
 {
+    let Origin { statement, unit } = origin;
     let Tie { target, position } = units.tie_at(unit);
     match target {
         Target::Untied => units.denied(statement, NoteAct::Endfile, unit, Reason::NoUnit),
@@ -181,16 +192,7 @@ fn end(
         Target::Set(name) => {
             let rows = guard.rows();
             let told = guard.end(account, catalogue, &name, position);
-            settle(
-                guard,
-                rows,
-                units,
-                statement,
-                NoteAct::Endfile,
-                name,
-                unit,
-                told,
-            )
+            settle(guard, rows, units, origin, NoteAct::Endfile, name, told)
         }
     }
 }
@@ -199,12 +201,13 @@ fn rewind(
     account: &Account,
     catalogue: &Catalogue,
     units: &mut Units,
-    statement: u64,
-    unit: u64,
+    origin: Origin,
 ) -> Result<Answer, AllocError>
-    ensures served { IfOk result (λ answer. serve account.now (reach catalogue.now units.old) (asked statement (Act.Rewind unit)) ≡ (answer, reach catalogue.now units.new)) }
+    ensures served { IfOk result (λ answer. serve account.now (reach catalogue.now units.old) (asked origin.statement (Act.Rewind origin.unit)) ≡ (answer, reach catalogue.now units.new)) }
     ensures unchanged { OnErr result (units.new ≡ units.old) }
+    ensures memory { OnErr result (MayGrow account.now (reach catalogue.now units.old) (asked origin.statement (Act.Rewind origin.unit))) }
 {
+    let Origin { statement, unit } = origin;
     let Tie { target, position } = units.tie_at(unit);
     match target {
         Target::Untied => units.denied(statement, NoteAct::Rewind, unit, Reason::NoUnit),
@@ -226,6 +229,7 @@ fn read_deck(
     ensures answer { IfOk result (λ answer. answer ≡ (read_at position (slice_get units.old.deck position)).answer) }
     ensures read { OnOk result (units.new ≡ moved unit (read_at position (slice_get units.old.deck position)).position units.old) }
     ensures unchanged { OnErr result (units.new ≡ units.old) }
+    ensures memory { OnErr result (IsSome (slice_get units.old.deck position)) }
 {
     match units.deck_line(alloc, position)? {
         Some(line) => {
@@ -242,19 +246,19 @@ fn settle(
     guard: &mut Guard,
     rows: u64,
     units: &mut Units,
-    statement: u64,
+    origin: Origin,
     act: NoteAct,
     name: Name,
-    unit: u64,
     told: Answered,
 ) -> Result<Answer, AllocError>
     ensures answer { IfOk result (λ answer. answer ≡ told.answer) }
-    ensures settled { OnOk result (units.new ≡ settled statement act (NoteTarget.Set name) unit told units.old) }
+    ensures settled { OnOk result (units.new ≡ settled origin.statement act (NoteTarget.Set name) origin.unit told units.old) }
     ensures unchanged { OnErr result (units.new ≡ units.old) }
     ensures memory { OnErr result (IsNoted told.answer) }
     ensures kept { OnOk result (guard.new ≡ guard.old) }
     ensures rows { OnErr result (guard.new ≡ take rows guard.old) }
 {
+    let Origin { statement, unit } = origin;
     match units.settle(statement, act, NoteTarget::Set(name), unit, told) {
         Ok(answer) => Ok(answer),
         Err(AllocError) => {

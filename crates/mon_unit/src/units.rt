@@ -1,5 +1,5 @@
 //! A job's units.
-ghost use Rattle.std.specs.Prelude.{◌≡◌, ◌<◌, ◌-◌, ◌^◌, [], ◌∷◌, ◌++◌, OnOk, OnErr, OnSome, IfOk, slice_get};
+ghost use Rattle.std.specs.Prelude.{◌≡◌, ◌<◌, ◌-◌, ◌^◌, [], ◌∷◌, ◌++◌, OnOk, OnErr, OnSome, IfOk, IsSome, slice_get};
 ghost use Rattle.std.specs.List.{list_any};
 ghost use Rattle.std.specs.Result.{result_err};
 ghost use Rattle.mon_unit.specs.Tying.{new_units, tie_refusal, tie_at, tied_to, first_target, with_tie, is_a_set, share, meets, is_set};
@@ -144,6 +144,7 @@ impl Units {
     pub(crate) fn deck_line(&self, alloc: Global, position: u64) -> Result<Option<Line>, AllocError>
         ensures line { IfOk result (λ line. line ≡ slice_get self.now.deck position) }
         ensures within { IfOk result (λ line. OnSome line (position < 2 ^ 64 - 1)) }
+        ensures memory { OnErr result (IsSome (slice_get self.now.deck position)) }
     {
         match self.deck.as_slice().get(position as usize) {
             Some(line) => {
