@@ -17,7 +17,7 @@ ghost use Rattle.mon_guard.specs.Answers.{guard_answer, acl_answer};
 use crate::answer::{AclAnswer, Answered, Decided, GuardAnswer, Reason};
 use crate::rows::Rows;
 use crate::shown::{ShownAcl, ShownName};
-use mon_access::{Account, Decision, check, is_one};
+use mon_access::{Account, Decision, check};
 use mon_acl::{Acl, AclError, AclText, Perms};
 use mon_catalogue::{
     Catalogue, CreateError, DataSet, MOST_RECORD_CHARACTERS, NoSet, Records, SetFull,
@@ -47,7 +47,7 @@ impl Model for Guard {
 }
 
 impl Guard {
-    ghost use Rattle.mon_guard.specs.Rows.{RowsFit, Begins, MayKeep};
+    ghost use Rattle.mon_guard.specs.Rows.{RowsFit, Begins, rows_beside};
 
     /// A guard that keeps no row.
     pub fn new(alloc: Global) -> Guard
@@ -72,15 +72,6 @@ impl Guard {
         self.rows.keep_first(count as usize);
     }
 
-    // Keeps what is decided of an account on a set, unless that is kept already.
-    fn keep_unless(&mut self, is_kept: bool, account: &Account, name: &Name, set: &DataSet)
-        ensures { MayKeep account.now name.now set.now self.old self.new }
-    {
-        if !is_kept {
-            self.rows.keep(account, name, set);
-        }
-    }
-
     /// What is decided of a request on the set of a name: the access check, or that there is no such set. It takes no
     /// memory.
     #[tactic(auto, using(crate::proofs::Fitting::fitting))]
@@ -95,7 +86,7 @@ impl Guard {
         ensures { result ≡ decided account.now catalogue.now name.now request }
     {
         match catalogue.find(name) {
-            Some(set) if is_one(request) => {
+            Some(set) if request.is_one() => {
                 Decided::of(self.rows.judge(account, name, set, request).decision)
             }
             Some(set) => Decided::of(decision_on(account, set, request)),
@@ -214,7 +205,8 @@ impl Guard {
         ensures denied { (reason : Reason) → (result ≡ Ok (AclAnswer.Denied reason)) ↔ (owner_denial account.now catalogue.old name.now ≡ Some reason) }
         ensures memory { OnErr result (MayTakeMemory text.now) }
         ensures fit { RowsFit self.old catalogue.old → RowsFit self.new catalogue.new }
-        ensures rows { OnErr result (self.new ≡ self.old) }
+        ensures rows_stay { OnErr result (self.new ≡ self.old) }
+        ensures others_stay { rows_beside name.now self.new ≡ rows_beside name.now self.old }
     {
         if let Some(reason) = owner_denial(account, catalogue, name) {
             return Ok(AclAnswer::Denied(reason));
@@ -249,6 +241,7 @@ impl Guard {
         ensures denied { (reason : Reason) → (result ≡ Ok (GuardAnswer.Denied reason)) ↔ (owner_denial account.now catalogue.old name.now ≡ Some reason) }
         ensures memory { IsErrOf result Stop.Memory → MayTakeMemory text.now }
         ensures fit { RowsFit self.old catalogue.old → RowsFit self.new catalogue.new }
+        ensures others_stay { rows_beside name.now self.new ≡ rows_beside name.now self.old }
     {
         match self.try_set_acl(alloc, account, catalogue, name, text) {
             Ok(AclAnswer::Done) => Ok(GuardAnswer::Done),
@@ -273,6 +266,7 @@ impl Guard {
         ensures answer { result ≡ (removed account.now catalogue.old name.now).0 }
         ensures sets { catalogue.new ≡ (removed account.now catalogue.old name.now).1 }
         ensures fit { RowsFit self.old catalogue.old → RowsFit self.new catalogue.new }
+        ensures others_stay { rows_beside name.now self.new ≡ rows_beside name.now self.old }
     {
         if let Some(reason) = owner_denial(account, catalogue, name) {
             return Err(reason);
@@ -296,6 +290,7 @@ impl Guard {
         ensures answer { result ≡ guard_answer (removed account.now catalogue.old name.now).0 }
         ensures sets { catalogue.new ≡ (removed account.now catalogue.old name.now).1 }
         ensures fit { RowsFit self.old catalogue.old → RowsFit self.new catalogue.new }
+        ensures others_stay { rows_beside name.now self.new ≡ rows_beside name.now self.old }
     {
         GuardAnswer::of(self.try_remove(account, catalogue, name))
     }
@@ -320,14 +315,14 @@ impl Guard {
         ensures memory { OnErr result (IsSome (acted account.now (Read position) catalogue.now name.now).position) }
         ensures fit { RowsFit self.new catalogue.now }
         ensures rows { Begins self.old self.new }
-        ensures unchanged { OnErr result (self.new ≡ self.old) }
+        ensures rows_stay { OnErr result (self.new ≡ self.old) }
     {
         let Some(set) = catalogue.find(name) else {
             return Ok(Answered::denied(Reason::NoSet, position));
         };
         let judged = self.rows.judge(account, name, set, to_read());
         let answered = read_by(alloc, judged.decision, set, position)?;
-        self.keep_unless(judged.is_kept, account, name, set);
+        self.rows.remember(judged.row, account, name, set);
         Ok(answered)
     }
 
@@ -352,17 +347,17 @@ impl Guard {
         ensures answer { IfOk result (λ answered. answered ≡ told position (acted account.now (Write position line) catalogue.old name.now)) }
         ensures sets { OnOk result (catalogue.new ≡ changed name.now (acted account.now (Write position line) catalogue.old name.now).change catalogue.old) }
         ensures unchanged { OnErr result (catalogue.new ≡ catalogue.old) }
-        ensures memory { OnErr result (IsSome (acted account.now (Write position line) catalogue.old name.now).position) }
         ensures fit { RowsFit self.new catalogue.new }
         ensures rows { Begins self.old self.new }
         ensures rows_stay { OnErr result (self.new ≡ self.old) }
+        ensures memory { OnErr result (IsSome (acted account.now (Write position line) catalogue.old name.now).position) }
     {
         let Some(set) = catalogue.find_mut(name) else {
             return Ok(Answered::denied(Reason::NoSet, position));
         };
         let judged = self.rows.judge(account, name, set, to_write());
         let answered = write_by(judged.decision, set, position, line)?;
-        self.keep_unless(judged.is_kept, account, name, set);
+        self.rows.remember(judged.row, account, name, set);
         Ok(answered)
     }
 
@@ -387,7 +382,7 @@ impl Guard {
         };
         let judged = self.rows.judge(account, name, set, to_write());
         let answered = end_by(judged.decision, set, position);
-        self.keep_unless(judged.is_kept, account, name, set);
+        self.rows.remember(judged.row, account, name, set);
         answered
     }
 
@@ -411,7 +406,7 @@ impl Guard {
         ensures sets { OnOk result (catalogue.new ≡ (created account.now catalogue.old name).1) }
         ensures unchanged { OnErr result (catalogue.new ≡ catalogue.old) }
         ensures fit { RowsFit self.old catalogue.old → RowsFit self.new catalogue.new }
-        ensures rows { self.new ≡ self.old }
+        ensures rows_stay { self.new ≡ self.old }
     {
         let acl = new_list(alloc)?;
         catalogue.create(name, account.name.copy(), account.primary.copy(), acl)
