@@ -2,7 +2,7 @@
 ghost use Rattle.std.specs.Prelude.{◌≡◌, ◌∷◌, ◌++◌, OnOk};
 ghost use Rattle.std.specs.Ordering.{nat_cmp};
 ghost use Rattle.std.specs.Cmp.Lexicographic.{slice_cmp};
-ghost use Rattle.mon_acl.specs.Permissions.{holds, common};
+ghost use Rattle.mon_acl.specs.Permissions.{holds, common, is_one};
 ghost use Rattle.mon_acl.specs.Entries.{rank, qualifier, sort_key, compared, is_named};
 ghost use Rattle.mon_acl.specs.Texts.{tag_word};
 ghost use Rattle.mon_acl.specs.Printing.{entry_head, entry_text, letter, perms_text, is_masked, effective, effective_text, long_line};
@@ -64,6 +64,16 @@ impl Perms {
         (!request.read || self.read)
             && (!request.write || self.write)
             && (!request.execute || self.execute)
+    }
+
+    /// Whether this is exactly one of the three permissions.
+    pub fn is_one(self) -> bool
+        ensures { result ≡ is_one self }
+    {
+        match (self.read, self.write, self.execute) {
+            (true, false, false) | (false, true, false) | (false, false, true) => true,
+            _ => false,
+        }
     }
 
     /// The permissions that both hold.

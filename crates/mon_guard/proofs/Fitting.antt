@@ -35,7 +35,8 @@ use Rattle.mon_text.specs.declared.stop.Stop.{Stop}
 use Rattle.mon_text.specs.Stops.{refused_as}
 use Rattle.mon_catalogue.specs.declared.catalogue.CreateError.{CreateError}
 use Rattle.mon_catalogue.specs.Sets.{create_refusal}
-use Rattle.mon_guard.specs.Rows.{ready_on, row_on, Fits, RowsFit, FitOn, is_beside, rows_beside, MayKeep, Begins}
+use Rattle.mon_guard.specs.Rows.{ready_on, Fits, RowsFit, is_beside, rows_beside, Begins}
+use Rattle.mon_guard.specs.inner.Keeping.{row_on, FitOn, MayKeep}
 
 -- rows that fit go on fitting where each by itself does
 still_fit : (rows : List Row) (sets after : Sets) → ((row : Row) → Fits sets row → Fits after row) → RowsFit rows sets → RowsFit rows after

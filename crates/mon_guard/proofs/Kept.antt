@@ -1,5 +1,5 @@
 -- What a filter keeps.
-use Rattle.std.proofs.Common.{◌≡◌, ◌<◌, ◌∷◌, [], Bool, true, false, cond, List, sym, ap, ◌∙◌, subst, inl, inr, arith}
+use Rattle.std.proofs.Common.{◌≡◌, ◌<◌, ◌∷◌, [], Bool, true, false, cond, List, refl, sym, ap, ◌∙◌, subst, inl, inr, arith}
 use Rattle.std.specs.List.{filter, Contains}
 use Rattle.std.proofs.lemmas.List.Elements.{Contains-append_left, Contains-append_right, Contains-push, Contains-push_cases, Contains-append_cases, All-contains, All-contains_itself, All-filter, filter_passes}
 
@@ -37,3 +37,12 @@ kept_only p xs y has = (
   All-contains (Contains xs) (filter p xs) y (All-filter p (Contains xs) xs (All-contains_itself xs)) has,
   All-contains (λ x. p x ≡ true) (filter p xs) y (filter_passes p xs) has,
 )
+
+again : {X : Type 0} (p : X → Bool) (x : X) (ys : List X) (b : Bool) → p x ≡ b → filter p ys ≡ ys → filter p (cond b (x ∷ ys) ys) ≡ cond b (x ∷ ys) ys
+again {X} p x ys true e rest = ap (λ (b : Bool). cond b (x ∷ filter p ys) (filter p ys)) e ∙ ap (λ (zs : List X). x ∷ zs) rest
+again p x ys false e rest = rest
+
+-- what was kept is kept again
+pub filter_again : {X : Type 0} (p : X → Bool) (xs : List X) → filter p (filter p xs) ≡ filter p xs
+filter_again p [] = refl
+filter_again p (x ∷ xs) = again p x (filter p xs) (p x) refl (filter_again p xs)

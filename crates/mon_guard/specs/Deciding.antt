@@ -2,6 +2,7 @@
 use Rattle.std.specs.Prelude.{ℕ, Bool, true, false, List, Option, None, Some, Result, Ok, Err}
 use Rattle.mon_acl.specs.declared.entries.Perms.{Perms}
 use Rattle.mon_acl.specs.declared.entries.Entry.{Entry}
+pub use Rattle.mon_acl.specs.Permissions.{to_read, to_write, to_execute}
 use Rattle.mon_access.specs.declared.account.Account.{Account}
 use Rattle.mon_access.specs.declared.access.Decision.{Decision}
 use Rattle.mon_access.specs.declared.access.Decision.TheVariants as decision
@@ -12,16 +13,6 @@ use Rattle.mon_guard.specs.declared.answer.Decided.{Decided}
 use Rattle.mon_guard.specs.declared.answer.Decided.TheVariants.{Granted, Denied, NoSet}
 use Rattle.mon_answer.specs.declared.answer.Reason.{Reason}
 use Rattle.mon_guard.specs.Reasons.{reason_of}
-
--- the requests of one permission
-abbrev pub to_read : Perms
-to_read = record { read = true; write = false; execute = false }
-
-abbrev pub to_write : Perms
-to_write = record { read = false; write = true; execute = false }
-
-abbrev pub to_execute : Perms
-to_execute = record { read = false; write = false; execute = true }
 
 -- the access check on a set
 abbrev pub decision_on : Account → DataSet → Perms → Decision

@@ -17,7 +17,7 @@ ghost use Rattle.mon_guard.specs.Answers.{guard_answer, acl_answer};
 use crate::answer::{AclAnswer, Answered, Decided, guard_answer, reason_of};
 use crate::rows::Rows;
 use crate::shown::{ShownAcl, ShownName};
-use mon_access::{Account, Decision, check, is_one};
+use mon_access::{Account, Decision, check};
 use mon_acl::{Acl, AclError, AclText, Perms};
 use mon_answer::{Answer, Reason};
 use mon_catalogue::{
@@ -48,7 +48,7 @@ impl Model for Guard {
 }
 
 impl Guard {
-    ghost use Rattle.mon_guard.specs.Rows.{RowsFit, Begins, MayKeep};
+    ghost use Rattle.mon_guard.specs.Rows.{RowsFit, Begins, rows_beside};
 
     /// A guard that keeps no row.
     pub fn new(alloc: Global) -> Guard
@@ -73,15 +73,6 @@ impl Guard {
         self.rows.keep_first(count as usize);
     }
 
-    // Keeps what is decided of an account on a set, unless that is kept already.
-    fn keep_unless(&mut self, is_kept: bool, account: &Account, name: &Name, set: &DataSet)
-        ensures { MayKeep account.now name.now set.now self.old self.new }
-    {
-        if !is_kept {
-            self.rows.keep(account, name, set);
-        }
-    }
-
     /// What is decided of a request on the set of a name: the access check, or that there is no such set. It takes no
     /// memory.
     #[tactic(auto, using(crate::proofs::Fitting::fitting))]
@@ -96,7 +87,7 @@ impl Guard {
         ensures { result ≡ decided account.now catalogue.now name.now request }
     {
         match catalogue.find(name) {
-            Some(set) if is_one(request) => {
+            Some(set) if request.is_one() => {
                 Decided::of(self.rows.judge(account, name, set, request).decision)
             }
             Some(set) => Decided::of(decision_on(account, set, request)),
@@ -215,7 +206,8 @@ impl Guard {
         ensures denied { (reason : Reason) → (result ≡ Ok (AclAnswer.Denied reason)) ↔ (owner_denial account.now catalogue.old name.now ≡ Some reason) }
         ensures memory { OnErr result (MayTakeMemory text.now) }
         ensures fit { RowsFit self.old catalogue.old → RowsFit self.new catalogue.new }
-        ensures rows { OnErr result (self.new ≡ self.old) }
+        ensures rows_stay { OnErr result (self.new ≡ self.old) }
+        ensures others_stay { rows_beside name.now self.new ≡ rows_beside name.now self.old }
     {
         if let Some(reason) = owner_denial(account, catalogue, name) {
             return Ok(AclAnswer::Denied(reason));
@@ -250,6 +242,7 @@ impl Guard {
         ensures denied { (reason : Reason) → (result ≡ Ok (Answer.Denied reason)) ↔ (owner_denial account.now catalogue.old name.now ≡ Some reason) }
         ensures memory { IsErrOf result Stop.Memory → MayTakeMemory text.now }
         ensures fit { RowsFit self.old catalogue.old → RowsFit self.new catalogue.new }
+        ensures others_stay { rows_beside name.now self.new ≡ rows_beside name.now self.old }
     {
         match self.try_set_acl(alloc, account, catalogue, name, text) {
             Ok(AclAnswer::Done) => Ok(Answer::Done),
@@ -274,6 +267,7 @@ impl Guard {
         ensures answer { result ≡ (removed account.now catalogue.old name.now).0 }
         ensures sets { catalogue.new ≡ (removed account.now catalogue.old name.now).1 }
         ensures fit { RowsFit self.old catalogue.old → RowsFit self.new catalogue.new }
+        ensures others_stay { rows_beside name.now self.new ≡ rows_beside name.now self.old }
     {
         if let Some(reason) = owner_denial(account, catalogue, name) {
             return Err(reason);
@@ -292,6 +286,7 @@ impl Guard {
         ensures answer { result ≡ guard_answer (removed account.now catalogue.old name.now).0 }
         ensures sets { catalogue.new ≡ (removed account.now catalogue.old name.now).1 }
         ensures fit { RowsFit self.old catalogue.old → RowsFit self.new catalogue.new }
+        ensures others_stay { rows_beside name.now self.new ≡ rows_beside name.now self.old }
     {
         guard_answer(self.try_remove(account, catalogue, name))
     }
@@ -316,14 +311,14 @@ impl Guard {
         ensures memory { OnErr result (IsSome (acted account.now (Read position) catalogue.now name.now).position) }
         ensures fit { RowsFit self.new catalogue.now }
         ensures rows { Begins self.old self.new }
-        ensures unchanged { OnErr result (self.new ≡ self.old) }
+        ensures rows_stay { OnErr result (self.new ≡ self.old) }
     {
         let Some(set) = catalogue.find(name) else {
             return Ok(Answered::denied(Reason::NoSet, position));
         };
         let judged = self.rows.judge(account, name, set, to_read());
         let answered = read_by(alloc, judged.decision, set, position)?;
-        self.keep_unless(judged.is_kept, account, name, set);
+        self.rows.remember(judged.row, account, name, set);
         Ok(answered)
     }
 
@@ -348,17 +343,17 @@ impl Guard {
         ensures answer { IfOk result (λ answered. answered ≡ told position (acted account.now (Write position line) catalogue.old name.now)) }
         ensures sets { OnOk result (catalogue.new ≡ changed name.now (acted account.now (Write position line) catalogue.old name.now).change catalogue.old) }
         ensures unchanged { OnErr result (catalogue.new ≡ catalogue.old) }
-        ensures memory { OnErr result (IsSome (acted account.now (Write position line) catalogue.old name.now).position) }
         ensures fit { RowsFit self.new catalogue.new }
         ensures rows { Begins self.old self.new }
         ensures rows_stay { OnErr result (self.new ≡ self.old) }
+        ensures memory { OnErr result (IsSome (acted account.now (Write position line) catalogue.old name.now).position) }
     {
         let Some(set) = catalogue.find_mut(name) else {
             return Ok(Answered::denied(Reason::NoSet, position));
         };
         let judged = self.rows.judge(account, name, set, to_write());
         let answered = write_by(judged.decision, set, position, line)?;
-        self.keep_unless(judged.is_kept, account, name, set);
+        self.rows.remember(judged.row, account, name, set);
         Ok(answered)
     }
 
@@ -383,7 +378,7 @@ impl Guard {
         };
         let judged = self.rows.judge(account, name, set, to_write());
         let answered = end_by(judged.decision, set, position);
-        self.keep_unless(judged.is_kept, account, name, set);
+        self.rows.remember(judged.row, account, name, set);
         answered
     }
 
@@ -407,7 +402,7 @@ impl Guard {
         ensures sets { OnOk result (catalogue.new ≡ (created account.now catalogue.old name).1) }
         ensures unchanged { OnErr result (catalogue.new ≡ catalogue.old) }
         ensures fit { RowsFit self.old catalogue.old → RowsFit self.new catalogue.new }
-        ensures rows { self.new ≡ self.old }
+        ensures rows_stay { self.new ≡ self.old }
     {
         let acl = new_list(alloc)?;
         catalogue.create(name, account.name.copy(), account.primary.copy(), acl)

@@ -1,6 +1,6 @@
 //! Decisions that are kept from one request to the next.
-ghost use Rattle.std.specs.Prelude.{◌≡◌, ◌≤◌, [], IsTrue, IfSome, length, take, Contains};
-ghost use Rattle.mon_access.specs.Compiling.{is_one};
+ghost use Rattle.std.specs.Prelude.{◌≡◌, ◌≤◌, [], IsTrue, IfSome, length, take};
+ghost use Rattle.mon_acl.specs.Permissions.{is_one};
 ghost use Rattle.mon_guard.specs.Deciding.{decision_on};
 
 use indexmap::IndexMap;
@@ -27,8 +27,13 @@ pub struct Row {
 #[derive(Drop)]
 pub struct Rows {
     by_names: IndexMap<(Name, Name), Row>,
-    // Where the two rows stand that were added last, so that a job that copies from set to set finds its rows with no hashing.
-    // No contract sees them, since what stands there is compared like any other row.
+    at_hand: AtHand,
+}
+
+/// Where the two rows stand that were used last, so that a job that copies from set to set hashes no names. No contract sees
+/// this: what stands there is compared before it is used.
+#[derive(Clone, Copy)]
+struct AtHand {
     last: usize,
     before: usize,
 }
@@ -43,15 +48,33 @@ impl Model for Rows {
     ghost view = { λ r. values_of r.by_names.entries };
 }
 
-/// What was decided of a request, and whether a row told it.
+/// What was decided of a request, and where the row stands that told it, if one did.
 #[derive(Clone, Copy)]
 pub(crate) struct Judged {
     pub decision: Decision,
-    pub is_kept: bool,
+    pub row: Option<usize>,
+}
+
+/// What a row says, and where it stands.
+#[derive(Clone, Copy)]
+struct Found {
+    place: usize,
+    ready: Ready,
+}
+
+impl AtHand {
+    // The row at a place was used. Where it is one of the two already nothing moves, since a job that copies asks by turns.
+    fn put(&mut self, place: usize) {
+        if place != self.last && place != self.before {
+            self.before = self.last;
+            self.last = place;
+        }
+    }
 }
 
 impl Rows {
-    ghost use Rattle.mon_guard.specs.Rows.{FitOn, MayKeep, rows_beside};
+    ghost use Rattle.mon_guard.specs.Rows.{rows_beside};
+    ghost use Rattle.mon_guard.specs.inner.Keeping.{Says, FitOn, MayKeep};
 
     // No rows.
     pub(crate) fn new(alloc: Global) -> Rows
@@ -59,8 +82,7 @@ impl Rows {
     {
         Rows {
             by_names: IndexMap::new(alloc),
-            last: 0,
-            before: 0,
+            at_hand: AtHand { last: 0, before: 0 },
         }
     }
 
@@ -71,46 +93,46 @@ impl Rows {
         self.by_names.len()
     }
 
-    // What the row at a place holds, where that is of the account and of the set of a name.
+    // What the row at a place says, where it is of the account and of the set of a name.
     #[inline(always)]
-    fn at(&self, place: usize, account: &Account, name: &Name) -> Option<Ready>
-        ensures { IfSome result (λ ready. Contains self.now (record { account = account.now; set = name.now; ready = ready })) }
+    fn at(&self, place: usize, account: &Account, name: &Name) -> Option<Found>
+        ensures { IfSome result (λ found. Says self.now account.now name.now found.ready) }
     {
         let (_, row) = self.by_names.get_index(place)?;
         if row.set == *name && row.account.is(account) {
-            Some(row.ready)
+            let ready = row.ready;
+            Some(Found { place, ready })
         } else {
             None
         }
     }
 
     // What is kept of the account on the set of a name. A row of an account of this name with other groups is passed over.
-    fn find(&self, account: &Account, name: &Name) -> Option<Ready>
-        ensures { IfSome result (λ ready. Contains self.now (record { account = account.now; set = name.now; ready = ready })) }
+    fn find(&self, account: &Account, name: &Name) -> Option<Found>
+        ensures { IfSome result (λ found. Says self.now account.now name.now found.ready) }
     {
-        match self.at(self.last, account, name) {
-            Some(ready) => Some(ready),
-            None => self.find_before(account, name),
-        }
-    }
-
-    // The same, where it is not the row that was added last.
-    fn find_before(&self, account: &Account, name: &Name) -> Option<Ready>
-        ensures { IfSome result (λ ready. Contains self.now (record { account = account.now; set = name.now; ready = ready })) }
-    {
-        match self.at(self.before, account, name) {
-            Some(ready) => Some(ready),
+        match self.find_at_hand(account, name) {
+            Some(found) => Some(found),
             None => self.find_by_hash(account, name),
         }
     }
 
-    // The same, where it is neither of the last two.
-    fn find_by_hash(&self, account: &Account, name: &Name) -> Option<Ready>
-        ensures { IfSome result (λ ready. Contains self.now (record { account = account.now; set = name.now; ready = ready })) }
+    // The same, where it is one of the two rows used last.
+    fn find_at_hand(&self, account: &Account, name: &Name) -> Option<Found>
+        ensures { IfSome result (λ found. Says self.now account.now name.now found.ready) }
     {
-        let place = self
-            .by_names
-            .get_index_of(&(account.name.copy(), name.copy()))?;
+        match self.at(self.at_hand.last, account, name) {
+            Some(found) => Some(found),
+            None => self.at(self.at_hand.before, account, name),
+        }
+    }
+
+    // The same, wherever it stands.
+    fn find_by_hash(&self, account: &Account, name: &Name) -> Option<Found>
+        ensures { IfSome result (λ found. Says self.now account.now name.now found.ready) }
+    {
+        let key = (account.name.copy(), name.copy());
+        let place = self.by_names.get_index_of(&key)?;
         self.at(place, account, name)
     }
 
@@ -129,19 +151,36 @@ impl Rows {
         ensures { result.decision ≡ decision_on account.now set.now request }
     {
         match self.find(account, name) {
-            Some(ready) => Judged {
-                decision: ready.decide(request),
-                is_kept: true,
+            Some(found) => Judged {
+                decision: found.ready.decide(request),
+                row: Some(found.place),
             },
             None => Judged {
                 decision: check(account, &set.owner, &set.group, &set.acl, request),
-                is_kept: false,
+                row: None,
             },
         }
     }
 
+    // Makes the next request like this one quick: the row that told it is one of the two used last. Where there was none, one
+    // is kept.
+    pub(crate) fn remember(
+        &mut self,
+        row: Option<usize>,
+        account: &Account,
+        name: &Name,
+        set: &DataSet,
+    )
+        ensures { MayKeep account.now name.now set.now self.old self.new }
+    {
+        match row {
+            Some(place) => self.at_hand.put(place),
+            None => self.keep(account, name, set),
+        }
+    }
+
     // Keeps a row more, where there is room and memory for it.
-    pub(crate) fn keep(&mut self, account: &Account, name: &Name, set: &DataSet)
+    fn keep(&mut self, account: &Account, name: &Name, set: &DataSet)
         ensures { MayKeep account.now name.now set.now self.old self.new }
     {
         let key = (account.name.copy(), name.copy());
@@ -156,8 +195,7 @@ impl Rows {
                 set,
                 ready,
             };
-            self.before = self.last;
-            self.last = self.by_names.len();
+            self.at_hand.put(self.by_names.len());
             // A refused growth keeps no row. Dropped by name, the answer leaves one way on, and not one for each of its cases.
             let added = self.by_names.insert(key, row);
             drop(added);
