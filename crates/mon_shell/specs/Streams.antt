@@ -1,0 +1,28 @@
+-- What a run of a deck comes to over streams of std (own).
+use Rattle.std.specs.Prelude.{◌≡◌, ℕ, List, Option, is_some, Result, Err, IfSome, IfOk, OnOk}
+use Rattle.mon_cards.specs.declared.code.Code.{Code}
+use Rattle.mon_cards.specs.Decks.{Stopped, Refused}
+use Rattle.mon_device.specs.Devices.{IsAtEnd}
+use Rattle.mon_device.specs.Telling.{where_told}
+use Rattle.mon_feed.specs.declared.fault.RunError.{RunError}
+use Rattle.mon_feed.specs.declared.fault.RunError.TheVariants.{DeckRefused, ReadFault, Memory}
+use Rattle.mon_feed.specs.declared.options.Options.{Options}
+use Rattle.mon_feed.specs.declared.options.Counts.{Counts}
+use Rattle.mon_deck.specs.Runs.{ending_of, counts_of, HasWritten, HasRun, HasBegun, HasPrinted, HasBrokenOff}
+
+-- what a stream tells now that told this at first: nothing, where it told nothing
+abbrev pub told_since : Option (List ℕ) → Option (List ℕ) → Option (List ℕ)
+told_since first now = where_told (is_some first) now
+
+-- How a run of a deck comes out, by what its reader told and has left, and what its writer held and holds now: what `run_deck`
+-- says of its devices.
+pub record Comes (options : Options) (told left held now : Option (List ℕ)) (outcome : Result Counts RunError) : Type 0 where
+  pub at_end : OnOk outcome (IsAtEnd left)
+  pub stopped : OnOk outcome (IfSome told (λ bytes. ending_of bytes ≡ Stopped))
+  pub output : OnOk outcome (IfSome told (λ bytes. HasRun options held now bytes))
+  pub counts : IfOk outcome (λ counts. IfSome told (λ bytes. counts ≡ counts_of bytes))
+  pub refused : (line : ℕ) (code : Code) → outcome ≡ Err (DeckRefused line code) → IfSome told (λ bytes. ending_of bytes ≡ Refused line code)
+  pub refused_output : (line : ℕ) (code : Code) → outcome ≡ Err (DeckRefused line code) → IfSome told (λ bytes. HasWritten options held now bytes)
+  pub begun : HasBegun options told left held now
+  pub due : outcome ≡ Err ReadFault → HasPrinted options told left held now
+  pub short : outcome ≡ Err Memory → HasBrokenOff options told left held now
