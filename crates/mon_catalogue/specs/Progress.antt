@@ -1,10 +1,12 @@
 -- Where the reading of a catalogue's text stands, line by line, and what one more line makes of it.
-use Rattle.std.specs.Prelude.{◌≡◌, ℕ, ◌+◌, ◌-◌, ◌==◌, Bool, true, false, not, List, [], ◌∷◌, ◌++◌, Option, None, Some, Result, Ok, Err, if◌then◌else◌}
+use Rattle.std.specs.Prelude.{◌≡◌, ℕ, ◌+◌, ◌-◌, ◌==◌, Bool, true, false, IsTrue, IsOk, ◌⊎◌, List, [], ◌∷◌, ◌++◌, Option, None, Some, Result, Ok, Err, if◌then◌else◌}
 use Rattle.mon_text.specs.declared.stop.Stop.{Stop}
 use Rattle.mon_text.specs.declared.stop.Stop.TheVariants as stop
 use Rattle.mon_text.specs.Lines.{is_blank_line, words}
 use Rattle.mon_acl.specs.declared.entries.Entry.{Entry}
+use Rattle.mon_acl.specs.Reading as acl
 use Rattle.mon_acl.specs.Reading.{read_short}
+use Rattle.mon_acl.specs.Texts.{pieces}
 use Rattle.mon_acl.specs.declared.refusals.AclError.{AclError}
 use Rattle.mon_catalogue.specs.declared.data_set.DataSet.{DataSet}
 use Rattle.mon_catalogue.specs.declared.head.Head.{Head}
@@ -95,13 +97,17 @@ stopped (Refused e) = Some (stop.Refused e)
 stopped OutOfMemory = Some stop.Memory
 stopped _ = None
 
--- whether one more line may take memory: blank lines between sets and lines that are too long for a record take none
-abbrev pub may_grow : Progress → List ℕ → Bool
-may_grow (SetDue _ _) line = not (is_blank_line line)
-may_grow (ListDue _ _ _) line = true
-may_grow (RecordsDue _ _ _ _ _) line = is_record line
-may_grow (Refused _) line = false
-may_grow OutOfMemory line = true
+-- the line of a permission list takes memory where the list has five entries or more, or where the set is whole by it
+abbrev pub ListGrows : Head → List ℕ → Type 0
+ListGrows head line = acl.MayGrow (pieces line) ⊎ (IsOk (read_short line) × (head.count ≡ 0))
+
+-- one more line may take memory: blank lines between sets take none, and neither do lines that are too long for a record
+abbrev pub MayGrow : Progress → List ℕ → Type 0
+MayGrow (SetDue _ _) line = is_blank_line line ≡ false
+MayGrow (ListDue _ _ head) line = ListGrows head line
+MayGrow (RecordsDue _ _ _ _ _) line = IsTrue (is_record line)
+MayGrow (Refused _) line = ⊥
+MayGrow OutOfMemory line = Unit {0}
 
 -- after a line the reading stands at p, and has stopped where the answer is an error: for a refusal of p, or as memory was short
 abbrev pub Answers : {A : Type 0} → Result A (Stop CatalogueError) → Progress → Progress → Type 0

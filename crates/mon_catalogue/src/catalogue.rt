@@ -193,6 +193,7 @@ impl Catalogue {
         ensures printable { OnOk result (ArePrintable self.now) }
         ensures reads_back { OnOk result (catalogue_of (catalogue_lines self.now) ≡ Ok self.now) }
         ensures bytes_read_back { OnOk result (catalogue_of (lines (catalogue_text self.now)) ≡ Ok self.now) }
+        ensures memory { OnErr result (0 < length self.now) }
     {
         for (name, set) in &self.sets {
             put_set(name, set, out)?;

@@ -1,7 +1,8 @@
 //! A data set and its records.
-ghost use Rattle.std.specs.Prelude.{◌≡◌, ◌==◌, ◌<◌, ◌≤◌, [], ◌∷◌, ◌++◌, length, slice_get, OnOk, OnErr};
+ghost use Rattle.std.specs.Prelude.{◌≡◌, ◌==◌, ◌<◌, ◌≤◌, [], ◌∷◌, ◌++◌, length, slice_get, OnOk, OnErr, IsErrOf};
 ghost use Rattle.std.specs.Option.{option_copied};
 ghost use Rattle.mon_text.specs.Stops.{refused_as};
+ghost use Rattle.mon_text.specs.declared.stop.Stop.{Stop};
 ghost use Rattle.mon_catalogue.specs.Records.{AreRecords};
 ghost use Rattle.mon_catalogue.specs.Writing.{Put, Cut, put_at, cut_at, put_refusal, recorded};
 
@@ -106,6 +107,7 @@ impl Records {
         ensures put { OnOk result (self.new ≡ put_at position line self.old) }
         ensures refused { refused_as result ≡ put_refusal position self.old }
         ensures unchanged { OnErr result (self.new ≡ self.old) }
+        ensures memory { IsErrOf result Stop.Memory → length self.old ≤ position }
     {
         if position < self.len() {
             self.lines[position as usize] = line;
@@ -150,6 +152,7 @@ impl DataSet {
         ensures put { OnOk result (self.new ≡ recorded (Put position line) self.old) }
         ensures refused { refused_as result ≡ put_refusal position self.old.records }
         ensures unchanged { OnErr result (self.new ≡ self.old) }
+        ensures memory { IsErrOf result Stop.Memory → length self.old.records ≤ position }
     {
         self.records.put_at(position, line)
     }

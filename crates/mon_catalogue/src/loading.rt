@@ -1,11 +1,11 @@
 //! Reading a catalogue's text.
-ghost use Rattle.std.specs.Prelude.{◌≡◌, ℕ, ◌<◌, ◌≤◌, ◌+◌, ◌-◌, ◌^◌, List, [], length, true, not, Some, Ok, Err, IfOk, OnOk, IsErrOf, IsTrue};
+ghost use Rattle.std.specs.Prelude.{◌≡◌, ℕ, ◌<◌, ◌≤◌, ◌+◌, ◌-◌, ◌^◌, List, [], length, true, false, Some, Ok, Err, IfOk, OnOk, IsErrOf, IsTrue};
 ghost use Rattle.mon_text.specs.Lines.{is_blank_line};
 ghost use Rattle.mon_text.specs.declared.stop.Stop.{Stop};
 ghost use Rattle.mon_acl.specs.Reading.{read_short};
 ghost use Rattle.mon_catalogue.specs.declared.loading.CatalogueError.{CatalogueError};
 ghost use Rattle.mon_catalogue.specs.Head.{head_refusal};
-ghost use Rattle.mon_catalogue.specs.Progress.{Answers, SetDue, stopped, may_grow, step, finished, is_due, lines_taken, with_due, after_head, after_set_due, after_acl, after_record};
+ghost use Rattle.mon_catalogue.specs.Progress.{Answers, SetDue, stopped, MayGrow, ListGrows, step, finished, is_due, lines_taken, with_due, after_head, after_set_due, after_acl, after_record};
 ghost use Rattle.mon_catalogue.specs.Reading.{catalogue_of, catalogue_refusal, Gives};
 ghost use Rattle.mon_catalogue.specs.Records.{is_record};
 ghost use Rattle.mon_catalogue.specs.Sets.{Sets};
@@ -101,7 +101,7 @@ impl Loading {
         requires { lines_taken self.old < 2 ^ 63 }
         ensures step { Answers result self.new (step self.old line) }
         ensures again { (stop : Stop CatalogueError) → stopped self.old ≡ Some stop → (result ≡ Err stop) × (self.new ≡ self.old) }
-        ensures memory { IsErrOf result Stop.Memory → IsTrue (may_grow self.old line) }
+        ensures memory { IsErrOf result Stop.Memory → MayGrow self.old line }
         ensures counted { lines_taken self.new ≤ lines_taken self.old + 1 }
     {
         if let Stage::Stopped(stop) = &self.stage {
@@ -146,7 +146,7 @@ fn advance(
     requires sound { IsSound catalogue.old stage.old }
     ensures step { Answers result (progress_of (lines_taken + 1) catalogue.new stage.new) (step (progress_of lines_taken catalogue.old stage.old) line) }
     ensures sound { IsSound catalogue.new stage.new }
-    ensures memory { IsErrOf result Stop.Memory → IsTrue (may_grow (progress_of lines_taken catalogue.old stage.old) line) }
+    ensures memory { IsErrOf result Stop.Memory → MayGrow (progress_of lines_taken catalogue.old stage.old) line }
 {
     let answer = match stage {
         Stage::RecordsDue(_, set, left) if *left > 1 => push_record(
@@ -195,7 +195,7 @@ fn turn(
 ) -> Result<(), Stop<CatalogueError>>
     requires few { lines_taken < 2 ^ 63 }
     requires sound { IsSound catalogue.old stage.old }
-    ensures step { Arrives (lines_taken + 1) catalogue.new stage.new (may_grow (progress_of lines_taken catalogue.old stage.old) line) result (step (progress_of lines_taken catalogue.old stage.old) line) }
+    ensures step { Arrives (lines_taken + 1) catalogue.new stage.new (MayGrow (progress_of lines_taken catalogue.old stage.old) line) result (step (progress_of lines_taken catalogue.old stage.old) line) }
     ensures sound { OnOk result (IsSound catalogue.new stage.new) }
 {
     let due = mem::replace(stage, Stage::SetDue);
@@ -212,7 +212,7 @@ fn after(
 ) -> Result<Stage, Stop<CatalogueError>>
     requires few { lines_taken < 2 ^ 63 }
     requires sound { IsSound catalogue.old stage }
-    ensures step { Reaches (lines_taken + 1) catalogue.new (may_grow (progress_of lines_taken catalogue.old stage) line) result (step (progress_of lines_taken catalogue.old stage) line) }
+    ensures step { Reaches (lines_taken + 1) catalogue.new (MayGrow (progress_of lines_taken catalogue.old stage) line) result (step (progress_of lines_taken catalogue.old stage) line) }
     ensures sound { IfOk result (IsSound catalogue.new) }
 {
     let number = lines_taken + 1;
@@ -231,7 +231,7 @@ fn after_set_due(
     number: u64,
     line: &Line,
 ) -> Result<Stage, Stop<CatalogueError>>
-    ensures step { Reaches number catalogue.now (not (is_blank_line line.now)) result (after_set_due number catalogue.now line.now) }
+    ensures step { Reaches number catalogue.now (is_blank_line line.now ≡ false) result (after_set_due number catalogue.now line.now) }
     ensures sound { IfOk result (IsSound catalogue.now) }
 {
     if line.is_blank() {
@@ -245,7 +245,7 @@ fn after_set_due(
 }
 
 fn after_head(catalogue: &Catalogue, number: u64, head: Head) -> Result<Stage, Stop<CatalogueError>>
-    ensures step { Reaches number catalogue.now true result (after_head number catalogue.now head (head_refusal number catalogue.now head)) }
+    ensures step { Reaches number catalogue.now ⊥ result (after_head number catalogue.now head (head_refusal number catalogue.now head)) }
     ensures sound { IfOk result (IsSound catalogue.now) }
 {
     if head.count > MOST_RECORDS {
@@ -267,7 +267,7 @@ fn after_list(
     line: &Line,
 ) -> Result<Stage, Stop<CatalogueError>>
     requires sound { IsAwaited catalogue.old head.name head.count }
-    ensures step { Reaches number catalogue.new true result (after_acl number catalogue.old head (read_short line.now)) }
+    ensures step { Reaches number catalogue.new (ListGrows head line.now) result (after_acl number catalogue.old head (read_short line.now)) }
     ensures sound { IfOk result (IsSound catalogue.new) }
 {
     match Acl::parse_short(catalogue.allocator(), line.as_bytes()) {
@@ -295,7 +295,7 @@ fn after_record(
     line: Line,
 ) -> Result<Stage, Stop<CatalogueError>>
     requires sound { IsSound catalogue.old (Stage.RecordsDue name set left) }
-    ensures step { Reaches number catalogue.new (is_record line) result (after_record number catalogue.old name set left line) }
+    ensures step { Reaches number catalogue.new (IsTrue (is_record line)) result (after_record number catalogue.old name set left line) }
     ensures sound { IfOk result (IsSound catalogue.new) }
 {
     if line.len() > MOST_RECORD_CHARACTERS {
@@ -316,7 +316,7 @@ fn with_due(
     left: u64,
 ) -> Result<Stage, Stop<CatalogueError>>
     requires sound { IsAwaited catalogue.old name (length set.records + left) }
-    ensures step { Reaches number catalogue.new true result (with_due number catalogue.old name set left) }
+    ensures step { Reaches number catalogue.new (left ≡ 0) result (with_due number catalogue.old name set left) }
     ensures sound { IfOk result (IsSound catalogue.new) }
 {
     if left > 0 {

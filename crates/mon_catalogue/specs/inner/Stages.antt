@@ -1,5 +1,5 @@
 -- What the program keeps of a loading, as the progress that contracts speak of.
-use Rattle.std.specs.Prelude.{◌≡◌, ℕ, ◌+◌, ◌<◌, ◌≤◌, Bool, false, IsTrue, List, length, None, Result, Ok, Err}
+use Rattle.std.specs.Prelude.{◌≡◌, ℕ, ◌+◌, ◌<◌, ◌≤◌, false, IsTrue, List, length, None, Result, Ok, Err}
 use Rattle.mon_text.specs.declared.stop.Stop.{Stop}
 use Rattle.mon_text.specs.declared.stop.Stop.TheVariants as stop
 use Rattle.mon_catalogue.specs.declared.loading.CatalogueError.{CatalogueError}
@@ -28,17 +28,17 @@ IsSound sets (stages.ListDue head) = IsAwaited sets head.name head.count
 IsSound sets (stages.RecordsDue name set left) = IsAwaited sets name (length set.records + left) × (0 < left)
 IsSound sets (stages.Stopped _) = Unit {0}
 
--- the stage at which a line left the reading, or its error, is that of this progress; memory is short only where it may grow
-abbrev pub Reaches : ℕ → Sets → Bool → Result Stage (Stop CatalogueError) → Progress → Type 0
-Reaches n sets grows (Ok stage) p = (progress_of n sets stage ≡ p) × (stopped p ≡ None)
-Reaches n sets grows (Err (stop.Refused e)) p = p ≡ Refused e
-Reaches n sets grows (Err stop.Memory) p = IsTrue grows
+-- the stage at which a line left the reading, or its error, is that of this progress; memory is short only where some is taken
+abbrev pub Reaches : ℕ → Sets → Type 0 → Result Stage (Stop CatalogueError) → Progress → Type 0
+Reaches n sets Grows (Ok stage) p = (progress_of n sets stage ≡ p) × (stopped p ≡ None)
+Reaches n sets Grows (Err (stop.Refused e)) p = p ≡ Refused e
+Reaches n sets Grows (Err stop.Memory) p = Grows
 
 -- the same, where the stage is given beside the answer
-abbrev pub Arrives : ℕ → Sets → Stage → Bool → Result (Unit {0}) (Stop CatalogueError) → Progress → Type 0
-Arrives n sets stage grows (Ok _) p = (progress_of n sets stage ≡ p) × (stopped p ≡ None)
-Arrives n sets stage grows (Err (stop.Refused e)) p = p ≡ Refused e
-Arrives n sets stage grows (Err stop.Memory) p = IsTrue grows
+abbrev pub Arrives : ℕ → Sets → Stage → Type 0 → Result (Unit {0}) (Stop CatalogueError) → Progress → Type 0
+Arrives n sets stage Grows (Ok _) p = (progress_of n sets stage ≡ p) × (stopped p ≡ None)
+Arrives n sets stage Grows (Err (stop.Refused e)) p = p ≡ Refused e
+Arrives n sets stage Grows (Err stop.Memory) p = Grows
 
 -- one more record of the set, and one less to come
 abbrev pub Pushes : ℕ → DataSet → ℕ → List ℕ → DataSet → ℕ → Result (Unit {0}) (Stop CatalogueError) → Type 0
