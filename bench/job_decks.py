@@ -3,7 +3,8 @@
 
 The cases, at their whole size:
 
-  copy            100,000 records read from one data set and written to another, by a named user
+  copy            100,000 records read from one data set and written to another, by a named user without further groups
+  copy_by_owner   the same by the owner of both
   copy_by_groups  the same by an account of 16 further groups, of which the lists name the last
   spool           100,000 records read from a data set and printed
   match           100 matches of 503,503 steps, nearly all of it one text that is tried at each cursor
@@ -42,19 +43,23 @@ def records(count, acl=PAYROLL_LIST):
     return [f"$SET BIG anna admin {count}", acl, *(f"RECORD {i:06} {tail}" for i in range(count))]
 
 
-def copies(size, acl, lisa):
+def copies(size, acl, who="lisa", lisa="lisa staff"):
     sets = [*records(int(100_000 * size), acl), "$SET OUT anna admin 0", acl]
     program = ["$UNIT 8 BIG", "$UNIT 9 OUT", "  INPUT('R',8); OUTPUT('W',9)", "L W = R :S(L)", "END"]
-    return job("$JOB lisa ST=200000", program, sets, lisa)
+    return job(f"$JOB {who} ST=200000", program, sets, lisa)
 
 
 def copy(size):
-    return copies(size, PAYROLL_LIST, "lisa staff")
+    return copies(size, PAYROLL_LIST)
+
+
+def copy_by_owner(size):
+    return copies(size, PAYROLL_LIST, who="anna")
 
 
 def copy_by_groups(size):
     groups = [f"g{i:02}" for i in range(15)]
-    return copies(size, TEAM_LIST, " ".join(["lisa staff", *groups, "team"]))
+    return copies(size, TEAM_LIST, lisa=" ".join(["lisa staff", *groups, "team"]))
 
 
 def spool(size):
@@ -165,6 +170,7 @@ CASES = {
     write.__name__: write
     for write in (
         copy,
+        copy_by_owner,
         copy_by_groups,
         spool,
         match,
