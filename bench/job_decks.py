@@ -12,6 +12,8 @@ The cases, at their whole size:
   recursion       a left-recursive pattern, until 10,000,000 steps are taken: the most goals and choices that there can be
   loop            10,000,000 statements of arithmetic
   functions       some 910,000 statements, nearly all within calls of a function of three arguments and a local
+  calls           10,000,000 calls of a function, in two jobs that come one behind the other, ten calls a statement
+  matches         a match in each of 10,000,000 statements
   strings         870,031 statements: words cut off a text by a pattern, and counted in variables named by them
   lists           the case of decks.py: 20,000 commands, 2,018,000 access checks on lists of 100 named entries
   many_names      20,000 $CATALOG over 1,000 data sets of 100 named entries; a list is set anew now and then
@@ -102,6 +104,24 @@ def functions(size):
     )
 
 
+def calls(size):
+    """The second job comes when the first has ended: neither may begin more than 10,000,000 statements."""
+    count = int(500_000 * size)
+    program = [
+        "  DEFINE('F(N)') :(L)",
+        "F F = N :(RETURN)",
+        f"L N = LT(N,{count}) N + 1 :F(END)",
+        f"  X ={' + F(N)' * 10} :(L)".replace("= + ", "= "),
+        "END",
+    ]
+    card = f"$JOB lisa ST={13 * count + 10}"
+    return job(card, program, behind=["$DRAIN", card, *program, "$EOJ"])
+
+
+def matches(size):
+    return job(f"$JOB lisa ST={int(10_000_000 * size)}", ["L 'A' LEN(1) :(L)", "END"])
+
+
 def strings(size):
     return job(
         "$JOB lisa ST=1000000",
@@ -178,6 +198,8 @@ CASES = {
         recursion,
         loop,
         functions,
+        calls,
+        matches,
         strings,
         lists,
         many_names,
