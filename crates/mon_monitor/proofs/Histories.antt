@@ -138,7 +138,8 @@ load_has_room law deck m w some =
 
 -- WHAT STAYS
 
-event_accounts : (e : Event) (m : Marks) (w : World) → (happened e m w).after.accounts ≡ w.accounts
+-- no event changes the account table
+pub event_accounts : (e : Event) (m : Marks) (w : World) → (happened e m w).after.accounts ≡ w.accounts
 event_accounts (Serve command) m w = refl
 event_accounts (Load deck) m w = refl
 event_accounts (Give s n) m w = refl

@@ -4,8 +4,8 @@ mod Talking
 mod Exchanging
 mod Seating
 mod Telling
-mod Recounting
 mod Accounting
+mod Recounting
 mod Headline
 mod Finding
 mod Names
@@ -16,5 +16,6 @@ mod Loading
 mod Agreeing
 mod Beginnings
 mod Example
+mod Examples
 pub mod Schedules
 pub mod Unseen

@@ -23,12 +23,14 @@ use Rattle.mon_job.specs.declared.refusal.LoadError.{LoadError}
 use Rattle.mon_slots.specs.Floors.{SlotState, Floor, floor, seat_at, with_seat, job_in, first_free}
 use Rattle.mon_slots.specs.Loads.{first_of, slot_refusal, account_refusal, first_units, tied_by, with_ties, program_refusal, program_in, deck_refusal, loaded_slot, slot_by, slot_in, loaded_by, loaded}
 use Rattle.mon_slots.specs.Turns.{reached, ran, ends_by, only}
-use Rattle.mon_slots.specs.Marks.{Mark, Marks, mark_of, later, may_break, broken_by, ran_as, turn_as_by, turn_as, Past, nothing, and_then, until, never, rounds, turns_left, is_done, has_room, room}
+use Rattle.mon_slots.specs.Marks.{Mark, Marks, mark_of, later, may_break, broken_by, ran_as, turn_as_by, turn_as, Past, nothing, and_then, until, never, is_done, has_room, room}
 use Rattle.mon_monitor.specs.Worlds.{World, world}
 use Rattle.mon_monitor.specs.Events.{Event, Serve, Load, Give, Drain}
 use Rattle.mon_monitor.specs.Played.{happened, played}
 use Rattle.mon_monitor.specs.History.{Entry, Entered, Refused, Asked, Ordered, whole_turn, broken_turn, asked_in, end_entry, turn_entries, entries_until, load_entry, event_entries, history, is_of, own}
 use Rattle.mon_monitor.specs.Headline.{IsJob, job_of, NumbersDiffer}
+use Rattle.mon_monitor.proofs.Histories.{event_accounts}
+use Rattle.mon_monitor.proofs.Accounting.{in_rounds}
 use Rattle.mon_monitor.proofs.Exchanging.{whole_told, cut_told, whole_tells, cut_begins}
 use Rattle.mon_monitor.proofs.Seating.{IsSeat, seat_changed, free_seat}
 use Rattle.mon_monitor.proofs.Telling.{same_or_not, not_same, AreOf, none_of, more_of, number_is, number_not, own_more, own_same, Sitting, goes_on, Turn, Again, IsToCome, SoFar, still_job, turn_far}
@@ -329,9 +331,6 @@ module _ (accounts : List Account) (J : ℕ → Option JobDeck) (numbered : (n :
     ordered_by_none n H entry not =
         filter-append (is_of n) H (entry ∷ []) ∙ ap (λ (b : Bool). own n H ++ (if b then entry ∷ [] else [])) not ∙ append-nil (own n H)
 
-    abbrev in_rounds : Floor → List ℕ
-    in_rounds f = rounds (turns_left f.slots) (length f.slots)
-
     module _ (made : (w : Floor) (m : Marks) → length w.slots ≢ 0 → has_room (room m w).after ≡ true)
         (stays : (e : Event) (m : Marks) (w : World) → length (happened e m w).after.floor.slots ≡ length w.floor.slots) where
       abbrev Happens : Event → Marks → Floor → List Entry → List Event → Type 0
@@ -359,12 +358,6 @@ module _ (accounts : List Account) (J : ℕ → Option JobDeck) (numbered : (n :
       differ_later (Give slot count) E differ = differ
       differ_later Drain E differ = differ
 
-      kept_accounts : (e : Event) (m : Marks) (f : Floor) → (happened e m (world accounts f)).after.accounts ≡ accounts
-      kept_accounts (Serve command) m f = refl
-      kept_accounts (Load deck) m f = refl
-      kept_accounts (Give slot count) m f = refl
-      kept_accounts Drain m f = refl
-
       pub history_far : (E : List Event) (m : Marks) (f : Floor) (H : List Entry) → NumbersDiffer E → length f.slots ≢ 0 → Far E H f.slots
           → Far [] (H ++ history E m (world accounts f)) (played E m (world accounts f)).after.floor.slots
       history_far [] m f H differ some far = subst (λ (l : List Entry). Far [] l f.slots) (sym (append-nil H)) far
@@ -372,7 +365,7 @@ module _ (accounts : List Account) (J : ℕ → Option JobDeck) (numbered : (n :
           let p = happened e m (world accounts f) in
           let here = event_entries e m (world accounts f) in
           let now = world accounts p.after.floor in
-          let same : p.after ≡ now = ap (λ (a : List Account). world a p.after.floor) (kept_accounts e m f) in
+          let same : p.after ≡ now = ap (λ (a : List Account). world a p.after.floor) (event_accounts e m (world accounts f)) in
           let next = event_far e E m f H differ some far in
           let enough : length p.after.floor.slots ≢ 0 = (λ z. some (sym (stays e m (world accounts f)) ∙ z)) in
           let rest = history_far E p.marks p.after.floor (H ++ here) (differ_later e E differ) enough next in

@@ -1,5 +1,6 @@
 -- What the history tells (own): a job's own entries are what its program means, each entry is answered as the data sets stand
--- then, and what is granted, denied and printed follows. The law `history_tells` says it of all events.
+-- then, and what is granted, denied and printed follows. The law `history_tells` says it of all events. Which turns come when,
+-- and that what is asked in one turn stands together, is left to the definition of `history`.
 use Rattle.std.specs.Prelude.{◌≡◌, ◌≢◌, ◌⊎◌, ◌↔◌, ◌==◌, ℕ, ◌≤◌, List, [], ◌∷◌, ◌++◌, map, Option, Some, None, if◌then◌else◌}
 use Rattle.std.specs.List.{AllByRecursion, flat_map}
 use Rattle.sno_ask.specs.Asking.{Asking, Exchange, Tells, Begins}
@@ -100,7 +101,8 @@ note_by EndOfFile e = []
 abbrev pub noted : List Exchanged → List Note
 noted asked = flat_map (λ e. note_by e.answer e) asked
 
--- a program has asked all that it asks up to its end, and ends so; or memory broke it off, at a beginning of what it would ask
+-- A program has asked all that it asks up to its end, and ends so, with as many statements as it has begun; or it ends for want
+-- of memory (END MEMORY), at a beginning of what it would ask, with no more statements than its limit.
 abbrev pub EndsSo : Asking (Step × Job) → List Exchange → ℕ → JobEnd → Type 0
 EndsSo talk x most end =
     ((job : Job) × Tells talk x (step.Ended end.ending, job) × (end.statements ≡ statements_begun job))
@@ -108,18 +110,25 @@ EndsSo talk x most end =
 
 -- a job that was refused: that is all there is of it
 pub record WasRefused (accounts : List Account) (deck : JobDeck) (entries : List Entry) : Type 0 where
+  -- It was refused for the first thing that is wrong with its cards.
   pub refusal : LoadError
   pub why : deck_refusal accounts deck ≡ Some refusal
+  -- Its one entry says so.
   pub all : entries ≡ Refused deck refusal ∷ []
 
 -- a job that was loaded: for the account of its card, with the program that its cards spell and the units that they tie; and
 -- what it has asked up to now
 pub record Course (accounts : List Account) (deck : JobDeck) : Type 0 where
+  -- Nothing is wrong with its cards.
   pub good : deck_refusal accounts deck ≡ None
+  -- Its account is the one that its card names.
   pub account : Account
   pub known : find_account accounts deck.account ≡ Some account
+  -- Its program is the one that its cards spell.
   pub program : Program
   pub spelled : program_in (statements_of deck.lines) ≡ Some program
+  -- All that it asks is asked for that account, from the units of its cards on, each request by the units as the one before it
+  -- left them: its data and its spool are its own.
   pub asked : List Exchanged
   pub units : UnitState
   pub follow : Follow deck.number account (with_ties deck.ties (first_units deck.lines)) asked units
@@ -131,13 +140,16 @@ job_in_cards accounts deck c = first_job c.program deck.limits
 -- It goes on, in its slot: so far it has asked all that its program asks in so many turns, and nothing else.
 pub record GoesOn (accounts : List Account) (deck : JobDeck) (slots : List (Option SlotState)) (entries : List Entry) : Type 0 where
   pub course : Course accounts deck
+  -- Its entries are that it was loaded, and what it asked.
   pub all : entries ≡ Entered deck ∷ map Asked course.asked
+  -- It sits in a slot, under its number and its account, with its units.
   pub slot : ℕ
   pub state : SlotState
   pub sits : seat_at slot slots ≡ Some state
   pub number : state.number ≡ deck.number
   pub account : state.account ≡ course.account
   pub units : state.units ≡ course.units
+  -- It asked all that its program asks in some number of turns, and goes on from there.
   pub turns : ℕ
   pub asks : Tells (turns_of turns (job_in_cards accounts deck course)) (exchanges course.asked) (step.Goes, state.job)
 
@@ -145,12 +157,17 @@ pub record GoesOn (accounts : List Account) (deck : JobDeck) (slots : List (Opti
 -- beginning of that; and what it prints is what these exchanges spooled and noted, and how it ended.
 pub record HasEnded (accounts : List Account) (deck : JobDeck) (entries : List Entry) : Type 0 where
   pub course : Course accounts deck
+  -- Its entries are that it was loaded, what it asked, and that it ended.
   pub end : JobEnd
   pub all : entries ≡ Entered deck ∷ (map Asked course.asked ++ Ended end ∷ [])
+  -- It asked, and ended, as its whole program means.
   pub asks : EndsSo (all_turns (job_in_cards accounts deck course)) (exchanges course.asked) deck.limits.statements end
+  -- It prints under its number and its account's name,
   pub number : end.number ≡ deck.number
   pub account : end.account ≡ course.account.name
+  -- the lines that it wrote to its spool,
   pub spool : end.spool ≡ spooled course.asked
+  -- and a note of each denial, and of each write for which there was no room.
   pub notes : end.notes ≡ noted course.asked
 
 -- all that there is of the job of some number; of a number that no job has there is nothing
@@ -209,11 +226,21 @@ Lead accounts before (entry ∷ entries) after =
 
 -- WHAT IS GRANTED
 
--- A request of a job: a record is got, and a data set changed, exactly where that is asked and the access check grants it on
--- the list as it stands; and it is denied exactly for the entry that decides, or for what is missing.
+-- What an answer means for grants, for the requests of jobs and then for commands. The list that decides is the one that the
+-- data set has at that exchange. End of file, FULL, a name that is taken (K1), a catalogue that is full (K4) and a text that
+-- spells no list (A) are answers to what was granted, and change nothing (the laws `denials_change_nothing` of mon_unit,
+-- `makers_own` and `owners_set_lists` of mon_guard).
+
+-- A request of a job: these are the laws `got_where_granted`, `changed_where_granted` and `denials_say_why` of mon_unit, at its
+-- answer.
 pub record IsRightRequest (e : Exchanged) : Type 0 where
+  -- It gets a line exactly where it reads and that stands at its unit's position, in the job's own data, or in the data set
+  -- that the unit is tied to, if r is granted there.
   pub got : (line : List ℕ) → (e.answer ≡ Got line) ↔ (ReadsDeck e.reach.units e.request line ⊎ ReadsSet e.account e.reach e.request line)
+  -- It changes a data set exactly where it ends it, or writes to it and there is room, and w is granted.
   pub changed : units.ChangesExactly e.account e.reach e.request
+  -- It is denied exactly where the unit is not tied, is the job's data (IN STREAM) or its spool (SPOOL UNIT) and this is none of
+  -- their acts, or where the data set is missing or an entry of its list decides so; and that is the reason that it is told.
   pub denied : (reason : Reason) → (e.answer ≡ Denied reason) ↔ WhyDenied e.account e.reach e.request reason
 
 -- a command that shows records, a list or names shows what is lent to the account; any other is told one line
@@ -225,12 +252,19 @@ ShowsRightly account sets (Create _ name) answer = (reply : Reply) × (answer �
 ShowsRightly account sets (Delete _ name) answer = (reply : Reply) × (answer ≡ Told reply)
 ShowsRightly account sets (SetAcl _ name text) answer = (reply : Reply) × (answer ≡ Told reply)
 
--- A command: an account that is unknown is told so; for a known one, data sets change, and records, lists and names are shown,
--- exactly where it asks and that is granted; and it is denied exactly for the entry that decides, or for what is missing.
+-- A command: these are the laws `changes_where_granted`, `shows_where_granted` and `denials_say_why` of mon_command, at its
+-- answer. By a name that is taken, and by denials, everyone is told whether there is such a data set.
 pub record IsRightCommand (accounts : List Account) (sets : Sets) (command : Command) (answer : commands.Answer) : Type 0 where
+  -- An account that is unknown is told so, and nothing else.
   pub unknown : find_account accounts (account_of command) ≡ None → answer ≡ Told reply.NoAccount
+  -- CREATE makes a data set for every account that is known, where its name is free and there is room; DELETE removes one for its
+  -- owner, and SETACL gives it the list that its text spells; no other command changes any.
   pub changed : commanding.ChangesExactly accounts sets command
+  -- LIST shows records exactly where r is granted; SHOWACL a list to the owner and where x is granted; and CATALOG, where x is
+  -- granted, a name, and with it owner, group and number of records.
   pub shown : (account : Account) → IsKnown accounts command account → ShowsRightly account sets command answer
+  -- It is denied exactly where the data set is missing, is another's (NOT OWNER), or an entry of its list decides so; and that is
+  -- the reason that it is told.
   pub denied : (account : Account) → IsKnown accounts command account → (reason : Reason)
       → (answer ≡ Told (reply.Denied reason)) ↔ IsWhy account command sets reason
 
@@ -247,15 +281,15 @@ IsRight accounts (Ended end) = Unit {0}
 -- These entries are the history of these events: all that they have brought about in this world, which printed these papers and
 -- left that world.
 pub record IsHistory (events : List Event) (w : World) (entries : List Entry) (papers : List Paper) (after : World) : Type 0 where
-  -- each command and each job stands in it, in the order in which they are asked
+  -- Each command and each job stands in it, in the order in which they are asked, and no other.
   pub cards : cards_in entries ≡ cards_of events
-  -- of each job there is what its program means, and nothing else
+  -- Of each job there is what its program means, and nothing else.
   pub jobs : (n : ℕ) → IsJob w.accounts after.floor.slots (job_of n events) (own n entries)
-  -- each entry is answered over the data sets that the one before it left, and nothing else changes them
+  -- Each entry is answered over the data sets that the one before it left, and nothing else changes them.
   pub lead : Lead w.accounts w.floor.sets entries after.floor.sets
-  -- what is got, changed, shown is what is granted, and each denial says why
+  -- What is got, changed or shown is what is granted, and each denial says why.
   pub granted : AllByRecursion (IsRight w.accounts) entries
-  -- what is printed is what the entries print
+  -- What is printed is what the entries print, in their order.
   pub printed : papers ≡ papers_in entries
 
 -- From empty slots on, whatever is asked and wherever memory breaks turns off.

@@ -1,5 +1,6 @@
 -- The history (own): the one list of all that jobs ask and commands order, each over the data sets as they stand then, with
--- what was answered; and of the jobs that enter and end.
+-- what was answered; and of the jobs that enter and end. It goes as `played` does: event by event, turn by turn, and all that a
+-- turn asks stands together.
 use Rattle.std.specs.Prelude.{ℕ, ◌==◌, Bool, true, false, List, [], ◌∷◌, ◌++◌, length, map, filter, take, Option, Some, None, Result, Ok, Err, if◌then◌else◌}
 use Rattle.std.specs.List.{flat_map}
 use Rattle.sno_talk.specs.Talks.{Ends, Asks}
