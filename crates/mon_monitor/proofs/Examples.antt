@@ -4,8 +4,8 @@ use Rattle.std.specs.Prelude.{codes}
 use Rattle.sno_ask.specs.Asking.{Exchange}
 use Rattle.sno_ask.specs.declared.request.Act.{Act}
 use Rattle.sno_ask.specs.declared.request.Act.TheVariants.{Read, Write}
-use Rattle.sno_ask.specs.declared.answer.Answer.{Answer}
-use Rattle.sno_ask.specs.declared.answer.Answer.TheVariants.{Done, Got, Denied}
+use Rattle.mon_answer.specs.declared.answer.Answer.{Answer}
+use Rattle.mon_answer.specs.declared.answer.Answer.TheVariants.{Done, Got, Denied}
 use Rattle.sno_run.specs.declared.ending.Ending.TheVariants.{Normal}
 use Rattle.sno_run.specs.Jobs.{all_turns, first_job}
 use Rattle.sno_cards.specs.Statements.{statements_of}
@@ -15,7 +15,7 @@ use Rattle.mon_access.specs.declared.account.Account.{Account}
 use Rattle.mon_access.specs.AccessCheck.{decision}
 use Rattle.mon_access.specs.Accounts.{find_account}
 use Rattle.mon_catalogue.specs.Sets.{Sets}
-use Rattle.mon_guard.specs.declared.answer.Reason.TheVariants.{By}
+use Rattle.mon_answer.specs.declared.answer.Reason.TheVariants.{By}
 use Rattle.mon_guard.specs.Owning.{plain}
 use Rattle.mon_unit.specs.declared.note.NoteAct.TheVariants as act
 use Rattle.mon_unit.specs.declared.note.NoteTarget.TheVariants as target
