@@ -6,7 +6,7 @@ ghost use Rattle.snomon.specs.CommandLine.{Gives, Writes, snomon};
 
 use clap::error::ErrorKind;
 use clap::{Arg, ArgAction, ArgMatches, Command, Error};
-use mon_deck::{Options, Slots};
+use mon_feed::{Options, Slots};
 use std::alloc::{AllocError, Global};
 use std::convert::AsStr;
 

@@ -1,0 +1,63 @@
+//! What the program does, over any streams of std: from its words and three streams to what stands in these and the exit status.
+ghost use Rattle.std.specs.Prelude.{◌≡◌, ◌⊎◌, map, IfOk, IfErr, IsOkAnd, Err};
+ghost use Rattle.clap.specs.Words.{kind_of};
+ghost use Rattle.mon_feed.specs.declared.options.Options.{Options};
+ghost use Rattle.mon_shell.specs.Streams.{told_since};
+ghost use Rattle.mon_shell.specs.Endings.{Ends, Tells};
+ghost use Rattle.snomon.specs.CommandLine.{Gives};
+
+use crate::options::{no_text, read_options};
+use clap::Error;
+use clap::error::ErrorKind;
+use mon_feed::{Options, RunError};
+use mon_shell::{Ended, finish, refuse, run_options};
+use std::alloc::{AllocError, Global};
+use std::convert::AsStr;
+use std::io;
+use std::io::{Read, Write};
+
+/// Runs the deck that comes from one stream as these words say, writes its output to another, and tells on a third what went wrong.
+/// The first word is the program's name; words that are no text give no options.
+pub fn run<S: AsStr + Drop, R: Read + Drop, W: Write + Drop, E: Write + Drop>(
+    alloc: Global,
+    words: io::Result<Vec<S>>,
+    input: R,
+    output: W,
+    errors: E,
+) -> Ended<R, W, E>
+    // Words that give options are refused for memory alone; where they give none, no deck is read.
+    ensures refused { result.status ≡ 2 → ((options : Options) → IsOkAnd words (λ list. Gives (map S.text list.items) options) → ⊥)
+        × (result.input ≡ input) × (result.output ≡ output) }
+    ensures ran { (result.status ≡ 2)
+        ⊎ ((result.status ≡ 3) × (result.input ≡ input) × (result.output ≡ output)
+        × Tells (Err RunError.Memory) result.is_told (E.contents errors) (E.contents result.errors))
+        ⊎ ((options : Options) × IsOkAnd words (λ list. Gives (map S.text list.items) options)
+        × Ends options (R.remaining input) (told_since (R.remaining input) (R.remaining result.input)) (W.contents output)
+        (told_since (W.contents output) (W.contents result.output)) result.status result.is_told (E.contents errors)
+        (E.contents result.errors)) }
+    ensures silent { result.status ≡ 0 → result.errors ≡ errors }
+{
+    match given_options(alloc, words) {
+        Ok(options) => run_options(alloc, options, input, output, errors),
+        Err(error) if error.kind() == ErrorKind::OutOfMemory => {
+            finish(alloc, Err(RunError::Memory), input, output, errors)
+        }
+        Err(error) => refuse(error, input, output, errors),
+    }
+}
+
+// The options that the words give.
+fn given_options<S: AsStr + Drop>(
+    alloc: Global,
+    words: io::Result<Vec<S>>,
+) -> Result<Options, Error>
+    ensures given { IfOk result (λ options. IsOkAnd words (λ list. Gives (map S.text list.items) options)) }
+    ensures refused { IfErr result (λ error. (kind_of error ≡ ErrorKind.OutOfMemory)
+        ⊎ ((options : Options) → IsOkAnd words (λ list. Gives (map S.text list.items) options) → ⊥)) }
+{
+    match words {
+        Ok(words) => read_options(alloc, words.as_slice()),
+        Err(error) if error.kind() == io::ErrorKind::InvalidData => Err(no_text(alloc)?),
+        Err(_) => Err(Error::from(AllocError)),
+    }
+}
