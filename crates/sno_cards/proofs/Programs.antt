@@ -1,5 +1,5 @@
 -- What a program is, by its first refusal and its END line.
-use Rattle.std.proofs.Common.{◌≡◌, ℕ, ◌+◌, false, List, length, take, Option, Some, None, Ok, Err, slice_get, refl, ap, ◌∙◌}
+use Rattle.std.proofs.Common.{◌≡◌, ℕ, ◌+◌, false, List, length, take, Option, Some, None, Ok, Err, IsOk, slice_get, refl, ap, ◌∙◌}
 use Rattle.std.specs.List.{find}
 use Rattle.std.proofs.lemmas.List.Folds.{find_at}
 use Rattle.sno_cards.specs.declared.refusal.SyntaxError.{SyntaxError}
@@ -27,4 +27,8 @@ pub ended_by : (lines : List (List ℕ)) (end_line : List ℕ) → first_refusal
     → slice_get lines (end_index lines) ≡ Some end_line → statements_of lines ≡ Ok (program_ended_by end_line lines)
 ended_by lines end_line good ended = statements_by lines None (Some end_line) good ended
 
-pub ruleset programs = (refused_by_card, refused_without_end, ended_by)
+pub not_refused : (lines : List (List ℕ)) (end_line : List ℕ) → first_refusal false (numbered 1 (take (end_index lines) lines)) ≡ None
+    → slice_get lines (end_index lines) ≡ Some end_line → IsOk (statements_of lines)
+not_refused lines end_line good ended = rw (ended_by lines end_line good ended) refl
+
+pub ruleset programs = (refused_by_card, refused_without_end, ended_by, not_refused)

@@ -1,5 +1,5 @@
 //! From the cards of a program to its statements, its END line and its data.
-ghost use Rattle.std.specs.Prelude.{◌≡◌, ◌<◌, length, slice_get, false, Ok, Err, IfOk, IfErr, OnSome};
+ghost use Rattle.std.specs.Prelude.{◌≡◌, ◌<◌, length, slice_get, false, Ok, Err, IfOk, IfErr, IsOk, IsErrOf, OnSome};
 ghost use Rattle.std.specs.Option.{option_copied};
 ghost use Rattle.sno_cards.specs.Answers.{IfRefused};
 ghost use Rattle.sno_cards.specs.Cards.{rest_of_end_line};
@@ -106,11 +106,12 @@ fn program(
 ///
 /// The first refusal: card by card up to the END line, `NothingToContinue` for a continuation with no line of
 /// statements before it and `UnknownControlCard` for a control card other than `-LIST`, `-UNLIST` and `-EJECT`; then
-/// `NoEndLine`, at the card after the last. All stand in column 1. `Memory` where a growth was refused.
+/// `NoEndLine`, at the card after the last. All stand in column 1, and take no memory. `Memory` where a growth was refused.
 #[tactic(auto, using(crate::proofs::Programs::programs))]
 pub fn statements(alloc: Global, lines: &[Line]) -> Result<ProgramCards, Stop<SyntaxError>>
     ensures program { IfOk result (λ program. statements_of lines.now ≡ Ok program) }
     ensures refused { IfErr result (IfRefused (λ refusal. statements_of lines.now ≡ Err refusal)) }
+    ensures memory { IsErrOf result Stop.Memory → IsOk (statements_of lines.now) }
 {
     let end = end_index(lines);
     if let Some(refusal) = first_refusal(&lines[..end]) {

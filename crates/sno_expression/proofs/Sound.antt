@@ -13,15 +13,11 @@ use Rattle.sno_expression.specs.declared.tree.IdentifierPrefix.TheVariants as pr
 use Rattle.sno_expression.specs.declared.tree.Prefix.{Prefix}
 use Rattle.sno_expression.specs.declared.tree.Prefix.TheVariants.{OfOperand, OfIdentifier}
 use Rattle.sno_expression.specs.Marks.{operator_of, prefix_of}
-use Rattle.sno_expression.specs.Expressions.{Expression, Identifier, Constant, Keyword, Unevaluated, Group, Call, Unary, Binary, Omitted, Argument, binds_into_right, FitsLeft, FitsRight, IsOperand, HasLevels, HaveLevels}
+use Rattle.sno_expression.specs.Expressions.{Expression, Identifier, Constant, Keyword, Unevaluated, Group, Call, Unary, Binary, Omitted, Argument, binds_into_right, FitsRight, IsOperand, HasLevels, HaveLevels}
 use Rattle.sno_expression.specs.inner.Reading.{Suits, push, Hole, Begin, After, Under, fill, Stack, Bottom, InGroup, InCall, Due, Prefixed, Named, Whole, State, At, with_prefix, prefixed, joined, begin, close, comma, first, go_on, closed, after, after_prefix, named, read, result, Reading, Read, and_then, answer, start, reading}
 use Rattle.sno_expression.specs.Spelling.{spaced, Joins, Parts, SpellsTo, SpellTo}
 use Rattle.sno_expression.proofs.Levels.{then_left}
 use Rattle.sno_expression.proofs.Lone.{Lone, LoneNext, read_lone, SuitsSome, end_lone, start_lone}
-
-operand_left : (o : BinaryOperator) (x : Expression) → IsOperand x → FitsLeft o x
-operand_left o (Binary p l r) i = absurd i
-operand_left o _ i = tt
 
 operand_right : (o : BinaryOperator) (x : Expression) → IsOperand x → FitsRight o x
 operand_right o (Binary p l r) i = absurd i

@@ -2,27 +2,14 @@
 use Rattle.std.proofs.Common.{◌≡◌, refl, sym, ap, ◌∙◌}
 use Rattle.std.specs.Prelude.{true}
 use Rattle.sno_expression.specs.declared.tree.BinaryOperator.{BinaryOperator}
-use Rattle.sno_expression.specs.declared.tree.Expression.{Expression as AnExpression}
-use Rattle.sno_expression.specs.declared.tree.Expression.TheVariants as tree
 use Rattle.sno_expression.specs.declared.spine.Pending.{Pending}
 use Rattle.sno_expression.specs.declared.spine.Pending.TheVariants as pending
 use Rattle.sno_expression.specs.Expressions.{Expression, Binary, binds_into_right, FitsLeft}
 use Rattle.sno_expression.specs.inner.Reading.{push}
-use Rattle.sno_expression.specs.inner.Spines.{is_above, is_ordered, is_element}
+use Rattle.sno_expression.specs.inner.Spines.{is_above, is_ordered}
 use Rattle.sno_expression.specs.Told.{expression_of}
 use Rattle.sno_expression.specs.inner.Told.{spread}
 use Rattle.sno_expression.proofs.Levels.{and_left, and_right, under_both, push_here, push_under}
-
--- one element may stand left under any operator
-pub element_left : (o : BinaryOperator) (x : AnExpression) → is_element x ≡ true → FitsLeft o (expression_of x)
-element_left o (tree.Binary' i p l q r) e = cc
-element_left o (tree.Identifier n) e = tt
-element_left o (tree.Constant c) e = tt
-element_left o (tree.Keyword n) e = tt
-element_left o (tree.Unevaluated n) e = tt
-element_left o (tree.Group' p t) e = tt
-element_left o (tree.Call' n p a) e = tt
-element_left o (tree.Unary' s p t) e = tt
 
 -- what goes under the innermost operator goes under all
 outward : (o p : BinaryOperator) (js : Pending) → binds_into_right o p ≡ true → is_above p js ≡ true → is_above o js ≡ true
