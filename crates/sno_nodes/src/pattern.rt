@@ -1,5 +1,5 @@
 //! Patterns: one call for each row.
-ghost use Rattle.std.specs.Prelude.{◌≡◌, ◌+◌, ◌<◌, ◌≤◌, IfOk};
+ghost use Rattle.std.specs.Prelude.{◌≡◌, ◌+◌, ◌<◌, ◌≤◌, IfOk, IsErrOf};
 ghost use Rattle.mon_text.specs.Stops.{Gives};
 ghost use Rattle.sno_nodes.specs.Patterns.{larger, depth, most_depth, within_depth};
 ghost use Rattle.sno_nodes.specs.Patterns as pattern;
@@ -170,9 +170,11 @@ impl Pat {
     ///
     /// # Errors
     ///
-    /// The fault DEPTH where it would be too deep; so it is for each call here that may answer a fault.
+    /// The fault DEPTH where it would be too deep, which takes no memory; so it is for each call here that may answer a
+    /// fault.
     pub fn cat(alloc: Global, left: &Pat, right: &Pat) -> Result<Pat, Stop<Fault>>
-        ensures { Gives (λ p. p) result (within_depth (pattern.Cat left.now right.now)) }
+        ensures answered { Gives (λ p. p) result (within_depth (pattern.Cat left.now right.now)) }
+        ensures memory { IsErrOf result Stop.Memory → depth (pattern.Cat left.now right.now) ≤ most_depth }
     {
         let below = larger(told_depth(&left.node), told_depth(&right.node));
         if below >= MOST_DEPTH {
@@ -185,7 +187,8 @@ impl Pat {
 
     /// One pattern, or else another.
     pub fn alt(alloc: Global, left: &Pat, right: &Pat) -> Result<Pat, Stop<Fault>>
-        ensures { Gives (λ p. p) result (within_depth (pattern.Alt left.now right.now)) }
+        ensures answered { Gives (λ p. p) result (within_depth (pattern.Alt left.now right.now)) }
+        ensures memory { IsErrOf result Stop.Memory → depth (pattern.Alt left.now right.now) ≤ most_depth }
     {
         let below = larger(told_depth(&left.node), told_depth(&right.node));
         if below >= MOST_DEPTH {
@@ -198,7 +201,8 @@ impl Pat {
 
     /// `ARBNO(pattern)`.
     pub fn arbno(alloc: Global, inner: &Pat) -> Result<Pat, Stop<Fault>>
-        ensures { Gives (λ p. p) result (within_depth (pattern.Arbno inner.now)) }
+        ensures answered { Gives (λ p. p) result (within_depth (pattern.Arbno inner.now)) }
+        ensures memory { IsErrOf result Stop.Memory → depth (pattern.Arbno inner.now) ≤ most_depth }
     {
         let below = told_depth(&inner.node);
         if below >= MOST_DEPTH {
@@ -210,7 +214,8 @@ impl Pat {
 
     /// `pattern . variable`.
     pub fn conditional(alloc: Global, inner: &Pat, variable: Text) -> Result<Pat, Stop<Fault>>
-        ensures { Gives (λ p. p) result (within_depth (pattern.Conditional inner.now variable)) }
+        ensures answered { Gives (λ p. p) result (within_depth (pattern.Conditional inner.now variable)) }
+        ensures memory { IsErrOf result Stop.Memory → depth (pattern.Conditional inner.now variable) ≤ most_depth }
     {
         let below = told_depth(&inner.node);
         if below >= MOST_DEPTH {
@@ -222,7 +227,8 @@ impl Pat {
 
     /// `pattern $ variable`.
     pub fn immediate(alloc: Global, inner: &Pat, variable: Text) -> Result<Pat, Stop<Fault>>
-        ensures { Gives (λ p. p) result (within_depth (pattern.Immediate inner.now variable)) }
+        ensures answered { Gives (λ p. p) result (within_depth (pattern.Immediate inner.now variable)) }
+        ensures memory { IsErrOf result Stop.Memory → depth (pattern.Immediate inner.now variable) ≤ most_depth }
     {
         let below = told_depth(&inner.node);
         if below >= MOST_DEPTH {
