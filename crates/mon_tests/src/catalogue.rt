@@ -30,7 +30,7 @@ fn push_line(alloc: Global, lines: &mut Vec<Line>, text: &str) -> bool {
     }
 }
 
-fn lines_of(alloc: Global, text: &str) -> Option<Vec<Line>> {
+pub(crate) fn lines_of(alloc: Global, text: &str) -> Option<Vec<Line>> {
     let mut lines = Vec::new(alloc);
     for line in text.lines() {
         if !push_line(alloc, &mut lines, line) {

@@ -73,10 +73,10 @@ fn a_long_list_is_given(rt: HostRuntime) {
 
 /// A guard over data sets, and the name of the one that is asked for.
 #[derive(Drop)]
-struct Desk {
-    guard: Guard,
-    catalogue: Catalogue,
-    name: Name,
+pub(crate) struct Desk {
+    pub(crate) guard: Guard,
+    pub(crate) catalogue: Catalogue,
+    pub(crate) name: Name,
     ghost fit: { RowsFit guard catalogue },
 }
 
@@ -254,7 +254,7 @@ BOB 200
 
 ";
 
-fn payroll(alloc: Global) -> Option<Desk> {
+pub(crate) fn payroll(alloc: Global) -> Option<Desk> {
     let name = read_name(b"PAYROLL").ok()?;
     let catalogue = read(alloc, PAYROLL)?;
     Some(desk_over(alloc, catalogue, name))
@@ -262,13 +262,13 @@ fn payroll(alloc: Global) -> Option<Desk> {
 
 /// The owner, one who may read, and one who may do nothing.
 #[derive(Drop)]
-struct Askers {
-    anna: Account,
-    lisa: Account,
-    hugo: Account,
+pub(crate) struct Askers {
+    pub(crate) anna: Account,
+    pub(crate) lisa: Account,
+    pub(crate) hugo: Account,
 }
 
-fn askers_of(alloc: Global) -> Option<Askers> {
+pub(crate) fn askers_of(alloc: Global) -> Option<Askers> {
     let anna = account(alloc, (b"anna", b"admin", b""))?;
     let lisa = account(alloc, (b"lisa", b"staff", b""))?;
     let hugo = account(alloc, (b"hugo", b"ops", b"staff"))?;

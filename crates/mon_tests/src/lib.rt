@@ -6,6 +6,8 @@ mod access;
 #[cfg(test)]
 mod acl;
 #[cfg(test)]
+mod calls;
+#[cfg(test)]
 mod catalogue;
 #[cfg(test)]
 mod deck;
