@@ -1,11 +1,18 @@
 -- The definitions at worked cases.
-use Rattle.std.specs.Prelude.{◌≡◌, ℕ, true, false, List, [], ◌∷◌, Some, None, codes, refl}
+use Rattle.std.proofs.Common.{subst, sym}
+use Rattle.std.specs.Prelude.{◌≡◌, ℕ, true, false, List, [], ◌∷◌, ◌++◌, Some, None, codes, refl}
 use Rattle.std.specs.Fmt.{digits}
 use Rattle.mon_acl.specs.declared.entries.Entry.{Entry}
 use Rattle.mon_acl.specs.declared.entries.Tag.TheVariants.{UserObj, GroupObj, Other}
 use Rattle.mon_access.specs.declared.account.Account.{Account}
 use Rattle.mon_access.specs.AccessCheck.{decision}
 use Rattle.mon_catalogue.specs.Sets.{Sets}
+use Rattle.mon_guard.specs.declared.answer.Reason.TheVariants.{By, NoSet}
+use Rattle.mon_command.specs.declared.reply.Reply.TheVariants.{Denied}
+use Rattle.mon_command.specs.Commanded as commands
+use Rattle.mon_command.specs.Commanded.{Told}
+use Rattle.mon_slots.specs.Marks.{Marks}
+use Rattle.mon_monitor.specs.History.{Entry as AnEntry, Ordered, history}
 use Rattle.mon_cards.specs.declared.card.Card.TheVariants as card
 use Rattle.mon_cards.specs.declared.code.Code.TheVariants.{BadName, BadCharacter, AccountTwice, UnknownCard, BadCard, OutOfPlace, Truncated}
 use Rattle.mon_cards.specs.Decks.{Commands, Stopped, Refused}
@@ -18,7 +25,10 @@ use Rattle.mon_acl.specs.declared.text.AclText.TheVariants.{Short, Long}
 use Rattle.mon_command.specs.declared.command.Command.TheVariants as command
 use Rattle.mon_cards.specs.declared.request.Request.TheVariants.{Asks, OpensList}
 use Rattle.std.specs.Str.Lines.{lines}
+use Rattle.mon_feed.specs.declared.options.Options.{Options}
+use Rattle.mon_feed.specs.Scenes.{opening, events_in}
 use Rattle.mon_deck.specs.Runs.{ending_of, counts_of}
+use Rattle.mon_deck.specs.Headline.{history_of}
 
 stop_card : card_of (codes "$STOP") ≡ Some card.Stop
 stop_card = refl
@@ -114,3 +124,24 @@ a_missing_set = refl
 
 an_unknown_account : printed (codes "lisa") (codes "X") ≡ codes "LIST lisa X\nREFUSED M2 NO ACCOUNT\n"
 an_unknown_account = refl
+
+-- the deck of the README, `examples/payroll.deck`
+abbrev payroll : List ℕ
+payroll =
+    codes "$ACCOUNTS\nanna admin\nlisa staff\nhugo ops staff\n$CATALOGUE\n$SET PAYROLL anna admin 3\nuser::rwx,user:lisa:rw-,group::r--,mask::r--,other::---\n"
+    ++ codes "ADA 100\nBOB 200\n\n$STREAM\n$LIST lisa PAYROLL\n$LIST hugo PAYROLL\n$LIST anna GONE\n$STOP\n"
+
+abbrev lists : List ℕ → List ℕ → commands.Answer → AnEntry
+lists account name answer = let deck = deck_of (lines payroll) in Ordered deck.catalogue (command.List account name) answer
+
+-- Its history, with four slots: three records; denied by `other::---`; and denied, as there is no such data set.
+abbrev payroll_listed : List AnEntry
+payroll_listed =
+    lists (codes "lisa") (codes "PAYROLL") (commands.Records (codes "ADA 100" ∷ codes "BOB 200" ∷ [] ∷ []))
+    ∷ lists (codes "hugo") (codes "PAYROLL") (Told (Denied (By Other None)))
+    ∷ lists (codes "anna") (codes "GONE") (Told (Denied NoSet)) ∷ []
+
+the_history_of_payroll : (options : Options) (m : Marks) → options.slots.number ≡ 4 → history_of options m payroll ≡ payroll_listed
+unfolding decision
+the_history_of_payroll options m is =
+    subst (λ (n : ℕ). (let scene = opening n (deck_of (lines payroll)) in history (events_in 0 scene) m scene.world ≡ payroll_listed)) (sym is) refl

@@ -13,7 +13,7 @@ use Rattle.mon_feed.specs.declared.options.Options.{Options}
 use Rattle.mon_feed.specs.Scenes.{Scene, events_of, at_end, events_in, played_scene}
 use Rattle.mon_feed.specs.Printouts.{closing, verdict, answer_to, output_of_scene, output_of}
 use Rattle.mon_deck.specs.Runs.{scene_of}
-use Rattle.mon_deck.specs.Laws.{done, jobs_in, rest_of_output, InOrder, InItsPlace, AsItHappens, Unmarked}
+use Rattle.mon_deck.specs.Laws.{done, jobs_in, rest_of_output, InOrder, InItsPlace, Unmarked}
 
 jobs_both : (xs ys : List Asked) → jobs_in (xs ++ ys) ≡ jobs_in xs + jobs_in ys
 jobs_both [] ys = omega arith
@@ -78,9 +78,6 @@ in_its_place card_by_card options m bytes before after one run same =
       rest_of_output (jobs_in (before ++ one ∷ [])) here.marks here.after after scene.cards.ending,
       in_order card_by_card options m bytes before after one run same,
     )
-
-pub as_it_happens : AsItHappens
-as_it_happens options m bytes run = is_run options m bytes run
 
 -- without marks
 same_output : (p q : Played) (ending : Ending) → AsUnmarked p q → output_with p ending ≡ output_with q ending

@@ -4,7 +4,7 @@ use Rattle.std.proofs.lemmas.Bool.Decides.{nat_tests}
 use Rattle.mon_catalogue.specs.Sets.{Sets}
 use Rattle.mon_slots.specs.Marks.{Marks}
 use Rattle.mon_device.specs.declared.transfer.TheConstants.{READ_SIZE}
-use Rattle.mon_device.specs.Devices.{holding, Gives, IsAtEnd, HasRead, one_more}
+use Rattle.mon_device.specs.Devices.{holding, Gives, IsAtEnd, HasRead}
 use Rattle.mon_device.proofs.Holding.{holding-nothing}
 use Rattle.mon_cards.specs.declared.code.Code.{Code}
 use Rattle.mon_cards.specs.Decks.{Ending, Stopped, Refused}

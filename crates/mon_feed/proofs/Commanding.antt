@@ -1,6 +1,5 @@
 -- What a card asks for, before those that are still to come.
 use Rattle.std.proofs.Common.{◌≡◌, ℕ, suc, ◌+◌, Bool, true, false, List, [], ◌∷◌, ◌++◌, refl, sym, ap, ◌∙◌, arith, append_assoc, append-nil}
-use Rattle.std.specs.List.{flat_map}
 use Rattle.mon_catalogue.specs.Sets.{Sets}
 use Rattle.mon_slots.specs.Marks.{Marks}
 use Rattle.mon_command.specs.declared.command.Command.{Command}
@@ -12,12 +11,12 @@ use Rattle.mon_monitor.specs.Papers.{Paper, paper_text, papers_text}
 use Rattle.mon_monitor.specs.Played.{Played, played, happened, and_played}
 use Rattle.mon_monitor.specs.Happening.{Happens}
 use Rattle.mon_cards.specs.Decks.{Asked, Commands, Enters, Gives, Drains, Cards, Ending, Stopped, Refused}
-use Rattle.mon_cards.specs.Sections.{and_then, stopped}
+use Rattle.mon_cards.specs.Sections.{and_then}
 use Rattle.mon_cards.specs.Jobs.{job_deck_of}
 use Rattle.mon_feed.specs.declared.options.Counts.{Counts}
 use Rattle.mon_feed.specs.Scenes.{over, events_of, events_in, at_end, nothing_counted, both_counted, one_counted, all_counted}
-use Rattle.mon_feed.specs.Printouts.{closing, verdict, answer_to}
-use Rattle.mon_feed.specs.Feeds.{outcome_of, behind, more, concluded, sets_left, Conclusion, Good, Bad, Outcome}
+use Rattle.mon_feed.specs.Printouts.{closing, verdict}
+use Rattle.mon_feed.specs.Feeds.{outcome_of, behind, more, concluded, Conclusion, Good, Bad, Outcome}
 use Rattle.mon_feed.specs.inner.Lines.{Served, Stopping}
 
 -- COUNTS

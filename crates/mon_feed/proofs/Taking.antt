@@ -1,6 +1,5 @@
 -- A line that was taken, from what is asked on it.
 use Rattle.std.proofs.Common.{◌≡◌, ℕ, ◌+◌, Bool, true, false, not, None, List, [], ◌∷◌, ◌++◌, sym, ap, ◌∙◌, append-nil, if◌then◌else◌}
-use Rattle.mon_slots.specs.Marks.{Marks}
 use Rattle.mon_monitor.specs.declared.monitor.Monitor.{Monitor}
 use Rattle.mon_monitor.specs.Told.{world_of}
 use Rattle.mon_catalogue.specs.Sets.{Sets}
@@ -15,11 +14,10 @@ use Rattle.mon_feed.specs.declared.options.Counts.{Counts}
 use Rattle.mon_feed.specs.declared.options.Options.{Options}
 use Rattle.mon_feed.specs.declared.stage.Stage.{Stage}
 use Rattle.mon_feed.specs.declared.stage.Stage.TheVariants as stage
-use Rattle.mon_feed.specs.declared.stage.State.{State}
 use Rattle.mon_feed.specs.declared.stage.State.TheVariants as state
 use Rattle.mon_feed.specs.Scenes.{Scene, over, opening, nothing_counted, both_counted}
 use Rattle.mon_feed.specs.Printouts.{answer_to}
-use Rattle.mon_feed.specs.Feeds.{scene_from, outcome_of, sets_left, behind, Good}
+use Rattle.mon_feed.specs.Feeds.{scene_from, outcome_of, behind, Good}
 use Rattle.mon_feed.specs.inner.Lines.{TookLine, Served, Stopping}
 use Rattle.mon_feed.proofs.Following.{line_asks}
 
