@@ -19,3 +19,5 @@ mod guard;
 mod monitor;
 #[cfg(test)]
 mod schedules;
+#[cfg(test)]
+mod shell;
