@@ -7,7 +7,7 @@ use Rattle.mon_acl.specs.declared.entries.Tag.TheVariants.{UserObj, GroupObj, Ot
 use Rattle.mon_access.specs.declared.account.Account.{Account}
 use Rattle.mon_access.specs.AccessCheck.{decision}
 use Rattle.mon_catalogue.specs.Sets.{Sets}
-use Rattle.mon_guard.specs.declared.answer.Reason.TheVariants.{By, NoSet}
+use Rattle.mon_answer.specs.declared.answer.Reason.TheVariants.{By, NoSet}
 use Rattle.mon_command.specs.declared.reply.Reply.TheVariants.{Denied}
 use Rattle.mon_command.specs.Commanded as commands
 use Rattle.mon_command.specs.Commanded.{Told}
