@@ -218,7 +218,7 @@ fn accounts_of(alloc: Global) -> Option<Accounts> {
 // A monitor of two slots.
 fn monitor_of(alloc: Global) -> Option<Monitor> {
     let accounts = accounts_of(alloc)?;
-    let catalogue = read(alloc, SETS)?;
+    let catalogue = read(alloc, Version::One, SETS)?;
     Monitor::new(alloc, accounts, catalogue, 2).ok()
 }
 
