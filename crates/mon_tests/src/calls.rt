@@ -5,6 +5,7 @@ use crate::catalogue::{lines_of, read};
 use crate::guard::{Askers, Desk, askers_of, payroll};
 use mon_access::{Account, Accounts, Decider};
 use mon_acl::{Perms, Tag};
+use mon_catalogue::Version;
 use mon_guard::{Decided, GuardAnswer, Reason};
 use mon_job::{JobDeck, JobEnd, JobLimits, LoadError, UnitCard, UnitCards, put_printout};
 use mon_monitor::{Monitor, Turned};
