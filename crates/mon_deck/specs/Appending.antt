@@ -11,13 +11,9 @@ use Rattle.mon_feed.specs.declared.options.Options.{Options}
 use Rattle.mon_deck.specs.Runs.{catalogue_after}
 use Rattle.mon_deck.specs.Headline.{history_of}
 
--- the set of this name in the catalogue of the deck of these bytes
-abbrev pub BeginsWith : List ℕ → List ℕ → DataSet → Type 0
-BeginsWith bytes name set = let deck = deck_of (lines bytes) in IsThere name deck.catalogue set
-
 -- For every deck, wherever memory breaks its turns off: a set of mode APPEND that nothing in the list deletes is there in the
 -- catalogue that is written, is of mode APPEND still, and its records begin with those that the deck gave it.
 abbrev pub AppendOnly : Type 0
 AppendOnly = (options : Options) (m : Marks) (bytes name : List ℕ) (set : DataSet)
-    → BeginsWith bytes name set → set.mode ≡ Append → NoneDeletes name (history_of options m bytes)
+    → IsThere name (deck_of (lines bytes)).catalogue set → set.mode ≡ Append → NoneDeletes name (history_of options m bytes)
     → Keeps name set.records (catalogue_after options m bytes)

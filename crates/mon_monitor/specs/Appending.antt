@@ -7,7 +7,7 @@ use Rattle.mon_catalogue.specs.declared.data_set.DataSet.{DataSet}
 use Rattle.mon_catalogue.specs.Sets.{Sets}
 use Rattle.mon_guard.specs.Laws.{IsThere}
 use Rattle.mon_command.specs.declared.command.Command.{Command}
-use Rattle.mon_command.specs.declared.command.Command.TheVariants.{Create, Delete, SetAcl, ShowAcl, List as Listing, Catalog}
+use Rattle.mon_command.specs.declared.command.Command.TheVariants.{Delete}
 use Rattle.mon_command.specs.declared.reply.Reply.TheVariants as reply
 use Rattle.mon_command.specs.Commanded as commands
 use Rattle.mon_command.specs.Commanded.{Told}
@@ -15,7 +15,7 @@ use Rattle.mon_slots.specs.Marks.{Marks}
 use Rattle.mon_monitor.specs.Worlds.{World}
 use Rattle.mon_monitor.specs.Events.{Event}
 use Rattle.mon_monitor.specs.Played.{played}
-use Rattle.mon_monitor.specs.History.{Entry, Entered, Refused, Asked, Ended, Ordered, history}
+use Rattle.mon_monitor.specs.History.{Entry, Ordered, history}
 
 -- these records begin with those
 abbrev pub Begins : List (List ℕ) → List (List ℕ) → Type 0
@@ -28,18 +28,11 @@ Keeps name first sets = (set : DataSet) × IsThere name sets set × (set.mode �
 -- a command deletes the set of this name: that is ordered, and is told to be done
 abbrev pub HasDeleted : List ℕ → Command → commands.Answer → Type 0
 HasDeleted name (Delete _ other) answer = (other ≡ name) × (answer ≡ Told reply.Done)
-HasDeleted name (Create _ other mode) answer = ⊥
-HasDeleted name (SetAcl _ other text) answer = ⊥
-HasDeleted name (ShowAcl _ other) answer = ⊥
-HasDeleted name (Listing _ other) answer = ⊥
-HasDeleted name (Catalog _) answer = ⊥
+HasDeleted name _ answer = ⊥
 
 abbrev pub Deletes : List ℕ → Entry → Type 0
 Deletes name (Ordered sets command answer) = HasDeleted name command answer
-Deletes name (Asked e) = ⊥
-Deletes name (Entered deck) = ⊥
-Deletes name (Refused deck refusal) = ⊥
-Deletes name (Ended end) = ⊥
+Deletes name _ = ⊥
 
 -- none of these entries deletes the set of this name
 abbrev pub NoneDeletes : List ℕ → List Entry → Type 0
