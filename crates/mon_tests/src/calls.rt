@@ -489,12 +489,13 @@ fn put_log(order: &[u8], out: &mut Vec<u8>) -> bool {
     let mut annas = 0u8;
     let mut lisas = 0u8;
     for slot in order {
-        let turn = if *slot == 1 { annas.saturating_add(1) } else { lisas.saturating_add(1) };
-        if *slot == 1 {
-            annas = turn;
+        let turn = if *slot == 1 {
+            annas = annas.saturating_add(1);
+            annas
         } else {
-            lisas = turn;
-        }
+            lisas = lisas.saturating_add(1);
+            lisas
+        };
         if out.extend_from_slice(added(*slot, turn)).is_err() {
             return false;
         }
@@ -503,8 +504,8 @@ fn put_log(order: &[u8], out: &mut Vec<u8>) -> bool {
 }
 
 // Both printouts, that of the job with the last turn behind the other, and then the log.
-fn log_output(alloc: Global, order: &[u8]) -> Option<Vec<u8>> {
-    let (earlier, later) = if matches!(order.last(), Some(2)) {
+fn log_output(alloc: Global, number: u32, order: &[u8]) -> Option<Vec<u8>> {
+    let (earlier, later) = if number >= ORDERS_TO_ADD / 2 {
         (ANNA_PRINTS, LISA_PRINTS)
     } else {
         (LISA_PRINTS, ANNA_PRINTS)
@@ -524,8 +525,8 @@ fn adders(alloc: Global) -> Option<Monitor> {
     with_jobs(alloc, monitor, &ANNA_ADDS, &LISA_ADDS)
 }
 
-fn adds_in(alloc: Global, order: &[u8]) -> bool {
-    match (adders(alloc), log_output(alloc, order)) {
+fn adds_in(alloc: Global, number: u32, order: &[u8]) -> bool {
+    match (adders(alloc), log_output(alloc, number, order)) {
         (Some(mut monitor), Some(output)) => prints(alloc, &mut monitor, order, &output),
         _ => false,
     }
@@ -533,7 +534,7 @@ fn adds_in(alloc: Global, order: &[u8]) -> bool {
 
 fn adds_in_order(alloc: Global, number: u32) -> bool {
     match order_of(alloc, number, TURNS_TO_ADD) {
-        Some(order) => adds_in(alloc, &order),
+        Some(order) => adds_in(alloc, number, &order),
         None => false,
     }
 }
