@@ -445,10 +445,42 @@ fn first_surplus(entries: &[Entry<'_>]) -> Option<ListFault> {
     })
 }
 
+/// How a data set may be written.
+#[derive(Clone, Copy)]
+enum Mode {
+    Seq,
+    Append,
+}
+
+impl Mode {
+    fn of(word: &[u8]) -> Option<Mode> {
+        match word {
+            b"SEQ" => Some(Mode::Seq),
+            b"APPEND" => Some(Mode::Append),
+            _ => None,
+        }
+    }
+
+    fn word(self) -> &'static str {
+        match self {
+            Mode::Seq => "SEQ",
+            Mode::Append => "APPEND",
+        }
+    }
+}
+
+/// The versions of a catalogue's text: the second has a mode on each `$SET` card.
+#[derive(Clone, Copy)]
+enum Version {
+    One,
+    Two,
+}
+
 struct DataSet<'a> {
     name: &'a [u8],
     owner: &'a [u8],
     group: &'a [u8],
+    mode: Mode,
     /// The numbers of the owner and of the group.
     owner_number: u32,
     group_number: u32,
@@ -497,16 +529,24 @@ impl DataSet<'_> {
 
     /// Writes the name, the owner, the group and the number of records.
     fn write_head(&self, out: &mut impl Write) -> io::Result<()> {
+        self.write_names(out)?;
+        write_count(self.records.len(), out)
+    }
+
+    fn write_names(&self, out: &mut impl Write) -> io::Result<()> {
         for word in [self.name, self.owner, self.group] {
             out.write_all(word)?;
             out.write_all(b" ")?;
         }
-        write_count(self.records.len(), out)
+        Ok(())
     }
 
     fn write(&self, out: &mut impl Write) -> io::Result<()> {
         out.write_all(b"$SET ")?;
-        self.write_head(out)?;
+        self.write_names(out)?;
+        out.write_all(self.mode.word().as_bytes())?;
+        out.write_all(b" ")?;
+        write_count(self.records.len(), out)?;
         self.acl.write_short(out)?;
         out.write_all(b"\n")?;
         for record in &self.records {
@@ -573,7 +613,7 @@ impl<'a> AclText<'a> {
 
 /// What a command asks of the data set that it names.
 enum Act<'a> {
-    Create,
+    Create(Mode),
     Delete,
     SetAcl(AclText<'a>),
     ShowAcl,
@@ -619,21 +659,20 @@ impl<'a> Deck<'a> {
     /// Takes the lines up to `$STOP`; what stood before a refusal stays.
     fn read(&mut self, lines: &mut Lines<'a>) -> Result<(), Code> {
         section_card(lines.next_filled(LINE)?, b"$ACCOUNTS")?;
-        loop {
+        let version = loop {
             let line = lines.next_filled(LINE)?;
             if line.starts_with(b"$") {
-                section_card(line, b"$CATALOGUE")?;
-                break;
+                break catalogue_card(line)?;
             }
             self.add_account(line)?;
-        }
+        };
         loop {
             let line = lines.next_filled(CATALOGUE_LINE)?;
             if words(line).next() != Some(b"$SET") {
                 section_card(line, b"$STREAM")?;
                 break;
             }
-            self.add_set(line, lines)?;
+            self.add_set(version, line, lines)?;
         }
         loop {
             let line = lines.next_filled(LINE)?;
@@ -673,11 +712,24 @@ impl<'a> Deck<'a> {
         Ok(())
     }
 
-    fn add_set(&mut self, line: &'a [u8], lines: &mut Lines<'a>) -> Result<(), Code> {
-        let [_, set, owner, group, records] = words_of(line).ok_or(Code::BadText)?;
+    fn add_set(
+        &mut self,
+        version: Version,
+        line: &'a [u8],
+        lines: &mut Lines<'a>,
+    ) -> Result<(), Code> {
+        let [_, set, owner, group, mode, records] = match version {
+            Version::One => words_of(line)
+                .map(|[card, set, owner, group, records]| {
+                    [card, set, owner, group, b"SEQ".as_slice(), records]
+                })
+                .ok_or(Code::BadText)?,
+            Version::Two => words_of(line).ok_or(Code::BadText)?,
+        };
         for word in [set, owner, group] {
             name(word).map_err(|_| Code::BadText)?;
         }
+        let mode = Mode::of(mode).ok_or(Code::BadText)?;
         let records = count(records).ok_or(Code::BadText)?;
         if records > RECORDS {
             return Err(Code::SetFull);
@@ -697,6 +749,7 @@ impl<'a> Deck<'a> {
             name: set,
             owner,
             group,
+            mode,
             owner_number: self.numbers.of(owner),
             group_number: self.numbers.of(group),
             acl,
@@ -710,7 +763,7 @@ impl<'a> Deck<'a> {
 fn command<'a>(line: &'a [u8], lines: &mut Lines<'a>) -> Result<Option<Command<'a>>, Code> {
     let mut rest = words(line);
     let act = match rest.next() {
-        Some(b"$CREATE") => Act::Create,
+        Some(b"$CREATE") => return create_command(line).map(Some),
         Some(b"$DELETE") => Act::Delete,
         Some(b"$SHOWACL") => Act::ShowAcl,
         Some(b"$LIST") => Act::List,
@@ -730,6 +783,20 @@ fn command<'a>(line: &'a [u8], lines: &mut Lines<'a>) -> Result<Option<Command<'
         account: name(account)?,
         request: Request::Of(act, name(set)?),
     }))
+}
+
+fn create_command(line: &[u8]) -> Result<Command<'_>, Code> {
+    let (account, set, mode) = match words_of(line) {
+        Some([_, account, set]) => (account, set, Mode::Seq),
+        None => {
+            let [_, account, set, mode] = words_of(line).ok_or(Code::BadCard)?;
+            (account, set, Mode::of(mode).ok_or(Code::BadCard)?)
+        }
+    };
+    Ok(Command {
+        account: name(account)?,
+        request: Request::Of(Act::Create(mode), name(set)?),
+    })
 }
 
 fn set_acl_command<'a>(line: &'a [u8], lines: &mut Lines<'a>) -> Result<Command<'a>, Code> {
@@ -780,7 +847,7 @@ impl<'a> Catalogue<'a> {
     ) -> io::Result<()> {
         match &command.request {
             Request::Catalog => self.write_names(account, out),
-            Request::Of(Act::Create, name) => match self.room_for(name) {
+            &Request::Of(Act::Create(mode), name) => match self.room_for(name) {
                 Err(code) => writeln!(out, "REFUSED {code}"),
                 Ok(()) => {
                     let Ok(acl) = Acl::parse_short(NEW_LIST, numbers) else {
@@ -790,6 +857,7 @@ impl<'a> Catalogue<'a> {
                         name,
                         owner: command.account,
                         group: account.primary,
+                        mode,
                         owner_number: account.number,
                         group_number: account.primary_number,
                         acl,
@@ -804,7 +872,7 @@ impl<'a> Catalogue<'a> {
                 };
                 let is_owner = account.number == set.owner_number;
                 match act {
-                    Act::Create => unreachable!("it is served above"),
+                    Act::Create(_) => unreachable!("it is served above"),
                     Act::Delete | Act::SetAcl(_) if !is_owner => writeln!(out, "DENIED NOT OWNER"),
                     Act::Delete => {
                         self.remove(name);
@@ -886,7 +954,7 @@ fn write_records(set: &DataSet<'_>, out: &mut impl Write) -> io::Result<()> {
 fn write_command(command: &Command<'_>, out: &mut impl Write) -> io::Result<()> {
     let (card, set) = match &command.request {
         Request::Catalog => ("CATALOG", None),
-        Request::Of(Act::Create, set) => ("CREATE", Some(set)),
+        Request::Of(Act::Create(_), set) => ("CREATE", Some(set)),
         Request::Of(Act::Delete, set) => ("DELETE", Some(set)),
         Request::Of(Act::SetAcl(_), set) => ("SETACL", Some(set)),
         Request::Of(Act::ShowAcl, set) => ("SHOWACL", Some(set)),
@@ -911,6 +979,14 @@ fn section_card(line: &[u8], due: &[u8]) -> Result<(), Code> {
         _ if words.next().is_some() => Err(Code::BadCard),
         _ => Ok(()),
     }
+}
+
+/// The version that the card `$CATALOGUE` of a line says.
+fn catalogue_card(line: &[u8]) -> Result<Version, Code> {
+    if matches!(words_of(line), Some([b"$CATALOGUE", b"2"])) {
+        return Ok(Version::Two);
+    }
+    section_card(line, b"$CATALOGUE").map(|()| Version::One)
 }
 
 /// The words of a line, where there are `N`.
@@ -948,7 +1024,7 @@ fn main() -> io::Result<ExitCode> {
         eprintln!("snomon: line {}: {code}", lines.number);
         return Ok(ExitCode::from(1));
     }
-    writeln!(out, "$CATALOGUE")?;
+    writeln!(out, "$CATALOGUE 2")?;
     for set in &deck.catalogue.sets {
         set.write(&mut out)?;
     }

@@ -10,9 +10,10 @@ def copied(deck):
     """The same deck once more, as far as it has come."""
     old, new = deck.monitor, Monitor(len(deck.monitor.slots))
     new.accounts = dict(old.accounts)
-    new.sets = {name: DataSet(s.owner, s.group, s.acl, list(s.records)) for name, s in old.sets.items()}
+    new.sets = {name: DataSet(s.owner, s.group, s.mode, s.acl, list(s.records)) for name, s in old.sets.items()}
     other = Deck(new)
     other.section, other.limit, other.due = getattr(other, deck.section.__name__), deck.limit, deck.due
+    other.version = deck.version
     if deck.list:
         other.list = deck.list[:2] + (list(deck.list[2]),)
     if isinstance(deck.due, tuple):

@@ -17,21 +17,23 @@ def records(count):
 
 def one_more_record():
     """All records are read, so that the write would be one too many: nothing changes."""
-    sets = ['$SET PAYROLL anna admin 3'] + PAYROLL + ['$SET BIG anna admin %d' % FULL] + records(FULL)
+    payroll, big = PAYROLL, records(FULL)
+    sets = ['$SET PAYROLL anna admin 3'] + payroll + ['$SET BIG anna admin %d' % FULL] + big
+    left = ['$SET PAYROLL anna admin SEQ 3'] + payroll + ['$SET BIG anna admin SEQ %d' % FULL] + big
     deck = ['$ACCOUNTS', 'anna admin', 'lisa staff', 'hugo ops staff', '$CATALOGUE'] + sets + [
         '$STREAM', '$JOB anna ST=200000', '$UNIT 8 BIG',
         "  INPUT('R',8); OUTPUT('W',8)",    # statements 1 and 2
         'L X = R :S(L)',                    # 3, which begins once for each record and once at their end
         "  W = 'Z'",                        # 4
         'END', '$EOJ', '$STOP']
-    return deck, ['JOB 1 anna', 'FULL STATEMENT 4 WRITE BIG', 'END NORMAL AFTER %d' % (FULL + 4), '$CATALOGUE'] + sets
+    return deck, ['JOB 1 anna', 'FULL STATEMENT 4 WRITE BIG', 'END NORMAL AFTER %d' % (FULL + 4), '$CATALOGUE 2'] + left
 
 
 def each_set_for_itself():
     """Beside a set that is full, one takes its last record and no further, and is cut by a write at its beginning."""
-    one = ['$SET ONE anna admin %d' % FULL] + records(FULL)
-    two = ['$SET TWO anna admin %d' % (FULL - 1)] + records(FULL - 1)
-    deck = ['$ACCOUNTS', 'anna admin', '$CATALOGUE'] + one + two + [
+    one = ['$SET ONE anna admin SEQ %d' % FULL] + records(FULL)
+    two = ['$SET TWO anna admin SEQ %d' % (FULL - 1)] + records(FULL - 1)
+    deck = ['$ACCOUNTS', 'anna admin', '$CATALOGUE 2'] + one + two + [
         '$STREAM', '$JOB anna ST=200000', '$UNIT 8 TWO', '$UNIT 9 TWO',
         "  OUTPUT('W',8); INPUT('R',9); OUTPUT('V',9)",     # statements 1 to 3
         'L X = R :S(L)',                                    # 4, once for each record and once at their end
@@ -39,8 +41,23 @@ def each_set_for_itself():
         "  V = 'MORE' :S(N)",                               # 6, which finds the set full
         "  W = 'FIRST'",                                    # 7, at the position of unit 8
         'N', 'END', '$EOJ', '$STOP']                        # 8
-    return deck, ['JOB 1 anna', 'FULL STATEMENT 6 WRITE TWO', 'END NORMAL AFTER %d' % (FULL + 7), '$CATALOGUE'] + one + [
-        '$SET TWO anna admin 1', records(0)[0], 'FIRST']
+    return deck, ['JOB 1 anna', 'FULL STATEMENT 6 WRITE TWO', 'END NORMAL AFTER %d' % (FULL + 7), '$CATALOGUE 2'] + one + [
+        '$SET TWO anna admin SEQ 1', records(0)[0], 'FIRST']
+
+
+def a_log_that_is_full():
+    """A set of mode APPEND takes its last record and no further, wherever a unit stands: at its beginning, or behind a read."""
+    log = records(FULL - 1)
+    deck = ['$ACCOUNTS', 'anna admin', '$CATALOGUE 2', '$SET LOG anna admin APPEND %d' % (FULL - 1)] + log + [
+        '$STREAM', '$JOB anna', '$UNIT 8 LOG',
+        "  OUTPUT('W',8); INPUT('R',8)",    # statements 1 and 2
+        "  W = 'LAST'",                     # 3, at position 0, which stays
+        "  W = 'MORE'",                     # 4, which finds the set full
+        '  OUTPUT = R',                     # 5, which reads the first record
+        "  W = 'MORE'",                     # 6, which finds it full behind the read, too
+        'END', '$EOJ', '$STOP']
+    return deck, ['JOB 1 anna', ' R1', 'FULL STATEMENT 4 WRITE LOG', 'FULL STATEMENT 6 WRITE LOG', 'END NORMAL AFTER 6',
+                  '$CATALOGUE 2', '$SET LOG anna admin APPEND %d' % FULL] + log + ['LAST']
 
 
 def text_of(lines):
@@ -49,7 +66,7 @@ def text_of(lines):
 
 def main():
     failed = False
-    cases = one_more_record, each_set_for_itself
+    cases = one_more_record, each_set_for_itself, a_log_that_is_full
     for case in cases:
         deck, wanted = map(text_of, case())
         got = subprocess.run([sys.argv[1]], input=deck, capture_output=True, timeout=60)

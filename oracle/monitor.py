@@ -122,9 +122,12 @@ def decider(account, data_set, request):
 
 # ---- data sets and units ----------------------------------------------------------------------------------------
 
+MODES = ('SEQ', 'APPEND')
+
+
 class DataSet:
-    def __init__(self, owner, group, acl, records):
-        self.owner, self.group, self.acl, self.records = owner, group, acl, records
+    def __init__(self, owner, group, mode, acl, records):
+        self.owner, self.group, self.mode, self.acl, self.records = owner, group, mode, acl, records
 
 
 class Unit:
@@ -180,13 +183,17 @@ class Running(snobol.Job):
             return self.denied(act, unit.name, 'BY ' + by)
         if act == 'READ':
             return self.next_of(data_set.records, unit)
-        kept = data_set.records[:unit.position]
+        appends = data_set.mode == 'APPEND'
+        if act == 'ENDFILE' and appends:
+            return self.denied(act, unit.name, 'MODE')
+        kept = data_set.records if appends else data_set.records[:unit.position]
         if act == 'WRITE':
             if len(kept) == 100000:
                 self.notes.append('FULL STATEMENT %d WRITE %s' % (self.stno, unit.name))
                 return 'FULL'
             kept.append(text)
-        data_set.records, unit.position = kept, len(kept)
+        if not appends:
+            data_set.records, unit.position = kept, len(kept)
         return 'DONE'
 
     def turn(self):
@@ -252,11 +259,12 @@ class Monitor:
         self.slots[self.slots.index(None)] = Running(
             self, number, (account, self.accounts[account]), program, lines[end + 1:], units, statements, steps)
 
-    def command(self, word, account, name, text):
+    def command(self, word, account, name, further):
         self.out.append(' '.join([word, account] + ([name] if name else [])))
-        self.out += self.served(word, account, name, text)
+        self.out += self.served(word, account, name, further)
 
-    def served(self, word, account, name, text):
+    def served(self, word, account, name, further):
+        """What is further on the card: of CREATE the mode, of SETACL the list, to be read."""
         if account not in self.accounts:
             return ['REFUSED M2 NO ACCOUNT']
         who, data_set = (account, self.accounts[account]), self.sets.get(name)
@@ -265,7 +273,7 @@ class Monitor:
                 return ['REFUSED K1 NAME TAKEN']
             if len(self.sets) == 1000:
                 return ['REFUSED K4 CATALOGUE FULL']
-            self.sets[name] = DataSet(account, self.accounts[account][0], read_short('u::rwx,g::---,o::---'), [])
+            self.sets[name] = DataSet(account, self.accounts[account][0], further, read_short('u::rwx,g::---,o::---'), [])
             return ['DONE']
         if word == 'CATALOG':
             names = [' %s %s %s %d' % (n, s.owner, s.group, len(s.records)) for n, s in self.sets.items()
@@ -280,7 +288,7 @@ class Monitor:
             return ['DONE']
         if word == 'SETACL':
             try:
-                data_set.acl = text()
+                data_set.acl = further()
             except BadList as bad:
                 return ['REFUSED %s' % bad]
             return ['DONE']
@@ -293,9 +301,9 @@ class Monitor:
                 + ['ENTRIES %d' % len(data_set.acl)])
 
     def catalogue(self):
-        out = ['$CATALOGUE']
+        out = ['$CATALOGUE 2']
         for name, s in self.sets.items():
-            out.append('$SET %s %s %s %d' % (name, s.owner, s.group, len(s.records)))
+            out.append('$SET %s %s %s %s %d' % (name, s.owner, s.group, s.mode, len(s.records)))
             out.append(','.join('%s:%s:%s' % (t, q, shown(s.acl[t, q])) for t, q in canonical(s.acl)))
             out += s.records
         return out
@@ -306,6 +314,7 @@ class Deck:
 
     def __init__(self, monitor):
         self.monitor, self.section, self.job, self.list, self.due = monitor, self.opening, None, None, None
+        self.version = 1
         self.limit = 200
 
     def take(self, raw):
@@ -314,11 +323,13 @@ class Deck:
         unless(all(32 <= c <= 126 or in_list and c == 9 for c in raw), 'T3 BAD CHARACTER')
         self.section(raw.decode('ascii'))
 
-    def lone(self, line, due):
+    def lone(self, line, due, further=()):
+        """The card that is due, alone, or with one of these words behind it; the words behind it."""
         words = line.split()
         unless(words[0] in CARDS, 'E1 UNKNOWN CARD')
         unless(words[0] == due, 'E3 OUT OF PLACE')
-        unless(len(words) == 1, 'E2 BAD CARD')
+        unless(len(words) == 1 or len(words) == 2 and words[1] in further, 'E2 BAD CARD')
+        return words[1:]
 
     def opening(self, line):
         if line.strip(' '):
@@ -327,7 +338,7 @@ class Deck:
 
     def table(self, line):
         if line[:1] == '$':
-            self.lone(line, '$CATALOGUE')
+            self.version = 2 if self.lone(line, '$CATALOGUE', ('2',)) else 1
             self.section, self.limit = self.sets, 5000
             return
         words = line.split()
@@ -348,8 +359,12 @@ class Deck:
                 self.section, self.limit = self.stream, 200
                 return
             bad = 'K5 BAD TEXT'
-            unless(len(words) == 5 and all(map(is_name, words[1:4])) and re.match(r'[0-9]{1,19}\Z', words[4]), bad)
-            unless(int(words[4]) <= 100000, 'K3 SET FULL')
+            if self.version == 1:
+                unless(len(words) == 5, bad)
+                words.insert(4, 'SEQ')
+            unless(len(words) == 6 and all(map(is_name, words[1:4])) and words[4] in MODES, bad)
+            unless(re.match(r'[0-9]{1,19}\Z', words[5]), bad)
+            unless(int(words[5]) <= 100000, 'K3 SET FULL')
             unless(words[1] not in self.monitor.sets, 'K1 NAME TAKEN')
             unless(len(self.monitor.sets) < 1000, 'K4 CATALOGUE FULL')
             self.due = words
@@ -358,8 +373,8 @@ class Deck:
                 acl = read_short(line)
             except BadList:
                 raise Refused('K5 BAD TEXT')
-            name, owner, group, count = self.due[1:]
-            self.monitor.sets[name] = DataSet(owner, group, acl, [])
+            name, owner, group, mode, count = self.due[1:]
+            self.monitor.sets[name] = DataSet(owner, group, mode, acl, [])
             self.due = (self.monitor.sets[name].records, int(count)) if int(count) else None
         else:
             unless(len(line) <= 1024, 'K5 BAD TEXT')
@@ -396,13 +411,17 @@ class Deck:
             self.open_job(words)
         else:
             n = 2 if card == '$CATALOG' else 3
-            unless(len(words) == n or card == '$SETACL' and len(words) > 3, 'E2 BAD CARD')
+            has_mode = card == '$CREATE' and len(words) == 4 and words[3] in MODES
+            unless(len(words) == n or has_mode or card == '$SETACL' and len(words) > 3, 'E2 BAD CARD')
             unless(all(map(is_name, words[1:n])), 'T1 BAD NAME')
             if card == '$SETACL' and len(words) == 3:
                 self.list = (words[1], words[2], [])
                 return
-            rest = line.split(None, 3)[3] if card == '$SETACL' else None
-            monitor.command(card[1:], words[1], words[2] if n == 3 else None, lambda: read_short(rest))
+            further = (words[3] if has_mode else 'SEQ') if card == '$CREATE' else None
+            if card == '$SETACL':
+                rest = line.split(None, 3)[3]
+                further = lambda: read_short(rest)
+            monitor.command(card[1:], words[1], words[2] if n == 3 else None, further)
 
     def list_line(self, line):
         account, name, lines = self.list

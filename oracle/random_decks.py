@@ -26,8 +26,8 @@ def acl(r):
     return ['user::' + perms(r), 'group::' + perms(r), 'other::' + perms(r)] + named + groups + mask
 
 
-def act(r, reads, writes):
-    u, v = r.choice([5, 6, 7, 8, 9, 9, 8, 20]), r.choice('ABC')
+def act(r, tied, reads, writes):
+    u, v = r.choice([5, 6, 9, 20] + 4 * tied), r.choice('ABC')
     q = lambda: "'%s'" % r.choice(TEXTS)
     goto = r.choice(['', '', '', ' :F(END)', ' :S(L)', ' :F(L)'])
     kind = r.randrange(9)
@@ -42,7 +42,7 @@ def act(r, reads, writes):
     if kind in (4, 5):
         return '  %s = %s%s' % (r.choice(writes), r.choice([q(), 'X', "X '.' N"]), goto)
     if kind == 6:
-        return '  %s(%d)%s' % (r.choice(['REWIND', 'ENDFILE', 'REWIND']), u, goto)
+        return '  %s(%d)%s' % (r.choice(['REWIND', 'ENDFILE', 'ENDFILE']), u, goto)
     if kind == 7:
         return '  OUTPUT = %s%s' % (r.choice(['X', q(), 'INPUT', 'N', '&STNO', "F('Y')"]), goto)
     return '  N = N + 1'
@@ -50,13 +50,14 @@ def act(r, reads, writes):
 
 def job(r):
     reads, writes = ['INPUT'], ['OUTPUT']
-    body = [act(r, reads, writes) for _ in range(r.randint(1, 9))]
+    tied = r.choices([5, 6, 7, 8, 9, 9, 8], k=r.randint(0, 3))
+    body = [act(r, tied, reads, writes) for _ in range(r.randint(1, 9))]
     body.insert(r.randint(0, len(body)), 'L N = N + 1')
     body.append('  %s' % r.choice(["GT(N,%d) :F(L)" % r.randint(1, 4), 'X = X', "X 'A' = 'B'"]))
     if r.random() < 0.3:
         body = ["  DEFINE('F(P)A') :(G)", "F F = P A INPUT; A = 'K' :(RETURN)", 'G'] + body
     options = [' ST=%d' % r.choice([1, 3, 9, 30, 200])] if r.random() < 0.7 else [' ST=500']
-    ties = ['$UNIT %d %s' % (r.choice([5, 6, 7, 8, 9, 9, 8]), r.choice(SETS + ['GONE'])) for _ in range(r.randint(0, 3))]
+    ties = ['$UNIT %d %s' % (u, r.choice(SETS + ['GONE'])) for u in tied]
     data = [('$' if t[:1] == '$' else '') + t for t in r.choices(TEXTS, k=r.randint(0, 4))]
     return (['$JOB %s%s' % (r.choice(sorted(ACCOUNTS)), ''.join(options))] + ties + body
             + [r.choice(['END', 'END', 'END L'])] + data + ['$EOJ'])
@@ -77,14 +78,18 @@ def card(r, slots):
         return ['$SETACL %s %s' % (who, name)] + acl(r) + ['$ENDACL']
     if kind == 11:
         return ['$CATALOG ' + who]
-    return ['$%s %s %s' % (r.choice(['CREATE', 'DELETE', 'SHOWACL', 'LIST', 'LIST']), who, name)]
+    word = r.choice(['CREATE', 'CREATE', 'DELETE', 'SHOWACL', 'LIST', 'LIST'])
+    mode = r.choice(['', ' SEQ', ' APPEND', ' APPEND']) if word == 'CREATE' else ''
+    return ['$%s %s %s%s' % (word, who, name, mode)]
 
 
 def deck(r, slots):
-    lines = ['$ACCOUNTS'] + [' '.join([a] + g) for a, g in ACCOUNTS.items()] + ['$CATALOGUE']
-    for name in SETS[:r.randint(1, 4)]:
+    version = r.choice([1, 2, 2])
+    lines = ['$ACCOUNTS'] + [' '.join([a] + g) for a, g in ACCOUNTS.items()] + ['$CATALOGUE' + ' 2' * (version == 2)]
+    for name in SETS[:r.randint(2, 4)]:
         records = r.choices(TEXTS, k=r.randint(0, 5))
-        lines += ['$SET %s %s %s %d' % (name, r.choice(sorted(ACCOUNTS)), r.choice(GROUPS), len(records)), ','.join(acl(r))]
+        mode = ' ' + r.choice(['SEQ', 'APPEND']) if version == 2 else ''
+        lines += ['$SET %s %s %s%s %d' % (name, r.choice(sorted(ACCOUNTS)), r.choice(GROUPS), mode, len(records)), ','.join(acl(r))]
         lines += records
     lines.append('$STREAM')
     for _ in range(r.randint(1, 12)):

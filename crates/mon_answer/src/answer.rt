@@ -19,6 +19,8 @@ pub enum Reason {
     InStream,
     /// The unit is the spool, which can only be written.
     SpoolUnit,
+    /// The data set is of mode APPEND, which can only be added to.
+    Mode,
 }
 
 /// What is answered to a request for a record.
@@ -49,6 +51,7 @@ impl Reason {
             Reason::NoUnit => Reason::NoUnit,
             Reason::InStream => Reason::InStream,
             Reason::SpoolUnit => Reason::SpoolUnit,
+            Reason::Mode => Reason::Mode,
         }
     }
 }

@@ -8,6 +8,7 @@ use Rattle.mon_acl.specs.Reading as acl
 use Rattle.mon_acl.specs.Reading.{read_short}
 use Rattle.mon_acl.specs.Texts.{pieces}
 use Rattle.mon_acl.specs.declared.refusals.AclError.{AclError}
+use Rattle.mon_catalogue.specs.declared.version.Version.{Version}
 use Rattle.mon_catalogue.specs.declared.data_set.DataSet.{DataSet}
 use Rattle.mon_catalogue.specs.declared.head.Head.{Head}
 use Rattle.mon_catalogue.specs.declared.loading.CatalogueError.{CatalogueError}
@@ -17,12 +18,12 @@ use Rattle.mon_catalogue.specs.Sets.{Sets, empty_set}
 use Rattle.mon_catalogue.specs.Head.{head_of, head_refusal}
 
 pub data Progress : Type 0 where
-  -- so many lines spell these sets, and a `$SET` line is due
-  SetDue : ℕ → Sets → Progress
+  -- so many lines of a text of this version spell these sets, and a `$SET` line is due
+  SetDue : Version → ℕ → Sets → Progress
   -- the permission list of the set of this `$SET` line is due
-  ListDue : ℕ → Sets → Head → Progress
+  ListDue : Version → ℕ → Sets → Head → Progress
   -- so many more records of this set are due
-  RecordsDue : ℕ → Sets → List ℕ → DataSet → ℕ → Progress
+  RecordsDue : Version → ℕ → Sets → List ℕ → DataSet → ℕ → Progress
   -- the text is refused, however it goes on
   Refused : CatalogueError → Progress
   -- memory was short, and no line is taken any more
@@ -30,55 +31,55 @@ pub data Progress : Type 0 where
 
 -- how many lines were taken; once the reading has stopped they aren't counted
 abbrev pub lines_taken : Progress → ℕ
-lines_taken (SetDue n _) = n
-lines_taken (ListDue n _ _) = n
-lines_taken (RecordsDue n _ _ _ _) = n
+lines_taken (SetDue _ n _) = n
+lines_taken (ListDue _ n _ _) = n
+lines_taken (RecordsDue _ n _ _ _ _) = n
 lines_taken _ = 0
 
 -- whether a `$SET` line is due
 abbrev pub is_due : Progress → Bool
-is_due (SetDue _ _) = true
+is_due (SetDue _ _ _) = true
 is_due _ = false
 
 -- the set has so many more records to come
-abbrev pub with_due : ℕ → Sets → List ℕ → DataSet → ℕ → Progress
-with_due n sets name set left = if left == 0 then SetDue n (sets ++ (name, set) ∷ []) else RecordsDue n sets name set left
+abbrev pub with_due : Version → ℕ → Sets → List ℕ → DataSet → ℕ → Progress
+with_due version n sets name set left = if left == 0 then SetDue version n (sets ++ (name, set) ∷ []) else RecordsDue version n sets name set left
 
-abbrev pub after_head : ℕ → Sets → Head → Option CatalogueError → Progress
-after_head n sets head None = ListDue n sets head
-after_head n sets head (Some e) = Refused e
+abbrev pub after_head : Version → ℕ → Sets → Head → Option CatalogueError → Progress
+after_head version n sets head None = ListDue version n sets head
+after_head version n sets head (Some e) = Refused e
 
-abbrev pub after_words : ℕ → Sets → Option Head → Progress
-after_words n sets None = Refused (BadText n)
-after_words n sets (Some head) = after_head n sets head (head_refusal n sets head)
+abbrev pub after_words : Version → ℕ → Sets → Option Head → Progress
+after_words version n sets None = Refused (BadText n)
+after_words version n sets (Some head) = after_head version n sets head (head_refusal n sets head)
 
 -- after the n-th line, where a `$SET` line was due: blank lines are skipped
-abbrev pub after_set_due : ℕ → Sets → List ℕ → Progress
-after_set_due n sets line = if is_blank_line line then SetDue n sets else after_words n sets (head_of (words line))
+abbrev pub after_set_due : Version → ℕ → Sets → List ℕ → Progress
+after_set_due version n sets line = if is_blank_line line then SetDue version n sets else after_words version n sets (head_of version (words line))
 
-abbrev pub after_acl : ℕ → Sets → Head → Result (List Entry) AclError → Progress
-after_acl n sets head (Err _) = Refused (BadText n)
-after_acl n sets head (Ok acl) = with_due n sets head.name (empty_set head.owner head.group acl) head.count
+abbrev pub after_acl : Version → ℕ → Sets → Head → Result (List Entry) AclError → Progress
+after_acl version n sets head (Err _) = Refused (BadText n)
+after_acl version n sets head (Ok acl) = with_due version n sets head.name (empty_set head.owner head.group head.mode acl) head.count
 
 abbrev pub with_record : DataSet → List ℕ → DataSet
 with_record set line = record set { records = set.records ++ line ∷ [] }
 
-abbrev pub after_record : ℕ → Sets → List ℕ → DataSet → ℕ → List ℕ → Progress
-after_record n sets name set left line = if is_record line then with_due n sets name (with_record set line) (left - 1) else Refused (BadText n)
+abbrev pub after_record : Version → ℕ → Sets → List ℕ → DataSet → ℕ → List ℕ → Progress
+after_record version n sets name set left line = if is_record line then with_due version n sets name (with_record set line) (left - 1) else Refused (BadText n)
 
 -- what one more line makes of it
 abbrev pub step : Progress → List ℕ → Progress
-step (SetDue n sets) line = after_set_due (n + 1) sets line
-step (ListDue n sets head) line = after_acl (n + 1) sets head (read_short line)
-step (RecordsDue n sets name set left) line = after_record (n + 1) sets name set left line
+step (SetDue version n sets) line = after_set_due version (n + 1) sets line
+step (ListDue version n sets head) line = after_acl version (n + 1) sets head (read_short line)
+step (RecordsDue version n sets name set left) line = after_record version (n + 1) sets name set left line
 step (Refused e) line = Refused e
 step OutOfMemory line = OutOfMemory
 
 -- what the text says if it ends here: a set that isn't whole is refused at the line after the last
 abbrev pub finished : Progress → Result Sets (Stop CatalogueError)
-finished (SetDue n sets) = Ok sets
-finished (ListDue n _ _) = Err (stop.Refused (BadText (n + 1)))
-finished (RecordsDue n _ _ _ _) = Err (stop.Refused (BadText (n + 1)))
+finished (SetDue _ n sets) = Ok sets
+finished (ListDue _ n _ _) = Err (stop.Refused (BadText (n + 1)))
+finished (RecordsDue _ n _ _ _ _) = Err (stop.Refused (BadText (n + 1)))
 finished (Refused e) = Err (stop.Refused e)
 finished OutOfMemory = Err stop.Memory
 
@@ -88,8 +89,8 @@ after_lines p [] = p
 after_lines p (line ∷ lines) = after_lines (step p line) lines
 
 -- where the reading of a text stands after its first lines
-abbrev pub loaded : List (List ℕ) → Progress
-loaded lines = after_lines (SetDue 0 []) lines
+abbrev pub loaded : Version → List (List ℕ) → Progress
+loaded version lines = after_lines (SetDue version 0 []) lines
 
 -- why the reading has stopped, if it has
 abbrev pub stopped : Progress → Option (Stop CatalogueError)
@@ -103,9 +104,9 @@ ListGrows head line = acl.MayGrow (pieces line) ⊎ (IsOk (read_short line) × (
 
 -- one more line may take memory: blank lines between sets take none, and neither do lines that are too long for a record
 abbrev pub MayGrow : Progress → List ℕ → Type 0
-MayGrow (SetDue _ _) line = is_blank_line line ≡ false
-MayGrow (ListDue _ _ head) line = ListGrows head line
-MayGrow (RecordsDue _ _ _ _ _) line = IsTrue (is_record line)
+MayGrow (SetDue _ _ _) line = is_blank_line line ≡ false
+MayGrow (ListDue _ _ _ head) line = ListGrows head line
+MayGrow (RecordsDue _ _ _ _ _ _) line = IsTrue (is_record line)
 MayGrow (Refused _) line = ⊥
 MayGrow OutOfMemory line = Unit {0}
 

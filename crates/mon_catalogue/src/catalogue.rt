@@ -6,6 +6,7 @@ ghost use Rattle.std.specs.Result.{result_ok};
 ghost use Rattle.std.specs.Map.Iter.{deref_pair};
 ghost use Rattle.std.specs.Str.Lines.{lines};
 ghost use Rattle.mon_text.specs.Stops.{refused_as};
+ghost use Rattle.mon_catalogue.specs.declared.version.Version.TheVariants.{Two};
 ghost use Rattle.mon_catalogue.specs.Reading.{catalogue_of};
 ghost use Rattle.mon_catalogue.specs.Stored.{IsStored, ArePrintable};
 ghost use Rattle.mon_catalogue.specs.Sets.{find_set, empty_set, create_refusal, IsCatalogue};
@@ -14,6 +15,7 @@ ghost use Rattle.mon_catalogue.specs.Lending.{LendsSet};
 ghost use Rattle.mon_catalogue.specs.Text.{catalogue_text, catalogue_lines};
 
 use crate::data_set::{DataSet, Records};
+use crate::mode::Mode;
 use crate::text::put_set;
 use indexmap::IndexMap;
 use mon_acl::Acl;
@@ -111,9 +113,10 @@ impl Catalogue {
         name: Name,
         owner: Name,
         group: Name,
+        mode: Mode,
         acl: Acl,
     ) -> Result<(), Stop<CreateError>>
-        ensures created { OnOk result (self.new ≡ self.old ++ (name, empty_set owner group acl) ∷ []) }
+        ensures created { OnOk result (self.new ≡ self.old ++ (name, empty_set owner group mode acl) ∷ []) }
         ensures refused { refused_as result ≡ create_refusal name self.old }
         ensures unchanged { OnErr result (self.new ≡ self.old) }
     {
@@ -127,6 +130,7 @@ impl Catalogue {
         let set = DataSet {
             owner,
             group,
+            mode,
             acl,
             records,
         };
@@ -180,7 +184,7 @@ impl Catalogue {
         }
     }
 
-    /// Appends the catalogue's text: for each set a line `$SET name owner group count`, its permission list in short
+    /// Appends the catalogue's text, version 2: for each set a line `$SET name owner group mode count`, its permission list in short
     /// form, and its records as they are. Each line is ended by LF.
     ///
     /// # Errors
@@ -191,8 +195,8 @@ impl Catalogue {
         ensures written { OnOk result (out.new.items ≡ out.old.items ++ catalogue_text self.now) }
         ensures stored { OnOk result (IsStored self.now) }
         ensures printable { OnOk result (ArePrintable self.now) }
-        ensures reads_back { OnOk result (catalogue_of (catalogue_lines self.now) ≡ Ok self.now) }
-        ensures bytes_read_back { OnOk result (catalogue_of (lines (catalogue_text self.now)) ≡ Ok self.now) }
+        ensures reads_back { OnOk result (catalogue_of Two (catalogue_lines self.now) ≡ Ok self.now) }
+        ensures bytes_read_back { OnOk result (catalogue_of Two (lines (catalogue_text self.now)) ≡ Ok self.now) }
         ensures memory { OnErr result (0 < length self.now) }
     {
         for (name, set) in &self.sets {

@@ -4,8 +4,9 @@ ghost use Rattle.std.specs.Option.{option_copied};
 ghost use Rattle.mon_text.specs.Stops.{refused_as};
 ghost use Rattle.mon_text.specs.declared.stop.Stop.{Stop};
 ghost use Rattle.mon_catalogue.specs.Records.{AreRecords};
-ghost use Rattle.mon_catalogue.specs.Writing.{Put, Cut, put_at, cut_at, put_refusal, recorded};
+ghost use Rattle.mon_catalogue.specs.Writing.{Put, Cut, Add, put_at, cut_at, put_refusal, added, add_refusal, recorded};
 
+use crate::mode::Mode;
 use mon_acl::Acl;
 use mon_text::{Line, Name, Stop};
 use std::alloc::{AllocError, Global};
@@ -37,13 +38,14 @@ impl Model for Records {
     ghost invariant = { λ r. AreRecords r.lines.items };
 }
 
-/// A data set: who owns it, its group, its permission list and its records.
+/// A data set: who owns it, its group, how it may be written, its permission list and its records.
 ///
 /// The owner and the group need not be known accounts.
 #[derive(Drop)]
 pub struct DataSet {
     pub owner: Name,
     pub group: Name,
+    pub mode: Mode,
     pub acl: Acl,
     pub records: Records,
 }
@@ -121,6 +123,20 @@ impl Records {
         Ok(())
     }
 
+    // Puts a line last.
+    fn add(&mut self, line: Line) -> Result<(), Stop<SetFull>>
+        requires short { length line ≤ MOST_RECORD_CHARACTERS }
+        ensures added { OnOk result (self.new ≡ added line self.old) }
+        ensures refused { refused_as result ≡ add_refusal self.old }
+        ensures unchanged { OnErr result (self.new ≡ self.old) }
+    {
+        if self.len() >= MOST_RECORDS {
+            return Err(Stop::Refused(SetFull));
+        }
+        self.push(line)?;
+        Ok(())
+    }
+
     // Cuts off what stands at a position and behind it.
     #[tactic(auto, using(crate::proofs::Written::still_records))]
     fn cut_at(&mut self, position: u64)
@@ -155,6 +171,21 @@ impl DataSet {
         ensures memory { IsErrOf result Stop.Memory → length self.old.records ≤ position }
     {
         self.records.put_at(position, line)
+    }
+
+    /// Puts a record of at most 1,024 characters behind all others.
+    ///
+    /// # Errors
+    ///
+    /// `SetFull` where there are 100,000 records, whatever memory there is; `Memory` where a growth was refused. The set is
+    /// then unchanged.
+    pub fn append(&mut self, line: Line) -> Result<(), Stop<SetFull>>
+        requires short { length line ≤ MOST_RECORD_CHARACTERS }
+        ensures added { OnOk result (self.new ≡ recorded (Add line) self.old) }
+        ensures refused { refused_as result ≡ add_refusal self.old.records }
+        ensures unchanged { OnErr result (self.new ≡ self.old) }
+    {
+        self.records.add(line)
     }
 
     /// Cuts off the records at a position, counted from 0, and behind it. It takes no memory.

@@ -15,6 +15,7 @@ ghost use Rattle.mon_catalogue.specs.inner.Stages.{Reaches, Arrives, Pushes, IsS
 use crate::catalogue::{Catalogue, MOST_SETS};
 use crate::data_set::{DataSet, MOST_RECORD_CHARACTERS, MOST_RECORDS, Records};
 use crate::head::{Head, read_head};
+use crate::version::Version;
 use mon_acl::Acl;
 use mon_text::{Line, Name, Stop};
 use std::alloc::Global;
@@ -53,6 +54,7 @@ pub(crate) enum Stage {
 /// A contract sees how far it has come: what the lines spell so far and what is due next, or why the text is refused.
 #[derive(Drop)]
 pub struct Loading {
+    version: Version,
     catalogue: Catalogue,
     lines_taken: u64,
     stage: Stage,
@@ -65,17 +67,18 @@ impl Model for Loading {
 
     ghost Value = { Progress };
 
-    ghost view = { λ l. progress_of l.lines_taken l.catalogue l.stage };
+    ghost view = { λ l. progress_of l.version l.lines_taken l.catalogue l.stage };
 
     ghost invariant = { λ l. (l.lines_taken ≤ 2 ^ 63) × IsSound l.catalogue l.stage };
 }
 
 impl Loading {
-    /// A loading that has taken no line.
-    pub fn new(alloc: Global) -> Loading
-        ensures { result ≡ SetDue 0 [] }
+    /// A loading of a text of this version that has taken no line.
+    pub fn new(alloc: Global, version: Version) -> Loading
+        ensures { result ≡ SetDue version 0 [] }
     {
         Loading {
+            version,
             catalogue: Catalogue::new(alloc),
             lines_taken: 0,
             stage: Stage::SetDue,
@@ -107,7 +110,13 @@ impl Loading {
         if let Stage::Stopped(stop) = &self.stage {
             return Err(*stop);
         }
-        let answer = advance(&mut self.catalogue, &mut self.stage, self.lines_taken, line);
+        let answer = advance(
+            self.version,
+            &mut self.catalogue,
+            &mut self.stage,
+            self.lines_taken,
+            line,
+        );
         self.lines_taken += 1;
         answer
     }
@@ -121,6 +130,7 @@ impl Loading {
         ensures { result ≡ finished self }
     {
         let Loading {
+            version: _,
             catalogue,
             lines_taken,
             stage,
@@ -137,6 +147,7 @@ impl Loading {
 
 // Goes on by one more line. Where that is an error, the stage is that error from then on.
 fn advance(
+    version: Version,
     catalogue: &mut Catalogue,
     stage: &mut Stage,
     lines_taken: u64,
@@ -144,9 +155,9 @@ fn advance(
 ) -> Result<(), Stop<CatalogueError>>
     requires few { lines_taken < 2 ^ 63 }
     requires sound { IsSound catalogue.old stage.old }
-    ensures step { Answers result (progress_of (lines_taken + 1) catalogue.new stage.new) (step (progress_of lines_taken catalogue.old stage.old) line) }
+    ensures step { Answers result (progress_of version (lines_taken + 1) catalogue.new stage.new) (step (progress_of version lines_taken catalogue.old stage.old) line) }
     ensures sound { IsSound catalogue.new stage.new }
-    ensures memory { IsErrOf result Stop.Memory → MayGrow (progress_of lines_taken catalogue.old stage.old) line }
+    ensures memory { IsErrOf result Stop.Memory → MayGrow (progress_of version lines_taken catalogue.old stage.old) line }
 {
     let answer = match stage {
         Stage::RecordsDue(_, set, left) if *left > 1 => push_record(
@@ -155,7 +166,7 @@ fn advance(
             lines_taken + 1,
             line,
         ),
-        _ => turn(catalogue, stage, lines_taken, line),
+        _ => turn(version, catalogue, stage, lines_taken, line),
     };
     if let Err(stop) = answer {
         *stage = Stage::Stopped(stop);
@@ -188,6 +199,7 @@ fn push_record(
 
 // Goes on to what is due after one more line.
 fn turn(
+    version: Version,
     catalogue: &mut Catalogue,
     stage: &mut Stage,
     lines_taken: u64,
@@ -195,16 +207,17 @@ fn turn(
 ) -> Result<(), Stop<CatalogueError>>
     requires few { lines_taken < 2 ^ 63 }
     requires sound { IsSound catalogue.old stage.old }
-    ensures step { Arrives (lines_taken + 1) catalogue.new stage.new (MayGrow (progress_of lines_taken catalogue.old stage.old) line) result (step (progress_of lines_taken catalogue.old stage.old) line) }
+    ensures step { Arrives version (lines_taken + 1) catalogue.new stage.new (MayGrow (progress_of version lines_taken catalogue.old stage.old) line) result (step (progress_of version lines_taken catalogue.old stage.old) line) }
     ensures sound { OnOk result (IsSound catalogue.new stage.new) }
 {
     let due = mem::replace(stage, Stage::SetDue);
-    *stage = after(catalogue, lines_taken, due, line)?;
+    *stage = after(version, catalogue, lines_taken, due, line)?;
     Ok(())
 }
 
 // What is due after one more line.
 fn after(
+    version: Version,
     catalogue: &mut Catalogue,
     lines_taken: u64,
     stage: Stage,
@@ -212,40 +225,46 @@ fn after(
 ) -> Result<Stage, Stop<CatalogueError>>
     requires few { lines_taken < 2 ^ 63 }
     requires sound { IsSound catalogue.old stage }
-    ensures step { Reaches (lines_taken + 1) catalogue.new (MayGrow (progress_of lines_taken catalogue.old stage) line) result (step (progress_of lines_taken catalogue.old stage) line) }
+    ensures step { Reaches version (lines_taken + 1) catalogue.new (MayGrow (progress_of version lines_taken catalogue.old stage) line) result (step (progress_of version lines_taken catalogue.old stage) line) }
     ensures sound { IfOk result (IsSound catalogue.new) }
 {
     let number = lines_taken + 1;
     match stage {
-        Stage::SetDue => after_set_due(catalogue, number, &line),
-        Stage::ListDue(head) => after_list(catalogue, number, head, &line),
+        Stage::SetDue => after_set_due(version, catalogue, number, &line),
+        Stage::ListDue(head) => after_list(version, catalogue, number, head, &line),
         Stage::RecordsDue(name, set, left) => after_record(
-            catalogue, number, name, set, left, line,
+            version, catalogue, number, name, set, left, line,
         ),
         Stage::Stopped(stop) => Err(stop),
     }
 }
 
 fn after_set_due(
+    version: Version,
     catalogue: &Catalogue,
     number: u64,
     line: &Line,
 ) -> Result<Stage, Stop<CatalogueError>>
-    ensures step { Reaches number catalogue.now (is_blank_line line.now ≡ false) result (after_set_due number catalogue.now line.now) }
+    ensures step { Reaches version number catalogue.now (is_blank_line line.now ≡ false) result (after_set_due version number catalogue.now line.now) }
     ensures sound { IfOk result (IsSound catalogue.now) }
 {
     if line.is_blank() {
         return Ok(Stage::SetDue);
     }
-    match read_head(catalogue.allocator(), line) {
+    match read_head(catalogue.allocator(), version, line) {
         Err(_) => Err(Stop::Memory),
         Ok(None) => Err(Stop::Refused(CatalogueError::BadText(number))),
-        Ok(Some(head)) => after_head(catalogue, number, head),
+        Ok(Some(head)) => after_head(version, catalogue, number, head),
     }
 }
 
-fn after_head(catalogue: &Catalogue, number: u64, head: Head) -> Result<Stage, Stop<CatalogueError>>
-    ensures step { Reaches number catalogue.now ⊥ result (after_head number catalogue.now head (head_refusal number catalogue.now head)) }
+fn after_head(
+    version: Version,
+    catalogue: &Catalogue,
+    number: u64,
+    head: Head,
+) -> Result<Stage, Stop<CatalogueError>>
+    ensures step { Reaches version number catalogue.now ⊥ result (after_head version number catalogue.now head (head_refusal number catalogue.now head)) }
     ensures sound { IfOk result (IsSound catalogue.now) }
 {
     if head.count > MOST_RECORDS {
@@ -261,13 +280,14 @@ fn after_head(catalogue: &Catalogue, number: u64, head: Head) -> Result<Stage, S
 }
 
 fn after_list(
+    version: Version,
     catalogue: &mut Catalogue,
     number: u64,
     head: Head,
     line: &Line,
 ) -> Result<Stage, Stop<CatalogueError>>
     requires sound { IsAwaited catalogue.old head.name head.count }
-    ensures step { Reaches number catalogue.new (ListGrows head line.now) result (after_acl number catalogue.old head (read_short line.now)) }
+    ensures step { Reaches version number catalogue.new (ListGrows head line.now) result (after_acl version number catalogue.old head (read_short line.now)) }
     ensures sound { IfOk result (IsSound catalogue.new) }
 {
     match Acl::parse_short(catalogue.allocator(), line.as_bytes()) {
@@ -276,10 +296,11 @@ fn after_list(
             let set = DataSet {
                 owner: head.owner,
                 group: head.group,
+                mode: head.mode,
                 acl,
                 records,
             };
-            with_due(catalogue, number, head.name, set, head.count)
+            with_due(version, catalogue, number, head.name, set, head.count)
         }
         Err(Stop::Refused(_)) => Err(Stop::Refused(CatalogueError::BadText(number))),
         Err(Stop::Memory) => Err(Stop::Memory),
@@ -287,6 +308,7 @@ fn after_list(
 }
 
 fn after_record(
+    version: Version,
     catalogue: &mut Catalogue,
     number: u64,
     name: Name,
@@ -295,20 +317,21 @@ fn after_record(
     line: Line,
 ) -> Result<Stage, Stop<CatalogueError>>
     requires sound { IsSound catalogue.old (Stage.RecordsDue name set left) }
-    ensures step { Reaches number catalogue.new (IsTrue (is_record line)) result (after_record number catalogue.old name set left line) }
+    ensures step { Reaches version number catalogue.new (IsTrue (is_record line)) result (after_record version number catalogue.old name set left line) }
     ensures sound { IfOk result (IsSound catalogue.new) }
 {
     if line.len() > MOST_RECORD_CHARACTERS {
         return Err(Stop::Refused(CatalogueError::BadText(number)));
     }
     match set.records.push(line) {
-        Ok(()) => with_due(catalogue, number, name, set, left - 1),
+        Ok(()) => with_due(version, catalogue, number, name, set, left - 1),
         Err(_) => Err(Stop::Memory),
     }
 }
 
 // The set has so many more records to come.
 fn with_due(
+    version: Version,
     catalogue: &mut Catalogue,
     number: u64,
     name: Name,
@@ -316,7 +339,7 @@ fn with_due(
     left: u64,
 ) -> Result<Stage, Stop<CatalogueError>>
     requires sound { IsAwaited catalogue.old name (length set.records + left) }
-    ensures step { Reaches number catalogue.new (left ≡ 0) result (with_due number catalogue.old name set left) }
+    ensures step { Reaches version number catalogue.new (left ≡ 0) result (with_due version number catalogue.old name set left) }
     ensures sound { IfOk result (IsSound catalogue.new) }
 {
     if left > 0 {
@@ -328,19 +351,23 @@ fn with_due(
     }
 }
 
-/// Reads a catalogue's text, given as its lines.
+/// Reads a catalogue's text of this version, given as its lines.
 ///
 /// # Errors
 ///
 /// As `Loading::line` at the first line that is refused, else as `Loading::finish`.
-pub fn read_text(alloc: Global, lines: &[Line]) -> Result<Catalogue, Stop<CatalogueError>>
+pub fn read_text(
+    alloc: Global,
+    version: Version,
+    lines: &[Line],
+) -> Result<Catalogue, Stop<CatalogueError>>
     requires { length lines.now < 2 ^ 63 }
-    ensures spelled { IfOk result (λ catalogue. IsCatalogueText lines.now catalogue) }
-    ensures only { (sets : Sets) → IsCatalogueText lines.now sets → Gives result (Ok sets) }
-    ensures refused { (refusal : CatalogueError) → IsErrOf result (Stop.Refused refusal) → catalogue_refusal lines.now ≡ Some refusal }
-    ensures computed { Gives result (catalogue_of lines.now) }
+    ensures spelled { IfOk result (λ catalogue. IsCatalogueText version lines.now catalogue) }
+    ensures only { (sets : Sets) → IsCatalogueText version lines.now sets → Gives result (Ok sets) }
+    ensures refused { (refusal : CatalogueError) → IsErrOf result (Stop.Refused refusal) → catalogue_refusal version lines.now ≡ Some refusal }
+    ensures computed { Gives result (catalogue_of version lines.now) }
 {
-    let mut loading = Loading::new(alloc);
+    let mut loading = Loading::new(alloc, version);
     for line in lines {
         match line.copy(alloc) {
             Ok(line) => loading.line(line)?,

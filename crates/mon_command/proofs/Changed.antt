@@ -69,7 +69,7 @@ module _ (removes : guard.OwnersRemove) (sets_lists : guard.OwnersSetLists) (cre
   names_not h = let no : Names (names_lent account sets) ≡ Told Done = h in cc
 
   changed : (command : Command) (after : Sets) → Changes account command sets after → served account command sets ≡ done after
-  changed (Create _ name) after h = told_done creation_reply (Ok tt) refl only_created (created account sets name) after (((creates account sets name).done_where after).1 h)
+  changed (Create _ name mode) after h = told_done creation_reply (Ok tt) refl only_created (created account sets name mode) after (((creates account sets name mode).done_where after).1 h)
   changed (Delete _ name) after h = told_done removal_reply (Ok tt) refl only_removed (removed account sets name) after (((removes account sets name).done_where after).1 h)
   changed (SetAcl _ name text) after h =
       told_done acl_reply acl.Done refl only_set (acl_set account sets name text) after (((sets_lists account sets name text).done_where after).1 h)
@@ -78,7 +78,7 @@ module _ (removes : guard.OwnersRemove) (sets_lists : guard.OwnersSetLists) (cre
   changed (Catalog _) after h = absurd h
 
   asked : (command : Command) (after : Sets) → served account command sets ≡ done after → Changes account command sets after
-  asked (Create _ name) after h = ((creates account sets name).done_where after).0 (done_told creation_reply (Ok tt) refl only_created (created account sets name) after h)
+  asked (Create _ name mode) after h = ((creates account sets name mode).done_where after).0 (done_told creation_reply (Ok tt) refl only_created (created account sets name mode) after h)
   asked (Delete _ name) after h = ((removes account sets name).done_where after).0 (done_told removal_reply (Ok tt) refl only_removed (removed account sets name) after h)
   asked (SetAcl _ name text) after h =
       ((sets_lists account sets name text).done_where after).0 (done_told acl_reply acl.Done refl only_set (acl_set account sets name text) after h)
@@ -87,7 +87,7 @@ module _ (removes : guard.OwnersRemove) (sets_lists : guard.OwnersSetLists) (cre
   asked (Catalog _) after h = names_not (ap (λ (s : Served). s.answer) h)
 
   kept : (command : Command) → (served account command sets).answer ≢ Told Done → (served account command sets).sets ≡ sets
-  kept (Create _ name) not = kept_told creation_reply (Ok tt) refl only_created (created account sets name) sets (creates account sets name).kept not
+  kept (Create _ name mode) not = kept_told creation_reply (Ok tt) refl only_created (created account sets name mode) sets (creates account sets name mode).kept not
   kept (Delete _ name) not = kept_told removal_reply (Ok tt) refl only_removed (removed account sets name) sets (removes account sets name).kept not
   kept (SetAcl _ name text) not = kept_told acl_reply acl.Done refl only_set (acl_set account sets name text) sets (sets_lists account sets name text).kept not
   kept (ShowAcl _ name) not = refl
@@ -114,7 +114,7 @@ module _ (stays : guard.OtherSetsStay) (account : Account) (sets : Sets) (other 
   short = Short []
 
   others : (command : Command) → (¬ IsNamed command other) → find_set other (served account command sets).sets ≡ find_set other sets
-  others (Create _ name) not = (stays account sets name other short not).2
+  others (Create _ name mode) not = (stays account sets name other short not).2 mode
   others (Delete _ name) not = (stays account sets name other short not).0
   others (SetAcl _ name text) not = (stays account sets name other text not).1
   others (ShowAcl _ name) not = refl

@@ -82,7 +82,7 @@ module _ (reason : Reason) where
 
   module _ (says : guard.DenialsSayWhy) (account : Account) (sets : Sets) where
     from : (command : Command) → (served account command sets).answer ≡ Told (Denied reason) → IsWhy account command sets reason
-    from (Create _ name) h = created_not (created account sets name).0 h
+    from (Create _ name mode) h = created_not (created account sets name mode).0 h
     from (Delete _ name) h = (says account sets name reason).owner.0 (removal_denied (owner_denial account sets name) sets name h)
     from (SetAcl _ name text) h = (says account sets name reason).owner.0 (list_denied (owner_denial account sets name) sets name text h)
     from (ShowAcl _ name) h =
@@ -94,7 +94,7 @@ module _ (reason : Reason) where
     from (Catalog _) h = let no : Names (names_lent account sets) ≡ Told (Denied reason) = h in cc
 
     so : (command : Command) → IsWhy account command sets reason → (served account command sets).answer ≡ Told (Denied reason)
-    so (Create _ name) h = absurd h
+    so (Create _ name mode) h = absurd h
     so (Delete _ name) h = ap (λ r. Told (removal_reply (removed_unless r sets name).0)) ((says account sets name reason).owner.1 h)
     so (SetAcl _ name text) h = ap (λ r. Told (acl_reply (acl_set_unless r sets name text).0)) ((says account sets name reason).owner.1 h)
     so (ShowAcl _ name) h = ap (shown_as Shown) ((says account sets name reason).list.1 h)

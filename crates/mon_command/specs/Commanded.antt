@@ -63,7 +63,7 @@ only_shown answer sets = record { answer = answer; sets = sets }
 
 -- what a known account is answered
 abbrev pub served : Account → Command → Sets → Served
-served account (Create _ name) sets = told_by creation_reply (created account sets name)
+served account (Create _ name mode) sets = told_by creation_reply (created account sets name mode)
 served account (Delete _ name) sets = told_by removal_reply (removed account sets name)
 served account (SetAcl _ name text) sets = told_by acl_reply (acl_set account sets name text)
 served account (ShowAcl _ name) sets = only_shown (shown_as Shown (acl_lent account sets name)) sets

@@ -22,7 +22,7 @@ IsKnown accounts command account = find_account accounts (account_of command) �
 
 -- the command asks for a change that its account may make, and these are the data sets after it
 abbrev pub Changes : Account → Command → Sets → Sets → Type 0
-Changes account (Create _ name) sets after = Creates account sets name after
+Changes account (Create _ name mode) sets after = Creates account sets name mode after
 Changes account (Delete _ name) sets after = Removes account sets name after
 Changes account (SetAcl _ name text) sets after = SetsList account sets name text after
 Changes account (ShowAcl _ _) sets after = ⊥
@@ -47,7 +47,7 @@ ChangesWhereGranted = (accounts : List Account) (sets : Sets) (command : Command
 
 -- the name of the data set that a command is about
 abbrev pub IsNamed : Command → List ℕ → Type 0
-IsNamed (Create _ name) other = other ≡ name
+IsNamed (Create _ name mode) other = other ≡ name
 IsNamed (Delete _ name) other = other ≡ name
 IsNamed (SetAcl _ name text) other = other ≡ name
 IsNamed (ShowAcl _ name) other = other ≡ name
@@ -92,7 +92,7 @@ HiddenSetsHaveNoEffect = (accounts : List Account) (by : List ℕ) (account : Ac
 
 -- why a command of this account is denied: what is missing, or the entry that decides by the access check
 abbrev pub IsWhy : Account → Command → Sets → Reason → Type 0
-IsWhy account (Create _ name) sets reason = ⊥
+IsWhy account (Create _ name mode) sets reason = ⊥
 IsWhy account (Delete _ name) sets reason = WhyNotOwner account sets name reason
 IsWhy account (SetAcl _ name text) sets reason = WhyNotOwner account sets name reason
 IsWhy account (ShowAcl _ name) sets reason = WhyNotSeeList account sets name reason

@@ -14,6 +14,7 @@ reason_text reason.NotOwner = codes "NOT OWNER"
 reason_text reason.NoUnit = codes "NO UNIT"
 reason_text reason.InStream = codes "IN STREAM"
 reason_text reason.SpoolUnit = codes "SPOOL UNIT"
+reason_text reason.Mode = codes "MODE"
 
 abbrev pub reply_text : Reply → List ℕ
 reply_text Done = codes "DONE"

@@ -76,5 +76,6 @@ pub fn put_reason(reason: Reason, out: &mut Vec<u8>) -> Result<(), AllocError>
         Reason::NoUnit => out.extend_from_slice(b"NO UNIT"),
         Reason::InStream => out.extend_from_slice(b"IN STREAM"),
         Reason::SpoolUnit => out.extend_from_slice(b"SPOOL UNIT"),
+        Reason::Mode => out.extend_from_slice(b"MODE"),
     }
 }

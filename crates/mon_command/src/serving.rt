@@ -18,7 +18,7 @@ use crate::printout::{Printout, USUAL_BYTES, told};
 use crate::reply::Reply;
 use mon_access::{Account, Accounts};
 use mon_acl::AclText;
-use mon_catalogue::{Catalogue, CreateError, Records};
+use mon_catalogue::{Catalogue, CreateError, Mode, Records};
 use mon_guard::{AclAnswer, Guard, ShownAcl};
 use mon_text::{Name, Stop};
 use std::alloc::{AllocError, Global};
@@ -62,7 +62,9 @@ fn serve_known(
     ensures fit { RowsFit guard.old catalogue.old → RowsFit guard.new catalogue.new }
 {
     match command {
-        Command::Create { name, .. } => create(alloc, account, guard, catalogue, command, name),
+        Command::Create { name, mode, .. } => create(
+            alloc, account, guard, catalogue, command, name, *mode,
+        ),
         Command::Delete { name, .. } => delete(alloc, account, guard, catalogue, command, name),
         Command::SetAcl { name, text, .. } => {
             set_acl(alloc, account, guard, catalogue, command, name, text)
@@ -80,12 +82,13 @@ fn create(
     catalogue: &mut Catalogue,
     command: &Command,
     name: &Name,
+    mode: Mode,
 ) -> Result<Printout, AllocError>
-    ensures serves { Serves command.now result catalogue.old catalogue.new (told_by creation_reply (created account.now catalogue.old name.now)) }
+    ensures serves { Serves command.now result catalogue.old catalogue.new (told_by creation_reply (created account.now catalogue.old name.now mode)) }
     ensures fit { RowsFit guard.old catalogue.old → RowsFit guard.new catalogue.new }
 {
     let done = told(alloc, command, Reply::Done)?;
-    match guard.create(alloc, account, catalogue, name.copy()) {
+    match guard.create(alloc, account, catalogue, name.copy(), mode) {
         Ok(()) => Ok(done),
         Err(Stop::Refused(CreateError::NameTaken)) => told(alloc, command, Reply::NameTaken),
         Err(Stop::Refused(CreateError::CatalogueFull)) => {

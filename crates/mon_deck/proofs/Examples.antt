@@ -6,6 +6,7 @@ use Rattle.mon_acl.specs.declared.entries.Entry.{Entry}
 use Rattle.mon_acl.specs.declared.entries.Tag.TheVariants.{UserObj, GroupObj, Other}
 use Rattle.mon_access.specs.declared.account.Account.{Account}
 use Rattle.mon_access.specs.AccessCheck.{decision}
+use Rattle.mon_catalogue.specs.declared.mode.Mode.TheVariants.{Seq}
 use Rattle.mon_catalogue.specs.Sets.{Sets}
 use Rattle.mon_answer.specs.declared.answer.Reason.TheVariants.{By, NoSet}
 use Rattle.mon_command.specs.declared.reply.Reply.TheVariants.{Denied}
@@ -102,7 +103,7 @@ owner_alone =
 
 -- anna's data set of one record
 abbrev one_set : Sets
-one_set = (codes "X", record { owner = codes "anna"; group = codes "admin"; acl = owner_alone; records = codes "one" ∷ [] }) ∷ []
+one_set = (codes "X", record { owner = codes "anna"; group = codes "admin"; mode = Seq; acl = owner_alone; records = codes "one" ∷ [] }) ∷ []
 
 abbrev hugo : Account
 hugo = record { name = codes "hugo"; primary = codes "ops"; groups = [] }

@@ -36,8 +36,9 @@ pub record TellsAll (options : Options) (m : Marks) (bytes : List ℕ) (deck : D
   -- Each entry is answered over the data sets as the one before it left them, the first over the deck's catalogue; and the last
   -- leaves the catalogue that is written.
   pub lead : Lead deck.accounts deck.catalogue entries last.after.floor.sets
-  -- A record is got, a data set changed, a record, list or name shown, exactly where that is asked and then granted; and each
-  -- denial names the entry that decides, or what is missing.
+  -- A record is got, a data set changed, a record, list or name shown, exactly where that is asked, then granted, and fit for the
+  -- set's mode. Each denial names the entry that decides, what is missing, or MODE, which comes after the grant; and it changes
+  -- nothing.
   pub granted : AllByRecursion (IsRight deck.accounts) entries
   -- The output is what the entries print, in order, and then the catalogue.
   pub output : output_of options m bytes ≡ papers_text (papers_in entries) ++ closing last.after.floor.sets deck.cards.ending

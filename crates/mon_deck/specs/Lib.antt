@@ -2,6 +2,7 @@ pub mod Faults
 pub mod Runs
 pub mod Laws
 pub mod Headline
+pub mod Appending
 pub mod Isolation
 pub mod Example
 pub mod Schedules

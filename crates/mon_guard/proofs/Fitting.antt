@@ -16,6 +16,7 @@ use Rattle.std.proofs.lemmas.Slice.Eq.{bytes_eq-Decides}
 use Rattle.std.proofs.lemmas.Bool.Decides.{not_from_Decides}
 use Rattle.mon_access.specs.declared.account.Account.{Account}
 use Rattle.mon_access.specs.declared.compiled.Ready.{Ready}
+use Rattle.mon_catalogue.specs.declared.mode.Mode.{Mode}
 use Rattle.mon_catalogue.specs.declared.data_set.DataSet.{DataSet}
 use Rattle.mon_catalogue.specs.Sets.{Sets, find_set}
 use Rattle.mon_catalogue.specs.Writing.{Change, recorded}
@@ -23,12 +24,10 @@ use Rattle.mon_catalogue.specs.Changes.{with_changed, without_set, with_acl, lis
 use Rattle.mon_catalogue.proofs.Changed.{other_sets_stay, named_set_changes}
 use Rattle.mon_acl.specs.declared.entries.Entry.{Entry}
 use Rattle.mon_guard.specs.declared.rows.Row.{Row}
-use Rattle.mon_guard.specs.Acting.{changed}
+use Rattle.mon_guard.specs.Acting.{left, changed}
 use Rattle.mon_guard.specs.Owning.{new_set, created_unless, created}
-use Rattle.mon_guard.specs.inner.Judging.{set_after}
 use Rattle.mon_guard.proofs.Owned.{behind}
-use Rattle.mon_guard.proofs.Acting.{left_as_it_was}
-use Rattle.mon_catalogue.proofs.Changing.{changed_there}
+use Rattle.mon_guard.proofs.Acting.{left_so, left_as_it_was}
 use Rattle.mon_catalogue.specs.declared.catalogue.CreateError.TheVariants.{NameTaken, CatalogueFull}
 use Rattle.std.specs.Prelude.{nat_le, if◌then◌else◌}
 use Rattle.mon_text.specs.declared.stop.Stop.{Stop}
@@ -116,28 +115,23 @@ create_fits name set sets absent row fits = ap (option_map (ready_on row.account
         let no : None ≡ Some row.ready = sym (ap (λ n. option_map (ready_on row.account) (find_set n sets)) same ∙ ap (option_map (ready_on row.account)) absent) ∙ fits in
         absurd cc
 
-pub created_fit : (rows : List Row) (account : Account) (name : List ℕ) (sets : Sets) → RowsFit rows sets → RowsFit rows (created account sets name).1
-created_fit rows account name sets = by (find_set name sets) refl (nat_le 1000 (length sets))
+pub created_fit : (rows : List Row) (account : Account) (name : List ℕ) (mode : Mode) (sets : Sets) → RowsFit rows sets
+    → RowsFit rows (created account sets name mode).1
+created_fit rows account name mode sets = by (find_set name sets) refl (nat_le 1000 (length sets))
   where
     by : (o : Option DataSet) → find_set name sets ≡ o → (full : Bool) → RowsFit rows sets
-        → RowsFit rows (created_unless (if is_some o then Some NameTaken else if full then Some CatalogueFull else None) account sets name).1
+        → RowsFit rows (created_unless (if is_some o then Some NameTaken else if full then Some CatalogueFull else None) account sets name mode).1
     by None is true fit = fit
-    by None is false fit = still_fit rows sets _ (create_fits name (new_set account) sets is) fit
+    by None is false fit = still_fit rows sets _ (create_fits name (new_set account mode) sets is) fit
     by (Some set) is full fit = fit
 
--- where a set is left as the act leaves it
-pub changed_so : (name : List ℕ) (change : Option Change) (sets : Sets) (set : DataSet) → Some set ≡ find_set name sets
-    → with_changed name (λ _. set_after change set) sets ≡ changed name change sets
-changed_so name None sets set there = left_as_it_was name sets set there
-changed_so name (Some change) sets set there = changed_there name (recorded change) sets set there
-
-after_ready : (account : Account) (change : Option Change) (set : DataSet) → ready_on account (set_after change set) ≡ ready_on account set
+after_ready : (account : Account) (change : Option Change) (set : DataSet) → ready_on account (left change set) ≡ ready_on account set
 after_ready account None set = refl
 after_ready account (Some change) set = refl
 
 -- a row that is kept of a set as the act leaves it fits
 pub kept_after : (account : Account) (name : List ℕ) (change : Option Change) (set : DataSet) (sets : Sets) (old new : List Row)
-    → MayKeep account name (set_after change set) old new → Some set ≡ find_set name sets → RowsFit old sets → RowsFit new (changed name change sets)
+    → MayKeep account name (left change set) old new → Some set ≡ find_set name sets → RowsFit old sets → RowsFit new (changed name change sets)
 kept_after account name change set sets old new kept there fit =
     changed_fit new name change sets
     (kept_fit account name set sets old new
@@ -149,13 +143,13 @@ pub ruleset fitting = (fit_on, kept_fit, kept_begins, listed_fit, without_fit, c
 -- in the forms that the guard's calls leave
 pub without_fits : (rows new : List Row) (name : List ℕ) (sets after : Sets) → new ≡ rows_beside name rows → after ≡ without_set name sets
     → RowsFit rows sets → RowsFit new after
-without_fits rows new name sets after is left fit =
-    subst (λ (r : List Row). RowsFit r after) (sym is) (subst (λ (s : Sets). RowsFit (rows_beside name rows) s) (sym left) (without_fit rows name sets fit))
+without_fits rows new name sets after is out fit =
+    subst (λ (r : List Row). RowsFit r after) (sym is) (subst (λ (s : Sets). RowsFit (rows_beside name rows) s) (sym out) (without_fit rows name sets fit))
 
 pub listed_fits : (rows new : List Row) (name : List ℕ) (acl : List Entry) (sets after : Sets) → new ≡ rows_beside name rows → after ≡ with_acl name acl sets
     → RowsFit rows sets → RowsFit new after
-listed_fits rows new name acl sets after is left fit =
-    subst (λ (r : List Row). RowsFit r after) (sym is) (subst (λ (s : Sets). RowsFit (rows_beside name rows) s) (sym left) (listed_fit rows name acl sets fit))
+listed_fits rows new name acl sets after is out fit =
+    subst (λ (r : List Row). RowsFit r after) (sym is) (subst (λ (s : Sets). RowsFit (rows_beside name rows) s) (sym out) (listed_fit rows name acl sets fit))
 
 absent_where : (o : Option DataSet) (full : Bool) → None ≡ (if is_some o then Some NameTaken else if full then Some CatalogueFull else None) → o ≡ None
 absent_where None full e = refl
@@ -168,23 +162,23 @@ put_last_fits (Ok done) rows name set sets after refused put not fit =
     (still_fit rows sets _ (create_fits name set sets (absent_where (find_set name sets) (nat_le 1000 (length sets)) refused)) fit)
 put_last_fits (Err stop) rows name set sets after refused put not fit = subst (λ (s : Sets). RowsFit rows s) (sym not) fit
 
-pub kept_left : (account : Account) (name : List ℕ) (left set : DataSet) (change : Option Change) (sets : Sets) (old new : List Row)
-    → MayKeep account name left old new → left ≡ set_after change set → Some set ≡ find_set name sets → RowsFit old sets
-    → RowsFit new (with_changed name (λ _. left) sets)
-kept_left account name left set change sets old new kept is there fit =
+pub kept_left : (account : Account) (name : List ℕ) (out set : DataSet) (change : Option Change) (sets : Sets) (old new : List Row)
+    → MayKeep account name out old new → out ≡ left change set → Some set ≡ find_set name sets → RowsFit old sets
+    → RowsFit new (with_changed name (λ _. out) sets)
+kept_left account name out set change sets old new kept is there fit =
     subst (λ (s : DataSet). RowsFit new (with_changed name (λ _. s) sets)) (sym is)
-    (subst (λ (s : Sets). RowsFit new s) (sym (changed_so name change sets set there))
+    (subst (λ (s : Sets). RowsFit new s) (sym (left_so name change sets set there))
     (kept_after account name change set sets old new (subst (λ (s : DataSet). MayKeep account name s old new) is kept) there fit))
 
-pub left_fits : (rows : List Row) (name : List ℕ) (left set : DataSet) (sets : Sets) → left ≡ set → Some set ≡ find_set name sets → RowsFit rows sets
-    → RowsFit rows (with_changed name (λ _. left) sets)
-left_fits rows name left set sets is there fit =
+pub left_fits : (rows : List Row) (name : List ℕ) (out set : DataSet) (sets : Sets) → out ≡ set → Some set ≡ find_set name sets → RowsFit rows sets
+    → RowsFit rows (with_changed name (λ _. out) sets)
+left_fits rows name out set sets is there fit =
     subst (λ (s : DataSet). RowsFit rows (with_changed name (λ _. s) sets)) (sym is)
     (subst (λ (s : Sets). RowsFit rows s) (sym (left_as_it_was name sets set there)) fit)
 
-pub left_changed : (name : List ℕ) (left set : DataSet) (change : Option Change) (sets : Sets) → left ≡ set_after change set → Some set ≡ find_set name sets
-    → with_changed name (λ _. left) sets ≡ changed name change sets
-left_changed name left set change sets is there = ap (λ (s : DataSet). with_changed name (λ _. s) sets) is ∙ changed_so name change sets set there
+pub left_changed : (name : List ℕ) (out set : DataSet) (change : Option Change) (sets : Sets) → out ≡ left change set → Some set ≡ find_set name sets
+    → with_changed name (λ _. out) sets ≡ changed name change sets
+left_changed name out set change sets is there = ap (λ (s : DataSet). with_changed name (λ _. s) sets) is ∙ left_so name change sets set there
 
 -- how rows are stored
 one_more : {E : Type 0} {K : Type 0} (r : Result (Option Row) E) (old new put : List (K × Row)) (key : K) (row : Row)

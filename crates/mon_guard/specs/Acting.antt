@@ -1,13 +1,16 @@
--- What a job does to the records of a data set: it reads at a position, writes at one, or ends the set at one (own). Reading
--- asks r; writing and ending ask w. Positions are counted from 0.
+-- What a job does to the records of a data set: it reads at a position, writes a line, or ends the set at a position (own).
+-- Reading asks r; writing and ending ask w. Positions are counted from 0. A set of mode SEQ is written at the position; one of
+-- mode APPEND is written at its end, and can't be ended.
 use Rattle.std.specs.Prelude.{ℕ, ◌+◌, List, length, Option, None, Some, Result, Ok, Err, slice_get}
 use Rattle.mon_acl.specs.declared.entries.Perms.{Perms}
 use Rattle.mon_access.specs.declared.account.Account.{Account}
+use Rattle.mon_catalogue.specs.declared.mode.Mode.{Mode}
+use Rattle.mon_catalogue.specs.declared.mode.Mode.TheVariants.{Seq, Append}
 use Rattle.mon_catalogue.specs.declared.data_set.DataSet.{DataSet}
 use Rattle.mon_catalogue.specs.declared.data_set.SetFull.{SetFull}
 use Rattle.mon_catalogue.specs.Sets.{Sets, find_set}
 use Rattle.mon_catalogue.specs.Changes.{with_changed}
-use Rattle.mon_catalogue.specs.Writing.{Change, Put, Cut, put_at, cut_at, put_refusal, recorded}
+use Rattle.mon_catalogue.specs.Writing.{Change, Put, Cut, Add, put_at, cut_at, writing, change_refusal, recorded}
 use Rattle.mon_answer.specs.declared.answer.Reason.{Reason}
 use Rattle.mon_answer.specs.declared.answer.Reason.TheVariants as reason
 use Rattle.mon_answer.specs.declared.answer.Answer.{Answer}
@@ -35,26 +38,35 @@ abbrev pub read_at : ℕ → Option (List ℕ) → Acted
 read_at position None = only_answered EndOfFile
 read_at position (Some line) = record { answer = Got line; position = Some (position + 1); change = None }
 
--- the line is the last record then, and the position behind it
-abbrev pub written_at : ℕ → List ℕ → List (List ℕ) → Option SetFull → Acted
-written_at position line records (Some full) = only_answered Full
-written_at position line records None =
-    record { answer = Done; position = Some (length (put_at position line records)); change = Some (Put position line) }
+-- where the position moves to: behind what was put there, or behind what is left; where a line was added it stays
+abbrev pub position_after : Change → List (List ℕ) → Option ℕ
+position_after (Put position line) records = Some (length (put_at position line records))
+position_after (Cut position) records = Some (length (cut_at position records))
+position_after (Add line) records = None
 
--- the records before the position stay, and it is behind the last one
-abbrev pub ended_at : ℕ → List (List ℕ) → Acted
-ended_at position records = record { answer = Done; position = Some (length (cut_at position records)); change = Some (Cut position) }
+abbrev pub made : Change → List (List ℕ) → Option SetFull → Acted
+made change records (Some full) = only_answered Full
+made change records None = record { answer = Done; position = position_after change records; change = Some change }
+
+-- a change of these records, where there is room for it
+abbrev pub changing : Change → List (List ℕ) → Acted
+changing change records = made change records (change_refusal change records)
+
+-- the end of a set: the records before the position stay; of a set that is only added to all stay
+abbrev pub ended : Mode → ℕ → List (List ℕ) → Acted
+ended Seq position records = changing (Cut position) records
+ended Append position records = only_answered (Denied reason.Mode)
 
 abbrev pub asks : Act → Perms
 asks (Read position) = to_read
 asks (Write position line) = to_write
 asks (End position) = to_write
 
--- what is granted
-abbrev pub done : Act → List (List ℕ) → Acted
-done (Read position) records = read_at position (slice_get records position)
-done (Write position line) records = written_at position line records (put_refusal position records)
-done (End position) records = ended_at position records
+-- what is granted, by the set's mode
+abbrev pub done : Act → DataSet → Acted
+done (Read position) set = read_at position (slice_get set.records position)
+done (Write position line) set = changing (writing set.mode position line) set.records
+done (End position) set = ended set.mode position set.records
 
 abbrev pub or_denied : Result Acted Reason → Acted
 or_denied (Ok acted) = acted
@@ -63,11 +75,16 @@ or_denied (Err why) = only_answered (Denied why)
 -- an act on a set: done where the access check grants it on the list as it stands, and else denied
 abbrev pub acted_on : Account → Act → Option DataSet → Acted
 acted_on account act None = only_answered (Denied reason.NoSet)
-acted_on account act (Some set) = or_denied (where_granted account (asks act) set (done act set.records))
+acted_on account act (Some set) = or_denied (where_granted account (asks act) set (done act set))
 
 -- on the set of this name
 abbrev pub acted : Account → Act → Sets → List ℕ → Acted
 acted account act sets name = acted_on account act (find_set name sets)
+
+-- the set as the act leaves it
+abbrev pub left : Option Change → DataSet → DataSet
+left None set = set
+left (Some change) set = recorded change set
 
 -- the sets as the act leaves them: no other set than that of the name changes
 abbrev pub changed : List ℕ → Option Change → Sets → Sets

@@ -10,17 +10,19 @@ use Rattle.mon_access.specs.declared.account.Account.{Account}
 use Rattle.mon_access.specs.declared.access.Decision.TheVariants.{Granted, Denied}
 use Rattle.mon_access.specs.declared.access.Decider.{Decider}
 use Rattle.mon_access.specs.FourCases.{Lacks}
+use Rattle.mon_catalogue.specs.declared.mode.Mode.{Mode}
+use Rattle.mon_catalogue.specs.declared.mode.Mode.TheVariants.{Seq, Append}
 use Rattle.mon_catalogue.specs.declared.data_set.DataSet.{DataSet}
 use Rattle.mon_catalogue.specs.Sets.{Sets, find_set}
 use Rattle.mon_catalogue.specs.Changes.{without_set, with_acl}
 use Rattle.mon_answer.specs.declared.answer.Reason.{Reason}
-use Rattle.mon_answer.specs.declared.answer.Reason.TheVariants.{By, NoSet, NotOwner, NoUnit, InStream, SpoolUnit}
+use Rattle.mon_answer.specs.declared.answer.Reason.TheVariants.{By, NoSet, NotOwner, NoUnit, InStream, SpoolUnit, Mode as WrongMode}
 use Rattle.mon_guard.specs.declared.answer.AclAnswer.TheVariants as acl
 use Rattle.mon_guard.specs.Deciding.{decision_on, to_read, to_execute}
 use Rattle.mon_guard.specs.Reasons.{reason_of}
 use Rattle.mon_guard.specs.Lending.{AclPart, acl_part, records_lent, acl_lent, names_shown, names_lent}
 use Rattle.mon_guard.specs.Owning.{owner_denial, removed, acl_set, new_set, created}
-use Rattle.mon_guard.specs.Acting.{Act, asks, done, acted, only_answered, changed}
+use Rattle.mon_guard.specs.Acting.{Act, Read, Write, End, asks, done, acted, only_answered, changed}
 use Rattle.mon_answer.specs.declared.answer.Answer.TheVariants as answer
 
 -- there is a data set of this name, and it is this one
@@ -111,6 +113,7 @@ NamesLackingEntry entries request NotOwner = ⊥
 NamesLackingEntry entries request NoUnit = ⊥
 NamesLackingEntry entries request InStream = ⊥
 NamesLackingEntry entries request SpoolUnit = ⊥
+NamesLackingEntry entries request WrongMode = ⊥
 
 -- every denial by the access check names an entry of the set's list that lacks a part of the request
 abbrev pub DenialsNameAnEntry : Type 0
@@ -132,9 +135,9 @@ SetsList account sets name text after =
     OwnsNamed account sets name × ((list : List Entry) × (list_of_text text ≡ Ok list) × (after ≡ with_acl name list sets))
 
 -- and whoever creates a set owns it; its name must be free, and there must be room
-abbrev pub Creates : Account → Sets → List ℕ → Sets → Type 0
-Creates account sets name after =
-    (find_set name sets ≡ None) × (length sets < 1000) × (after ≡ sets ++ (name, new_set account) ∷ [])
+abbrev pub Creates : Account → Sets → List ℕ → Mode → Sets → Type 0
+Creates account sets name mode after =
+    (find_set name sets ≡ None) × (length sets < 1000) × (after ≡ sets ++ (name, new_set account mode) ∷ [])
 
 -- An act is done exactly where it may be, and leaves just these sets; where it is not done the sets stay.
 pub record HappensExactly {A : Type 0} (done : A) (sets : Sets) (outcome : A × Sets) (Leaves : Sets → Type 0) : Type 0 where
@@ -150,21 +153,34 @@ OwnersSetLists = (account : Account) (sets : Sets) (name : List ℕ) (text : Acl
     → HappensExactly acl.Done sets (acl_set account sets name text) (SetsList account sets name text)
 
 abbrev pub MakersOwn : Type 0
-MakersOwn = (account : Account) (sets : Sets) (name : List ℕ)
-    → HappensExactly (Ok tt) sets (created account sets name) (Creates account sets name)
+MakersOwn = (account : Account) (sets : Sets) (name : List ℕ) (mode : Mode)
+    → HappensExactly (Ok tt) sets (created account sets name mode) (Creates account sets name mode)
 
--- Why an act on the records of a set is denied: what is missing, or the entry that decides.
+-- sets of this mode have such an act: only that of mode APPEND can't be ended
+abbrev pub IsFor : Act → Mode → Type 0
+IsFor (Read position) mode = Unit {0}
+IsFor (Write position line) mode = Unit {0}
+IsFor (End position) Seq = Unit {0}
+IsFor (End position) Append = ⊥
+
+-- the request is granted, but sets of that mode have no such act
+abbrev pub IsOfWrongMode : Account → Act → DataSet → Reason → Type 0
+IsOfWrongMode account act set reason = IsGranted account set (asks act) × (¬ IsFor act set.mode) × (reason ≡ WrongMode)
+
+-- Why an act on the records of a set is denied: what is missing, or the entry that decides, or else the set's mode.
 abbrev pub WhyNotAct : Account → Act → Sets → List ℕ → Reason → Type 0
 WhyNotAct account act sets name reason =
-    LacksSet name sets reason ⊎ ((set : DataSet) × IsThere name sets set × DecidedBy account set (asks act) reason)
+    LacksSet name sets reason
+    ⊎ (((set : DataSet) × IsThere name sets set × DecidedBy account set (asks act) reason)
+    ⊎ ((set : DataSet) × IsThere name sets set × IsOfWrongMode account act set reason))
 
--- An act on records is done exactly where its request is granted on the set that is named, as that set stands; else it is
--- denied, says why, moves nothing and changes nothing.
+-- An act on records is done exactly where its request is granted on the set that is named, as that set stands, and sets of its
+-- mode have such an act; else it is denied, says why, moves nothing and changes nothing.
 pub record ActsExactly (account : Account) (act : Act) (sets : Sets) (name : List ℕ) : Type 0 where
-  pub done_where : (set : DataSet) → IsThere name sets set → IsGranted account set (asks act)
-      → acted account act sets name ≡ done act set.records
+  pub done_where : (set : DataSet) → IsThere name sets set → IsGranted account set (asks act) → IsFor act set.mode
+      → acted account act sets name ≡ done act set
   pub denied_where : (reason : Reason) → (acted account act sets name ≡ only_answered (answer.Denied reason)) ↔ WhyNotAct account act sets name reason
-  pub one_of_both : ((set : DataSet) × IsThere name sets set × IsGranted account set (asks act))
+  pub one_of_both : ((set : DataSet) × IsThere name sets set × IsGranted account set (asks act) × IsFor act set.mode)
       ⊎ ((reason : Reason) × WhyNotAct account act sets name reason)
 
 abbrev pub ActsWhereGranted : Type 0
@@ -175,5 +191,5 @@ abbrev pub OtherSetsStay : Type 0
 OtherSetsStay = (account : Account) (sets : Sets) (name other : List ℕ) (text : AclText) → other ≢ name
     → (find_set other (removed account sets name).1 ≡ find_set other sets)
     × (find_set other (acl_set account sets name text).1 ≡ find_set other sets)
-    × (find_set other (created account sets name).1 ≡ find_set other sets)
+    × ((mode : Mode) → find_set other (created account sets name mode).1 ≡ find_set other sets)
     × ((act : Act) → find_set other (changed name (acted account act sets name).change sets) ≡ find_set other sets)

@@ -9,6 +9,7 @@ use Rattle.mon_acl.specs.declared.text.AclText.{AclText}
 use Rattle.mon_acl.specs.Forms.{list_of_text}
 use Rattle.mon_access.specs.declared.account.Account.{Account}
 use Rattle.mon_access.specs.Matches.{is_owner}
+use Rattle.mon_catalogue.specs.declared.mode.Mode.{Mode}
 use Rattle.mon_catalogue.specs.declared.data_set.DataSet.{DataSet}
 use Rattle.mon_catalogue.specs.declared.catalogue.CreateError.{CreateError}
 use Rattle.mon_catalogue.specs.Sets.{Sets, find_set, empty_set, create_refusal}
@@ -58,14 +59,14 @@ new_list =
     ∷ plain GroupObj (record { read = false; write = false; execute = false })
     ∷ plain Other (record { read = false; write = false; execute = false }) ∷ []
 
--- a new data set is its maker's, of the maker's primary group, and has no records
-abbrev pub new_set : Account → DataSet
-new_set account = empty_set account.name account.primary new_list
+-- a new data set is its maker's, of the maker's primary group, of the mode that is asked for, and has no records
+abbrev pub new_set : Account → Mode → DataSet
+new_set account mode = empty_set account.name account.primary mode new_list
 
-abbrev pub created_unless : Option CreateError → Account → Sets → List ℕ → Result (Unit {0}) CreateError × Sets
-created_unless (Some refusal) account sets name = (Err refusal, sets)
-created_unless None account sets name = (Ok tt, sets ++ (name, new_set account) ∷ [])
+abbrev pub created_unless : Option CreateError → Account → Sets → List ℕ → Mode → Result (Unit {0}) CreateError × Sets
+created_unless (Some refusal) account sets name mode = (Err refusal, sets)
+created_unless None account sets name mode = (Ok tt, sets ++ (name, new_set account mode) ∷ [])
 
 -- every account may create a set: it is put last, unless its name is taken or there are 1,000 sets
-abbrev pub created : Account → Sets → List ℕ → Result (Unit {0}) CreateError × Sets
-created account sets name = created_unless (create_refusal name sets) account sets name
+abbrev pub created : Account → Sets → List ℕ → Mode → Result (Unit {0}) CreateError × Sets
+created account sets name mode = created_unless (create_refusal name sets) account sets name mode

@@ -6,12 +6,13 @@ ghost use Rattle.mon_acl.specs.Forms.{MayTakeMemory};
 ghost use Rattle.mon_access.specs.Matches.{is_owner};
 ghost use Rattle.mon_catalogue.specs.Sets.{create_refusal, find_set};
 ghost use Rattle.mon_catalogue.specs.Changes.{with_acl};
+ghost use Rattle.mon_catalogue.specs.Writing.{Put, Add};
 ghost use Rattle.mon_answer.specs.declared.answer.Reason.{Reason};
 ghost use Rattle.mon_guard.specs.Deciding.{to_read, to_write, to_execute, decision_on, decided, where_granted};
 ghost use Rattle.mon_guard.specs.Lending.{records_lent, acl_lent, name_lent};
 ghost use Rattle.mon_guard.specs.Owning.{owner_denial, removed, acl_set, created, new_list};
-ghost use Rattle.mon_guard.specs.Acting.{Read, Write, End, acted, changed, told, read_at};
-ghost use Rattle.mon_guard.specs.inner.Judging.{acted_by, set_after};
+ghost use Rattle.mon_guard.specs.Acting.{Read, Write, End, acted, changed, changing, done, left, told, read_at};
+ghost use Rattle.mon_guard.specs.inner.Judging.{acted_by};
 ghost use Rattle.mon_guard.specs.Answers.{guard_answer, acl_answer};
 
 use crate::answer::{AclAnswer, Answered, Decided, guard_answer, reason_of};
@@ -21,7 +22,7 @@ use mon_access::{Account, Decision, check};
 use mon_acl::{Acl, AclError, AclText, Perms};
 use mon_answer::{Answer, Reason};
 use mon_catalogue::{
-    Catalogue, CreateError, DataSet, MOST_RECORD_CHARACTERS, NoSet, Records, SetFull,
+    Catalogue, CreateError, DataSet, MOST_RECORD_CHARACTERS, Mode, NoSet, Records, SetFull,
 };
 use mon_text::{Line, Name, Stop};
 use std::alloc::{AllocError, Global};
@@ -322,9 +323,10 @@ impl Guard {
         Ok(answered)
     }
 
-    /// Writes a record of at most 1,024 characters at a position, counted from 0, of the set of a name, where w is granted on
-    /// it. What stood there and behind it is gone, and the position is then behind the record. Where 100,000 records stand
-    /// before it it is `Full`, and nothing changes.
+    /// Writes a record of at most 1,024 characters to the set of a name, where w is granted on it. On a set of mode SEQ it is
+    /// written at the position, counted from 0: what stood there and behind it is gone, and the position is then behind the
+    /// record. On one of mode APPEND it is put behind all records, and the position stays. Where 100,000 records stand before
+    /// it it is `Full`, and nothing changes.
     ///
     /// # Errors
     ///
@@ -346,7 +348,7 @@ impl Guard {
         ensures fit { RowsFit self.new catalogue.new }
         ensures rows { Begins self.old self.new }
         ensures rows_stay { OnErr result (self.new ≡ self.old) }
-        ensures memory { OnErr result (IsSome (acted account.now (Write position line) catalogue.old name.now).position) }
+        ensures memory { OnErr result ((acted account.now (Write position line) catalogue.old name.now).answer ≡ Answer.Done) }
     {
         let Some(set) = catalogue.find_mut(name) else {
             return Ok(Answered::denied(Reason::NoSet, position));
@@ -358,7 +360,7 @@ impl Guard {
     }
 
     /// Cuts off the records at a position, counted from 0, and behind it, of the set of a name, where w is granted on it. The
-    /// position is then behind the last record that is left. It takes no memory.
+    /// position is then behind the last record that is left. On a set of mode APPEND it is denied. It takes no memory.
     #[tactic(auto, using(crate::proofs::Acting::changes, crate::proofs::Fitting::fitting))]
     pub fn end(
         &mut self,
@@ -382,7 +384,7 @@ impl Guard {
         answered
     }
 
-    /// Creates a data set with no records, which every account may do: it is the account's, of the account's primary
+    /// Creates a data set of this mode with no records, which every account may do: it is the account's, of the account's primary
     /// group, grants all to its owner and nothing to others, and is put last.
     ///
     /// # Errors
@@ -396,16 +398,17 @@ impl Guard {
         account: &Account,
         catalogue: &mut Catalogue,
         name: Name,
+        mode: Mode,
     ) -> Result<(), Stop<CreateError>>
-        ensures answer { Gives (λ done. done) result (created account.now catalogue.old name).0 }
+        ensures answer { Gives (λ done. done) result (created account.now catalogue.old name mode).0 }
         ensures refused { refused_as result ≡ create_refusal name catalogue.old }
-        ensures sets { OnOk result (catalogue.new ≡ (created account.now catalogue.old name).1) }
+        ensures sets { OnOk result (catalogue.new ≡ (created account.now catalogue.old name mode).1) }
         ensures unchanged { OnErr result (catalogue.new ≡ catalogue.old) }
         ensures fit { RowsFit self.old catalogue.old → RowsFit self.new catalogue.new }
         ensures rows_stay { self.new ≡ self.old }
     {
         let acl = new_list(alloc)?;
-        catalogue.create(name, account.name.copy(), account.primary.copy(), acl)
+        catalogue.create(name, account.name.copy(), account.primary.copy(), mode, acl)
     }
 }
 
@@ -504,16 +507,12 @@ fn write_by(
 ) -> Result<Answered, AllocError>
     requires short { length line ≤ MOST_RECORD_CHARACTERS }
     ensures answer { IfOk result (λ answered. answered ≡ told position (acted_by decision (Write position line) set.old)) }
-    ensures set { OnOk result (set.new ≡ set_after (acted_by decision (Write position line) set.old).change set.old) }
+    ensures set { OnOk result (set.new ≡ left (acted_by decision (Write position line) set.old).change set.old) }
     ensures unchanged { OnErr result (set.new ≡ set.old) }
-    ensures memory { OnErr result (IsSome (acted_by decision (Write position line) set.old).position) }
+    ensures memory { OnErr result ((acted_by decision (Write position line) set.old).answer ≡ Answer.Done) }
 {
     match decision {
-        Decision::Granted => match set.put_at(position, line) {
-            Ok(()) => Ok(Answered::done(set.records.len())),
-            Err(Stop::Refused(SetFull)) => Ok(Answered::full(position)),
-            Err(Stop::Memory) => Err(AllocError),
-        },
+        Decision::Granted => write_to(set, position, line),
         Decision::Denied(decider) => Ok(Answered::denied(reason_of(decider, &set.acl), position)),
     }
 }
@@ -521,14 +520,67 @@ fn write_by(
 // Cuts off the records at a position and behind it, where that was granted.
 fn end_by(decision: Decision, set: &mut DataSet, position: u64) -> Answered
     ensures answer { result ≡ told position (acted_by decision (End position) set.old) }
-    ensures set { set.new ≡ set_after (acted_by decision (End position) set.old).change set.old }
+    ensures set { set.new ≡ left (acted_by decision (End position) set.old).change set.old }
 {
     match decision {
-        Decision::Granted => {
+        Decision::Granted => end_at(set, position),
+        Decision::Denied(decider) => Answered::denied(reason_of(decider, &set.acl), position),
+    }
+}
+
+// Writes a record by the set's mode.
+fn write_to(set: &mut DataSet, position: u64, line: Line) -> Result<Answered, AllocError>
+    requires short { length line ≤ MOST_RECORD_CHARACTERS }
+    ensures answer { IfOk result (λ answered. answered ≡ told position (done (Write position line) set.old)) }
+    ensures set { OnOk result (set.new ≡ left (done (Write position line) set.old).change set.old) }
+    ensures unchanged { OnErr result (set.new ≡ set.old) }
+    ensures memory { OnErr result ((done (Write position line) set.old).answer ≡ Answer.Done) }
+{
+    match set.mode {
+        Mode::Seq => put_at(set, position, line),
+        Mode::Append => append(set, position, line),
+    }
+}
+
+fn put_at(set: &mut DataSet, position: u64, line: Line) -> Result<Answered, AllocError>
+    requires short { length line ≤ MOST_RECORD_CHARACTERS }
+    ensures answer { IfOk result (λ answered. answered ≡ told position (changing (Put position line) set.old.records)) }
+    ensures set { OnOk result (set.new ≡ left (changing (Put position line) set.old.records).change set.old) }
+    ensures unchanged { OnErr result (set.new ≡ set.old) }
+    ensures memory { OnErr result ((changing (Put position line) set.old.records).answer ≡ Answer.Done) }
+{
+    match set.put_at(position, line) {
+        Ok(()) => Ok(Answered::done(set.records.len())),
+        Err(Stop::Refused(SetFull)) => Ok(Answered::full(position)),
+        Err(Stop::Memory) => Err(AllocError),
+    }
+}
+
+fn append(set: &mut DataSet, position: u64, line: Line) -> Result<Answered, AllocError>
+    requires short { length line ≤ MOST_RECORD_CHARACTERS }
+    ensures answer { IfOk result (λ answered. answered ≡ told position (changing (Add line) set.old.records)) }
+    ensures set { OnOk result (set.new ≡ left (changing (Add line) set.old.records).change set.old) }
+    ensures unchanged { OnErr result (set.new ≡ set.old) }
+    ensures memory { OnErr result ((changing (Add line) set.old.records).answer ≡ Answer.Done) }
+{
+    match set.append(line) {
+        Ok(()) => Ok(Answered::done(position)),
+        Err(Stop::Refused(SetFull)) => Ok(Answered::full(position)),
+        Err(Stop::Memory) => Err(AllocError),
+    }
+}
+
+// Ends a set, where sets of its mode can be ended.
+fn end_at(set: &mut DataSet, position: u64) -> Answered
+    ensures answer { result ≡ told position (done (End position) set.old) }
+    ensures set { set.new ≡ left (done (End position) set.old).change set.old }
+{
+    match set.mode {
+        Mode::Seq => {
             set.cut_at(position);
             Answered::done(set.records.len())
         }
-        Decision::Denied(decider) => { Answered::denied(reason_of(decider, &set.acl), position) }
+        Mode::Append => Answered::denied(Reason::Mode, position),
     }
 }
 

@@ -15,6 +15,7 @@ use Rattle.mon_access.specs.declared.access.Decision.{Decision}
 use Rattle.mon_access.specs.declared.access.Decision.TheVariants as decision
 use Rattle.mon_access.specs.Accounts.{find_account}
 use Rattle.mon_access.specs.Matches.{is_owner}
+use Rattle.mon_catalogue.specs.declared.mode.Mode.{Mode}
 use Rattle.mon_catalogue.specs.declared.data_set.DataSet.{DataSet}
 use Rattle.mon_catalogue.specs.declared.catalogue.CreateError.{CreateError}
 use Rattle.mon_catalogue.specs.declared.catalogue.CreateError.TheVariants.{NameTaken, CatalogueFull}
@@ -190,15 +191,15 @@ module _ (account : Account) where
     abbrev refusal_by : Bool → Bool → Option CreateError
     refusal_by taken full = if taken then Some NameTaken else if full then Some CatalogueFull else None
 
-    create : (n : List ℕ) (taken full : Bool) → is_some (find_set n sets) ≡ taken
-        → StillAlike account sets others (told_by creation_reply (created_unless (refusal_by taken full) account sets n)) (told_by creation_reply (created_unless (refusal_by taken full) account others n))
-    create n true full e = only_told (Told (creation_reply (Err NameTaken))) (Told (creation_reply (Err NameTaken))) refl
-    create n false true e = only_told (Told (creation_reply (Err CatalogueFull))) (Told (creation_reply (Err CatalogueFull))) refl
-    create n false false e = record {
+    create : (n : List ℕ) (mode : Mode) (taken full : Bool) → is_some (find_set n sets) ≡ taken
+        → StillAlike account sets others (told_by creation_reply (created_unless (refusal_by taken full) account sets n mode)) (told_by creation_reply (created_unless (refusal_by taken full) account others n mode))
+    create n mode true full e = only_told (Told (creation_reply (Err NameTaken))) (Told (creation_reply (Err NameTaken))) refl
+    create n mode false true e = only_told (Told (creation_reply (Err CatalogueFull))) (Told (creation_reply (Err CatalogueFull))) refl
+    create n mode false false e = record {
       answer = refl;
-      names = names_append n (new_set account) sets e differ;
-      alike = both_append (LooksAlike account) n (new_set account) (like_itself account (new_set account)) sets others alike;
-      same = λ m h. same_append m n (new_set account) sets others h;
+      names = names_append n (new_set account mode) sets e differ;
+      alike = both_append (LooksAlike account) n (new_set account mode) (like_itself account (new_set account mode)) sets others alike;
+      same = λ m h. same_append m n (new_set account mode) sets others h;
     }
 
     refused_alike : (n : List ℕ) → create_refusal n sets ≡ create_refusal n others
@@ -206,11 +207,12 @@ module _ (account : Account) where
         ap (λ (t : Bool). refusal_by t (nat_le 1000 (length sets))) (found_some (find_set n sets) (find_set n others) (found n))
         ∙ ap (λ (k : ℕ). refusal_by (is_some (find_set n others)) (nat_le 1000 k)) (both_length (LooksAlike account) sets others alike)
 
-    creates : (n : List ℕ) → StillAlike account sets others (served account (Create account.name n) sets) (served account (Create account.name n) others)
-    creates n =
-        subst (λ (r : Option CreateError). StillAlike account sets others (told_by creation_reply (created_unless (create_refusal n sets) account sets n))
-        (told_by creation_reply (created_unless r account others n))) (refused_alike n)
-        (create n (is_some (find_set n sets)) (nat_le 1000 (length sets)) refl)
+    creates : (n : List ℕ) (mode : Mode)
+        → StillAlike account sets others (served account (Create account.name n mode) sets) (served account (Create account.name n mode) others)
+    creates n mode =
+        subst (λ (r : Option CreateError). StillAlike account sets others (told_by creation_reply (created_unless (create_refusal n sets) account sets n mode))
+        (told_by creation_reply (created_unless r account others n mode))) (refused_alike n)
+        (create n mode (is_some (find_set n sets)) (nat_le 1000 (length sets)) refl)
 
     -- what only the owner may do
     owned : (o k : Option DataSet) → BothFound (LooksAlike account) o k → (act : Option Reason → Sets → Served)
@@ -232,7 +234,16 @@ module _ (account : Account) where
     listed_alike : (acl : List Entry) (d e : DataSet) → account.name ≡ d.owner → LooksAlike account d e → LooksAlike account (listed acl d) (listed acl e)
     listed_alike acl d e own l =
         let same = l.owned own in
-        record { owner = l.owner; group = l.group; acl = refl; owned = λ _. same; read = λ _. same; counted = λ _. ap length same }
+        record {
+          owner = l.owner;
+          group = l.group;
+          mode = l.mode;
+          acl = refl;
+          owned = λ _. same;
+          read = λ _. same;
+          counted = λ _. ap length same;
+          added = λ _ _. ap length same;
+        }
 
     give : (n : List ℕ) → ((d e : DataSet) → find_set n sets ≡ Some d → find_set n others ≡ Some e → account.name ≡ d.owner) → (r : Result (List Entry) AclError)
         → StillAlike account sets others (told_by acl_reply (given r sets n)) (told_by acl_reply (given r others n))
@@ -245,7 +256,7 @@ module _ (account : Account) where
     give n own (Err e) = only_told (Told (acl_reply (given (Err e) sets n).0)) (Told (acl_reply (given (Err e) others n).0)) refl
 
     serves : (command : Command) → StillAlike account sets others (served account command sets) (served account command others)
-    serves (Create _ n) = creates n
+    serves (Create _ n mode) = creates n mode
     serves (Delete _ n) =
         owned (find_set n sets) (find_set n others) (found n) (λ r s. told_by removal_reply (removed_unless r s n))
         (λ reason. only_told (Told (removal_reply (Err reason))) (Told (removal_reply (Err reason))) refl)

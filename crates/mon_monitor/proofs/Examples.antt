@@ -14,6 +14,7 @@ use Rattle.mon_acl.specs.declared.entries.Tag.TheVariants.{UserObj, GroupObj, Ot
 use Rattle.mon_access.specs.declared.account.Account.{Account}
 use Rattle.mon_access.specs.AccessCheck.{decision}
 use Rattle.mon_access.specs.Accounts.{find_account}
+use Rattle.mon_catalogue.specs.declared.mode.Mode.TheVariants.{Seq}
 use Rattle.mon_catalogue.specs.Sets.{Sets}
 use Rattle.mon_answer.specs.declared.answer.Reason.TheVariants.{By}
 use Rattle.mon_guard.specs.Owning.{plain}
@@ -46,6 +47,7 @@ sets = (
   record {
     owner = codes "ANN";
     group = codes "DESK";
+    mode = Seq;
     acl = plain UserObj all_perms ∷ plain GroupObj no_perms ∷ plain Other no_perms ∷ [];
     records = codes "ANN 900" ∷ [];
   },

@@ -6,6 +6,7 @@ mod Seating
 mod Telling
 mod Accounting
 mod Recounting
+mod Appending
 mod Headline
 mod Finding
 mod Names

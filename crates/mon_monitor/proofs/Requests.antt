@@ -1,5 +1,5 @@
 -- One request of a job, where what may differ is what its account may not see.
-use Rattle.std.proofs.Common.{◌≡◌, ℕ, zero, suc, true, List, [], ◌∷◌, Option, Some, None, option_map, refl, ap, sym, ◌∙◌, subst, inl, inr}
+use Rattle.std.proofs.Common.{◌≡◌, ℕ, ◌+◌, zero, suc, true, nat_le, if◌then◌else◌, List, [], ◌∷◌, ◌++◌, length, length-append, Option, Some, None, option_map, refl, ap, sym, ◌∙◌, subst, inl, inr}
 use Rattle.std.specs.Prelude.{◌⊎◌, slice_get, slice_set}
 use Rattle.mon_acl.specs.declared.entries.Entry.{Entry}
 use Rattle.mon_acl.specs.declared.entries.Perms.{Perms}
@@ -7,14 +7,18 @@ use Rattle.mon_access.specs.declared.account.Account.{Account}
 use Rattle.mon_access.specs.declared.access.Decision.{Decision}
 use Rattle.mon_access.specs.declared.access.Decision.TheVariants as decision
 use Rattle.mon_access.specs.AccessCheck.{decision as access_check}
+use Rattle.mon_catalogue.specs.declared.mode.Mode.{Mode}
+use Rattle.mon_catalogue.specs.declared.mode.Mode.TheVariants.{Seq, Append}
 use Rattle.mon_catalogue.specs.declared.data_set.DataSet.{DataSet}
+use Rattle.mon_catalogue.specs.declared.data_set.SetFull.{SetFull}
 use Rattle.mon_catalogue.specs.Sets.{Sets, find_set}
-use Rattle.mon_catalogue.specs.Writing.{Change, Put, Cut, put_refusal, recorded}
+use Rattle.mon_catalogue.specs.Writing.{Change, Put, Cut, Add, add_refusal, writing, change_refusal, recorded}
 use Rattle.mon_catalogue.proofs.Changed.{named_set_changes}
-use Rattle.mon_answer.specs.declared.answer.Answer.TheVariants.{Denied}
+use Rattle.mon_answer.specs.declared.answer.Reason.TheVariants.{Mode as WrongMode}
+use Rattle.mon_answer.specs.declared.answer.Answer.TheVariants.{Denied, Full}
 use Rattle.mon_guard.specs.Reasons.{reason_of}
 use Rattle.mon_guard.specs.Deciding.{to_read, to_write, decision_on, is_granted, by_decision}
-use Rattle.mon_guard.specs.Acting.{Acted, only_answered, read_at, written_at, ended_at, or_denied, changed}
+use Rattle.mon_guard.specs.Acting.{Acted, only_answered, read_at, made, changing, ended, or_denied, left, changed}
 use Rattle.sno_ask.specs.declared.request.Act.{Act}
 use Rattle.sno_ask.specs.declared.request.Act.TheVariants.{Read, Write, Endfile, Rewind}
 use Rattle.sno_ask.specs.declared.request.Request.{Request}
@@ -38,13 +42,25 @@ abbrev with_records : List (List ℕ) → DataSet → DataSet
 with_records records set = record set { records = records }
 
 pub like_itself : (account : Account) (d : DataSet) → LooksAlike account d d
-like_itself account d = record { owner = refl; group = refl; acl = refl; owned = λ h. refl; read = λ h. refl; counted = λ h. refl }
+like_itself account d = record {
+  owner = refl;
+  group = refl;
+  mode = refl;
+  acl = refl;
+  owned = λ h. refl;
+  read = λ h. refl;
+  counted = λ h. refl;
+  added = λ m h. refl;
+}
 
--- what an act on one set comes to in both
-record OneAct (d e : DataSet) (x y : Acted) : Type 0 where
+alike_as_same : (account : Account) (d e : DataSet) → d ≡ e → LooksAlike account d e
+alike_as_same account d e same = subst (λ (z : DataSet). LooksAlike account d z) same (like_itself account d)
+
+-- what an act on one set comes to in both: it leaves them alike, and the same where the position moves
+record OneAct (account : Account) (d e : DataSet) (x y : Acted) : Type 0 where
   pub act : x ≡ y
-  pub changes : (c : Change) → x.change ≡ Some c → recorded c d ≡ recorded c e
-  pub moves : (p : ℕ) → x.position ≡ Some p → x.change ≡ None → d ≡ e
+  pub alike : LooksAlike account (left x.change d) (left x.change e)
+  pub moves : (p : ℕ) → x.position ≡ Some p → left x.change d ≡ left x.change e
 
 module _ (account : Account) (d e : DataSet) (l : LooksAlike account d e) where
   pub decided_alike : (request : Perms) → decision_on account d request ≡ decision_on account e request
@@ -55,130 +71,163 @@ module _ (account : Account) (d e : DataSet) (l : LooksAlike account d e) where
 
   with_alike : (records : List (List ℕ)) → with_records records d ≡ with_records records e
   with_alike records =
-      ap (λ (o : List ℕ). let x : DataSet = record { owner = o; group = d.group; acl = d.acl; records = records } in x) l.owner
-      ∙ ap (λ (g : List ℕ). let x : DataSet = record { owner = e.owner; group = g; acl = d.acl; records = records } in x) l.group
-      ∙ ap (λ (acl : List Entry). let x : DataSet = record { owner = e.owner; group = e.group; acl = acl; records = records } in x) l.acl
+      ap (λ (o : List ℕ). let x : DataSet = record { owner = o; group = d.group; mode = d.mode; acl = d.acl; records = records } in x) l.owner
+      ∙ ap (λ (g : List ℕ). let x : DataSet = record { owner = e.owner; group = g; mode = d.mode; acl = d.acl; records = records } in x) l.group
+      ∙ ap (λ (m : Mode). let x : DataSet = record { owner = e.owner; group = e.group; mode = m; acl = d.acl; records = records } in x) l.mode
+      ∙ ap (λ (acl : List Entry). let x : DataSet = record { owner = e.owner; group = e.group; mode = e.mode; acl = acl; records = records } in x) l.acl
 
   same_set : d.records ≡ e.records → d ≡ e
   same_set same = with_alike d.records ∙ ap (λ (r : List (List ℕ)). with_records r e) same
 
+  -- nothing is done
+  told_alone : (x : Acted) → x.change ≡ None → x.position ≡ None → OneAct account d e x x
+  told_alone x none still = record {
+    act = refl;
+    alike = subst (λ (c : Option Change). LooksAlike account (left c d) (left c e)) (sym none) l;
+    moves = λ p h. (let no : None ≡ Some p = sym still ∙ h in absurd cc);
+  }
+
+  -- both are left the same
+  left_same : (x : Acted) → left x.change d ≡ left x.change e → OneAct account d e x x
+  left_same x same = record { act = refl; alike = alike_as_same account (left x.change d) (left x.change e) same; moves = λ p h. same }
+
   -- what is decided is decided in both
-  by_check : (request : Perms) (x y : Acted) → (is_granted (decision_on account d request) ≡ true → OneAct d e x y)
-      → OneAct d e (or_denied (by_decision d.acl (decision_on account d request) x)) (or_denied (by_decision e.acl (decision_on account e request) y))
+  by_check : (request : Perms) (x y : Acted) → (is_granted (decision_on account d request) ≡ true → OneAct account d e x y)
+      → OneAct account d e (or_denied (by_decision d.acl (decision_on account d request) x)) (or_denied (by_decision e.acl (decision_on account e request) y))
   by_check request x y granted =
-      subst (λ (k : Decision). OneAct d e (or_denied (by_decision d.acl (decision_on account d request) x)) (or_denied (by_decision e.acl k y))) (decided_alike request)
-      (by (decision_on account d request) refl)
+      subst (λ (k : Decision). OneAct account d e (or_denied (by_decision d.acl (decision_on account d request) x)) (or_denied (by_decision e.acl k y))) (decided_alike request)
+      (subst (λ (acl : List Entry). OneAct account d e (or_denied (by_decision d.acl (decision_on account d request) x)) (or_denied (by_decision acl (decision_on account d request) y))) l.acl
+      (by (decision_on account d request) refl))
     where
-      by : (k : Decision) → decision_on account d request ≡ k → OneAct d e (or_denied (by_decision d.acl k x)) (or_denied (by_decision e.acl k y))
+      by : (k : Decision) → decision_on account d request ≡ k → OneAct account d e (or_denied (by_decision d.acl k x)) (or_denied (by_decision d.acl k y))
       by decision.Granted is = granted (ap is_granted is)
-      by (decision.Denied r) is = record {
-        act = ap (λ (acl : List Entry). only_answered (Denied (reason_of acl r))) l.acl;
-        changes = λ c h. absurd cc;
-        moves = λ p h g. absurd cc;
-      }
+      by (decision.Denied r) is = told_alone (only_answered (Denied (reason_of d.acl r))) refl refl
 
   -- at the first record
-  reads_alike : (u : ℕ) → OneAct d e (on_set account (Read u) 0 (Some d)) (on_set account (Read u) 0 (Some e))
-  reads_alike u = by_check to_read (read_at 0 (slice_get d.records 0)) (read_at 0 (slice_get e.records 0)) (λ granted. record {
-    act = ap (λ (r : List (List ℕ)). read_at 0 (slice_get r 0)) (l.read granted);
-    changes = λ c h. ap (recorded c) (same_set (l.read granted));
-    moves = λ p h g. same_set (l.read granted);
-  })
+  reads_alike : (u : ℕ) → OneAct account d e (on_set account (Read u) 0 (Some d)) (on_set account (Read u) 0 (Some e))
+  reads_alike u = by_check to_read (read_at 0 (slice_get d.records 0)) (read_at 0 (slice_get e.records 0)) (λ granted.
+      let same = l.read granted in
+      subst (λ (r : List (List ℕ)). OneAct account d e (read_at 0 (slice_get d.records 0)) (read_at 0 (slice_get r 0))) same
+      (left_same (read_at 0 (slice_get d.records 0)) (ap (left (read_at 0 (slice_get d.records 0)).change) (same_set same))))
 
-  put_alike : (line : List ℕ) (c : Change) → Some (Put 0 line) ≡ Some c → recorded c d ≡ recorded c e
-  put_alike line c h = let is : Put 0 line ≡ c = cc (h) in subst (λ (k : Change). recorded k d ≡ recorded k e) is (with_alike (line ∷ []))
+  -- a line more at the end
+  added_alike : (line : List ℕ) → length d.records ≡ length e.records → LooksAlike account (recorded (Add line) d) (recorded (Add line) e)
+  added_alike line many = record {
+    owner = l.owner;
+    group = l.group;
+    mode = l.mode;
+    acl = l.acl;
+    owned = λ own. ap (λ (r : List (List ℕ)). r ++ line ∷ []) (l.owned own);
+    read = λ granted. ap (λ (r : List (List ℕ)). r ++ line ∷ []) (l.read granted);
+    counted = λ granted. longer;
+    added = λ is granted. longer;
+  }
+    where
+      longer : length (d.records ++ line ∷ []) ≡ length (e.records ++ line ∷ [])
+      longer = length-append d.records (line ∷ []) ∙ ap (λ (n : ℕ). n + 1) many ∙ sym (length-append e.records (line ∷ []))
 
-  writes_alike : (u : ℕ) (line : List ℕ) → OneAct d e (on_set account (Write u line) 0 (Some d)) (on_set account (Write u line) 0 (Some e))
-  writes_alike u line = by_check to_write (written_at 0 line d.records (put_refusal 0 d.records)) (written_at 0 line e.records (put_refusal 0 e.records)) (λ granted. record {
-    act = refl;
-    changes = λ c h. put_alike line c h;
-    moves = λ p h g. absurd cc;
-  })
+  adds_alike : (line : List ℕ) → length d.records ≡ length e.records → OneAct account d e (changing (Add line) d.records) (changing (Add line) e.records)
+  adds_alike line many =
+      subst (λ (o : Option SetFull). OneAct account d e (changing (Add line) d.records) (made (Add line) e.records o))
+      (ap (λ (n : ℕ). if nat_le 100000 n then Some (record {}) else None) many) (by (add_refusal d.records))
+    where
+      by : (o : Option SetFull) → OneAct account d e (made (Add line) d.records o) (made (Add line) e.records o)
+      by None = record { act = refl; alike = added_alike line many; moves = λ p h. absurd cc }
+      by (Some full) = told_alone (only_answered Full) refl refl
 
-  cut_alike : (c : Change) → Some (Cut 0) ≡ Some c → recorded c d ≡ recorded c e
-  cut_alike c h = let is : Cut 0 ≡ c = cc (h) in subst (λ (k : Change). recorded k d ≡ recorded k e) is (with_alike [])
+  writes_alike : (u : ℕ) (line : List ℕ) → OneAct account d e (on_set account (Write u line) 0 (Some d)) (on_set account (Write u line) 0 (Some e))
+  writes_alike u line = by_check to_write (changing (writing d.mode 0 line) d.records) (changing (writing e.mode 0 line) e.records) (λ granted.
+      subst (λ (m : Mode). OneAct account d e (changing (writing d.mode 0 line) d.records) (changing (writing m 0 line) e.records)) l.mode (by granted d.mode refl))
+    where
+      by : is_granted (decision_on account d to_write) ≡ true → (m : Mode) → d.mode ≡ m
+          → OneAct account d e (changing (writing m 0 line) d.records) (changing (writing m 0 line) e.records)
+      by granted Seq is = left_same (changing (Put 0 line) d.records) (with_alike (line ∷ []))
+      by granted Append is = adds_alike line (l.added is granted)
 
-  ends_alike : (u : ℕ) → OneAct d e (on_set account (Endfile u) 0 (Some d)) (on_set account (Endfile u) 0 (Some e))
-  ends_alike u = by_check to_write (ended_at 0 d.records) (ended_at 0 e.records) (λ granted. record {
-    act = refl;
-    changes = λ c h. cut_alike c h;
-    moves = λ p h g. absurd cc;
-  })
+  ends_alike : (u : ℕ) → OneAct account d e (on_set account (Endfile u) 0 (Some d)) (on_set account (Endfile u) 0 (Some e))
+  ends_alike u = by_check to_write (ended d.mode 0 d.records) (ended e.mode 0 e.records) (λ granted.
+      subst (λ (m : Mode). OneAct account d e (ended d.mode 0 d.records) (ended m 0 e.records)) l.mode (by d.mode))
+    where
+      by : (m : Mode) → OneAct account d e (ended m 0 d.records) (ended m 0 e.records)
+      by Seq = left_same (changing (Cut 0) d.records) (with_alike [])
+      by Append = told_alone (only_answered (Denied WrongMode)) refl refl
 
 -- what an act comes to in both, on the sets of one name
-record OneEffect (o k : Option DataSet) (x y : Acted) : Type 0 where
+record OneEffect (account : Account) (o k : Option DataSet) (x y : Acted) : Type 0 where
   pub act : x ≡ y
-  pub changes : (c : Change) → x.change ≡ Some c → (d e : DataSet) → o ≡ Some d → k ≡ Some e → recorded c d ≡ recorded c e
-  pub moves : (p : ℕ) → x.position ≡ Some p → (p ≡ 0) ⊎ (x.change ≡ None → o ≡ k)
+  pub alike : (d e : DataSet) → o ≡ Some d → k ≡ Some e → LooksAlike account (left x.change d) (left x.change e)
+  pub moves : (p : ℕ) → x.position ≡ Some p → (p ≡ 0) ⊎ (option_map (left x.change) o ≡ option_map (left x.change) k)
 
 module _ (account : Account) where
-  one_effect : (d e : DataSet) (x y : Acted) → OneAct d e x y → OneEffect (Some d) (Some e) x y
+  one_effect : (d e : DataSet) (x y : Acted) → OneAct account d e x y → OneEffect account (Some d) (Some e) x y
   one_effect d e x y h = record {
     act = h.act;
-    changes = λ c is a b da eb.
+    alike = λ a b da eb.
         let one : d ≡ a = cc (da) in
         let other : e ≡ b = cc (eb) in
-        ap (recorded c) (sym one) ∙ h.changes c is ∙ ap (recorded c) other;
-    moves = λ p is. inr (λ none. ap (λ (z : DataSet). Some z) (h.moves p is none));
+        subst (λ (z : DataSet). LooksAlike account (left x.change z) (left x.change b)) one
+        (subst (λ (z : DataSet). LooksAlike account (left x.change d) (left x.change z)) other h.alike);
+    moves = λ p is. inr (ap (λ (z : DataSet). Some z) (h.moves p is));
   }
 
   -- nothing is there in both
-  none_there : (x : Acted) → OneEffect None None x x
-  none_there x = record { act = refl; changes = λ c is a b da eb. absurd cc; moves = λ p is. inr (λ none. refl) }
+  none_there : (x : Acted) → OneEffect account None None x x
+  none_there x = record { act = refl; alike = λ a b da eb. absurd cc; moves = λ p is. inr refl }
 
-  at_start : (act : Act) (d e : DataSet) → LooksAlike account d e → OneEffect (Some d) (Some e) (on_set account act 0 (Some d)) (on_set account act 0 (Some e))
-  at_start (Rewind u) d e l = record { act = refl; changes = λ c is. absurd cc; moves = λ p is. inl (cc (is)) }
+  at_start : (act : Act) (d e : DataSet) → LooksAlike account d e → OneEffect account (Some d) (Some e) (on_set account act 0 (Some d)) (on_set account act 0 (Some e))
+  at_start (Rewind u) d e l = record {
+    act = refl;
+    alike = λ a b da eb.
+        let one : d ≡ a = cc (da) in
+        let other : e ≡ b = cc (eb) in
+        subst (λ (z : DataSet). LooksAlike account z b) one (subst (λ (z : DataSet). LooksAlike account d z) other l);
+    moves = λ p is. inl (cc (is));
+  }
   at_start (Read u) d e l = one_effect d e (on_set account (Read u) 0 (Some d)) (on_set account (Read u) 0 (Some e)) (reads_alike account d e l u)
   at_start (Write u line) d e l = one_effect d e (on_set account (Write u line) 0 (Some d)) (on_set account (Write u line) 0 (Some e)) (writes_alike account d e l u line)
   at_start (Endfile u) d e l = one_effect d e (on_set account (Endfile u) 0 (Some d)) (on_set account (Endfile u) 0 (Some e)) (ends_alike account d e l u)
 
-  no_set : (act : Act) (p : ℕ) → OneEffect None None (on_set account act p None) (on_set account act p None)
+  no_set : (act : Act) (p : ℕ) → OneEffect account None None (on_set account act p None) (on_set account act p None)
   no_set act p = none_there (on_set account act p None)
 
-  met_alike : (act : Act) (o k : Option DataSet) → BothFound (LooksAlike account) o k → OneEffect o k (on_set account act 0 o) (on_set account act 0 k)
+  met_alike : (act : Act) (o k : Option DataSet) → BothFound (LooksAlike account) o k → OneEffect account o k (on_set account act 0 o) (on_set account act 0 k)
   met_alike act None None h = no_set act 0
   met_alike act None (Some e) h = absurd h
   met_alike act (Some d) None h = absurd h
   met_alike act (Some d) (Some e) h = at_start act d e h
 
-  met_same : (act : Act) (p : ℕ) (o k : Option DataSet) → o ≡ k → OneEffect o k (on_set account act p o) (on_set account act p k)
-  met_same act p o k same = record {
-    act = ap (on_set account act p) same;
-    changes = λ c is d e od ke. (let one : d ≡ e = cc (od, ke, same) in ap (recorded c) one);
-    moves = λ n is. inr (λ none. same);
-  }
+  met_same : (act : Act) (p : ℕ) (o k : Option DataSet) → o ≡ k → OneEffect account o k (on_set account act p o) (on_set account act p k)
+  met_same act p o k same =
+      let x = on_set account act p o in
+      record {
+        act = ap (on_set account act p) same;
+        alike = λ d e od ke. (let one : d ≡ e = cc (od, ke, same) in alike_as_same account (left x.change d) (left x.change e) (ap (left x.change) one));
+        moves = λ n is. inr (ap (option_map (left x.change)) same);
+      }
 
   -- wherever the unit stands
   met : (act : Act) (p : ℕ) (o k : Option DataSet) → BothFound (LooksAlike account) o k → (p ≡ 0) ⊎ (o ≡ k)
-      → OneEffect o k (on_set account act p o) (on_set account act p k)
+      → OneEffect account o k (on_set account act p o) (on_set account act p k)
   met act p o k h fit = elim fit [
-    | inl start ↦ subst (λ (n : ℕ). OneEffect o k (on_set account act n o) (on_set account act n k)) (sym start) (met_alike act o k h)
+    | inl start ↦ subst (λ (n : ℕ). OneEffect account o k (on_set account act n o) (on_set account act n k)) (sym start) (met_alike act o k h)
     | inr same ↦ met_same act p o k same
   ]
 
-  -- what is changed alike is the same then
-  recorded_same : (c : Change) (o k : Option DataSet) → BothFound (LooksAlike account) o k → ((d e : DataSet) → o ≡ Some d → k ≡ Some e → recorded c d ≡ recorded c e)
-      → option_map (recorded c) o ≡ option_map (recorded c) k
-  recorded_same c None None h each = refl
-  recorded_same c None (Some e) h each = absurd h
-  recorded_same c (Some d) None h each = absurd h
-  recorded_same c (Some d) (Some e) h each = ap (λ (z : DataSet). Some z) (each d e refl refl)
+  -- the set of the name, as the change leaves it
+  as_left : (n : List ℕ) (change : Option Change) (sets : Sets) → find_set n (changed n change sets) ≡ option_map (left change) (find_set n sets)
+  as_left n None sets = by (find_set n sets)
+    where
+      by : (o : Option DataSet) → o ≡ option_map (λ (d : DataSet). d) o
+      by None = refl
+      by (Some d) = refl
+  as_left n (Some c) sets = (named_set_changes n sets (recorded c)).1
 
   module _ (sets others : Sets) (alike : Both (LooksAlike account) sets others) where
-    both_after : (n : List ℕ) (change : Option Change) → ((c : Change) → change ≡ Some c → (d e : DataSet) → find_set n sets ≡ Some d → find_set n others ≡ Some e → recorded c d ≡ recorded c e)
+    both_after : (n : List ℕ) (change : Option Change)
+        → ((d e : DataSet) → find_set n sets ≡ Some d → find_set n others ≡ Some e → LooksAlike account (left change d) (left change e))
         → Both (LooksAlike account) (changed n change sets) (changed n change others)
     both_after n None each = alike
-    both_after n (Some c) each = both_changed (LooksAlike account) (recorded c) n sets others
-        (λ d e is is' l. subst (λ (z : DataSet). LooksAlike account (recorded c d) z) (each c refl d e is is') (like_itself account (recorded c d))) alike
-
-    same_after : (n : List ℕ) (change : Option Change)
-        → ((c : Change) → change ≡ Some c → (d e : DataSet) → find_set n sets ≡ Some d → find_set n others ≡ Some e → recorded c d ≡ recorded c e)
-        → (change ≡ None → find_set n sets ≡ find_set n others) → Same n (changed n change sets) (changed n change others)
-    same_after n None each unchanged = unchanged refl
-    same_after n (Some c) each unchanged =
-        (named_set_changes n sets (recorded c)).1
-        ∙ recorded_same c (find_set n sets) (find_set n others) (found_both (LooksAlike account) n sets others alike) (each c refl)
-        ∙ sym (named_set_changes n others (recorded c)).1
+    both_after n (Some c) each = both_changed (LooksAlike account) (recorded c) n sets others (λ d e is is' l. each d e is is') alike
 
     -- what the act of a request comes to, by what its unit is tied to
     record AtTarget (act : Act) (units : UnitState) (p : ℕ) (g : Target) : Type 0 where
@@ -189,7 +238,7 @@ module _ (account : Account) where
           → (n ≡ 0) ⊎ Same name (changed_at (set_at act g) (acted_at account act units p g (looked (set_at act g) sets)).change sets)
           (changed_at (set_at act g) (acted_at account act units p g (looked (set_at act g) sets)).change others)
 
-    module _ (name : List ℕ) (x y : Acted) (one : OneEffect (find_set name sets) (find_set name others) x y) where
+    module _ (name : List ℕ) (x y : Acted) (one : OneEffect account (find_set name sets) (find_set name others) x y) where
       of_one : (other : List ℕ) → Set name ≡ Set other → (n : ℕ) → x.position ≡ Some n
           → (n ≡ 0) ⊎ Same other (changed name x.change sets) (changed name x.change others)
       of_one other is n h =
@@ -197,7 +246,7 @@ module _ (account : Account) where
           subst (λ (k : List ℕ). (n ≡ 0) ⊎ Same k (changed name x.change sets) (changed name x.change others)) same
           (elim (one.moves n h) [
             | inl z ↦ inl z
-            | inr f ↦ inr (same_after name x.change one.changes f)
+            | inr f ↦ inr (as_left name x.change sets ∙ f ∙ sym (as_left name x.change others))
           ])
 
     at_target : (act : Act) (units : UnitState) (p : ℕ) (g : Target) → ((name : List ℕ) → g ≡ Set name → (p ≡ 0) ⊎ Same name sets others) → AtTarget act units p g
@@ -209,21 +258,21 @@ module _ (account : Account) where
         let one = met (Read u) p (find_set name sets) (find_set name others) (found_both (LooksAlike account) name sets others alike) (fit name refl) in
         record {
           acted = one.act;
-          both = both_after name (on_set account (Read u) p (find_set name sets)).change one.changes;
+          both = both_after name (on_set account (Read u) p (find_set name sets)).change one.alike;
           moves = of_one name (on_set account (Read u) p (find_set name sets)) (on_set account (Read u) p (find_set name others)) one;
         }
     at_target (Write u line) units p (Set name) fit =
         let one = met (Write u line) p (find_set name sets) (find_set name others) (found_both (LooksAlike account) name sets others alike) (fit name refl) in
         record {
           acted = one.act;
-          both = both_after name (on_set account (Write u line) p (find_set name sets)).change one.changes;
+          both = both_after name (on_set account (Write u line) p (find_set name sets)).change one.alike;
           moves = of_one name (on_set account (Write u line) p (find_set name sets)) (on_set account (Write u line) p (find_set name others)) one;
         }
     at_target (Endfile u) units p (Set name) fit =
         let one = met (Endfile u) p (find_set name sets) (find_set name others) (found_both (LooksAlike account) name sets others alike) (fit name refl) in
         record {
           acted = one.act;
-          both = both_after name (on_set account (Endfile u) p (find_set name sets)).change one.changes;
+          both = both_after name (on_set account (Endfile u) p (find_set name sets)).change one.alike;
           moves = of_one name (on_set account (Endfile u) p (find_set name sets)) (on_set account (Endfile u) p (find_set name others)) one;
         }
 

@@ -228,27 +228,31 @@ Lead accounts before (entry ∷ entries) after =
 
 -- What an answer means for grants, for the requests of jobs and then for commands. The list that decides is the one that the
 -- data set has at that exchange. End of file, FULL, a name that is taken (K1), a catalogue that is full (K4) and a text that
--- spells no list (A) are answers to what was granted, and change nothing (the laws `denials_change_nothing` of mon_unit,
--- `makers_own` and `owners_set_lists` of mon_guard).
+-- spells no list (A) are answers to what was granted, and change nothing (`leaves` below, and the laws `makers_own` and
+-- `owners_set_lists` of mon_guard). So is MODE, which comes after the grant: it denies, and names itself as the reason.
 
--- A request of a job: these are the laws `got_where_granted`, `changed_where_granted` and `denials_say_why` of mon_unit, at its
--- answer.
+-- A request of a job: these are the laws `got_where_granted`, `changed_where_granted`, `denials_say_why` and
+-- `denials_change_nothing` of mon_unit, at its answer.
 pub record IsRightRequest (e : Exchanged) : Type 0 where
   -- It gets a line exactly where it reads and that stands at its unit's position, in the job's own data, or in the data set
   -- that the unit is tied to, if r is granted there.
   pub got : (line : List ℕ) → (e.answer ≡ Got line) ↔ (ReadsDeck e.reach.units e.request line ⊎ ReadsSet e.account e.reach e.request line)
-  -- It changes a data set exactly where it ends it, or writes to it and there is room, and w is granted.
+  -- It changes a data set exactly where w is granted and it is fit for the set's mode: it ends a set of mode SEQ, or writes where
+  -- there is room.
   pub changed : units.ChangesExactly e.account e.reach e.request
   -- It is denied exactly where the unit is not tied, is the job's data (IN STREAM) or its spool (SPOOL UNIT) and this is none of
-  -- their acts, or where the data set is missing or an entry of its list decides so; and that is the reason that it is told.
+  -- their acts, or where the data set is missing or an entry of its list decides so, or where w is granted and it would end a set
+  -- of mode APPEND (MODE); and that is the reason that it is told.
   pub denied : (reason : Reason) → (e.answer ≡ Denied reason) ↔ WhyDenied e.account e.reach e.request reason
+  -- Denied, or told that there is no room, it adds its note and changes nothing else.
+  pub leaves : units.LeavesAll e.account e.reach e.request
 
 -- a command that shows records, a list or names shows what is lent to the account; any other is told one line
 abbrev pub ShowsRightly : Account → Sets → Command → commands.Answer → Type 0
 ShowsRightly account sets (Listing _ name) answer = (records : List (List ℕ)) → (answer ≡ Records records) ↔ AreForReading account sets name records
 ShowsRightly account sets (ShowAcl _ name) answer = (list : AclPart) → (answer ≡ Shown list) ↔ IsForSeeing account sets name list
 ShowsRightly account sets (Catalog _) answer = answer ≡ Names (names_lent account sets)
-ShowsRightly account sets (Create _ name) answer = (reply : Reply) × (answer ≡ Told reply)
+ShowsRightly account sets (Create _ name _) answer = (reply : Reply) × (answer ≡ Told reply)
 ShowsRightly account sets (Delete _ name) answer = (reply : Reply) × (answer ≡ Told reply)
 ShowsRightly account sets (SetAcl _ name text) answer = (reply : Reply) × (answer ≡ Told reply)
 

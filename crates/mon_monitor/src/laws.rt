@@ -1,6 +1,7 @@
 //! Laws of events. Each is the contract of a function that does nothing, or only cites laws of the crates below.
 ghost use Rattle.mon_monitor.specs.Laws.{CardByCard, PrintedInOrder, PlayedUnmarked, DrainEmpties, LoadHasRoom, CommandsKeepSlots, AccountsStay, SlotsStay};
 ghost use Rattle.mon_monitor.specs.Headline.{HistoryTells};
+ghost use Rattle.mon_monitor.specs.Appending.{AppendOnly};
 
 use mon_slots::laws;
 
@@ -62,7 +63,15 @@ pub fn history_tells()
     mon_unit::laws::got_where_granted();
     mon_unit::laws::changed_where_granted();
     mon_unit::laws::denials_say_why();
+    mon_unit::laws::denials_change_nothing();
     mon_command::laws::changes_where_granted();
     mon_command::laws::shows_where_granted();
     mon_command::laws::denials_say_why();
+}
+
+/// The records of a set of mode APPEND stay as they are and where they are, and others only come behind them, until it is deleted.
+pub fn append_only()
+    ensures { AppendOnly }
+{
+    mon_unit::laws::changed_where_granted();
 }

@@ -5,6 +5,7 @@ use crate::catalogue::{lines_of, read};
 use crate::guard::{Askers, Desk, askers_of, payroll};
 use mon_access::{Account, Accounts, Decider};
 use mon_acl::{Perms, Tag};
+use mon_catalogue::Version;
 use mon_guard::{Decided, GuardAnswer, Reason};
 use mon_job::{JobDeck, JobEnd, JobLimits, LoadError, UnitCard, UnitCards, put_printout};
 use mon_monitor::{Monitor, Turned};
@@ -216,15 +217,25 @@ fn accounts_of(alloc: Global) -> Option<Accounts> {
 }
 
 // A monitor of two slots.
-fn monitor_of(alloc: Global) -> Option<Monitor> {
+fn monitor_over(alloc: Global, version: Version, sets: &str) -> Option<Monitor> {
     let accounts = accounts_of(alloc)?;
-    let catalogue = read(alloc, SETS)?;
+    let catalogue = read(alloc, version, sets)?;
     Monitor::new(alloc, accounts, catalogue, 2).ok()
 }
 
-// A job in the first of two slots, and one in the second.
 fn monitor_with(alloc: Global, first: &Entered, second: &Entered) -> Option<Monitor> {
-    let mut monitor = monitor_of(alloc)?;
+    let monitor = monitor_over(alloc, Version::One, SETS)?;
+    with_jobs(alloc, monitor, first, second)
+}
+
+// A job in the first of two slots, and one in the second.
+fn with_jobs(
+    alloc: Global,
+    monitor: Monitor,
+    first: &Entered,
+    second: &Entered,
+) -> Option<Monitor> {
+    let mut monitor = monitor;
     if is_loaded(alloc, &mut monitor, 1, first) && is_loaded(alloc, &mut monitor, 2, second) {
         Some(monitor)
     } else {
@@ -319,12 +330,12 @@ const SHARED_OUTPUT: &[u8] = b"JOB 2 anna\n\
     JOB 1 anna\n\
     \x20EOF\n\
     END NORMAL AFTER 6\n\
-    $SET PAYROLL anna admin 3\n\
+    $SET PAYROLL anna admin SEQ 3\n\
     user::rwx,user:lisa:rw-,group::r--,mask::r--,other::---\n\
     ADA 100\n\
     BOB 200\n\
     \n\
-    $SET FIVE anna admin 1\n\
+    $SET FIVE anna admin SEQ 1\n\
     user::rwx,group::---,other::---\n\
     Z\n";
 
@@ -357,12 +368,12 @@ const SHORT_PRINTOUT: &[u8] = b"JOB 2 lisa\n\
     END NORMAL AFTER 2\n";
 
 /// What they leave.
-const LEFT: &[u8] = b"$SET PAYROLL anna admin 3\n\
+const LEFT: &[u8] = b"$SET PAYROLL anna admin SEQ 3\n\
     user::rwx,user:lisa:rw-,group::r--,mask::r--,other::---\n\
     ADA 100\n\
     BOB 200\n\
     \n\
-    $SET FIVE anna admin 3\n\
+    $SET FIVE anna admin SEQ 3\n\
     user::rwx,group::---,other::---\n\
     A\n\
     B\n\
@@ -374,13 +385,13 @@ const TURNS: u32 = 7;
 /// How many of them the short one takes.
 const OF_THE_SHORT: u32 = 2;
 
-// An order is a number below this with a bit for each turn, the first one lowest: it is set where the turn is the short job's.
+// An order is a number below this with a bit for each turn, the first one lowest: it is set where the turn is the second job's.
 const ORDERS: u32 = 1 << TURNS;
 
-fn order_of(alloc: Global, number: u32) -> Option<Vec<u8>> {
+fn order_of(alloc: Global, number: u32, turns: u32) -> Option<Vec<u8>> {
     let mut number = number;
     let mut order = Vec::new(alloc);
-    for _ in 0..TURNS {
+    for _ in 0..turns {
         order.push(if number % 2 == 1 { 2 } else { 1 }).ok()?;
         number /= 2;
     }
@@ -401,7 +412,7 @@ fn output_of(alloc: Global, number: u32) -> Option<Vec<u8>> {
 }
 
 fn is_as_in_any_order(alloc: Global, number: u32) -> bool {
-    match (order_of(alloc, number), output_of(alloc, number)) {
+    match (order_of(alloc, number, TURNS), output_of(alloc, number)) {
         (Some(order), Some(output)) => takes_turns(alloc, &LONG, &SHORT, &order, &output),
         _ => false,
     }
@@ -412,6 +423,127 @@ fn independent_jobs_print_the_same_in_every_order(rt: HostRuntime) {
     for number in 0..ORDERS {
         if number.count_ones() == OF_THE_SHORT {
             assert!(rt; is_as_in_any_order(rt.alloc(), number));
+        }
+    }
+}
+
+/// A log that both accounts add to.
+const LOG: &str = "$SET LOG anna admin APPEND 1
+user::rw-,user:lisa:-w-,group::---,mask::-w-,other::---
+FIRST
+";
+
+/// Adds two records: three turns.
+static ANNA_ADDS: Entered = Entered {
+    account: b"anna",
+    unit: 8,
+    set: b"LOG",
+    program: " OUTPUT('W',8)
+ W = 'ANNA 1'
+ W = 'ANNA 2'
+END
+",
+};
+
+/// The same for lisa, who may not read it.
+static LISA_ADDS: Entered = Entered {
+    account: b"lisa",
+    unit: 9,
+    set: b"LOG",
+    program: " OUTPUT('W',9)
+ W = 'LISA 1'
+ W = 'LISA 2'
+END
+",
+};
+
+/// What each prints, whenever it ends.
+const ANNA_PRINTS: &[u8] = b"JOB 1 anna\n\
+    END NORMAL AFTER 3\n";
+
+const LISA_PRINTS: &[u8] = b"JOB 2 lisa\n\
+    END NORMAL AFTER 3\n";
+
+const LOG_BEGINS: &[u8] = b"$SET LOG anna admin APPEND 5\n\
+    user::rw-,user:lisa:-w-,group::---,mask::-w-,other::---\n\
+    FIRST\n";
+
+/// How many turns both jobs take, each three.
+const TURNS_TO_ADD: u32 = 6;
+
+const ORDERS_TO_ADD: u32 = 1 << TURNS_TO_ADD;
+
+// The record that a job adds in this turn of its own, if it adds any.
+fn added(slot: u8, turn: u8) -> &'static [u8] {
+    match (slot, turn) {
+        (1, 2) => b"ANNA 1\n",
+        (1, 3) => b"ANNA 2\n",
+        (2, 2) => b"LISA 1\n",
+        (2, 3) => b"LISA 2\n",
+        _ => b"",
+    }
+}
+
+// The log where turns are taken in this order: all records of both, each account's in its own order.
+fn put_log(order: &[u8], out: &mut Vec<u8>) -> bool {
+    let mut annas = 0u8;
+    let mut lisas = 0u8;
+    for slot in order {
+        let turn = if *slot == 1 {
+            annas = annas.saturating_add(1);
+            annas
+        } else {
+            lisas = lisas.saturating_add(1);
+            lisas
+        };
+        if out.extend_from_slice(added(*slot, turn)).is_err() {
+            return false;
+        }
+    }
+    true
+}
+
+// Both printouts, that of the job with the last turn behind the other, and then the log.
+fn log_output(alloc: Global, number: u32, order: &[u8]) -> Option<Vec<u8>> {
+    let (earlier, later) = if number >= ORDERS_TO_ADD / 2 {
+        (ANNA_PRINTS, LISA_PRINTS)
+    } else {
+        (LISA_PRINTS, ANNA_PRINTS)
+    };
+    let mut output = Vec::from_slice(alloc, earlier).ok()?;
+    output.extend_from_slice(later).ok()?;
+    output.extend_from_slice(LOG_BEGINS).ok()?;
+    if put_log(order, &mut output) {
+        Some(output)
+    } else {
+        None
+    }
+}
+
+fn adders(alloc: Global) -> Option<Monitor> {
+    let monitor = monitor_over(alloc, Version::Two, LOG)?;
+    with_jobs(alloc, monitor, &ANNA_ADDS, &LISA_ADDS)
+}
+
+fn adds_in(alloc: Global, number: u32, order: &[u8]) -> bool {
+    match (adders(alloc), log_output(alloc, number, order)) {
+        (Some(mut monitor), Some(output)) => prints(alloc, &mut monitor, order, &output),
+        _ => false,
+    }
+}
+
+fn adds_in_order(alloc: Global, number: u32) -> bool {
+    match order_of(alloc, number, TURNS_TO_ADD) {
+        Some(order) => adds_in(alloc, number, &order),
+        None => false,
+    }
+}
+
+#[test]
+fn a_log_has_all_records_of_both_in_every_order(rt: HostRuntime) {
+    for number in 0..ORDERS_TO_ADD {
+        if number.count_ones() == TURNS_TO_ADD / 2 {
+            assert!(rt; adds_in_order(rt.alloc(), number));
         }
     }
 }

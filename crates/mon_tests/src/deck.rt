@@ -35,8 +35,8 @@ const OUTPUT: &[u8] = b"LIST lisa PAYROLL\n\
     DENIED BY other::\n\
     LIST anna GONE\n\
     DENIED NO DATA SET\n\
-    $CATALOGUE\n\
-    $SET PAYROLL anna admin 3\n\
+    $CATALOGUE 2\n\
+    $SET PAYROLL anna admin SEQ 3\n\
     user::rwx,user:lisa:rw-,group::r--,mask::r--,other::---\n\
     ADA 100\n\
     BOB 200\n\
@@ -91,11 +91,11 @@ const OWNERS_OUTPUT: &[u8] = b"SETACL anna PAY\n\
     DENIED NOT OWNER\n\
     SETACL lisa NOTE\n\
     DONE\n\
-    $CATALOGUE\n\
-    $SET PAY anna admin 1\n\
+    $CATALOGUE 2\n\
+    $SET PAY anna admin SEQ 1\n\
     user::rwx,user:lisa:rw-,group::---,mask::r--,other::---\n\
     ADA\n\
-    $SET NOTE lisa staff 0\n\
+    $SET NOTE lisa staff SEQ 0\n\
     user::r--,group::---,other::---\n";
 
 /// Two jobs in two slots, which take turns over one data set, and a command between their turns.
@@ -140,8 +140,8 @@ const JOBS_OUTPUT: &[u8] = b"JOB 1 anna\n\
     \x20TWO\n\
     DENIED STATEMENT 4 WRITE LOG BY user:lisa:\n\
     END NORMAL AFTER 6\n\
-    $CATALOGUE\n\
-    $SET LOG anna admin 2\n\
+    $CATALOGUE 2\n\
+    $SET LOG anna admin SEQ 2\n\
     user::rw-,user:lisa:r--,group::---,mask::r--,other::---\n\
     ONE\n\
     TWO\n";
@@ -162,7 +162,7 @@ static WORKED: [Worked; 3] = [
         output: OUTPUT,
         jobs: 0,
         commands: 3,
-        ends: &[(184, 48), (203, 84), (219, 118), (225, 228)],
+        ends: &[(184, 48), (203, 84), (219, 118), (225, 234)],
     },
     Worked {
         deck: OWNERS_DECK,
@@ -177,7 +177,7 @@ static WORKED: [Worked; 3] = [
             (286, 238),
             (303, 271),
             (336, 293),
-            (342, 441),
+            (342, 451),
         ],
     },
     Worked {
@@ -185,7 +185,7 @@ static WORKED: [Worked; 3] = [
         output: JOBS_OUTPUT,
         jobs: 2,
         commands: 1,
-        ends: &[(340, 30), (355, 64), (362, 147), (368, 244)],
+        ends: &[(340, 30), (355, 64), (362, 147), (368, 250)],
     },
 ];
 
@@ -565,7 +565,7 @@ static REFUSALS: [(&[u8], u64, Code); 33] = [
         Code::OutOfPlace,
     ),
     (
-        b"$ACCOUNTS\n$CATALOGUE\n$STREAM\n$CREATE lisa X SEQ\n",
+        b"$ACCOUNTS\n$CATALOGUE\n$STREAM\n$CREATE lisa X LIFO\n",
         4,
         Code::BadCard,
     ),
@@ -699,7 +699,7 @@ fn many_commands(alloc: Global) -> Result<(Vec<u8>, Vec<u8>), AllocError> {
         output.extend_from_slice(b"LIST anna PAYROLL_OF_NOVEMBER\nDENIED NO DATA SET\n")?;
     }
     deck.extend_from_slice(b"$STOP\n")?;
-    output.extend_from_slice(b"$CATALOGUE\n")?;
+    output.extend_from_slice(b"$CATALOGUE 2\n")?;
     Ok((deck, output))
 }
 

@@ -6,7 +6,7 @@ use crate::access::account;
 use crate::catalogue::read;
 use mon_access::Account;
 use mon_acl::{AclText, Bytes, Tag};
-use mon_catalogue::{Catalogue, DataSet};
+use mon_catalogue::{Catalogue, DataSet, Mode, Version};
 use mon_guard::{Answered, Guard, GuardAnswer, Reason};
 use mon_text::{Name, put_number, read_line, read_name};
 use std::alloc::Global;
@@ -46,7 +46,7 @@ fn is_given(alloc: Global, lisa: &Account, name: &Name, text: &AclText, entries:
     let mut guard = Guard::new(alloc);
     let mut catalogue = Catalogue::new(alloc);
     guard
-        .create(alloc, lisa, &mut catalogue, name.copy())
+        .create(alloc, lisa, &mut catalogue, name.copy(), Mode::Seq)
         .is_ok()
         && matches!(
             guard.set_acl(alloc, lisa, &mut catalogue, name, text),
@@ -88,12 +88,12 @@ fn desk_over(alloc: Global, catalogue: Catalogue, name: Name) -> Desk {
     }
 }
 
-// One set, which is the account's and has no records.
-fn sets_of(alloc: Global, account: &Account, name: &Name) -> Option<Catalogue> {
+// One set of this mode, which is the account's and has no records.
+fn sets_of(alloc: Global, account: &Account, name: &Name, mode: Mode) -> Option<Catalogue> {
     let mut guard = Guard::new(alloc);
     let mut catalogue = Catalogue::new(alloc);
     guard
-        .create(alloc, account, &mut catalogue, name.copy())
+        .create(alloc, account, &mut catalogue, name.copy(), mode)
         .ok()?;
     Some(catalogue)
 }
@@ -203,6 +203,13 @@ fn is_put(alloc: Global, set: &mut DataSet, at: u64, records: u64) -> bool {
     }
 }
 
+fn is_added(alloc: Global, set: &mut DataSet, records: u64) -> bool {
+    match read_line(alloc, b"a record", 1_024) {
+        Ok(line) => set.append(line).is_ok() && set.records.len() == records,
+        Err(_) => false,
+    }
+}
+
 fn is_cut(set: &mut DataSet, at: u64, records: u64) -> bool {
     set.cut_at(at);
     set.records.len() == records
@@ -212,21 +219,24 @@ fn is_cut(set: &mut DataSet, at: u64, records: u64) -> bool {
 fn puts_and_cuts(alloc: Global, catalogue: &mut Catalogue, name: &Name) -> bool {
     match catalogue.find_mut(name) {
         Some(set) => {
-            is_put(alloc, set, 0, 1) && is_put(alloc, set, 1_000_000, 2) && is_cut(set, 1, 1)
+            is_put(alloc, set, 0, 1)
+                && is_put(alloc, set, 1_000_000, 2)
+                && is_cut(set, 1, 1)
+                && is_added(alloc, set, 2)
         }
         None => false,
     }
 }
 
 fn is_acted_on(alloc: Global, lisa: &Account, name: Name) -> bool {
-    match sets_of(alloc, lisa, &name) {
+    match sets_of(alloc, lisa, &name, Mode::Seq) {
         Some(catalogue) => acts_in_turn(alloc, &mut desk_over(alloc, catalogue, name), lisa),
         None => false,
     }
 }
 
 fn is_put_and_cut(alloc: Global, lisa: &Account, name: &Name) -> bool {
-    match sets_of(alloc, lisa, name) {
+    match sets_of(alloc, lisa, name, Mode::Seq) {
         Some(mut catalogue) => puts_and_cuts(alloc, &mut catalogue, name),
         None => false,
     }
@@ -239,6 +249,54 @@ fn acts_on_records(alloc: Global) -> bool {
         }
         _ => false,
     }
+}
+
+fn adds_many(alloc: Global, desk: &mut Desk, account: &Account, records: u64) -> bool {
+    for _ in 0..records {
+        if !writes(alloc, desk, account, 7, b"a record", 7) {
+            return false;
+        }
+    }
+    true
+}
+
+fn is_of_wrong_mode(answered: &Answered, at: u64) -> bool {
+    matches!(&answered.answer, GuardAnswer::Denied(Reason::Mode)) && answered.position == at
+}
+
+// Whether a set is not ended, for its mode.
+fn ends_not(desk: &mut Desk, account: &Account, at: u64) -> bool {
+    let answered = desk.guard.end(account, &mut desk.catalogue, &desk.name, at);
+    is_of_wrong_mode(&answered, at)
+}
+
+// A set of mode APPEND is written behind its last record, wherever the position is, and can't be ended.
+fn adds_in_turn(alloc: Global, desk: &mut Desk, lisa: &Account) -> bool {
+    adds_many(alloc, desk, lisa, 1_000)
+        && writes(alloc, desk, lisa, 0, b"the last", 0)
+        && reads(alloc, desk, lisa, 1_000, Some(b"the last"))
+        && reads(alloc, desk, lisa, 1_001, None)
+        && ends_not(desk, lisa, 3)
+        && reads(alloc, desk, lisa, 999, Some(b"a record"))
+}
+
+fn is_added_to(alloc: Global, lisa: &Account, name: Name) -> bool {
+    match sets_of(alloc, lisa, &name, Mode::Append) {
+        Some(catalogue) => adds_in_turn(alloc, &mut desk_over(alloc, catalogue, name), lisa),
+        None => false,
+    }
+}
+
+fn adds_records(alloc: Global) -> bool {
+    match (account(alloc, (b"lisa", b"staff", b"")), read_name(b"PLAN")) {
+        (Some(lisa), Ok(name)) => is_added_to(alloc, &lisa, name),
+        _ => false,
+    }
+}
+
+#[test]
+fn records_are_added(rt: HostRuntime) {
+    assert!(rt; adds_records(rt.alloc()));
 }
 
 #[test]
@@ -256,7 +314,7 @@ BOB 200
 
 pub(crate) fn payroll(alloc: Global) -> Option<Desk> {
     let name = read_name(b"PAYROLL").ok()?;
-    let catalogue = read(alloc, PAYROLL)?;
+    let catalogue = read(alloc, Version::One, PAYROLL)?;
     Some(desk_over(alloc, catalogue, name))
 }
 

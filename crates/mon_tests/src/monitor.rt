@@ -1,7 +1,7 @@
 //! A growth that is refused. The worked commands are decks, which the program `rows` runs.
 use crate::access::account;
 use mon_access::Accounts;
-use mon_catalogue::Catalogue;
+use mon_catalogue::{Catalogue, Mode};
 use mon_command::{Command, serve};
 use mon_guard::Guard;
 use mon_text::read_name;
@@ -18,7 +18,11 @@ fn accounts_of(alloc: Global) -> Option<Accounts> {
 fn create() -> Option<Command> {
     let account = read_name(b"anna").ok()?;
     let name = read_name(b"NOTE").ok()?;
-    Some(Command::Create { account, name })
+    Some(Command::Create {
+        account,
+        name,
+        mode: Mode::Seq,
+    })
 }
 
 fn is_created(alloc: Global, accounts: &Accounts, catalogue: &mut Catalogue) -> bool {

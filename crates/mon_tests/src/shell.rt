@@ -10,7 +10,7 @@ use std::io::{ErrorKind, Read, Write};
 const DECK: &[u8] = b"$ACCOUNTS\n$CATALOGUE\n$STREAM\n$STOP\n";
 
 /// What it prints.
-const OUTPUT: &[u8] = b"$CATALOGUE\n";
+const OUTPUT: &[u8] = b"$CATALOGUE 2\n";
 
 /// A stream that fails.
 #[derive(Drop)]

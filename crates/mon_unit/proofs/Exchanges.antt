@@ -3,16 +3,18 @@ use Rattle.std.proofs.Common.{◌≡◌, ℕ, List, Option, None, Some, refl, ap
 use Rattle.mon_access.specs.declared.account.Account.{Account}
 use Rattle.mon_access.specs.declared.access.Decision.{Decision}
 use Rattle.mon_access.specs.declared.access.Decision.TheVariants as decision
+use Rattle.mon_catalogue.specs.declared.mode.Mode.{Mode}
+use Rattle.mon_catalogue.specs.declared.mode.Mode.TheVariants.{Seq, Append}
 use Rattle.mon_catalogue.specs.declared.data_set.DataSet.{DataSet}
 use Rattle.mon_catalogue.specs.declared.data_set.SetFull.{SetFull}
 use Rattle.mon_catalogue.specs.Sets.{Sets, find_set}
-use Rattle.mon_catalogue.specs.Writing.{Change, Put, Cut, put_refusal}
+use Rattle.mon_catalogue.specs.Writing.{Change, Cut, writing, change_refusal}
 use Rattle.mon_answer.specs.declared.answer.Reason.{Reason}
 use Rattle.mon_answer.specs.declared.answer.Reason.TheVariants.{NoUnit, InStream, SpoolUnit}
 use Rattle.mon_guard.specs.Deciding.{decision_on, by_decision, to_write}
 use Rattle.mon_guard.specs.Acting as acting
-use Rattle.mon_guard.specs.Acting.{Acted, only_answered, read_at, written_at, ended_at, or_denied, acted_on, acted, changed}
-use Rattle.mon_guard.specs.Laws.{IsThere, IsGranted, WhyNotAct}
+use Rattle.mon_guard.specs.Acting.{Acted, only_answered, read_at, position_after, made, changing, ended, or_denied, acted_on, acted, changed}
+use Rattle.mon_guard.specs.Laws.{IsThere, IsGranted, IsFor, WhyNotAct}
 use Rattle.mon_guard.proofs.Acting.{acts_where_granted}
 use Rattle.sno_ask.specs.declared.request.Act.{Act}
 use Rattle.sno_ask.specs.declared.request.Act.TheVariants.{Read, Write, Endfile, Rewind}
@@ -35,15 +37,15 @@ module _ (account : Account) (units : UnitState) (sets : Sets) (p : ℕ) where
   -- the change that is asked of the set of this name, where that is granted
   abbrev Asked : Act → Target → List ℕ → Change → Type 0
   Asked act target name change = (set : DataSet) × (target ≡ Set name)
-      × IsThere name sets set × IsGranted account set to_write × AsksChange act p set.records change
+      × IsThere name sets set × IsGranted account set to_write × AsksChange act p set change
 
   abbrev Made : Act → Target → List ℕ → Change → Type 0
   Made act target name change = ((came act target).answer ≡ Done) × (after act target ≡ changed name (Some change) sets)
 
   -- what is granted is what is done
-  granted_is : (act : acting.Act) (name : List ℕ) (set : DataSet) → IsThere name sets set → IsGranted account set (acting.asks act)
-      → acted account act sets name ≡ acting.done act set.records
-  granted_is act name set there granted = (acts_where_granted account act sets name).done_where set there granted
+  granted_is : (act : acting.Act) (name : List ℕ) (set : DataSet) → IsThere name sets set → IsGranted account set (acting.asks act) → IsFor act set.mode
+      → acted account act sets name ≡ acting.done act set
+  granted_is act name set there granted for = (acts_where_granted account act sets name).done_where set there granted for
 
   made_by : (act : Act) (name : List ℕ) (change : Change) (position : Option ℕ) → set_at act (Set name) ≡ Some name
       → came act (Set name) ≡ record { answer = Done; position = position; change = Some change } → Made act (Set name) name change
@@ -55,22 +57,24 @@ module _ (account : Account) (units : UnitState) (sets : Sets) (p : ℕ) where
   asked_is_made : (act : Act) (target : Target) (name : List ℕ) (change : Change) → Asked act target name change → Made act target name change
   asked_is_made act target name change h = subst (λ (t : Target). Made act t name change) (sym h.1) (by act h.4)
     where
-      by : (a : Act) → AsksChange a p h.0.records change → Made a (Set name) name change
+      by : (a : Act) → AsksChange a p h.0 change → Made a (Set name) name change
       by (Read u) never = absurd never
       by (Rewind u) never = absurd never
       by (Write u line) is =
+          let change = writing h.0.mode p line in
           subst (λ (c : Change). Made (Write u line) (Set name) name c) (sym is.1)
-          (made_by (Write u line) name (Put p line) _ refl
-          (granted_is (acting.Write p line) name h.0 h.2 h.3 ∙ ap (written_at p line h.0.records) is.0))
+          (made_by (Write u line) name change (position_after change h.0.records) refl
+          (granted_is (acting.Write p line) name h.0 h.2 h.3 tt ∙ ap (made change h.0.records) is.0))
       by (Endfile u) is =
-          subst (λ (c : Change). Made (Endfile u) (Set name) name c) (sym is)
-          (made_by (Endfile u) name (Cut p) _ refl (granted_is (acting.End p) name h.0 h.2 h.3))
+          subst (λ (c : Change). Made (Endfile u) (Set name) name c) (sym is.1)
+          (made_by (Endfile u) name (Cut p) _ refl
+          (granted_is (acting.End p) name h.0 h.2 h.3 (subst (IsFor (acting.End p)) (sym is.0) tt) ∙ ap (λ (m : Mode). ended m p h.0.records) is.0))
 
   abbrev Either : Act → Target → Type 0
   Either act target = (after act target ≡ sets) ⊎ ((name : List ℕ) × (change : Change) × Asked act target name change)
 
   unread : (u : ℕ) (name : List ℕ) → (came (Read u) (Set name)).change ≡ None
-  unread u name = acted_cases (λ a. a.change ≡ None) account (acting.Read p) (λ reason. refl) (λ records. by (slice_get records p)) (find_set name sets)
+  unread u name = acted_cases (λ a. a.change ≡ None) account (acting.Read p) (λ reason. refl) (λ set. by (slice_get set.records p)) (find_set name sets)
     where
       by : (o : Option (List ℕ)) → (read_at p o).change ≡ None
       by None = refl
@@ -79,15 +83,16 @@ module _ (account : Account) (units : UnitState) (sets : Sets) (p : ℕ) where
   wrote : (u : ℕ) (line name : List ℕ) → Either (Write u line) (Set name)
   wrote u line name = by (find_set name sets) refl
     where
-      room : (set : DataSet) → find_set name sets ≡ Some set → decision_on account set to_write ≡ decision.Granted → (o : Option SetFull) → put_refusal p set.records ≡ o
-          → (changed name (written_at p line set.records o).change sets ≡ sets) ⊎ ((n : List ℕ) × (change : Change) × Asked (Write u line) (Set name) n change)
-      room set there granted None is = inr (name, Put p line, (set, refl, there, granted, (is, refl)))
+      room : (set : DataSet) → find_set name sets ≡ Some set → decision_on account set to_write ≡ decision.Granted → (o : Option SetFull)
+          → change_refusal (writing set.mode p line) set.records ≡ o
+          → (changed name (made (writing set.mode p line) set.records o).change sets ≡ sets) ⊎ ((n : List ℕ) × (change : Change) × Asked (Write u line) (Set name) n change)
+      room set there granted None is = inr (name, writing set.mode p line, (set, refl, there, granted, (is, refl)))
       room set there granted (Some full) is = inl refl
 
       decided : (set : DataSet) → find_set name sets ≡ Some set → (d : Decision) → decision_on account set to_write ≡ d
-          → (changed name (or_denied (by_decision set.acl d (acting.done (acting.Write p line) set.records))).change sets ≡ sets)
+          → (changed name (or_denied (by_decision set.acl d (acting.done (acting.Write p line) set))).change sets ≡ sets)
           ⊎ ((n : List ℕ) × (change : Change) × Asked (Write u line) (Set name) n change)
-      decided set there decision.Granted is = room set there is (put_refusal p set.records) refl
+      decided set there decision.Granted is = room set there is (change_refusal (writing set.mode p line) set.records) refl
       decided set there (decision.Denied decider) is = inl refl
 
       by : (o : Option DataSet) → find_set name sets ≡ o
@@ -95,13 +100,17 @@ module _ (account : Account) (units : UnitState) (sets : Sets) (p : ℕ) where
       by None is = inl refl
       by (Some set) is = decided set is (decision_on account set to_write) refl
 
-  ended : (u : ℕ) (name : List ℕ) → Either (Endfile u) (Set name)
-  ended u name = by (find_set name sets) refl
+  finished : (u : ℕ) (name : List ℕ) → Either (Endfile u) (Set name)
+  finished u name = by (find_set name sets) refl
     where
       decided : (set : DataSet) → find_set name sets ≡ Some set → (d : Decision) → decision_on account set to_write ≡ d
-          → (changed name (or_denied (by_decision set.acl d (acting.done (acting.End p) set.records))).change sets ≡ sets)
+          → (changed name (or_denied (by_decision set.acl d (acting.done (acting.End p) set))).change sets ≡ sets)
           ⊎ ((n : List ℕ) × (change : Change) × Asked (Endfile u) (Set name) n change)
-      decided set there decision.Granted is = inr (name, Cut p, (set, refl, there, is, refl))
+      decided set there decision.Granted is = mode set.mode refl
+        where
+          mode : (m : Mode) → set.mode ≡ m → (changed name (ended m p set.records).change sets ≡ sets) ⊎ ((n : List ℕ) × (change : Change) × Asked (Endfile u) (Set name) n change)
+          mode Seq at = inr (name, Cut p, (set, refl, there, is, (at, refl)))
+          mode Append at = inl refl
       decided set there (decision.Denied decider) is = inl refl
 
       by : (o : Option DataSet) → find_set name sets ≡ o
@@ -115,7 +124,7 @@ module _ (account : Account) (units : UnitState) (sets : Sets) (p : ℕ) where
   either act Spool = inl refl
   either (Read u) (Set name) = inl (ap (λ (c : Option Change). changed name c sets) (unread u name))
   either (Write u line) (Set name) = wrote u line name
-  either (Endfile u) (Set name) = ended u name
+  either (Endfile u) (Set name) = finished u name
   either (Rewind u) (Set name) = inl refl
 
   -- why something is denied

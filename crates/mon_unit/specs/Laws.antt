@@ -2,9 +2,10 @@
 use Rattle.std.specs.Prelude.{◌≡◌, ◌≢◌, ℕ, ◌⊎◌, ◌↔◌, List, map, None, Some, slice_get}
 use Rattle.std.specs.Map.{keys_of}
 use Rattle.mon_access.specs.declared.account.Account.{Account}
+use Rattle.mon_catalogue.specs.declared.mode.Mode.TheVariants.{Seq}
 use Rattle.mon_catalogue.specs.declared.data_set.DataSet.{DataSet}
 use Rattle.mon_catalogue.specs.Sets.{Sets, find_set}
-use Rattle.mon_catalogue.specs.Writing.{Change, Put, Cut, put_refusal}
+use Rattle.mon_catalogue.specs.Writing.{Change, Cut, writing, change_refusal}
 use Rattle.mon_answer.specs.declared.answer.Reason.{Reason}
 use Rattle.mon_answer.specs.declared.answer.Reason.TheVariants.{NoUnit, InStream, SpoolUnit}
 use Rattle.mon_guard.specs.Acting as acting
@@ -60,17 +61,18 @@ abbrev pub GotWhereGranted : Type 0
 GotWhereGranted = (account : Account) (reach : Reach) (q : Request) (line : List ℕ)
     → ((serve account reach q).0 ≡ Got line) ↔ (ReadsDeck reach.units q line ⊎ ReadsSet account reach q line)
 
--- what an act asks to be done to the records at a position; nothing is asked where there is no room
-abbrev pub AsksChange : Act → ℕ → List (List ℕ) → Change → Type 0
-AsksChange (Read u) position records change = ⊥
-AsksChange (Write u line) position records change = (put_refusal position records ≡ None) × (change ≡ Put position line)
-AsksChange (Endfile u) position records change = change ≡ Cut position
-AsksChange (Rewind u) position records change = ⊥
+-- what an act at a position asks to be done to a set, by its mode; nothing is asked where there is no room
+abbrev pub AsksChange : Act → ℕ → DataSet → Change → Type 0
+AsksChange (Read u) position set change = ⊥
+AsksChange (Write u line) position set change =
+    (change_refusal (writing set.mode position line) set.records ≡ None) × (change ≡ writing set.mode position line)
+AsksChange (Endfile u) position set change = (set.mode ≡ Seq) × (change ≡ Cut position)
+AsksChange (Rewind u) position set change = ⊥
 
 -- a set is changed exactly where that is asked and the access check grants w on the set as it stands
 abbrev pub Changes : Account → Reach → Request → List ℕ → Change → Type 0
 Changes account reach q name change = (set : DataSet) × (target_of reach.units q ≡ Set name)
-    × IsThere name reach.sets set × IsGranted account set to_write × AsksChange q.act (position_of reach.units q) set.records change
+    × IsThere name reach.sets set × IsGranted account set to_write × AsksChange q.act (position_of reach.units q) set change
 
 pub record ChangesExactly (account : Account) (reach : Reach) (q : Request) : Type 0 where
   pub where_asked : (name : List ℕ) (change : Change) → Changes account reach q name change
@@ -99,7 +101,8 @@ IsOfSpool (Write u line) = Unit {0}
 IsOfSpool (Endfile u) = ⊥
 IsOfSpool (Rewind u) = Unit {0}
 
--- Why not: the unit is not tied, or is none for such an act; or there is no such set, or an entry of its list decides so
+-- Why not: the unit is not tied, or is none for such an act; or there is no such set, or an entry of its list
+-- or its mode decides so
 abbrev pub WhyDenied : Account → Reach → Request → Reason → Type 0
 WhyDenied account reach q reason =
     ((target_of reach.units q ≡ Untied) × (reason ≡ NoUnit))

@@ -6,17 +6,18 @@ use Rattle.mon_catalogue.specs.declared.loading.CatalogueError.{CatalogueError}
 use Rattle.mon_catalogue.specs.declared.loading.CatalogueError.TheVariants.{BadText}
 use Rattle.mon_catalogue.specs.declared.loading.Stage.{Stage}
 use Rattle.mon_catalogue.specs.declared.loading.Stage.TheVariants as stages
+use Rattle.mon_catalogue.specs.declared.version.Version.{Version}
 use Rattle.mon_catalogue.specs.declared.data_set.DataSet.{DataSet}
 use Rattle.mon_catalogue.specs.Records.{is_record}
 use Rattle.mon_catalogue.specs.Sets.{Sets, find_set}
 use Rattle.mon_catalogue.specs.Progress.{Progress, SetDue, ListDue, RecordsDue, Refused, OutOfMemory, stopped, with_record}
 
-abbrev pub progress_of : ℕ → Sets → Stage → Progress
-progress_of n sets stages.SetDue = SetDue n sets
-progress_of n sets (stages.ListDue head) = ListDue n sets head
-progress_of n sets (stages.RecordsDue name set left) = RecordsDue n sets name set left
-progress_of n sets (stages.Stopped (stop.Refused e)) = Refused e
-progress_of n sets (stages.Stopped stop.Memory) = OutOfMemory
+abbrev pub progress_of : Version → ℕ → Sets → Stage → Progress
+progress_of version n sets stages.SetDue = SetDue version n sets
+progress_of version n sets (stages.ListDue head) = ListDue version n sets head
+progress_of version n sets (stages.RecordsDue name set left) = RecordsDue version n sets name set left
+progress_of version n sets (stages.Stopped (stop.Refused e)) = Refused e
+progress_of version n sets (stages.Stopped stop.Memory) = OutOfMemory
 
 -- a set of this name with so many records may be put last
 abbrev pub IsAwaited : Sets → List ℕ → ℕ → Type 0
@@ -29,16 +30,16 @@ IsSound sets (stages.RecordsDue name set left) = IsAwaited sets name (length set
 IsSound sets (stages.Stopped _) = Unit {0}
 
 -- the stage at which a line left the reading, or its error, is that of this progress; memory is short only where some is taken
-abbrev pub Reaches : ℕ → Sets → Type 0 → Result Stage (Stop CatalogueError) → Progress → Type 0
-Reaches n sets Grows (Ok stage) p = (progress_of n sets stage ≡ p) × (stopped p ≡ None)
-Reaches n sets Grows (Err (stop.Refused e)) p = p ≡ Refused e
-Reaches n sets Grows (Err stop.Memory) p = Grows
+abbrev pub Reaches : Version → ℕ → Sets → Type 0 → Result Stage (Stop CatalogueError) → Progress → Type 0
+Reaches version n sets Grows (Ok stage) p = (progress_of version n sets stage ≡ p) × (stopped p ≡ None)
+Reaches version n sets Grows (Err (stop.Refused e)) p = p ≡ Refused e
+Reaches version n sets Grows (Err stop.Memory) p = Grows
 
 -- the same, where the stage is given beside the answer
-abbrev pub Arrives : ℕ → Sets → Stage → Type 0 → Result (Unit {0}) (Stop CatalogueError) → Progress → Type 0
-Arrives n sets stage Grows (Ok _) p = (progress_of n sets stage ≡ p) × (stopped p ≡ None)
-Arrives n sets stage Grows (Err (stop.Refused e)) p = p ≡ Refused e
-Arrives n sets stage Grows (Err stop.Memory) p = Grows
+abbrev pub Arrives : Version → ℕ → Sets → Stage → Type 0 → Result (Unit {0}) (Stop CatalogueError) → Progress → Type 0
+Arrives version n sets stage Grows (Ok _) p = (progress_of version n sets stage ≡ p) × (stopped p ≡ None)
+Arrives version n sets stage Grows (Err (stop.Refused e)) p = p ≡ Refused e
+Arrives version n sets stage Grows (Err stop.Memory) p = Grows
 
 -- one more record of the set, and one less to come
 abbrev pub Pushes : ℕ → DataSet → ℕ → List ℕ → DataSet → ℕ → Result (Unit {0}) (Stop CatalogueError) → Type 0

@@ -1,16 +1,9 @@
 -- An act on a set, by what was decided: for the code.
-use Rattle.std.specs.Prelude.{Option, None, Some}
 use Rattle.mon_access.specs.declared.access.Decision.{Decision}
 use Rattle.mon_catalogue.specs.declared.data_set.DataSet.{DataSet}
-use Rattle.mon_catalogue.specs.Writing.{Change, recorded}
 use Rattle.mon_guard.specs.Deciding.{by_decision}
 use Rattle.mon_guard.specs.Acting.{Act, Acted, done, or_denied}
 
 -- what an act on a set does where this was decided: it is done, or denied for the entry that decided
 abbrev pub acted_by : Decision → Act → DataSet → Acted
-acted_by decision act set = or_denied (by_decision set.acl decision (done act set.records))
-
--- the set as the act leaves it
-abbrev pub set_after : Option Change → DataSet → DataSet
-set_after None set = set
-set_after (Some change) set = recorded change set
+acted_by decision act set = or_denied (by_decision set.acl decision (done act set))
