@@ -1,5 +1,5 @@
 //! Patterns: one call for each row.
-ghost use Rattle.std.specs.Prelude.{◌≡◌, ◌+◌, ◌<◌, ◌≤◌, IfOk, IsErrOf};
+ghost use Rattle.std.specs.Prelude.{◌≡◌, ◌+◌, ◌<◌, ◌≤◌, nat_le, IfOk, IsErrOf};
 ghost use Rattle.mon_text.specs.Stops.{Gives};
 ghost use Rattle.sno_nodes.specs.Patterns.{larger, depth, most_depth, within_depth};
 ghost use Rattle.sno_nodes.specs.Patterns as pattern;
@@ -278,6 +278,13 @@ impl Pat {
         ensures { IfOk result (λ p. p ≡ pattern.Succeed) }
     {
         share(alloc, Node::Succeed)
+    }
+
+    /// Whether it is as deep as a pattern can be, so that it can't become a part of another.
+    pub fn is_full(&self) -> bool
+        ensures { result ≡ nat_le most_depth (depth self.now) }
+    {
+        told_depth(&self.node) >= MOST_DEPTH
     }
 
     /// The same pattern once more. It takes no memory.

@@ -188,7 +188,7 @@ impl Levels {
     ///
     /// # Errors
     ///
-    /// Where a growth was refused; nothing has changed then.
+    /// Where a growth was refused; nothing has changed then. Where there is no call it takes no memory.
     #[tactic(auto, using(crate::proofs::Exchanged::ending))]
     pub fn end(
         &mut self,
@@ -199,6 +199,7 @@ impl Levels {
         ensures ended { OnOk result (self.new ≡ drop 1 self.old) }
         ensures assigned { OnOk result (variables.new ≡ assigned (saved_by self.old) variables.old) }
         ensures unchanged { OnErr result ((self.new ≡ self.old) × (variables.new ≡ variables.old)) }
+        ensures memory { OnErr result (0 < length self.old) }
     {
         let alloc = *self.levels.allocator();
         let Some(

@@ -297,7 +297,7 @@ impl Store {
     }
 
     /// Ends the innermost call: restores what its variables had, and gives the value of the function's name. Where there is
-    /// no call nothing changes.
+    /// no call nothing changes, and it takes no memory.
     ///
     /// # Errors
     ///
@@ -307,6 +307,7 @@ impl Store {
         ensures value { IfOk result (λ v. v ≡ given_back self.old) }
         ensures left { OnOk result (self.new ≡ left self.old) }
         ensures unchanged { OnErr result (self.new ≡ self.old) }
+        ensures memory { OnErr result (0 < length self.old.levels) }
         ensures counted { self.new.keywords.begun ≡ self.old.keywords.begun }
     {
         match self.levels.end(&mut self.variables)? {

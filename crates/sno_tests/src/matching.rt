@@ -413,8 +413,7 @@ fn matches_end_as_worked(rt: HostRuntime) {
 fn ends(alloc: Global, pattern: Option<Pat>, list: Option<Pat>, limit: u64) -> Option<MatchEnd> {
     let pattern = pattern?;
     let list = list?;
-    let letter = text_of(alloc, b"A")?;
-    let text = letter.repeated(alloc, 1_000).ok()?;
+    let text = Text::repeated(alloc, b"A".as_slice(), 1_000).ok()?;
     let mut host = Script {
         letter: Text::null(),
         name: Text::null(),

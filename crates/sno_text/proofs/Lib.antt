@@ -1,3 +1,3 @@
 pub mod Printable
-mod Repeating
+pub mod Repeating
 mod Trimming

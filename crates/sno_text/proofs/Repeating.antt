@@ -1,5 +1,6 @@
 -- A text so many times, and once more.
-use Rattle.std.proofs.Common.{◌≡◌, ℕ, zero, suc, List, [], ◌∷◌, ◌++◌, length, arith, refl, sym, ap, ◌∙◌, append_assoc, append-nil}
+use Rattle.std.proofs.Common.{◌≡◌, ℕ, zero, suc, ◌*◌, List, [], ◌∷◌, ◌++◌, length, arith, refl, sym, ap, ◌∙◌, append_assoc, append-nil, length-append}
+use Rattle.std.proofs.Math.Nat.{suc-mul}
 use Rattle.mon_text.specs.Lines.{IsLine}
 use Rattle.sno_text.specs.Texts.{repeated}
 use Rattle.sno_text.proofs.Printable.{line_of_join}
@@ -19,3 +20,10 @@ line_of_repeated (suc n) text h = line_of_join text (repeated n text) h (line_of
 pub null_repeated : (n : ℕ) (text : List ℕ) → length text ≡ 0 → [] ≡ repeated n text
 null_repeated n [] h = sym (repeated_null n)
 null_repeated n (c ∷ cs) h = absurd (omega arith)
+
+pub length-repeated : (n : ℕ) (text : List ℕ) → length (repeated n text) ≡ n * length text
+length-repeated zero text = omega arith
+length-repeated (suc n) text =
+    let more = length-repeated n text in
+    let times = suc-mul n (length text) in
+    length-append text (repeated n text) ∙ omega (arith, more, times)

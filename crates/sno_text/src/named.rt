@@ -48,13 +48,17 @@ impl Named {
         self.text
     }
 
-    /// Where it is looked for first.
-    pub fn place(&self) -> usize {
+    /// Where it is looked for first, which no contract says: a cell holds it, and a wrong place is met by a search.
+    pub fn place(&self) -> usize
+        ensures { self.exit.now ≡ self.entry.now }
+    {
         self.place.get()
     }
 
-    /// From now on it is looked for at a place first.
-    pub fn stands_at(&self, place: usize) {
+    /// From now on it is looked for at a place first. The name stays.
+    pub fn stands_at(&self, place: usize)
+        ensures { self.exit.now ≡ self.entry.now }
+    {
         self.place.set(place);
     }
 }

@@ -1,5 +1,5 @@
 //! Texts, which are shared.
-ghost use Rattle.std.specs.Prelude.{◌≡◌, ◌==◌, ◌≤◌, ◌+◌, ◌++◌, [], length, take, drop, nat_eq, refl, vec_capacity, Some, IfOk};
+ghost use Rattle.std.specs.Prelude.{◌≡◌, ◌==◌, ◌<◌, ◌≤◌, ◌+◌, ◌*◌, ◌++◌, [], length, take, drop, nat_eq, refl, vec_capacity, Some, IfOk, OnErr};
 ghost use Rattle.std.specs.List.{slice_range};
 ghost use Rattle.std.specs.Fmt.{signed_decimal};
 ghost use Rattle.std.specs.Ordering.{nat_cmp};
@@ -28,7 +28,7 @@ pub struct Text {
 }
 
 impl Model for Text {
-    ghost use Rattle.std.specs.Prelude.{List, ℕ, []};
+    ghost use Rattle.std.specs.Prelude.{List, ℕ, [], length, ◌<◌, IfSome};
     ghost use Rattle.std.specs.Option.{option_map_or};
     ghost use Rattle.mon_text.specs.Lines.{IsLine};
 
@@ -36,7 +36,7 @@ impl Model for Text {
 
     ghost view = { λ t. option_map_or (λ r. r.value.items) t.bytes [] };
 
-    ghost invariant = { λ t. IsLine (option_map_or (λ r. r.value.items) t.bytes []) };
+    ghost invariant = { λ t. IsLine (option_map_or (λ r. r.value.items) t.bytes []) × IfSome t.bytes (λ r. 0 < length r.value.items) };
 }
 
 /// A text without the blanks at its end.
@@ -54,6 +54,7 @@ pub fn without_trailing_blanks(text: &[u8]) -> &[u8]
 fn room_for(alloc: Global, bytes: usize, more: usize) -> Result<Vec<u8>, AllocError>
     ensures empty { IfOk result (λ room. room.items ≡ []) }
     ensures wide { IfOk result (λ room. bytes + more ≤ vec_capacity room) }
+    ensures memory { OnErr result (0 < bytes + more) }
 {
     match bytes.checked_add(more) {
         Some(all) => Vec::with_capacity(alloc, all),
@@ -73,10 +74,11 @@ impl Text {
     ///
     /// # Errors
     ///
-    /// Where a growth was refused.
+    /// Where a growth was refused. The null string takes no memory; so it is for each call here.
     pub fn of_bytes(alloc: Global, bytes: Vec<u8>) -> Result<Text, AllocError>
         requires { IsLine bytes.items }
-        ensures { IfOk result (λ text. text ≡ bytes.items) }
+        ensures value { IfOk result (λ text. text ≡ bytes.items) }
+        ensures memory { OnErr result (0 < length bytes.items) }
     {
         if bytes.is_empty() {
             return Ok(Text::null());
@@ -92,10 +94,12 @@ impl Text {
     /// Where a growth was refused.
     pub fn of_slice(alloc: Global, bytes: &[u8]) -> Result<Text, AllocError>
         requires { IsLine bytes.now }
-        ensures { IfOk result (λ text. text ≡ bytes.now) }
+        ensures value { IfOk result (λ text. text ≡ bytes.now) }
+        ensures memory { OnErr result (0 < length bytes.now) }
     {
-        let bytes = Vec::from_slice(alloc, bytes)?;
-        Text::of_bytes(alloc, bytes)
+        let mut copied = room_for(alloc, bytes.len(), 0)?;
+        copied.extend_from_slice(bytes).unwrap();
+        Text::of_bytes(alloc, copied)
     }
 
     /// The text of a line.
@@ -104,7 +108,8 @@ impl Text {
     ///
     /// Where a growth was refused.
     pub fn of_line(alloc: Global, line: &Line) -> Result<Text, AllocError>
-        ensures { IfOk result (λ text. text ≡ line.now) }
+        ensures value { IfOk result (λ text. text ≡ line.now) }
+        ensures memory { OnErr result (0 < length line.now) }
     {
         Text::of_slice(alloc, line.as_bytes())
     }
@@ -150,9 +155,10 @@ impl Text {
     ///
     /// # Errors
     ///
-    /// Where as many share it as can be counted.
+    /// Where as many share it as can be counted. The null string is never shared.
     pub fn copy(&self) -> Result<Text, AllocError>
-        ensures { IfOk result (λ text. text ≡ self.now) }
+        ensures value { IfOk result (λ text. text ≡ self.now) }
+        ensures memory { OnErr result (0 < length self.now) }
     {
         match &self.bytes {
             Some(bytes) => {
@@ -161,34 +167,6 @@ impl Text {
             }
             None => Ok(Text { bytes: None }),
         }
-    }
-
-    /// This text and then the other.
-    ///
-    /// # Errors
-    ///
-    /// Where a growth was refused.
-    pub fn joined(&self, alloc: Global, other: &Text) -> Result<Text, AllocError>
-        ensures { IfOk result (λ text. text ≡ self.now ++ other.now) }
-    {
-        let (first, second) = (self.as_bytes(), other.as_bytes());
-        let mut bytes = room_for(alloc, first.len(), second.len())?;
-        bytes.extend_from_slice(first).unwrap();
-        bytes.extend_from_slice(second).unwrap();
-        Text::of_bytes(alloc, bytes)
-    }
-
-    /// The characters from one place up to another.
-    ///
-    /// # Errors
-    ///
-    /// Where a growth was refused.
-    pub fn part(&self, alloc: Global, from: usize, to: usize) -> Result<Text, AllocError>
-        requires ordered { from ≤ to }
-        requires within { to ≤ length self.now }
-        ensures { IfOk result (λ text. text ≡ slice_range self.now from to) }
-    {
-        Text::of_slice(alloc, &self.as_bytes()[from..to])
     }
 
     /// The text with other characters in place of those from one place up to another.
@@ -205,7 +183,8 @@ impl Text {
     ) -> Result<Text, AllocError>
         requires ordered { from ≤ to }
         requires within { to ≤ length self.now }
-        ensures { IfOk result (λ text. text ≡ take from self.now ++ (new.now ++ drop to self.now)) }
+        ensures value { IfOk result (λ text. text ≡ take from self.now ++ (new.now ++ drop to self.now)) }
+        ensures memory { OnErr result (0 < length (take from self.now ++ (new.now ++ drop to self.now))) }
     {
         let old = self.as_bytes();
         let mut bytes = room_for(alloc, old.len() - (to - from), new.len())?;
@@ -215,15 +194,16 @@ impl Text {
         Text::of_bytes(alloc, bytes)
     }
 
-    /// So many of the text, one after the other.
+    /// So many of a text, one after the other.
     ///
     /// # Errors
     ///
     /// Where a growth was refused.
-    pub fn repeated(&self, alloc: Global, times: usize) -> Result<Text, AllocError>
-        ensures { IfOk result (λ text. text ≡ repeated times self.now) }
+    pub fn repeated(alloc: Global, text: &[u8], times: usize) -> Result<Text, AllocError>
+        requires { IsLine text.now }
+        ensures value { IfOk result (λ all. all ≡ repeated times text.now) }
+        ensures memory { OnErr result (0 < times * length text.now) }
     {
-        let text = self.as_bytes();
         if text.is_empty() {
             return Ok(Text::null());
         }
@@ -241,7 +221,8 @@ impl Text {
     ///
     /// Where a growth was refused.
     pub fn trimmed(&self, alloc: Global) -> Result<Text, AllocError>
-        ensures { IfOk result (λ text. text ≡ without_trailing_blanks self.now) }
+        ensures value { IfOk result (λ text. text ≡ without_trailing_blanks self.now) }
+        ensures memory { OnErr result (0 < length (without_trailing_blanks self.now)) }
     {
         let kept = without_trailing_blanks(self.as_bytes());
         if kept.len() == self.len() {
@@ -258,7 +239,8 @@ impl Text {
     pub fn line(&self, alloc: Global, from: usize, to: usize) -> Result<Line, AllocError>
         requires ordered { from ≤ to }
         requires within { to ≤ length self.now }
-        ensures { IfOk result (λ line. line ≡ slice_range self.now from to) }
+        ensures value { IfOk result (λ line. line ≡ slice_range self.now from to) }
+        ensures memory { OnErr result (from < to) }
     {
         let room = Vec::with_capacity(alloc, to - from)?;
         Ok(Line::in_room(room, &self.as_bytes()[from..to]))

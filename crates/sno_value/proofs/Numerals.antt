@@ -1,6 +1,9 @@
--- The value of digits only grows with them.
-use Rattle.std.proofs.Common.{arith, ◌≡◌, ℕ, ◌+◌, ◌-◌, ◌*◌, ◌≤◌, ◌<◌, List, [], ◌∷◌, length, refl, sym, drop, get_or, add-one, drop-cons, ap, ◌∙◌, Bool, true, false}
-use Rattle.std.specs.Prelude.{Option, None, nat_le, if◌then◌else◌}
+-- The value of digits only grows with them, and each number has some.
+use Rattle.std.proofs.Common.{arith, ◌≡◌, ℕ, suc, ◌+◌, ◌-◌, ◌*◌, ◌^◌, ◌≤◌, ◌<◌, List, [], ◌∷◌, length, refl, sym, drop, get_or, add-one, drop-cons, ap, ◌∙◌, Bool, true, false}
+use Rattle.std.specs.Prelude.{ℤ, pos, negsuc, Option, None, nat_le, if◌then◌else◌}
+use Rattle.std.specs.Fmt.{signed_decimal}
+use Rattle.std.specs.Int.Signed.{mag}
+use Rattle.std.proofs.lemmas.Fmt.{decimal_nonempty}
 use Rattle.std.proofs.lemmas.Bool.Decides.{nat_tests}
 use Rattle.mon_text.specs.Counts.{read_on}
 
@@ -25,3 +28,7 @@ none_at n m x false e h = refl
 -- a number above a limit has no value up to it
 pub none_above : {A : Type 0} → (n m : ℕ) (x : Option A) → m < n → None ≡ (if nat_le n m then x else None)
 none_above n m x h = none_at n m x (nat_le n m) refl h
+
+pub has_digits : (z : ℤ) → mag z < 2 ^ 63 → 0 < length (signed_decimal z)
+has_digits (pos n) h = decimal_nonempty n (omega arith)
+has_digits (negsuc n) h = let some = decimal_nonempty (suc n) (omega arith) in omega (arith, some)

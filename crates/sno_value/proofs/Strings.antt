@@ -1,21 +1,14 @@
 -- Strings that are formed: how long they are, and what that gives.
-use Rattle.std.proofs.Common.{arith, ◌≡◌, ℕ, zero, suc, ◌*◌, ◌≤◌, ◌<◌, List, length, sym, ap, ◌∙◌, Bool, true, false, length-append}
+use Rattle.std.proofs.Common.{arith, ◌≡◌, ℕ, ◌*◌, ◌≤◌, ◌<◌, List, length, sym, ap, Bool, true, false}
 use Rattle.std.specs.Prelude.{ℤ, pos, negsuc, nat_le, nat_lt, unsigned_abs, int_lt, if◌then◌else◌}
-use Rattle.std.proofs.Math.Nat.{suc-mul}
 use Rattle.std.proofs.lemmas.Bool.Decides.{nat_tests}
 use Rattle.sno_text.specs.Texts.{repeated}
+use Rattle.sno_text.proofs.Repeating.{length-repeated}
 use Rattle.sno_text.specs.declared.fault.Fault.TheVariants.{Length}
 use Rattle.sno_value.specs.declared.value.Value.TheVariants.{Text}
 use Rattle.sno_value.specs.declared.outcome.Outcome.TheVariants.{Gives, Faults}
 use Rattle.sno_value.specs.Outcomes.{string}
 use Rattle.sno_value.specs.Primitives.{copies}
-
-pub length-repeated : (n : ℕ) (text : List ℕ) → length (repeated n text) ≡ n * length text
-length-repeated zero text = omega arith
-length-repeated (suc n) text =
-    let more = length-repeated n text in
-    let times = suc-mul n (length text) in
-    length-append text (repeated n text) ∙ omega (arith, more, times)
 
 by_length : (text : List ℕ) (b : Bool) (given : Bool) → b ≡ given → (if given then Gives (Text text) else Faults Length) ≡ (if b then Gives (Text text) else Faults Length)
 by_length text b given e = ap (λ (c : Bool). if c then Gives (Text text) else Faults Length) (sym e)

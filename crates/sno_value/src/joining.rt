@@ -1,10 +1,11 @@
 //! Concatenation and alternation.
-ghost use Rattle.std.specs.Prelude.{◌≡◌, ◌++◌, false, IfOk, OnErr};
+ghost use Rattle.std.specs.Prelude.{◌≡◌, ◌++◌, true, false, IfOk, OnErr};
 ghost use Rattle.mon_text.specs.Lines.{IsLine};
 ghost use Rattle.sno_nodes.specs.Patterns.{Cat};
 ghost use Rattle.sno_value.specs.Values.{is_null, text_of, pattern_of};
 ghost use Rattle.sno_value.specs.Outcomes.{string, pattern};
 ghost use Rattle.sno_value.specs.Operators.{joined, concatenation, alternation};
+ghost use Rattle.sno_value.specs.Memory.{is_given};
 
 use crate::outcome::{Outcome, formed};
 use crate::value::Value;
@@ -17,7 +18,8 @@ use std::alloc::{AllocError, Global};
 fn join_texts(alloc: Global, first: &[u8], second: &[u8], most: u64) -> Result<Outcome, AllocError>
     requires first { IsLine first.now }
     requires second { IsLine second.now }
-    ensures { IfOk result (λ outcome. outcome ≡ string most (first.now ++ second.now)) }
+    ensures value { IfOk result (λ outcome. outcome ≡ string most (first.now ++ second.now)) }
+    ensures memory { OnErr result (is_given (string most (first.now ++ second.now)) ≡ true) }
 {
     let length = first.len() + second.len();
     if length as u64 > most {
@@ -32,8 +34,12 @@ fn join_texts(alloc: Global, first: &[u8], second: &[u8], most: u64) -> Result<O
 
 // The pattern of one value and then another.
 fn join_patterns(alloc: Global, left: &Value, right: &Value) -> Result<Outcome, AllocError>
-    ensures { IfOk result (λ outcome. outcome ≡ pattern (Cat (pattern_of left.now) (pattern_of right.now))) }
+    ensures value { IfOk result (λ outcome. outcome ≡ pattern (Cat (pattern_of left.now) (pattern_of right.now))) }
+    ensures memory { OnErr result (is_given (pattern (Cat (pattern_of left.now) (pattern_of right.now))) ≡ true) }
 {
+    if left.is_full() || right.is_full() {
+        return Ok(Outcome::Faults(Fault::Depth));
+    }
     let left = left.to_pattern(alloc)?;
     let right = right.to_pattern(alloc)?;
     formed(Pat::cat(alloc, &left, &right))
@@ -41,7 +47,8 @@ fn join_patterns(alloc: Global, left: &Value, right: &Value) -> Result<Outcome, 
 
 // Two values of which neither is null.
 fn join(alloc: Global, left: &Value, right: &Value, most: u64) -> Result<Outcome, AllocError>
-    ensures { IfOk result (λ outcome. outcome ≡ joined most (text_of left.now) (text_of right.now) (pattern_of left.now) (pattern_of right.now)) }
+    ensures value { IfOk result (λ outcome. outcome ≡ joined most (text_of left.now) (text_of right.now) (pattern_of left.now) (pattern_of right.now)) }
+    ensures memory { OnErr result (is_given (joined most (text_of left.now) (text_of right.now) (pattern_of left.now) (pattern_of right.now)) ≡ true) }
 {
     let (mut first, mut second) = (Buffer::new(), Buffer::new());
     match (left.characters(&mut first), right.characters(&mut second)) {
@@ -51,7 +58,7 @@ fn join(alloc: Global, left: &Value, right: &Value, most: u64) -> Result<Outcome
 }
 
 /// Two values one after the other: a string of at most `most` characters, or a pattern. The null string changes nothing, and
-/// takes no memory.
+/// takes no memory; no more does a fault.
 ///
 /// # Errors
 ///
@@ -59,6 +66,7 @@ fn join(alloc: Global, left: &Value, right: &Value, most: u64) -> Result<Outcome
 pub fn concat(alloc: Global, left: Value, right: Value, most: u64) -> Result<Outcome, AllocError>
     ensures value { IfOk result (λ outcome. outcome ≡ concatenation most left right) }
     ensures memory { OnErr result ((is_null left ≡ false) × (is_null right ≡ false)) }
+    ensures given { OnErr result (is_given (concatenation most left right) ≡ true) }
 {
     if left.is_null() {
         Ok(Outcome::Gives(right))
@@ -69,14 +77,18 @@ pub fn concat(alloc: Global, left: Value, right: Value, most: u64) -> Result<Out
     }
 }
 
-/// The pattern of one value or else another.
+/// The pattern of one value or else another. A fault takes no memory.
 ///
 /// # Errors
 ///
 /// Where a growth was refused.
 pub fn alternate(alloc: Global, left: &Value, right: &Value) -> Result<Outcome, AllocError>
-    ensures { IfOk result (λ outcome. outcome ≡ alternation left.now right.now) }
+    ensures value { IfOk result (λ outcome. outcome ≡ alternation left.now right.now) }
+    ensures memory { OnErr result (is_given (alternation left.now right.now) ≡ true) }
 {
+    if left.is_full() || right.is_full() {
+        return Ok(Outcome::Faults(Fault::Depth));
+    }
     let left = left.to_pattern(alloc)?;
     let right = right.to_pattern(alloc)?;
     formed(Pat::alt(alloc, &left, &right))

@@ -1,5 +1,5 @@
 //! What an operator or a primitive function gives.
-ghost use Rattle.std.specs.Prelude.{◌≡◌, Result, IfOk};
+ghost use Rattle.std.specs.Prelude.{◌≡◌, Result, IfOk, IsErrOf, OnErr};
 ghost use Rattle.mon_text.specs.Stops.{Gives};
 ghost use Rattle.sno_text.specs.declared.fault.Fault.{Fault};
 ghost use Rattle.sno_nodes.specs.Patterns.{Pattern};
@@ -35,7 +35,8 @@ pub(crate) fn predicate(holds: bool) -> Outcome
 
 /// A pattern that was to be formed.
 pub(crate) fn formed(made: Result<Pat, Stop<Fault>>) -> Result<Outcome, AllocError>
-    ensures { (said : Result Pattern Fault) → Gives (λ pattern. pattern) made said → IfOk result (λ outcome. outcome ≡ formed said) }
+    ensures value { (said : Result Pattern Fault) → Gives (λ pattern. pattern) made said → IfOk result (λ outcome. outcome ≡ formed said) }
+    ensures memory { OnErr result (IsErrOf made Stop.Memory) }
 {
     match made {
         Ok(pattern) => Ok(Outcome::Gives(Value::Pattern(pattern))),

@@ -1,6 +1,7 @@
-//! The primitive functions that make patterns.
-ghost use Rattle.std.specs.Prelude.{◌≡◌, IfOk};
+//! The primitive functions that make patterns. What they refuse takes no memory.
+ghost use Rattle.std.specs.Prelude.{◌≡◌, true, IfOk, OnErr};
 ghost use Rattle.sno_value.specs.Primitives.{number_pattern, at_number, of_number, character_pattern, among, of_characters, any_number_of};
+ghost use Rattle.sno_value.specs.Memory.{is_given};
 
 use crate::outcome::{Outcome, formed};
 use crate::primitive::{CharacterPattern, NumberPattern};
@@ -22,7 +23,8 @@ fn number_pattern(alloc: Global, kind: NumberPattern, number: u64) -> Result<Pat
 }
 
 fn at_number(alloc: Global, kind: NumberPattern, number: i64) -> Result<Outcome, AllocError>
-    ensures { IfOk result (λ outcome. outcome ≡ at_number kind number) }
+    ensures value { IfOk result (λ outcome. outcome ≡ at_number kind number) }
+    ensures memory { OnErr result (is_given (at_number kind number) ≡ true) }
 {
     if number < 0 {
         return Ok(Outcome::Faults(Fault::Negative));
@@ -37,7 +39,8 @@ pub(crate) fn of_number(
     kind: NumberPattern,
     value: &Value,
 ) -> Result<Outcome, AllocError>
-    ensures { IfOk result (λ outcome. outcome ≡ of_number kind value.now) }
+    ensures value { IfOk result (λ outcome. outcome ≡ of_number kind value.now) }
+    ensures memory { OnErr result (is_given (of_number kind value.now) ≡ true) }
 {
     match value.to_number() {
         Some(number) => at_number(alloc, kind, number),
@@ -61,7 +64,8 @@ fn character_pattern(
 }
 
 fn among(alloc: Global, kind: CharacterPattern, characters: Text) -> Result<Outcome, AllocError>
-    ensures { IfOk result (λ outcome. outcome ≡ among kind characters) }
+    ensures value { IfOk result (λ outcome. outcome ≡ among kind characters) }
+    ensures memory { OnErr result (is_given (among kind characters) ≡ true) }
 {
     if characters.is_null() {
         return Ok(Outcome::Faults(Fault::Null));
@@ -76,7 +80,8 @@ pub(crate) fn of_characters(
     kind: CharacterPattern,
     value: &Value,
 ) -> Result<Outcome, AllocError>
-    ensures { IfOk result (λ outcome. outcome ≡ of_characters kind value.now) }
+    ensures value { IfOk result (λ outcome. outcome ≡ of_characters kind value.now) }
+    ensures memory { OnErr result (is_given (of_characters kind value.now) ≡ true) }
 {
     match value.to_text(alloc)? {
         Some(characters) => among(alloc, kind, characters),
@@ -86,8 +91,12 @@ pub(crate) fn of_characters(
 
 /// ARBNO.
 pub(crate) fn any_number_of(alloc: Global, value: &Value) -> Result<Outcome, AllocError>
-    ensures { IfOk result (λ outcome. outcome ≡ any_number_of value.now) }
+    ensures value { IfOk result (λ outcome. outcome ≡ any_number_of value.now) }
+    ensures memory { OnErr result (is_given (any_number_of value.now) ≡ true) }
 {
+    if value.is_full() {
+        return Ok(Outcome::Faults(Fault::Depth));
+    }
     let pattern = value.to_pattern(alloc)?;
     formed(Pat::arbno(alloc, &pattern))
 }

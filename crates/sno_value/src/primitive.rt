@@ -2,6 +2,7 @@
 ghost use Rattle.std.specs.Prelude.{◌≡◌, true, IfOk, OnErr};
 ghost use Rattle.sno_value.specs.Values.{null};
 ghost use Rattle.sno_value.specs.Primitives.{argument, applied, takes_memory, primitive_gives, pattern_function, comparison_function, primitive_named};
+ghost use Rattle.sno_value.specs.Memory.{is_given};
 
 use crate::outcome::Outcome;
 use crate::patterns::{any_number_of, of_characters, of_number};
@@ -81,6 +82,7 @@ pub enum Primitive {
 
 impl Primitive {
     /// What it gives for its first three arguments. A string that DUPL forms has at most `most` characters.
+    /// Failure and faults take no memory.
     ///
     /// # Errors
     ///
@@ -95,6 +97,7 @@ impl Primitive {
     ) -> Result<Outcome, AllocError>
         ensures value { IfOk result (λ outcome. outcome ≡ applied self first.now second.now third.now most) }
         ensures memory { OnErr result (takes_memory self ≡ true) }
+        ensures given { OnErr result (is_given (applied self first.now second.now third.now most) ≡ true) }
     {
         match self {
             Primitive::Size => Ok(size(first)),
@@ -121,6 +124,7 @@ impl Primitive {
     pub fn call(self, alloc: Global, given: &[Value], most: u64) -> Result<Outcome, AllocError>
         ensures value { IfOk result (λ outcome. outcome ≡ primitive_gives self given.now most) }
         ensures memory { OnErr result (takes_memory self ≡ true) }
+        ensures given { OnErr result (is_given (primitive_gives self given.now most) ≡ true) }
     {
         let null = Value::null();
         let first = argument(given, 0, &null);

@@ -1,9 +1,10 @@
-//! The primitive functions of texts.
-ghost use Rattle.std.specs.Prelude.{◌≡◌, ◌<◌, ◌*◌, ℕ, nat_lt, length, slice_index, IfOk};
+//! The primitive functions of texts. Failure and faults take no memory.
+ghost use Rattle.std.specs.Prelude.{◌≡◌, ◌<◌, ◌*◌, ℕ, true, nat_lt, length, slice_index, IfOk, OnErr};
 ghost use Rattle.mon_text.specs.Lines.{IsLine};
 ghost use Rattle.sno_text.specs.Texts.{repeated};
 ghost use Rattle.sno_value.specs.Outcomes.{string};
 ghost use Rattle.sno_value.specs.Primitives.{size, trimmed, copies, duplicated, replacement, replaced, replace, type_name, data_type};
+ghost use Rattle.sno_value.specs.Memory.{is_given};
 
 use crate::outcome::Outcome;
 use crate::value::Value;
@@ -24,7 +25,8 @@ pub(crate) fn size(value: &Value) -> Outcome
 
 /// TRIM.
 pub(crate) fn trim(alloc: Global, value: &Value) -> Result<Outcome, AllocError>
-    ensures { IfOk result (λ outcome. outcome ≡ trimmed value.now) }
+    ensures value { IfOk result (λ outcome. outcome ≡ trimmed value.now) }
+    ensures memory { OnErr result (is_given (trimmed value.now) ≡ true) }
 {
     match value.to_text(alloc)? {
         Some(text) => {
@@ -36,7 +38,7 @@ pub(crate) fn trim(alloc: Global, value: &Value) -> Result<Outcome, AllocError>
 }
 
 // Whether so many of a text have more than this many characters.
-fn is_too_long(text: &Text, times: usize, most: u64) -> bool
+fn is_too_long(text: &[u8], times: usize, most: u64) -> bool
     ensures { result ≡ nat_lt most (times * length text.now) }
 {
     match times.checked_mul(text.len()) {
@@ -46,19 +48,23 @@ fn is_too_long(text: &Text, times: usize, most: u64) -> bool
 }
 
 // So many of a text, if they are not too long.
-fn copied(alloc: Global, text: &Text, times: usize, most: u64) -> Result<Outcome, AllocError>
-    ensures { IfOk result (λ outcome. outcome ≡ string most (repeated times text.now)) }
+fn copied(alloc: Global, text: &[u8], times: usize, most: u64) -> Result<Outcome, AllocError>
+    requires { IsLine text.now }
+    ensures value { IfOk result (λ outcome. outcome ≡ string most (repeated times text.now)) }
+    ensures memory { OnErr result (is_given (string most (repeated times text.now)) ≡ true) }
 {
     if is_too_long(text, times, most) {
         return Ok(Outcome::Faults(Fault::Length));
     }
-    let text = text.repeated(alloc, times)?;
+    let text = Text::repeated(alloc, text, times)?;
     Ok(Outcome::Gives(Value::Text(text)))
 }
 
 // The same, where the number may be negative.
-fn copies(alloc: Global, text: &Text, times: i64, most: u64) -> Result<Outcome, AllocError>
-    ensures { IfOk result (λ outcome. outcome ≡ copies most text.now times) }
+fn copies(alloc: Global, text: &[u8], times: i64, most: u64) -> Result<Outcome, AllocError>
+    requires { IsLine text.now }
+    ensures value { IfOk result (λ outcome. outcome ≡ copies most text.now times) }
+    ensures memory { OnErr result (is_given (copies most text.now times) ≡ true) }
 {
     if times < 0 {
         Ok(Outcome::Fails)
@@ -74,10 +80,12 @@ pub(crate) fn duplicate(
     times: &Value,
     most: u64,
 ) -> Result<Outcome, AllocError>
-    ensures { IfOk result (λ outcome. outcome ≡ duplicated most value.now times.now) }
+    ensures value { IfOk result (λ outcome. outcome ≡ duplicated most value.now times.now) }
+    ensures memory { OnErr result (is_given (duplicated most value.now times.now) ≡ true) }
 {
-    match (value.to_text(alloc)?, times.to_number()) {
-        (Some(text), Some(times)) => copies(alloc, &text, times, most),
+    let mut buffer = Buffer::new();
+    match (value.characters(&mut buffer), times.to_number()) {
+        (Some(text), Some(times)) => copies(alloc, text, times, most),
         _ => Ok(Outcome::Faults(Fault::WrongType)),
     }
 }
@@ -101,7 +109,8 @@ fn replacements(from: &[u8], to: &[u8]) -> [u8; 256]
 fn replaced(alloc: Global, text: &[u8], from: &[u8], to: &[u8]) -> Result<Outcome, AllocError>
     requires text { IsLine text.now }
     requires to { IsLine to.now }
-    ensures { IfOk result (λ outcome. outcome ≡ replaced text.now from.now to.now) }
+    ensures value { IfOk result (λ outcome. outcome ≡ replaced text.now from.now to.now) }
+    ensures memory { OnErr result (is_given (replaced text.now from.now to.now) ≡ true) }
 {
     if from.len() != to.len() {
         return Ok(Outcome::Fails);
@@ -122,7 +131,8 @@ pub(crate) fn replace(
     from: &Value,
     to: &Value,
 ) -> Result<Outcome, AllocError>
-    ensures { IfOk result (λ outcome. outcome ≡ replace value.now from.now to.now) }
+    ensures value { IfOk result (λ outcome. outcome ≡ replace value.now from.now to.now) }
+    ensures memory { OnErr result (is_given (replace value.now from.now to.now) ≡ true) }
 {
     let (mut first, mut second, mut third) = (Buffer::new(), Buffer::new(), Buffer::new());
     match (

@@ -1,8 +1,10 @@
 //! Values.
-ghost use Rattle.std.specs.Prelude.{◌≡◌, IfOk, IfSome};
+ghost use Rattle.std.specs.Prelude.{◌≡◌, ◌<◌, true, nat_le, length, IfOk, OnErr, IfSome, IsSomeAnd};
 ghost use Rattle.std.specs.Option.{option_copied};
 ghost use Rattle.mon_text.specs.Lines.{IsLine};
+ghost use Rattle.sno_nodes.specs.Patterns.{depth, most_depth};
 ghost use Rattle.sno_value.specs.Values.{null, is_null, text_of, number_of, pattern_of};
+ghost use Rattle.sno_value.specs.Memory.{has_shared};
 
 use crate::numeral::number_of_text;
 use itoa::Buffer;
@@ -47,7 +49,8 @@ impl Value {
     ///
     /// Where as many share it as can be counted.
     pub fn copy(&self) -> Result<Value, AllocError>
-        ensures { IfOk result (λ value. value ≡ self.now) }
+        ensures value { IfOk result (λ value. value ≡ self.now) }
+        ensures memory { OnErr result (has_shared self.now ≡ true) }
     {
         match self {
             Value::Text(text) => {
@@ -71,8 +74,10 @@ impl Value {
     /// # Errors
     ///
     /// Where a growth was refused. The text of a string takes no memory.
+    #[tactic(auto, using(crate::proofs::Numerals::has_digits))]
     pub fn to_text(&self, alloc: Global) -> Result<Option<Text>, AllocError>
-        ensures { IfOk result (λ text. text ≡ text_of self.now) }
+        ensures value { IfOk result (λ text. text ≡ text_of self.now) }
+        ensures memory { OnErr result (IsSomeAnd (text_of self.now) (λ text. 0 < length text)) }
     {
         match self {
             Value::Text(text) => {
@@ -120,6 +125,16 @@ impl Value {
                 let name = name.copy()?;
                 Pat::defer(alloc, name)
             }
+        }
+    }
+
+    // Whether it is a pattern that can't become a part of another.
+    pub(crate) fn is_full(&self) -> bool
+        ensures { result ≡ nat_le most_depth (depth (pattern_of self.now)) }
+    {
+        match self {
+            Value::Pattern(pattern) => pattern.is_full(),
+            Value::Text(_) | Value::Integer(_) | Value::Unevaluated(_) => false,
         }
     }
 

@@ -7,11 +7,11 @@ use Rattle.sno_text.proofs.Printable.{line_of_take}
 use Rattle.sno_text.proofs.Trimming.{front_of, whole}
 use Rattle.sno_text.proofs.text.Text.trimmed.Goals as goal
 
-pub returns-then-kept-len : goal.returns-then-kept-len
-returns-then-kept-len c =
+pub returns-then-kept-len-clause-value : goal.returns-then-kept-len-clause-value
+returns-then-kept-len-clause-value c =
     let kept = c.without_trailing_blanks-kept.ensures ∙ ap without_trailing_blanks c.as_bytes.ensures.value in
     let same : c.args.self.now ≡ without_trailing_blanks c.args.self.now = whole c.args.self.now (ap length (sym kept) ∙ c.if-kept-len.true ∙ c.len.ensures) in
-    IfOk-weaker c.copy.result (λ text. text ≡ c.args.self.now) (λ text. text ≡ without_trailing_blanks c.args.self.now) (λ text h. h ∙ same) c.copy.ensures
+    IfOk-weaker c.copy.result (λ text. text ≡ c.args.self.now) (λ text. text ≡ without_trailing_blanks c.args.self.now) (λ text h. h ∙ same) c.copy.ensures.value
 
 pub of_slice-requires : goal.of_slice-requires
 of_slice-requires c =
