@@ -6,12 +6,9 @@ use Rattle.sno_token.specs.declared.Part.TheVariants.{Equals}
 use Rattle.sno_token.specs.declared.TokenKind.TheVariants as token
 use Rattle.sno_expression.specs.declared.tree.BinaryOperator.TheVariants as operator
 use Rattle.sno_expression.specs.declared.tree.UnaryOperator.TheVariants as unary
-use Rattle.sno_expression.specs.declared.walking.Position.TheVariants.{AfterIdentifier, AfterBinary}
 use Rattle.sno_expression.specs.Expressions.{Identifier, Keyword, Unevaluated, Group, Call, Unary, Binary, NoArguments, Omitted, Argument}
-use Rattle.sno_expression.specs.inner.Counting.{bad, misfit}
+use Rattle.sno_expression.specs.Lacking.{lacking}
 use Rattle.sno_expression.specs.Spelling.{spaced}
-use Rattle.sno_expression.specs.inner.Walks.{take, begins}
-use Rattle.sno_expression.specs.inner.Walks as walks
 use Rattle.sno_expression.specs.inner.Reading.{reading, Read}
 
 abbrev A : List ℕ
@@ -87,16 +84,12 @@ ends_in_mark = refl
 apart : reading false (spaced true true (token.Mark mark.Minus) ∷ spaced true false (token.Identifier A) ∷ []) ≡ Read None (spaced true true (token.Mark mark.Minus) ∷ spaced true false (token.Identifier A) ∷ [])
 apart = refl
 
--- A . (B) has no variable where one is needed, A . $(B) has
-group : bad (Binary operator.Conditional (Identifier A) (Group (Identifier B))) ≡ 1
+-- A . (B) lacks a variable at the parenthesis, A . $(B) nowhere, and A . B(C) where the name opens the call
+group : lacking false (Binary operator.Conditional (Identifier A) (Group (Identifier B))) ≡ false ∷ false ∷ true ∷ false ∷ false ∷ []
 group = refl
 
-indirect : bad (Binary operator.Conditional (Identifier A) (Unary unary.Indirect (Group (Identifier B)))) ≡ 0
+indirect : lacking false (Binary operator.Conditional (Identifier A) (Unary unary.Indirect (Group (Identifier B)))) ≡ false ∷ false ∷ false ∷ false ∷ false ∷ false ∷ []
 indirect = refl
 
--- it is seen at the parenthesis, and for A . B(C) where the name opens the call
-at_group : misfit (walks.At [] (AfterBinary true)) (spaced true false token.Open) ≡ 1
-at_group = refl
-
-at_call : misfit (walks.At [] (AfterIdentifier true)) (spaced false false token.Open) ≡ 1
-at_call = refl
+called : lacking false (Binary operator.Conditional (Identifier A) (Call B (Argument NoArguments (Identifier C)))) ≡ false ∷ false ∷ true ∷ false ∷ false ∷ false ∷ []
+called = refl

@@ -3,7 +3,6 @@ use Rattle.std.proofs.Common.{◌≡◌, refl, sym, ap, ◌∙◌}
 use Rattle.std.specs.Prelude.{Bool, true, false, ◌&&◌, if◌then◌else◌}
 use Rattle.sno_expression.specs.declared.tree.BinaryOperator.{BinaryOperator}
 use Rattle.sno_expression.specs.declared.tree.BinaryOperator.TheVariants as operator
-use Rattle.sno_expression.specs.Marks.{needs_variable}
 use Rattle.sno_expression.specs.Expressions.{Expression, Identifier, Constant, Keyword, Unevaluated, Group, Call, Unary, Binary, binds_into_left, binds_into_right, FitsLeft, FitsRight, IsOperand, HasLevels}
 use Rattle.sno_expression.specs.inner.Reading.{push, Hole, Begin, After, Under, fill}
 
@@ -112,11 +111,6 @@ left_under a b c h k =
     let T : BinaryOperator → BinaryOperator → BinaryOperator → Bool = λ a b c. implies (binds_into_left a b) (implies (binds_into_right b c) (binds_into_right a c)) in
     let e = each_op (λ c. T a b c) (each_op (λ b. all0 (λ c. T a b c)) (each_op (λ a. all0 (λ b. all0 (λ c. T a b c))) refl a) b) c in
     mp (binds_into_right b c) (binds_into_right a c) (mp (binds_into_left a b) (implies (binds_into_right b c) (binds_into_right a c)) e h) k
-
--- nothing goes under an operator that needs a variable
-pub none_needed : (a b : BinaryOperator) → binds_into_right a b ≡ true → needs_variable b ≡ false
-none_needed a b h =
-    is_false (needs_variable b) (mp (binds_into_right a b) (no (needs_variable b)) (each_op (λ b. implies (binds_into_right a b) (no (needs_variable b))) (each_op (λ a. all0 (λ b. implies (binds_into_right a b) (no (needs_variable b)))) refl a) b) h)
 
 -- the operands of a tree pushed from left to right into what waits
 abbrev pub settle : Hole → Expression → Expression

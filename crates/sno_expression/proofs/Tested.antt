@@ -1,54 +1,58 @@
--- The test for variables says what it should.
-use Rattle.std.proofs.Common.{◌≡◌, refl}
-use Rattle.std.specs.Prelude.{Bool, true, false, ◌&&◌}
+-- The test for what lacks a variable says what it should.
+use Rattle.std.proofs.Common.{◌≡◌, List, [], ◌∷◌, ◌++◌, refl, ap, ◌∙◌}
+use Rattle.std.specs.Prelude.{Bool, true, false, not, ◌&&◌, ◌||◌}
+use Rattle.std.specs.List.{list_any}
+use Rattle.std.proofs.lemmas.List.Folds.{list_any-append}
+use Rattle.sno_expression.specs.declared.tree.BinaryOperator.{BinaryOperator}
+use Rattle.sno_expression.specs.declared.tree.BinaryOperator.TheVariants.{Concatenation}
 use Rattle.sno_expression.specs.Marks.{needs_variable, operand_is_variable}
-use Rattle.sno_expression.specs.Expressions.{Expression, Arguments, Group, Call, Unary, Binary, NoArguments, Omitted, Argument, Fits, HasVariables, HaveVariables}
-use Rattle.sno_expression.proofs.Levels.{and_left, and_right}
-use Rattle.sno_expression.specs.inner.Variables.{is_fit, has_variables, have_variables}
+use Rattle.sno_expression.specs.Expressions.{Expression, Arguments, Identifier, Constant, Keyword, Unevaluated, Group, Call, Unary, Binary, NoArguments, Omitted, Argument, is_variable}
+use Rattle.sno_expression.specs.Lacking.{between, comma_behind, lacking, lacking_among}
+use Rattle.sno_expression.specs.inner.Variables.{lacks, lack}
 
-pub both : (a b : Bool) → a ≡ true → b ≡ true → (a && b) ≡ true
-both true b d e = e
-both false b d e = d
+-- is a place marked
+abbrev pub marked : List Bool → Bool
+marked bs = list_any (λ b. b) bs
 
-fits : (w : Bool) (t : Expression) → is_fit w t ≡ true → Fits w t
-fits true t e = e
-fits false t e = tt
+or_false : (b : Bool) → (b || false) ≡ b
+or_false true = refl
+or_false false = refl
 
-fit : (w : Bool) (t : Expression) → Fits w t → is_fit w t ≡ true
-fit true t e = e
-fit false t e = refl
+pub marked_both : (a b : List Bool) (c d : Bool) → marked a ≡ c → marked b ≡ d → marked (a ++ b) ≡ (c || d)
+marked_both a b c d e f = list_any-append (λ x. x) a b ∙ (ap (λ x. x || marked b) e ∙ ap (λ x. c || x) f)
 
-mutual
-  pub tested : (t : Expression) → has_variables t ≡ true → HasVariables t
-  tested (Group t) e = tested t e
-  tested (Call f args) e = all_tested args e
-  tested (Unary s t) e =
-      (tested t (and_right (is_fit (operand_is_variable s) t) (has_variables t) e), fits (operand_is_variable s) t (and_left (is_fit (operand_is_variable s) t) (has_variables t) e))
-  tested (Binary o l r) e =
-      let a = is_fit (needs_variable o) r in
-      let b = has_variables l in
-      let c = has_variables r in
-      let d = and_right a (b && c) e in
-      (tested l (and_left b c d), tested r (and_right b c d), fits (needs_variable o) r (and_left a (b && c) e))
-  tested _ e = tt
+-- an unmarked place at the end
+pub marked_first : (a : List Bool) (c : Bool) → marked a ≡ c → marked (a ++ false ∷ []) ≡ c
+marked_first a c e = marked_both a (false ∷ []) c false e refl ∙ or_false c
 
-  all_tested : (args : Arguments) → have_variables args ≡ true → HaveVariables args
-  all_tested NoArguments e = tt
-  all_tested (Omitted args) e = all_tested args e
-  all_tested (Argument args t) e =
-      (all_tested args (and_left (have_variables args) (has_variables t) e), tested t (and_right (have_variables args) (has_variables t) e))
+joined : (o : BinaryOperator) (b : List Bool) (c : Bool) → marked b ≡ c → marked (between o ++ b) ≡ c
+joined Concatenation b c e = e
+joined _ b c e = e
+
+parted : (args : Arguments) (b : List Bool) (c : Bool) → marked b ≡ c → marked (comma_behind args ++ b) ≡ c
+parted NoArguments b c e = e
+parted _ b c e = e
+
+omitted : (args : Arguments) (a : List Bool) (c : Bool) → marked a ≡ c → marked (a ++ comma_behind args) ≡ c
+omitted NoArguments a c e = marked_both a [] c false e refl ∙ or_false c
+omitted _ a c e = marked_first a c e
 
 mutual
-  pub passes : (t : Expression) → HasVariables t → has_variables t ≡ true
-  passes (Group t) v = passes t v
-  passes (Call f args) v = all_pass args v
-  passes (Unary s t) v = both (is_fit (operand_is_variable s) t) (has_variables t) (fit (operand_is_variable s) t v.1) (passes t v.0)
-  passes (Binary o l r) v =
-      both (is_fit (needs_variable o) r) (has_variables l && has_variables r) (fit (needs_variable o) r v.2)
-      (both (has_variables l) (has_variables r) (passes l v.0) (passes r v.1))
-  passes _ v = refl
+  pub tested : (needed : Bool) (t : Expression) → marked (lacking needed t) ≡ lacks needed t
+  tested needed (Identifier n) = refl
+  tested needed (Constant c) = or_false needed
+  tested needed (Keyword n) = or_false needed
+  tested needed (Unevaluated n) = or_false needed
+  tested needed (Group t) = ap (λ x. needed || x) (marked_first (lacking false t) (lacks false t) (tested false t))
+  tested needed (Call f args) = ap (λ x. needed || x) (marked_first (lacking_among args) (lack args) (all_tested args))
+  tested needed (Unary s t) = ap (λ x. (needed && not (is_variable (Unary s t))) || x) (tested (operand_is_variable s) t)
+  tested needed (Binary o l r) =
+      marked_both (lacking needed l) (between o ++ lacking (needs_variable o) r) (lacks needed l) (lacks (needs_variable o) r) (tested needed l)
+      (joined o (lacking (needs_variable o) r) (lacks (needs_variable o) r) (tested (needs_variable o) r))
 
-  all_pass : (args : Arguments) → HaveVariables args → have_variables args ≡ true
-  all_pass NoArguments v = refl
-  all_pass (Omitted args) v = all_pass args v
-  all_pass (Argument args t) v = both (have_variables args) (has_variables t) (all_pass args v.0) (passes t v.1)
+  all_tested : (args : Arguments) → marked (lacking_among args) ≡ lack args
+  all_tested NoArguments = refl
+  all_tested (Omitted args) = omitted args (lacking_among args) (lack args) (all_tested args)
+  all_tested (Argument args t) =
+      marked_both (lacking_among args) (comma_behind args ++ lacking false t) (lack args) (lacks false t) (all_tested args)
+      (parted args (lacking false t) (lacks false t) (tested false t))

@@ -5,7 +5,6 @@ use Rattle.sno_expression.specs.declared.tree.BinaryOperator.{BinaryOperator}
 use Rattle.sno_expression.specs.declared.tree.BinaryOperator.TheVariants as operator
 use Rattle.sno_expression.specs.declared.tree.UnaryOperator.{UnaryOperator}
 use Rattle.sno_expression.specs.declared.tree.UnaryOperator.TheVariants as unary
-use Rattle.sno_expression.specs.Marks.{needs_variable, operand_is_variable}
 
 mutual
   pub data Expression : Type 0 where
@@ -89,24 +88,3 @@ abbrev pub is_variable : Expression → Bool
 is_variable (Identifier n) = true
 is_variable (Unary unary.Indirect t) = true
 is_variable _ = false
-
--- where a variable is needed there is one
-abbrev pub Fits : Bool → Expression → Type 0
-Fits true t = is_variable t ≡ true
-Fits false t = Unit {0}
-
-abbrev mutual
-  pub HasVariables : Expression → Type 0
-  HasVariables (Identifier n) = Unit {0}
-  HasVariables (Constant c) = Unit {0}
-  HasVariables (Keyword n) = Unit {0}
-  HasVariables (Unevaluated n) = Unit {0}
-  HasVariables (Group t) = HasVariables t
-  HasVariables (Call f args) = HaveVariables args
-  HasVariables (Unary s t) = HasVariables t × Fits (operand_is_variable s) t
-  HasVariables (Binary o l r) = HasVariables l × HasVariables r × Fits (needs_variable o) r
-
-  pub HaveVariables : Arguments → Type 0
-  HaveVariables NoArguments = Unit {0}
-  HaveVariables (Omitted args) = HaveVariables args
-  HaveVariables (Argument args t) = HaveVariables args × HasVariables t

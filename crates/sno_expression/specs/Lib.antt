@@ -1,6 +1,7 @@
 pub mod Marks
 pub mod Expressions
 pub mod Spelling
+pub mod Lacking
 pub mod Laws
 pub mod Told
 pub mod inner

@@ -1,8 +1,8 @@
-//! Whether a tree has a variable in each place that needs one.
+//! Whether a tree lacks a variable.
 
 ghost use Rattle.std.specs.Prelude.{◌≡◌};
 ghost use Rattle.sno_expression.specs.Expressions.{is_variable};
-ghost use Rattle.sno_expression.specs.inner.Variables.{is_fit, has_variables, have_variables};
+ghost use Rattle.sno_expression.specs.inner.Variables.{lacks, lack};
 ghost use Rattle.sno_expression.specs.Told.{expression_of, arguments_of};
 
 use crate::tree::{Arguments, Expression, UnaryOperator, needs_variable, operand_is_variable};
@@ -16,42 +16,32 @@ fn is_variable(tree: &Expression) -> bool
     )
 }
 
-fn is_fit(needed: bool, tree: &Expression) -> bool
-    ensures { result ≡ is_fit needed (expression_of tree.now) }
-{
-    if needed { is_variable(tree) } else { true }
-}
-
-/// Whether the tree has a variable in each place that needs one.
+/// Whether a tree, which should be a variable itself or not, lacks one somewhere.
 #[cycle(variables)]
-pub fn has_variables(tree: &Expression) -> bool
-    ensures { result ≡ has_variables (expression_of tree.now) }
+pub fn lacks(needed: bool, tree: &Expression) -> bool
+    ensures { result ≡ lacks needed (expression_of tree.now) }
 {
     match tree {
-        Expression::Identifier(_)
-        | Expression::Constant(_)
-        | Expression::Keyword(_)
-        | Expression::Unevaluated(_) => true,
-        Expression::Group(inner) => has_variables(inner),
-        Expression::Call(_, arguments) => have_variables(arguments),
+        Expression::Identifier(_) => false,
+        Expression::Constant(_) | Expression::Keyword(_) | Expression::Unevaluated(_) => needed,
+        Expression::Group(inner) => needed || lacks(false, inner),
+        Expression::Call(_, arguments) => needed || lack(arguments),
         Expression::Unary(operator, operand) => {
-            is_fit(operand_is_variable(*operator), operand) && has_variables(operand)
+            (needed && !is_variable(tree)) || lacks(operand_is_variable(*operator), operand)
         }
         Expression::Binary(operator, left, right) => {
-            is_fit(needs_variable(*operator), right) && has_variables(left) && has_variables(right)
+            lacks(needed, left) || lacks(needs_variable(*operator), right)
         }
     }
 }
 
 #[cycle(variables)]
-fn have_variables(arguments: &Arguments) -> bool
-    ensures { result ≡ have_variables (arguments_of arguments.now) }
+fn lack(arguments: &Arguments) -> bool
+    ensures { result ≡ lack (arguments_of arguments.now) }
 {
     match arguments {
-        Arguments::NoArguments => true,
-        Arguments::Omitted(before) => have_variables(before),
-        Arguments::Argument(before, argument) => {
-            have_variables(before) && has_variables(argument)
-        }
+        Arguments::NoArguments => false,
+        Arguments::Omitted(before) => lack(before),
+        Arguments::Argument(before, argument) => lack(before) || lacks(false, argument),
     }
 }

@@ -1,6 +1,6 @@
 //! Laws of expressions: each function's contract is one, and its body is empty.
 ghost use Rattle.sno_expression.specs.Laws.{OneExpression};
-ghost use Rattle.sno_expression.specs.inner.Laws.{ReadsExactly, WalksExactly, CountsExactly};
+ghost use Rattle.sno_expression.specs.inner.Laws.{ReadsExactly, WalksExactly};
 
 /// Tokens spell at most one tree.
 pub fn one_expression()
@@ -15,9 +15,4 @@ pub fn reads_exactly()
 /// The walk takes the tokens to the end exactly where a tree spells them.
 pub fn walks_exactly()
     ensures { WalksExactly }
-{}
-
-/// The walk finds no misfit exactly where the tree has a variable in each place that needs one.
-pub fn counts_exactly()
-    ensures { CountsExactly }
 {}

@@ -9,7 +9,7 @@ mod spine;
 mod tree;
 mod walking;
 
-pub use fitting::has_variables;
+pub use fitting::lacks;
 pub use reading::{Found, read_expression};
 pub use tree::{Arguments, BinaryOperator, Expression, IdentifierPrefix, Prefix, UnaryOperator};
 pub use walking::{Move, Paren, Position, ends, is_misfit, misfit_index, opens_call, step};

@@ -14,7 +14,7 @@ use Rattle.sno_statement.specs.inner.Faults.{FaultAt, is_taken, refused_as, then
 use Rattle.sno_statement.specs.Lacking.{lacking_in}
 use Rattle.sno_statement.specs.Faults.{IsSpelled, IsFit, Begins, EndsBefore, GoesOnSpaced, Stops, Lacks, Blames, IsFault}
 use Rattle.sno_statement.specs.Laws.{FaultIsLeftmost}
-use Rattle.sno_statement.proofs.Grammar.{taken, notes_exactly, not_noted, not_refused, no_variable_noted}
+use Rattle.sno_statement.proofs.Grammar.{taken, notes_exactly, not_noted, not_refused}
 use Rattle.sno_statement.proofs.Prefixes.{then_walk, along, taken_on, goes_no_further, completion, completes, quiet_completion, quiet_first}
 use Rattle.sno_statement.proofs.Marked.{marked, none, marked_least, unmarked}
 use Rattle.sno_statement.proofs.Placing.{places_noted}
@@ -355,13 +355,13 @@ is_found ts f b =
     let w = begins_walk b.0 b.3 in
     ap fault b.2 ∙ (fault_split b.0 b.1 w.0 w.1 (stopped b.0 b.1 w.0 w.1 b.4) ∙ decided b.0 b.1 w.0 f.kind f.at (noted b.0) w.1 refl b.5)
 
-none_fit : (ts : List Token) → fault ts ≡ None → IsFit ts
+pub none_fit : (ts : List Token) → fault ts ≡ None → IsFit ts
 none_fit ts e =
     let q = (taken ts).0 (not_refused (noted ts) (refusal ts) e) in
     (q.0, q.1, (notes_exactly ts q.0 q.1 q.2).0 (not_noted (noted ts) (refusal ts) e), q.2)
 
 pub fit_none : (ts : List Token) → IsFit ts → fault ts ≡ None
-fit_none ts s = ap (λ (o : Option ℕ). earlier o (refusal ts)) (no_variable_noted ts s.0 s.1 s.3 s.2) ∙ (taken ts).1 s.0 s.1 s.3
+fit_none ts s = ap (λ (o : Option ℕ). earlier o (refusal ts)) ((notes_exactly ts s.0 s.1 s.3).1 s.2) ∙ (taken ts).1 s.0 s.1 s.3
 
 pub fault_is_leftmost : FaultIsLeftmost
 fault_is_leftmost ts = (λ f. (found ts f, is_found ts f), (none_fit ts, fit_none ts))

@@ -2,7 +2,6 @@ mod Examples
 pub mod Roles
 pub mod Completing
 pub mod Sound
-pub mod Counts
 pub mod Tested
 pub mod Strides
 pub mod Passing

@@ -1,6 +1,7 @@
 -- The least of the places that are marked, seen token by token.
 use Rattle.std.proofs.Common.{arith, ◌≡◌, ℕ, zero, suc, ◌+◌, ◌≤◌, List, [], ◌∷◌, ◌++◌, refl, sym, ap, ◌∙◌}
 use Rattle.std.specs.Prelude.{Bool, true, false, nat_le, get_or, Option, Some, None, if◌then◌else◌}
+use Rattle.std.specs.List.{list_any}
 use Rattle.std.proofs.lemmas.Bool.{le-leb, lt-leb, leb-false}
 use Rattle.sno_statement.specs.inner.Faults.{note, least}
 
@@ -19,6 +20,10 @@ marked_append (x ∷ a) b on i = ap (least (note x i)) (marked_append a b on (i 
 pub marked_same : (a : List Bool) (on to : ℕ → Option ℕ) (i : ℕ) → ((j : ℕ) → on j ≡ to j) → marked a on i ≡ marked a to i
 marked_same [] on to i h = h i
 marked_same (x ∷ a) on to i h = ap (least (note x i)) (marked_same a on to (i + 1) h)
+
+pub least_none : (a b : Option ℕ) → a ≡ None → b ≡ None → least a b ≡ None
+least_none None b d e = e
+least_none (Some i) b d e = cc
 
 pub least_nothing : (o : Option ℕ) → least o None ≡ o
 least_nothing None = refl
@@ -62,6 +67,17 @@ unmarked (true ∷ bs) i e m g = at (marked bs none (i + 1)) e
         by false d = cc
 unmarked (false ∷ bs) i e zero g = cc
 unmarked (false ∷ bs) i e (suc m) g = unmarked bs (i + 1) e m g
+
+-- nothing is marked
+pub none_marked : (bs : List Bool) (i : ℕ) → marked bs none i ≡ None → list_any (λ b. b) bs ≡ false
+none_marked [] i e = refl
+none_marked (false ∷ bs) i e = none_marked bs (i + 1) e
+none_marked (true ∷ bs) i e = absurd (unmarked (true ∷ bs) i e zero refl)
+
+pub marked_none : (bs : List Bool) (i : ℕ) → list_any (λ b. b) bs ≡ false → marked bs none i ≡ None
+marked_none [] i e = refl
+marked_none (false ∷ bs) i e = marked_none bs (i + 1) e
+marked_none (true ∷ bs) i e = cc
 
 at_head : (bs : List Bool) (i p : ℕ) → p ≡ i → Least (true ∷ bs) i p
 at_head bs i p e = record { n = 0; place = omega (arith, e); there = refl; least = λ m g. omega arith }

@@ -16,7 +16,8 @@ use Rattle.sno_statement.specs.inner.Walking.{Walk, At, take, begins, stands}
 use Rattle.sno_statement.specs.declared.walking.SubjectKind.{SubjectKind}
 use Rattle.sno_statement.specs.inner.Faults.{FaultAt, refused_as, then_on, refusal_from, is_unset, note, least, noted_here, then_note, noted_from}
 use Rattle.sno_statement.specs.Faults.{Begins}
-use Rattle.sno_statement.proofs.Grammar.{taken, least_none}
+use Rattle.sno_statement.proofs.Grammar.{taken}
+use Rattle.sno_statement.proofs.Marked.{least_none}
 use Rattle.sno_statement.proofs.Strides.{stands_unset}
 
 -- the walk behind the tokens, unless it refuses one of them

@@ -1,4 +1,4 @@
--- A walk over a statement goes through each part as far as the part is read, and sees what the parts have.
+-- A walk over a statement goes through each part as far as the part is read.
 use Rattle.std.proofs.Common.{arith, ◌≡◌, ℕ, ◌+◌, List, [], ◌∷◌, refl, sym, ap, ◌∙◌}
 use Rattle.std.specs.Prelude.{Bool, true, false, Option, Some, None, ◌&&◌, if◌then◌else◌}
 use Rattle.sno_token.specs.declared.Token.{Token}
@@ -12,7 +12,6 @@ use Rattle.sno_expression.specs.declared.walking.Position.TheVariants.{AtStart, 
 use Rattle.sno_expression.specs.declared.walking.Move.{Move}
 use Rattle.sno_expression.specs.declared.walking.Move.TheVariants as move
 use Rattle.sno_expression.specs.Expressions.{Expression}
-use Rattle.sno_expression.specs.inner.Counting.{bit, bad}
 use Rattle.sno_expression.specs.inner.Walking.{is_misfit, opens_call, ends, inner_of, outer_of}
 use Rattle.sno_expression.specs.inner.Walks.{moved}
 use Rattle.sno_expression.specs.inner.Walking as walking
@@ -24,37 +23,30 @@ use Rattle.sno_statement.specs.declared.walking.Field.TheVariants.{Subject, Patt
 use Rattle.sno_statement.specs.declared.walking.Stage.TheVariants.{In}
 use Rattle.sno_statement.specs.declared.walking.Advance.{Advance}
 use Rattle.sno_statement.specs.declared.walking.SubjectKind.{SubjectKind}
-use Rattle.sno_statement.specs.inner.Walking.{Walk, At, stands, role_by, role, alone, within, continued, enter, leave, in_field, advanced, may_close}
+use Rattle.sno_statement.specs.inner.Walking.{Walk, At, stands, role_by, role, alone, within, continued, enter, leave, in_field, advanced, take, may_end, may_close}
 use Rattle.sno_statement.specs.inner.Faults.{is_unset}
 use Rattle.sno_expression.proofs.Steps.{walk_of, read_walks, is_some, end_walks}
-use Rattle.sno_expression.proofs.Variables.{bad_state, read_counts, end_counts}
-use Rattle.sno_statement.proofs.Counts.{plus, on_walk, walked, plus_zero, plus_plus}
+
+-- does a walk take the tokens to the end, and may the statement end behind them
+abbrev pub on_walk : Option Walk → (Walk → Bool) → Bool
+on_walk None on = false
+on_walk (Some w) on = on w
+
+abbrev pub walked : Walk → List Token → Bool
+walked w [] = may_end w
+walked w (t ∷ ts) = on_walk (take w t) (λ v. walked v ts)
 
 -- behind a part
-abbrev pub left : SubjectKind → Field → List Token → Option ℕ
-left k f [] = if may_close f then Some 0 else None
-left k f (t ∷ ts) = on_walk (advanced [] (leave f t)) (λ v. plus (bit (is_unset k f (role t))) (walked k v ts))
+abbrev pub left : Field → List Token → Bool
+left f [] = may_close f
+left f (t ∷ ts) = on_walk (advanced [] (leave f t)) (λ v. walked v ts)
 
-abbrev pub after_field : SubjectKind → Field → Reading → Option ℕ
-after_field k f (Read None rest) = None
-after_field k f (Read (Some u) rest) = plus (bad u) (left k f rest)
+abbrev pub after_field : Field → Reading → Bool
+after_field f (Read None rest) = false
+after_field f (Read (Some u) rest) = left f rest
 
 abbrev walk_in : Field → walks.Walk → Walk
 walk_in f (walks.At ps p) = At ps (In f p)
-
--- a token that a complete part does not take is no misfit
-no_misfit : (alone : Bool) (p : Position) (b a : Bool) (t : TokenKind) → ends None p ≡ true → walking.step alone None p b a t ≡ None → is_misfit p b t ≡ false
-no_misfit alone AtStart b a t e d = cc
-no_misfit alone (AfterBinary w) b a t e d = cc
-no_misfit alone (AfterUnary w) b a t e d = cc
-no_misfit alone AfterPrefix b a t e d = cc
-no_misfit alone (AfterIdentifier false) b a t e d = refl
-no_misfit alone (AfterIdentifier true) b a t e d = at (opens_call b t) d
-  where
-    at : (c : Bool) → (if c then Some (move.Into OfCall AtStart) else walking.after_operand alone None b a t) ≡ None → c ≡ false
-    at true d = cc
-    at false d = refl
-no_misfit alone AfterOperand b a t e d = refl
 
 if_none : (c : Bool) (x y : Option Move) → x ≡ None → y ≡ None → (if c then x else y) ≡ None
 if_none true x y e d = e
@@ -98,60 +90,40 @@ some_moved ps (move.Into q p) e = cc
 some_moved ps (move.Within p) e = cc
 some_moved ps (move.Out p) e = cc
 
-at_end : (k : SubjectKind) (f : Field) (n : ℕ) (r : Option Expression) (b : Bool) → is_some r ≡ b → ((u : Expression) → r ≡ Some u → bad u ≡ n)
-    → plus n (if b && may_close f then Some 0 else None) ≡ after_field k f (Read r [])
-at_end k f n None true e h = cc
-at_end k f n None false e h = refl
-at_end k f n (Some u) true e h = ap (λ (x : ℕ). plus x (if may_close f then Some 0 else None)) (sym (h u refl))
-at_end k f n (Some u) false e h = cc
+at_end : (f : Field) (r : Option Expression) (b : Bool) → is_some r ≡ b → (b && may_close f) ≡ after_field f (Read r [])
+at_end f None true e = cc
+at_end f None false e = refl
+at_end f (Some u) true e = refl
+at_end f (Some u) false e = cc
 
-leaving : (k : SubjectKind) (f : Field) (t : Token) (ts : List Token) (ps : List Paren) (p : Position) (n : ℕ) (r : Option Expression) (b : Bool)
-    → ends (inner_of ps) p ≡ b → is_some r ≡ b → walking.step (alone f) (inner_of ps) p t.blank_before t.blank_after t.kind ≡ None → ((u : Expression) → r ≡ Some u → bad u ≡ n)
-    → plus n (on_walk (advanced ps (if b then leave f t else None)) (λ v. plus (bit (is_misfit p t.blank_before t.kind) + bit (is_unset k f (role t))) (walked k v ts)))
-    ≡ after_field k f (Read r (t ∷ ts))
-leaving k f t ts ps p n None true e d m h = cc
-leaving k f t ts ps p n None false e d m h = refl
-leaving k f t ts ps p n (Some u) false e d m h = cc
-leaving k f t ts (q ∷ ps) p n (Some u) true e d m h = cc
-leaving k f t ts [] p n (Some u) true e d m h =
-    let i : bit (is_misfit p t.blank_before t.kind) ≡ 0 = ap bit (no_misfit (alone f) p t.blank_before t.blank_after t.kind e m) in
-    let c : bit (is_misfit p t.blank_before t.kind) + bit (is_unset k f (role t)) ≡ bit (is_unset k f (role t)) = omega (arith, i) in
-    ap (λ (x : ℕ). plus n (on_walk (advanced [] (leave f t)) (λ v. plus x (walked k v ts)))) c
-    ∙ ap (λ (x : ℕ). plus x (left k f (t ∷ ts))) (sym (h u refl))
+leaving : (f : Field) (t : Token) (ts : List Token) (ps : List Paren) (p : Position) (r : Option Expression) (b : Bool) → ends (inner_of ps) p ≡ b → is_some r ≡ b
+    → on_walk (advanced ps (if b then leave f t else None)) (λ v. walked v ts) ≡ after_field f (Read r (t ∷ ts))
+leaving f t ts ps p None true e d = cc
+leaving f t ts ps p None false e d = refl
+leaving f t ts ps p (Some u) false e d = cc
+leaving f t ts (q ∷ ps) p (Some u) true e d = cc
+leaving f t ts [] p (Some u) true e d = refl
 
-pub field_walks : (k : SubjectKind) (f : Field) (ts : List Token) (s : State) → plus (bad_state s) (walked k (walk_in f (walk s)) ts) ≡ after_field k f (answer (alone f) s ts)
-field_walks k f [] (reading.At st spot) =
-    at_end k f (bad_state (reading.At st spot)) (result (reading.At st spot)) (ends (inner_of (parens st)) (position spot)) (end_walks (reading.At st spot)) (end_counts (reading.At st spot))
-field_walks k f (t ∷ ts) (reading.At st spot) =
-    at (read (alone f) (reading.At st spot) t) refl (walking.step (alone f) (inner_of (parens st)) (position spot) t.blank_before t.blank_after t.kind) refl (read_walks (alone f) (reading.At st spot) t) (λ v. field_walks k f ts v)
+pub field_walks : (f : Field) (ts : List Token) (s : State) → walked (walk_in f (walk s)) ts ≡ after_field f (answer (alone f) s ts)
+field_walks f [] (reading.At st spot) =
+    at_end f (result (reading.At st spot)) (ends (inner_of (parens st)) (position spot)) (end_walks (reading.At st spot))
+field_walks f (t ∷ ts) (reading.At st spot) =
+    at (read (alone f) (reading.At st spot) t) (walking.step (alone f) (inner_of (parens st)) (position spot) t.blank_before t.blank_after t.kind) (read_walks (alone f) (reading.At st spot) t) (λ v. field_walks f ts v)
   where
-    at : (o : Option State) → read (alone f) (reading.At st spot) t ≡ o → (m : Option Move) → walking.step (alone f) (inner_of (parens st)) (position spot) t.blank_before t.blank_after t.kind ≡ m → walk_of o ≡ moved (parens st) m
-        → ((v : State) → plus (bad_state v) (walked k (walk_in f (walk v)) ts) ≡ after_field k f (answer (alone f) v ts))
-        → plus (bad_state (reading.At st spot)) (on_walk (advanced (parens st) (in_field f (ends (inner_of (parens st)) (position spot)) t m)) (λ v. plus (bit (is_misfit (position spot) t.blank_before t.kind) + bit (is_unset k f (role t))) (walked k v ts)))
-        ≡ after_field k f (and_then o (Read (result (reading.At st spot)) (t ∷ ts)) (λ v. answer (alone f) v ts))
-    at None e None m d on = leaving k f t ts (parens st) (position spot) (bad_state (reading.At st spot)) (result (reading.At st spot)) (ends (inner_of (parens st)) (position spot)) refl (end_walks (reading.At st spot)) m (end_counts (reading.At st spot))
-    at None e (Some x) m d on = absurd (some_moved (parens st) x (sym d))
-    at (Some v) e None m d on = cc
-    at (Some v) e (Some x) m d on =
-        let g = stride f (parens st) x (walk v) (sym d) in
-        let u : bit (is_unset k f (role t)) ≡ 0 = ap bit (taken_sets k f (alone f) (inner_of (parens st)) (position spot) t.blank_before t.blank_after t.kind x m) in
-        let c : bad_state v ≡ bad_state (reading.At st spot) + bit (is_misfit (position spot) t.blank_before t.kind) = read_counts (alone f) (reading.At st spot) v t e in
-        let n : bad_state (reading.At st spot) + (bit (is_misfit (position spot) t.blank_before t.kind) + bit (is_unset k f (role t))) ≡ bad_state v = omega (arith, u, c) in
-        ap (λ (y : Option Walk). plus (bad_state (reading.At st spot)) (on_walk y (λ v. plus (bit (is_misfit (position spot) t.blank_before t.kind) + bit (is_unset k f (role t))) (walked k v ts)))) g
-        ∙ (plus_plus (bad_state (reading.At st spot)) (bit (is_misfit (position spot) t.blank_before t.kind) + bit (is_unset k f (role t))) (bad_state v) (walked k (walk_in f (walk v)) ts) n
-        ∙ on v)
+    at : (o : Option State) (m : Option Move) → walk_of o ≡ moved (parens st) m → ((v : State) → walked (walk_in f (walk v)) ts ≡ after_field f (answer (alone f) v ts))
+        → on_walk (advanced (parens st) (in_field f (ends (inner_of (parens st)) (position spot)) t m)) (λ v. walked v ts)
+        ≡ after_field f (and_then o (Read (result (reading.At st spot)) (t ∷ ts)) (λ v. answer (alone f) v ts))
+    at None None d on = leaving f t ts (parens st) (position spot) (result (reading.At st spot)) (ends (inner_of (parens st)) (position spot)) refl (end_walks (reading.At st spot))
+    at None (Some x) d on = absurd (some_moved (parens st) x (sym d))
+    at (Some v) None d on = cc
+    at (Some v) (Some x) d on = ap (λ (y : Option Walk). on_walk y (λ v. walked v ts)) (stride f (parens st) x (walk v) (sym d)) ∙ on v
 
 entering : (f : Field) (t : Token) (x : Option Move) → continued f x ≡ in_field f false t x
 entering f t None = refl
 entering f t (Some m) = refl
 
 -- a part that is entered goes as far as it is read
-pub enter_walks : (k : SubjectKind) (f : Field) (t : Token) (ts : List Token) → is_unset k f (role t) ≡ false
-    → on_walk (advanced [] (enter f t)) (λ v. plus 0 (walked k v ts)) ≡ after_field k f (reading (alone f) (t ∷ ts))
-enter_walks k f t ts e =
-    let u = ap bit e in
-    let c : 0 ≡ 0 + bit (is_unset k f (role t)) = omega (arith, u) in
-    ap (λ (x : Option Advance). on_walk (advanced [] x) (λ v. plus 0 (walked k v ts))) (entering f t (walking.step (alone f) None AtStart t.blank_before t.blank_after t.kind))
-    ∙ (ap (λ (n : ℕ). on_walk (advanced [] (in_field f false t (walking.step (alone f) None AtStart t.blank_before t.blank_after t.kind))) (λ v. plus n (walked k v ts))) c
-    ∙ (sym (plus_zero (walked k (At [] (In f AtStart)) (t ∷ ts)))
-    ∙ field_walks k f (t ∷ ts) start))
+pub enter_walks : (f : Field) (t : Token) (ts : List Token) → on_walk (advanced [] (enter f t)) (λ v. walked v ts) ≡ after_field f (reading (alone f) (t ∷ ts))
+enter_walks f t ts =
+    ap (λ (x : Option Advance). on_walk (advanced [] x) (λ v. walked v ts)) (entering f t (walking.step (alone f) None AtStart t.blank_before t.blank_after t.kind))
+    ∙ field_walks f (t ∷ ts) start

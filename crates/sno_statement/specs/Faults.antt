@@ -5,9 +5,9 @@ use Rattle.sno_expression.specs.Spelling.{spaced}
 use Rattle.sno_statement.specs.declared.fault.FaultKind.{FaultKind}
 use Rattle.sno_statement.specs.declared.fault.FaultKind.TheVariants.{MissingBlank, Unfit, NoVariable}
 use Rattle.sno_statement.specs.declared.fault.Fault.{Fault}
-use Rattle.sno_statement.specs.Statements.{Statement, StatementHasLevels, StatementHasVariables}
+use Rattle.sno_statement.specs.Statements.{Statement, StatementHasLevels}
 use Rattle.sno_statement.specs.Spelling.{Spells}
-use Rattle.sno_statement.specs.Lacking.{lacking_in}
+use Rattle.sno_statement.specs.Lacking.{lacking_in, StatementHasVariables}
 
 -- the tokens spell a statement, whether or not a variable stands in each place that needs one
 abbrev pub IsSpelled : List Token → Type 0
@@ -15,7 +15,7 @@ IsSpelled ts = (s : Statement) × StatementHasLevels s × Spells s ts
 
 -- the tokens spell a statement with a variable in each place that needs one
 abbrev pub IsFit : List Token → Type 0
-IsFit ts = (s : Statement) × StatementHasLevels s × StatementHasVariables s × Spells s ts
+IsFit ts = (s : Statement) × StatementHasLevels s × StatementHasVariables ts s × Spells s ts
 
 -- the tokens begin a statement: with further ones, or none, they spell one
 abbrev pub Begins : List Token → Type 0

@@ -1,45 +1,17 @@
 -- Where a statement lacks a variable: for each of its tokens, whether an element begins there that should be a variable and
 -- is none (own).
-use Rattle.std.specs.Prelude.{Bool, false, not, ◌&&◌, ◌++◌, List, [], ◌∷◌, Option, Some, None}
+use Rattle.std.specs.Prelude.{◌≡◌, Bool, false, not, ◌++◌, List, [], ◌∷◌, Option, Some, None}
+use Rattle.std.specs.List.{list_any}
 use Rattle.sno_token.specs.declared.Outcome.{Outcome}
 use Rattle.sno_token.specs.declared.Outcome.TheVariants.{Success, Failure}
 use Rattle.sno_token.specs.declared.Part.TheVariants.{On}
 use Rattle.sno_token.specs.declared.Token.{Token}
 use Rattle.sno_token.specs.declared.TokenKind.{TokenKind}
 use Rattle.sno_token.specs.declared.TokenKind.TheVariants as token
-use Rattle.sno_expression.specs.declared.tree.BinaryOperator.{BinaryOperator}
-use Rattle.sno_expression.specs.declared.tree.BinaryOperator.TheVariants.{Concatenation}
 use Rattle.sno_expression.specs.declared.tree.UnaryOperator.TheVariants.{Indirect}
-use Rattle.sno_expression.specs.Marks.{needs_variable, operand_is_variable}
-use Rattle.sno_expression.specs.Expressions.{Expression, Arguments, Identifier, Constant, Keyword, Unevaluated, Group, Call, Unary, Binary, NoArguments, Omitted, Argument, is_variable}
+use Rattle.sno_expression.specs.Expressions.{Expression, Unary}
+use Rattle.sno_expression.specs.Lacking.{lacking}
 use Rattle.sno_statement.specs.Statements.{Target, To, Computed, Goto, NoGoto, Always, OnSuccess, OnFailure, OnBoth, Object, NoObject, NullObject, ValueObject, Body, NoBody, Does, Statement, Says, kind_of, can_be_set, is_pattern}
-
--- between two operands stands a mark, and none where they are concatenated
-abbrev pub between : BinaryOperator → List Bool
-between Concatenation = []
-between _ = false ∷ []
-
--- behind the arguments so far stands a comma, and none where there are none
-abbrev pub comma_behind : Arguments → List Bool
-comma_behind NoArguments = []
-comma_behind _ = false ∷ []
-
--- for each token of a tree, does an element begin there that should be a variable and is none; needed: should the tree be one
-abbrev mutual
-  pub lacking : Bool → Expression → List Bool
-  lacking needed (Identifier n) = false ∷ []
-  lacking needed (Constant c) = needed ∷ []
-  lacking needed (Keyword n) = needed ∷ false ∷ []
-  lacking needed (Unevaluated n) = needed ∷ false ∷ []
-  lacking needed (Group t) = needed ∷ (lacking false t ++ false ∷ [])
-  lacking needed (Call f args) = needed ∷ false ∷ (lacking_among args ++ false ∷ [])
-  lacking needed (Unary s t) = (needed && not (is_variable (Unary s t))) ∷ lacking (operand_is_variable s) t
-  lacking needed (Binary o l r) = lacking needed l ++ (between o ++ lacking (needs_variable o) r)
-
-  pub lacking_among : Arguments → List Bool
-  lacking_among NoArguments = []
-  lacking_among (Omitted args) = lacking_among args ++ comma_behind args
-  lacking_among (Argument args t) = lacking_among args ++ (comma_behind args ++ lacking false t)
 
 -- should the subject be a variable and is none: an object is given, and the subject may not be assigned to
 abbrev pub is_wrong : Expression → Option Expression → Object → Bool
@@ -86,3 +58,7 @@ named_first (t ∷ ts) = named_by t.kind (named_first ts)
 -- for each token of a statement that the tokens spell
 abbrev pub lacking_in : List Token → Statement → List Bool
 lacking_in ts (Says b g) = lacking_body b ++ lacking_goto (named_first ts) g
+
+-- a variable stands in each place that needs one, in a statement that the tokens spell
+abbrev pub StatementHasVariables : List Token → Statement → Type 0
+StatementHasVariables ts s = list_any (λ lacks. lacks) (lacking_in ts s) ≡ false

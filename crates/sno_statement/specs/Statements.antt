@@ -2,7 +2,7 @@
 -- Polonsky, 2nd ed., chapter 1).
 use Rattle.std.specs.Prelude.{◌≡◌, ℕ, Bool, true, false, List, Option, Some, None, if◌then◌else◌}
 use Rattle.sno_expression.specs.declared.tree.UnaryOperator.TheVariants.{Indirect}
-use Rattle.sno_expression.specs.Expressions.{Expression, Identifier, Keyword, Unary, HasLevels, IsOperand, HasVariables}
+use Rattle.sno_expression.specs.Expressions.{Expression, Identifier, Keyword, Unary, HasLevels, IsOperand}
 use Rattle.sno_statement.specs.declared.walking.SubjectKind.{SubjectKind}
 use Rattle.sno_statement.specs.declared.walking.SubjectKind.TheVariants as kind
 
@@ -74,35 +74,3 @@ can_be_set kind.Other p = false
 abbrev pub is_pattern : Option Expression → Bool
 is_pattern None = false
 is_pattern (Some p) = true
-
-abbrev pub CanBeSet : SubjectKind → Bool → Object → Type 0
-CanBeSet k p NoObject = Unit {0}
-CanBeSet k p _ = can_be_set k p ≡ true
-
-abbrev pub TargetHasVariables : Target → Type 0
-TargetHasVariables (To l) = Unit {0}
-TargetHasVariables (Computed t) = HasVariables (Unary Indirect t)
-
-abbrev pub GotoHasVariables : Goto → Type 0
-GotoHasVariables NoGoto = Unit {0}
-GotoHasVariables (Always t) = TargetHasVariables t
-GotoHasVariables (OnSuccess t) = TargetHasVariables t
-GotoHasVariables (OnFailure t) = TargetHasVariables t
-GotoHasVariables (OnBoth s f) = TargetHasVariables s × TargetHasVariables f
-
-abbrev pub PatternHasVariables : Option Expression → Type 0
-PatternHasVariables None = Unit {0}
-PatternHasVariables (Some p) = HasVariables p
-
-abbrev pub ObjectHasVariables : Object → Type 0
-ObjectHasVariables NoObject = Unit {0}
-ObjectHasVariables NullObject = Unit {0}
-ObjectHasVariables (ValueObject t) = HasVariables t
-
--- where `=` stands the subject is a variable or, without pattern, a keyword
-abbrev pub BodyHasVariables : Body → Type 0
-BodyHasVariables NoBody = Unit {0}
-BodyHasVariables (Does s p o) = HasVariables s × PatternHasVariables p × ObjectHasVariables o × CanBeSet (kind_of s) (is_pattern p) o
-
-abbrev pub StatementHasVariables : Statement → Type 0
-StatementHasVariables (Says b g) = BodyHasVariables b × GotoHasVariables g

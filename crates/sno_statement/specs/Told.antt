@@ -11,8 +11,9 @@ use Rattle.sno_statement.specs.declared.statement.Object.{Object as AnObject}
 use Rattle.sno_statement.specs.declared.statement.Object.TheVariants as object
 use Rattle.sno_statement.specs.declared.statement.Body.{Body as ABody}
 use Rattle.sno_statement.specs.declared.statement.Statement.{Statement as AStatement}
-use Rattle.sno_statement.specs.Statements.{Target, To, Computed, Goto, NoGoto, Always, OnSuccess, OnFailure, OnBoth, Object, NoObject, NullObject, ValueObject, Body, NoBody, Does, Statement, Says, StatementHasLevels, StatementHasVariables}
+use Rattle.sno_statement.specs.Statements.{Target, To, Computed, Goto, NoGoto, Always, OnSuccess, OnFailure, OnBoth, Object, NoObject, NullObject, ValueObject, Body, NoBody, Does, Statement, Says, StatementHasLevels}
 use Rattle.sno_statement.specs.Spelling.{Spells}
+use Rattle.sno_statement.specs.Lacking.{StatementHasVariables}
 use Rattle.sno_statement.specs.Faults.{IsFault}
 
 abbrev pub target_of : ATarget → Target
@@ -42,6 +43,6 @@ statement_of s = Says (body_of s.body) (goto_of s.goto)
 -- they spell; or their leftmost fault
 abbrev pub Parsed : List Token → Result AStatement Fault → Type 0
 Parsed ts (Ok s) =
-    StatementHasLevels (statement_of s) × StatementHasVariables (statement_of s) × Spells (statement_of s) ts
+    StatementHasLevels (statement_of s) × StatementHasVariables ts (statement_of s) × Spells (statement_of s) ts
     × ((t : Statement) → StatementHasLevels t → Spells t ts → t ≡ statement_of s)
 Parsed ts (Err f) = IsFault ts f

@@ -1,53 +1,54 @@
-//! Whether a statement has a variable in each place that needs one.
+//! Whether a statement lacks a variable.
 
 ghost use Rattle.std.specs.Prelude.{◌≡◌};
 ghost use Rattle.sno_expression.specs.Told.{expression_of, expressions_of};
 ghost use Rattle.sno_statement.specs.Statements.{kind_of, is_pattern};
+ghost use Rattle.sno_statement.specs.Lacking.{is_wrong};
 ghost use Rattle.sno_statement.specs.Told.{target_of, goto_of, object_of, body_of, statement_of};
 ghost use Rattle.sno_statement.specs.inner.Told.{statements_of};
-ghost use Rattle.sno_statement.specs.inner.Variables.{is_fit_target, is_fit_goto, is_fit_pattern, is_fit_object, may_be_set, is_fit_body, is_fit, fitting};
+ghost use Rattle.sno_statement.specs.inner.Variables.{target_lacks, goto_lacks, pattern_lacks, object_lacks, body_lacks, statement_lacks, fitting};
 
 use crate::finding::can_be_set;
 use crate::statement::{Body, Goto, Object, Statement, Target};
 use crate::walking::SubjectKind;
-use sno_expression::{Expression, UnaryOperator, has_variables};
+use sno_expression::{Expression, UnaryOperator, lacks};
 
-fn is_fit_target(target: &Target) -> bool
-    ensures { result ≡ is_fit_target (target_of target.now) }
+fn target_lacks(target: &Target) -> bool
+    ensures { result ≡ target_lacks (target_of target.now) }
 {
     match target {
-        Target::Label(_) => true,
-        Target::Computed(element) => has_variables(element),
+        Target::Label(_) => false,
+        Target::Computed(element) => lacks(false, element),
     }
 }
 
-fn is_fit_goto(goto: &Goto) -> bool
-    ensures { result ≡ is_fit_goto (goto_of goto.now) }
+fn goto_lacks(goto: &Goto) -> bool
+    ensures { result ≡ goto_lacks (goto_of goto.now) }
 {
     match goto {
-        Goto::Next => true,
+        Goto::Next => false,
         Goto::Always(target) | Goto::OnSuccess(target) | Goto::OnFailure(target) => {
-            is_fit_target(target)
+            target_lacks(target)
         }
-        Goto::OnBoth(success, failure) => is_fit_target(success) && is_fit_target(failure),
+        Goto::OnBoth(success, failure) => target_lacks(success) || target_lacks(failure),
     }
 }
 
-fn is_fit_pattern(pattern: &Option<Expression>) -> bool
-    ensures { result ≡ is_fit_pattern (expressions_of pattern.now) }
+fn pattern_lacks(pattern: &Option<Expression>) -> bool
+    ensures { result ≡ pattern_lacks (expressions_of pattern.now) }
 {
     match pattern {
-        None => true,
-        Some(pattern) => has_variables(pattern),
+        None => false,
+        Some(pattern) => lacks(false, pattern),
     }
 }
 
-fn is_fit_object(object: &Object) -> bool
-    ensures { result ≡ is_fit_object (object_of object.now) }
+fn object_lacks(object: &Object) -> bool
+    ensures { result ≡ object_lacks (object_of object.now) }
 {
     match object {
-        Object::Nothing | Object::Null => true,
-        Object::Value(value) => has_variables(value),
+        Object::Nothing | Object::Null => false,
+        Object::Value(value) => lacks(false, value),
     }
 }
 
@@ -64,26 +65,27 @@ fn kind_of(subject: &Expression) -> SubjectKind
     }
 }
 
-fn may_be_set(kind: SubjectKind, pattern: bool, object: &Object) -> bool
-    ensures { result ≡ may_be_set kind pattern (object_of object.now) }
-{
-    match object {
-        Object::Nothing => true,
-        Object::Null | Object::Value(_) => can_be_set(kind, pattern),
-    }
-}
-
 fn is_pattern(pattern: &Option<Expression>) -> bool
     ensures { result ≡ is_pattern (expressions_of pattern.now) }
 {
     pattern.is_some()
 }
 
-fn is_fit_body(body: &Option<Body>) -> bool
-    ensures { result ≡ is_fit_body (body_of body.now) }
+// Whether an object is given, and the subject may not be assigned to.
+fn is_wrong(subject: &Expression, pattern: &Option<Expression>, object: &Object) -> bool
+    ensures { result ≡ is_wrong (expression_of subject.now) (expressions_of pattern.now) (object_of object.now) }
+{
+    match object {
+        Object::Nothing => false,
+        Object::Null | Object::Value(_) => !can_be_set(kind_of(subject), is_pattern(pattern)),
+    }
+}
+
+fn body_lacks(body: &Option<Body>) -> bool
+    ensures { result ≡ body_lacks (body_of body.now) }
 {
     match body {
-        None => true,
+        None => false,
         Some(
             Body {
                 subject,
@@ -91,30 +93,29 @@ fn is_fit_body(body: &Option<Body>) -> bool
                 object,
             },
         ) => {
-            has_variables(subject)
-                && is_fit_pattern(pattern)
-                && is_fit_object(object)
-                && may_be_set(kind_of(subject), is_pattern(pattern), object)
+            lacks(is_wrong(subject, pattern, object), subject)
+                || pattern_lacks(pattern)
+                || object_lacks(object)
         }
     }
 }
 
-fn is_fit(statement: &Statement) -> bool
-    ensures { result ≡ is_fit (statement_of statement.now) }
+fn statement_lacks(statement: &Statement) -> bool
+    ensures { result ≡ statement_lacks (statement_of statement.now) }
 {
-    is_fit_body(&statement.body) && is_fit_goto(&statement.goto)
+    body_lacks(&statement.body) || goto_lacks(&statement.goto)
 }
 
-/// The statement, where it has a variable in each place that needs one.
+/// The statement, where it lacks no variable.
 pub(crate) fn fitting(statement: Option<Statement>) -> Option<Statement>
     ensures { statements_of result ≡ fitting (statements_of statement) }
 {
     match statement {
         Some(statement) => {
-            if is_fit(&statement) {
-                Some(statement)
-            } else {
+            if statement_lacks(&statement) {
                 None
+            } else {
+                Some(statement)
             }
         }
         None => None,

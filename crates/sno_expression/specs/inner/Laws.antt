@@ -1,10 +1,9 @@
 -- What holds of walks and readings.
 use Rattle.std.specs.Prelude.{◌≡◌, ◌↔◌, Bool, true, false, List, [], ◌∷◌, Option, Some, None}
 use Rattle.sno_token.specs.declared.Token.{Token}
-use Rattle.sno_expression.specs.Expressions.{Expression, HasLevels, HasVariables}
+use Rattle.sno_expression.specs.Expressions.{Expression, HasLevels}
 use Rattle.sno_expression.specs.Spelling.{SpellsTo, Spells}
 use Rattle.sno_expression.specs.inner.Walks.{Walk, take, begins, may_end}
-use Rattle.sno_expression.specs.inner.Counting.{misfits}
 use Rattle.sno_expression.specs.inner.Reading.{Suits, Read, reading, Stops}
 
 -- an expression, or one element, is read exactly where it is spelled
@@ -24,7 +23,3 @@ takes_all alone w (t ∷ ts) = then_takes (take alone w t) (λ v. takes_all alon
 -- it does exactly where some tree with levels spells them
 abbrev pub WalksExactly : Type 0
 WalksExactly = (ts : List Token) → (takes_all false begins ts ≡ true) ↔ ((t : Expression) × HasLevels t × Spells t ts)
-
--- there is none exactly where the tree has its variables
-abbrev pub CountsExactly : Type 0
-CountsExactly = (alone : Bool) (ts rest : List Token) (t : Expression) → reading alone ts ≡ Read (Some t) rest → (misfits alone begins ts ≡ 0) ↔ HasVariables t

@@ -1,24 +1,20 @@
--- Whether a tree has a variable in each place that needs one, as a test.
-use Rattle.std.specs.Prelude.{Bool, true, false, ◌&&◌}
+-- Whether a tree lacks a variable, as a test.
+use Rattle.std.specs.Prelude.{Bool, false, not, ◌&&◌, ◌||◌}
 use Rattle.sno_expression.specs.Marks.{needs_variable, operand_is_variable}
 use Rattle.sno_expression.specs.Expressions.{Expression, Arguments, Identifier, Constant, Keyword, Unevaluated, Group, Call, Unary, Binary, NoArguments, Omitted, Argument, is_variable}
 
-abbrev pub is_fit : Bool → Expression → Bool
-is_fit true t = is_variable t
-is_fit false t = true
-
 abbrev mutual
-  pub has_variables : Expression → Bool
-  has_variables (Identifier n) = true
-  has_variables (Constant c) = true
-  has_variables (Keyword n) = true
-  has_variables (Unevaluated n) = true
-  has_variables (Group t) = has_variables t
-  has_variables (Call f args) = have_variables args
-  has_variables (Unary s t) = is_fit (operand_is_variable s) t && has_variables t
-  has_variables (Binary o l r) = is_fit (needs_variable o) r && (has_variables l && has_variables r)
+  pub lacks : Bool → Expression → Bool
+  lacks needed (Identifier n) = false
+  lacks needed (Constant c) = needed
+  lacks needed (Keyword n) = needed
+  lacks needed (Unevaluated n) = needed
+  lacks needed (Group t) = needed || lacks false t
+  lacks needed (Call f args) = needed || lack args
+  lacks needed (Unary s t) = (needed && not (is_variable (Unary s t))) || lacks (operand_is_variable s) t
+  lacks needed (Binary o l r) = lacks needed l || lacks (needs_variable o) r
 
-  pub have_variables : Arguments → Bool
-  have_variables NoArguments = true
-  have_variables (Omitted args) = have_variables args
-  have_variables (Argument args t) = have_variables args && has_variables t
+  pub lack : Arguments → Bool
+  lack NoArguments = false
+  lack (Omitted args) = lack args
+  lack (Argument args t) = lack args || lacks false t

@@ -1,7 +1,8 @@
 -- What holds of walks and statements.
-use Rattle.std.specs.Prelude.{◌≡◌, List, None}
+use Rattle.std.specs.Prelude.{◌≡◌, ◌↔◌, List, None}
 use Rattle.sno_token.specs.declared.Token.{Token}
-use Rattle.sno_statement.specs.Statements.{Statement, StatementHasLevels, StatementHasVariables}
+use Rattle.sno_statement.specs.Statements.{Statement, StatementHasLevels}
+use Rattle.sno_statement.specs.Lacking.{StatementHasVariables}
 use Rattle.sno_statement.specs.Spelling.{Spells}
 use Rattle.sno_statement.specs.inner.Faults.{refusal, noted}
 
@@ -13,4 +14,4 @@ Taken = (ts : List Token) →
 
 -- nothing is noted exactly where the statement has a variable in each place that needs one
 abbrev pub NotesExactly : Type 0
-NotesExactly = (ts : List Token) (s : Statement) → StatementHasLevels s → Spells s ts → (noted ts ≡ None → StatementHasVariables s) × (StatementHasVariables s → noted ts ≡ None)
+NotesExactly = (ts : List Token) (s : Statement) → StatementHasLevels s → Spells s ts → (noted ts ≡ None) ↔ StatementHasVariables ts s

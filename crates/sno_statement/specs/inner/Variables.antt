@@ -1,43 +1,38 @@
--- Whether a statement has a variable in each place that needs one, as a test.
-use Rattle.std.specs.Prelude.{Bool, true, ◌&&◌, Option, Some, None, if◌then◌else◌}
+-- Whether a statement lacks a variable, as a test.
+use Rattle.std.specs.Prelude.{Bool, false, ◌||◌, Option, Some, None, if◌then◌else◌}
 use Rattle.sno_expression.specs.Expressions.{Expression}
-use Rattle.sno_expression.specs.inner.Variables.{has_variables}
-use Rattle.sno_statement.specs.declared.walking.SubjectKind.{SubjectKind}
-use Rattle.sno_statement.specs.Statements.{Target, To, Computed, Goto, NoGoto, Always, OnSuccess, OnFailure, OnBoth, Object, NoObject, NullObject, ValueObject, Body, NoBody, Does, Statement, Says, kind_of, can_be_set, is_pattern}
+use Rattle.sno_expression.specs.inner.Variables.{lacks}
+use Rattle.sno_statement.specs.Statements.{Target, To, Computed, Goto, NoGoto, Always, OnSuccess, OnFailure, OnBoth, Object, NoObject, NullObject, ValueObject, Body, NoBody, Does, Statement, Says}
+use Rattle.sno_statement.specs.Lacking.{is_wrong}
 
-abbrev pub is_fit_target : Target → Bool
-is_fit_target (To l) = true
-is_fit_target (Computed t) = has_variables t
+abbrev pub target_lacks : Target → Bool
+target_lacks (To l) = false
+target_lacks (Computed t) = lacks false t
 
-abbrev pub is_fit_goto : Goto → Bool
-is_fit_goto NoGoto = true
-is_fit_goto (Always t) = is_fit_target t
-is_fit_goto (OnSuccess t) = is_fit_target t
-is_fit_goto (OnFailure t) = is_fit_target t
-is_fit_goto (OnBoth s f) = is_fit_target s && is_fit_target f
+abbrev pub goto_lacks : Goto → Bool
+goto_lacks NoGoto = false
+goto_lacks (Always t) = target_lacks t
+goto_lacks (OnSuccess t) = target_lacks t
+goto_lacks (OnFailure t) = target_lacks t
+goto_lacks (OnBoth s f) = target_lacks s || target_lacks f
 
-abbrev pub is_fit_pattern : Option Expression → Bool
-is_fit_pattern None = true
-is_fit_pattern (Some p) = has_variables p
+abbrev pub pattern_lacks : Option Expression → Bool
+pattern_lacks None = false
+pattern_lacks (Some p) = lacks false p
 
-abbrev pub is_fit_object : Object → Bool
-is_fit_object NoObject = true
-is_fit_object NullObject = true
-is_fit_object (ValueObject t) = has_variables t
+abbrev pub object_lacks : Object → Bool
+object_lacks NoObject = false
+object_lacks NullObject = false
+object_lacks (ValueObject t) = lacks false t
 
--- may the subject be assigned to, where it is
-abbrev pub may_be_set : SubjectKind → Bool → Object → Bool
-may_be_set k p NoObject = true
-may_be_set k p _ = can_be_set k p
+abbrev pub body_lacks : Body → Bool
+body_lacks NoBody = false
+body_lacks (Does s p o) = lacks (is_wrong s p o) s || (pattern_lacks p || object_lacks o)
 
-abbrev pub is_fit_body : Body → Bool
-is_fit_body NoBody = true
-is_fit_body (Does s p o) = has_variables s && (is_fit_pattern p && (is_fit_object o && may_be_set (kind_of s) (is_pattern p) o))
+abbrev pub statement_lacks : Statement → Bool
+statement_lacks (Says b g) = body_lacks b || goto_lacks g
 
-abbrev pub is_fit : Statement → Bool
-is_fit (Says b g) = is_fit_body b && is_fit_goto g
-
--- the statement, where it does
+-- the statement, where it lacks none
 abbrev pub fitting : Option Statement → Option Statement
 fitting None = None
-fitting (Some s) = if is_fit s then Some s else None
+fitting (Some s) = if statement_lacks s then None else Some s
