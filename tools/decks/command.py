@@ -41,8 +41,9 @@ def _leave(number: int, _frame: object) -> None:
 
 
 def _say(text: str) -> None:
+    line = ''.join(letter if letter.isprintable() else repr(letter)[1:-1] for letter in text)
     try:
-        print(f'deck: {text}', file=sys.stderr)
+        print(f'deck: {line}', file=sys.stderr)
     except (OSError, AttributeError):
         pass  # there is nowhere left to say it
 
@@ -81,13 +82,13 @@ def _add_next(kind: Kind) -> None:
 def _add_sets(kind: Kind) -> None:
     made = kind('get', _get, 'write the records of a data set, a line each')
     _takes_output(made)
-    made.add_argument('set', metavar='SET', help='its name')
+    made.add_argument('set', type=_name, metavar='SET', help='its name')
     _gives(made, 'the records')
     made = kind('put', _put, 'make the lines of a file the records of a data set',
                 'All else is written as it was. A record has at most 1,024 characters, all of ASCII 32 to 126; a CR before '
                 'the end of a line belongs to that end.')
     _takes_output(made)
-    made.add_argument('set', metavar='SET', help='its name; it has to be there')
+    made.add_argument('set', type=_name, metavar='SET', help='its name; it has to be there')
     made.add_argument('file', metavar='FILE', help='a text file')
     _gives(made, 'the whole output, changed; it may be OUTPUT')
     made = kind('names', _names, 'write the names of the data sets')

@@ -65,16 +65,16 @@ def _copy_catalogue(output: Output, file: BinaryIO) -> None:
         _copy(found.pieces(), file)
 
 
-def get_records(output: str, name: str, records: BinaryIO) -> None:
+def get_records(output: str, name: bytes, records: BinaryIO) -> None:
     """The records of that data set, a line each."""
     with opened(output) as file:
         is_there = False
         for found in _at_its_catalogue(output, file).data_sets():
-            if found.data_set.name == os.fsencode(name):
+            if found.data_set.name == name:
                 is_there = True
                 _copy(found.records, records)
         if not is_there:
-            raise Refused(f'{output}: no data set is called {name}')
+            raise Refused(f'{output}: no data set is called {shown(name)}')
 
 
 def names(output: str, long: bool, listing: BinaryIO) -> None:
@@ -130,7 +130,7 @@ def read_records(path: str) -> Records:
         return records
 
 
-def put_records(output: str, name: str, path: str, changed: BinaryIO) -> None:
+def put_records(output: str, name: bytes, path: str, changed: BinaryIO) -> None:
     """The output with the lines of that file as the records of that data set, and all else as it was."""
     records = read_records(path)
     with opened(output) as file:
@@ -140,13 +140,13 @@ def put_records(output: str, name: str, path: str, changed: BinaryIO) -> None:
         changed.write(text_of([heading(reading.version())]))
         is_there = False
         for found in reading.data_sets():
-            if found.data_set.name == os.fsencode(name):
+            if found.data_set.name == name:
                 is_there = True
                 _write_set(found.data_set, found.permissions, records, changed)
             else:
                 _copy(found.pieces(), changed)
         if not is_there:
-            raise Refused(f'{output}: no data set is called {name}')
+            raise Refused(f'{output}: no data set is called {shown(name)}')
 
 
 def _write_set(data_set: DataSet, permissions: bytes, records: Records, file: BinaryIO) -> None:
