@@ -1,0 +1,211 @@
+"""The words of `deck`, its messages and its exit statuses."""
+from __future__ import annotations
+
+import argparse
+import os
+import signal
+import sys
+from typing import BinaryIO, Callable, List, Optional, Sequence
+
+from . import join, rounds, split
+from .catalogue import MODES
+from .cards import SLOTS_LIMIT
+from .files import written
+from .lists import BadList, canonical
+from .parts import PARTS_LIMIT
+from .text import Fault, Refused, is_name
+
+STATUS_REFUSED, STATUS_FAULT = 1, 3
+ABOUT = 'Makes decks for snomon from what its runs have printed, and cuts a deck into several.'
+STATUSES = ('The status is 0; 1 where a file is not what it should be; 2 where these words are not; 3 where reading or '
+            'writing fails. Where it is not 0 nothing was written, but to a pipe or device that broke.')
+NEW_LIST = 'user::rwx,group::---,other::---'
+
+
+def main(words: Sequence[str]) -> int:
+    for number in (signal.SIGTERM, signal.SIGHUP):
+        signal.signal(number, _leave)  # so that what was begun is taken away
+    try:
+        options = _options().parse_args(words)
+        options.act(options)
+    except (Refused, Fault) as error:
+        _say(str(error))
+        return STATUS_REFUSED if isinstance(error, Refused) else STATUS_FAULT
+    except KeyboardInterrupt:
+        return 128 + signal.SIGINT
+    return 0
+
+
+def _leave(number: int, _frame: object) -> None:
+    raise SystemExit(128 + number)
+
+
+def _say(text: str) -> None:
+    line = ''.join(letter if letter.isprintable() else repr(letter)[1:-1] for letter in text)
+    try:
+        print(f'deck: {line}', file=sys.stderr)
+    except (OSError, AttributeError):
+        pass  # there is nowhere left to say it
+
+
+def _options() -> argparse.ArgumentParser:
+    parser = argparse.ArgumentParser(prog='deck', description=ABOUT, epilog=STATUSES)
+    kinds = parser.add_subparsers(metavar='COMMAND', required=True)
+
+    def kind(name: str, act: Callable[[argparse.Namespace], None], help_line: str, more: str = '') -> argparse.ArgumentParser:
+        made = kinds.add_parser(name, help=help_line, description=f'{help_line[:1].upper()}{help_line[1:]}. {more}'.strip(),
+                                epilog=STATUSES)
+        made.set_defaults(act=act)
+        return made
+
+    _add_next(kind)
+    _add_sets(kind)
+    _add_new(kind)
+    _add_split(kind)
+    return parser
+
+
+Kind = Callable[..., argparse.ArgumentParser]
+
+
+def _add_next(kind: Kind) -> None:
+    made = kind('next', _next, 'make the next deck of a run\'s output',
+                'It has the accounts of one file, the output\'s catalogue as it stands, and the cards of another file. An '
+                'output has a catalogue only where its run ended with the status 0.')
+    _takes_output(made)
+    made.add_argument('--accounts', required=True, metavar='FILE', help='the accounts, one a line')
+    made.add_argument('--stream', required=True, metavar='FILE',
+                      help='the commands and jobs; a $STOP may end them, with nothing behind it')
+    _gives(made, 'the deck')
+
+
+def _add_sets(kind: Kind) -> None:
+    made = kind('get', _get, 'write the records of a data set, a line each')
+    _takes_output(made)
+    made.add_argument('set', type=_name, metavar='SET', help='its name')
+    _gives(made, 'the records')
+    made = kind('put', _put, 'make the lines of a file the records of a data set',
+                'All else is written as it was. A record has at most 1,024 characters, all of ASCII 32 to 126; a CR before '
+                'the end of a line belongs to that end.')
+    _takes_output(made)
+    made.add_argument('set', type=_name, metavar='SET', help='its name; it has to be there')
+    made.add_argument('file', metavar='FILE', help='a text file')
+    _gives(made, 'the whole output, changed; it may be OUTPUT')
+    made = kind('names', _names, 'write the names of the data sets')
+    _takes_output(made)
+    made.add_argument('--long', action='store_true', help='also owner, group, mode in version 2, and number of records')
+    _gives(made, 'the names')
+    made = kind('printouts', _printouts, 'write what was printed before the catalogue')
+    _takes_output(made)
+    made.add_argument('--job', type=_number_of_job, metavar='N', help='only what the job of this number printed')
+    _gives(made, 'the printouts')
+
+
+def _add_new(kind: Kind) -> None:
+    made = kind('new', _new, 'make a catalogue of a folder of text files',
+                'Each file is a data set, which is called as the file is. The catalogue can be given to next as an output.')
+    made.add_argument('folder', metavar='DIR', help='the folder, with nothing else in it')
+    made.add_argument('--owner', required=True, type=_name, metavar='ACCOUNT', help='the owner of each data set')
+    made.add_argument('--group', required=True, type=_name, metavar='GROUP', help='the group of each data set')
+    made.add_argument('--list', type=_list, default=NEW_LIST, metavar='LIST',
+                      help='the permission list of each data set, in the short form; %(default)s where it is not given')
+    made.add_argument('--mode', choices=[os.fsdecode(mode) for mode in MODES],
+                      help='the mode of each data set; the catalogue is then one of version 2')
+    _gives(made, 'the catalogue')
+
+
+def _add_split(kind: Kind) -> None:
+    made = kind('split', _split, 'cut a deck into decks that share no data set',
+                'DIR gets 1.deck, 2.deck and so on, and a file for join. Run each of them, with as many slots as here, into '
+                '1.out, 2.out and so on, in any order or at once; then join. The decks are named on standard output. What is '
+                'to be known of how it was cut is said on standard error, with the lines of the cards.')
+    made.add_argument('deck', metavar='DECK', help='a deck that snomon --check finds good')
+    made.add_argument('folder', metavar='DIR', help='a folder that is not there, or empty')
+    made.add_argument('--parts', type=_up_to(PARTS_LIMIT), default=16, metavar='N',
+                      help='how many decks at most, 1 to %s; %%(default)s where it is not given' % PARTS_LIMIT)
+    made.add_argument('--slots', type=_up_to(SLOTS_LIMIT), default=4, metavar='N',
+                      help='with how many slots the decks will be run, 1 to 8; %(default)s where it is not given')
+    made = kind('join', _join, 'put together the outputs of the decks that split has made',
+                'Jobs are numbered, and data sets stand, as in the output of the whole deck.')
+    made.add_argument('folder', metavar='DIR', help='the folder that split filled, with an output for each deck')
+    _gives(made, 'the output')
+
+
+def _takes_output(parser: argparse.ArgumentParser) -> None:
+    parser.add_argument('output', metavar='OUTPUT', help='what a run of snomon has written')
+
+
+def _gives(parser: argparse.ArgumentParser, what: str) -> None:
+    parser.add_argument('-o', '--output', dest='target', metavar='FILE',
+                        help=f'where {what} will be, whole or not at all; standard output where it is not given')
+
+
+def _name(word: str) -> bytes:
+    if not is_name(os.fsencode(word)):
+        raise argparse.ArgumentTypeError(f'{word!r} is no name')
+    return os.fsencode(word)
+
+
+def _list(word: str) -> bytes:
+    try:
+        return canonical(os.fsencode(word))
+    except BadList as fault:
+        raise argparse.ArgumentTypeError(str(fault)) from fault
+
+
+def _number_of_job(word: str) -> int:
+    if not (word.isascii() and word.isdigit()):
+        raise argparse.ArgumentTypeError(f'{word!r} is no number of a job')
+    return int(word)
+
+
+def _up_to(most: int) -> Callable[[str], int]:
+    def number(word: str) -> int:
+        if not (word.isascii() and word.isdigit() and 1 <= int(word) <= most):
+            raise argparse.ArgumentTypeError(f'{word!r} is not 1 to {most}')
+        return int(word)
+    return number
+
+
+def _next(options: argparse.Namespace) -> None:
+    with written(options.target) as file:
+        rounds.next_deck(options.output, options.accounts, options.stream, file)
+
+
+def _get(options: argparse.Namespace) -> None:
+    with written(options.target) as file:
+        rounds.get_records(options.output, options.set, file)
+
+
+def _put(options: argparse.Namespace) -> None:
+    with written(options.target) as file:
+        rounds.put_records(options.output, options.set, options.file, file)
+
+
+def _names(options: argparse.Namespace) -> None:
+    with written(options.target) as file:
+        rounds.names(options.output, options.long, file)
+
+
+def _printouts(options: argparse.Namespace) -> None:
+    with written(options.target) as file:
+        rounds.printouts(options.output, options.job, file)
+
+
+def _new(options: argparse.Namespace) -> None:
+    common = rounds.NewSets(options.owner, options.group, options.list, None if options.mode is None else os.fsencode(options.mode))
+    with written(options.target) as file:
+        rounds.new_catalogue(options.folder, common, file)
+
+
+def _split(options: argparse.Namespace) -> None:
+    decks, notes = split.split_deck(options.deck, options.folder, options.parts, options.slots)
+    for note in notes:
+        _say(note)
+    with written(None) as file:
+        file.write(b''.join(os.fsencode(deck) + b'\n' for deck in decks))
+
+
+def _join(options: argparse.Namespace) -> None:
+    with written(options.target) as file:
+        join.join_outputs(options.folder, file)

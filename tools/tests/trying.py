@@ -1,0 +1,112 @@
+"""What the tests have in common: a room of their own, the command, and a built snomon."""
+import os
+import re
+import subprocess
+import sys
+import tempfile
+import unittest
+
+TOOLS = os.path.join(os.path.dirname(os.path.realpath(__file__)), '..')
+TOP = os.path.realpath(os.path.join(TOOLS, '..'))
+DECK = os.path.join(TOP, 'tools', 'deck')
+SNOMON = os.path.abspath(os.environ.get('SNOMON', os.path.join(TOP, 'run')))
+
+# An output of each version, whose records look like what stands between data sets.
+PRINTOUTS = b'''LIST anna PAYROLL
+ $CATALOGUE
+ 
+RECORDS 2
+JOB 2 lisa
+ $SET X anna admin 0
+ END NORMAL AFTER 1
+DENIED STATEMENT 4 WRITE PAYROLL BY mask::
+END NORMAL AFTER 8
+JOB 1 hugo
+REFUSED P3 CARD 1 COLUMN 8
+SHOWACL anna PAYROLL
+OWNER anna GROUP admin
+ user::rwx
+ user:lisa:rw-\t#effective:r--
+ENTRIES 2
+CATALOG anna
+NAMES 0
+SETACL lisa PAYROLL
+DENIED NOT OWNER
+'''
+CATALOGUE_1 = b'''$CATALOGUE
+$SET PAYROLL anna admin 6
+user::rwx,user:lisa:rw-,group::r--,mask::r--,other::---
+$CATALOGUE
+$SET LOG anna admin 0
+user::rwx,group::r--,other::---
+
+$STOP
+ ADA 100 
+$SET EMPTY anna admin 0
+user::rwx,group::---,other::---
+$SET LOG lisa staff 1
+user::rwx,group::---,other::---
+A
+'''
+CATALOGUE_2 = (CATALOGUE_1.replace(b'$CATALOGUE\n', b'$CATALOGUE 2\n', 1).replace(b'PAYROLL anna admin 6', b'PAYROLL anna admin SEQ 6')
+               .replace(b'EMPTY anna admin 0', b'EMPTY anna admin SEQ 0').replace(b'LOG lisa staff 1', b'LOG lisa staff APPEND 1'))
+RECORDS = b'$CATALOGUE\n$SET LOG anna admin 0\nuser::rwx,group::r--,other::---\n\n$STOP\n ADA 100 \n'
+BOTH = {1: PRINTOUTS + CATALOGUE_1, 2: PRINTOUTS + CATALOGUE_2}
+ACCOUNTS = b'anna admin\nlisa staff\nhugo ops staff\n'
+
+
+class Done:
+    """How a command ended: its status, its output, and what it said."""
+
+    def __init__(self, status, out, err):
+        self.status, self.out, self.err = status, out, err.decode()
+
+
+def run(words, given=b'', **more):
+    done = subprocess.run([os.fspath(word) for word in words], input=given, capture_output=True, timeout=300, **more)
+    return Done(done.returncode, done.stdout, done.stderr)
+
+
+def deck(*words, **more):
+    return run([sys.executable, DECK, *words], **more)
+
+
+class Trying(unittest.TestCase):
+    """Each test has an empty folder as its room."""
+
+    def setUp(self):
+        room = tempfile.TemporaryDirectory()
+        self.addCleanup(room.cleanup)
+        self.room = room.name
+
+    def path(self, name):
+        return os.path.join(self.room, name)
+
+    def write(self, name, content):
+        with open(self.path(name), 'wb') as file:
+            file.write(content)
+        return self.path(name)
+
+    def read(self, name):
+        with open(self.path(name), 'rb') as file:
+            return file.read()
+
+    def names(self):
+        return sorted(os.listdir(self.room))
+
+    def is_refused(self, done, message, status=1):
+        """It ended with that status, one line that fits the message, and nothing on standard output."""
+        self.assertEqual((done.status, done.out), (status, b''), done.err)
+        self.assertRegex(done.err, r'\Adeck: [^\n]*\n\Z')
+        self.assertIn(message, done.err)
+
+    def is_refused_at(self, done, name, line, message):
+        self.is_refused(done, f'{self.path(name)}: line {line}: {message}')
+
+    def line_of(self, err):
+        found = re.search(r': line (\d+): ', err)
+        return int(found.group(1)) if found else None
+
+
+def snomon(deck_text, *words):
+    return run([SNOMON, *words], given=deck_text)
