@@ -1,7 +1,7 @@
 -- A larger number than the statements that may still begin changes nothing.
 use Rattle.std.proofs.Common.{◌≡◌, ℕ, zero, suc, ◌+◌, ◌≤◌, ◌<◌, Bool, true, false, cond, List, [], ◌∷◌, ◌++◌, Option, Some, None, refl, sym, ap, ◌∙◌, subst, arith}
 use Rattle.std.specs.Prelude.{take, drop, slice_get}
-use Rattle.sno_talk.specs.Talks.{Talk, Ends, ◌>>=◌}
+use Rattle.sno_talk.specs.Talks.{Talk, Ends, Asks, ◌>>=◌}
 use Rattle.sno_talk.specs.Endings.{EndsIn}
 use Rattle.sno_talk.proofs.Enough.{ends_in_then, same_then, ends_in_weaker}
 use Rattle.sno_expression.specs.declared.tree.UnaryOperator.TheVariants as unary
@@ -26,6 +26,10 @@ use Rattle.sno_code.specs.Limits.{Counts}
 
 weaker : {Q R A K : Type 0} (allowed : K → ℕ) (b n : ℕ) (t : Talk Q R (A × K)) → n ≤ b → EndsIn (λ (r : A × K). allowed r.1 ≤ n) t → EndsIn (λ (r : A × K). allowed r.1 ≤ b) t
 weaker {A = A} {K = K} allowed b n t le h = ends_in_weaker (λ (r : A × K). allowed r.1 ≤ n) (λ (r : A × K). allowed r.1 ≤ b) t (λ r x. omega arith) h
+
+ends_behind : {Q R A B : Type 0} (P : B → Type 0) (t : Talk Q R A) (after : Talk Q R B) → EndsIn P after → EndsIn P (t >>= (λ _. after))
+ends_behind P (Ends a) after h = h
+ends_behind P (Asks q f) after h = λ r. ends_behind P (f r) after h
 
 module _ {K : Type 0} (allowed : K → ℕ) (b : ℕ) where
   negated_within : (r : Got × K) → allowed r.1 ≤ b → allowed (negated r).1 ≤ b
@@ -333,6 +337,13 @@ module _ {Q R K : Type 0} (allowed : K → ℕ) (keeping : Keeping Q R K) (count
   zero_within b Return st h = h
   zero_within b FailureReturn st h = h
 
+  -- what is told of a beginning does not matter
+  noted_then : (b : ℕ) (t t' : Talk Q R (Got × K)) → Alike {Q = Q} {R = R} allowed b t t' → Alike {Q = Q} {R = R} allowed b (keeping.noted >>= (λ _. t)) (keeping.noted >>= (λ _. t'))
+  noted_then b t t' h = (
+    ap (λ (z : Talk Q R (Got × K)). keeping.noted >>= (λ _. z)) h.0,
+    ends_behind (λ (r : Got × K). allowed r.1 ≤ b) keeping.noted t' h.1,
+  )
+
   begun_same : (n m b : ℕ) → SameFrom b (goes n) (goes m) → (i : ℕ) (line : Line Expression Expression) (st : K) → allowed st ≤ suc b → (o : Option K) → keeping.begun (i + 1) st ≡ o
       → Alike {Q = Q} {R = R} allowed (suc b)
       (if_begun keeping evaluate name_of program o st (λ st1. executed keeping evaluate name_of program (goes n) line i st1 >>= passed keeping evaluate name_of program (goes n)))
@@ -344,6 +355,7 @@ module _ {Q R K : Type 0} (allowed : K → ℕ) (keeping : Keeping Q R K) (count
       let at : Alike {Q = Q} {R = R} allowed b (executed keeping evaluate name_of program (goes n) line i after >>= passed keeping evaluate name_of program (goes n)) (executed keeping evaluate name_of program (goes m) line i after >>= passed keeping evaluate name_of program (goes m))
       = both allowed b (executed keeping evaluate name_of program (goes n) line i after) (executed keeping evaluate name_of program (goes m) line i after) (passed keeping evaluate name_of program (goes n)) (passed keeping evaluate name_of program (goes m))
       (executed_same b (goes n) (goes m) g line i after within) (λ r x. passed_same b (goes n) (goes m) g r x) in
+      noted_then (suc b) (executed keeping evaluate name_of program (goes n) line i after >>= passed keeping evaluate name_of program (goes n)) (executed keeping evaluate name_of program (goes m) line i after >>= passed keeping evaluate name_of program (goes m))
       (at.0, weaker allowed (suc b) b (executed keeping evaluate name_of program (goes m) line i after >>= passed keeping evaluate name_of program (goes m)) (omega arith) at.1)
 
   line_same : (n m b : ℕ) → SameFrom b (goes n) (goes m) → (i : ℕ) (o : Option (Line Expression Expression)) (st : K) → allowed st ≤ suc b
@@ -377,7 +389,7 @@ module _ {Q R K : Type 0} (allowed : K → ℕ) (keeping : Keeping Q R K) (count
   turn_begun_same n m i line st le le' None is = refl
   turn_begun_same n m i line st le le' (Some after) is =
       let less : allowed after < allowed st = counts.begun (i + 1) st after is in
-      ap (λ (t : Talk Q R (Next × K)). t >>= (λ next. Ends (settled keeping evaluate name_of program next)))
+      ap (λ (t : Talk Q R (Next × K)). keeping.noted >>= (λ _. t >>= (λ next. Ends (settled keeping evaluate name_of program next))))
       (executed_same (allowed after) (goes n) (goes m) (same_runs n m (allowed after) (omega arith) (omega arith)) line i after (omega arith)).0
 
   turn_line_same : (n m i : ℕ) (o : Option (Line Expression Expression)) (st : K) → allowed st ≤ n → allowed st ≤ m

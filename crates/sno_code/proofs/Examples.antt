@@ -35,6 +35,7 @@ small_keeping = record {
   most = λ st. 5000;
   matched = λ text p st. Ends (NoMatch, st);
   begun = λ number st. if nat_lt st.begun 2 then Some (record st { begun = st.begun + 1 }) else None;
+  noted = Ends tt;
   entered = λ f vs st. if bytes_eq f (codes "F") then Enters f st else Undefined;
   left = λ st. (st.value, st);
   primitive = λ f vs st. Ends (Halts (Fault fault.Function), st);

@@ -34,6 +34,8 @@ pub record Keeping (Q R K : Type 0) : Type 0 where
   pub matched : List ℕ → Value → K → Talk Q R (Matched × K)
   -- the statement of this number begins, if one more may
   pub begun : ℕ → K → Option K
+  -- what is told of it, as it begins
+  pub noted : Talk Q R (Unit {0})
   -- a function is called with these values
   pub entered : List ℕ → List Value → K → Entered K
   -- it is left, with its value
