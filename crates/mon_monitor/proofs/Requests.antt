@@ -12,7 +12,7 @@ use Rattle.mon_catalogue.specs.declared.mode.Mode.TheVariants.{Seq, Append}
 use Rattle.mon_catalogue.specs.declared.data_set.DataSet.{DataSet}
 use Rattle.mon_catalogue.specs.declared.data_set.SetFull.{SetFull}
 use Rattle.mon_catalogue.specs.Sets.{Sets, find_set}
-use Rattle.mon_catalogue.specs.Writing.{Change, Put, Cut, Add, add_refusal, writing, change_refusal, recorded}
+use Rattle.mon_catalogue.specs.Writing.{Change, Put, Cut, Add, add_refusal, writing, recorded}
 use Rattle.mon_catalogue.proofs.Changed.{named_set_changes}
 use Rattle.mon_answer.specs.declared.answer.Reason.TheVariants.{Mode as WrongMode}
 use Rattle.mon_answer.specs.declared.answer.Answer.TheVariants.{Denied, Full}
