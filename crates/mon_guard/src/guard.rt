@@ -62,7 +62,8 @@ impl Guard {
 
     /// How many rows are kept. It takes no memory.
     pub fn rows(&self) -> u64
-        ensures { result ≡ length self.now }
+        ensures value { result ≡ length self.now }
+        ensures at_most { length self.now ≤ 1000 }
     {
         self.rows.len() as u64
     }

@@ -22,8 +22,8 @@ pub struct Row {
     pub ready: Ready,
 }
 
-/// Rows, found by the names of their account and their set. A contract sees them as a list, in the order in which they were
-/// added.
+/// Rows, at most 1,000, found by the names of their account and their set. A contract sees them as a list, in the order in which
+/// they were added.
 #[derive(Drop)]
 pub struct Rows {
     by_names: IndexMap<(Name, Name), Row>,
@@ -39,13 +39,15 @@ struct AtHand {
 }
 
 impl Model for Rows {
-    ghost use Rattle.std.specs.Prelude.{List};
+    ghost use Rattle.std.specs.Prelude.{List, length, ◌≤◌};
     ghost use Rattle.std.specs.Map.{values_of};
     ghost use Rattle.mon_guard.specs.declared.rows.Row.{Row};
 
     ghost Value = { List Row };
 
     ghost view = { λ r. values_of r.by_names.entries };
+
+    ghost invariant = { λ r. length (values_of r.by_names.entries) ≤ 1000 };
 }
 
 /// What was decided of a request, and where the row stands that told it, if one did.
@@ -88,7 +90,8 @@ impl Rows {
 
     // How many rows there are.
     pub(crate) fn len(&self) -> usize
-        ensures { result ≡ length self.now }
+        ensures value { result ≡ length self.now }
+        ensures at_most { length self.now ≤ 1000 }
     {
         self.by_names.len()
     }
