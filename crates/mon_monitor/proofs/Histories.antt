@@ -2,6 +2,7 @@
 use Rattle.std.proofs.Common.{◌≡◌, ◌≢◌, ℕ, Bool, true, List, [], ◌∷◌, ◌++◌, length, Option, Some, None, Result, Ok, Err, refl, ap, sym, ◌∙◌, inl, inr, append_assoc}
 use Rattle.std.specs.Prelude.{map, option_map, is_some}
 use Rattle.std.specs.List.{AllByRecursion}
+use Rattle.std.specs.Option.{option_or}
 use Rattle.sno_cards.specs.declared.refusal.SyntaxError.{SyntaxError}
 use Rattle.sno_cards.specs.Programs.{ProgramText}
 use Rattle.sno_cards.specs.Statements.{statements_of}
@@ -17,7 +18,7 @@ use Rattle.mon_slots.specs.Floors.{SlotState, Floor, first_free}
 use Rattle.mon_slots.specs.Turns.{only}
 use Rattle.mon_slots.specs.Marks.{Marks, Past, turn_as, until, never, rounds, turns_left, is_done, has_room, room}
 use Rattle.mon_slots.specs.Rounds.{NoneByMemory, MarksEndJobs, RoomIsMade}
-use Rattle.mon_slots.specs.Loads.{first_of, first_units, ties_refusal, slot_refusal, account_refusal, program_refusal, deck_refusal, loaded_by, slot_in}
+use Rattle.mon_slots.specs.Loads.{first_units, ties_refusal, slot_refusal, account_refusal, program_refusal, deck_refusal, loaded_by, slot_in}
 use Rattle.mon_slots.proofs.Seats.{seat_length}
 use Rattle.mon_slots.proofs.Past.{either_way, until_stops, until_goes, until_length}
 use Rattle.mon_monitor.specs.Worlds.{World, with_floor}
@@ -119,13 +120,13 @@ program_not (Err e) h = let k : Some (Syntax e) ≡ Some NoSlot = h in cc (k)
 
 -- no deck is refused for want of a slot
 deck_not : (f : Option Account) (t : Option UnitError) (said : Result ProgramText SyntaxError)
-    → first_of (account_refusal f) (first_of (option_map Cards t) (program_refusal said)) ≢ Some NoSlot
+    → option_or (account_refusal f) (option_or (option_map Cards t) (program_refusal said)) ≢ Some NoSlot
 deck_not None t said h = let k : Some NoAccount ≡ Some NoSlot = h in cc (k)
 deck_not (Some a) (Some u) said h = let k : Some (Cards u) ≡ Some NoSlot = h in cc (k)
 deck_not (Some a) None said h = program_not said h
 
 answer_not : (o : Option ℕ) (d : Option LoadError) (slot : Option SlotState) (slots : List (Option SlotState)) → is_some o ≡ true → d ≢ Some NoSlot
-    → (loaded_by (first_of (slot_refusal o) d) o slot slots).0 ≢ Err NoSlot
+    → (loaded_by (option_or (slot_refusal o) d) o slot slots).0 ≢ Err NoSlot
 answer_not None d slot slots h g e = absurd cc
 answer_not (Some n) None slot slots h g e = let k : Ok n ≡ Err NoSlot = e in cc (k)
 answer_not (Some n) (Some r) slot slots h g e = g (let k : Err r ≡ Err NoSlot = e in cc (k))

@@ -3,6 +3,7 @@ use Rattle.std.proofs.Common.{◌≡◌, ◌≢◌, ◌⊎◌, ◌==◌, ℕ, ze
 use Rattle.std.specs.Prelude.{if◌then◌else◌, is_some}
 use Rattle.std.proofs.lemmas.List.Elements.{filter-append}
 use Rattle.std.proofs.lemmas.Bool.{eq-eqb, eqb-true}
+use Rattle.std.specs.Option.{option_or}
 use Rattle.sno_run.specs.declared.ending.Ending.{Ending}
 use Rattle.sno_run.specs.declared.ending.Ending.TheVariants.{Memory}
 use Rattle.sno_run.specs.declared.ending.Step.{Step}
@@ -21,7 +22,7 @@ use Rattle.mon_job.specs.declared.deck.UnitCard.{UnitCard}
 use Rattle.mon_job.specs.declared.deck.JobDeck.{JobDeck}
 use Rattle.mon_job.specs.declared.refusal.LoadError.{LoadError}
 use Rattle.mon_slots.specs.Floors.{SlotState, Floor, floor, seat_at, with_seat, job_in, first_free}
-use Rattle.mon_slots.specs.Loads.{first_of, slot_refusal, account_refusal, first_units, tied_by, with_ties, program_refusal, program_in, deck_refusal, loaded_slot, slot_by, slot_in, loaded_by, loaded}
+use Rattle.mon_slots.specs.Loads.{slot_refusal, account_refusal, first_units, tied_by, with_ties, program_refusal, program_in, deck_refusal, loaded_slot, slot_by, slot_in, loaded_by, loaded}
 use Rattle.mon_slots.specs.Turns.{reached, ran, ends_by, only}
 use Rattle.mon_slots.specs.Marks.{Mark, Marks, mark_of, later, may_break, broken_by, ran_as, turn_as_by, turn_as, Past, nothing, and_then, until, never, is_done, has_room, room}
 use Rattle.mon_monitor.specs.Worlds.{World, world}
@@ -294,11 +295,11 @@ module _ (accounts : List Account) (J : ℕ → Option JobDeck) (numbered : (n :
   ties_notes (card ∷ cards) units = ties_notes cards (tied_by card units)
 
   -- what is not refused has an account and a program
-  known_by : (o : Option Account) (rest : Option LoadError) → first_of (account_refusal o) rest ≡ None → (account : Account) × (o ≡ Some account) × (rest ≡ None)
+  known_by : (o : Option Account) (rest : Option LoadError) → option_or (account_refusal o) rest ≡ None → (account : Account) × (o ≡ Some account) × (rest ≡ None)
   known_by None rest h = absurd cc
   known_by (Some account) rest h = (account, refl, h)
 
-  tied_by_cards : (o rest : Option LoadError) → first_of o rest ≡ None → rest ≡ None
+  tied_by_cards : (o rest : Option LoadError) → option_or o rest ≡ None → rest ≡ None
   tied_by_cards None rest h = h
   tied_by_cards (Some refusal) rest h = absurd cc
 
@@ -306,7 +307,7 @@ module _ (accounts : List Account) (J : ℕ → Option JobDeck) (numbered : (n :
     enters : (deck : JobDeck) (E : List Event) (H : List Entry) (slots : List (Option SlotState)) → Far (Load deck ∷ E) H slots → job_of deck.number E ≡ None
         → (s : ℕ) → first_free slots ≡ Some s → Far E (H ++ load_entry deck (loaded accounts deck slots).0) (loaded accounts deck slots).1
     enters deck E H slots far once s free =
-        subst (λ (o : Option ℕ). (let l = loaded_by (first_of (slot_refusal o) (deck_refusal accounts deck)) o (slot_in accounts deck) slots in Far E (H ++ load_entry deck l.0) l.1)) (sym free)
+        subst (λ (o : Option ℕ). (let l = loaded_by (option_or (slot_refusal o) (deck_refusal accounts deck)) o (slot_in accounts deck) slots in Far E (H ++ load_entry deck l.0) l.1)) (sym free)
         (by (deck_refusal accounts deck) refl)
       where
         by : (refusal : Option LoadError) → deck_refusal accounts deck ≡ refusal

@@ -56,8 +56,8 @@ pub fn slots_stay()
 pub fn history_tells()
     ensures { HistoryTells }
 {
-    laws::spells_one();
-    laws::reads_programs();
+    sno_syntax::laws::spells_one();
+    sno_syntax::laws::reads_programs();
     laws::room_is_made();
     slots_stay();
     mon_unit::laws::got_where_granted();

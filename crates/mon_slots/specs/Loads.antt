@@ -1,16 +1,12 @@
 -- What loading a job does (own).
-use Rattle.std.specs.Prelude.{◌≡◌, ℕ, List, [], ◌∷◌, drop, Option, Some, None, option_map, Result, Ok, Err}
+use Rattle.std.specs.Prelude.{ℕ, List, [], ◌∷◌, drop, Option, Some, None, option_map, Result, Ok, Err}
+use Rattle.std.specs.Option.{option_or}
 use Rattle.sno_cards.specs.declared.refusal.SyntaxError.{SyntaxError}
 use Rattle.sno_cards.specs.Programs.{ProgramText}
 use Rattle.sno_cards.specs.Statements.{statements_of}
-use Rattle.sno_cards.specs.Texts.{Placed}
-use Rattle.sno_lexer.specs.Listed.{TokenList}
-use Rattle.sno_statement.specs.Statements.{Statement}
-use Rattle.sno_statement.specs.inner.Reading.{statement_in}
-use Rattle.sno_syntax.specs.declared.start.Start.{Start}
-use Rattle.sno_syntax.specs.Labels.{LabelList}
-use Rattle.sno_syntax.specs.Refusals.{tokens_of, labels_in, start_in, syntax_refusal}
-use Rattle.sno_syntax.specs.Programs.{Program, IsProgram}
+use Rattle.sno_syntax.specs.Refusals.{syntax_refusal}
+use Rattle.sno_syntax.specs.Programs.{Program}
+use Rattle.sno_syntax.specs.Reading.{program_on}
 use Rattle.sno_run.specs.Jobs.{first_job}
 use Rattle.mon_access.specs.declared.account.Account.{Account}
 use Rattle.mon_access.specs.Accounts.{find_account}
@@ -23,10 +19,6 @@ use Rattle.mon_job.specs.declared.deck.JobDeck.{JobDeck}
 use Rattle.mon_job.specs.declared.refusal.LoadError.{LoadError}
 use Rattle.mon_job.specs.declared.refusal.LoadError.TheVariants.{NoSlot, NoAccount, Cards, Syntax}
 use Rattle.mon_slots.specs.Floors.{SlotState, with_seat, first_free}
-
-abbrev pub first_of : {R : Type 0} → Option R → Option R → Option R
-first_of (Some refusal) later = Some refusal
-first_of None later = later
 
 -- THE UNITS
 
@@ -48,7 +40,7 @@ with_ties (card ∷ cards) units = with_ties cards (tied_by card units)
 
 abbrev pub ties_refusal : List UnitCard → UnitState → Option UnitError
 ties_refusal [] units = None
-ties_refusal (card ∷ cards) units = first_of (tie_refusal card.unit units) (ties_refusal cards (tied_by card units))
+ties_refusal (card ∷ cards) units = option_or (tie_refusal card.unit units) (ties_refusal cards (tied_by card units))
 
 -- THE PROGRAM
 
@@ -56,40 +48,10 @@ abbrev pub program_refusal : Result ProgramText SyntaxError → Option LoadError
 program_refusal (Ok cards) = option_map Syntax (syntax_refusal cards)
 program_refusal (Err refusal) = Some (Syntax refusal)
 
--- the statement that the tokens spell, where there is one
-abbrev pub statement_on : Result TokenList SyntaxError → Option Statement
-statement_on (Ok list) = statement_in list.tokens
-statement_on (Err refusal) = None
-
-abbrev pub before : Option Statement → Option (List Statement) → Option (List Statement)
-before (Some s) (Some ss) = Some (s ∷ ss)
-before (Some s) None = None
-before None ss = None
-
-abbrev pub statements_on : List (List Placed) → Option (List Statement)
-statements_on [] = Some []
-statements_on (text ∷ texts) = before (statement_on (tokens_of text)) (statements_on texts)
-
-abbrev pub program_by : Option (List Statement) → LabelList → Option Start → Option Program
-program_by (Some ss) labels (Some start) = Some (record { statements = ss; labels = labels; start = start })
-program_by (Some ss) labels None = None
-program_by None labels start = None
-
--- the program that the cards spell, where they spell one
-abbrev pub program_on : ProgramText → Option Program
-program_on cards = program_by (statements_on cards.statements) (labels_in cards.statements) (start_in cards)
-
+-- the program that cards spell, where they spell one
 abbrev pub program_in : Result ProgramText SyntaxError → Option Program
 program_in (Ok cards) = program_on cards
 program_in (Err refusal) = None
-
--- where cards spell a program, it is this one
-abbrev pub ReadsPrograms : Type 0
-ReadsPrograms = (cards : ProgramText) (p : Program) → IsProgram cards p → program_on cards ≡ Some p
-
--- and cards that are not refused spell one
-abbrev pub SpellsOne : Type 0
-SpellsOne = (cards : ProgramText) → syntax_refusal cards ≡ None → (p : Program) × IsProgram cards p
 
 -- THE JOB
 
@@ -104,12 +66,12 @@ account_refusal None = Some NoAccount
 -- why a job is not loaded where a slot is free: its account, its unit cards, its program
 abbrev pub deck_refusal : List Account → JobDeck → Option LoadError
 deck_refusal accounts deck =
-    first_of (account_refusal (find_account accounts deck.account))
-    (first_of (option_map Cards (ties_refusal deck.ties (first_units deck.lines))) (program_refusal (statements_of deck.lines)))
+    option_or (account_refusal (find_account accounts deck.account))
+    (option_or (option_map Cards (ties_refusal deck.ties (first_units deck.lines))) (program_refusal (statements_of deck.lines)))
 
 -- why a job is not loaded
 abbrev pub load_refusal : List Account → JobDeck → List (Option SlotState) → Option LoadError
-load_refusal accounts deck slots = first_of (slot_refusal (first_free slots)) (deck_refusal accounts deck)
+load_refusal accounts deck slots = option_or (slot_refusal (first_free slots)) (deck_refusal accounts deck)
 
 -- what a slot holds when the job has been loaded
 abbrev pub loaded_slot : Account → JobDeck → Program → SlotState

@@ -1,6 +1,5 @@
 //! Laws of turns and rounds. Each is the contract of a function that does nothing.
 ghost use Rattle.mon_slots.specs.Rounds.{WithoutMarks, MarksEndJobs, TakesOneMark, RoundsEnd, DrainEmpties, RoomIsMade};
-ghost use Rattle.mon_slots.specs.Loads.{ReadsPrograms, SpellsOne};
 
 /// Turns without marks are the turns of the definitions.
 pub fn without_marks()
@@ -30,14 +29,4 @@ pub fn drain_empties()
 /// After turns for room a slot is empty.
 pub fn room_is_made()
     ensures { RoomIsMade }
-{}
-
-/// The program of a job is the one that its cards spell.
-pub fn reads_programs()
-    ensures { ReadsPrograms }
-{}
-
-/// Cards that are not refused spell a program.
-pub fn spells_one()
-    ensures { SpellsOne }
 {}

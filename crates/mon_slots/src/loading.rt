@@ -1,5 +1,6 @@
 //! From a job's deck to what its slot holds.
 ghost use Rattle.std.specs.Prelude.{◌≡◌, drop, option_map, Some, None, IfOk, IfErr, OnOk};
+ghost use Rattle.std.specs.Option.{option_or};
 ghost use Rattle.std.specs.Result.{result_err};
 ghost use Rattle.mon_access.specs.Accounts.{find_account};
 ghost use Rattle.sno_cards.specs.Answers.{IfRefused};
@@ -7,7 +8,7 @@ ghost use Rattle.sno_cards.specs.Statements.{statements_of};
 ghost use Rattle.sno_syntax.specs.Programs.{program_of};
 ghost use Rattle.mon_unit.specs.Tying.{new_units};
 ghost use Rattle.mon_slots.specs.Told.{slot_of};
-ghost use Rattle.mon_slots.specs.Loads.{first_of, data_of, first_units, with_ties, ties_refusal, program_refusal, account_refusal, deck_refusal, slot_in};
+ghost use Rattle.mon_slots.specs.Loads.{data_of, first_units, with_ties, ties_refusal, program_refusal, account_refusal, deck_refusal, slot_in};
 ghost use Rattle.mon_slots.specs.inner.Spelling.{IsSpelled};
 
 use crate::slot::Slot;
@@ -136,7 +137,7 @@ fn parts_of(alloc: Global, lines: &Lines, ties: &UnitCards) -> Result<Parts, Sto
     ensures units { IfOk result (λ parts. parts.units ≡ with_ties ties.now (first_units lines.now)) }
     ensures program { IfOk result (λ parts. IsSpelled (statements_of lines.now) (program_of parts.program)) }
     ensures clean { OnOk result (ties_refusal ties.now (first_units lines.now) ≡ None) }
-    ensures refused { IfErr result (IfRefused (λ refusal. first_of (option_map LoadError.Cards (ties_refusal ties.now (first_units lines.now))) (program_refusal (statements_of lines.now)) ≡ Some refusal)) }
+    ensures refused { IfErr result (IfRefused (λ refusal. option_or (option_map LoadError.Cards (ties_refusal ties.now (first_units lines.now))) (program_refusal (statements_of lines.now)) ≡ Some refusal)) }
 {
     let cards = cards_of(alloc, lines)?;
     let data = data_of(alloc, lines, &cards)?;

@@ -5,6 +5,6 @@ mod Contexts
 mod Words
 mod Faults
 mod Reading
-mod Telling
-mod Once
+pub mod Telling
+pub mod Once
 mod Examples

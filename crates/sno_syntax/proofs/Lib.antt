@@ -1,5 +1,7 @@
 pub mod Tables
 pub mod Ends
+pub mod Behind
 pub mod Spelled
 pub mod Wholes
 pub mod Exactly
+pub mod Readable

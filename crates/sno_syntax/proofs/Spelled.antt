@@ -1,5 +1,7 @@
 -- One statement after the other.
 use Rattle.std.proofs.Common.{◌≡◌, ◌+◌, ℕ, List, [], ◌∷◌, ◌++◌, drop, map, None, Result, Ok, Err, sym, ap, ◌∙◌, subst, append-nil}
+use Rattle.std.specs.Prelude.{option_map}
+use Rattle.std.specs.Option.{option_or}
 use Rattle.std.proofs.lemmas.List.{map-append}
 use Rattle.std.proofs.Common.{append_assoc}
 use Rattle.sno_cards.specs.declared.refusal.SyntaxError.{SyntaxError}
@@ -9,18 +11,20 @@ use Rattle.sno_statement.specs.Statements.{Statement}
 use Rattle.sno_statement.specs.Told.{statement_of}
 use Rattle.sno_statement.specs.declared.statement.Statement.{Statement as AStatement}
 use Rattle.sno_syntax.specs.Labels.{LabelList}
-use Rattle.sno_syntax.specs.Refusals.{label_of, tokens_of, label_first, grammar_refusal, stage_refusal, statement_refusal, with_label, either, statements_refusal, labels_from}
-use Rattle.sno_syntax.specs.Programs.{AreTokensOf, SpellsBehind, SpellFrom}
+use Rattle.sno_syntax.specs.Refusals.{label_of, tokens_of, label_first, fault_refusal, stage_refusal, statement_refusal, with_label, statements_refusal, labels_from}
+use Rattle.sno_syntax.specs.Programs.{SpellsBehind, SpellFrom}
+use Rattle.sno_syntax.specs.inner.Tokens.{AreTokensOf}
+use Rattle.sno_syntax.proofs.Behind.{tokens_spell}
 use Rattle.sno_statement.proofs.Leftmost.{fit_none}
 
 -- what spells a statement is not refused
 pub clean : (text : List Placed) (s : Statement) (tokens : Result TokenList SyntaxError) → AreTokensOf s tokens → stage_refusal text tokens ≡ None
 clean text s (Err refusal) spells = absurd spells
-clean text s (Ok list) spells = ap (grammar_refusal text list.offsets) (fit_none list.tokens (s, spells.0, spells.1, spells.2))
+clean text s (Ok list) spells = ap (option_map (fault_refusal text list.offsets)) (fit_none list.tokens (s, spells.0, spells.1, spells.2))
 
 pub no_refusal : (labels : LabelList) (text : List Placed) (s : Statement) → SpellsBehind labels text s → statement_refusal labels text ≡ None
 no_refusal labels text s spells =
-    ap (λ fault. label_first text fault (stage_refusal text (tokens_of text))) spells.0 ∙ clean text s (tokens_of text) spells.1
+    ap (λ fault. label_first text fault (stage_refusal text (tokens_of text))) spells.0 ∙ clean text s (tokens_of text) (tokens_spell text s spells.1)
 
 -- a statement more was read
 module _ (texts : List (List Placed)) (labels next : LabelList) (i : ℕ) (text : List Placed) (s : Statement)
@@ -31,7 +35,7 @@ module _ (texts : List (List Placed)) (labels next : LabelList) (i : ℕ) (text 
   pub refusal_more : statements_refusal labels i (drop i texts) ≡ statements_refusal next (i + 1) rest
   refusal_more =
       ap (statements_refusal labels i) here
-      ∙ ap (λ first. either first (statements_refusal (with_label labels (label_of text) i) (i + 1) rest)) (no_refusal labels text s spells)
+      ∙ ap (λ first. option_or first (statements_refusal (with_label labels (label_of text) i) (i + 1) rest)) (no_refusal labels text s spells)
       ∙ ap (λ ls. statements_refusal ls (i + 1) rest) (sym noted)
 
   pub labels_more : labels_from labels i (drop i texts) ≡ labels_from next (i + 1) rest

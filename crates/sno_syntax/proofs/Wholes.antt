@@ -1,5 +1,6 @@
 -- Whole programs: that cards spell at most one, and that none is refused.
 use Rattle.std.proofs.Common.{◌≡◌, ◌+◌, ℕ, List, [], ◌∷◌, Some, None, Result, Ok, Err, refl, sym, ap, ◌∙◌}
+use Rattle.std.specs.Option.{option_or}
 use Rattle.sno_cards.specs.declared.refusal.SyntaxError.{SyntaxError}
 use Rattle.sno_cards.specs.Programs.{ProgramText}
 use Rattle.sno_cards.specs.Texts.{Placed}
@@ -7,8 +8,10 @@ use Rattle.sno_lexer.specs.Listed.{TokenList}
 use Rattle.sno_statement.specs.Statements.{Statement}
 use Rattle.sno_syntax.specs.declared.start.Start.{Start}
 use Rattle.sno_syntax.specs.Labels.{LabelList}
-use Rattle.sno_syntax.specs.Refusals.{label_of, tokens_of, with_label, either, statements_refusal, end_refusal, start_in, syntax_refusal}
-use Rattle.sno_syntax.specs.Programs.{Program, AreTokensOf, SpellsBehind, SpellFrom, IsProgram}
+use Rattle.sno_syntax.specs.Refusals.{label_of, tokens_of, with_label, statements_refusal, end_refusal, start_in, syntax_refusal}
+use Rattle.sno_syntax.specs.Programs.{Program, SpellsBehind, SpellFrom, IsProgram}
+use Rattle.sno_syntax.specs.inner.Tokens.{AreTokensOf}
+use Rattle.sno_syntax.proofs.Behind.{tokens_spell}
 use Rattle.sno_statement.proofs.Grammar.{one_statement}
 use Rattle.sno_syntax.proofs.Spelled.{no_refusal}
 
@@ -17,7 +20,7 @@ one_of_tokens s t (Err f) a b = absurd a
 one_of_tokens s t (Ok list) a b = one_statement s t list.tokens a.0 a.2 b.0 b.2
 
 one_behind : (labels : LabelList) (text : List Placed) (s t : Statement) → SpellsBehind labels text s → SpellsBehind labels text t → s ≡ t
-one_behind labels text s t a b = one_of_tokens s t (tokens_of text) a.1 b.1
+one_behind labels text s t a b = one_of_tokens s t (tokens_of text) (tokens_spell text s a.1) (tokens_spell text t b.1)
 
 one_from : (labels : LabelList) (i : ℕ) (texts : List (List Placed)) (ss ts : List Statement) → SpellFrom labels i texts ss → SpellFrom labels i texts ts → ss ≡ ts
 one_from labels i [] [] [] a b = refl
@@ -41,10 +44,10 @@ clean_from : (labels : LabelList) (i : ℕ) (texts : List (List Placed)) (ss : L
 clean_from labels i [] ss a = refl
 clean_from labels i (text ∷ texts) [] a = absurd a
 clean_from labels i (text ∷ texts) (s ∷ ss) a =
-    ap (λ first. either first (statements_refusal (with_label labels (label_of text) i) (i + 1) texts)) (no_refusal labels text s a.0)
+    ap (λ first. option_or first (statements_refusal (with_label labels (label_of text) i) (i + 1) texts)) (no_refusal labels text s a.0)
     ∙ clean_from (with_label labels (label_of text) i) (i + 1) texts ss a.1
 
 pub not_refused : (cards : ProgramText) (p : Program) → IsProgram cards p → syntax_refusal cards ≡ None
 not_refused cards p a =
-    ap (λ first. either first (end_refusal cards.end_rest (start_in cards))) (clean_from [] 0 cards.statements p.statements a.0)
+    ap (λ first. option_or first (end_refusal cards.end_rest (start_in cards))) (clean_from [] 0 cards.statements p.statements a.0)
     ∙ ap (end_refusal cards.end_rest) a.2

@@ -6,6 +6,7 @@ use Rattle.sno_cards.specs.Texts.{Placed}
 use Rattle.sno_syntax.specs.Labels.{LabelList}
 use Rattle.sno_syntax.specs.Refusals.{IsRefusalOf, statement_refusal, syntax_refusal}
 use Rattle.sno_syntax.specs.Programs.{Program, IsProgram}
+use Rattle.sno_syntax.specs.Reading.{program_on}
 
 -- cards spell at most one program
 abbrev pub OneProgram : Type 0
@@ -18,3 +19,11 @@ NotRefused = (cards : ProgramText) (p : Program) → IsProgram cards p → synta
 -- a statement is refused exactly by the refusal that it has
 abbrev pub RefusedExactly : Type 0
 RefusedExactly = (labels : LabelList) (text : List Placed) (e : SyntaxError) → (statement_refusal labels text ≡ Some e) ↔ IsRefusalOf labels text e
+
+-- where cards spell a program, it is the one that is read
+abbrev pub ReadsPrograms : Type 0
+ReadsPrograms = (cards : ProgramText) (p : Program) → IsProgram cards p → program_on cards ≡ Some p
+
+-- and cards that are not refused spell one
+abbrev pub SpellsOne : Type 0
+SpellsOne = (cards : ProgramText) → syntax_refusal cards ≡ None → (p : Program) × IsProgram cards p

@@ -3,5 +3,6 @@ pub mod Places
 pub mod Starts
 pub mod Refusals
 pub mod Programs
+pub mod Reading
 pub mod Laws
 pub mod inner

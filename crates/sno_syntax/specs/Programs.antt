@@ -1,17 +1,17 @@
 -- Programs, and the texts that spell them (own; after Griswold, Poage and Polonsky, "The SNOBOL4 Programming Language",
 -- 2nd edition, chapter 1).
-use Rattle.std.specs.Prelude.{◌≡◌, ℕ, ◌+◌, List, [], ◌∷◌, map, Some, None, Result, Ok, Err}
-use Rattle.sno_cards.specs.declared.refusal.SyntaxError.{SyntaxError}
+use Rattle.std.specs.Prelude.{◌≡◌, ℕ, ◌+◌, List, [], ◌∷◌, map, Some, None, Ok}
 use Rattle.sno_cards.specs.Programs.{ProgramText}
 use Rattle.sno_cards.specs.Texts.{Placed}
 use Rattle.sno_lexer.specs.Listed.{TokenList}
-use Rattle.sno_statement.specs.Statements.{Statement, StatementHasLevels, StatementHasVariables}
+use Rattle.sno_statement.specs.Statements.{Statement, StatementHasLevels}
 use Rattle.sno_statement.specs.Spelling.{Spells}
+use Rattle.sno_statement.specs.Lacking.{StatementHasVariables}
 use Rattle.sno_statement.specs.Told.{statement_of}
 use Rattle.sno_syntax.specs.declared.program.Program.{Program as AProgram}
 use Rattle.sno_syntax.specs.declared.start.Start.{Start}
 use Rattle.sno_syntax.specs.Labels.{LabelList, label_fault}
-use Rattle.sno_syntax.specs.Refusals.{label_of, tokens_of, with_label, labels_in, start_in}
+use Rattle.sno_syntax.specs.Refusals.{label_of, HasTokens, with_label, labels_in, start_in}
 
 -- the statements in order, the labels with the statement that each stands before, and where a run begins
 pub record Program : Type 0 where
@@ -19,14 +19,13 @@ pub record Program : Type 0 where
   pub labels : LabelList
   pub start : Start
 
--- the tokens spell the statement, which has levels and a variable in each place that needs one
-abbrev pub AreTokensOf : Statement → Result TokenList SyntaxError → Type 0
-AreTokensOf s (Ok list) = StatementHasLevels s × StatementHasVariables s × Spells s list.tokens
-AreTokensOf s (Err refusal) = ⊥
+-- what stands in a text behind its label spells the statement, with levels and with a variable in each place that needs one
+abbrev pub TextSpells : List Placed → Statement → Type 0
+TextSpells text s = (list : TokenList) × HasTokens text (Ok list) × StatementHasLevels s × StatementHasVariables list.tokens s × Spells s list.tokens
 
 -- a text spells a statement behind its label, where these labels are defined before it
 abbrev pub SpellsBehind : LabelList → List Placed → Statement → Type 0
-SpellsBehind labels text s = (label_fault labels (label_of text) ≡ None) × AreTokensOf s (tokens_of text)
+SpellsBehind labels text s = (label_fault labels (label_of text) ≡ None) × TextSpells text s
 
 -- the texts from an index on spell the statements, one each
 abbrev pub SpellFrom : LabelList → ℕ → List (List Placed) → List Statement → Type 0

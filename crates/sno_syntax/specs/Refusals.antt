@@ -1,7 +1,8 @@
 -- The first refusal of a program (own; after Griswold, Poage and Polonsky, "The SNOBOL4 Programming Language", 2nd edition,
 -- chapter 1).
-use Rattle.std.specs.Prelude.{◌≡◌, ℕ, ◌+◌, nat_lt, not, bytes_eq, List, [], ◌∷◌, length, get_or, Option, Some, None, Result, Ok, Err, if◌then◌else◌}
+use Rattle.std.specs.Prelude.{◌≡◌, ℕ, ◌+◌, nat_lt, not, bytes_eq, List, [], ◌∷◌, length, get_or, Option, Some, None, option_map, Result, Ok, Err, ◌⊎◌, if◌then◌else◌}
 use Rattle.std.specs.List.{position_or_len}
+use Rattle.std.specs.Option.{option_or}
 use Rattle.indexmap.specs.IndexMap.{insert_entry}
 use Rattle.mon_text.specs.Characters.{is_blank}
 use Rattle.mon_text.specs.Lines.{words}
@@ -15,6 +16,7 @@ use Rattle.sno_lexer.specs.declared.fault.FaultKind.{FaultKind as LexKind}
 use Rattle.sno_lexer.specs.declared.fault.FaultKind.TheVariants as lex
 use Rattle.sno_lexer.specs.declared.fault.LexFault.{LexFault}
 use Rattle.sno_lexer.specs.Listed.{TokenList}
+use Rattle.sno_lexer.specs.Following.{IsLexed}
 use Rattle.sno_lexer.specs.Lexed.{lexed}
 use Rattle.sno_statement.specs.declared.fault.FaultKind.{FaultKind}
 use Rattle.sno_statement.specs.declared.fault.FaultKind.TheVariants.{MissingBlank, Unfit, NoVariable}
@@ -38,6 +40,9 @@ code_of_fault MissingBlank = BlankMissing
 code_of_fault Unfit = Unexpected
 code_of_fault NoVariable = VariableNeeded
 
+abbrev pub label_of : List Placed → List ℕ
+label_of text = label_in (text_of text)
+
 -- where a token stands, or the end where there is none
 abbrev pub token_place : List Placed → List ℕ → ℕ → Place
 token_place text offsets i = if nat_lt i (length offsets) then place_at text (get_or offsets i 0) else end_of text
@@ -48,25 +53,18 @@ lex_refusal text f = refused (code_of_lex f.kind) (place_at text f.offset)
 abbrev pub fault_refusal : List Placed → List ℕ → Fault → SyntaxError
 fault_refusal text offsets f = refused (code_of_fault f.kind) (token_place text offsets f.at)
 
-abbrev pub grammar_refusal : List Placed → List ℕ → Option Fault → Option SyntaxError
-grammar_refusal text offsets None = None
-grammar_refusal text offsets (Some f) = Some (fault_refusal text offsets f)
-
 abbrev pub with_place : List Placed → Result TokenList LexFault → Result TokenList SyntaxError
 with_place text (Ok list) = Ok list
 with_place text (Err f) = Err (lex_refusal text f)
 
 -- the tokens of a statement are those behind its label
 abbrev pub tokens_of : List Placed → Result TokenList SyntaxError
-tokens_of text = with_place text (lexed (text_of text) (length (label_in (text_of text))))
+tokens_of text = with_place text (lexed (text_of text) (length (label_of text)))
 
--- the token stage, and then the grammar, whose fault is the leftmost (`IsFault` of sno_statement, by its law `FaultIsLeftmost`)
+-- the token stage, and then the grammar
 abbrev pub stage_refusal : List Placed → Result TokenList SyntaxError → Option SyntaxError
 stage_refusal text (Err refusal) = Some refusal
-stage_refusal text (Ok list) = grammar_refusal text list.offsets (fault list.tokens)
-
-abbrev pub label_of : List Placed → List ℕ
-label_of text = label_in (text_of text)
+stage_refusal text (Ok list) = option_map (fault_refusal text list.offsets) (fault list.tokens)
 
 -- the tokens of a text, or its first refusal where neither the grammar is looked at nor which labels may stand there
 abbrev pub lexed_text : List Placed → Result TokenList SyntaxError
@@ -81,15 +79,20 @@ label_first text None later = later
 abbrev pub statement_refusal : LabelList → List Placed → Option SyntaxError
 statement_refusal labels text = label_first text (label_fault labels (label_of text)) (stage_refusal text (tokens_of text))
 
--- what refuses the text of a statement behind its label: what the token stage refuses, or else the leftmost fault of its tokens
-abbrev pub IsRefusedBehind : List Placed → Result TokenList SyntaxError → SyntaxError → Type 0
-IsRefusedBehind text (Err refusal) e = e ≡ refusal
-IsRefusedBehind text (Ok list) e = (f : Fault) × IsFault list.tokens f × (e ≡ fault_refusal text list.offsets f)
+-- these tokens are what stands in a text behind its label, or this is the first fault there
+abbrev pub HasTokens : List Placed → Result TokenList LexFault → Type 0
+HasTokens text r = IsLexed (text_of text) (length (label_of text)) r
+
+-- what refuses the text of a statement behind its label: a fault of the token stage, or else the leftmost fault of its tokens
+abbrev pub IsRefusedBehind : List Placed → SyntaxError → Type 0
+IsRefusedBehind text e =
+    ((f : LexFault) × HasTokens text (Err f) × (e ≡ lex_refusal text f))
+    ⊎ ((list : TokenList) × (f : Fault) × HasTokens text (Ok list) × IsFault list.tokens f × (e ≡ fault_refusal text list.offsets f))
 
 -- what refuses it: what is wrong with its label, or else what refuses it behind that
 abbrev pub IsRefusedBy : List Placed → Option SyntaxCode → SyntaxError → Type 0
 IsRefusedBy text (Some code) e = e ≡ refused code (place_at text 0)
-IsRefusedBy text None e = IsRefusedBehind text (tokens_of text) e
+IsRefusedBy text None e = IsRefusedBehind text e
 
 -- the refusal that a statement has, where these labels are defined before it
 abbrev pub IsRefusalOf : LabelList → List Placed → SyntaxError → Type 0
@@ -101,15 +104,11 @@ abbrev pub with_label : LabelList → List ℕ → ℕ → LabelList
 with_label labels [] index = labels
 with_label labels (c ∷ cs) index = insert_entry bytes_eq labels (c ∷ cs) index
 
-abbrev pub either : Option SyntaxError → Option SyntaxError → Option SyntaxError
-either (Some refusal) later = Some refusal
-either None later = later
-
 -- of the statements from an index on
 abbrev pub statements_refusal : LabelList → ℕ → List (List Placed) → Option SyntaxError
 statements_refusal labels index [] = None
 statements_refusal labels index (text ∷ texts) =
-    either (statement_refusal labels text) (statements_refusal (with_label labels (label_of text) index) (index + 1) texts)
+    option_or (statement_refusal labels text) (statements_refusal (with_label labels (label_of text) index) (index + 1) texts)
 
 -- the labels of the statements from an index on, and those before
 abbrev pub labels_from : LabelList → ℕ → List (List Placed) → LabelList
@@ -135,4 +134,4 @@ start_in program = start_of (length program.statements) (labels_in program.state
 
 -- statement by statement, and then the END line
 abbrev pub syntax_refusal : ProgramText → Option SyntaxError
-syntax_refusal program = either (statements_refusal [] 0 program.statements) (end_refusal program.end_rest (start_in program))
+syntax_refusal program = option_or (statements_refusal [] 0 program.statements) (end_refusal program.end_rest (start_in program))

@@ -6,7 +6,7 @@ ghost use Rattle.sno_cards.specs.declared.refusal.SyntaxCode.TheVariants.{BadEnd
 ghost use Rattle.sno_statement.specs.Told.{statement_of};
 ghost use Rattle.sno_syntax.specs.Places.{refused};
 ghost use Rattle.sno_syntax.specs.Refusals.{code_of_fault, token_place, fault_refusal, label_of, tokens_of, stage_refusal, statement_refusal, with_label, labels_in, statements_refusal, begin_of, syntax_refusal};
-ghost use Rattle.sno_syntax.specs.Programs.{program_of, AreTokensOf, SpellsBehind, SpellFrom, IsProgram};
+ghost use Rattle.sno_syntax.specs.Programs.{program_of, TextSpells, SpellsBehind, SpellFrom, IsProgram};
 ghost use Rattle.sno_syntax.specs.inner.Lasts.{SpellsLast};
 
 use crate::label::{Labels, label_fault, label_in};
@@ -51,7 +51,7 @@ fn fault_refusal(text: &StatementText, offsets: &[usize], fault: Fault) -> Synta
 
 // What a statement says behind its label.
 fn read_body(alloc: Global, text: &StatementText) -> Result<Statement, Stop<SyntaxError>>
-    ensures spelled { IfOk result (λ s. AreTokensOf (statement_of s) (tokens_of text.now)) }
+    ensures spelled { IfOk result (λ s. TextSpells text.now (statement_of s)) }
     ensures refused { IfErr result (IfRefused (λ refusal. stage_refusal text.now (tokens_of text.now) ≡ Some refusal)) }
 {
     let tokens = tokens_of(alloc, text)?;
