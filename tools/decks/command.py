@@ -2,10 +2,11 @@
 from __future__ import annotations
 
 import argparse
+import contextlib
 import os
 import signal
 import sys
-from typing import BinaryIO, Callable, List, Optional, Sequence
+from typing import Callable, Sequence
 
 from . import join, rounds, split
 from .catalogue import MODES
@@ -42,10 +43,9 @@ def _leave(number: int, _frame: object) -> None:
 
 def _say(text: str) -> None:
     line = ''.join(letter if letter.isprintable() else repr(letter)[1:-1] for letter in text)
-    try:
-        print(f'deck: {line}', file=sys.stderr)
-    except (OSError, AttributeError):
-        pass  # there is nowhere left to say it
+    if sys.stderr is not None:
+        with contextlib.suppress(OSError):  # there is nowhere else to say it
+            print(f'deck: {line}', file=sys.stderr)
 
 
 def _options() -> argparse.ArgumentParser:

@@ -60,7 +60,7 @@ class Part:
         """The lines of this command's printout, which has to be at hand."""
         if not self.output.is_at_a_printout() or self.output.line != title:
             at_hand = 'the output ends' if self.output.line is None else f'there is {shown(self.output.line)}'
-            raise self.output.lines.refused(f'the printout {shown(title)} is due here, and {at_hand}')
+            raise self.output.refused_here(f'the printout {shown(title)} is due here, and {at_hand}')
         return self.output.printout()
 
 
@@ -119,8 +119,7 @@ class Joining:
             at_hand = [(part.job_at_hand(), place) for place, part in enumerate(self.parts) if part.accounts]
             number, place = min((number or 0, place) for number, place in at_hand)
             if number == 0:
-                lines = self.parts[place].output.lines
-                raise lines.refused('a job of this deck is to be printed here, and is not')
+                raise self.parts[place].output.refused_here('a job of this deck is to be printed here, and is not')
             self.parts[place].copy_job(number, self.joined)
 
     def catalogue(self) -> None:

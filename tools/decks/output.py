@@ -4,7 +4,7 @@ from __future__ import annotations
 from typing import Iterator, List, Optional
 
 from .catalogue import HEADINGS, Found, Sets
-from .text import CATALOGUE_LIMIT, OutputLines, is_count, is_name, shown
+from .text import CATALOGUE_LIMIT, OutputLines, Refused, is_count, is_name, shown
 
 # By the first word of a printout: how its last line may begin, and how those between may that show nothing stored.
 LAST_WORDS = {b'JOB': (b'END', b'REFUSED'), b'CREATE': (b'DONE', b'REFUSED'), b'DELETE': (b'DONE', b'REFUSED', b'DENIED'),
@@ -25,9 +25,12 @@ class Output:
         """Takes the line at hand."""
         line = self.line
         if line is None:
-            raise self.lines.cut_off('the output ends within a printout: it was cut off')
+            raise self.refused_here('there is no more of the output')
         self.line = self.lines.next()
         return line
+
+    def refused_here(self, text: str) -> Refused:
+        return self.lines.cut_off(text) if self.line is None else self.lines.refused(text)
 
     def is_at_a_printout(self) -> bool:
         return self.line is not None and self.line[:1] != b'$'
@@ -50,7 +53,7 @@ class Output:
         yield self.step()
         while True:
             if self.line is None:
-                raise self.lines.cut_off(f'the printout that begins at line {begun} was cut off')
+                raise self.refused_here(f'the printout that begins at line {begun} was cut off')
             first = self.line.split(b' ', 1)[0]
             is_last = first in LAST_WORDS[word]
             if not (is_last or self.line[:1] == b' ' or first in OTHER_WORDS.get(word, ())):
@@ -67,7 +70,7 @@ class Output:
     def version(self) -> int:
         """The catalogue's, whose heading has to be the line at hand."""
         if self.line is None:
-            raise self.lines.cut_off('the output has no catalogue; a run has none that did not end with the status 0')
+            raise self.refused_here('the output has no catalogue; a run has none that did not end with the status 0')
         version = HEADINGS.get(self.line)
         if version is not None:
             return version

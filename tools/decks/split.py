@@ -29,7 +29,7 @@ from typing import BinaryIO, Dict, Iterator, List, Optional, Sequence, Set, Tupl
 
 from .cards import Account, Command, Drain, Heading, Item, Job, Stop, StreamItem, Turn, read_deck
 from .catalogue import SETS_LIMIT, DataSet
-from .files import blaming, filled, opened_twice
+from .files import filled, opened_twice
 from .parts import CARDS_FILE, Event, deck_of, event_line
 from .text import Lines, Refused, counted, shown, text_of
 
@@ -241,7 +241,7 @@ def split_deck(path: str, folder: str, most: int, slots: int) -> Tuple[List[str]
 
 def _write_cards(deck: Survey, planned: Plan, room: str) -> None:
     path = os.path.join(room, CARDS_FILE)
-    with blaming(path), open(path, 'wb') as file:
+    with open(path, 'wb') as file:
         file.write(text_of([event_line(event) for event in _events(deck, planned)]))
 
 
@@ -260,7 +260,7 @@ def _events(deck: Survey, planned: Plan) -> Iterator[Event]:
 
 
 def _write_decks(lines: Lines, planned: Plan, room: str) -> None:
-    with blaming(room), contextlib.ExitStack() as stack:
+    with contextlib.ExitStack() as stack:
         files: List[BinaryIO] = [stack.enter_context(open(deck_of(room, part), 'wb')) for part in range(planned.count)]
         for item, pieces in read_deck(lines):
             is_shared = isinstance(item, (Heading, Account))

@@ -1,0 +1,96 @@
+"""What is installed, the man pages, and the examples of a round."""
+import os
+import re
+import shutil
+from trying import BOTH, PRINTOUTS, SNOMON, TOP, Trying, run, snomon
+from test_2_split import HEAD, job, sets
+
+SPOILED = b"$JOB hugo\n  X = 1 +\nEND\n$EOJ\n$JOB lisa ST=1\nL  :(L)\nEND\n$EOJ\n"
+
+
+class Installed(Trying):
+    def test_what_is_installed_runs(self):
+        environment = {**os.environ, **({'SNOMON': SNOMON} if 'SNOMON' in os.environ else {})}  # else it is built
+        done = run([os.path.join(TOP, 'install'), self.path('there')], env=environment)
+        self.assertEqual((done.status, done.err), (0, ''))
+        for name in done.out.decode().split():
+            self.assertTrue(os.path.isfile(name), name)
+        self.assertEqual(sorted(os.listdir(self.path('there'))), ['bin', 'lib', 'share'])
+        self.assertLessEqual({'deck', 'snomon'}, set(os.listdir(self.path('there/bin'))))
+        self.assertFalse([name for _, _, names in os.walk(self.path('there')) for name in names if name.startswith('.')])
+        self.write('output', BOTH[2])
+        done = run([self.path('there/bin/deck'), 'printouts', self.path('output')])
+        self.assertEqual((done.status, done.out, done.err), (0, PRINTOUTS, ''))
+        self.assertNotIn('__pycache__', os.listdir(self.path('there/lib/snomon/decks')))
+        again = run([os.path.join(TOP, 'install'), self.path('there')], env=environment)
+        self.assertEqual(again.status, 0)
+
+    def test_install_refuses_other_words(self):
+        for words in (['--bogus'], ['a', 'b']):
+            done = run([os.path.join(TOP, 'install'), *words], cwd=self.room)
+            self.assertEqual((done.status, done.out, self.names()), (2, b'', []))
+            self.assertIn('./install [PREFIX]', done.err)
+
+    def test_man_pages_are_set_without_a_warning(self):
+        if not shutil.which('groff'):
+            self.skipTest('there is no groff')
+        for page in ('snomon.1', 'snomon-deck.5'):
+            done = run(['groff', '-mdoc', '-Tascii', '-ww', os.path.join(TOP, 'docs', 'man', page)])
+            self.assertEqual((done.status, done.err), (0, ''))
+            self.assertIn(b'DESCRIPTION', re.sub(b'.\x08', b'', done.out))
+
+    def test_the_page_has_a_grep_that_finds_what_failed(self):
+        with open(os.path.join(TOP, 'docs', 'ROUND.md')) as page:
+            command = re.search(r'^deck printouts monday.out (.*)$', page.read(), re.M).group(1)
+        deck_text = HEAD + sets(b'A') + b'$STREAM\n$LIST eve A\n' + job(b'A') + SPOILED + b'$CREATE lisa A\n$DRAIN\n$LIST lisa A\n$STOP\n'
+        self.write('monday.out', snomon(deck_text).out)
+        self.assertEqual(snomon(deck_text).status, 0)
+        done = run(['sh', '-c', f'"$0" printouts "$1" {command}', os.path.join(TOP, 'tools', 'deck'), self.path('monday.out')])
+        self.assertEqual([line for line in done.out.split(b'\n') if line and line != b'--' and not line.startswith(b'REFUSED P')
+                          and line != b'REFUSED ?'],
+                         [b'LIST eve A', b'REFUSED M2 NO ACCOUNT', b'JOB 2 hugo', b'CREATE lisa A', b'REFUSED K1 NAME TAKEN', b'JOB 3 lisa',
+                          b'END STATEMENT LIMIT AFTER 1'])
+
+
+class Rounds(Trying):
+    def setUp(self):
+        super().setUp()
+        names = [b'S%d' % number for number in range(8)]
+        self.text = HEAD + sets(*names) + b'$STREAM\n' + b''.join(map(job, names)) + b'$DRAIN\n$LIST anna S3\n$STOP\n'
+        self.write('monday.deck', self.text)
+
+    def is_as_the_whole(self):
+        whole = snomon(self.text).out
+        at = whole.index(b'LIST anna')
+        self.assertEqual(self.read('monday.out')[at:], whole[at:])
+        self.assertEqual(sorted(self.read('monday.out').split(b'\n')), sorted(whole.split(b'\n')))
+
+    def test_the_makefile_splits_runs_and_joins(self):
+        if not shutil.which('make'):
+            self.skipTest('there is no make')
+        words = ['make', '-j', '2', '-f', os.path.join(TOP, 'examples', 'round', 'Makefile'), 'DECK=monday.deck', 'MOST=3']
+        words += [f'SNOMON={SNOMON}', f'SPLIT={TOP}/tools/deck split', f'JOIN={TOP}/tools/deck join']
+        without = {key: value for key, value in os.environ.items() if not key.startswith('MAKE')}
+        done = run(words, cwd=self.room, env=without)
+        self.assertEqual((done.status, done.err), (0, ''))
+        self.assertEqual(sorted(os.listdir(self.path('monday.parts'))),
+                         ['1.deck', '1.out', '2.deck', '2.out', '3.deck', '3.out', 'cards'])
+        self.is_as_the_whole()
+        self.assertIn(b'up to date', run(words, cwd=self.room, env=without).out)
+        os.remove(self.path('monday.parts/2.out'))
+        os.remove(self.path('monday.out'))
+        self.assertEqual(run(words, cwd=self.room, env=without).out.count(b'--slots'), 1)
+        self.is_as_the_whole()
+        os.remove(self.path('monday.out'))
+        self.write('monday.deck', b'$ACCOUNTS\n')
+        done = run(words, cwd=self.room, env=without)
+        self.assertEqual((done.status, self.names()), (2, ['monday.deck']))
+
+    def test_the_slurm_script_runs_each_part(self):
+        script = ('deck split monday.deck parts --parts 3; for task in 1 2 3; do SLURM_ARRAY_TASK_ID=$task "$0" parts || exit; done; '
+                  'deck join parts -o monday.out')
+        path = os.path.join(TOP, 'tools') + os.pathsep + os.environ['PATH']
+        done = run(['sh', '-c', script, os.path.join(TOP, 'examples', 'round', 'round.sbatch')], cwd=self.room,
+                   env={**os.environ, 'SNOMON': SNOMON, 'PATH': path})
+        self.assertEqual((done.status, done.err), (0, ''))
+        self.is_as_the_whole()
