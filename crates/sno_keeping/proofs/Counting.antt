@@ -7,6 +7,8 @@ use Rattle.sno_talk.specs.Endings.{EndsIn}
 use Rattle.sno_talk.proofs.Enough.{ends_in_then, ends_in_weaker}
 use Rattle.sno_talk.proofs.Hosts.{through_ends}
 use Rattle.sno_ask.specs.Asking.{Asking}
+use Rattle.sno_ask.specs.Counting.{lifted}
+use Rattle.sno_ask.proofs.Counting.{lifted_ends}
 use Rattle.sno_ask.specs.declared.request.Act.{Act}
 use Rattle.sno_ask.specs.declared.request.Act.TheVariants as act
 use Rattle.mon_answer.specs.declared.answer.Answer.{Answer}
@@ -267,9 +269,10 @@ within : (limits : Limits) (s t : State) → Stays s.keywords.begun t → allowe
 within limits s t h = rw h (omega arith)
 
 all_within : {A : Type 0} (limits : Limits) (s : State) (t : Asking (A × State)) → EndsIn (λ (r : A × State). Stays s.keywords.begun r.1) t
-    → EndsIn (λ (r : A × State). allowed limits r.1 ≤ allowed limits s) t
+    → EndsIn (λ (r : A × State). allowed limits r.1 ≤ allowed limits s) (lifted t)
 all_within {A} limits s t h =
-    ends_in_weaker (λ (r : A × State). Stays s.keywords.begun r.1) (λ (r : A × State). allowed limits r.1 ≤ allowed limits s) t (λ r g. within limits s r.1 g) h
+    lifted_ends (λ (r : A × State). allowed limits r.1 ≤ allowed limits s) t
+    (ends_in_weaker (λ (r : A × State). Stays s.keywords.begun r.1) (λ (r : A × State). allowed limits r.1 ≤ allowed limits s) t (λ r g. within limits s r.1 g) h)
 
 pub state_counts : (limits : Limits) → Counts (keeping limits) (allowed limits)
 state_counts limits = record {

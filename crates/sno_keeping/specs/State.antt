@@ -1,6 +1,7 @@
--- The state of a job as what programs rest on (own): all that statements do to it.
+-- The state of a job as what programs rest on (own): all that statements do to it, and that they begin.
 use Rattle.std.specs.Prelude.{ℕ, ◌-◌}
-use Rattle.sno_ask.specs.declared.request.Request.{Request}
+use Rattle.sno_talk.specs.Talks.{Ends, Asks}
+use Rattle.sno_ask.specs.Counting.{Moment, Beginning, lifted}
 use Rattle.mon_answer.specs.declared.answer.Answer.{Answer}
 use Rattle.sno_code.specs.Keeping.{Keeping}
 use Rattle.sno_store.specs.declared.store.Store.{Store as State}
@@ -12,18 +13,19 @@ use Rattle.sno_keeping.specs.Calling.{begun, entered, left}
 use Rattle.sno_keeping.specs.Primitives.{primitive}
 
 -- in a job of these limits
-abbrev pub keeping : Limits → Keeping Request Answer State
+abbrev pub keeping : Limits → Keeping Moment Answer State
 keeping limits = record {
-  used = used;
-  assigned = assigned;
+  used = λ name s. lifted (used name s);
+  assigned = λ name v s. lifted (assigned name v s);
   keyword = keyword;
   keyword_set = keyword_set;
   most = λ s. s.keywords.maximum_length;
-  matched = matched limits.steps;
+  matched = λ text p s. lifted (matched limits.steps text p s);
   begun = begun limits.statements;
+  noted = Asks Beginning (λ _. Ends tt);
   entered = entered;
   left = left;
-  primitive = primitive;
+  primitive = λ f vs s. lifted (primitive f vs s);
 }
 
 -- how many statements the job's own limit still lets begin, whatever &STLIMIT says
