@@ -1,3 +1,4 @@
 pub mod Patterns
 pub mod Nodes
+pub mod Sets
 pub mod inner

@@ -5,6 +5,7 @@
 
 mod node;
 mod pattern;
+pub mod set;
 
 pub use node::Node;
 pub use pattern::{MOST_DEPTH, Pat};

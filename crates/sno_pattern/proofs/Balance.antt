@@ -1,8 +1,8 @@
 -- The ends of parts with their parentheses in pairs, character by character.
 use Rattle.std.specs.Prelude.{ℕ, zero, suc, ◌+◌, ◌-◌, ◌≤◌, List, [], ◌∷◌, length, take, drop, Bool, true, false, cond, if◌then◌else◌, nat_eq, Option, Some, None}
 use Rattle.std.proofs.Common.{◌≡◌, refl, sym, ap, ◌∙◌, arith, length-drop, get_or, drop-cons, add-one, ◌<◌, ◌≢◌, subst}
-use Rattle.std.specs.List.{filter}
-use Rattle.sno_pattern.specs.Steps.{upward, part, balanced_ends}
+use Rattle.std.specs.List.{filter, range_with_len}
+use Rattle.sno_pattern.specs.Steps.{part, balanced_ends}
 use Rattle.sno_pattern.specs.inner.Reaching.{closes, open_after}
 use Rattle.sno_pattern.proofs.Pairs.{pairs_close}
 
@@ -12,33 +12,36 @@ ends_where test c [] = []
 ends_where test c (x ∷ xs) =
     cond (test (x ∷ [])) ((c + 1) ∷ ends_where (λ s. test (x ∷ s)) (c + 1) xs) (ends_where (λ s. test (x ∷ s)) (c + 1) xs)
 
-filter_same : (g h : ℕ → Bool) (b k : ℕ) → ((e : ℕ) → b ≤ e → g e ≡ h e) → filter g (upward b k) ≡ filter h (upward b k)
+filter_same : (g h : ℕ → Bool) (b k : ℕ) → ((e : ℕ) → b ≤ e → g e ≡ h e) → filter g (range_with_len b k) ≡ filter h (range_with_len b k)
 filter_same g h b zero same = refl
 filter_same g h b (suc k) same =
-    ap (λ t. cond t (b ∷ filter g (upward (b + 1) k)) (filter g (upward (b + 1) k))) (same b (omega arith))
+    ap (λ t. cond t (b ∷ filter g (range_with_len (b + 1) k)) (filter g (range_with_len (b + 1) k))) (same b (omega arith))
     ∙ ap (λ es. cond (h b) (b ∷ es) es) (filter_same g h (b + 1) k (λ e l. same e (omega arith)))
 
-filter_is : (test : List ℕ → Bool) (c : ℕ) (xs : List ℕ) → filter (λ e. test (take (e - c) xs)) (upward (c + 1) (length xs)) ≡ ends_where test c xs
+filter_is : (test : List ℕ → Bool) (c : ℕ) (xs : List ℕ) → filter (λ e. test (take (e - c) xs)) (range_with_len (c + 1) (length xs)) ≡ ends_where test c xs
 filter_is test c [] = refl
 filter_is test c (x ∷ xs) =
     let one : c + 1 - c ≡ 1 = omega arith in
-    let rest : filter (λ e. test (take (e - c) (x ∷ xs))) (upward (c + 1 + 1) (length xs)) ≡ ends_where (λ s. test (x ∷ s)) (c + 1) xs =
-    (filter_same (λ e. test (take (e - c) (x ∷ xs))) (λ e. test (x ∷ take (e - (c + 1)) xs)) (c + 1 + 1) (length xs) (λ e l. let more : e - c ≡ suc (e - (c + 1)) = omega arith in ap (λ k. test (take k (x ∷ xs))) more)
+    let rest : filter (λ e. test (take (e - c) (x ∷ xs))) (range_with_len (c + 1 + 1) (length xs)) ≡ ends_where (λ s. test (x ∷ s)) (c + 1) xs =
+    (filter_same (λ e. test (take (e - c) (x ∷ xs))) (λ e. test (x ∷ take (e - (c + 1)) xs)) (c + 1 + 1) (length xs)
+    (λ e l. let more : e - c ≡ suc (e - (c + 1)) = omega arith in ap (λ k. test (take k (x ∷ xs))) more)
     ∙ filter_is (λ s. test (x ∷ s)) (c + 1) xs) in
-    ap (λ k. cond (test (take k (x ∷ xs))) ((c + 1) ∷ filter (λ e. test (take (e - c) (x ∷ xs))) (upward (c + 1 + 1) (length xs))) (filter (λ e. test (take (e - c) (x ∷ xs))) (upward (c + 1 + 1) (length xs)))) one
+    ap (λ k. cond (test (take k (x ∷ xs))) ((c + 1) ∷ filter (λ e. test (take (e - c) (x ∷ xs))) (range_with_len (c + 1 + 1) (length xs)))
+    (filter (λ e. test (take (e - c) (x ∷ xs))) (range_with_len (c + 1 + 1) (length xs)))) one
     ∙ ap (λ es. cond (test (x ∷ [])) ((c + 1) ∷ es) es) rest
 
 pub balanced_is : (text : List ℕ) (c : ℕ) → balanced_ends text c ≡ ends_where (closes 0) c (drop c text)
 balanced_is text c =
-    ap (λ (test : List ℕ → Bool). filter (λ e. test (part text c e)) (upward (c + 1) (length text - c))) pairs_close
-    ∙ ap (λ k. filter (λ e. closes 0 (part text c e)) (upward (c + 1) k)) (sym (length-drop c text))
+    ap (λ (test : List ℕ → Bool). filter (λ e. test (part text c e)) (range_with_len (c + 1) (length text - c))) pairs_close
+    ∙ ap (λ k. filter (λ e. closes 0 (part text c e)) (range_with_len (c + 1) k)) (sym (length-drop c text))
     ∙ filter_is (closes 0) c (drop c text)
 
 abbrev closes_open : Option ℕ → List ℕ → Bool
 closes_open None s = false
 closes_open (Some k) s = closes k s
 
-by_character : (here there : Bool) (a b c : Option ℕ) (s : List ℕ) → (if here then closes_open a s else if there then closes_open b s else closes_open c s) ≡ closes_open (if here then a else if there then b else c) s
+by_character : (here there : Bool) (a b c : Option ℕ) (s : List ℕ)
+    → (if here then closes_open a s else if there then closes_open b s else closes_open c s) ≡ closes_open (if here then a else if there then b else c) s
 by_character true there a b c s = refl
 by_character false true a b c s = refl
 by_character false false a b c s = refl
@@ -57,14 +60,16 @@ after_one None c xs = []
 after_one (Some zero) c xs = c ∷ ends_where (closes zero) c xs
 after_one (Some (suc k)) c xs = ends_where (closes (suc k)) c xs
 
-open_ends : (o : Option ℕ) (c : ℕ) (xs : List ℕ) → cond (closes_open o []) (c ∷ ends_where (λ s. closes_open o s) c xs) (ends_where (λ s. closes_open o s) c xs) ≡ after_one o c xs
+open_ends : (o : Option ℕ) (c : ℕ) (xs : List ℕ) → cond (closes_open o []) (c ∷ ends_where (λ s. closes_open o s) c xs)
+    (ends_where (λ s. closes_open o s) c xs) ≡ after_one o c xs
 open_ends None c xs = none_ends c xs
 open_ends (Some zero) c xs = refl
 open_ends (Some (suc k)) c xs = refl
 
 pub one_on : (k x c : ℕ) (xs : List ℕ) → ends_where (closes k) c (x ∷ xs) ≡ after_one (open_after k x) (c + 1) xs
 one_on k x c xs =
-    ap (λ (f : List ℕ → Bool). cond (f []) ((c + 1) ∷ ends_where f (c + 1) xs) (ends_where f (c + 1) xs)) (funext (λ s. closes k (x ∷ s)) (λ s. closes_open (open_after k x) s) (λ s. closes_after k x s))
+    ap (λ (f : List ℕ → Bool). cond (f []) ((c + 1) ∷ ends_where f (c + 1) xs) (ends_where f (c + 1) xs))
+    (funext (λ s. closes k (x ∷ s)) (λ s. closes_open (open_after k x) s) (λ s. closes_after k x s))
     ∙ open_ends (open_after k x) (c + 1) xs
   where
     funext : (f g : List ℕ → Bool) → ((s : List ℕ) → f s ≡ g s) → f ≡ g

@@ -32,7 +32,8 @@ module _ (newer older : List Cell) (all waits : List Waiting) (same : (k : ℕ) 
       ∙ ap (λ (w : List Waiting). let x : Choice = record { kind = o.kind; goals = goals_at older o.top; at = o.at; waits = w } in x) (same o.waits k)
 
   -- so are the choices that were left by then
-  older_choices : (kept w : ℕ) (opens : List Open) → AreKept kept w opens → kept ≤ length older → w ≤ length waits → map (choice_of (newer ++ older) all) opens ≡ map (choice_of older waits) opens
+  older_choices : (kept w : ℕ) (opens : List Open) → AreKept kept w opens → kept ≤ length older → w ≤ length waits
+      → map (choice_of (newer ++ older) all) opens ≡ map (choice_of older waits) opens
   older_choices kept w [] h k l = refl
   older_choices kept w (o ∷ os) h k l =
       let t = h.0 in let u = h.1 in let v = h.2 in
@@ -56,25 +57,34 @@ module _ (items : List Cell) (top kept : ℕ) (waits : List Waiting) (opens : Li
   ahead goals all = record { goals = goals; waits = all; opens = map (choice_of (reverse items) waits) opens }
 
   -- a goal is put in front
-  pub put : (c : Cell) (new : List Cell) (k : ℕ) → new ≡ items ++ c ∷ [] → k ≡ length new → c.rest ≡ top → ahead_of (reverse new) k waits opens ≡ ahead (goal_of c.goal ∷ goals_at (reverse items) top) waits
+  pub put : (c : Cell) (new : List Cell) (k : ℕ) → new ≡ items ++ c ∷ [] → k ≡ length new → c.rest ≡ top
+      → ahead_of (reverse new) k waits opens ≡ ahead (goal_of c.goal ∷ goals_at (reverse items) top) waits
   put c new k e l rest =
       let r : reverse new ≡ c ∷ reverse items = ap reverse e ∙ reverse-append items (c ∷ []) in
       let m : k ≡ length (c ∷ reverse items) = l ∙ sym (length-reverse new) ∙ ap length r in
       let room = is.room in
-      let first : goals_at (c ∷ reverse items) k ≡ goal_of c.goal ∷ goals_at (reverse items) top = own c (reverse items) k m ∙ ap (λ j. goal_of c.goal ∷ goals_at (reverse items) j) rest in
+      let first : goals_at (c ∷ reverse items) k ≡ goal_of c.goal ∷ goals_at (reverse items) top = own c (reverse items) k m
+      ∙ ap (λ j. goal_of c.goal ∷ goals_at (reverse items) j) rest in
       ap (λ cs. ahead_of cs k waits opens) r
       ∙ ap (λ (g : List Goal). let a : Ahead = record { goals = g; waits = waits; opens = map (choice_of (c ∷ reverse items) waits) opens } in a) first
       ∙ ap (λ (xs : List Choice). let a : Ahead = record { goals = goal_of c.goal ∷ goals_at (reverse items) top; waits = waits; opens = xs } in a)
       (older_choices (c ∷ []) (reverse items) waits waits (λ k h. refl) kept (length waits) opens is.needed room (omega arith))
 
   -- the goal in front, which no choice needs, is taken out
-  pub popped : (c : Cell) (new : List Cell) → items ≡ new ++ c ∷ [] → top ≡ length items → kept ≤ length new → ahead_of (reverse items) top waits opens ≡ record { goals = goal_of c.goal ∷ goals_at (reverse new) c.rest; waits = waits; opens = map (choice_of (reverse new) waits) opens }
+  pub popped : (c : Cell) (new : List Cell) → items ≡ new ++ c ∷ [] → top ≡ length items → kept ≤ length new
+      → ahead_of (reverse items) top waits opens ≡ record {
+        goals = goal_of c.goal ∷ goals_at (reverse new) c.rest;
+        waits = waits;
+        opens =
+            map (choice_of (reverse new) waits) opens;
+      }
   popped c new e l h =
       let r : reverse items ≡ c ∷ reverse new = ap reverse e ∙ reverse-append new (c ∷ []) in
       let m : top ≡ length (c ∷ reverse new) = l ∙ sym (length-reverse items) ∙ ap length r in
       let n : length (reverse new) ≡ length new = length-reverse new in
       ap (λ cs. ahead_of cs top waits opens) r
-      ∙ ap (λ (g : List Goal). let a : Ahead = record { goals = g; waits = waits; opens = map (choice_of (c ∷ reverse new) waits) opens } in a) (own c (reverse new) top m)
+      ∙ ap (λ (g : List Goal). let a : Ahead = record { goals = g; waits = waits; opens = map (choice_of (c ∷ reverse new) waits) opens } in a)
+      (own c (reverse new) top m)
       ∙ ap (λ (xs : List Choice). let a : Ahead = record { goals = goal_of c.goal ∷ goals_at (reverse new) c.rest; waits = waits; opens = xs } in a)
       (older_choices (c ∷ []) (reverse new) waits waits (λ k h. refl) kept (length waits) opens is.needed (omega arith) (omega arith))
 
@@ -94,7 +104,8 @@ module _ (items : List Cell) (top kept : ℕ) (waits : List Waiting) (opens : Li
         let p = place in
         let one : top ≡ top - 1 + 1 = omega arith in
         cut top items
-        ∙ ap (λ t. after ++ reverse t) (ap (λ k. take k items) one ∙ take_more items (top - 1) x (omega arith) ∙ ap (λ y. take (top - 1) items ++ y ∷ []) (sym here))
+        ∙ ap (λ t. after ++ reverse t) (ap (λ k. take k items) one ∙ take_more items (top - 1) x (omega arith)
+        ∙ ap (λ y. take (top - 1) items ++ y ∷ []) (sym here))
         ∙ ap (λ t. after ++ t) (reverse-append (take (top - 1) items) (x ∷ []))
 
     many : length before ≡ top - 1
@@ -110,7 +121,8 @@ module _ (items : List Cell) (top kept : ℕ) (waits : List Waiting) (opens : Li
     in_front =
         let l = lower in let m = many in
         ap (λ cs. goals_at cs top) split ∙ older_goals after (x ∷ before) top (omega arith) ∙ own x before top (omega arith)
-        ∙ ap (λ gs. goal_of x.goal ∷ gs) (sym (past x before x.rest l) ∙ sym (older_goals after (x ∷ before) x.rest (omega arith)) ∙ ap (λ cs. goals_at cs x.rest) (sym split))
+        ∙ ap (λ gs. goal_of x.goal ∷ gs) (sym (past x before x.rest l) ∙ sym (older_goals after (x ∷ before) x.rest (omega arith))
+        ∙ ap (λ cs. goals_at cs x.rest) (sym split))
 
     pub passed : IsTrail (reverse items) x.rest kept waits opens
     passed = record { place = rest_within; room = is.room; behind = is.behind; needed = is.needed }
@@ -120,15 +132,23 @@ module _ (items : List Cell) (top kept : ℕ) (waits : List Waiting) (opens : Li
     pub waited : ahead_of (reverse items) top (waits ++ w ∷ []) opens ≡ ahead (goals_at (reverse items) top) (waits ++ w ∷ [])
     waited =
         ap (λ (xs : List Choice). let a : Ahead = record { goals = goals_at (reverse items) top; waits = waits ++ w ∷ []; opens = xs } in a)
-        (older_choices [] (reverse items) (waits ++ w ∷ []) waits (λ k h. take-append-le k waits (w ∷ []) h) kept (length waits) opens is.needed is.room (omega arith))
+        (older_choices [] (reverse items) (waits ++ w ∷ []) waits (λ k h. take-append-le k waits (w ∷ []) h) kept
+        (length waits) opens is.needed is.room (omega arith))
 
     pub waits_on : IsTrail (reverse items) top kept (waits ++ w ∷ []) opens
     waits_on =
         let l : length (waits ++ w ∷ []) ≡ length waits + 1 = length-append waits (w ∷ []) in
-        record { place = is.place; room = is.room; behind = is.behind; needed = more_kept kept (length waits) (length (waits ++ w ∷ [])) opens is.needed (omega arith) }
+        record {
+          place = is.place;
+          room = is.room;
+          behind = is.behind;
+          needed =
+              more_kept kept (length waits) (length (waits ++ w ∷ [])) opens is.needed (omega arith);
+        }
 
 -- the last choice is taken off, and what came after it is cut off
-module _ (items : List Cell) (top kept : ℕ) (waits : List Waiting) (all opens : List Open) (o : Open) (is : IsTrail (reverse items) top kept waits (reverse all)) (e : all ≡ opens ++ o ∷ []) where
+module _ (items : List Cell) (top kept : ℕ) (waits : List Waiting) (all opens : List Open) (o : Open)
+    (is : IsTrail (reverse items) top kept waits (reverse all)) (e : all ≡ opens ++ o ∷ []) where
   last_first : reverse all ≡ o ∷ reverse opens
   last_first = ap reverse e ∙ reverse-append opens (o ∷ [])
 
@@ -157,14 +177,19 @@ module _ (items : List Cell) (top kept : ℕ) (waits : List Waiting) (all opens 
         needed = more_kept o.kept o.waits (length (take o.waits waits)) (reverse opens) n.3 (omega arith);
       }
 
-  pub last_open : map (choice_of (reverse items) waits) (reverse all) ≡ record { kind = o.kind; goals = goals_at (reverse (take kept items)) o.top; at = o.at; waits = take o.waits waits } ∷ map (choice_of (reverse (take kept items)) (take o.waits waits)) (reverse opens)
+  pub last_open : map (choice_of (reverse items) waits) (reverse all)
+      ≡ record { kind = o.kind; goals = goals_at (reverse (take kept items)) o.top; at = o.at; waits = take o.waits waits }
+      ∷ map (choice_of (reverse (take kept items)) (take o.waits waits)) (reverse opens)
   last_open =
       let n = needs in let t = n.0 in let u = n.1 in let m = so_many in let l = so_long in
       ap (map (choice_of (reverse items) waits)) last_first
       ∙ ap (λ cs. map (choice_of cs waits) (o ∷ reverse opens)) (cut kept items)
-      ∙ ap (λ (g : List Goal). (let x : Choice = record { kind = o.kind; goals = g; at = o.at; waits = take o.waits waits } in x) ∷ map (choice_of (newer ++ older) waits) (reverse opens)) (older_goals newer older o.top (omega arith))
+      ∙ ap (λ (g : List Goal). (let x : Choice = record { kind = o.kind; goals = g; at = o.at; waits = take o.waits waits } in x)
+      ∷ map (choice_of (newer ++ older) waits) (reverse opens)) (older_goals newer older o.top (omega arith))
       ∙ ap (λ xs. (let x : Choice = record { kind = o.kind; goals = goals_at older o.top; at = o.at; waits = take o.waits waits } in x) ∷ xs)
-      (older_choices newer older waits (take o.waits waits) (λ k h. ap (take k) (sym (take-append-drop o.waits waits)) ∙ take-append-le k (take o.waits waits) (drop o.waits waits) h) o.kept o.waits (reverse opens) n.3 (omega arith) (omega arith))
+      (older_choices newer older waits (take o.waits waits)
+      (λ k h. ap (take k) (sym (take-append-drop o.waits waits)) ∙ take-append-le k (take o.waits waits) (drop o.waits waits) h) o.kept o.waits
+      (reverse opens) n.3 (omega arith) (omega arith))
 
 -- what is known of goals behind one
 pub behind_one : {X : Type 0} (xs ys : List X) (x : X) → xs ≡ x ∷ ys → xs ≡ x ∷ drop 1 xs

@@ -1,13 +1,14 @@
 -- With more steps a match ends as it did, with so many more of them left, unless it had run out of them.
 use Rattle.std.specs.Prelude.{◌≡◌, ◌⊎◌, ℕ, zero, suc, ◌+◌, ◌-◌, ◌≤◌, List, [], ◌∷◌, ◌++◌, length, drop, Bool, true, false, not, ◌&&◌, if◌then◌else◌, nat_eq, nat_le, nat_lt}
 use Rattle.std.proofs.Common.{refl, sym, ap, subst, inl, inr, arith}
-use Rattle.std.specs.List.{starts_with, prefix_len, position_or_len}
+use Rattle.std.specs.List.{starts_with, prefix_len, position_or_len, range_with_len}
 use Rattle.sno_talk.specs.Talks.{Ends, Asks}
 use Rattle.sno_nodes.specs.Patterns.{Pattern}
 use Rattle.sno_nodes.specs.Patterns as pattern
 use Rattle.sno_pattern.specs.declared.ending.Pending.{Pending}
 use Rattle.sno_pattern.specs.Looks.{Told, Found, Given, Refused, Faulty}
-use Rattle.sno_pattern.specs.Steps.{Goal, Meet, More, EndConditional, EndImmediate, End, Success, Failure, WholeFails, OutOfSteps, Fault, Trying, Way, ends, after_end, on_failure, at_each, upward, part, is_one_of, begins_with, balanced_ends, pattern_found, with_found, if_given, row, attempt, outcome}
+use Rattle.sno_nodes.specs.Sets.{is_one_of, begins_with}
+use Rattle.sno_pattern.specs.Steps.{Goal, Meet, More, EndConditional, EndImmediate, End, Success, Failure, WholeFails, OutOfSteps, Fault, Trying, Way, ends, after_end, on_failure, at_each, part, balanced_ends, pattern_found, with_found, if_given, row, attempt, outcome}
 use Rattle.sno_pattern.proofs.Trying.{LeavesAtMost, Falls, leaves_more, fails_falls}
 use Rattle.sno_pattern.proofs.Table.{row_falls, attempt_falls}
 
@@ -19,7 +20,8 @@ Longer j (Asks q f) t' = (f' : Told → Trying) × (t' ≡ Asks q f') × ((r : T
 pub as_long : (j : ℕ) (e : End) (n : ℕ) → Longer j (ends e n) (ends e (n + suc j))
 as_long j e n = inr refl
 
-module _ (j n : ℕ) (second second' : ℕ → Trying) (longer : (m : ℕ) → m ≤ n → Longer j (second m) (second' (m + suc j))) (falls : (m : ℕ) → m ≤ j → LeavesAtMost j (second' m)) where
+module _ (j n : ℕ) (second second' : ℕ → Trying) (longer : (m : ℕ) → m ≤ n → Longer j (second m) (second' (m + suc j)))
+    (falls : (m : ℕ) → m ≤ j → LeavesAtMost j (second' m)) where
   after_longer : (e : End) (m : ℕ) → m ≤ n → Longer j (after_end e m second) (after_end e (m + suc j) second')
   after_longer Failure m l = longer m l
   after_longer (Success at p) m l = inr refl
@@ -39,7 +41,8 @@ if_longer : (j : ℕ) (b : Bool) (t t' : Trying) (n : ℕ) → Longer j t t' →
 if_longer j true t t' n h = h
 if_longer j false t t' n h = inr refl
 
-unless_longer : (j : ℕ) (b : Bool) (t t' : Trying) (n : ℕ) → Longer j t t' → Longer j (if b then ends Failure n else t) (if b then ends Failure (n + suc j) else t')
+unless_longer : (j : ℕ) (b : Bool) (t t' : Trying) (n : ℕ) → Longer j t t'
+    → Longer j (if b then ends Failure n else t) (if b then ends Failure (n + suc j) else t')
 unless_longer j true t t' n h = inr refl
 unless_longer j false t t' n h = h
 
@@ -49,13 +52,15 @@ given_longer j (Found looked) n t t' h = inr refl
 given_longer j Refused n t t' h = inr refl
 given_longer j (Faulty f) n t t' h = inr refl
 
-found_longer : (j : ℕ) (r : Told) (n : ℕ) (go go' : Pattern → Trying) → ((a : Pattern) → Longer j (go a) (go' a)) → Longer j (with_found r n go) (with_found r (n + suc j) go')
+found_longer : (j : ℕ) (r : Told) (n : ℕ) (go go' : Pattern → Trying) → ((a : Pattern) → Longer j (go a) (go' a))
+    → Longer j (with_found r n go) (with_found r (n + suc j) go')
 found_longer j (Found looked) n go go' h = h (pattern_found looked)
 found_longer j Given n go go' h = inr refl
 found_longer j Refused n go go' h = inr refl
 found_longer j (Faulty f) n go go' h = inr refl
 
-module _ (go go' : Way) (j n : ℕ) (longer : (gs : List Goal) (c : ℕ) (p : List Pending) (m : ℕ) → m ≤ n → Longer j (go gs c p m) (go' gs c p (m + suc j))) (falls : Falls go) (falls' : Falls go') where
+module _ (go go' : Way) (j n : ℕ) (longer : (gs : List Goal) (c : ℕ) (p : List Pending) (m : ℕ) → m ≤ n
+    → Longer j (go gs c p m) (go' gs c p (m + suc j))) (falls : Falls go) (falls' : Falls go') where
   up : (gs : List Goal) (c : ℕ) (p : List Pending) (m k : ℕ) → m ≤ k → LeavesAtMost k (go' gs c p m)
   up gs c p m k h = leaves_more m k h (go' gs c p m) (falls' gs c p m)
 
@@ -67,35 +72,48 @@ module _ (go go' : Way) (j n : ℕ) (longer : (gs : List Goal) (c : ℕ) (p : Li
   each_longer : (r : List Goal) (cs : List ℕ) (p : List Pending) (m : ℕ) → m ≤ n → Longer j (at_each go r cs p m) (at_each go' r cs p (m + suc j))
   each_longer r [] p m l = inr refl
   each_longer r (c ∷ cs) p m l =
-      fails_longer j n (λ n'. at_each go r cs p n') (λ n'. at_each go' r cs p n') (λ m' l'. each_longer r cs p m' l') (λ m' h. each_falls r cs p m' j h) (go r c p m) (go' r c p (m + suc j)) (leaves_more m n l (go r c p m) (falls r c p m)) (longer r c p m l)
+      fails_longer j n (λ n'. at_each go r cs p n') (λ n'. at_each go' r cs p n') (λ m' l'. each_longer r cs p m' l')
+      (λ m' h. each_falls r cs p m' j h) (go r c p m) (go' r c p (m + suc j)) (leaves_more m n l (go r c p m) (falls r c p m)) (longer r c p m l)
 
-  two_longer : (gs gs' : List Goal) (c : ℕ) (p : List Pending) → Longer j (on_failure (go gs c p n) (λ n'. go gs' c p n')) (on_failure (go' gs c p (n + suc j)) (λ n'. go' gs' c p n'))
+  two_longer : (gs gs' : List Goal) (c : ℕ) (p : List Pending)
+      → Longer j (on_failure (go gs c p n) (λ n'. go gs' c p n')) (on_failure (go' gs c p (n + suc j)) (λ n'. go' gs' c p n'))
   two_longer gs gs' c p =
-      fails_longer j n (λ n'. go gs' c p n') (λ n'. go' gs' c p n') (λ m' l'. longer gs' c p m' l') (λ m' h. up gs' c p m' j h) (go gs c p n) (go' gs c p (n + suc j)) (falls gs c p n) (longer gs c p n (omega arith))
+      fails_longer j n (λ n'. go gs' c p n') (λ n'. go' gs' c p n') (λ m' l'. longer gs' c p m' l') (λ m' h. up gs' c p m' j h) (go gs c p n)
+      (go' gs c p (n + suc j)) (falls gs c p n) (longer gs c p n (omega arith))
 
   here : (gs : List Goal) (c : ℕ) (p : List Pending) → Longer j (go gs c p n) (go' gs c p (n + suc j))
   here gs c p = longer gs c p n (omega arith)
 
   pub row_longer : (text : List ℕ) (g : Goal) (r : List Goal) (c : ℕ) (p : List Pending) → Longer j (row text go g r c p n) (row text go' g r c p (n + suc j))
   unfolding row
-  row_longer text (Meet (pattern.Text s)) r c p = if_longer j (starts_with nat_eq (drop c text) s) (go r (c + length s) p n) (go' r (c + length s) p (n + suc j)) n (here r (c + length s) p)
-  row_longer text (Meet (pattern.Len k)) r c p = if_longer j (nat_le (c + k) (length text)) (go r (c + k) p n) (go' r (c + k) p (n + suc j)) n (here r (c + k) p)
+  row_longer text (Meet (pattern.Text s)) r c p = if_longer j (starts_with nat_eq (drop c text) s) (go r (c + length s) p n)
+      (go' r (c + length s) p (n + suc j)) n (here r (c + length s) p)
+  row_longer text (Meet (pattern.Len k)) r c p = if_longer j (nat_le (c + k) (length text)) (go r (c + k) p n) (go' r (c + k) p (n + suc j)) n
+      (here r (c + k) p)
   row_longer text (Meet (pattern.Pos k)) r c p = if_longer j (nat_eq c k) (go r c p n) (go' r c p (n + suc j)) n (here r c p)
   row_longer text (Meet (pattern.RPos k)) r c p = if_longer j (nat_eq (c + k) (length text)) (go r c p n) (go' r c p (n + suc j)) n (here r c p)
   row_longer text (Meet (pattern.Tab k)) r c p = if_longer j (nat_le c k && nat_le k (length text)) (go r k p n) (go' r k p (n + suc j)) n (here r k p)
-  row_longer text (Meet (pattern.RTab k)) r c p = if_longer j (nat_le (c + k) (length text)) (go r (length text - k) p n) (go' r (length text - k) p (n + suc j)) n (here r (length text - k) p)
-  row_longer text (Meet (pattern.Any s)) r c p = if_longer j (begins_with (is_one_of s) (drop c text)) (go r (c + 1) p n) (go' r (c + 1) p (n + suc j)) n (here r (c + 1) p)
-  row_longer text (Meet (pattern.NotAny s)) r c p = if_longer j (begins_with (λ x. not (is_one_of s x)) (drop c text)) (go r (c + 1) p n) (go' r (c + 1) p (n + suc j)) n (here r (c + 1) p)
-  row_longer text (Meet (pattern.Span s)) r c p = if_longer j (begins_with (is_one_of s) (drop c text)) (go r (c + prefix_len (is_one_of s) (drop c text)) p n) (go' r (c + prefix_len (is_one_of s) (drop c text)) p (n + suc j)) n (here r (c + prefix_len (is_one_of s) (drop c text)) p)
-  row_longer text (Meet (pattern.Break s)) r c p = if_longer j (nat_lt (c + position_or_len (is_one_of s) (drop c text)) (length text)) (go r (c + position_or_len (is_one_of s) (drop c text)) p n) (go' r (c + position_or_len (is_one_of s) (drop c text)) p (n + suc j)) n (here r (c + position_or_len (is_one_of s) (drop c text)) p)
+  row_longer text (Meet (pattern.RTab k)) r c p = if_longer j (nat_le (c + k) (length text)) (go r (length text - k) p n)
+      (go' r (length text - k) p (n + suc j)) n (here r (length text - k) p)
+  row_longer text (Meet (pattern.Any s)) r c p = if_longer j (begins_with (is_one_of s) (drop c text)) (go r (c + 1) p n)
+      (go' r (c + 1) p (n + suc j)) n (here r (c + 1) p)
+  row_longer text (Meet (pattern.NotAny s)) r c p = if_longer j (begins_with (λ x. not (is_one_of s x)) (drop c text)) (go r (c + 1) p n)
+      (go' r (c + 1) p (n + suc j)) n (here r (c + 1) p)
+  row_longer text (Meet (pattern.Span s)) r c p = if_longer j (begins_with (is_one_of s) (drop c text))
+      (go r (c + prefix_len (is_one_of s) (drop c text)) p n) (go' r (c + prefix_len (is_one_of s) (drop c text)) p (n + suc j)) n
+      (here r (c + prefix_len (is_one_of s) (drop c text)) p)
+  row_longer text (Meet (pattern.Break s)) r c p = if_longer j (nat_lt (c + position_or_len (is_one_of s) (drop c text)) (length text))
+      (go r (c + position_or_len (is_one_of s) (drop c text)) p n) (go' r (c + position_or_len (is_one_of s) (drop c text)) p (n + suc j)) n
+      (here r (c + position_or_len (is_one_of s) (drop c text)) p)
   row_longer text (Meet pattern.Rem) r c p = here r (length text) p
-  row_longer text (Meet pattern.Arb) r c p = each_longer r (upward c (length text + 1 - c)) p n (omega arith)
+  row_longer text (Meet pattern.Arb) r c p = each_longer r (range_with_len c (length text + 1 - c)) p n (omega arith)
   row_longer text (Meet pattern.Bal) r c p = each_longer r (balanced_ends text c) p n (omega arith)
   row_longer text (Meet (pattern.Cat a b)) r c p = here (Meet a ∷ Meet b ∷ r) c p
   row_longer text (Meet (pattern.Alt a b)) r c p = two_longer (Meet a ∷ r) (Meet b ∷ r) c p
   row_longer text (Meet (pattern.Arbno a)) r c p = two_longer r (Meet a ∷ More a c ∷ r) c p
   row_longer text (More a d) r c p =
-      unless_longer j (nat_eq c d) (on_failure (go r c p n) (λ n'. go (Meet a ∷ More a c ∷ r) c p n')) (on_failure (go' r c p (n + suc j)) (λ n'. go' (Meet a ∷ More a c ∷ r) c p n')) n (two_longer r (Meet a ∷ More a c ∷ r) c p)
+      unless_longer j (nat_eq c d) (on_failure (go r c p n) (λ n'. go (Meet a ∷ More a c ∷ r) c p n'))
+      (on_failure (go' r c p (n + suc j)) (λ n'. go' (Meet a ∷ More a c ∷ r) c p n')) n (two_longer r (Meet a ∷ More a c ∷ r) c p)
   row_longer text (Meet (pattern.Conditional a v)) r c p = here (Meet a ∷ EndConditional v c ∷ r) c p
   row_longer text (EndConditional v d) r c p = here r c (p ++ record { variable = v; text = part text d c } ∷ [])
   row_longer text (Meet (pattern.Immediate a v)) r c p = here (Meet a ∷ EndImmediate v c ∷ r) c p
@@ -103,28 +121,38 @@ module _ (go go' : Way) (j n : ℕ) (longer : (gs : List Goal) (c : ℕ) (p : Li
       ((λ t. if_given t (n + suc j) (go' r c p (n + suc j))), refl, (λ t. given_longer j t n (go r c p n) (go' r c p (n + suc j)) (here r c p)))
   row_longer text (Meet (pattern.Cursor v)) r c p =
       ((λ t. if_given t (n + suc j) (go' r c p (n + suc j))), refl, (λ t. given_longer j t n (go r c p n) (go' r c p (n + suc j)) (here r c p)))
-  row_longer text (Meet (pattern.Defer v)) r c p =
-      ((λ t. with_found t (n + suc j) (λ a. go' (Meet a ∷ r) c p (n + suc j))), refl, (λ t. found_longer j t n (λ a. go (Meet a ∷ r) c p n) (λ a. go' (Meet a ∷ r) c p (n + suc j)) (λ a. here (Meet a ∷ r) c p)))
+  row_longer text (Meet (pattern.Defer v)) r c p = (
+    (λ t. with_found t (n + suc j) (λ a. go' (Meet a ∷ r) c p (n + suc j))),
+    refl,
+    (λ t. found_longer j t n (λ a. go (Meet a ∷ r) c p n) (λ a. go' (Meet a ∷ r) c p (n + suc j)) (λ a. here (Meet a ∷ r) c p)),
+  )
   row_longer text (Meet pattern.Fail) r c p = inr refl
   row_longer text (Meet pattern.Abort) r c p = inr refl
   row_longer text (Meet pattern.Fence) r c p =
-      fails_longer j n (λ n'. ends WholeFails n') (λ n'. ends WholeFails n') (λ m' l. inr refl) (λ m' h. h) (go r c p n) (go' r c p (n + suc j)) (falls r c p n) (here r c p)
+      fails_longer j n (λ n'. ends WholeFails n') (λ n'. ends WholeFails n') (λ m' l. inr refl) (λ m' h. h) (go r c p n) (go' r c p (n + suc j))
+      (falls r c p n) (here r c p)
   row_longer text (Meet pattern.Succeed) r c p = two_longer r (Meet pattern.Succeed ∷ r) c p
 
 module _ (text : List ℕ) (j : ℕ) where
-  attempt_longer : (d d' : ℕ) (gs : List Goal) (c : ℕ) (p : List Pending) (n m : ℕ) → m ≡ n + suc j → n ≤ d → m ≤ d' → Longer j (attempt text d gs c p n) (attempt text d' gs c p m)
+  attempt_longer : (d d' : ℕ) (gs : List Goal) (c : ℕ) (p : List Pending) (n m : ℕ) → m ≡ n + suc j → n ≤ d → m ≤ d'
+      → Longer j (attempt text d gs c p n) (attempt text d' gs c p m)
   unfolding attempt
   attempt_longer d d' [] c p n m e h h' = inr (ap (λ k. ends (Success c p) k) e)
   attempt_longer d zero (g ∷ r) c p n m e h h' = absurd (omega arith)
   attempt_longer d (suc d') (g ∷ r) c p n zero e h h' = absurd (omega arith)
   attempt_longer d (suc d') (g ∷ r) c p zero (suc m) e h h' =
       let same : m ≡ j = omega arith in
-      inl (refl, subst (λ (k : ℕ). LeavesAtMost k (row text (attempt text d') g r c p m)) same (row_falls (attempt text d') (attempt_falls text d') text g r c p m))
+      inl (
+        refl,
+        subst (λ (k : ℕ). LeavesAtMost k (row text (attempt text d') g r c p m)) same
+            (row_falls (attempt text d') (attempt_falls text d') text g r c p m),
+      )
   attempt_longer zero (suc d') (g ∷ r) c p (suc n) (suc m) e h h' = absurd (omega arith)
   attempt_longer (suc d) (suc d') (g ∷ r) c p (suc n) (suc m) e h h' =
       let same : n + suc j ≡ m = omega arith in
       subst (λ (k : ℕ). Longer j (row text (attempt text d) g r c p n) (row text (attempt text d') g r c p k)) same
-      (row_longer (attempt text d) (attempt text d') j n (λ gs c' p' k l. attempt_longer d d' gs c' p' k (k + suc j) refl (omega arith) (omega arith)) (attempt_falls text d) (attempt_falls text d') text g r c p)
+      (row_longer (attempt text d) (attempt text d') j n (λ gs c' p' k l. attempt_longer d d' gs c' p' k (k + suc j) refl (omega arith)
+      (omega arith)) (attempt_falls text d) (attempt_falls text d') text g r c p)
 
   pub outcome_longer : (gs : List Goal) (c : ℕ) (p : List Pending) (n : ℕ) → Longer j (outcome text gs c p n) (outcome text gs c p (n + suc j))
   unfolding outcome

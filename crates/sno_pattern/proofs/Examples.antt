@@ -27,16 +27,19 @@ unfolding row attempt outcome
 arb_text = refl
 
 -- ARBNO('A') RPOS(0) in AA: nine goals
-arbno_to_the_end : counted_match (65 ∷ 65 ∷ []) (pattern.Cat (pattern.Arbno (pattern.Text (65 ∷ []))) (pattern.RPos 0)) true 9 ≡ Ends (record { end = Matched 0 2 []; left = 0 })
+arbno_to_the_end : counted_match (65 ∷ 65 ∷ []) (pattern.Cat (pattern.Arbno (pattern.Text (65 ∷ []))) (pattern.RPos 0)) true 9
+    ≡ Ends (record { end = Matched 0 2 []; left = 0 })
 unfolding row attempt outcome
 arbno_to_the_end = refl
 
-arbno_short_of_a_step : counted_match (65 ∷ 65 ∷ []) (pattern.Cat (pattern.Arbno (pattern.Text (65 ∷ []))) (pattern.RPos 0)) true 8 ≡ Ends (record { end = Limit; left = 0 })
+arbno_short_of_a_step : counted_match (65 ∷ 65 ∷ []) (pattern.Cat (pattern.Arbno (pattern.Text (65 ∷ []))) (pattern.RPos 0)) true 8
+    ≡ Ends (record { end = Limit; left = 0 })
 unfolding row attempt outcome
 arbno_short_of_a_step = refl
 
 -- ARBNO('') 'X' in A: a turn that does not move on is the last
-arbno_of_null : counted_match (65 ∷ []) (pattern.Cat (pattern.Arbno (pattern.Text [])) (pattern.Text (88 ∷ []))) true 5 ≡ Ends (record { end = NoMatch; left = 0 })
+arbno_of_null : counted_match (65 ∷ []) (pattern.Cat (pattern.Arbno (pattern.Text [])) (pattern.Text (88 ∷ []))) true 5
+    ≡ Ends (record { end = NoMatch; left = 0 })
 unfolding row attempt outcome
 arbno_of_null = refl
 
@@ -51,7 +54,8 @@ unfolding row attempt outcome
 fence_ends_the_match = refl
 
 -- SPAN('A') 'A' in AA: the run is not made shorter
-span_keeps_its_run : counted_match (65 ∷ 65 ∷ []) (pattern.Cat (pattern.Span (65 ∷ [])) (pattern.Text (65 ∷ []))) true 3 ≡ Ends (record { end = NoMatch; left = 0 })
+span_keeps_its_run : counted_match (65 ∷ 65 ∷ []) (pattern.Cat (pattern.Span (65 ∷ [])) (pattern.Text (65 ∷ []))) true 3
+    ≡ Ends (record { end = NoMatch; left = 0 })
 unfolding row attempt outcome
 span_keeps_its_run = refl
 
@@ -75,7 +79,8 @@ unfolding row attempt outcome
 succeed_fail = refl
 
 -- 'A' . V in A: pending until the match succeeds
-conditional_waits : counted_match (65 ∷ []) (pattern.Conditional (pattern.Text (65 ∷ [])) (86 ∷ [])) true 3 ≡ Ends (record { end = Matched 0 1 (record { variable = 86 ∷ []; text = 65 ∷ [] } ∷ []); left = 0 })
+conditional_waits : counted_match (65 ∷ []) (pattern.Conditional (pattern.Text (65 ∷ [])) (86 ∷ [])) true 3
+    ≡ Ends (record { end = Matched 0 1 (record { variable = 86 ∷ []; text = 65 ∷ [] } ∷ []); left = 0 })
 unfolding row attempt outcome
 conditional_waits = refl
 
@@ -83,16 +88,19 @@ abbrev given : Look → Exchange Look Told
 given look = record { asked = look; reply = Given }
 
 -- 'A' $ V 'B' in AA: assigned, although what comes after it fails
-immediate_stays : Tells Fits (counted_match (65 ∷ 65 ∷ []) (pattern.Cat (pattern.Immediate (pattern.Text (65 ∷ [])) (86 ∷ [])) (pattern.Text (66 ∷ []))) true 5) (given (Assign (86 ∷ []) (Part (65 ∷ []))) ∷ []) (record { end = NoMatch; left = 0 })
+immediate_stays : Tells Fits (counted_match (65 ∷ 65 ∷ []) (pattern.Cat (pattern.Immediate (pattern.Text (65 ∷ [])) (86 ∷ []))
+    (pattern.Text (66 ∷ []))) true 5) (given (Assign (86 ∷ []) (Part (65 ∷ []))) ∷ []) (record { end = NoMatch; left = 0 })
 unfolding row attempt outcome
 immediate_stays = (refl, tt, refl)
 
 -- @V in A, at its second start too: the cursor is a number
-cursor_is_a_number : Tells Fits (counted_match (65 ∷ []) (pattern.Cat (pattern.Cursor (86 ∷ [])) (pattern.Text (66 ∷ []))) false 6) (given (Assign (86 ∷ []) (Cursor 0)) ∷ given (Assign (86 ∷ []) (Cursor 1)) ∷ []) (record { end = NoMatch; left = 0 })
+cursor_is_a_number : Tells Fits (counted_match (65 ∷ []) (pattern.Cat (pattern.Cursor (86 ∷ [])) (pattern.Text (66 ∷ []))) false 6)
+    (given (Assign (86 ∷ []) (Cursor 0)) ∷ given (Assign (86 ∷ []) (Cursor 1)) ∷ []) (record { end = NoMatch; left = 0 })
 unfolding row attempt outcome
 cursor_is_a_number = (refl, tt, (refl, tt, refl))
 
 -- *P in A, where P is the text A
-defer_looks_up : Tells Fits (counted_match (65 ∷ []) (pattern.Defer (80 ∷ [])) true 2) (record { asked = LookUp (80 ∷ []); reply = Found (LooksText (65 ∷ [])) } ∷ []) (record { end = Matched 0 1 []; left = 0 })
+defer_looks_up : Tells Fits (counted_match (65 ∷ []) (pattern.Defer (80 ∷ [])) true 2)
+    (record { asked = LookUp (80 ∷ []); reply = Found (LooksText (65 ∷ [])) } ∷ []) (record { end = Matched 0 1 []; left = 0 })
 unfolding row attempt outcome
 defer_looks_up = (refl, tt, refl)

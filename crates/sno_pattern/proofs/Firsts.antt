@@ -1,11 +1,12 @@
 -- A whole match of a simple pattern, start by start; and that a match which was broken off goes on.
 use Rattle.std.specs.Prelude.{◌≡◌, ℕ, zero, suc, ◌+◌, ◌≤◌, List, [], ◌∷◌, length, Bool, true, false, Option, if◌then◌else◌}
+use Rattle.std.specs.List.{range_with_len}
 use Rattle.std.proofs.Common.{refl, ap, arith}
 use Rattle.sno_talk.specs.Talks.{Talk, Ends, Asks, ◌>>=◌}
 use Rattle.sno_nodes.specs.Patterns.{Pattern}
 use Rattle.sno_pattern.specs.declared.ending.MatchEnd.TheVariants as end
 use Rattle.sno_pattern.specs.Looks.{Look, LookUp, Assign, Told, Refused, Fits}
-use Rattle.sno_pattern.specs.Steps.{Meet, End, Success, Failure, WholeFails, OutOfSteps, Fault, Trying, upward, outcome, Finish, settle, from_starts}
+use Rattle.sno_pattern.specs.Steps.{Meet, End, Success, Failure, WholeFails, OutOfSteps, Fault, Trying, outcome, Finish, settle, from_starts}
 use Rattle.sno_pattern.specs.Places.{IsSimple, ends_of, Finds, Comes, place_from, first_place, IsAt}
 use Rattle.sno_pattern.specs.Laws.{FirstMatch}
 use Rattle.sno_pattern.proofs.Finding.{first_end}
@@ -31,10 +32,10 @@ then_arrives at es later next arrives (Ends o) h = settle_arrives at es later ne
 then_arrives at es later next arrives (Asks q f) h = absurd h
 
 starts_arrive : (text : List ℕ) (p : Pattern) → IsSimple p → (k at n : ℕ) → at + k ≤ length text + 1
-    → Arrives (first_place text p (upward at k)) (from_starts text p k at n)
+    → Arrives (first_place text p (range_with_len at k)) (from_starts text p k at n)
 starts_arrive text p simple zero at n h = (record { end = end.NoMatch; left = n }, refl, refl)
 starts_arrive text p simple (suc k) at n h =
-    then_arrives at (ends_of text p at) (first_place text p (upward (at + 1) k)) (λ n'. from_starts text p k (at + 1) n')
+    then_arrives at (ends_of text p at) (first_place text p (range_with_len (at + 1) k)) (λ n'. from_starts text p k (at + 1) n')
     (λ n'. starts_arrive text p simple k (at + 1) n' (omega arith))
     (outcome text (Meet p ∷ []) at [] n) (first_end text p at [] n simple (omega arith))
 

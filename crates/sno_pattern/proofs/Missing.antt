@@ -51,19 +51,22 @@ module _ (text : List ℕ) (r : List Goal) (c : ℕ) (w : List Pending) (n : ℕ
 abbrev pub LeadsTo : List ℕ → Pattern → ℕ → ℕ → Pattern → ℕ → Type 0
 LeadsTo text p c n a m = (r : List Goal) (w : List Pending) → (r' : List Goal) × (outcome text (Meet p ∷ r) c w n ≡ outcome text (Meet a ∷ r') c w m)
 
-pub leads_on : (text : List ℕ) (p : Pattern) (c n : ℕ) (a b : Pattern) (m m' : ℕ) → m ≡ suc m' → LeadsTo text p c n a m → first_part a ≡ Some b → LeadsTo text p c n b m'
+pub leads_on : (text : List ℕ) (p : Pattern) (c n : ℕ) (a b : Pattern) (m m' : ℕ) → m ≡ suc m' → LeadsTo text p c n a m → first_part a ≡ Some b
+    → LeadsTo text p c n b m'
 leads_on text p c n a b m m' e h k r w =
     let one = h r w in
     let two = entered text one.0 c w m' a b k in
     (two.0, one.1 ∙ ap (λ i. outcome text (Meet a ∷ one.0) c w i) e ∙ two.1)
 
-pub leads_nowhere : (text : List ℕ) (p : Pattern) (c n : ℕ) (a : Pattern) (m m' : ℕ) → m ≡ suc m' → LeadsTo text p c n a m → reached text a c ≡ Nowhere → (r : List Goal) (w : List Pending) → outcome text (Meet p ∷ r) c w n ≡ ends Failure m'
+pub leads_nowhere : (text : List ℕ) (p : Pattern) (c n : ℕ) (a : Pattern) (m m' : ℕ) → m ≡ suc m' → LeadsTo text p c n a m
+    → reached text a c ≡ Nowhere → (r : List Goal) (w : List Pending) → outcome text (Meet p ∷ r) c w n ≡ ends Failure m'
 leads_nowhere text p c n a m m' e h k r w =
     let one = h r w in
     one.1 ∙ ap (λ i. outcome text (Meet a ∷ one.0) c w i) e ∙ missed_now text one.0 c w m' a k
 
 -- a start that fails leaves the later ones
-pub next_start : (text : List ℕ) (a : Pattern) (k k' at n m : ℕ) → k ≡ suc k' → outcome text (Meet a ∷ []) at [] n ≡ ends Failure m → from_starts text a k at n ≡ from_starts text a k' (at + 1) m
+pub next_start : (text : List ℕ) (a : Pattern) (k k' at n m : ℕ) → k ≡ suc k' → outcome text (Meet a ∷ []) at [] n ≡ ends Failure m
+    → from_starts text a k at n ≡ from_starts text a k' (at + 1) m
 next_start text a k k' at n m e h =
     ap (λ j. from_starts text a j at n) e
     ∙ ap (λ t. t >>= (λ o. settle at o.end o.left (λ n'. from_starts text a k' (at + 1) n'))) h

@@ -1,10 +1,10 @@
 -- Parentheses in pairs: what is counted is what is told character by character.
 use Rattle.std.proofs.Common.{arith, ◌≡◌, ℕ, zero, suc, ◌+◌, ◌≤◌, ◌<◌, List, [], ◌∷◌, refl, sym, ap, ◌∙◌, length, take_all}
 use Rattle.std.specs.Prelude.{Bool, true, false, ◌&&◌, take, nat_eq, nat_le, if◌then◌else◌, cond}
-use Rattle.std.specs.List.{filter, list_all}
+use Rattle.std.specs.List.{filter, list_all, range_with_len}
 use Rattle.std.proofs.lemmas.Bool.{eqb-true}
 use Rattle.std.proofs.lemmas.Bool.Decides.{nat_tests}
-use Rattle.sno_pattern.specs.Steps.{upward, times, in_pairs}
+use Rattle.sno_pattern.specs.Steps.{times, in_pairs}
 use Rattle.sno_pattern.specs.inner.Reaching.{closes}
 
 -- so many `(` more than `)`, of which the text opens all but k, and no beginning of it has k more `)` than `(`
@@ -61,7 +61,8 @@ closed zero (x ∷ xs) e = at (nat_eq x 40) (nat_eq x 41) refl refl e (λ d. clo
 closed (suc k) (x ∷ xs) e = at (nat_eq x 40) (nat_eq x 41) refl refl e (λ d. closed (suc (suc k)) xs d) (λ d. closed k xs d) (λ d. closed (suc k) xs d)
   where
     at : (p q : Bool) → nat_eq x 40 ≡ p → nat_eq x 41 ≡ q → (if p then closes (suc (suc k)) xs else if q then closes k xs else closes (suc k) xs) ≡ true
-        → (closes (suc (suc k)) xs ≡ true → InPairs (suc (suc k)) xs) → (closes k xs ≡ true → InPairs k xs) → (closes (suc k) xs ≡ true → InPairs (suc k) xs) → InPairs (suc k) (x ∷ xs)
+        → (closes (suc (suc k)) xs ≡ true → InPairs (suc (suc k)) xs) → (closes k xs ≡ true → InPairs k xs)
+        → (closes (suc k) xs ≡ true → InPairs (suc k) xs) → InPairs (suc k) (x ∷ xs)
     at true true a b d on off same = absurd (apart x a b)
     at true false a b d on off same = opens (suc k) x xs a b (on d)
     at false true a b d on off same = shuts k x xs a b (off d)
@@ -119,16 +120,16 @@ second_of true b h = h
 second_of false b h = let z : ⊥ = cc (h) in absurd z
 
 -- what is tested of each of some numbers
-each_passes : (f : ℕ → Bool) (b k : ℕ) → list_all f (upward b k) ≡ true → (n : ℕ) → b ≤ n → n < b + k → f n ≡ true
+each_passes : (f : ℕ → Bool) (b k : ℕ) → list_all f (range_with_len b k) ≡ true → (n : ℕ) → b ≤ n → n < b + k → f n ≡ true
 each_passes f b zero h n l m = absurd (omega (arith, l, m))
 each_passes f b (suc k) h n l m =
-    by_cases (nat_eq n b) refl (λ d. each_passes f (b + 1) k (second_of (f b) (list_all f (upward (b + 1) k)) h) n d (omega (arith, m)))
+    by_cases (nat_eq n b) refl (λ d. each_passes f (b + 1) k (second_of (f b) (list_all f (range_with_len (b + 1) k)) h) n d (omega (arith, m)))
   where
     by_cases : (q : Bool) → nat_eq n b ≡ q → (b + 1 ≤ n → f n ≡ true) → f n ≡ true
-    by_cases true e further = ap f (eqb-true n b e) ∙ first_of (f b) (list_all f (upward (b + 1) k)) h
+    by_cases true e further = ap f (eqb-true n b e) ∙ first_of (f b) (list_all f (range_with_len (b + 1) k)) h
     by_cases false e further = let d : b + 1 ≤ n = grind (arith, nat_tests, e, l) in further d
 
-all_pass : (f : ℕ → Bool) (b k : ℕ) → ((n : ℕ) → f n ≡ true) → list_all f (upward b k) ≡ true
+all_pass : (f : ℕ → Bool) (b k : ℕ) → ((n : ℕ) → f n ≡ true) → list_all f (range_with_len b k) ≡ true
 all_pass f b zero h = refl
 all_pass f b (suc k) h = rw (h b) (all_pass f (b + 1) k h)
 
@@ -145,7 +146,7 @@ abbrev balanced : List ℕ → Bool
 balanced t = nat_eq (times 41 t) (times 40 t)
 
 abbrev begins_well : List ℕ → Bool
-begins_well t = list_all (λ n. nat_le (times 41 (take n t)) (times 40 (take n t))) (upward 0 (length t))
+begins_well t = list_all (λ n. nat_le (times 41 (take n t)) (times 40 (take n t))) (range_with_len 0 (length t))
 
 paired_so : (t : List ℕ) → in_pairs t ≡ true → InPairs 0 t
 paired_so t h = (same, within)
@@ -157,7 +158,9 @@ paired_so t h = (same, within)
     by_length n true e = let whole : take n t ≡ t = take_all n t (at_most (length t) n e) in rw whole (omega (arith, same))
     by_length n false e =
         let less : n < 0 + length t = grind (arith, nat_tests, e) in
-        let passes = at_most (times 41 (take n t)) (times 40 (take n t)) (each_passes (λ m. nat_le (times 41 (take m t)) (times 40 (take m t))) 0 (length t) (second_of (balanced t) (begins_well t) h) n (omega arith) less) in
+        let passes = at_most (times 41 (take n t)) (times 40 (take n t))
+        (each_passes (λ m. nat_le (times 41 (take m t)) (times 40 (take m t))) 0 (length t) (second_of (balanced t) (begins_well t) h) n
+        (omega arith) less) in
         omega (arith, passes)
 
     within : (n : ℕ) → times 41 (take n t) ≤ 0 + times 40 (take n t)
@@ -166,7 +169,8 @@ paired_so t h = (same, within)
 so_paired : (t : List ℕ) → InPairs 0 t → in_pairs t ≡ true
 so_paired t h =
     let e : times 41 t ≡ times 40 t = let f = h.0 in omega (arith, f) in
-    rw (are_equal (times 41 t) (times 40 t) e) (all_pass (λ n. nat_le (times 41 (take n t)) (times 40 (take n t))) 0 (length t) (λ n. is_at_most (times 41 (take n t)) (times 40 (take n t)) (let l = h.1 n in omega (arith, l))))
+    rw (are_equal (times 41 t) (times 40 t) e) (all_pass (λ n. nat_le (times 41 (take n t)) (times 40 (take n t))) 0 (length t)
+    (λ n. is_at_most (times 41 (take n t)) (times 40 (take n t)) (let l = h.1 n in omega (arith, l))))
 
 same_test : (a b : Bool) → (a ≡ true → b ≡ true) → (b ≡ true → a ≡ true) → a ≡ b
 same_test true true f g = refl

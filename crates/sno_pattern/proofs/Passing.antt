@@ -22,7 +22,8 @@ module _ (text : List ℕ) (r : List Goal) (c : ℕ) (w : List Pending) (n : ℕ
   pub passes_first : (a b : Pattern) → n ≢ 0 → outcome text (Meet (pattern.Cat a b) ∷ r) c w n ≡ outcome text (Meet a ∷ Meet b ∷ r) c w (n - 1)
   passes_first a b l = step_off (Meet (pattern.Cat a b)) l ∙ cat_on text c w r a b (n - 1)
 
-  enters : (a : Pattern) (v : List ℕ) → n ≢ 0 → outcome text (Meet (pattern.Conditional a v) ∷ r) c w n ≡ outcome text (Meet a ∷ EndConditional v c ∷ r) c w (n - 1)
+  enters : (a : Pattern) (v : List ℕ) → n ≢ 0 → outcome text (Meet (pattern.Conditional a v) ∷ r) c w n
+      ≡ outcome text (Meet a ∷ EndConditional v c ∷ r) c w (n - 1)
   enters a v l = step_off (Meet (pattern.Conditional a v)) l ∙ conditional_on text c w r a v (n - 1)
 
   waits : (v : List ℕ) (d : ℕ) → row text (outcome text) (EndConditional v d) r c w n ≡ outcome text r c (w ++ pending v (part text d c) ∷ []) n
@@ -30,7 +31,8 @@ module _ (text : List ℕ) (r : List Goal) (c : ℕ) (w : List Pending) (n : ℕ
   waits v d = refl
 
 -- what is to be assigned at the end takes a step before it and one behind it
-pub passes_by : (text : List ℕ) (r : List Goal) (c : ℕ) (w : List Pending) (n : ℕ) (a : Pattern) (v : List ℕ) (e : ℕ) → 2 < n → reached text a c ≡ Here e → outcome text (Meet (pattern.Conditional a v) ∷ r) c w n ≡ outcome text r e (w ++ pending v (part text c e) ∷ []) (n - 3)
+pub passes_by : (text : List ℕ) (r : List Goal) (c : ℕ) (w : List Pending) (n : ℕ) (a : Pattern) (v : List ℕ) (e : ℕ) → 2 < n
+    → reached text a c ≡ Here e → outcome text (Meet (pattern.Conditional a v) ∷ r) c w n ≡ outcome text r e (w ++ pending v (part text c e) ∷ []) (n - 3)
 passes_by text r c w n a v e l h =
     let k : n - 1 - 1 - 1 ≡ n - 3 = omega arith in
     enters text r c w n a v (omega arith)

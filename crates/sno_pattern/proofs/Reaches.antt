@@ -7,7 +7,8 @@ use Rattle.sno_nodes.specs.Patterns as pattern
 use Rattle.sno_pattern.specs.declared.ending.Pending.{Pending}
 use Rattle.sno_pattern.specs.declared.reach.Reach.{Reach}
 use Rattle.sno_pattern.specs.declared.reach.Reach.TheVariants.{Here, Nowhere, Depends}
-use Rattle.sno_pattern.specs.Steps.{Goal, Meet, Failure, Trying, Way, ends, is_one_of, begins_with, row}
+use Rattle.sno_nodes.specs.Sets.{is_one_of, begins_with}
+use Rattle.sno_pattern.specs.Steps.{Goal, Meet, Failure, Trying, Way, ends, row}
 use Rattle.sno_pattern.specs.inner.Reaching.{here_if, reached, is_nowhere, IsQuiet, IsEntered, IsParted}
 
 abbrev IsHere : Reach → Type 0
@@ -58,8 +59,10 @@ module _ (text : List ℕ) (go : Way) (r : List Goal) (c : ℕ) (w : List Pendin
   row_nowhere (pattern.RTab k) h = if_nowhere (nat_le (c + k) (length text)) (length text - k) (go r (length text - k) w n) (ends Failure n) h
   row_nowhere (pattern.Any s) h = if_nowhere (begins_with (is_one_of s) (drop c text)) (c + 1) (go r (c + 1) w n) (ends Failure n) h
   row_nowhere (pattern.NotAny s) h = if_nowhere (begins_with (λ x. not (is_one_of s x)) (drop c text)) (c + 1) (go r (c + 1) w n) (ends Failure n) h
-  row_nowhere (pattern.Span s) h = if_nowhere (begins_with (is_one_of s) (drop c text)) (c + prefix_len (is_one_of s) (drop c text)) (go r (c + prefix_len (is_one_of s) (drop c text)) w n) (ends Failure n) h
-  row_nowhere (pattern.Break s) h = if_nowhere (nat_lt (c + position_or_len (is_one_of s) (drop c text)) (length text)) (c + position_or_len (is_one_of s) (drop c text)) (go r (c + position_or_len (is_one_of s) (drop c text)) w n) (ends Failure n) h
+  row_nowhere (pattern.Span s) h = if_nowhere (begins_with (is_one_of s) (drop c text)) (c + prefix_len (is_one_of s) (drop c text))
+      (go r (c + prefix_len (is_one_of s) (drop c text)) w n) (ends Failure n) h
+  row_nowhere (pattern.Break s) h = if_nowhere (nat_lt (c + position_or_len (is_one_of s) (drop c text)) (length text))
+      (c + position_or_len (is_one_of s) (drop c text)) (go r (c + position_or_len (is_one_of s) (drop c text)) w n) (ends Failure n) h
   row_nowhere pattern.Fail h = refl
   row_nowhere pattern.Rem h = absurd h
   row_nowhere pattern.Arb h = absurd h
@@ -85,8 +88,10 @@ module _ (text : List ℕ) (go : Way) (r : List Goal) (c : ℕ) (w : List Pendin
   row_here (pattern.RTab k) e h = if_here (nat_le (c + k) (length text)) (length text - k) e (λ k'. go r k' w n) (ends Failure n) h
   row_here (pattern.Any s) e h = if_here (begins_with (is_one_of s) (drop c text)) (c + 1) e (λ k'. go r k' w n) (ends Failure n) h
   row_here (pattern.NotAny s) e h = if_here (begins_with (λ x. not (is_one_of s x)) (drop c text)) (c + 1) e (λ k'. go r k' w n) (ends Failure n) h
-  row_here (pattern.Span s) e h = if_here (begins_with (is_one_of s) (drop c text)) (c + prefix_len (is_one_of s) (drop c text)) e (λ k'. go r k' w n) (ends Failure n) h
-  row_here (pattern.Break s) e h = if_here (nat_lt (c + position_or_len (is_one_of s) (drop c text)) (length text)) (c + position_or_len (is_one_of s) (drop c text)) e (λ k'. go r k' w n) (ends Failure n) h
+  row_here (pattern.Span s) e h = if_here (begins_with (is_one_of s) (drop c text)) (c + prefix_len (is_one_of s) (drop c text)) e
+      (λ k'. go r k' w n) (ends Failure n) h
+  row_here (pattern.Break s) e h = if_here (nat_lt (c + position_or_len (is_one_of s) (drop c text)) (length text))
+      (c + position_or_len (is_one_of s) (drop c text)) e (λ k'. go r k' w n) (ends Failure n) h
   row_here pattern.Rem e h = ap (λ k'. go r (place k') w n) h
   row_here pattern.Fail e h = absurd (subst IsNowhere h tt)
   row_here pattern.Arb e h = absurd (subst IsDepends h tt)
@@ -115,7 +120,8 @@ parted_if text (pattern.RTab k) c h q e = if_depends (nat_le (c + k) (length tex
 parted_if text (pattern.Any s) c h q e = if_depends (begins_with (is_one_of s) (drop c text)) (c + 1) h
 parted_if text (pattern.NotAny s) c h q e = if_depends (begins_with (λ x. not (is_one_of s x)) (drop c text)) (c + 1) h
 parted_if text (pattern.Span s) c h q e = if_depends (begins_with (is_one_of s) (drop c text)) (c + prefix_len (is_one_of s) (drop c text)) h
-parted_if text (pattern.Break s) c h q e = if_depends (nat_lt (c + position_or_len (is_one_of s) (drop c text)) (length text)) (c + position_or_len (is_one_of s) (drop c text)) h
+parted_if text (pattern.Break s) c h q e = if_depends (nat_lt (c + position_or_len (is_one_of s) (drop c text)) (length text))
+    (c + position_or_len (is_one_of s) (drop c text)) h
 parted_if text pattern.Fail c h q e = h
 parted_if text pattern.Rem c h q e = h
 parted_if text (pattern.Cursor v) c h q e = q

@@ -1,13 +1,14 @@
 -- What follows from the table: steps only fall, the depth does not matter, and the outcome is a fixed point of the table.
 use Rattle.std.specs.Prelude.{◌≡◌, ℕ, zero, suc, ◌+◌, ◌-◌, ◌≤◌, List, [], ◌∷◌, ◌++◌, length, drop, Bool, true, false, not, ◌&&◌, if◌then◌else◌, nat_eq, nat_le, nat_lt}
 use Rattle.std.proofs.Common.{refl, ap, arith}
-use Rattle.std.specs.List.{starts_with, prefix_len, position_or_len}
+use Rattle.std.specs.List.{starts_with, prefix_len, position_or_len, range_with_len}
 use Rattle.sno_nodes.specs.Patterns.{Pattern}
 use Rattle.sno_nodes.specs.Patterns as pattern
 use Rattle.sno_pattern.specs.declared.ending.Pending.{Pending}
 use Rattle.sno_pattern.specs.declared.host.Taken.TheVariants.{Part, Cursor}
 use Rattle.sno_pattern.specs.Looks.{LookUp, Assign}
-use Rattle.sno_pattern.specs.Steps.{Goal, Meet, More, EndConditional, EndImmediate, Success, Failure, WholeFails, OutOfSteps, Way, ends, on_failure, at_each, upward, part, is_one_of, begins_with, balanced_ends, with_found, if_given, row, attempt, outcome}
+use Rattle.sno_nodes.specs.Sets.{is_one_of, begins_with}
+use Rattle.sno_pattern.specs.Steps.{Goal, Meet, More, EndConditional, EndImmediate, Success, Failure, WholeFails, OutOfSteps, Way, ends, on_failure, at_each, part, balanced_ends, with_found, if_given, row, attempt, outcome}
 use Rattle.sno_pattern.proofs.Trying.{LeavesAtMost, Falls, Agree, leaves_more, fails_falls, fails_agree, if_falls, found_falls, given_falls, found_agrees, asks_same}
 
 module _ (go : Way) (falls : Falls go) where
@@ -22,7 +23,8 @@ module _ (go : Way) (falls : Falls go) where
   two_falls : (gs gs' : List Goal) (c : ℕ) (p : List Pending) (n : ℕ) → LeavesAtMost n (on_failure (go gs c p n) (λ n'. go gs' c p n'))
   two_falls gs gs' c p n = fails_falls (go gs c p n) n (λ n'. go gs' c p n') (falls gs c p n) (λ m h. up gs' c p m n h)
 
-  more_falls : (b : Bool) (gs gs' : List Goal) (c : ℕ) (p : List Pending) (n : ℕ) → LeavesAtMost n (if b then ends Failure n else on_failure (go gs c p n) (λ n'. go gs' c p n'))
+  more_falls : (b : Bool) (gs gs' : List Goal) (c : ℕ) (p : List Pending) (n : ℕ)
+      → LeavesAtMost n (if b then ends Failure n else on_failure (go gs c p n) (λ n'. go gs' c p n'))
   more_falls true gs gs' c p n = omega arith
   more_falls false gs gs' c p n = two_falls gs gs' c p n
 
@@ -36,10 +38,12 @@ module _ (go : Way) (falls : Falls go) where
   row_falls text (Meet (pattern.RTab k)) r c p n = if_falls (nat_le (c + k) (length text)) (go r (length text - k) p n) n (falls r (length text - k) p n)
   row_falls text (Meet (pattern.Any s)) r c p n = if_falls (begins_with (is_one_of s) (drop c text)) (go r (c + 1) p n) n (falls r (c + 1) p n)
   row_falls text (Meet (pattern.NotAny s)) r c p n = if_falls (begins_with (λ x. not (is_one_of s x)) (drop c text)) (go r (c + 1) p n) n (falls r (c + 1) p n)
-  row_falls text (Meet (pattern.Span s)) r c p n = if_falls (begins_with (is_one_of s) (drop c text)) (go r (c + prefix_len (is_one_of s) (drop c text)) p n) n (falls r (c + prefix_len (is_one_of s) (drop c text)) p n)
-  row_falls text (Meet (pattern.Break s)) r c p n = if_falls (nat_lt (c + position_or_len (is_one_of s) (drop c text)) (length text)) (go r (c + position_or_len (is_one_of s) (drop c text)) p n) n (falls r (c + position_or_len (is_one_of s) (drop c text)) p n)
+  row_falls text (Meet (pattern.Span s)) r c p n = if_falls (begins_with (is_one_of s) (drop c text))
+      (go r (c + prefix_len (is_one_of s) (drop c text)) p n) n (falls r (c + prefix_len (is_one_of s) (drop c text)) p n)
+  row_falls text (Meet (pattern.Break s)) r c p n = if_falls (nat_lt (c + position_or_len (is_one_of s) (drop c text)) (length text))
+      (go r (c + position_or_len (is_one_of s) (drop c text)) p n) n (falls r (c + position_or_len (is_one_of s) (drop c text)) p n)
   row_falls text (Meet pattern.Rem) r c p n = falls r (length text) p n
-  row_falls text (Meet pattern.Arb) r c p n = each_falls r (upward c (length text + 1 - c)) p n n (omega arith)
+  row_falls text (Meet pattern.Arb) r c p n = each_falls r (range_with_len c (length text + 1 - c)) p n n (omega arith)
   row_falls text (Meet pattern.Bal) r c p n = each_falls r (balanced_ends text c) p n n (omega arith)
   row_falls text (Meet (pattern.Cat a b)) r c p n = falls (Meet a ∷ Meet b ∷ r) c p n
   row_falls text (Meet (pattern.Alt a b)) r c p n = two_falls (Meet a ∷ r) (Meet b ∷ r) c p n
@@ -60,11 +64,14 @@ module _ (go : Way) (falls : Falls go) where
     each_agrees : (r : List Goal) (cs : List ℕ) (p : List Pending) (m : ℕ) → m ≤ n → at_each go r cs p m ≡ at_each go' r cs p m
     each_agrees r [] p m h = refl
     each_agrees r (c ∷ cs) p m h =
-        fails_agree (go r c p m) (go' r c p m) n (λ n'. at_each go r cs p n') (λ n'. at_each go' r cs p n') (up r c p m n h) (agree r c p m h) (λ m' h'. each_agrees r cs p m' h')
+        fails_agree (go r c p m) (go' r c p m) n (λ n'. at_each go r cs p n') (λ n'. at_each go' r cs p n') (up r c p m n h) (agree r c p m h)
+        (λ m' h'. each_agrees r cs p m' h')
 
-    two_agree : (gs gs' : List Goal) (c : ℕ) (p : List Pending) → on_failure (go gs c p n) (λ n'. go gs' c p n') ≡ on_failure (go' gs c p n) (λ n'. go' gs' c p n')
+    two_agree : (gs gs' : List Goal) (c : ℕ) (p : List Pending)
+        → on_failure (go gs c p n) (λ n'. go gs' c p n') ≡ on_failure (go' gs c p n) (λ n'. go' gs' c p n')
     two_agree gs gs' c p =
-        fails_agree (go gs c p n) (go' gs c p n) n (λ n'. go gs' c p n') (λ n'. go' gs' c p n') (falls gs c p n) (agree gs c p n (omega arith)) (λ m h. agree gs' c p m h)
+        fails_agree (go gs c p n) (go' gs c p n) n (λ n'. go gs' c p n') (λ n'. go' gs' c p n') (falls gs c p n) (agree gs c p n (omega arith))
+        (λ m h. agree gs' c p m h)
 
     here : (gs : List Goal) (c : ℕ) (p : List Pending) → go gs c p n ≡ go' gs c p n
     here gs c p = agree gs c p n (omega arith)
@@ -78,11 +85,14 @@ module _ (go : Way) (falls : Falls go) where
     row_agrees text (Meet (pattern.Tab k)) r c p = ap (λ o. if nat_le c k && nat_le k (length text) then o else ends Failure n) (here r k p)
     row_agrees text (Meet (pattern.RTab k)) r c p = ap (λ o. if nat_le (c + k) (length text) then o else ends Failure n) (here r (length text - k) p)
     row_agrees text (Meet (pattern.Any s)) r c p = ap (λ o. if begins_with (is_one_of s) (drop c text) then o else ends Failure n) (here r (c + 1) p)
-    row_agrees text (Meet (pattern.NotAny s)) r c p = ap (λ o. if begins_with (λ x. not (is_one_of s x)) (drop c text) then o else ends Failure n) (here r (c + 1) p)
-    row_agrees text (Meet (pattern.Span s)) r c p = ap (λ o. if begins_with (is_one_of s) (drop c text) then o else ends Failure n) (here r (c + prefix_len (is_one_of s) (drop c text)) p)
-    row_agrees text (Meet (pattern.Break s)) r c p = ap (λ o. if nat_lt (c + position_or_len (is_one_of s) (drop c text)) (length text) then o else ends Failure n) (here r (c + position_or_len (is_one_of s) (drop c text)) p)
+    row_agrees text (Meet (pattern.NotAny s)) r c p = ap (λ o. if begins_with (λ x. not (is_one_of s x)) (drop c text) then o else ends Failure n)
+        (here r (c + 1) p)
+    row_agrees text (Meet (pattern.Span s)) r c p = ap (λ o. if begins_with (is_one_of s) (drop c text) then o else ends Failure n)
+        (here r (c + prefix_len (is_one_of s) (drop c text)) p)
+    row_agrees text (Meet (pattern.Break s)) r c p = ap (λ o. if nat_lt (c + position_or_len (is_one_of s) (drop c text))
+        (length text) then o else ends Failure n) (here r (c + position_or_len (is_one_of s) (drop c text)) p)
     row_agrees text (Meet pattern.Rem) r c p = here r (length text) p
-    row_agrees text (Meet pattern.Arb) r c p = each_agrees r (upward c (length text + 1 - c)) p n (omega arith)
+    row_agrees text (Meet pattern.Arb) r c p = each_agrees r (range_with_len c (length text + 1 - c)) p n (omega arith)
     row_agrees text (Meet pattern.Bal) r c p = each_agrees r (balanced_ends text c) p n (omega arith)
     row_agrees text (Meet (pattern.Cat a b)) r c p = here (Meet a ∷ Meet b ∷ r) c p
     row_agrees text (Meet (pattern.Alt a b)) r c p = two_agree (Meet a ∷ r) (Meet b ∷ r) c p
@@ -92,7 +102,8 @@ module _ (go : Way) (falls : Falls go) where
     row_agrees text (EndConditional v d) r c p = here r c (p ++ record { variable = v; text = part text d c } ∷ [])
     row_agrees text (Meet (pattern.Immediate a v)) r c p = here (Meet a ∷ EndImmediate v c ∷ r) c p
     row_agrees text (EndImmediate v d) r c p =
-        asks_same (Assign v (Part (part text d c))) (λ t. if_given t n (go r c p n)) (λ t. if_given t n (go' r c p n)) (λ t. ap (λ o. if_given t n o) (here r c p))
+        asks_same (Assign v (Part (part text d c))) (λ t. if_given t n (go r c p n)) (λ t. if_given t n (go' r c p n))
+        (λ t. ap (λ o. if_given t n o) (here r c p))
     row_agrees text (Meet (pattern.Cursor v)) r c p =
         asks_same (Assign v (Cursor c)) (λ t. if_given t n (go r c p n)) (λ t. if_given t n (go' r c p n)) (λ t. ap (λ o. if_given t n o) (here r c p))
     row_agrees text (Meet (pattern.Defer v)) r c p =
@@ -109,7 +120,8 @@ module _ (text : List ℕ) where
   attempt_falls d [] c p n = omega arith
   attempt_falls d (g ∷ r) c p zero = omega arith
   attempt_falls zero (g ∷ r) c p (suc n) = omega arith
-  attempt_falls (suc d) (g ∷ r) c p (suc n) = leaves_more n (suc n) (omega arith) (row text (attempt text d) g r c p n) (row_falls (attempt text d) (attempt_falls d) text g r c p n)
+  attempt_falls (suc d) (g ∷ r) c p (suc n) = leaves_more n (suc n) (omega arith) (row text (attempt text d) g r c p n)
+      (row_falls (attempt text d) (attempt_falls d) text g r c p n)
 
   -- any two depths that are enough give the same
   pub any_depth : (d d' : ℕ) (gs : List Goal) (c : ℕ) (p : List Pending) (n : ℕ) → n ≤ d → n ≤ d' → attempt text d gs c p n ≡ attempt text d' gs c p n

@@ -65,17 +65,20 @@ after_falls WholeFails m n second h k = h
 after_falls OutOfSteps m n second h k = h
 after_falls (Fault f) m n second h k = h
 
-pub fails_falls : (t : Trying) (n : ℕ) (second : ℕ → Trying) → LeavesAtMost n t → ((m : ℕ) → m ≤ n → LeavesAtMost n (second m)) → LeavesAtMost n (on_failure t second)
+pub fails_falls : (t : Trying) (n : ℕ) (second : ℕ → Trying) → LeavesAtMost n t → ((m : ℕ) → m ≤ n → LeavesAtMost n (second m))
+    → LeavesAtMost n (on_failure t second)
 fails_falls t n second h k = ends_in_then (AtMost n) (AtMost n) t (λ o. after_end o.end o.left second) h (λ o l. after_falls o.end o.left n second l k)
 
-after_agrees : (e : End) (m n : ℕ) (second second' : ℕ → Trying) → m ≤ n → ((m : ℕ) → m ≤ n → second m ≡ second' m) → after_end e m second ≡ after_end e m second'
+after_agrees : (e : End) (m n : ℕ) (second second' : ℕ → Trying) → m ≤ n → ((m : ℕ) → m ≤ n → second m ≡ second' m)
+    → after_end e m second ≡ after_end e m second'
 after_agrees Failure m n second second' h k = k m h
 after_agrees (Success at p) m n second second' h k = refl
 after_agrees WholeFails m n second second' h k = refl
 after_agrees OutOfSteps m n second second' h k = refl
 after_agrees (Fault f) m n second second' h k = refl
 
-pub fails_agree : (t t' : Trying) (n : ℕ) (second second' : ℕ → Trying) → LeavesAtMost n t → t ≡ t' → ((m : ℕ) → m ≤ n → second m ≡ second' m) → on_failure t second ≡ on_failure t' second'
+pub fails_agree : (t t' : Trying) (n : ℕ) (second second' : ℕ → Trying) → LeavesAtMost n t → t ≡ t' → ((m : ℕ) → m ≤ n → second m ≡ second' m)
+    → on_failure t second ≡ on_failure t' second'
 fails_agree t t' n second second' h e k =
     same_then (AtMost n) t (λ o. after_end o.end o.left second) (λ o. after_end o.end o.left second') h (λ o l. after_agrees o.end o.left n second second' l k)
     ∙ ap (λ u. on_failure u second') e

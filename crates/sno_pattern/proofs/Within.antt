@@ -1,7 +1,7 @@
 -- No goal goes back behind its cursor or out of the text.
 use Rattle.std.specs.Prelude.{ℕ, zero, suc, ◌+◌, ◌-◌, ◌≤◌, List, [], ◌∷◌, ◌++◌, length, drop, Bool, true, false, not, ◌&&◌, if◌then◌else◌, nat_eq, nat_le, nat_lt}
 use Rattle.std.proofs.Common.{arith}
-use Rattle.std.specs.List.{starts_with, prefix_len, position_or_len}
+use Rattle.std.specs.List.{starts_with, prefix_len, position_or_len, range_with_len}
 use Rattle.sno_talk.specs.Talks.{Talk, Ends, Asks}
 use Rattle.sno_talk.specs.Endings.{EndsIn}
 use Rattle.sno_talk.specs.Holding.{Held}
@@ -11,7 +11,8 @@ use Rattle.sno_nodes.specs.Patterns.{Pattern}
 use Rattle.sno_nodes.specs.Patterns as pattern
 use Rattle.sno_pattern.specs.declared.ending.Pending.{Pending}
 use Rattle.sno_pattern.specs.Looks.{Look, Told, Found, Given, Refused, Faulty}
-use Rattle.sno_pattern.specs.Steps.{Goal, Meet, More, EndConditional, EndImmediate, End, Success, Failure, WholeFails, OutOfSteps, Fault, Outcome, Trying, Way, ends, after_end, on_failure, at_each, upward, part, is_one_of, begins_with, balanced_ends, pattern_found, with_found, if_given, row, attempt, outcome, Finish, settle, from_starts}
+use Rattle.sno_nodes.specs.Sets.{is_one_of, begins_with}
+use Rattle.sno_pattern.specs.Steps.{Goal, Meet, More, EndConditional, EndImmediate, End, Success, Failure, WholeFails, OutOfSteps, Fault, Outcome, Trying, Way, ends, after_end, on_failure, at_each, part, balanced_ends, pattern_found, with_found, if_given, row, attempt, outcome, Finish, settle, from_starts}
 use Rattle.sno_pattern.specs.Places.{one_end, MatchesWithin}
 use Rattle.sno_pattern.specs.Laws.{MatchIsWithin}
 use Rattle.sno_pattern.proofs.Finding.{Between, ends_between}
@@ -38,14 +39,16 @@ onward_less l b c h (Fault f) k = tt
 further : (l b c : ℕ) → b ≤ c → (t : Trying) → EndsIn (Comes l c) t → EndsIn (Comes l b) t
 further l b c h t k = ends_in_weaker (Comes l c) (Comes l b) t (λ o i. onward_less l b c h o.end i) k
 
-after_comes : (l c : ℕ) (e : End) (n : ℕ) (second : ℕ → Trying) → Onward l c e → ((n : ℕ) → EndsIn (Comes l c) (second n)) → EndsIn (Comes l c) (after_end e n second)
+after_comes : (l c : ℕ) (e : End) (n : ℕ) (second : ℕ → Trying) → Onward l c e → ((n : ℕ) → EndsIn (Comes l c) (second n))
+    → EndsIn (Comes l c) (after_end e n second)
 after_comes l c (Success at p) n second h k = h
 after_comes l c Failure n second h k = k n
 after_comes l c WholeFails n second h k = tt
 after_comes l c OutOfSteps n second h k = tt
 after_comes l c (Fault f) n second h k = tt
 
-then_comes : (l c : ℕ) (t : Trying) (second : ℕ → Trying) → EndsIn (Comes l c) t → ((n : ℕ) → EndsIn (Comes l c) (second n)) → EndsIn (Comes l c) (on_failure t second)
+then_comes : (l c : ℕ) (t : Trying) (second : ℕ → Trying) → EndsIn (Comes l c) t → ((n : ℕ) → EndsIn (Comes l c) (second n))
+    → EndsIn (Comes l c) (on_failure t second)
 then_comes l c t second h k =
     ends_in_then (Comes l c) (Comes l c) t (λ o. after_end o.end o.left second) h (λ o i. after_comes l c o.end o.left second i k)
 
@@ -61,20 +64,26 @@ found_comes l c Given n go h = tt
 found_comes l c Refused n go h = tt
 found_comes l c (Faulty f) n go h = tt
 
-module _ (text : List ℕ) (go : Way) (comes : (gs : List Goal) (c : ℕ) (p : List Pending) (n : ℕ) → c ≤ length text → EndsIn (Comes (length text) c) (go gs c p n)) where
-  each_comes : (r : List Goal) (c : ℕ) (cs : List ℕ) (p : List Pending) (n : ℕ) → Between (length text) c cs → EndsIn (Comes (length text) c) (at_each go r cs p n)
+module _ (text : List ℕ) (go : Way) (comes : (gs : List Goal) (c : ℕ) (p : List Pending) (n : ℕ) → c ≤ length text
+    → EndsIn (Comes (length text) c) (go gs c p n)) where
+  each_comes : (r : List Goal) (c : ℕ) (cs : List ℕ) (p : List Pending) (n : ℕ) → Between (length text) c cs
+      → EndsIn (Comes (length text) c) (at_each go r cs p n)
   each_comes r c [] p n h = tt
   each_comes r c (e ∷ cs) p n h =
-      then_comes (length text) c (go r e p n) (λ n'. at_each go r cs p n') (further (length text) c e h.0 (go r e p n) (comes r e p n h.1)) (λ n'. each_comes r c cs p n' h.2)
+      then_comes (length text) c (go r e p n) (λ n'. at_each go r cs p n') (further (length text) c e h.0 (go r e p n) (comes r e p n h.1))
+      (λ n'. each_comes r c cs p n' h.2)
 
-  one_comes : (r : List Goal) (c k : ℕ) (b : Bool) (p : List Pending) (n : ℕ) → Between (length text) c (one_end b k) → EndsIn (Comes (length text) c) (if b then go r k p n else ends Failure n)
+  one_comes : (r : List Goal) (c k : ℕ) (b : Bool) (p : List Pending) (n : ℕ) → Between (length text) c (one_end b k)
+      → EndsIn (Comes (length text) c) (if b then go r k p n else ends Failure n)
   one_comes r c k true p n h = further (length text) c k h.0 (go r k p n) (comes r k p n h.1)
   one_comes r c k false p n h = tt
 
-  two_come : (gs gs' : List Goal) (c : ℕ) (p : List Pending) (n : ℕ) → c ≤ length text → EndsIn (Comes (length text) c) (on_failure (go gs c p n) (λ n'. go gs' c p n'))
+  two_come : (gs gs' : List Goal) (c : ℕ) (p : List Pending) (n : ℕ) → c ≤ length text
+      → EndsIn (Comes (length text) c) (on_failure (go gs c p n) (λ n'. go gs' c p n'))
   two_come gs gs' c p n h = then_comes (length text) c (go gs c p n) (λ n'. go gs' c p n') (comes gs c p n h) (λ n'. comes gs' c p n' h)
 
-  more_comes : (b : Bool) (gs gs' : List Goal) (c : ℕ) (p : List Pending) (n : ℕ) → c ≤ length text → EndsIn (Comes (length text) c) (if b then ends Failure n else on_failure (go gs c p n) (λ n'. go gs' c p n'))
+  more_comes : (b : Bool) (gs gs' : List Goal) (c : ℕ) (p : List Pending) (n : ℕ) → c ≤ length text
+      → EndsIn (Comes (length text) c) (if b then ends Failure n else on_failure (go gs c p n) (λ n'. go gs' c p n'))
   more_comes true gs gs' c p n h = tt
   more_comes false gs gs' c p n h = two_come gs gs' c p n h
 
@@ -87,11 +96,14 @@ module _ (text : List ℕ) (go : Way) (comes : (gs : List Goal) (c : ℕ) (p : L
   row_comes (Meet (pattern.Tab k)) r c p n h = one_comes r c k (nat_le c k && nat_le k (length text)) p n (ends_between text (pattern.Tab k) c h)
   row_comes (Meet (pattern.RTab k)) r c p n h = one_comes r c (length text - k) (nat_le (c + k) (length text)) p n (ends_between text (pattern.RTab k) c h)
   row_comes (Meet (pattern.Any s)) r c p n h = one_comes r c (c + 1) (begins_with (is_one_of s) (drop c text)) p n (ends_between text (pattern.Any s) c h)
-  row_comes (Meet (pattern.NotAny s)) r c p n h = one_comes r c (c + 1) (begins_with (λ x. not (is_one_of s x)) (drop c text)) p n (ends_between text (pattern.NotAny s) c h)
-  row_comes (Meet (pattern.Span s)) r c p n h = one_comes r c (c + prefix_len (is_one_of s) (drop c text)) (begins_with (is_one_of s) (drop c text)) p n (ends_between text (pattern.Span s) c h)
-  row_comes (Meet (pattern.Break s)) r c p n h = one_comes r c (c + position_or_len (is_one_of s) (drop c text)) (nat_lt (c + position_or_len (is_one_of s) (drop c text)) (length text)) p n (ends_between text (pattern.Break s) c h)
+  row_comes (Meet (pattern.NotAny s)) r c p n h = one_comes r c (c + 1) (begins_with (λ x. not (is_one_of s x)) (drop c text)) p n
+      (ends_between text (pattern.NotAny s) c h)
+  row_comes (Meet (pattern.Span s)) r c p n h = one_comes r c (c + prefix_len (is_one_of s) (drop c text))
+      (begins_with (is_one_of s) (drop c text)) p n (ends_between text (pattern.Span s) c h)
+  row_comes (Meet (pattern.Break s)) r c p n h = one_comes r c (c + position_or_len (is_one_of s) (drop c text))
+      (nat_lt (c + position_or_len (is_one_of s) (drop c text)) (length text)) p n (ends_between text (pattern.Break s) c h)
   row_comes (Meet pattern.Rem) r c p n h = further (length text) c (length text) h (go r (length text) p n) (comes r (length text) p n (omega arith))
-  row_comes (Meet pattern.Arb) r c p n h = each_comes r c (upward c (length text + 1 - c)) p n (ends_between text pattern.Arb c h)
+  row_comes (Meet pattern.Arb) r c p n h = each_comes r c (range_with_len c (length text + 1 - c)) p n (ends_between text pattern.Arb c h)
   row_comes (Meet pattern.Bal) r c p n h = each_comes r c (balanced_ends text c) p n (ends_between text pattern.Bal c h)
   row_comes (Meet (pattern.Cat a b)) r c p n h = comes (Meet a ∷ Meet b ∷ r) c p n h
   row_comes (Meet (pattern.Alt a b)) r c p n h = two_come (Meet a ∷ r) (Meet b ∷ r) c p n h
@@ -108,7 +120,8 @@ module _ (text : List ℕ) (go : Way) (comes : (gs : List Goal) (c : ℕ) (p : L
   row_comes (Meet pattern.Fence) r c p n h = then_comes (length text) c (go r c p n) (λ n'. ends WholeFails n') (comes r c p n h) (λ n'. tt)
   row_comes (Meet pattern.Succeed) r c p n h = two_come r (Meet pattern.Succeed ∷ r) c p n h
 
-attempt_comes : (text : List ℕ) (d : ℕ) (gs : List Goal) (c : ℕ) (p : List Pending) (n : ℕ) → c ≤ length text → EndsIn (Comes (length text) c) (attempt text d gs c p n)
+attempt_comes : (text : List ℕ) (d : ℕ) (gs : List Goal) (c : ℕ) (p : List Pending) (n : ℕ) → c ≤ length text
+    → EndsIn (Comes (length text) c) (attempt text d gs c p n)
 unfolding attempt
 attempt_comes text d [] c p n h = (omega arith, h)
 attempt_comes text d (g ∷ r) c p zero h = tt
@@ -122,7 +135,8 @@ outcome_comes text gs c p n h = attempt_comes text n gs c p n h
 abbrev Finishes : ℕ → Finish → Type 0
 Finishes l f = MatchesWithin l f.end
 
-settle_within : (l at : ℕ) (next : ℕ → Talk Look Told Finish) → ((n : ℕ) → EndsIn (Finishes l) (next n)) → (e : End) (n : ℕ) → Onward l at e → EndsIn (Finishes l) (settle at e n next)
+settle_within : (l at : ℕ) (next : ℕ → Talk Look Told Finish) → ((n : ℕ) → EndsIn (Finishes l) (next n)) → (e : End) (n : ℕ) → Onward l at e
+    → EndsIn (Finishes l) (settle at e n next)
 settle_within l at next h (Success to p) n k = k
 settle_within l at next h Failure n k = h n
 settle_within l at next h WholeFails n k = tt
@@ -132,13 +146,15 @@ settle_within l at next h (Fault f) n k = tt
 starts_within : (text : List ℕ) (p : Pattern) (k at n : ℕ) → at + k ≤ length text + 1 → EndsIn (Finishes (length text)) (from_starts text p k at n)
 starts_within text p zero at n h = tt
 starts_within text p (suc k) at n h =
-    ends_in_then (Comes (length text) at) (Finishes (length text)) (outcome text (Meet p ∷ []) at [] n) (λ o. settle at o.end o.left (λ n'. from_starts text p k (at + 1) n'))
+    ends_in_then (Comes (length text) at) (Finishes (length text)) (outcome text (Meet p ∷ []) at [] n)
+    (λ o. settle at o.end o.left (λ n'. from_starts text p k (at + 1) n'))
     (outcome_comes text (Meet p ∷ []) at [] n (omega arith))
     (λ o i. settle_within (length text) at (λ n'. from_starts text p k (at + 1) n') (λ n'. starts_within text p k (at + 1) n' (omega arith)) o.end o.left i)
 
 pub matches_within : MatchIsWithin
 matches_within text p anchored limit =
-    ends_in_then (Finishes (length text)) (MatchesWithin (length text)) (from_starts text p (if anchored then 1 else (length text + 1)) 0 limit) (λ f. Ends f.end)
+    ends_in_then (Finishes (length text)) (MatchesWithin (length text)) (from_starts text p (if anchored then 1 else (length text + 1)) 0 limit)
+    (λ f. Ends f.end)
     (starts_within text p (if anchored then 1 else (length text + 1)) 0 limit (enough_starts (length text) anchored)) (λ f i. i)
 
 -- what a talk ends with in any case, it ended with where it was held

@@ -1,13 +1,14 @@
 -- Where a pattern can end from a cursor on, in the order in which that is tried, and where it matches first (SNOBOL4 book,
 -- chapter 2; own for BAL and ARBNO): no steps, no goals and no backing up.
 use Rattle.std.specs.Prelude.{◌≡◌, ℕ, zero, suc, ◌+◌, ◌-◌, List, [], ◌∷◌, ◌++◌, length, drop, Bool, not, ◌&&◌, if◌then◌else◌, nat_eq, nat_le, nat_lt, Option, Some, None, ◌≤◌}
-use Rattle.std.specs.List.{starts_with, flat_map, prefix_len, position_or_len}
+use Rattle.std.specs.List.{starts_with, flat_map, prefix_len, position_or_len, range_with_len}
 use Rattle.sno_talk.specs.Talks.{Ends, Asks}
 use Rattle.sno_nodes.specs.Patterns.{Pattern}
 use Rattle.sno_nodes.specs.Patterns as pattern
 use Rattle.sno_pattern.specs.declared.ending.MatchEnd.{MatchEnd}
 use Rattle.sno_pattern.specs.declared.ending.MatchEnd.TheVariants as end
-use Rattle.sno_pattern.specs.Steps.{End, Success, Failure, WholeFails, OutOfSteps, Fault, Trying, upward, is_one_of, begins_with, balanced_ends}
+use Rattle.sno_nodes.specs.Sets.{is_one_of, begins_with}
+use Rattle.sno_pattern.specs.Steps.{End, Success, Failure, WholeFails, OutOfSteps, Fault, Trying, balanced_ends}
 
 -- no host is asked, and nothing cuts off what is still to be tried
 abbrev pub IsSimple : Pattern → Type 0
@@ -24,9 +25,9 @@ IsSimple pattern.Succeed = ⊥
 IsSimple _ = Unit {0}
 
 -- c, and then the turns from each end of one turn that moves on; k bounds the number of turns
-abbrev pub turns : (ℕ → List ℕ) → ℕ → ℕ → List ℕ
-turns f zero c = c ∷ []
-turns f (suc k) c = c ∷ flat_map (λ e. if nat_eq e c then [] else turns f k e) (f c)
+abbrev pub ends_of_turns : (ℕ → List ℕ) → ℕ → ℕ → List ℕ
+ends_of_turns f zero c = c ∷ []
+ends_of_turns f (suc k) c = c ∷ flat_map (λ e. if nat_eq e c then [] else ends_of_turns f k e) (f c)
 
 abbrev pub one_end : Bool → ℕ → List ℕ
 one_end holds c = if holds then c ∷ [] else []
@@ -41,13 +42,14 @@ ends_of text (pattern.RTab k) c = one_end (nat_le (c + k) (length text)) (length
 ends_of text (pattern.Any s) c = one_end (begins_with (is_one_of s) (drop c text)) (c + 1)
 ends_of text (pattern.NotAny s) c = one_end (begins_with (λ x. not (is_one_of s x)) (drop c text)) (c + 1)
 ends_of text (pattern.Span s) c = one_end (begins_with (is_one_of s) (drop c text)) (c + prefix_len (is_one_of s) (drop c text))
-ends_of text (pattern.Break s) c = one_end (nat_lt (c + position_or_len (is_one_of s) (drop c text)) (length text)) (c + position_or_len (is_one_of s) (drop c text))
+ends_of text (pattern.Break s) c = one_end (nat_lt (c + position_or_len (is_one_of s) (drop c text)) (length text))
+    (c + position_or_len (is_one_of s) (drop c text))
 ends_of text pattern.Rem c = length text ∷ []
-ends_of text pattern.Arb c = upward c (length text + 1 - c)
+ends_of text pattern.Arb c = range_with_len c (length text + 1 - c)
 ends_of text pattern.Bal c = balanced_ends text c
 ends_of text (pattern.Cat a b) c = flat_map (ends_of text b) (ends_of text a c)
 ends_of text (pattern.Alt a b) c = ends_of text a c ++ ends_of text b c
-ends_of text (pattern.Arbno a) c = turns (ends_of text a) (length text - c) c
+ends_of text (pattern.Arbno a) c = ends_of_turns (ends_of text a) (length text - c) c
 ends_of text (pattern.Conditional a v) c = ends_of text a c
 ends_of text _ c = []
 
@@ -66,7 +68,7 @@ Comes es (Asks q f) = ⊥
 
 -- every cursor, or the first one alone
 abbrev pub starts : List ℕ → (anchored : Bool) → List ℕ
-starts text anchored = upward 0 (if anchored then 1 else (length text + 1))
+starts text anchored = range_with_len 0 (if anchored then 1 else (length text + 1))
 
 -- from here to the first of these ends, or else the place after
 abbrev pub place_from : ℕ → List ℕ → Option (ℕ × ℕ) → Option (ℕ × ℕ)

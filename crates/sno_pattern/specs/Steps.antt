@@ -1,10 +1,11 @@
 -- The step table: what a match does goal by goal, and what it asks of its host (SNOBOL4 book, chapter 2 and chapter 8; the
 -- number of steps, BAL and ARBNO are own).
 use Rattle.std.specs.Prelude.{ℕ, zero, suc, ◌+◌, ◌-◌, List, [], ◌∷◌, ◌++◌, length, take, drop, Bool, false, not, ◌&&◌, if◌then◌else◌, nat_eq, nat_le, nat_lt}
-use Rattle.std.specs.List.{starts_with, filter, list_any, list_all, prefix_len, position_or_len}
+use Rattle.std.specs.List.{range_with_len, starts_with, filter, list_all, prefix_len, position_or_len}
 use Rattle.sno_talk.specs.Talks.{Talk, Ends, ask, ◌>>=◌}
 use Rattle.sno_text.specs.declared.fault.Fault.{Fault as AFault}
 use Rattle.sno_nodes.specs.Patterns.{Pattern}
+use Rattle.sno_nodes.specs.Sets.{is_one_of, begins_with}
 use Rattle.sno_nodes.specs.Patterns as pattern
 use Rattle.sno_pattern.specs.declared.host.Looked.{Looked}
 use Rattle.sno_pattern.specs.declared.host.Looked.TheVariants as looked
@@ -64,22 +65,9 @@ abbrev pub at_each : Way → List Goal → List ℕ → List Pending → ℕ →
 at_each go rest [] pending n = ends Failure n
 at_each go rest (c ∷ cs) pending n = on_failure (go rest c pending n) (λ n'. at_each go rest cs pending n')
 
--- so many cursors from one on
-abbrev pub upward : ℕ → ℕ → List ℕ
-upward c zero = []
-upward c (suc k) = c ∷ upward (c + 1) k
-
 -- the text between two cursors
 abbrev pub part : List ℕ → ℕ → ℕ → List ℕ
 part text from to = take (to - from) (drop from text)
-
-abbrev pub is_one_of : List ℕ → ℕ → Bool
-is_one_of characters x = list_any (λ y. nat_eq y x) characters
-
--- there is a first character, and it passes
-abbrev pub begins_with : (ℕ → Bool) → List ℕ → Bool
-begins_with test [] = false
-begins_with test (x ∷ xs) = test x
 
 -- how often a character stands in a text
 abbrev pub times : ℕ → List ℕ → ℕ
@@ -87,11 +75,12 @@ times c text = length (filter (λ x. nat_eq x c) text)
 
 -- parentheses are in pairs where there are as many `)` as `(`, and no beginning of the text has more `)` than `(`
 abbrev pub in_pairs : List ℕ → Bool
-in_pairs text = nat_eq (times 41 text) (times 40 text) && list_all (λ n. nat_le (times 41 (take n text)) (times 40 (take n text))) (upward 0 (length text))
+in_pairs text = nat_eq (times 41 text) (times 40 text) && list_all (λ n. nat_le (times 41 (take n text)) (times 40 (take n text)))
+    (range_with_len 0 (length text))
 
 -- where a part that begins here, is not null and has its parentheses in pairs can end
 abbrev pub balanced_ends : List ℕ → ℕ → List ℕ
-balanced_ends text c = filter (λ e. in_pairs (part text c e)) (upward (c + 1) (length text - c))
+balanced_ends text c = filter (λ e. in_pairs (part text c e)) (range_with_len (c + 1) (length text - c))
 
 -- the pattern that a variable stands for
 abbrev pub pattern_found : Looked → Pattern
@@ -139,7 +128,7 @@ module _ (text : List ℕ) where
       if nat_lt (c + position_or_len (is_one_of s) (drop c text)) (length text)
       then go r (c + position_or_len (is_one_of s) (drop c text)) pending n
       else ends Failure n
-  row go (Meet pattern.Arb) r c pending n = at_each go r (upward c (length text + 1 - c)) pending n
+  row go (Meet pattern.Arb) r c pending n = at_each go r (range_with_len c (length text + 1 - c)) pending n
   row go (Meet pattern.Bal) r c pending n = at_each go r (balanced_ends text c) pending n
   row go (Meet (pattern.Cat a b)) r c pending n = go (Meet a ∷ Meet b ∷ r) c pending n
   row go (Meet (pattern.Alt a b)) r c pending n =

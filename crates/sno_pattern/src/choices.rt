@@ -1,8 +1,9 @@
 //! What comes after a goal: how goals are tried at several cursors, and how the last choice is taken.
 ghost use Rattle.std.specs.Prelude.{◌≡◌, ◌≤◌, ◌+◌, ◌-◌, ◌∷◌, List, length, IfOk};
+ghost use Rattle.std.specs.List.{range_with_len};
 ghost use Rattle.sno_nodes.specs.Nodes.{pattern_of};
 ghost use Rattle.sno_pattern.specs.declared.ending.Pending.{Pending as Waits};
-ghost use Rattle.sno_pattern.specs.Steps.{Goal as Aim, Meet, Failure, ends, at_each, upward, balanced_ends, outcome};
+ghost use Rattle.sno_pattern.specs.Steps.{Goal as Aim, Meet, Failure, ends, at_each, balanced_ends, outcome};
 ghost use Rattle.sno_pattern.specs.inner.Stack.{waiting_of, AllWithin, Led};
 
 use crate::reach::{misses, next_balanced};
@@ -32,7 +33,7 @@ fn skip_node(text: &[u8], node: &Node, from: usize, left: &mut u64) -> usize
     requires { from ≤ length text.now }
     ensures within { result ≤ length text.now }
     ensures fewer { left.new ≤ left.old }
-    ensures same { (r : List Aim) (p : List Waits) → at_each (outcome text.now) (Meet (pattern_of node.now) ∷ r) (upward from (length text.now + 1 - from)) p left.old ≡ at_each (outcome text.now) (Meet (pattern_of node.now) ∷ r) (upward result (length text.now + 1 - result)) p left.new }
+    ensures same { (r : List Aim) (p : List Waits) → at_each (outcome text.now) (Meet (pattern_of node.now) ∷ r) (range_with_len from (length text.now + 1 - from)) p left.old ≡ at_each (outcome text.now) (Meet (pattern_of node.now) ∷ r) (range_with_len result (length text.now + 1 - result)) p left.new }
 {
     let mut at = from;
     let mut steps = *left;
@@ -49,7 +50,7 @@ fn skip(text: &[u8], trail: &Trail, from: usize, left: &mut u64) -> usize
     requires { from ≤ length text.now }
     ensures within { result ≤ length text.now }
     ensures fewer { left.new ≤ left.old }
-    ensures same { (p : List Waits) → at_each (outcome text.now) trail.now.goals (upward from (length text.now + 1 - from)) p left.old ≡ at_each (outcome text.now) trail.now.goals (upward result (length text.now + 1 - result)) p left.new }
+    ensures same { (p : List Waits) → at_each (outcome text.now) trail.now.goals (range_with_len from (length text.now + 1 - from)) p left.old ≡ at_each (outcome text.now) trail.now.goals (range_with_len result (length text.now + 1 - result)) p left.new }
 {
     match trail.first() {
         Some(Goal::Meet(node)) => skip_node(text, node, from, left),
@@ -66,7 +67,7 @@ pub(crate) fn each(
 ) -> Result<Turn, AllocError>
     requires cursor { from ≤ length text.now }
     requires all { AllWithin (length text.now) trail.old.opens }
-    ensures { IfOk result (λ turn. Led text.now trail.old.opens (at_each (outcome text.now) trail.old.goals (upward from (length text.now + 1 - from)) (waiting_of text.now trail.old.waits) left.old) left.old turn trail.new left.new) }
+    ensures { IfOk result (λ turn. Led text.now trail.old.opens (at_each (outcome text.now) trail.old.goals (range_with_len from (length text.now + 1 - from)) (waiting_of text.now trail.old.waits) left.old) left.old turn trail.new left.new) }
 {
     let at = skip(text, trail, from, left);
     if at >= text.len() {

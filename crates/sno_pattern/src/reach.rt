@@ -1,12 +1,12 @@
 //! Rows that end in one place or nowhere.
-ghost use Rattle.std.specs.Prelude.{◌≡◌, ◌≤◌, ◌<◌, ◌^◌, not, length, drop, nat_eq, true, IfSome};
-ghost use Rattle.std.specs.List.{starts_with, prefix_len, position_or_len};
+ghost use Rattle.std.specs.Prelude.{◌≡◌, ◌≤◌, ◌<◌, ◌^◌, length, true, IfSome};
 ghost use Rattle.sno_nodes.specs.Patterns as pattern;
 ghost use Rattle.sno_nodes.specs.Nodes.{pattern_of};
-ghost use Rattle.sno_pattern.specs.Steps.{is_one_of, begins_with, balanced_ends};
+ghost use Rattle.sno_pattern.specs.Steps.{balanced_ends};
 ghost use Rattle.sno_pattern.specs.inner.Reaching.{reached, IsWithin, is_nowhere, IsQuiet, open_after, next_and_on};
 
 use sno_nodes::Node;
+use sno_nodes::set::{begins_with_another, begins_with_one_of, gap_before, run_of, stands_first};
 
 /// Where a pattern ends from a cursor on.
 #[derive(Clone, Copy)]
@@ -15,72 +15,6 @@ pub(crate) enum Reach {
     Nowhere,
     /// That depends: it has parts, several ends, or words for the host.
     Depends,
-}
-
-/// Whether a text begins with a part. Most often the first character tells.
-#[inline(always)]
-fn stands_first(rest: &[u8], part: &[u8]) -> bool
-    ensures { result ≡ starts_with nat_eq rest.now part.now }
-{
-    match (rest.first(), part.first()) {
-        (Some(one), Some(other)) if *one != *other => false,
-        _ => rest.starts_with(part),
-    }
-}
-
-/// Whether a character is one of the set. Most sets have one character alone.
-#[inline(always)]
-fn is_one_of(characters: &[u8], character: u8) -> bool
-    ensures { result ≡ is_one_of characters.now character }
-{
-    match characters {
-        [only] => *only == character,
-        _ => characters.contains(&character),
-    }
-}
-
-/// Whether a character of the set comes first.
-fn begins_with_one_of(rest: &[u8], characters: &[u8]) -> bool
-    ensures { result ≡ begins_with (is_one_of characters.now) rest.now }
-{
-    match rest.first() {
-        Some(first) => is_one_of(characters, *first),
-        None => false,
-    }
-}
-
-/// Whether a character comes first that is not of the set.
-fn begins_with_another(rest: &[u8], characters: &[u8]) -> bool
-    ensures { result ≡ begins_with (λ x. not (is_one_of characters.now x)) rest.now }
-{
-    match rest.first() {
-        Some(first) => !is_one_of(characters, *first),
-        None => false,
-    }
-}
-
-/// How many characters of the set come first.
-fn run_of(rest: &[u8], characters: &[u8]) -> usize
-    ensures value { result ≡ prefix_len (is_one_of characters.now) rest.now }
-    ensures within { result ≤ length rest.now }
-{
-    let mut count = 0;
-    while count < rest.len() && is_one_of(characters, rest[count]) {
-        count += 1;
-    }
-    count
-}
-
-/// How many characters come before the first one of the set.
-fn gap_before(rest: &[u8], characters: &[u8]) -> usize
-    ensures value { result ≡ position_or_len (is_one_of characters.now) rest.now }
-    ensures within { result ≤ length rest.now }
-{
-    let mut count = 0;
-    while count < rest.len() && !is_one_of(characters, rest[count]) {
-        count += 1;
-    }
-    count
 }
 
 /// Here, if the number of characters from the cursor on is in the text.

@@ -5,7 +5,8 @@ use Rattle.sno_nodes.specs.Patterns.{Pattern}
 use Rattle.sno_nodes.specs.Patterns as pattern
 use Rattle.sno_pattern.specs.declared.reach.Reach.{Reach}
 use Rattle.sno_pattern.specs.declared.reach.Reach.TheVariants.{Here, Nowhere, Depends}
-use Rattle.sno_pattern.specs.Steps.{is_one_of, begins_with, balanced_ends}
+use Rattle.sno_nodes.specs.Sets.{is_one_of, begins_with}
+use Rattle.sno_pattern.specs.Steps.{balanced_ends}
 
 abbrev pub here_if : Bool → ℕ → Reach
 here_if holds c = if holds then Here c else Nowhere

@@ -1,5 +1,6 @@
 -- Goals, choices and turns of the program, by the definitions.
 use Rattle.std.specs.Prelude.{◌≡◌, ℕ, ◌+◌, ◌-◌, ◌≤◌, List, [], ◌∷◌, length, map}
+use Rattle.std.specs.List.{range_with_len}
 use Rattle.sno_talk.specs.Talks.{Asks}
 use Rattle.sno_talk.specs.Holding.{Held, Cut}
 use Rattle.sno_nodes.specs.Nodes.{pattern_of}
@@ -15,7 +16,7 @@ use Rattle.sno_pattern.specs.declared.choices.Ended.TheVariants as ended
 use Rattle.sno_pattern.specs.declared.ending.Pending.{Pending}
 use Rattle.sno_pattern.specs.declared.host.Taken.{Taken}
 use Rattle.sno_pattern.specs.Looks.{Look, LookUp, Assign, Told, Fits}
-use Rattle.sno_pattern.specs.Steps.{Goal, Meet, More, EndConditional, EndImmediate, End, Failure, WholeFails, OutOfSteps, Fault, Outcome, Trying, ends, on_failure, at_each, upward, part, balanced_ends, with_found, if_given, outcome}
+use Rattle.sno_pattern.specs.Steps.{Goal, Meet, More, EndConditional, EndImmediate, End, Failure, WholeFails, OutOfSteps, Fault, Outcome, Trying, ends, on_failure, at_each, part, balanced_ends, with_found, if_given, outcome}
 
 abbrev pub goal_of : AGoal → Goal
 goal_of (goal.Meet p) = Meet (pattern_of p.value)
@@ -53,7 +54,7 @@ end_of (ended.Fault f) = Fault f
 -- what goals come to that are tried so from a cursor
 abbrev pub tried : List ℕ → Kind → List Goal → ℕ → List Pending → ℕ → Trying
 tried text kind.Second gs c p n = outcome text gs c p n
-tried text kind.Each gs c p n = at_each (outcome text) gs (upward c (length text + 1 - c)) p n
+tried text kind.Each gs c p n = at_each (outcome text) gs (range_with_len c (length text + 1 - c)) p n
 tried text kind.Balanced gs c p n = at_each (outcome text) gs (c ∷ balanced_ends text c) p n
 tried text kind.Whole gs c p n = ends WholeFails n
 
@@ -89,7 +90,8 @@ pub record Led (text : List ℕ) (old : List Choice) (t : Trying) (n : ℕ) (tur
 
 -- with the host gone from s to u: what holds of the turn with the choices after it, from u, holds of the attempt with those
 -- before, from s
-pub record Moved {S : Type 0} (tells : S → Look → Told → S → Type 0) (broken : S → Look → S → Type 0) (text : List ℕ) (s : S) (old : List Choice) (t : Trying) (n : ℕ) (u : S) (turn : Turn) (new : Ahead) (m : ℕ) : Type 0 where
+pub record Moved {S : Type 0} (tells : S → Look → Told → S → Type 0) (broken : S → Look → S → Type 0) (text : List ℕ) (s : S) (old : List Choice)
+    (t : Trying) (n : ℕ) (u : S) (turn : Turn) (new : Ahead) (m : ℕ) : Type 0 where
   pub held : (b : Outcome) (v : S) → Held tells Fits (resume text new.opens (turned text new turn m)) u b v → Held tells Fits (resume text old t) s b v
   pub cut : (v : S) → Cut tells Fits broken (resume text new.opens (turned text new turn m)) u v → Cut tells Fits broken (resume text old t) s v
   pub fewer : m ≤ n

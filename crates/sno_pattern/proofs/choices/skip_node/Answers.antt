@@ -10,5 +10,6 @@ loop-at-preserved c =
     record {
       within = omega arith;
       fewer = (let k = i.fewer in omega arith);
-      same = λ r p. i.same r p ∙ skip_one c.args.text.now (pattern_of c.args.node.now) c.loop-at.at c.loop-at.steps r p c.loop-at-test.true (let u = c.if-steps-gt0.true in omega arith) (nowhere_of _ (sym c.if-misses.ensures));
+      same = λ r p. i.same r p ∙ skip_one c.args.text.now (pattern_of c.args.node.now) c.loop-at.at c.loop-at.steps r p c.loop-at-test.true
+          (let u = c.if-steps-gt0.true in omega arith) (nowhere_of _ (sym c.if-misses.ensures));
     }

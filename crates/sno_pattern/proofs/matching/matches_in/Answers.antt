@@ -16,11 +16,14 @@ pub returns-then-first-starts-clause-held : goal.returns-then-first-starts-claus
 returns-then-first-starts-clause-held g c =
     let text = c.args.text.now in
     let p = pattern_of c.args.pattern.now.value in
-    let all : (if c.args.anchored then 1 else (length text + 1)) ≡ c.if-anchored.starts = elim c.if-anchored.branch [ then-anchored w ↦ rw w.if-anchored.true (sym w.starts-is) | else-anchored w ↦ rw w.if-anchored.false (sym w.starts-is) ] in
-    let whole = match_is text p c.args.anchored c.args.limit c.if-anchored.starts c.skip_starts-first.result c.skip_starts-first.new.left all (rw c.deref-node.ensures at c.skip_starts-first.ensures.same) in
+    let all : (if c.args.anchored then 1 else (length text + 1)) ≡ c.if-anchored.starts =
+    elim c.if-anchored.branch [ then-anchored w ↦ rw w.if-anchored.true (sym w.starts-is) | else-anchored w ↦ rw w.if-anchored.false (sym w.starts-is) ] in
+    let whole = match_is text p c.args.anchored c.args.limit c.if-anchored.starts c.skip_starts-first.result c.skip_starts-first.new.left all
+    (rw c.deref-node.ensures at c.skip_starts-first.ensures.same) in
     let none = no_start text p c.if-anchored.starts c.skip_starts-first.result c.skip_starts-first.new.left c.if-first-starts.true in
     subst (λ (z : Talk Look Told MatchEnd). Held g.H.MatchHost.tells Fits z c.args.host.now NoMatch c.args.host.now) (sym (whole ∙ none)) (refl, refl)
 
 pub returns-in-Err-clause-cut : goal.returns-in-Err-clause-cut
 returns-in-Err-clause-cut g c =
-    cut_here g.H.MatchHost.tells Fits g.H.MatchHost.broken (match_of c.args.text.now (pattern_of c.args.pattern.now.value) c.args.anchored c.args.limit) c.args.host.now
+    cut_here g.H.MatchHost.tells Fits g.H.MatchHost.broken (match_of c.args.text.now
+    (pattern_of c.args.pattern.now.value) c.args.anchored c.args.limit) c.args.host.now

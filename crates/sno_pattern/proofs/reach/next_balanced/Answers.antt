@@ -16,7 +16,10 @@ loop-at-preserved c =
     }
 
 pub returns-in-None-clause-next : goal.returns-in-None-clause-next
-returns-in-None-clause-next c = onward c.args.text.now c.args.from c.loop-at.at c.loop-at.opened c.loop-at-test.true c.loop-at.invariant.same _ (sym c.in-None.ensures)
+returns-in-None-clause-next c = onward c.args.text.now c.args.from c.loop-at.at c.loop-at.opened c.loop-at-test.true c.loop-at.invariant.same _
+    (sym c.in-None.ensures)
 
 pub returns-then-now-eq0-clause-next : goal.returns-then-now-eq0-clause-next
-returns-then-now-eq0-clause-next c = found c.args.text.now c.args.from c.loop-at.at c.loop-at.opened c.loop-at-test.true c.loop-at.invariant.same c.in-Some.now c.if-now-eq0.true (sym c.in-Some.ensures)
+returns-then-now-eq0-clause-next c =
+    found c.args.text.now c.args.from c.loop-at.at c.loop-at.opened c.loop-at-test.true c.loop-at.invariant.same c.in-Some.now c.if-now-eq0.true
+    (sym c.in-Some.ensures)

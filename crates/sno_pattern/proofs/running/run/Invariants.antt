@@ -7,7 +7,9 @@ use Rattle.sno_pattern.proofs.running.run.Given as goal
 
 abbrev pub invariant-loop-goal : goal.invariant-loop-goal
 invariant-loop-goal g l = record {
-  on : On g.H.MatchHost.tells g.H.MatchHost.broken l.text l.fn.host (outcome l.text (Meet (pattern_of l.pattern.value) ∷ []) l.start [] l.limit) l.host l.trail.goals l.at (waiting_of l.text l.trail.waits) l.trail.opens l.left;
+  on : On g.H.MatchHost.tells g.H.MatchHost.broken l.text l.fn.host
+      (outcome l.text (Meet (pattern_of l.pattern.value) ∷ []) l.start [] l.limit) l.host l.trail.goals l.at
+      (waiting_of l.text l.trail.waits) l.trail.opens l.left;
   ready : g.H.MatchHost.ready l.host;
 }
 

@@ -11,5 +11,6 @@ loop-at-preserved c =
     record {
       within = omega arith;
       onward = (let k = i.onward in omega arith);
-      same = i.same ∙ next_start c.args.text.now (pattern_of c.args.node.now) (c.args.starts - c.loop-at.at) (c.args.starts - (c.loop-at.at + 1)) c.loop-at.at c.loop-at.left c.in-Some.after more (c.in-Some.ensures [] []);
+      same = i.same ∙ next_start c.args.text.now (pattern_of c.args.node.now) (c.args.starts - c.loop-at.at)
+          (c.args.starts - (c.loop-at.at + 1)) c.loop-at.at c.loop-at.left c.in-Some.after more (c.in-Some.ensures [] []);
     }

@@ -11,37 +11,55 @@ use Rattle.sno_pattern.proofs.taking.take.Goals as goal
 pub returns-in_err-back-in-More-clause-cut : goal.returns-in_err-back-in-More-clause-cut
 returns-in_err-back-in-More-clause-cut g c =
     let a = c.args.trail.now in
-    err_holds _ (cut_here g.H.MatchHost.tells Fits g.H.MatchHost.broken (resume c.args.text.now a.opens (row c.args.text.now (outcome c.args.text.now) (goal_of c.args.goal) a.goals c.args.at (waiting_of c.args.text.now a.waits) c.args.left.now)) c.args.host.now)
+    err_holds _ (cut_here g.H.MatchHost.tells Fits g.H.MatchHost.broken
+    (resume c.args.text.now a.opens (row c.args.text.now (outcome c.args.text.now) (goal_of c.args.goal) a.goals c.args.at
+    (waiting_of c.args.text.now a.waits) c.args.left.now)) c.args.host.now)
 
 pub returns-in_err-one_more-in-More-clause-cut : goal.returns-in_err-one_more-in-More-clause-cut
 returns-in_err-one_more-in-More-clause-cut g c =
     let a = c.args.trail.now in
-    err_holds _ (cut_here g.H.MatchHost.tells Fits g.H.MatchHost.broken (resume c.args.text.now a.opens (row c.args.text.now (outcome c.args.text.now) (goal_of c.args.goal) a.goals c.args.at (waiting_of c.args.text.now a.waits) c.args.left.now)) c.args.host.now)
+    err_holds _ (cut_here g.H.MatchHost.tells Fits g.H.MatchHost.broken
+    (resume c.args.text.now a.opens (row c.args.text.now (outcome c.args.text.now) (goal_of c.args.goal) a.goals c.args.at
+    (waiting_of c.args.text.now a.waits) c.args.left.now)) c.args.host.now)
 
 pub returns-in_err-wait-in-EndConditional-clause-cut : goal.returns-in_err-wait-in-EndConditional-clause-cut
 returns-in_err-wait-in-EndConditional-clause-cut g c =
     let a = c.args.trail.now in
-    err_holds _ (cut_here g.H.MatchHost.tells Fits g.H.MatchHost.broken (resume c.args.text.now a.opens (row c.args.text.now (outcome c.args.text.now) (goal_of c.args.goal) a.goals c.args.at (waiting_of c.args.text.now a.waits) c.args.left.now)) c.args.host.now)
+    err_holds _ (cut_here g.H.MatchHost.tells Fits g.H.MatchHost.broken
+    (resume c.args.text.now a.opens (row c.args.text.now (outcome c.args.text.now) (goal_of c.args.goal) a.goals c.args.at
+    (waiting_of c.args.text.now a.waits) c.args.left.now)) c.args.host.now)
 
 pub returns-in_err-taken-in-EndImmediate-clause-cut : goal.returns-in_err-taken-in-EndImmediate-clause-cut
 returns-in_err-taken-in-EndImmediate-clause-cut g c =
     let a = c.args.trail.now in
-    err_holds _ (cut_here g.H.MatchHost.tells Fits g.H.MatchHost.broken (resume c.args.text.now a.opens (row c.args.text.now (outcome c.args.text.now) (goal_of c.args.goal) a.goals c.args.at (waiting_of c.args.text.now a.waits) c.args.left.now)) c.args.host.now)
+    err_holds _ (cut_here g.H.MatchHost.tells Fits g.H.MatchHost.broken
+    (resume c.args.text.now a.opens (row c.args.text.now (outcome c.args.text.now) (goal_of c.args.goal) a.goals c.args.at
+    (waiting_of c.args.text.now a.waits) c.args.left.now)) c.args.host.now)
 
 pub returns-in-Meet : goal.returns-in-Meet
 returns-in-Meet g c =
     let a = c.args.trail.now in
-    record { moved = tt; cut = cut_here g.H.MatchHost.tells Fits g.H.MatchHost.broken (resume c.args.text.now a.opens (row c.args.text.now (outcome c.args.text.now) (goal_of c.args.goal) a.goals c.args.at (waiting_of c.args.text.now a.waits) c.args.left.now)) c.args.host.now; ready = c.requires.ready }
+    record {
+      moved = tt;
+      cut = cut_here g.H.MatchHost.tells Fits g.H.MatchHost.broken
+          (resume c.args.text.now a.opens (row c.args.text.now (outcome c.args.text.now) (goal_of c.args.goal) a.goals c.args.at
+          (waiting_of c.args.text.now a.waits) c.args.left.now)) c.args.host.now;
+      ready = c.requires.ready;
+    }
 
 pub returns-then-at-from-clause-moved : goal.returns-then-at-from-clause-moved
 returns-then-at-from-clause-moved g c =
     let a = c.args.trail.now in
-    rw c.in-More.is (quietly g.H.MatchHost.tells g.H.MatchHost.broken c.args.text.now c.args.host.now a.opens _ c.args.left.now (more_stuck c.args.text.now a.goals c.args.at a.waits a.opens c.requires.all c.args.left.now (pattern_of c.in-More.shared.value) c.in-More.from (search rules) c.in_ok-back-in-More.ensures))
+    rw c.in-More.is (quietly g.H.MatchHost.tells g.H.MatchHost.broken c.args.text.now c.args.host.now a.opens _ c.args.left.now
+    (more_stuck c.args.text.now a.goals c.args.at a.waits a.opens c.requires.all c.args.left.now
+    (pattern_of c.in-More.shared.value) c.in-More.from (search rules) c.in_ok-back-in-More.ensures))
 
 pub returns-in-More-clause-moved : goal.returns-in-More-clause-moved
 returns-in-More-clause-moved g c =
     let a = c.args.trail.now in
-    rw c.in-More.is (quietly g.H.MatchHost.tells g.H.MatchHost.broken c.args.text.now c.args.host.now a.opens _ c.args.left.now (more_turn c.args.text.now a.goals c.args.at a.waits a.opens c.requires.all c.args.left.now (pattern_of c.in-More.shared.value) c.in-More.from (search rules) c.in_ok-one_more-in-More.ensures))
+    rw c.in-More.is (quietly g.H.MatchHost.tells g.H.MatchHost.broken c.args.text.now c.args.host.now a.opens _ c.args.left.now
+    (more_turn c.args.text.now a.goals c.args.at a.waits a.opens c.requires.all c.args.left.now
+    (pattern_of c.in-More.shared.value) c.in-More.from (search rules) c.in_ok-one_more-in-More.ensures))
 
 pub returns-in-EndConditional-clause-moved : goal.returns-in-EndConditional-clause-moved
 returns-in-EndConditional-clause-moved g c =

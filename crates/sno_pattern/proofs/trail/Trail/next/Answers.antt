@@ -33,5 +33,7 @@ returns-in-Some c =
     let place : s.top ≤ length s.cells.items = subst (λ k. s.top ≤ k) (length-reverse s.cells.items) c.self.invariant.place in
     let kept = c.if-self.false in
     let all = c.if-self-len.false in
-    let one : length s.cells.items ≡ length c.pop.new.self.items + 1 = ap length c.in-Some.ensures.items ∙ length-append c.pop.new.self.items (c.in-Some.cell ∷ []) in
-    sym c.self.view_is ∙ popped s.cells.items s.top s.kept s.waits.items (reverse s.opens.items) c.self.invariant c.in-Some.cell c.pop.new.self.items c.in-Some.ensures.items (omega arith) (omega arith)
+    let one : length s.cells.items ≡ length c.pop.new.self.items + 1 = ap length c.in-Some.ensures.items
+    ∙ length-append c.pop.new.self.items (c.in-Some.cell ∷ []) in
+    sym c.self.view_is ∙ popped s.cells.items s.top s.kept s.waits.items
+    (reverse s.opens.items) c.self.invariant c.in-Some.cell c.pop.new.self.items c.in-Some.ensures.items (omega arith) (omega arith)
