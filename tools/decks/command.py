@@ -27,7 +27,7 @@ def main(words: Sequence[str]) -> int:
     for number in (signal.SIGTERM, signal.SIGHUP):
         signal.signal(number, _leave)  # so that what was begun is taken away
     try:
-        options = _options().parse_args(words)
+        options = _parsed(words)
         options.act(options)
     except (Refused, Fault) as error:
         _say(str(error))
@@ -35,6 +35,18 @@ def main(words: Sequence[str]) -> int:
     except KeyboardInterrupt:
         return 128 + signal.SIGINT
     return 0
+
+
+def _parsed(words: Sequence[str]) -> argparse.Namespace:
+    try:
+        try:
+            return _options().parse_args(words)
+        finally:
+            if sys.stdout is not None:
+                sys.stdout.flush()  # the help, where it was asked for
+    except OSError as error:
+        os.dup2(os.open(os.devnull, os.O_WRONLY), 1)  # so that Python does not try once more at its end
+        raise Fault(f'standard output: {error.strerror}') from error
 
 
 def _leave(number: int, _frame: object) -> None:

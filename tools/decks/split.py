@@ -169,10 +169,11 @@ def plan(deck: Survey, most: int, slots: int) -> Plan:
             groups.join([job.line for job in jobs])
             notes.append(_told_of_kept(deck, clash, jobs, slots))
     count, part_of = _packed(deck, groups, most)
+    everywhere = tuple(range(count))
     by_line = {data_set.line: (part_of[groups.of(data_set.name)],) for data_set in deck.sets}
     for stretch in stretches:
-        by_line.update(_placed(stretch, groups, part_of, count))
-    by_line.update((card.line, tuple(range(count))) for card in deck.cards if isinstance(card, (Drain, Stop)))
+        by_line.update(_placed(stretch, groups, part_of, everywhere))
+    by_line.update((card.line, everywhere) for card in deck.cards if isinstance(card, (Drain, Stop)))
     if count > 1:
         notes.extend(_told_of_catalog(deck, count))
     return Plan(count, by_line, notes)
@@ -216,13 +217,14 @@ def _names(deck: Survey) -> Set[bytes]:
     return named | {data_set.name for data_set in deck.sets}
 
 
-def _placed(stretch: Stretch, groups: Groups, part_of: Dict[Node, int], count: int) -> Iterator[Tuple[int, Tuple[int, ...]]]:
+def _placed(stretch: Stretch, groups: Groups, part_of: Dict[Node, int],
+            everywhere: Tuple[int, ...]) -> Iterator[Tuple[int, Tuple[int, ...]]]:
     of_jobs = {part_of[groups.of(job.line)] for job in stretch.jobs()}
     for card in stretch.cards:
         if isinstance(card, Job):
             yield card.line, (part_of[groups.of(card.line)],)
         elif isinstance(card, Command):
-            yield card.line, tuple(range(count)) if card.name is None else (part_of[groups.of(card.name)],)
+            yield card.line, everywhere if card.name is None else (part_of[groups.of(card.name)],)
         elif isinstance(card, Turn):
             yield card.line, tuple(of_jobs) if len(of_jobs) == 1 else ()
 

@@ -149,13 +149,12 @@ class Split(Parts):
             return ''
 
         def compare():
-            for number in range(4000):
+            for number in range(2000):
                 data = spoiled(r, random_decks.deck(r, 4).encode())
                 self.assertEqual(told(data), monitor.run(data, 4)[1], (number, data))
 
         in_a_large_stack(compare)
-        # In a thread a failed comparison is told and not raised.
-        self.assertGreater(sum(codes.values()), 1500, codes)
+        self.assertGreater(sum(codes.values()), 750, codes)
         self.assertGreaterEqual(set(codes), {'E1 UNKNOWN CARD', 'E2 BAD CARD', 'E3 OUT OF PLACE', 'E4 TRUNCATED', 'T1 BAD NAME', 'T2 BAD NUMBER',
                                              'T3 BAD CHARACTER', 'T4 LINE TOO LONG', 'K1 NAME TAKEN', 'K3 SET FULL', 'K5 BAD TEXT', 'C1 ACCOUNT TWICE'})
 

@@ -75,6 +75,16 @@ class Whole(Trying):
             os.close(writing)
             self.assertEqual((done.returncode, done.stderr), (3, b'deck: standard output: Broken pipe\n'))
 
+    def test_a_closed_pipe_for_the_help_gives_no_traceback(self):
+        for words in (['--help'], ['next', '--help']):
+            for unbuffered in ('', '1'):  # where it is not buffered, some versions of Python do not tell of it
+                reading, writing = os.pipe()
+                os.close(reading)
+                done = subprocess.run([sys.executable, DECK, *words], stdout=writing, stderr=subprocess.PIPE, timeout=60,
+                                      env={**os.environ, 'PYTHONUNBUFFERED': unbuffered})
+                os.close(writing)
+                self.assertIn(done.stderr, (b'deck: standard output: Broken pipe\n', b'') if unbuffered else (b'deck: standard output: Broken pipe\n',))
+
     def test_closed_standard_streams_are_told(self):
         done = run(['sh', '-c', '"$@" >&-', 'sh', sys.executable, DECK, *self.words])
         self.is_refused(done, 'standard output: it is closed', 3)
