@@ -1,8 +1,6 @@
 pub mod Playing
 pub mod Histories
-mod Talking
 mod Exchanging
-mod Seating
 mod Telling
 mod Accounting
 mod Recounting

@@ -33,7 +33,7 @@ use Rattle.mon_monitor.specs.Headline.{IsJob, job_of, NumbersDiffer}
 use Rattle.mon_monitor.proofs.Histories.{event_accounts}
 use Rattle.mon_monitor.proofs.Accounting.{in_rounds}
 use Rattle.mon_monitor.proofs.Exchanging.{whole_told, cut_told, whole_tells, cut_begins}
-use Rattle.mon_monitor.proofs.Seating.{IsSeat, seat_changed, free_seat}
+use Rattle.mon_slots.proofs.Seating.{IsSeat, seat_changed, free_seat}
 use Rattle.mon_monitor.proofs.Telling.{same_or_not, not_same, AreOf, none_of, more_of, number_is, number_not, own_more, own_same, Sitting, goes_on, Turn, Again, IsToCome, SoFar, still_job, turn_far}
 
 -- A turn of a job leaves its limits; where the job goes on, fewer statements may begin than before, and where it ends, it has

@@ -23,9 +23,9 @@ use Rattle.mon_slots.specs.Turns.{seat, told}
 use Rattle.mon_monitor.specs.Events.{Event}
 use Rattle.mon_monitor.specs.History.{Exchanged, Entry, Entered, Asked, end_entry, is_of, own}
 use Rattle.mon_monitor.specs.Headline.{job_in_cards, exchange, exchanges, Follow, spooled, noted, Course, GoesOn, IsJob, job_of}
-use Rattle.mon_monitor.proofs.Talking.{tells_then, begins_then, begins_first}
+use Rattle.sno_talk.proofs.Told.{tells_then, begins_then, begins_first}
 use Rattle.mon_monitor.proofs.Exchanging.{Told, follow_both}
-use Rattle.mon_monitor.proofs.Seating.{seat_changed, taken_seat}
+use Rattle.mon_slots.proofs.Seating.{seat_changed, taken_seat}
 
 -- WHOSE ENTRIES
 

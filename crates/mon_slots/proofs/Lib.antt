@@ -1,4 +1,5 @@
 pub mod Seats
+pub mod Seating
 pub mod Begun
 pub mod Past
 pub mod Rounding

@@ -1,6 +1,7 @@
 mod Ties
 mod Acting
 mod Exchanges
+pub mod Fitting
 pub mod Runs
 pub mod Loans
 pub mod Looks

@@ -4,3 +4,4 @@ pub mod Runs
 pub mod Hosts
 pub mod Enough
 pub mod Broken
+pub mod Told
