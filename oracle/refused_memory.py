@@ -3,8 +3,9 @@
 python3 refused_memory.py PROGRAM DECK..    (needs a C compiler; PROGRAM takes its memory by malloc and realloc)
 
 The n-th growth is refused, for each n that there is. Then either the run tells that it is out of memory, and has written a
-beginning of what it writes else; or one job has ended with END MEMORY, and all else is as where that job is ended behind
-some exchange of some turn; or nothing differs."""
+beginning of what it writes else; or one job has ended with END MEMORY, and all is as where that job is ended behind some
+moment of some turn, at which a statement began or something was asked, with the count that monitor.py has there; or nothing
+differs."""
 import os
 import subprocess
 import sys
@@ -53,54 +54,57 @@ class Broken(Exception):
     """Memory breaks the turn off."""
 
 
-def ended_at(data, job, turn, exchanges, count):
-    """The output where this job is broken off in its n-th turn, behind so many exchanges; and what it had asked there."""
-    seen = {}
+def ended_at(data, place):
+    """The output where the job of a number is broken off in its n-th turn, behind so many of its moments; and how many
+    moments each turn of each job had. A moment is the beginning of a statement, or an exchange."""
+    turns = {}
 
     class Ended(Running):
         def turn(self):
-            seen[self.number] = seen.get(self.number, 0) + 1
-            self.left = exchanges if (self.number, seen[self.number]) == (job, turn) else None
-            self.asked = 0
+            turns.setdefault(self.number, []).append(0)
+            job, turn, moments = place
+            self.left = moments if (self.number, len(turns[self.number])) == (job, turn) else None
             try:
                 ending = super().turn()
             except Broken:
-                ending = None
-            if self.left is None:
-                return ending
-            seen['asked'] = self.asked
-            self.stcount = count
-            return 'MEMORY'
+                return 'MEMORY'
+            return ending if self.left is None else 'MEMORY'
+
+        def moment(self):
+            if self.left == turns[self.number][-1]:
+                raise Broken()
+            turns[self.number][-1] += 1
+
+        def begin(self, index):
+            self.moment()
+            super().begin(index)
 
         def ask(self, act, number, text=None):
-            if self.left == self.asked:
-                raise Broken()
-            self.asked += 1
+            self.moment()
             return super().ask(act, number, text)
 
     monitor.Running = Ended
     try:
-        return monitor.run(data), seen
+        return monitor.run(data)[0], turns
     finally:
         monitor.Running = Running
 
 
-def is_explained(data, out):
-    """Whether some job that is broken off somewhere gives this output."""
+def all_ends(data, job):
+    """All outputs where this job is broken off, each turn behind each of its moments: in the first of them its statement
+    begins, and a turn that begins none takes no memory."""
+    turns = ended_at(data, (None, None, None))[1].get(job, [])
+    return {ended_at(data, (job, turn + 1, moments))[0] for turn, all in enumerate(turns) for moments in range(1, all + 1)}
+
+
+def is_explained(data, out, ends):
+    """Whether some job that is broken off somewhere gives this output; `ends` keeps those that were made of the deck."""
     lines = out.split('\n')
     at = next(i for i, line in enumerate(lines) if line.startswith('END MEMORY AFTER '))
-    count = int(lines[at].split()[-1])
     job = int([line for line in lines[:at] if line.startswith('JOB ')][-1].split()[1])
-    for turn in range(1, 1000):
-        for exchanges in range(1000):
-            (seen, _, _), turns = ended_at(data, job, turn, exchanges, count)
-            if seen == out:
-                return True
-            if turns.get('asked', 0) < exchanges:
-                break
-        if turns.get(job, 0) < turn:
-            return False
-    return False
+    if job not in ends:
+        ends[job] = all_ends(data, job)
+    return out in ends[job]
 
 
 def main():
@@ -113,7 +117,7 @@ def main():
             data = open(deck, 'rb').read()
             whole = monitor.run(data)
             counts = {'told': 0, 'of a job': 0, 'not seen': 0}
-            n, bad = 0, []
+            n, bad, ends = 0, [], {}
             while True:
                 n += 1
                 mark = room + '/refused'
@@ -132,7 +136,7 @@ def main():
                     good = True
                 else:
                     counts['of a job'] += 1
-                    good = got.returncode == whole[2] and err == whole[1] and 'END MEMORY AFTER ' in out and is_explained(data, out)
+                    good = got.returncode == whole[2] and err == whole[1] and 'END MEMORY AFTER ' in out and is_explained(data, out, ends)
                 if not good:
                     bad.append(n)
             failed = failed or bool(bad) or n == 1

@@ -4,4 +4,5 @@ pub mod Falling
 pub mod Stepping
 pub mod Parts
 pub mod Standing
+pub mod Begins
 pub mod Assigning

@@ -103,6 +103,7 @@ pub(crate) fn number_of(index: usize) -> StatementNumber
 pub(crate) fn returned(limits: Limits, got: Got, state: &mut Store) -> Result<Got, AllocError>
     ensures returned { IfOk result (λ after. (after, state.new) ≡ returned_by limits (got, state.old)) }
     ensures counted { Counts limits state.old state.new }
+    ensures same { state.new.keywords.begun ≡ state.old.keywords.begun }
 {
     match got {
         Got::Gives(_) => {

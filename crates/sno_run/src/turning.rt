@@ -1,14 +1,15 @@
 //! Jobs, and their turns.
 ghost use Rattle.std.specs.Prelude.{◌≡◌, List, IfOk, OnErr, Some};
 ghost use Rattle.sno_talk.specs.Exchanges.{Answered};
-ghost use Rattle.sno_ask.specs.Asking.{Exchange, Held, Cut};
+ghost use Rattle.sno_ask.specs.Asking.{Exchange};
+ghost use Rattle.sno_ask.specs.Counting.{Held, Cut};
 ghost use Rattle.sno_syntax.specs.Programs.{program_of};
 ghost use Rattle.sno_keeping.specs.Limits.{AreLimits};
 ghost use Rattle.sno_code.specs.Execution.{On};
 ghost use Rattle.sno_run.specs.Jobs.{first_job, first_point, ending_of, stepped, statements_begun, TurnIs};
 ghost use Rattle.sno_run.specs.Told.{job_of};
 ghost use Rattle.sno_code.specs.inner.Seen.{point_seen, next_seen};
-ghost use Rattle.sno_machine.specs.inner.Counting.{Started};
+ghost use Rattle.sno_machine.specs.inner.Counting.{Started, beside};
 ghost use Rattle.sno_run.specs.inner.Turning.{turned_of, HasLine, turn_coded, settled_coded};
 
 use crate::ending::{Ending, Step};
@@ -98,8 +99,8 @@ fn turn_at<S: Service>(
     service: &mut S,
 ) -> Result<Turned, AllocError>
     requires { S.ready service.old }
-    ensures held { IfOk result (λ turned. Held S.answers (turn_coded program.now (point_seen point) state.old) service.old (turned_of turned, state.new) service.new) }
-    ensures cut { OnErr result (Cut S.answers (turn_coded program.now (point_seen point) state.old) service.old service.new) }
+    ensures held { IfOk result (λ turned. Held S.answers (turn_coded program.now (point_seen point) state.old) (beside service.old state.old) (turned_of turned, state.new) (beside service.new state.new)) }
+    ensures cut { OnErr result (Cut S.answers (turn_coded program.now (point_seen point) state.old) (beside service.old state.old) (beside service.new state.new)) }
     ensures line { OnErr result (HasLine program.now (point_seen point)) }
     ensures started { OnErr result (Started program.now.limits state.old state.new) }
     ensures ready { S.ready service.new }

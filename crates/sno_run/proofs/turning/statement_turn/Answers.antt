@@ -13,5 +13,5 @@ returns-in-Ok-clause-turn g c =
 
 pub returns-in-Err-clause-turn : goal.returns-in-Err-clause-turn
 returns-in-Err-clause-turn g c =
-    turn_broken g.S.Service.answers c.args.job.now c.in-None.is c.args.service.now c.turn_at.new.service c.in-Err.ensures.cut c.in-Err.ensures.line (Ended Memory)
-    (record (job_of c.args.job.now) { state = c.turn_at.new.state; ended = Some Memory }) c.in-Err.ensures.started refl refl refl refl
+    turn_broken g.S.Service.answers c.args.job.now c.in-None.is c.args.service.now c.turn_at.new.service (Ended Memory)
+    (record (job_of c.args.job.now) { state = c.turn_at.new.state; ended = Some Memory }) c.in-Err.ensures.cut c.in-Err.ensures.line c.in-Err.ensures.started refl refl refl refl
