@@ -58,7 +58,7 @@ def card(r, slots, groups, version):
     made = renamed(made, r.randint(1, groups))
     if made[0].startswith('$JOB') and r.random() < 0.1:  # a job that ties data sets of two groups together
         made.insert(1, '$UNIT 30 %s.%d' % (r.choice(random_decks.SETS), r.randint(1, groups)))
-    if made[0].startswith('$CREATE') and version == 2:
+    if made[0].startswith('$CREATE') and version == 2 and len(made[0].split(' ')) == 3:
         made[0] += r.choice(['', ' SEQ', ' APPEND'])
     return made
 

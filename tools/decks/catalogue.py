@@ -5,7 +5,7 @@ from dataclasses import dataclass
 from typing import Iterator, List, Optional, Set
 
 from .lists import BadList, canonical
-from .text import CATALOGUE_LIMIT, PIECE, RECORD_LIMIT, Lines, counted, is_count, is_name, shown
+from .text import CATALOGUE_LIMIT, PIECE, Lines, counted, is_count, is_name, shown
 
 SETS_LIMIT = 1000
 RECORDS_LIMIT = 100_000
@@ -113,8 +113,3 @@ class Sets:
             self.lines.check_records(piece, CATALOGUE_LIMIT)
             left -= len(piece)
             yield piece
-
-
-def record_limits() -> str:
-    """What a line has to be so that it can be a record."""
-    return f'at most {RECORD_LIMIT:,} characters of ASCII 32 to 126'

@@ -148,12 +148,16 @@ def _refuse_a_full_catalogue(deck: Survey) -> None:
 @dataclass
 class Plan:
     """In which of the decks, counted from 0, the cards of a whole deck stand; and what there is to tell of it."""
+    name: str
     count: int
     by_line: Dict[int, Tuple[int, ...]]
     notes: List[str]
 
     def parts(self, item: Item) -> Tuple[int, ...]:
-        return self.by_line[item.line]
+        parts = self.by_line.get(item.line)
+        if parts is None:
+            raise Refused(f'{self.name}: line {item.line}: the deck has changed since it was read first')
+        return parts
 
 
 def plan(deck: Survey, most: int, slots: int) -> Plan:
@@ -176,7 +180,7 @@ def plan(deck: Survey, most: int, slots: int) -> Plan:
     by_line.update((card.line, everywhere) for card in deck.cards if isinstance(card, (Drain, Stop)))
     if count > 1:
         notes.extend(_told_of_catalog(deck, count))
-    return Plan(count, by_line, notes)
+    return Plan(deck.name, count, by_line, notes)
 
 
 def _told_of_kept(deck: Survey, clash: Clash, jobs: List[Job], slots: int) -> str:

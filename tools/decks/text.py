@@ -60,12 +60,15 @@ class Lines:
         return self.refused(text, self.number + 1)
 
     def next(self) -> Optional[bytes]:
-        lines = self.take(1)
-        return lines[0] if lines else None
+        line = self._line()
+        if not line:
+            return None
+        self.number += 1
+        return line[:-1] if line[-1:] == b'\n' and line[-2:-1] != b'\r' else self.without_end(line)
 
     def take(self, most: int) -> List[bytes]:
         """So many lines, or those that are left."""
-        raw = self._read(most)
+        raw = list(itertools.islice(iter(self._line, b''), most))
         text = b''.join(raw)
         if text.count(b'\n') == len(raw) and b'\r' not in text:
             self.number += len(raw)
@@ -76,10 +79,10 @@ class Lines:
             lines.append(self.without_end(line))
         return lines
 
-    def _read(self, most: int) -> List[bytes]:
+    def _line(self) -> bytes:
         # A line that is longer than any may be comes in pieces, so that no file is read into memory as one line.
         try:
-            return list(itertools.islice(iter(lambda: self.file.readline(CATALOGUE_LIMIT + 3), b''), most))
+            return self.file.readline(CATALOGUE_LIMIT + 3)
         except OSError as error:
             raise Fault(f'{self.name}: {error.strerror}') from error
 

@@ -7,7 +7,7 @@ import subprocess
 import sys
 import tempfile
 import time
-from trying import ACCOUNTS, BOTH, DECK, SNOMON, Trying, deck, run, snomon
+from trying import ACCOUNTS, BOTH, DECK, Trying, deck, run
 
 LONG = 300_000_000
 LIST = b'user::rwx,group::---,other::---\n'
@@ -16,7 +16,7 @@ MOST_MEMORY = 64 * 1024  # KiB
 
 def write_a_long_output(file, bytes_in_all, width):
     """Data sets of 100,000 records; how many bytes, and how many data sets."""
-    records, count = b'A' * width * 0 + (b'$CATALOGUE' * 200)[:width] + b'\n', 0
+    records, count = (b'$CATALOGUE' * 200)[:width] + b'\n', 0
     file.write(b'$CATALOGUE\n')
     while file.tell() < bytes_in_all:
         count += 1
