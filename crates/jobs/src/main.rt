@@ -25,14 +25,13 @@
 ghost use Rattle.sno_keeping.specs.Limits.{AreLimits};
 
 mod case;
-mod difference;
 mod run;
 mod script;
 mod seen;
 
 use anyhow::{Context, Result};
 use case::{Case, HEAD};
-use difference::first_difference;
+use differences::first_difference;
 use run::seen_of;
 use std::fs::{self, Files};
 use std::process::ExitCode;

@@ -1,8 +1,8 @@
 //! A worked case: its cards, and what must come out.
 
 use crate::answer::{put_program, put_statements_of, put_verdict};
-use crate::difference::first_difference;
 use anyhow::{Context, Result};
+use differences::first_difference;
 use mon_text::{Line, LineError, Stop, read_line};
 use sno_syntax::{Program, SyntaxError, parse, statements};
 use std::alloc::{AllocError, Global};

@@ -25,7 +25,6 @@
 
 mod answer;
 mod case;
-mod difference;
 mod expression;
 mod statement;
 
