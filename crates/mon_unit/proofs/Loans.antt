@@ -1,15 +1,19 @@
 -- What a service that holds loans leaves, and that what it answered is the run by `serve`.
-use Rattle.std.proofs.Common.{◌≡◌, List, [], ◌∷◌, length, sym, ap, ◌∙◌, subst}
+use Rattle.std.proofs.Common.{◌≡◌, List, [], ◌∷◌, length, refl, sym, ap, ◌∙◌, subst}
 use Rattle.sno_talk.specs.Talks.{Ends, Asks}
 use Rattle.sno_talk.specs.Exchanges.{Answered}
 use Rattle.sno_ask.specs.declared.request.Request.{Request}
 use Rattle.mon_answer.specs.declared.answer.Answer.{Answer}
+use Rattle.mon_answer.specs.declared.answer.Answer.TheVariants.{Done}
 use Rattle.sno_ask.specs.Asking.{Asking, Exchange, Tells, Begins}
+use Rattle.sno_ask.specs.Counting.{Moment, Beginning, Requesting, Counted, Passed, with_request, requests_in}
+use Rattle.sno_ask.specs.Counting as counting
 use Rattle.mon_access.specs.declared.account.Account.{Account}
 use Rattle.mon_unit.specs.declared.service.UnitService.{UnitService}
 use Rattle.mon_unit.specs.Serving.{Reach, serve}
 use Rattle.mon_unit.specs.Lent.{SameLoans, UnitAnswers, reach_of}
-use Rattle.mon_unit.specs.Runs.{run, run_cut}
+use Rattle.mon_unit.specs.Runs.{run, run_cut, passed}
+use Rattle.mon_unit.proofs.Runs.{passing}
 
 same_here : (s t : UnitService) → t ≡ s → SameLoans s t
 same_here s t h = record {
@@ -60,3 +64,22 @@ served_cut a (Ends v) s (e ∷ x) s' is h g = absurd g
 served_cut {A} a (Asks q f) s (e ∷ x) s' is h g =
     ap (λ (p : Answer × Reach). run_cut (serve a) (length x) (f p.0) p.1) (one_served a s e q h.0 is g.0 h.1)
     ∙ served_cut a (f e.reply) h.0 x s' (still a s h.0 is h.1.0) h.2 g.2
+
+-- the moments of a program that it answered are those that pass
+pub served_passed : {A : Type 0} (a : Account) (t : Counted A) (s : UnitService) (x : List Passed) (s' : UnitService) → s.account.now ≡ a
+    → Answered UnitAnswers s (requests_in x) s' → counting.Begins t x → passed (serve a) (length x) t (reach_of s) ≡ x
+served_passed a t s [] s' is h g = refl
+served_passed a (Ends v) s (m ∷ x) s' is h g = absurd g
+served_passed a (Asks Beginning f) s (m ∷ x) s' is h g =
+    let rest : Answered UnitAnswers s (requests_in x) s' = subst (λ (z : Moment). Answered UnitAnswers s (with_request z m.reply (requests_in x)) s') g.0 h in
+    let one : passing Beginning Done ≡ m = ap (λ (z : Moment). passing z Done) (sym g.0) ∙ ap (λ (r : Answer). passing m.asked r) (sym g.1) in
+    let more : passed (serve a) (length x) (f Done) (reach_of s) ≡ x =
+    ap (λ (r : Answer). passed (serve a) (length x) (f r) (reach_of s)) (sym g.1) ∙ served_passed a (f m.reply) s x s' is rest g.2 in
+    ap (λ (l : List Passed). passing Beginning Done ∷ l) more ∙ ap (λ (z : Passed). z ∷ x) one
+served_passed a (Asks (Requesting q) f) s (m ∷ x) s' is h g =
+    let rest : Answered UnitAnswers s (with_request (Requesting q) m.reply (requests_in x)) s' =
+    subst (λ (z : Moment). Answered UnitAnswers s (with_request z m.reply (requests_in x)) s') g.0 h in
+    let e : Exchange = record { asked = q; reply = m.reply } in
+    ap (λ (p : Answer × Reach). passing (Requesting q) p.0 ∷ passed (serve a) (length x) (f p.0) p.1) (one_served a s e q rest.0 is refl rest.1)
+    ∙ ap (λ (l : List Passed). passing (Requesting q) m.reply ∷ l) (served_passed a (f m.reply) rest.0 x s' (still a s rest.0 is rest.1.0) rest.2 g.2)
+    ∙ ap (λ (z : Moment). passing z m.reply ∷ x) (sym g.0)

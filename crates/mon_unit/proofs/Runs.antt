@@ -2,7 +2,12 @@
 use Rattle.std.proofs.Common.{◌≡◌, ℕ, zero, suc, List, [], ◌∷◌, refl, ap, ◌∙◌, subst}
 use Rattle.sno_talk.specs.Talks.{Talk, Ends, Asks, ◌>>=◌}
 use Rattle.sno_talk.specs.Exchanges.{Exchange, Tells, Answered}
-use Rattle.mon_unit.specs.Runs.{run, run_cut, exchanges}
+use Rattle.sno_ask.specs.declared.request.Request.{Request}
+use Rattle.mon_answer.specs.declared.answer.Answer.{Answer}
+use Rattle.mon_answer.specs.declared.answer.Answer.TheVariants.{Done}
+use Rattle.sno_ask.specs.Fitting.{Fits}
+use Rattle.sno_ask.specs.Counting.{Moment, Beginning, Requesting, Counted, Passed, Begins}
+use Rattle.mon_unit.specs.Runs.{run, run_cut, exchanges, passed}
 
 -- one talk after the other
 pub run_bind : {S Q R A B : Type 0} (reply : S → Q → R × S) (t : Talk Q R A) (k : A → Talk Q R B) (s : S)
@@ -63,3 +68,28 @@ module _ {S T Q R : Type 0} (reply : S → Q → R × S) (reply' : T → Q → R
       let one = each s u q h in
       subst (λ (r : R). agree (run_cut reply k (f (reply s q).0) (reply s q).1) (run_cut reply' k (f r) (reply' u q).1)) one.0
       (run_cut_alike k (f (reply s q).0) (reply s q).1 (reply' u q).1 one.1)
+
+-- a moment with its answer
+abbrev pub passing : Moment → Answer → Passed
+passing m r = record { asked = m; reply = r }
+
+-- the same moments pass with two that reply alike
+module _ {S T : Type 0} (reply : S → Request → Answer × S) (reply' : T → Request → Answer × T) (agree : S → T → Type 0)
+    (each : (s : S) (u : T) (q : Request) → agree s u → ((reply s q).0 ≡ (reply' u q).0) × agree (reply s q).1 (reply' u q).1) where
+  pub passed_alike : {A : Type 0} (k : ℕ) (t : Counted A) (s : S) (u : T) → agree s u → passed reply k t s ≡ passed reply' k t u
+  passed_alike zero t s u h = refl
+  passed_alike (suc k) (Ends a) s u h = refl
+  passed_alike (suc k) (Asks Beginning f) s u h = ap (λ (x : List Passed). passing Beginning Done ∷ x) (passed_alike k (f Done) s u h)
+  passed_alike (suc k) (Asks (Requesting q) f) s u h =
+      let one = each s u q h in
+      ap (λ (x : List Passed). passing (Requesting q) (reply s q).0 ∷ x) (passed_alike k (f (reply s q).0) (reply s q).1 (reply' u q).1 one.1)
+      ∙ ap (λ (r : Answer). passing (Requesting q) r ∷ passed reply' k (f r) (reply' u q).1) one.0
+
+-- the program begins with them, where each reply fits
+pub passed_begins : {S A : Type 0} (reply : S → Request → Answer × S) → ((s : S) (q : Request) → Fits q (reply s q).0)
+    → (k : ℕ) (t : Counted A) (s : S) → Begins t (passed reply k t s)
+passed_begins reply fit zero (Ends a) s = tt
+passed_begins reply fit zero (Asks q f) s = tt
+passed_begins reply fit (suc k) (Ends a) s = tt
+passed_begins reply fit (suc k) (Asks Beginning f) s = (refl, refl, passed_begins reply fit k (f Done) s)
+passed_begins reply fit (suc k) (Asks (Requesting q) f) s = (refl, fit s q, passed_begins reply fit k (f (reply s q).0) (reply s q).1)

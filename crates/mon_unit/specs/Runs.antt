@@ -2,6 +2,10 @@
 use Rattle.std.specs.Prelude.{ℕ, zero, suc, List, [], ◌∷◌}
 use Rattle.sno_talk.specs.Talks.{Talk, Ends, Asks}
 use Rattle.sno_talk.specs.Exchanges.{Exchange}
+use Rattle.sno_ask.specs.declared.request.Request.{Request}
+use Rattle.mon_answer.specs.declared.answer.Answer.{Answer}
+use Rattle.mon_answer.specs.declared.answer.Answer.TheVariants.{Done}
+use Rattle.sno_ask.specs.Counting.{Beginning, Requesting, Counted, Passed}
 
 -- the whole talk: what it ends with, and where it leaves the other
 abbrev pub run : {S Q R A : Type 0} → (S → Q → R × S) → Talk Q R A → S → A × S
@@ -18,3 +22,10 @@ run_cut reply (suc k) (Asks q f) s = run_cut reply k (f (reply s q).0) (reply s 
 abbrev pub exchanges : {S Q R A : Type 0} → (S → Q → R × S) → Talk Q R A → S → List (Exchange Q R)
 exchanges reply (Ends a) s = []
 exchanges reply (Asks q f) s = record { asked = q; reply = (reply s q).0 } ∷ exchanges reply (f (reply s q).0) (reply s q).1
+
+-- the first moments of a program, at most so many: what it asks is replied to
+abbrev pub passed : {S A : Type 0} → (S → Request → Answer × S) → ℕ → Counted A → S → List Passed
+passed reply zero t s = []
+passed reply (suc k) (Ends a) s = []
+passed reply (suc k) (Asks Beginning f) s = record { asked = Beginning; reply = Done } ∷ passed reply k (f Done) s
+passed reply (suc k) (Asks (Requesting q) f) s = record { asked = Requesting q; reply = (reply s q).0 } ∷ passed reply k (f (reply s q).0) (reply s q).1
