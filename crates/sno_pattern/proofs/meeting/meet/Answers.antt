@@ -38,10 +38,10 @@ returns-then-left-eq0 c =
           (alt_tries i (pattern_of w.in-Alt.a.value) (pattern_of w.in-Alt.b.value) c.loop-a.trail.waits
           (ap pattern_of (sym c.deref-top.ensures ∙ w.in-Alt.is)) refl)
       | in-Conditional+in_ok-copy-in-Conditional+in_ok-push-in-Conditional w ↦
-          rw (w.trail-is, w.in_ok-push-in-Conditional.ensures, w.in_ok-copy-in-Conditional.ensures, w.left-is, w.node-is, w.at-is)
+          rw (w.trail-is, w.in_ok-push-in-Conditional.ensures, w.in_ok-copy-in-Conditional.ensures.value, w.left-is, w.node-is, w.at-is)
           (conditional_met i (pattern_of w.in-Conditional.p.value) w.in-Conditional.variable (ap pattern_of (sym c.deref-top.ensures ∙ w.in-Conditional.is)))
       | in-Immediate+in_ok-copy-in-Immediate+in_ok-push-in-Immediate w ↦
-          rw (w.trail-is, w.in_ok-push-in-Immediate.ensures, w.in_ok-copy-in-Immediate.ensures, w.left-is, w.node-is, w.at-is)
+          rw (w.trail-is, w.in_ok-push-in-Immediate.ensures, w.in_ok-copy-in-Immediate.ensures.value, w.left-is, w.node-is, w.at-is)
           (immediate_met i (pattern_of w.in-Immediate.p.value) w.in-Immediate.variable (ap pattern_of (sym c.deref-top.ensures ∙ w.in-Immediate.is)))
     ] in
     rw (c.in_ok-push.ensures, c.in_ok-clone.ensures.cases)
@@ -78,10 +78,10 @@ loop-a-preserved c =
           (alt_tries i (pattern_of w.in-Alt.a.value) (pattern_of w.in-Alt.b.value) c.loop-a.trail.waits
           (ap pattern_of (sym c.deref-top.ensures ∙ w.in-Alt.is)) refl)
       | in-Conditional+in_ok-copy-in-Conditional+in_ok-push-in-Conditional w ↦
-          rw (w.trail-is, w.in_ok-push-in-Conditional.ensures, w.in_ok-copy-in-Conditional.ensures, w.left-is, w.node-is, w.at-is)
+          rw (w.trail-is, w.in_ok-push-in-Conditional.ensures, w.in_ok-copy-in-Conditional.ensures.value, w.left-is, w.node-is, w.at-is)
           (conditional_met i (pattern_of w.in-Conditional.p.value) w.in-Conditional.variable (ap pattern_of (sym c.deref-top.ensures ∙ w.in-Conditional.is)))
       | in-Immediate+in_ok-copy-in-Immediate+in_ok-push-in-Immediate w ↦
-          rw (w.trail-is, w.in_ok-push-in-Immediate.ensures, w.in_ok-copy-in-Immediate.ensures, w.left-is, w.node-is, w.at-is)
+          rw (w.trail-is, w.in_ok-push-in-Immediate.ensures, w.in_ok-copy-in-Immediate.ensures.value, w.left-is, w.node-is, w.at-is)
           (immediate_met i (pattern_of w.in-Immediate.p.value) w.in-Immediate.variable (ap pattern_of (sym c.deref-top.ensures ∙ w.in-Immediate.is)))
     ] in
     pays text c.args.trail.now.opens t0 c.args.left.now q rest.goals c.match-top.at (waiting_of text rest.waits) rest.opens c.match-top.left
