@@ -7,6 +7,8 @@ use Rattle.sno_talk.proofs.Enough.{ends_in_then, each_ends}
 use Rattle.sno_ask.specs.declared.request.Request.{Request}
 use Rattle.mon_answer.specs.declared.answer.Answer.{Answer}
 use Rattle.sno_ask.specs.Asking.{Asking}
+use Rattle.sno_ask.specs.Counting.{Counted, plain}
+use Rattle.sno_ask.proofs.Counting.{plain_then, plain_ends}
 use Rattle.sno_expression.specs.Expressions.{Expression}
 use Rattle.sno_store.specs.declared.store.Store.{Store as State}
 use Rattle.sno_code.specs.declared.got.Got.{Got}
@@ -39,7 +41,7 @@ module _ (limits : Limits) (program : Lines Expression Expression) where
   abbrev n : ℕ
   n = limits.statements
 
-  abbrev go : Point → State → Asking (Got × State)
+  abbrev go : Point → State → Counted (Got × State)
   go = runs (keeping limits) evaluate name_of program n
 
   abbrev Left : State → Next × State → Type 0
@@ -64,7 +66,7 @@ module _ (limits : Limits) (program : Lines Expression Expression) where
       let few : allowed limits after ≤ n = omega arith in
       let stays = (executed_same (allowed limits) (keeping limits) (state_counts limits) program (allowed limits after) go go
       (same_runs (allowed limits) (keeping limits) (state_counts limits) program n n (allowed limits after) few few) line index after (omega arith)).1 in
-      ends_in_then (Left after) (Fewer limits st) (executed (keeping limits) evaluate name_of program go line index after) (λ next. Ends (settled (keeping limits) evaluate name_of program next)) stays
+      λ noted. ends_in_then (Left after) (Fewer limits st) (executed (keeping limits) evaluate name_of program go line index after) (λ next. Ends (settled (keeping limits) evaluate name_of program next)) stays
       (λ r h. settled_fewer st r (omega (arith, h, less)))
 
   line_fewer : (index : ℕ) (st : State) (o : Option (Line Expression Expression)) → EndsIn (Fewer limits st) (turn_line (keeping limits) evaluate name_of program n index o st)
@@ -89,13 +91,13 @@ job_less {S} reply job w = by (job.ended)
     at (Goes p, s) h = inr (omega (arith, h))
     at (Ended h1, s) h = inl (ending_of h1 s, refl)
 
-    by : (o : Option Ending) → Less job (run reply (turn_from o job) w).0.0 (run reply (turn_from o job) w).0.1
+    by : (o : Option Ending) → Less job (run reply (plain (turn_from o job)) w).0.0 (run reply (plain (turn_from o job)) w).0.1
     by (Some e) = inl (e, refl)
     by None =
         let t = turn (keeping job.limits) evaluate name_of job.program job.limits.statements job.point job.state in
-        let is = run_bind reply t (λ after. Ends (stepped job after)) w in
+        let is = ap (λ (u : Asking (Step × Job)). run reply u w) (plain_then t (λ after. Ends (stepped job after))) ∙ run_bind reply (plain t) (λ after. Ends (stepped job after)) w in
         subst (λ (r : (Step × Job) × S). Less job r.0.0 r.0.1) (sym is)
-        (at (run reply t w).0 (run_ends (Fewer job.limits job.state) reply t w (turn_fewer job.limits job.program job.point job.state)))
+        (at (run reply (plain t) w).0 (run_ends (Fewer job.limits job.state) reply (plain t) w (plain_ends (Fewer job.limits job.state) t (turn_fewer job.limits job.program job.point job.state))))
 
 -- a turn leaves a job's limits, and where it ends, the job has ended so
 abbrev pub Comes : Job → Step × Job → Type 0
@@ -115,4 +117,4 @@ module _ (job : Job) where
       each_ends (Comes job) (turn (keeping job.limits) evaluate name_of job.program job.limits.statements job.point job.state) (stepped job) (λ r. comes_of r.0 r.1)
 
 pub turn_comes : {S : Type 0} (reply : S → Request → Answer × S) (job : Job) (w : S) → Comes job (run reply (turn_of job) w).0
-turn_comes reply job w = run_ends (Comes job) reply (turn_of job) w (comes_from job job.ended refl)
+turn_comes reply job w = run_ends (Comes job) reply (turn_of job) w (plain_ends (Comes job) (turn_from job.ended job) (comes_from job job.ended refl))

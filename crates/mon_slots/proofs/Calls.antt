@@ -3,13 +3,14 @@ use Rattle.std.proofs.Common.{◌≡◌, ℕ, zero, suc, ◌+◌, ◌-◌, ◌<�
 use Rattle.std.specs.Prelude.{◌⊎◌, ◌&&◌, min, option_map, is_some, is_none, IsSome, IfSome, slice_get, slice_set, slice_index_or}
 use Rattle.std.proofs.lemmas.Option.{slice_get_read}
 use Rattle.sno_talk.specs.Exchanges.{Answered}
-use Rattle.sno_ask.specs.Asking.{Exchange}
+use Rattle.sno_ask.specs.Asking.{Exchange, Begins}
+use Rattle.sno_ask.proofs.Counting.{plain_begun}
 use Rattle.sno_run.specs.declared.ending.Step.{Step}
 use Rattle.sno_run.specs.declared.ending.Step.TheVariants as step
 use Rattle.sno_run.specs.declared.ending.Ending.TheVariants.{Memory}
 use Rattle.sno_store.specs.States.{may_begin}
 use Rattle.sno_run.specs.declared.ending.Ending.{Ending}
-use Rattle.sno_run.specs.Jobs.{Job, turn_of, TurnIs, MayBegin, statements_begun, statement_at}
+use Rattle.sno_run.specs.Jobs.{Job, counted_turn, turn_of, TurnIs, MayBegin, statements_begun, statement_at}
 use Rattle.mon_access.specs.declared.account.Account.{Account}
 use Rattle.mon_catalogue.specs.Sets.{Sets}
 use Rattle.mon_unit.specs.declared.service.UnitService.{UnitService}
@@ -58,7 +59,7 @@ turn_done a job s x s' st job' is h (inr b) = inr (record {
   started = may_break_is job b.going b.started;
   begun = b.begun;
   memory = b.memory;
-  left = served_cut a (turn_of job) s x s' is h b.begins;
+  left = served_cut a (turn_of job) s x s' is h (subst (λ (y : List Exchange). Begins (turn_of job) y) (sym b.broken.asked) (plain_begun (counted_turn job) b.broken.passed b.broken.begins));
 })
 
 -- how many statements had begun
