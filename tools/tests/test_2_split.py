@@ -161,7 +161,7 @@ class Split(Parts):
 
 WORDS = [b'$EOJ', b'$STOP', b'$FOO', b'$SET A b c 1', b'$JOB anna ST=0', b'$JOB anna ST=1 ST=2', b'$UNIT 8 A', b'$UNIT x A', b'$TURN 9 1', b'$TURN 1 x',
          b'$ENDACL', b'$LIST anna', b'$LIST 1 2', b'$CATALOGUE 3', b'$CATALOGUE', b'$STREAM', b'x', b'', b' ', b'anna admin', b'A' * 201, b'A' * 1025,
-         b'A' * 5001, b'a\tb', b'$SET PAY anna admin 0', b'$SET PAY a b 1', b'$SET PAY a b 2', b'$SET PAY a b 3', b'$SET X a b 100001', b'u::r,', b'$DRAIN x', b'$SETACL anna PAY']
+         b'A' * 5001, b'a\tb', b'$SET PAY anna admin 0', b'$SET PAY a b 1', b'$SET PAY a b 2', b'$SET PAY a b 3', b'$SET X a b 100001', b'$SET X a b SEQ 100001', b'$SET PAY a b APPEND 1', b'u::r,', b'$DRAIN x', b'$SETACL anna PAY']
 
 
 def spoiled(r, data):
