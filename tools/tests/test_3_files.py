@@ -95,7 +95,8 @@ class Whole(Trying):
         os.mkfifo(self.path('slow'))
         for number in (signal.SIGTERM, signal.SIGHUP, signal.SIGINT):
             words = ['next', self.path('slow'), '--accounts', self.write('accounts', ACCOUNTS), '--stream', self.write('stream', b''), '-o', self.path('new')]
-            running = subprocess.Popen([sys.executable, DECK, *words], stderr=subprocess.PIPE)
+            running = subprocess.Popen([sys.executable, DECK, *words], stderr=subprocess.PIPE,
+                                       preexec_fn=lambda: signal.signal(number, signal.SIG_DFL))  # which who runs this may ignore
             with open(self.path('slow'), 'wb') as slow:
                 slow.write(BOTH[1])
                 slow.flush()
