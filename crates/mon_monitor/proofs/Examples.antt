@@ -124,7 +124,7 @@ IsIts entries = let p = played events [] w in IsHistory events w entries p.paper
 -- the end of a job whose cards spell this program, if they spell one
 abbrev EndsAs : JobDeck → Option Program → List Exchange → JobEnd → Type 0
 EndsAs deck None x end = ⊥
-EndsAs deck (Some p) x end = EndsSo (all_turns (first_job p deck.limits)) x deck.limits.statements end
+EndsAs deck (Some p) x end = EndsSo (first_job p deck.limits) x end
 
 record Said (deck : JobDeck) (asked : List Exchanged) (end : JobEnd) : Type 0 where
   account : Account

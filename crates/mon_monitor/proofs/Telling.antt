@@ -7,11 +7,12 @@ use Rattle.std.proofs.lemmas.List.Concat.{flat_map-append}
 use Rattle.std.proofs.lemmas.Bool.{eq-eqb, eqb-true, eqb-false}
 use Rattle.sno_ask.specs.Asking.{Exchange, Tells, Begins}
 use Rattle.sno_ask.specs.Fitting.{Fits}
+use Rattle.sno_ask.proofs.Counting.{plain_begun}
 use Rattle.sno_run.specs.declared.ending.Ending.{Ending}
 use Rattle.sno_run.specs.declared.ending.Ending.TheVariants.{Memory}
 use Rattle.sno_run.specs.declared.ending.Step.{Step}
 use Rattle.sno_run.specs.declared.ending.Step.TheVariants as step
-use Rattle.sno_run.specs.Jobs.{Job, turn_of, turns_of, statements_begun}
+use Rattle.sno_run.specs.Jobs.{Job, counted_turn, turn_of, turns_of, statements_begun, BrokenAt}
 use Rattle.mon_access.specs.declared.account.Account.{Account}
 use Rattle.mon_unit.specs.declared.note.Note.{Note}
 use Rattle.mon_unit.specs.State.{UnitState}
@@ -129,7 +130,7 @@ pub record Turn (slot : SlotState) (x : List Exchanged) (st : Step) (job : Job) 
   pub limits : job.limits ≡ slot.job.limits
   pub fewer : st ≡ step.Goes → suc (job.limits.statements - statements_begun job) ≤ slot.job.limits.statements - statements_begun slot.job
   pub asks : (Tells (turn_of slot.job) (exchanges x) (st, job) × ((ending : Ending) → st ≡ step.Ended ending → job.ended ≡ Some ending))
-      ⊎ ((st ≡ step.Ended Memory) × Begins (turn_of slot.job) (exchanges x) × (statements_begun job ≤ slot.job.limits.statements))
+      ⊎ ((st ≡ step.Ended Memory) × BrokenAt slot.job (exchanges x) (statements_begun job))
 
 -- one that has ended asks nothing more
 abbrev pub Again : Type 0
@@ -238,8 +239,10 @@ module _ (again : Again) (accounts : List Account) (J : ℕ → Option JobDeck) 
         subst (λ (l : List Exchange). Tells (turns_of (suc sit.turns) first) l (q, job)) (sym said)
         (tells_then Fits (turns_of sit.turns first) (λ r. turn_of r.1) (exchanges sit.course.asked) (exchanges x) (step.Goes, slot.job) (q, job) sit.asks h)
 
-    begins : Begins (turn_of slot.job) (exchanges x) → Begins (turns_of (suc sit.turns) first) (exchanges (sit.course.asked ++ x))
-    begins h =
+    begins : (count : ℕ) → BrokenAt slot.job (exchanges x) count → Begins (turns_of (suc sit.turns) first) (exchanges (sit.course.asked ++ x))
+    begins count b =
+        let h : Begins (turn_of slot.job) (exchanges x) =
+        subst (λ (l : List Exchange). Begins (turn_of slot.job) l) (sym b.asked) (plain_begun (counted_turn slot.job) b.passed b.begins) in
         subst (λ (l : List Exchange). Begins (turns_of (suc sit.turns) first) l) (sym said)
         (begins_then Fits (turns_of sit.turns first) (λ r. turn_of r.1) (exchanges sit.course.asked) (exchanges x) (step.Goes, slot.job) sit.asks h)
 
@@ -309,8 +312,16 @@ module _ (again : Again) (accounts : List Account) (J : ℕ → Option JobDeck) 
         )
         | inr h ↦ inr (
           (let e : step.Ended ending ≡ step.Ended Memory = sym is ∙ h.0 in cc (e)),
-          begins_on first (exchanges (sit.course.asked ++ x)) (suc sit.turns) (suc sit.deck.limits.statements) few (begins h.1),
-          omega (arith, same_limit, h.2),
+          record {
+            begins = begins_on first (exchanges (sit.course.asked ++ x)) (suc sit.turns) (suc sit.deck.limits.statements) few (begins (statements_begun job) h.1);
+            turns = sit.turns;
+            job = slot.job;
+            before = exchanges sit.course.asked;
+            told = sit.asks;
+            rest = exchanges x;
+            broken = h.1;
+            all = said;
+          },
         )
       ];
       number = sit.number;

@@ -1,9 +1,9 @@
 -- What the history tells (own): a job's own entries are what its program means, each entry is answered as the data sets stand
 -- then, and what is granted, denied and printed follows. The law `history_tells` says it of all events. Which turns come when,
 -- and that what is asked in one turn stands together, is left to the definition of `history`.
-use Rattle.std.specs.Prelude.{◌≡◌, ◌≢◌, ◌⊎◌, ◌↔◌, ◌==◌, ℕ, ◌≤◌, List, [], ◌∷◌, ◌++◌, map, Option, Some, None, if◌then◌else◌}
+use Rattle.std.specs.Prelude.{◌≡◌, ◌≢◌, ◌⊎◌, ◌↔◌, ◌==◌, ℕ, List, [], ◌∷◌, ◌++◌, map, Option, Some, None, if◌then◌else◌}
 use Rattle.std.specs.List.{AllByRecursion, flat_map}
-use Rattle.sno_ask.specs.Asking.{Asking, Exchange, Tells, Begins}
+use Rattle.sno_ask.specs.Asking.{Exchange, Tells, Begins}
 use Rattle.sno_ask.specs.declared.request.Act.{Act}
 use Rattle.sno_ask.specs.declared.request.Act.TheVariants.{Read, Write, Endfile, Rewind}
 use Rattle.mon_answer.specs.declared.answer.Answer.{Answer}
@@ -11,7 +11,7 @@ use Rattle.mon_answer.specs.declared.answer.Answer.TheVariants.{Done, Got, EndOf
 use Rattle.sno_run.specs.declared.ending.Ending.TheVariants.{Memory}
 use Rattle.sno_run.specs.declared.ending.Step.{Step}
 use Rattle.sno_run.specs.declared.ending.Step.TheVariants as step
-use Rattle.sno_run.specs.Jobs.{Job, all_turns, turns_of, first_job, statements_begun}
+use Rattle.sno_run.specs.Jobs.{Job, all_turns, turns_of, first_job, statements_begun, BrokenAt}
 use Rattle.sno_cards.specs.Statements.{statements_of}
 use Rattle.sno_syntax.specs.Programs.{Program}
 use Rattle.mon_access.specs.declared.account.Account.{Account}
@@ -101,12 +101,26 @@ note_by EndOfFile e = []
 abbrev pub noted : List Exchanged → List Note
 noted asked = flat_map (λ e. note_by e.answer e) asked
 
+-- Memory broke a program off, when it had asked this and so many statements had begun.
+pub record BreaksOff (first : Job) (x : List Exchange) (statements : ℕ) : Type 0 where
+  -- What it asked is a beginning of all that it would ask:
+  pub begins : Begins (all_turns first) x
+  -- all that it asks in some turns,
+  pub turns : ℕ
+  pub job : Job
+  pub before : List Exchange
+  pub told : Tells (turns_of turns first) before (step.Goes, job)
+  -- and what had passed of the next, where so many statements had begun.
+  pub rest : List Exchange
+  pub broken : BrokenAt job rest statements
+  pub all : x ≡ before ++ rest
+
 -- A program has asked all that it asks up to its end, and ends so, with as many statements as it has begun; or it ends for want
--- of memory (END MEMORY), at a beginning of what it would ask, with no more statements than its limit.
-abbrev pub EndsSo : Asking (Step × Job) → List Exchange → ℕ → JobEnd → Type 0
-EndsSo talk x most end =
-    ((job : Job) × Tells talk x (step.Ended end.ending, job) × (end.statements ≡ statements_begun job))
-    ⊎ ((end.ending ≡ Memory) × Begins talk x × (end.statements ≤ most))
+-- of memory (END MEMORY), at a beginning of what it would ask, with as many as had begun there.
+abbrev pub EndsSo : Job → List Exchange → JobEnd → Type 0
+EndsSo first x end =
+    ((job : Job) × Tells (all_turns first) x (step.Ended end.ending, job) × (end.statements ≡ statements_begun job))
+    ⊎ ((end.ending ≡ Memory) × BreaksOff first x end.statements)
 
 -- a job that was refused: that is all there is of it
 pub record WasRefused (accounts : List Account) (deck : JobDeck) (entries : List Entry) : Type 0 where
@@ -161,7 +175,7 @@ pub record HasEnded (accounts : List Account) (deck : JobDeck) (entries : List E
   pub end : JobEnd
   pub all : entries ≡ Entered deck ∷ (map Asked course.asked ++ Ended end ∷ [])
   -- It asked, and ended, as its whole program means.
-  pub asks : EndsSo (all_turns (job_in_cards accounts deck course)) (exchanges course.asked) deck.limits.statements end
+  pub asks : EndsSo (job_in_cards accounts deck course) (exchanges course.asked) end
   -- It prints under its number and its account's name,
   pub number : end.number ≡ deck.number
   pub account : end.account ≡ course.account.name

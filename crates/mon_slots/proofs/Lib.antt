@@ -1,6 +1,8 @@
 pub mod Seats
 pub mod Seating
 pub mod Begun
+pub mod Growing
+pub mod Tallying
 pub mod Past
 pub mod Rounding
 pub mod Giving
