@@ -8,3 +8,4 @@ pub mod Calls
 pub mod Loads
 mod Shared
 mod Apart
+mod Carding
