@@ -10,3 +10,4 @@ pub mod Calls
 pub mod Loads
 mod Shared
 mod Apart
+mod Carding

@@ -10,11 +10,13 @@ use Rattle.mon_text.specs.declared.stop.Stop.TheVariants.{Refused, Memory}
 use Rattle.sno_cards.specs.Answers.{IfRefused}
 use Rattle.sno_cards.specs.declared.refusal.SyntaxError.{SyntaxError}
 use Rattle.sno_cards.specs.Programs.{ProgramText}
+use Rattle.sno_cards.specs.Statements.{statements_of}
 use Rattle.sno_syntax.specs.Programs.{Program}
 use Rattle.sno_syntax.proofs.Readable.{reads_programs}
 use Rattle.sno_syntax.proofs.Wholes.{not_refused}
 use Rattle.sno_run.specs.Jobs.{Job, first_job}
 use Rattle.mon_access.specs.declared.account.Account.{Account}
+use Rattle.mon_access.specs.Accounts.{find_account}
 use Rattle.mon_unit.specs.declared.units.UnitError.{UnitError}
 use Rattle.mon_unit.specs.State.{UnitState}
 use Rattle.mon_job.specs.declared.deck.JobDeck.{JobDeck}
@@ -23,7 +25,7 @@ use Rattle.mon_job.specs.declared.refusal.LoadError.TheVariants.{NoSlot, Cards, 
 use Rattle.mon_slots.specs.declared.slot.Slot.{Slot}
 use Rattle.mon_slots.specs.Floors.{SlotState, with_seat, free_from, first_free}
 use Rattle.mon_slots.specs.Told.{slot_of, seat_of, seats_of}
-use Rattle.mon_slots.specs.Loads.{first_units, with_ties, program_refusal, program_in, slot_refusal, account_refusal, deck_refusal, slot_by, slot_in, loaded_by, loaded}
+use Rattle.mon_slots.specs.Loads.{first_units, with_ties, ties_refusal, program_refusal, program_in, slot_refusal, account_refusal, deck_refusal, slot_by, slot_in, loaded_by, loaded}
 use Rattle.mon_slots.specs.inner.Spelling.{IsSpelled}
 use Rattle.mon_slots.proofs.Seats.{map_set}
 
@@ -31,7 +33,7 @@ spelled_in : (said : Result ProgramText SyntaxError) (p : Program) → IsSpelled
 spelled_in (Ok cards) p a = reads_programs cards p a
 spelled_in (Err refusal) p a = absurd a
 
-spelled_clean : (said : Result ProgramText SyntaxError) (p : Program) → IsSpelled said p → program_refusal said ≡ None
+pub spelled_clean : (said : Result ProgramText SyntaxError) (p : Program) → IsSpelled said p → program_refusal said ≡ None
 spelled_clean (Ok cards) p a = ap (option_map Syntax) (not_refused cards p a)
 spelled_clean (Err refusal) p a = absurd a
 
@@ -46,12 +48,19 @@ slot_made deck found account said p units job f a u j =
     ∙ ap (λ (x : UnitState). Some (held deck account (first_job p deck.limits) x)) (sym u)
     ∙ ap (λ (x : Job). Some (held deck account x units)) (sym j)
 
-pub deck_clean : (found : Option Account) (account : Account) (ties : Option UnitError) (said : Result ProgramText SyntaxError) (p : Program)
-    → found ≡ Some account → ties ≡ None → IsSpelled said p
-    → option_or (account_refusal found) (option_or (option_map Cards ties) (program_refusal said)) ≡ None
-deck_clean found account ties said p f t a =
-    ap (λ o. option_or (account_refusal o) (option_or (option_map Cards ties) (program_refusal said))) f
-    ∙ ap (λ (o : Option UnitError). option_or (option_map Cards o) (program_refusal said)) t ∙ spelled_clean said p a
+-- where there is an account and the unit cards are good, a deck is refused for its program alone
+pub deck_refused_by : (accounts : List Account) (deck : JobDeck) (account : Account) (said : Option LoadError)
+    → find_account accounts deck.account ≡ Some account → ties_refusal deck.ties (first_units deck.lines) ≡ None → program_refusal (statements_of deck.lines) ≡ said
+    → deck_refusal accounts deck ≡ said
+deck_refused_by accounts deck account said f t p =
+    ap (λ o. option_or (account_refusal o) (option_or (option_map Cards (ties_refusal deck.ties (first_units deck.lines))) (program_refusal (statements_of deck.lines)))) f
+    ∙ ap (λ (o : Option UnitError). option_or (option_map Cards o) (program_refusal (statements_of deck.lines))) t ∙ p
+
+pub stop_refused_by : (accounts : List Account) (deck : JobDeck) (account : Account) (stop : Stop LoadError)
+    → find_account accounts deck.account ≡ Some account → ties_refusal deck.ties (first_units deck.lines) ≡ None
+    → IfRefused (λ refusal. program_refusal (statements_of deck.lines) ≡ Some refusal) stop → IfRefused (λ refusal. deck_refusal accounts deck ≡ Some refusal) stop
+stop_refused_by accounts deck account (Refused refusal) f t p = deck_refused_by accounts deck account (Some refusal) f t p
+stop_refused_by accounts deck account Memory f t p = tt
 
 -- SEATS
 
