@@ -1,6 +1,6 @@
 -- What is loaded, and what is refused.
 use Rattle.std.proofs.Common.{◌≡◌, ℕ, suc, ◌+◌, ◌<◌, List, [], ◌∷◌, length, Option, Some, None, Result, Ok, Err, refl, ap, sym, ◌∙◌, subst, arith}
-use Rattle.std.specs.Prelude.{option_map, is_none, position, slice_set}
+use Rattle.std.specs.Prelude.{option_map, is_some, is_none, position, slice_set, IsSome}
 use Rattle.std.specs.List.{position_from}
 use Rattle.std.proofs.lemmas.Iterator.Adapters.{position_from-zero}
 use Rattle.std.proofs.lemmas.List.Quantifiers.{position-Some}
@@ -75,6 +75,10 @@ free_at n (Some x ∷ slots) =
 pub free_is : (slots : List (Option Slot)) → first_free (seats_of slots) ≡ option_map suc (position (λ seat. is_none seat) slots)
 free_is slots = free_at 0 slots ∙ ap (option_map suc) (sym (position_from-zero (λ seat. is_none seat) slots))
 
+-- a slot is free where one has the lowest number
+pub free_some : (slots : List (Option SlotState)) (n : ℕ) → first_free slots ≡ Some n → IsSome (first_free slots)
+free_some slots n is = ap is_some is
+
 pub within : (slots : List (Option Slot)) (i : ℕ) → position (λ seat. is_none seat) slots ≡ Some i → i < length slots
 within slots i e = (position-Some (λ seat. is_none seat) slots i None e).0
 
@@ -95,6 +99,10 @@ pub deck_loaded : (accounts : List Account) (deck : JobDeck) (slots : List (Opti
 deck_loaded accounts deck slots n slot e d s =
     ap (λ o. loaded_by (option_or (slot_refusal o) (deck_refusal accounts deck)) o (slot_in accounts deck) slots) e
     ∙ ap (λ o. loaded_by o (Some n) (slot_in accounts deck) slots) d ∙ ap (λ o. loaded_by None (Some n) o slots) s
+
+-- what `?` hands on is the stop that was there
+pub stopped_for : {X : Type 0} (r : Result X (Stop LoadError)) (s t u : Stop LoadError) → r ≡ Err s → s ≡ t → r ≡ Err u → t ≡ u
+stopped_for r s t u is same h = cc
 
 pub stop_refused : (accounts : List Account) (deck : JobDeck) (slots : List (Option SlotState)) (n : ℕ) (stop : Stop LoadError)
     → first_free slots ≡ Some n → IfRefused (λ refusal. deck_refusal accounts deck ≡ Some refusal) stop
