@@ -34,7 +34,8 @@ use Rattle.mon_monitor.specs.Headline.{IsJob, job_of, NumbersDiffer}
 use Rattle.mon_monitor.proofs.Histories.{event_accounts}
 use Rattle.mon_monitor.proofs.Accounting.{in_rounds}
 use Rattle.mon_unit.proofs.Fitting.{serve_fits}
-use Rattle.mon_monitor.proofs.Exchanging.{whole_told, cut_told, whole_tells, cut_asks}
+use Rattle.mon_monitor.proofs.Exchanging.{whole_told, cut_told, all_passed, all_told, all_asked, cut_asks}
+use Rattle.mon_slots.proofs.Tallying.{tallied_told, job_tallied}
 use Rattle.mon_slots.proofs.Seating.{IsSeat, seat_changed, free_seat}
 use Rattle.mon_monitor.proofs.Telling.{same_or_not, not_same, AreOf, none_of, more_of, number_is, number_not, own_more, own_same, Sitting, goes_on, Turn, Again, IsToCome, SoFar, still_job, turn_far}
 
@@ -96,11 +97,17 @@ module _ (accounts : List Account) (J : ℕ → Option JobDeck) (numbered : (n :
     whole_is : (slot : SlotState) (sets : Sets) → (let r = ran slot sets in Turn slot (whole_turn slot sets) r.0.0 r.0.1 r.1.units)
     whole_is slot sets =
         let ok = well slot.account slot.job (reached sets slot) in
+        let tells = all_told slot.number slot.account (counted_turn slot.job) (reached sets slot) in
         record {
           told = whole_told slot.number slot.account (turn_of slot.job) (reached sets slot);
           limits = ok.limits;
           fewer = ok.fewer;
-          asks = inl (whole_tells slot.number slot.account (turn_of slot.job) (reached sets slot), ok.over);
+          passed = all_passed slot.number slot.account (counted_turn slot.job) (reached sets slot);
+          asked = all_asked slot.number slot.account (counted_turn slot.job) (reached sets slot);
+          counted =
+              tallied_told slot.job.limits.statements (λ (r : Step × Job). statements_begun r.1) (statements_begun slot.job) (counted_turn slot.job)
+              (all_passed slot.number slot.account (counted_turn slot.job) (reached sets slot)) (ran slot sets).0 (job_tallied slot.job) tells;
+          ends = inl (tells, ok.over);
         }
 
     broken_is : (b : Bool) (m : Mark) (slot : SlotState) (sets : Sets)
@@ -110,12 +117,10 @@ module _ (accounts : List Account) (J : ℕ → Option JobDeck) (numbered : (n :
       told = cut_told slot.number slot.account (exchanges_at m slot sets) (turn_of slot.job) (reached sets slot);
       limits = refl;
       fewer = λ goes. absurd (let e : step.Ended Memory ≡ step.Goes = goes in cc (e));
-      asks = inr (refl, record {
-        passed = passed_at m slot sets;
-        begins = passed_begins (serve slot.account) (serve_fits slot.account) (suc m.moments) (counted_turn slot.job) (reached sets slot);
-        asked = cut_asks slot.number slot.account (suc m.moments) (counted_turn slot.job) (reached sets slot);
-        counted = refl;
-      });
+      passed = passed_at m slot sets;
+      asked = cut_asks slot.number slot.account (suc m.moments) (counted_turn slot.job) (reached sets slot);
+      counted = refl;
+      ends = inr (refl, passed_begins (serve slot.account) (serve_fits slot.account) (suc m.moments) (counted_turn slot.job) (reached sets slot));
     }
 
     turn_is : (m : Option Mark) (slot : SlotState) (sets : Sets)
@@ -239,7 +244,10 @@ module _ (accounts : List Account) (J : ℕ → Option JobDeck) (numbered : (n :
         all = refl;
         turns = 0;
         within = omega arith;
-        asks = refl;
+        passed = [];
+        asked = refl;
+        counted = refl;
+        tells = refl;
         spool = empty;
         notes = blank;
       }
