@@ -107,7 +107,7 @@ one_begun Beginning a b = omega arith
 one_begun (Requesting q) a b = refl
 
 pub statements_both : (x y : List Passed) → statements_in (x ++ y) ≡ statements_in x + statements_in y
-statements_both [] y = refl
+statements_both [] y = omega arith
 statements_both (m ∷ x) y = ap (with_statement m.asked) (statements_both x y) ∙ one_begun m.asked (statements_in x) (statements_in y)
 
 plain_turns : (k : ℕ) (job : Job) → plain (counted_turns k job) ≡ turns_of k job
