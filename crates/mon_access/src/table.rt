@@ -1,5 +1,5 @@
 //! The account table: accounts in the order in which they were added, found by name.
-ghost use Rattle.std.specs.Prelude.{◌≡◌, ◌<◌, ◌↔◌, [], ◌∷◌, ◌++◌, length, None, OnOk, OnErr, IsSome, IsErrOf};
+ghost use Rattle.std.specs.Prelude.{◌≡◌, ◌<◌, ◌↔◌, [], ◌∷◌, ◌++◌, length, slice_get, None, OnOk, OnErr, IsSome, IsErrOf};
 ghost use Rattle.std.specs.Option.{option_copied};
 ghost use Rattle.mon_access.specs.Accounts.{find_account, HaveDifferentNames};
 
@@ -80,6 +80,21 @@ impl Accounts {
             .insert(account.name.copy(), account)
             .map_err(|_| Stop::Memory)?;
         Ok(())
+    }
+
+    /// How many accounts there are.
+    pub fn len(&self) -> usize
+        ensures { result ≡ length self.now }
+    {
+        self.by_name.len()
+    }
+
+    /// The account at an index of the order in which they were added, from 0. It takes no memory.
+    pub fn at(&self, index: usize) -> Option<&Account>
+        ensures { option_copied result ≡ slice_get self.now index }
+    {
+        let (_, account) = self.by_name.get_index(index)?;
+        Some(account)
     }
 
     /// The account of this name, found by hash.

@@ -12,3 +12,4 @@ pub mod Rearranged
 pub mod Staying
 pub mod AnyTurns
 pub mod Apart
+mod Shown

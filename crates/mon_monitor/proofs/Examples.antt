@@ -1,13 +1,14 @@
 -- What is no history: of a small world, lists that differ from its history in one place.
 use Rattle.std.proofs.Common.{◌≡◌, ℕ, zero, suc, List, [], ◌∷◌, ◌++◌, map, Option, Some, None, refl, sym, ap, ◌∙◌, subst, inl, inr}
-use Rattle.std.specs.Prelude.{codes}
-use Rattle.sno_ask.specs.Asking.{Exchange}
+use Rattle.std.specs.Prelude.{◌⊎◌, codes}
+use Rattle.sno_ask.specs.Asking.{Exchange, Tells}
 use Rattle.sno_ask.specs.declared.request.Act.{Act}
 use Rattle.sno_ask.specs.declared.request.Act.TheVariants.{Read, Write}
 use Rattle.mon_answer.specs.declared.answer.Answer.{Answer}
 use Rattle.mon_answer.specs.declared.answer.Answer.TheVariants.{Done, Got, Denied}
-use Rattle.sno_run.specs.declared.ending.Ending.TheVariants.{Normal}
-use Rattle.sno_run.specs.Jobs.{all_turns, first_job}
+use Rattle.sno_run.specs.declared.ending.Ending.TheVariants.{Normal, Memory}
+use Rattle.sno_run.specs.declared.ending.Step.TheVariants as step
+use Rattle.sno_run.specs.Jobs.{Job, turns_of, first_job}
 use Rattle.sno_cards.specs.Statements.{statements_of}
 use Rattle.sno_syntax.specs.Programs.{Program}
 use Rattle.mon_acl.specs.declared.entries.Tag.TheVariants.{UserObj, GroupObj, Other}
@@ -33,6 +34,7 @@ use Rattle.mon_monitor.specs.Events.{Event, Load, Drain}
 use Rattle.mon_monitor.specs.Played.{played}
 use Rattle.mon_monitor.specs.History.{Exchanged, Entry, Entered, Asked, Ended, history}
 use Rattle.mon_monitor.specs.Headline.{exchanges, Follow, noted, EndsSo, IsJob, IsHistory}
+use Rattle.mon_monitor.proofs.Telling.{asked_alone}
 use Rattle.mon_monitor.specs.Example.{ann, no_perms, all_perms}
 
 -- A WORLD OF TWO JOBS
@@ -124,7 +126,7 @@ IsIts entries = let p = played events [] w in IsHistory events w entries p.paper
 -- the end of a job whose cards spell this program, if they spell one
 abbrev EndsAs : JobDeck → Option Program → List Exchange → JobEnd → Type 0
 EndsAs deck None x end = ⊥
-EndsAs deck (Some p) x end = EndsSo (all_turns (first_job p deck.limits)) x deck.limits.statements end
+EndsAs deck (Some p) x end = EndsSo (first_job p deck.limits) x end
 
 record Said (deck : JobDeck) (asked : List Exchanged) (end : JobEnd) : Type 0 where
   account : Account
@@ -133,6 +135,14 @@ record Said (deck : JobDeck) (asked : List Exchanged) (end : JobEnd) : Type 0 wh
   follow : Follow deck.number account (with_ties deck.ties (first_units deck.lines)) asked units
   ends : EndsAs deck (program_in (statements_of deck.lines)) (exchanges asked) end
   notes : end.notes ≡ noted asked
+
+-- what such a job asked, where memory did not break it off
+ended : (start : Job) (x : List Exchange) (end : JobEnd) → EndsSo start x end
+    → ((job : Job) × Tells (turns_of (suc start.limits.statements) start) x (step.Ended end.ending, job)) ⊎ (end.ending ≡ Memory)
+ended start x end h = elim h.ends [
+  | inl tells ↦ inl (tells.0, asked_alone (suc start.limits.statements) start (step.Ended end.ending, tells.0) h.passed x h.asked tells.1)
+  | inr broken ↦ inr broken.0
+]
 
 parts : (x y : List Exchanged) (a b : JobEnd) → map Asked x ++ Ended a ∷ [] ≡ map Asked y ++ Ended b ∷ [] → (x ≡ y) × (a ≡ b)
 parts [] [] a b h = (refl, cc (h))
@@ -170,9 +180,9 @@ said deck asked end (inr (inr h)) =
 
 a_read_left_out : IsIts (bobs ++ whole 2 ann (ann_writes ∷ []) anns_end) → ⊥
 unfolding decision
-a_read_left_out h = elim (said (copies 2 ann) (ann_writes ∷ []) anns_end (h.jobs 2)).ends [
+a_read_left_out h = elim (ended _ _ anns_end (said (copies 2 ann) (ann_writes ∷ []) anns_end (h.jobs 2)).ends) [
   | inl tells ↦ let is = tells.1.0 in cc (is)
-  | inr broken ↦ let is = broken.0 in cc (is)
+  | inr broken ↦ cc (broken)
 ]
 
 abbrev bobs_among_hers : List Exchanged
@@ -198,7 +208,7 @@ another_jobs_note h =
 
 an_end_before_the_talks : IsIts (bobs ++ whole 2 ann (ann_reads ∷ []) (end_of 2 ann [] [])) → ⊥
 unfolding decision
-an_end_before_the_talks h = elim (said (copies 2 ann) (ann_reads ∷ []) (end_of 2 ann [] []) (h.jobs 2)).ends [
+an_end_before_the_talks h = elim (ended _ _ (end_of 2 ann [] []) (said (copies 2 ann) (ann_reads ∷ []) (end_of 2 ann [] []) (h.jobs 2)).ends) [
   | inl tells ↦ tells.1.2
-  | inr broken ↦ let is = broken.0 in cc (is)
+  | inr broken ↦ cc (broken)
 ]

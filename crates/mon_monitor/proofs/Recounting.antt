@@ -8,7 +8,7 @@ use Rattle.sno_run.specs.declared.ending.Ending.{Ending}
 use Rattle.sno_run.specs.declared.ending.Ending.TheVariants.{Memory}
 use Rattle.sno_run.specs.declared.ending.Step.{Step}
 use Rattle.sno_run.specs.declared.ending.Step.TheVariants as step
-use Rattle.sno_run.specs.Jobs.{Job, turn_of, statements_begun}
+use Rattle.sno_run.specs.Jobs.{Job, counted_turn, turn_of, statements_begun}
 use Rattle.sno_cards.specs.Statements.{statements_of}
 use Rattle.sno_syntax.specs.Programs.{Program}
 use Rattle.mon_access.specs.declared.account.Account.{Account}
@@ -16,6 +16,7 @@ use Rattle.mon_access.specs.Accounts.{find_account}
 use Rattle.mon_unit.specs.State.{UnitState}
 use Rattle.mon_unit.specs.Serving.{Reach, serve}
 use Rattle.mon_unit.specs.Runs.{run}
+use Rattle.mon_unit.proofs.Runs.{passed_begins}
 use Rattle.mon_catalogue.specs.Sets.{Sets}
 use Rattle.mon_command.specs.Commanded.{answered}
 use Rattle.mon_job.specs.declared.deck.UnitCard.{UnitCard}
@@ -24,7 +25,7 @@ use Rattle.mon_job.specs.declared.refusal.LoadError.{LoadError}
 use Rattle.mon_slots.specs.Floors.{SlotState, Floor, floor, seat_at, with_seat, job_in, first_free}
 use Rattle.mon_slots.specs.Loads.{slot_refusal, account_refusal, first_units, tied_by, with_ties, program_refusal, program_in, deck_refusal, loaded_slot, slot_by, slot_in, loaded_by, loaded}
 use Rattle.mon_slots.specs.Turns.{reached, ran, ends_by, only}
-use Rattle.mon_slots.specs.Marks.{Mark, Marks, mark_of, later, may_break, broken_by, ran_as, turn_as_by, turn_as, Past, nothing, and_then, until, never, is_done, has_room, room}
+use Rattle.mon_slots.specs.Marks.{Mark, Marks, mark_of, later, passed_at, exchanges_at, may_break, broken_by, ran_as, turn_as_by, turn_as, Past, nothing, and_then, until, never, is_done, has_room, room}
 use Rattle.mon_monitor.specs.Worlds.{World, world}
 use Rattle.mon_monitor.specs.Events.{Event, Serve, Load, Give, Drain}
 use Rattle.mon_monitor.specs.Played.{happened, played}
@@ -32,7 +33,9 @@ use Rattle.mon_monitor.specs.History.{Entry, Entered, Refused, Asked, Ordered, w
 use Rattle.mon_monitor.specs.Headline.{IsJob, job_of, NumbersDiffer}
 use Rattle.mon_monitor.proofs.Histories.{event_accounts}
 use Rattle.mon_monitor.proofs.Accounting.{in_rounds}
-use Rattle.mon_monitor.proofs.Exchanging.{whole_told, cut_told, whole_tells, cut_begins}
+use Rattle.mon_unit.proofs.Fitting.{serve_fits}
+use Rattle.mon_monitor.proofs.Exchanging.{whole_told, cut_told, all_passed, all_told, all_asked, cut_asks}
+use Rattle.mon_slots.proofs.Tallying.{tallied_told, job_tallied}
 use Rattle.mon_slots.proofs.Seating.{IsSeat, seat_changed, free_seat}
 use Rattle.mon_monitor.proofs.Telling.{same_or_not, not_same, AreOf, none_of, more_of, number_is, number_not, own_more, own_same, Sitting, goes_on, Turn, Again, IsToCome, SoFar, still_job, turn_far}
 
@@ -94,21 +97,30 @@ module _ (accounts : List Account) (J : ℕ → Option JobDeck) (numbered : (n :
     whole_is : (slot : SlotState) (sets : Sets) → (let r = ran slot sets in Turn slot (whole_turn slot sets) r.0.0 r.0.1 r.1.units)
     whole_is slot sets =
         let ok = well slot.account slot.job (reached sets slot) in
+        let tells = all_told slot.number slot.account (counted_turn slot.job) (reached sets slot) in
         record {
           told = whole_told slot.number slot.account (turn_of slot.job) (reached sets slot);
           limits = ok.limits;
           fewer = ok.fewer;
-          asks = inl (whole_tells slot.number slot.account (turn_of slot.job) (reached sets slot), ok.over);
+          passed = all_passed slot.number slot.account (counted_turn slot.job) (reached sets slot);
+          asked = all_asked slot.number slot.account (counted_turn slot.job) (reached sets slot);
+          counted =
+              tallied_told slot.job.limits.statements (λ (r : Step × Job). statements_begun r.1) (statements_begun slot.job) (counted_turn slot.job)
+              (all_passed slot.number slot.account (counted_turn slot.job) (reached sets slot)) (ran slot sets).0 (job_tallied slot.job) tells;
+          ends = inl (tells, ok.over);
         }
 
     broken_is : (b : Bool) (m : Mark) (slot : SlotState) (sets : Sets)
         → (let r = broken_by b m slot sets in Turn slot (broken_turn b m slot sets) r.0.0 r.0.1 r.1.units)
     broken_is false m slot sets = whole_is slot sets
     broken_is true m slot sets = record {
-      told = cut_told slot.number slot.account m.exchanges (turn_of slot.job) (reached sets slot);
+      told = cut_told slot.number slot.account (exchanges_at m slot sets) (turn_of slot.job) (reached sets slot);
       limits = refl;
       fewer = λ goes. absurd (let e : step.Ended Memory ≡ step.Goes = goes in cc (e));
-      asks = inr (refl, cut_begins slot.number slot.account m.exchanges (turn_of slot.job) (reached sets slot), omega arith);
+      passed = passed_at m slot sets;
+      asked = cut_asks slot.number slot.account (suc m.moments) (counted_turn slot.job) (reached sets slot);
+      counted = refl;
+      ends = inr (refl, passed_begins (serve slot.account) (serve_fits slot.account) (suc m.moments) (counted_turn slot.job) (reached sets slot));
     }
 
     turn_is : (m : Option Mark) (slot : SlotState) (sets : Sets)
@@ -232,7 +244,10 @@ module _ (accounts : List Account) (J : ℕ → Option JobDeck) (numbered : (n :
         all = refl;
         turns = 0;
         within = omega arith;
-        asks = refl;
+        passed = [];
+        asked = refl;
+        counted = refl;
+        tells = refl;
         spool = empty;
         notes = blank;
       }

@@ -5,13 +5,17 @@ use Rattle.std.proofs.lemmas.List.{map-append}
 use Rattle.std.proofs.lemmas.List.Elements.{filter-append}
 use Rattle.std.proofs.lemmas.List.Concat.{flat_map-append}
 use Rattle.std.proofs.lemmas.Bool.{eq-eqb, eqb-true, eqb-false}
-use Rattle.sno_ask.specs.Asking.{Exchange, Tells, Begins}
-use Rattle.sno_ask.specs.Fitting.{Fits}
+use Rattle.sno_talk.specs.Talks.{◌>>=◌}
+use Rattle.sno_ask.specs.Asking as asking
+use Rattle.sno_ask.specs.Asking.{Asking, Exchange}
+use Rattle.mon_answer.specs.declared.answer.Answer.{Answer}
+use Rattle.sno_ask.specs.Counting.{Moment, Beginning, Requesting, Passed, MomentFits, Tells, Begins, plain, with_request, requests_in, with_statement, statements_in}
+use Rattle.sno_ask.proofs.Counting.{plain_then, plain_told}
 use Rattle.sno_run.specs.declared.ending.Ending.{Ending}
 use Rattle.sno_run.specs.declared.ending.Ending.TheVariants.{Memory}
 use Rattle.sno_run.specs.declared.ending.Step.{Step}
 use Rattle.sno_run.specs.declared.ending.Step.TheVariants as step
-use Rattle.sno_run.specs.Jobs.{Job, turn_of, turns_of, statements_begun}
+use Rattle.sno_run.specs.Jobs.{Job, counted_turn, turn_of, turns_of, statements_begun}
 use Rattle.mon_access.specs.declared.account.Account.{Account}
 use Rattle.mon_unit.specs.declared.note.Note.{Note}
 use Rattle.mon_unit.specs.State.{UnitState}
@@ -22,7 +26,7 @@ use Rattle.mon_slots.specs.Loads.{first_units, with_ties}
 use Rattle.mon_slots.specs.Turns.{seat, told}
 use Rattle.mon_monitor.specs.Events.{Event}
 use Rattle.mon_monitor.specs.History.{Exchanged, Entry, Entered, Asked, end_entry, is_of, own}
-use Rattle.mon_monitor.specs.Headline.{job_in_cards, exchange, exchanges, Follow, spooled, noted, Course, GoesOn, IsJob, job_of}
+use Rattle.mon_monitor.specs.Headline.{job_in_cards, counted_turns, exchange, exchanges, Follow, spooled, noted, Course, GoesOn, IsJob, job_of}
 use Rattle.sno_talk.proofs.Told.{tells_then, begins_then, begins_first}
 use Rattle.mon_monitor.proofs.Exchanging.{Told, follow_both}
 use Rattle.mon_slots.proofs.Seating.{seat_changed, taken_seat}
@@ -88,6 +92,38 @@ own_more n xs ys a = filter-append (is_of n) xs ys ∙ ap (λ (l : List Entry). 
 pub own_same : (n k : ℕ) (xs ys : List Entry) → AreOf n ys → k ≢ n → own k (xs ++ ys) ≡ own k xs
 own_same n k xs ys a ne = filter-append (is_of k) xs ys ∙ ap (λ (l : List Entry). own k xs ++ l) (a.others k ne) ∙ append-nil (own k xs)
 
+-- WHAT PASSED
+
+one_more : (m : Moment) (r : Answer) (x y : List Exchange) → with_request m r (x ++ y) ≡ with_request m r x ++ y
+one_more Beginning r x y = refl
+one_more (Requesting q) r x y = refl
+
+pub requests_both : (x y : List Passed) → requests_in (x ++ y) ≡ requests_in x ++ requests_in y
+requests_both [] y = refl
+requests_both (m ∷ x) y = ap (with_request m.asked m.reply) (requests_both x y) ∙ one_more m.asked m.reply (requests_in x) (requests_in y)
+
+one_begun : (m : Moment) (a b : ℕ) → with_statement m (a + b) ≡ with_statement m a + b
+one_begun Beginning a b = omega arith
+one_begun (Requesting q) a b = refl
+
+pub statements_both : (x y : List Passed) → statements_in (x ++ y) ≡ statements_in x + statements_in y
+statements_both [] y = omega arith
+statements_both (m ∷ x) y = ap (with_statement m.asked) (statements_both x y) ∙ one_begun m.asked (statements_in x) (statements_in y)
+
+plain_turns : (k : ℕ) (job : Job) → plain (counted_turns k job) ≡ turns_of k job
+plain_turns zero job = refl
+plain_turns (suc k) job =
+    plain_then (counted_turns k job) (λ r. counted_turn r.1)
+    ∙ ap (λ (t : Asking (Step × Job)). t >>= (λ r. turn_of r.1)) (plain_turns k job)
+
+-- what is asked alone
+pub asked_alone : (k : ℕ) (first : Job) (r : Step × Job) (passed : List Passed) (x : List Exchange) → x ≡ requests_in passed → Tells (counted_turns k first) passed r
+    → asking.Tells (turns_of k first) x r
+asked_alone k first r passed x is h =
+    subst (λ (t : Asking (Step × Job)). asking.Tells t x r) (plain_turns k first)
+    (subst (λ (l : List Exchange). asking.Tells (plain (counted_turns k first)) l r) (sym is)
+    (plain_told (counted_turns k first) passed r h))
+
 -- A JOB IN ITS SLOT
 
 pub record Sitting (accounts : List Account) (given : Option JobDeck) (entries : List Entry) (slot : SlotState) : Type 0 where
@@ -101,7 +137,10 @@ pub record Sitting (accounts : List Account) (given : Option JobDeck) (entries :
   pub all : entries ≡ Entered deck ∷ map Asked course.asked
   pub turns : ℕ
   pub within : turns + (deck.limits.statements - statements_begun slot.job) ≤ deck.limits.statements
-  pub asks : Tells (turns_of turns (job_in_cards accounts deck course)) (exchanges course.asked) (step.Goes, slot.job)
+  pub passed : List Passed
+  pub asked : exchanges course.asked ≡ requests_in passed
+  pub counted : statements_begun slot.job ≡ statements_in passed
+  pub tells : Tells (counted_turns turns (job_in_cards accounts deck course)) passed (step.Goes, slot.job)
   pub spool : slot.units.spool ≡ spooled course.asked
   pub notes : slot.units.notes ≡ noted course.asked
 
@@ -119,7 +158,7 @@ goes_on accounts deck entries s slot slots sit at =
       account = sit.account;
       units = sit.units;
       turns = sit.turns;
-      asks = sit.asks;
+      asks = asked_alone sit.turns (job_in_cards accounts sit.deck sit.course) (step.Goes, slot.job) sit.passed (exchanges sit.course.asked) sit.asked sit.tells;
     } in
     subst (λ (d : JobDeck). GoesOn accounts d slots entries) (sym same) there
 
@@ -128,29 +167,32 @@ pub record Turn (slot : SlotState) (x : List Exchanged) (st : Step) (job : Job) 
   pub told : Told slot.number slot.account x slot.units units
   pub limits : job.limits ≡ slot.job.limits
   pub fewer : st ≡ step.Goes → suc (job.limits.statements - statements_begun job) ≤ slot.job.limits.statements - statements_begun slot.job
-  pub asks : (Tells (turn_of slot.job) (exchanges x) (st, job) × ((ending : Ending) → st ≡ step.Ended ending → job.ended ≡ Some ending))
-      ⊎ ((st ≡ step.Ended Memory) × Begins (turn_of slot.job) (exchanges x) × (statements_begun job ≤ slot.job.limits.statements))
+  pub passed : List Passed
+  pub asked : exchanges x ≡ requests_in passed
+  pub counted : statements_begun job ≡ statements_begun slot.job + statements_in passed
+  pub ends : (Tells (counted_turn slot.job) passed (st, job) × ((ending : Ending) → st ≡ step.Ended ending → job.ended ≡ Some ending))
+      ⊎ ((st ≡ step.Ended Memory) × Begins (counted_turn slot.job) passed)
 
 -- one that has ended asks nothing more
 abbrev pub Again : Type 0
-Again = (job : Job) (ending : Ending) → job.ended ≡ Some ending → Tells (turn_of job) [] (step.Ended ending, job)
+Again = (job : Job) (ending : Ending) → job.ended ≡ Some ending → Tells (counted_turn job) [] (step.Ended ending, job)
 
-module _ (again : Again) (first job : Job) (ending : Ending) (x : List Exchange) (ended : job.ended ≡ Some ending) where
-  pub tells_on : (n m : ℕ) → n ≤ m → Tells (turns_of n first) x (step.Ended ending, job) → Tells (turns_of m first) x (step.Ended ending, job)
-  tells_on n zero le h = let is : n ≡ 0 = omega (arith, le) in subst (λ (k : ℕ). Tells (turns_of k first) x (step.Ended ending, job)) is h
+module _ (again : Again) (first job : Job) (ending : Ending) (x : List Passed) (ended : job.ended ≡ Some ending) where
+  pub tells_on : (n m : ℕ) → n ≤ m → Tells (counted_turns n first) x (step.Ended ending, job) → Tells (counted_turns m first) x (step.Ended ending, job)
+  tells_on n zero le h = let is : n ≡ 0 = omega (arith, le) in subst (λ (k : ℕ). Tells (counted_turns k first) x (step.Ended ending, job)) is h
   tells_on n (suc m) le h = elim (same_or_not n (suc m)) [
-    | inl is ↦ subst (λ (k : ℕ). Tells (turns_of k first) x (step.Ended ending, job)) is h
+    | inl is ↦ subst (λ (k : ℕ). Tells (counted_turns k first) x (step.Ended ending, job)) is h
     | inr ne ↦
-        subst (λ (l : List Exchange). Tells (turns_of (suc m) first) l (step.Ended ending, job)) (append-nil x)
-        (tells_then Fits (turns_of m first) (λ r. turn_of r.1) x [] (step.Ended ending, job) (step.Ended ending, job)
+        subst (λ (l : List Passed). Tells (counted_turns (suc m) first) l (step.Ended ending, job)) (append-nil x)
+        (tells_then MomentFits (counted_turns m first) (λ r. counted_turn r.1) x [] (step.Ended ending, job) (step.Ended ending, job)
         (tells_on n m (omega (arith, le, ne)) h) (again job ending ended))
   ]
 
-pub begins_on : (first : Job) (x : List Exchange) (n m : ℕ) → n ≤ m → Begins (turns_of n first) x → Begins (turns_of m first) x
-begins_on first x n zero le h = let is : n ≡ 0 = omega (arith, le) in subst (λ (k : ℕ). Begins (turns_of k first) x) is h
+pub begins_on : (first : Job) (x : List Passed) (n m : ℕ) → n ≤ m → Begins (counted_turns n first) x → Begins (counted_turns m first) x
+begins_on first x n zero le h = let is : n ≡ 0 = omega (arith, le) in subst (λ (k : ℕ). Begins (counted_turns k first) x) is h
 begins_on first x n (suc m) le h = elim (same_or_not n (suc m)) [
-  | inl is ↦ subst (λ (k : ℕ). Begins (turns_of k first) x) is h
-  | inr ne ↦ begins_first Fits (turns_of m first) (λ r. turn_of r.1) x (begins_on first x n m (omega (arith, le, ne)) h)
+  | inl is ↦ subst (λ (k : ℕ). Begins (counted_turns k first) x) is h
+  | inr ne ↦ begins_first MomentFits (counted_turns m first) (λ r. counted_turn r.1) x (begins_on first x n m (omega (arith, le, ne)) h)
 ]
 
 -- the job goes on as the turn leaves it, or has ended so
@@ -233,15 +275,24 @@ module _ (again : Again) (accounts : List Account) (J : ℕ → Option JobDeck) 
     abbrev first : Job
     first = job_in_cards accounts sit.deck sit.course
 
-    tells : (q : Step) → Tells (turn_of slot.job) (exchanges x) (q, job) → Tells (turns_of (suc sit.turns) first) (exchanges (sit.course.asked ++ x)) (q, job)
-    tells q h =
-        subst (λ (l : List Exchange). Tells (turns_of (suc sit.turns) first) l (q, job)) (sym said)
-        (tells_then Fits (turns_of sit.turns first) (λ r. turn_of r.1) (exchanges sit.course.asked) (exchanges x) (step.Goes, slot.job) (q, job) sit.asks h)
+    abbrev passed : List Passed
+    passed = sit.passed ++ turn.passed
 
-    begins : Begins (turn_of slot.job) (exchanges x) → Begins (turns_of (suc sit.turns) first) (exchanges (sit.course.asked ++ x))
-    begins h =
-        subst (λ (l : List Exchange). Begins (turns_of (suc sit.turns) first) l) (sym said)
-        (begins_then Fits (turns_of sit.turns first) (λ r. turn_of r.1) (exchanges sit.course.asked) (exchanges x) (step.Goes, slot.job) sit.asks h)
+    asked : exchanges (sit.course.asked ++ x) ≡ requests_in passed
+    asked =
+        said ∙ ap (λ (l : List Exchange). l ++ exchanges x) sit.asked ∙ ap (λ (l : List Exchange). requests_in sit.passed ++ l) turn.asked
+        ∙ sym (requests_both sit.passed turn.passed)
+
+    counted : statements_begun job ≡ statements_in passed
+    counted =
+        let both = statements_both sit.passed turn.passed in
+        omega (arith, both, sit.counted, turn.counted)
+
+    tells : (q : Step) → Tells (counted_turn slot.job) turn.passed (q, job) → Tells (counted_turns (suc sit.turns) first) passed (q, job)
+    tells q h = tells_then MomentFits (counted_turns sit.turns first) (λ r. counted_turn r.1) sit.passed turn.passed (step.Goes, slot.job) (q, job) sit.tells h
+
+    begins : Begins (counted_turn slot.job) turn.passed → Begins (counted_turns (suc sit.turns) first) passed
+    begins h = begins_then MomentFits (counted_turns sit.turns first) (λ r. counted_turn r.1) sit.passed turn.passed (step.Goes, slot.job) sit.tells h
 
     same_limit : slot.job.limits.statements ≡ sit.deck.limits.statements
     same_limit = ap (λ l. l.statements) sit.limits
@@ -276,6 +327,12 @@ module _ (again : Again) (accounts : List Account) (J : ℕ → Option JobDeck) 
         turn.told.notes ∙ ap (λ (l : List Note). l ++ noted x) sit.notes
         ∙ sym (flat_map-append _ sit.course.asked x)
 
+    goes : st ≡ step.Goes → Tells (counted_turns (suc sit.turns) first) passed (step.Goes, job)
+    goes is = elim turn.ends [
+      | inl h ↦ tells step.Goes (subst (λ (r : Step). Tells (counted_turn slot.job) turn.passed (r, job)) is h.0)
+      | inr h ↦ absurd (let e : step.Goes ≡ step.Ended Memory = sym is ∙ h.0 in cc (e))
+    ]
+
     -- what has been told of it then
     now : (q : Step) → st ≡ q → IsJob accounts (with_seat s (seat q after) slots) (Some sit.deck) (Entered sit.deck ∷ (map Asked (sit.course.asked ++ x) ++ end_entry (told q after)))
     now step.Goes is = inr (inl (record {
@@ -291,28 +348,28 @@ module _ (again : Again) (accounts : List Account) (J : ℕ → Option JobDeck) 
       account = sit.account;
       units = refl;
       turns = suc sit.turns;
-      asks = elim turn.asks [
-        | inl h ↦ tells step.Goes (subst (λ (r : Step). Tells (turn_of slot.job) (exchanges x) (r, job)) is h.0)
-        | inr h ↦ absurd (let e : step.Goes ≡ step.Ended Memory = sym is ∙ h.0 in cc (e))
-      ];
+      asks = asked_alone (suc sit.turns) first (step.Goes, job) passed (exchanges (sit.course.asked ++ x)) asked (goes is);
     }))
     now (step.Ended ending) is = inr (inr (record {
       course = course;
       end = record { number = slot.number; account = slot.account.name; spool = units.spool; notes = units.notes; ending = ending; statements = statements_begun job };
       all = refl;
-      asks = elim turn.asks [
-        | inl h ↦ inl (
-          job,
-          tells_on again first job ending (exchanges (sit.course.asked ++ x)) (h.1 ending is) (suc sit.turns) (suc sit.deck.limits.statements) few
-              (tells (step.Ended ending) (subst (λ (r : Step). Tells (turn_of slot.job) (exchanges x) (r, job)) is h.0)),
-          refl,
-        )
-        | inr h ↦ inr (
-          (let e : step.Ended ending ≡ step.Ended Memory = sym is ∙ h.0 in cc (e)),
-          begins_on first (exchanges (sit.course.asked ++ x)) (suc sit.turns) (suc sit.deck.limits.statements) few (begins h.1),
-          omega (arith, same_limit, h.2),
-        )
-      ];
+      asks = record {
+        passed = passed;
+        asked = asked;
+        counted = counted;
+        ends = elim turn.ends [
+          | inl h ↦ inl (
+            job,
+            tells_on again first job ending passed (h.1 ending is) (suc sit.turns) (suc sit.deck.limits.statements) few
+                (tells (step.Ended ending) (subst (λ (r : Step). Tells (counted_turn slot.job) turn.passed (r, job)) is h.0)),
+          )
+          | inr h ↦ inr (
+            (let e : step.Ended ending ≡ step.Ended Memory = sym is ∙ h.0 in cc (e)),
+            begins_on first passed (suc sit.turns) (suc sit.deck.limits.statements) few (begins h.1),
+          )
+        ];
+      };
       number = sit.number;
       account = ap (λ (a : Account). a.name) sit.account;
       spool = spool;
@@ -372,10 +429,10 @@ module _ (again : Again) (accounts : List Account) (J : ℕ → Option JobDeck) 
           all = append-nil (Entered sit.deck ∷ map Asked (sit.course.asked ++ x));
           turns = suc sit.turns;
           within = within is;
-          asks = elim turn.asks [
-            | inl g ↦ tells step.Goes (subst (λ (r : Step). Tells (turn_of slot.job) (exchanges x) (r, job)) is g.0)
-            | inr g ↦ absurd (let e : step.Goes ≡ step.Ended Memory = sym is ∙ g.0 in cc (e))
-          ];
+          passed = passed;
+          asked = asked;
+          counted = counted;
+          tells = goes is;
           spool = spool;
           notes = notes;
         } in

@@ -1,5 +1,5 @@
 -- A turn of a job, where what may differ is what its account may not see.
-use Rattle.std.proofs.Common.{◌≡◌, ℕ, zero, suc, nat_eq, Bool, true, false, List, [], ◌∷◌, Option, Some, None, refl, ap, sym, ◌∙◌, subst, inl, inr}
+use Rattle.std.proofs.Common.{◌≡◌, ℕ, zero, suc, nat_eq, Bool, true, false, List, [], ◌∷◌, length, Option, Some, None, refl, ap, sym, ◌∙◌, subst, inl, inr}
 use Rattle.std.specs.Prelude.{◌⊎◌, slice_get, slice_set}
 use Rattle.std.specs.List.{IsDistinct}
 use Rattle.std.specs.Map.{keys_of}
@@ -9,16 +9,19 @@ use Rattle.mon_catalogue.specs.Sets.{Sets}
 use Rattle.sno_ask.specs.declared.request.Request.{Request}
 use Rattle.sno_run.specs.declared.ending.Step.{Step}
 use Rattle.sno_run.specs.declared.ending.Step.TheVariants as step
-use Rattle.sno_run.specs.Jobs.{Job, turn_of}
+use Rattle.sno_ask.specs.Counting.{Passed, requests_in, statements_in}
+use Rattle.sno_run.specs.declared.ending.Ending.TheVariants.{Memory}
+use Rattle.sno_run.specs.Jobs.{Job, counted_turn, turn_of}
 use Rattle.mon_unit.specs.State.{UnitState}
 use Rattle.mon_unit.specs.Serving.{Reach, serve}
 use Rattle.mon_unit.specs.Laws.{Same}
-use Rattle.mon_unit.proofs.Runs.{run_alike, run_cut_alike}
+use Rattle.mon_unit.specs.Runs.{run_cut}
+use Rattle.mon_unit.proofs.Runs.{run_alike, run_cut_alike, passed_alike}
 use Rattle.mon_unit.proofs.Looks.{run_keeps_to_ties, cut_keeps_to_ties}
 use Rattle.mon_slots.specs.declared.turned.Turned.{Turned}
 use Rattle.mon_slots.specs.Floors.{SlotState, Floor, seated, seat_at, with_seat, job_in}
 use Rattle.mon_slots.specs.Turns.{reached, ran, after_turn, seat, told}
-use Rattle.mon_slots.specs.Marks.{Mark, may_break, broken_by, ran_as, turn_as_by, turn_as}
+use Rattle.mon_slots.specs.Marks.{Mark, passed_at, exchanges_at, counted, may_break, broken_by, ran_as, turn_as_by, turn_as}
 use Rattle.mon_monitor.specs.Agreeing.{LooksAlike, Both, TiesFit, ReachesAgree, FloorsAgree}
 use Rattle.mon_monitor.specs.Isolation.{TurnsAgree}
 use Rattle.mon_monitor.proofs.Requests.{requests_agree, ties_stay}
@@ -70,11 +73,17 @@ module _ (account : Account) (sets others : Sets) (slot : SlotState) (own : slot
       let whole = run_alike (serve slot.account) (serve slot.account) (Keeps account sets others) each (turn_of slot.job) (reached sets slot) (reached others slot) begin in
       record { step = whole.0; after = whole.1.agree; same = whole.1.same }
 
+  -- the turn over the others, where this has passed of it
+  abbrev broken_with : List Passed → (Step × Job) × Reach
+  broken_with x = ((step.Ended Memory, counted (statements_in x) slot.job), run_cut (serve slot.account) (length (requests_in x)) (turn_of slot.job) (reached others slot))
+
   broken_alike : (b : Bool) (m : Mark) → RanAlike account sets others (broken_by b m slot sets) (broken_by b m slot others)
   broken_alike false m = whole_alike
   broken_alike true m =
-      let left = run_cut_alike (serve slot.account) (serve slot.account) (Keeps account sets others) each m.exchanges (turn_of slot.job) (reached sets slot) (reached others slot) begin in
-      record { step = refl; after = left.agree; same = left.same }
+      let left = run_cut_alike (serve slot.account) (serve slot.account) (Keeps account sets others) each (exchanges_at m slot sets) (turn_of slot.job) (reached sets slot) (reached others slot) begin in
+      let here : RanAlike account sets others (broken_by true m slot sets) (broken_with (passed_at m slot sets)) = record { step = refl; after = left.agree; same = left.same } in
+      subst (λ (x : List Passed). RanAlike account sets others (broken_by true m slot sets) (broken_with x))
+      (passed_alike (serve slot.account) (serve slot.account) (Keeps account sets others) each (suc m.moments) (counted_turn slot.job) (reached sets slot) (reached others slot) begin) here
 
   ran_alike : (m : Option Mark) → RanAlike account sets others (ran_as m slot sets) (ran_as m slot others)
   ran_alike None = whole_alike
@@ -82,7 +91,7 @@ module _ (account : Account) (sets others : Sets) (slot : SlotState) (own : slot
 
 broken_keys : (b : Bool) (m : Mark) (slot : SlotState) (sets : Sets) → keys_of (broken_by b m slot sets).1.sets ≡ keys_of sets
 broken_keys false m slot sets = (run_keeps_to_ties slot.account (reached sets slot) (turn_of slot.job)).names
-broken_keys true m slot sets = (cut_keeps_to_ties slot.account (reached sets slot) m.exchanges (turn_of slot.job)).names
+broken_keys true m slot sets = (cut_keeps_to_ties slot.account (reached sets slot) (exchanges_at m slot sets) (turn_of slot.job)).names
 
 pub ran_as_keys : (m : Option Mark) (slot : SlotState) (sets : Sets) → keys_of (ran_as m slot sets).1.sets ≡ keys_of sets
 ran_as_keys None slot sets = (run_keeps_to_ties slot.account (reached sets slot) (turn_of slot.job)).names

@@ -1,9 +1,12 @@
 -- What the history tells (own): a job's own entries are what its program means, each entry is answered as the data sets stand
 -- then, and what is granted, denied and printed follows. The law `history_tells` says it of all events. Which turns come when,
 -- and that what is asked in one turn stands together, is left to the definition of `history`.
-use Rattle.std.specs.Prelude.{◌≡◌, ◌≢◌, ◌⊎◌, ◌↔◌, ◌==◌, ℕ, ◌≤◌, List, [], ◌∷◌, ◌++◌, map, Option, Some, None, if◌then◌else◌}
+use Rattle.std.specs.Prelude.{◌≡◌, ◌≢◌, ◌⊎◌, ◌↔◌, ◌==◌, ℕ, zero, suc, List, [], ◌∷◌, ◌++◌, map, Option, Some, None, if◌then◌else◌}
 use Rattle.std.specs.List.{AllByRecursion, flat_map}
-use Rattle.sno_ask.specs.Asking.{Asking, Exchange, Tells, Begins}
+use Rattle.sno_talk.specs.Talks.{Ends, ◌>>=◌}
+use Rattle.sno_ask.specs.Asking.{Exchange}
+use Rattle.sno_ask.specs.Asking as asking
+use Rattle.sno_ask.specs.Counting.{Counted, Passed, Tells, Begins, requests_in, statements_in}
 use Rattle.sno_ask.specs.declared.request.Act.{Act}
 use Rattle.sno_ask.specs.declared.request.Act.TheVariants.{Read, Write, Endfile, Rewind}
 use Rattle.mon_answer.specs.declared.answer.Answer.{Answer}
@@ -11,7 +14,7 @@ use Rattle.mon_answer.specs.declared.answer.Answer.TheVariants.{Done, Got, EndOf
 use Rattle.sno_run.specs.declared.ending.Ending.TheVariants.{Memory}
 use Rattle.sno_run.specs.declared.ending.Step.{Step}
 use Rattle.sno_run.specs.declared.ending.Step.TheVariants as step
-use Rattle.sno_run.specs.Jobs.{Job, all_turns, turns_of, first_job, statements_begun}
+use Rattle.sno_run.specs.Jobs.{Job, counted_turn, turns_of, first_job}
 use Rattle.sno_cards.specs.Statements.{statements_of}
 use Rattle.sno_syntax.specs.Programs.{Program}
 use Rattle.mon_access.specs.declared.account.Account.{Account}
@@ -101,12 +104,19 @@ note_by EndOfFile e = []
 abbrev pub noted : List Exchanged → List Note
 noted asked = flat_map (λ e. note_by e.answer e) asked
 
--- A program has asked all that it asks up to its end, and ends so, with as many statements as it has begun; or it ends for want
--- of memory (END MEMORY), at a beginning of what it would ask, with no more statements than its limit.
-abbrev pub EndsSo : Asking (Step × Job) → List Exchange → ℕ → JobEnd → Type 0
-EndsSo talk x most end =
-    ((job : Job) × Tells talk x (step.Ended end.ending, job) × (end.statements ≡ statements_begun job))
-    ⊎ ((end.ending ≡ Memory) × Begins talk x × (end.statements ≤ most))
+-- so many turns of a job, one after another, with the statements that begin
+abbrev pub counted_turns : ℕ → Job → Counted (Step × Job)
+counted_turns zero job = Ends (step.Goes, job)
+counted_turns (suc k) job = counted_turns k job >>= (λ r. counted_turn r.1)
+
+-- What passed of a job: it asked this, as many statements began as it ended with, and it came to its end; or it ended for want
+-- of memory (END MEMORY), at a beginning of all that would have passed.
+pub record EndsSo (first : Job) (x : List Exchange) (end : JobEnd) : Type 0 where
+  pub passed : List Passed
+  pub asked : x ≡ requests_in passed
+  pub counted : end.statements ≡ statements_in passed
+  pub ends : (let all = counted_turns (suc first.limits.statements) first in
+      ((job : Job) × Tells all passed (step.Ended end.ending, job)) ⊎ ((end.ending ≡ Memory) × Begins all passed))
 
 -- a job that was refused: that is all there is of it
 pub record WasRefused (accounts : List Account) (deck : JobDeck) (entries : List Entry) : Type 0 where
@@ -151,7 +161,7 @@ pub record GoesOn (accounts : List Account) (deck : JobDeck) (slots : List (Opti
   pub units : state.units ≡ course.units
   -- It asked all that its program asks in some number of turns, and goes on from there.
   pub turns : ℕ
-  pub asks : Tells (turns_of turns (job_in_cards accounts deck course)) (exchanges course.asked) (step.Goes, state.job)
+  pub asks : asking.Tells (turns_of turns (job_in_cards accounts deck course)) (exchanges course.asked) (step.Goes, state.job)
 
 -- It has ended: it has asked all that its program asks up to its end, and nothing else, or where memory broke it off a
 -- beginning of that; and what it prints is what these exchanges spooled and noted, and how it ended.
@@ -161,7 +171,7 @@ pub record HasEnded (accounts : List Account) (deck : JobDeck) (entries : List E
   pub end : JobEnd
   pub all : entries ≡ Entered deck ∷ (map Asked course.asked ++ Ended end ∷ [])
   -- It asked, and ended, as its whole program means.
-  pub asks : EndsSo (all_turns (job_in_cards accounts deck course)) (exchanges course.asked) deck.limits.statements end
+  pub asks : EndsSo (job_in_cards accounts deck course) (exchanges course.asked) end
   -- It prints under its number and its account's name,
   pub number : end.number ≡ deck.number
   pub account : end.account ≡ course.account.name

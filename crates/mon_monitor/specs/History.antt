@@ -21,7 +21,7 @@ use Rattle.mon_slots.specs.declared.turned.Turned.{Turned}
 use Rattle.mon_slots.specs.declared.turned.Turned.TheVariants as turn
 use Rattle.mon_slots.specs.Floors.{SlotState, Floor, job_in}
 use Rattle.mon_slots.specs.Turns.{reached, only}
-use Rattle.mon_slots.specs.Marks.{Mark, Marks, mark_of, later, may_break, turn_as, never, rounds, turns_left, is_done, has_room, room}
+use Rattle.mon_slots.specs.Marks.{Mark, Marks, mark_of, later, exchanges_at, may_break, turn_as, never, rounds, turns_left, is_done, has_room, room}
 use Rattle.mon_monitor.specs.Worlds.{World, with_floor}
 use Rattle.mon_monitor.specs.Events.{Event, Serve, Load, Give, Drain}
 use Rattle.mon_monitor.specs.Papers.{Paper, OfCommand, OfJob, OfRefused}
@@ -62,7 +62,7 @@ whole_turn slot sets = asked_by slot.number slot.account (turn_of slot.job) (rea
 -- so much of it as was answered, where memory broke the turn off
 abbrev pub broken_turn : Bool → Mark → SlotState → Sets → List Exchanged
 broken_turn false m slot sets = whole_turn slot sets
-broken_turn true m slot sets = take m.exchanges (whole_turn slot sets)
+broken_turn true m slot sets = take (exchanges_at m slot sets) (whole_turn slot sets)
 
 -- what is asked in a turn of a slot, with a mark where memory may break it off: nothing, where no job sits there
 abbrev pub asked_in : Option Mark → Option SlotState → Sets → List Exchanged

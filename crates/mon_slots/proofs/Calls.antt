@@ -1,23 +1,25 @@
 -- What the calls do is what the definitions say.
-use Rattle.std.proofs.Common.{◌≡◌, ℕ, zero, suc, ◌+◌, ◌-◌, ◌<◌, ◌≤◌, Bool, true, List, [], ◌∷◌, length, Option, Some, None, refl, ap, sym, ◌∙◌, subst, inl, inr, arith}
-use Rattle.std.specs.Prelude.{◌⊎◌, ◌&&◌, min, option_map, is_some, is_none, IsSome, IfSome, slice_get, slice_set, slice_index_or}
+use Rattle.std.proofs.Common.{◌≡◌, ℕ, zero, suc, ◌+◌, ◌<◌, ◌≤◌, Bool, true, List, [], ◌∷◌, length, Option, Some, None, refl, ap, sym, ◌∙◌, subst, inl, inr, arith}
+use Rattle.std.specs.Prelude.{◌⊎◌, ◌&&◌, option_map, is_some, is_none, IsSome, IfSome, slice_get, slice_set, slice_index_or}
 use Rattle.std.proofs.lemmas.Option.{slice_get_read}
 use Rattle.sno_talk.specs.Exchanges.{Answered}
-use Rattle.sno_ask.specs.Asking.{Exchange, Begins}
+use Rattle.sno_ask.specs.Asking.{Exchange}
+use Rattle.sno_ask.specs.Counting.{Passed, requests_in, statements_in}
+use Rattle.sno_ask.specs.Counting as counting
 use Rattle.sno_ask.proofs.Counting.{plain_begun}
 use Rattle.sno_run.specs.declared.ending.Step.{Step}
 use Rattle.sno_run.specs.declared.ending.Step.TheVariants as step
 use Rattle.sno_run.specs.declared.ending.Ending.TheVariants.{Memory}
 use Rattle.sno_store.specs.States.{may_begin}
 use Rattle.sno_run.specs.declared.ending.Ending.{Ending}
-use Rattle.sno_run.specs.Jobs.{Job, counted_turn, turn_of, TurnIs, MayBegin, statements_begun, statement_at}
+use Rattle.sno_run.specs.Jobs.{Job, counted_turn, turn_of, Broken, TurnIs, MayBegin, statements_begun, statement_at}
 use Rattle.mon_access.specs.declared.account.Account.{Account}
 use Rattle.mon_catalogue.specs.Sets.{Sets}
 use Rattle.mon_unit.specs.declared.service.UnitService.{UnitService}
-use Rattle.mon_unit.specs.Runs.{run, run_cut}
+use Rattle.mon_unit.specs.Runs.{run, run_cut, passed}
 use Rattle.mon_unit.specs.Serving.{Reach, serve}
 use Rattle.mon_unit.specs.Lent.{UnitAnswers, reach_of}
-use Rattle.mon_unit.proofs.Loans.{served_run, served_cut}
+use Rattle.mon_unit.proofs.Loans.{served_run, served_cut, served_passed}
 use Rattle.mon_job.specs.declared.job_end.JobEnd.{JobEnd}
 use Rattle.mon_slots.specs.declared.slot.Slot.{Slot}
 use Rattle.mon_slots.specs.declared.turned.Turned.{Turned}
@@ -25,7 +27,7 @@ use Rattle.mon_slots.specs.declared.turned.Turned.TheVariants.{Empty, Goes, Ende
 use Rattle.mon_slots.specs.Told.{seat_of, seats_of}
 use Rattle.mon_slots.specs.Floors.{SlotState, Floor, floor, seated, seat_at, with_seat, job_in}
 use Rattle.mon_slots.specs.Turns.{reached, after_turn, job_end, seat, told, turned}
-use Rattle.mon_slots.specs.Marks.{Mark, counted, may_break, broken_by, ran_as, turn_as_by, turn_as}
+use Rattle.mon_slots.specs.Marks.{Mark, passed_at, counted, may_break, broken_by, ran_as, turn_as_by, turn_as}
 use Rattle.mon_slots.specs.Turning.{TurnOr, ended_in}
 use Rattle.mon_slots.specs.inner.Stepping.{BrokenOff, Stepped, SeatStep, Leaving, StepOr, one_in, jobs_in}
 use Rattle.mon_slots.proofs.Seats.{set_get, get_set, set_set, map_get, map_set}
@@ -43,33 +45,39 @@ may_break_is job none may =
 
 -- what a turn that was broken off leaves
 pub record Cut (a : Account) (job : Job) (s : UnitService) (st : Step) (job' : Job) (s' : UnitService) : Type 0 where
-  pub exchanges : ℕ
+  pub moments : ℕ
   pub started : may_break job ≡ true
-  pub begun : (statements_begun job < statements_begun job') × (statements_begun job' ≤ job.limits.statements)
+  pub counted : statements_begun job' ≡ statements_begun job + statements_in (passed (serve a) (suc moments) (counted_turn job) (reach_of s))
   pub memory : st ≡ step.Ended Memory
-  pub left : run_cut (serve a) exchanges (turn_of job) (reach_of s) ≡ reach_of s'
+  pub left : run_cut (serve a) (length (requests_in (passed (serve a) (suc moments) (counted_turn job) (reach_of s)))) (turn_of job) (reach_of s) ≡ reach_of s'
+
+-- it had passed some moments, of which the first was the beginning of its statement
+cut_of : (a : Account) (job : Job) (s : UnitService) (x : List Exchange) (s' : UnitService) (st : Step) (job' : Job) → s.account.now ≡ a
+    → Answered UnitAnswers s x s' → (b : Broken job x st job') → (all : List Passed) → b.broken.passed ≡ all → Cut a job s st job' s'
+cut_of a job s x s' st job' is h b [] none =
+    let before = b.begun.0 in
+    let count = b.broken.counted ∙ ap (λ (l : List Passed). statements_begun job + statements_in l) none in
+    absurd (omega (arith, before, count))
+cut_of a job s x s' st job' is h b (m ∷ more) some =
+    let all : List Passed = m ∷ more in
+    let begins : counting.Begins (counted_turn job) all = subst (λ (l : List Passed). counting.Begins (counted_turn job) l) some b.broken.begins in
+    let answered : Answered UnitAnswers s (requests_in all) s' = subst (λ (y : List Exchange). Answered UnitAnswers s y s') (b.broken.asked ∙ ap requests_in some) h in
+    let same : passed (serve a) (suc (length more)) (counted_turn job) (reach_of s) ≡ all = served_passed a (counted_turn job) s all s' is answered begins in
+    record {
+      moments = length more;
+      started = may_break_is job b.going b.started;
+      counted = b.broken.counted ∙ ap (λ (l : List Passed). statements_begun job + statements_in l) (some ∙ sym same);
+      memory = b.memory;
+      left = ap (λ (l : List Passed). run_cut (serve a) (length (requests_in l)) (turn_of job) (reach_of s)) same
+          ∙ served_cut a (turn_of job) s (requests_in all) s' is answered (plain_begun (counted_turn job) all begins);
+    }
 
 -- a turn with who is lent the sets is that of the definitions, or was broken off
 pub turn_done : (a : Account) (job : Job) (s : UnitService) (x : List Exchange) (s' : UnitService) (st : Step) (job' : Job) → s.account.now ≡ a
     → Answered UnitAnswers s x s' → TurnIs job x st job'
     → (run (serve a) (turn_of job) (reach_of s) ≡ ((st, job'), reach_of s')) ⊎ Cut a job s st job' s'
 turn_done a job s x s' st job' is h (inl t) = inl (served_run a (turn_of job) s x (st, job') s' is h t)
-turn_done a job s x s' st job' is h (inr b) = inr (record {
-  exchanges = length x;
-  started = may_break_is job b.going b.started;
-  begun = b.begun;
-  memory = b.memory;
-  left = served_cut a (turn_of job) s x s' is h (subst (λ (y : List Exchange). Begins (turn_of job) y) (sym b.broken.asked) (plain_begun (counted_turn job) b.broken.passed b.broken.begins));
-})
-
--- how many statements had begun
-at_most : (n limit : ℕ) → n ≤ limit → min n limit ≡ n
-at_most n limit h = omega (arith, h)
-
-count_is : (before after limit : ℕ) → before < after → after ≤ limit → min (suc (before + (after - suc before))) limit ≡ after
-count_is before after limit h g =
-    let e : suc (before + (after - suc before)) ≡ after = omega (arith, h) in
-    ap (λ (n : ℕ). min n limit) e ∙ at_most after limit g
+turn_done a job s x s' st job' is h (inr b) = inr (cut_of a job s x s' st job' is h b b.broken.passed refl)
 
 -- the seat is there that a job is in
 module _ (s : ℕ) (sets sets' : Sets) (slots : List (Option SlotState)) (slot slot' : SlotState) (is : seat_at s slots ≡ Some slot) where
@@ -90,17 +98,17 @@ module _ (s : ℕ) (sets sets' : Sets) (slots : List (Option SlotState)) (slot s
                 ∙ ap (λ (x : SlotState). let p : Turned × Floor = (told st x, floor sets' (with_seat s (seat st x) slots)) in p) who;
           }
       by (inr b) =
-          let m : Mark = record { exchanges = b.exchanges; nested = statements_begun slot'.job - suc (statements_begun slot.job) } in
+          let m : Mark = b.mark in
+          let more : ℕ = statements_in (passed_at m slot sets) in
           let none : List (Option SlotState) = with_seat s None slots in
           let end : ℕ → List ℕ → ℕ → Turned × Floor = λ n a c. (let e : JobEnd = record { number = n; account = a; spool = slot'.units.spool; notes = slot'.units.notes; ending = Memory; statements = c } in let p : Turned × Floor = (Ended e, floor sets' none) in p) in
-          let count = count_is (statements_begun slot.job) (statements_begun slot'.job) slot.job.limits.statements b.begun.0 b.begun.1 in
           let one : turn_as (Some m) s (floor sets slots) ≡ (told (step.Ended Memory) slot', floor sets' (with_seat s (seat (step.Ended Memory) slot') slots)) =
           ap (λ (o : Option SlotState). turn_as_by (Some m) s o (floor sets slots)) is
           ∙ ap (λ (t : Bool). turned s (broken_by t m slot sets) slot (floor sets slots)) b.started
-          ∙ ap (λ (v : Reach). turned s ((step.Ended Memory, counted m.nested slot.job), v) slot (floor sets slots)) b.left
-          ∙ ap (λ (n : ℕ). end n slot.account.name (statements_begun (counted m.nested slot.job))) (sym h.number)
-          ∙ ap (λ (a : Account). end slot'.number a.name (statements_begun (counted m.nested slot.job))) (sym h.account)
-          ∙ ap (λ (n : ℕ). end slot'.number slot'.account.name n) count in
+          ∙ ap (λ (v : Reach). turned s ((step.Ended Memory, counted more slot.job), v) slot (floor sets slots)) b.left
+          ∙ ap (λ (n : ℕ). end n slot.account.name (statements_begun (counted more slot.job))) (sym h.number)
+          ∙ ap (λ (a : Account). end slot'.number a.name (statements_begun (counted more slot.job))) (sym h.account)
+          ∙ ap (λ (n : ℕ). end slot'.number slot'.account.name n) (sym b.counted) in
           subst (λ (k : Step). TurnOr s (floor sets slots) (told k slot') (floor sets' (with_seat s (seat k slot') slots))) (sym b.memory) (record { mark = Some m; is = one })
 
 pub empty_turn : (s : ℕ) (w : Floor) → job_in s w ≡ None → TurnOr s w Empty w

@@ -1,6 +1,8 @@
 pub mod Seats
 pub mod Seating
 pub mod Begun
+pub mod Growing
+pub mod Tallying
 pub mod Past
 pub mod Rounding
 pub mod Giving
@@ -8,3 +10,4 @@ pub mod Calls
 pub mod Loads
 mod Shared
 mod Apart
+mod Carding

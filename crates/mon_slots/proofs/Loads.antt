@@ -1,6 +1,6 @@
 -- What is loaded, and what is refused.
 use Rattle.std.proofs.Common.{◌≡◌, ℕ, suc, ◌+◌, ◌<◌, List, [], ◌∷◌, length, Option, Some, None, Result, Ok, Err, refl, ap, sym, ◌∙◌, subst, arith}
-use Rattle.std.specs.Prelude.{option_map, is_none, position, slice_set}
+use Rattle.std.specs.Prelude.{option_map, is_some, is_none, position, slice_set, IsSome}
 use Rattle.std.specs.List.{position_from}
 use Rattle.std.proofs.lemmas.Iterator.Adapters.{position_from-zero}
 use Rattle.std.proofs.lemmas.List.Quantifiers.{position-Some}
@@ -10,11 +10,13 @@ use Rattle.mon_text.specs.declared.stop.Stop.TheVariants.{Refused, Memory}
 use Rattle.sno_cards.specs.Answers.{IfRefused}
 use Rattle.sno_cards.specs.declared.refusal.SyntaxError.{SyntaxError}
 use Rattle.sno_cards.specs.Programs.{ProgramText}
+use Rattle.sno_cards.specs.Statements.{statements_of}
 use Rattle.sno_syntax.specs.Programs.{Program}
 use Rattle.sno_syntax.proofs.Readable.{reads_programs}
 use Rattle.sno_syntax.proofs.Wholes.{not_refused}
 use Rattle.sno_run.specs.Jobs.{Job, first_job}
 use Rattle.mon_access.specs.declared.account.Account.{Account}
+use Rattle.mon_access.specs.Accounts.{find_account}
 use Rattle.mon_unit.specs.declared.units.UnitError.{UnitError}
 use Rattle.mon_unit.specs.State.{UnitState}
 use Rattle.mon_job.specs.declared.deck.JobDeck.{JobDeck}
@@ -23,7 +25,7 @@ use Rattle.mon_job.specs.declared.refusal.LoadError.TheVariants.{NoSlot, Cards, 
 use Rattle.mon_slots.specs.declared.slot.Slot.{Slot}
 use Rattle.mon_slots.specs.Floors.{SlotState, with_seat, free_from, first_free}
 use Rattle.mon_slots.specs.Told.{slot_of, seat_of, seats_of}
-use Rattle.mon_slots.specs.Loads.{first_units, with_ties, program_refusal, program_in, slot_refusal, account_refusal, deck_refusal, slot_by, slot_in, loaded_by, loaded}
+use Rattle.mon_slots.specs.Loads.{first_units, with_ties, ties_refusal, program_refusal, program_in, slot_refusal, account_refusal, deck_refusal, slot_by, slot_in, loaded_by, loaded}
 use Rattle.mon_slots.specs.inner.Spelling.{IsSpelled}
 use Rattle.mon_slots.proofs.Seats.{map_set}
 
@@ -31,7 +33,7 @@ spelled_in : (said : Result ProgramText SyntaxError) (p : Program) → IsSpelled
 spelled_in (Ok cards) p a = reads_programs cards p a
 spelled_in (Err refusal) p a = absurd a
 
-spelled_clean : (said : Result ProgramText SyntaxError) (p : Program) → IsSpelled said p → program_refusal said ≡ None
+pub spelled_clean : (said : Result ProgramText SyntaxError) (p : Program) → IsSpelled said p → program_refusal said ≡ None
 spelled_clean (Ok cards) p a = ap (option_map Syntax) (not_refused cards p a)
 spelled_clean (Err refusal) p a = absurd a
 
@@ -46,12 +48,19 @@ slot_made deck found account said p units job f a u j =
     ∙ ap (λ (x : UnitState). Some (held deck account (first_job p deck.limits) x)) (sym u)
     ∙ ap (λ (x : Job). Some (held deck account x units)) (sym j)
 
-pub deck_clean : (found : Option Account) (account : Account) (ties : Option UnitError) (said : Result ProgramText SyntaxError) (p : Program)
-    → found ≡ Some account → ties ≡ None → IsSpelled said p
-    → option_or (account_refusal found) (option_or (option_map Cards ties) (program_refusal said)) ≡ None
-deck_clean found account ties said p f t a =
-    ap (λ o. option_or (account_refusal o) (option_or (option_map Cards ties) (program_refusal said))) f
-    ∙ ap (λ (o : Option UnitError). option_or (option_map Cards o) (program_refusal said)) t ∙ spelled_clean said p a
+-- where there is an account and the unit cards are good, a deck is refused for its program alone
+pub deck_refused_by : (accounts : List Account) (deck : JobDeck) (account : Account) (said : Option LoadError)
+    → find_account accounts deck.account ≡ Some account → ties_refusal deck.ties (first_units deck.lines) ≡ None → program_refusal (statements_of deck.lines) ≡ said
+    → deck_refusal accounts deck ≡ said
+deck_refused_by accounts deck account said f t p =
+    ap (λ o. option_or (account_refusal o) (option_or (option_map Cards (ties_refusal deck.ties (first_units deck.lines))) (program_refusal (statements_of deck.lines)))) f
+    ∙ ap (λ (o : Option UnitError). option_or (option_map Cards o) (program_refusal (statements_of deck.lines))) t ∙ p
+
+pub stop_refused_by : (accounts : List Account) (deck : JobDeck) (account : Account) (stop : Stop LoadError)
+    → find_account accounts deck.account ≡ Some account → ties_refusal deck.ties (first_units deck.lines) ≡ None
+    → IfRefused (λ refusal. program_refusal (statements_of deck.lines) ≡ Some refusal) stop → IfRefused (λ refusal. deck_refusal accounts deck ≡ Some refusal) stop
+stop_refused_by accounts deck account (Refused refusal) f t p = deck_refused_by accounts deck account (Some refusal) f t p
+stop_refused_by accounts deck account Memory f t p = tt
 
 -- SEATS
 
@@ -65,6 +74,10 @@ free_at n (Some x ∷ slots) =
 -- the lowest free slot is the first empty one
 pub free_is : (slots : List (Option Slot)) → first_free (seats_of slots) ≡ option_map suc (position (λ seat. is_none seat) slots)
 free_is slots = free_at 0 slots ∙ ap (option_map suc) (sym (position_from-zero (λ seat. is_none seat) slots))
+
+-- a slot is free where one has the lowest number
+pub free_some : (slots : List (Option SlotState)) (n : ℕ) → first_free slots ≡ Some n → IsSome (first_free slots)
+free_some slots n is = ap is_some is
 
 pub within : (slots : List (Option Slot)) (i : ℕ) → position (λ seat. is_none seat) slots ≡ Some i → i < length slots
 within slots i e = (position-Some (λ seat. is_none seat) slots i None e).0
@@ -86,6 +99,10 @@ pub deck_loaded : (accounts : List Account) (deck : JobDeck) (slots : List (Opti
 deck_loaded accounts deck slots n slot e d s =
     ap (λ o. loaded_by (option_or (slot_refusal o) (deck_refusal accounts deck)) o (slot_in accounts deck) slots) e
     ∙ ap (λ o. loaded_by o (Some n) (slot_in accounts deck) slots) d ∙ ap (λ o. loaded_by None (Some n) o slots) s
+
+-- what `?` hands on is the stop that was there
+pub stopped_for : {X : Type 0} (r : Result X (Stop LoadError)) (s t u : Stop LoadError) → r ≡ Err s → s ≡ t → r ≡ Err u → t ≡ u
+stopped_for r s t u is same h = cc
 
 pub stop_refused : (accounts : List Account) (deck : JobDeck) (slots : List (Option SlotState)) (n : ℕ) (stop : Stop LoadError)
     → first_free slots ≡ Some n → IfRefused (λ refusal. deck_refusal accounts deck ≡ Some refusal) stop

@@ -5,5 +5,6 @@ pub mod Marks
 pub mod Rounds
 pub mod Turning
 pub mod Loads
+pub mod Memory
 pub mod Ties
 pub mod inner

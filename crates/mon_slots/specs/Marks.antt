@@ -1,12 +1,13 @@
 -- What turns do where memory may break some off, and rounds of turns (own).
-use Rattle.std.specs.Prelude.{ℕ, zero, suc, ◌-◌, ◌+◌, Bool, true, false, List, [], ◌∷◌, ◌++◌, length, min, ◌&&◌, if◌then◌else◌, Option, Some, None, is_some, is_none}
+use Rattle.std.specs.Prelude.{ℕ, zero, suc, ◌-◌, ◌+◌, Bool, true, false, List, [], ◌∷◌, ◌++◌, length, ◌&&◌, if◌then◌else◌, Option, Some, None, is_some, is_none}
 use Rattle.mon_catalogue.specs.Sets.{Sets}
 use Rattle.sno_run.specs.declared.ending.Step.{Step}
 use Rattle.sno_run.specs.declared.ending.Step.TheVariants as step
 use Rattle.sno_run.specs.declared.ending.Ending.TheVariants.{Memory}
 use Rattle.sno_store.specs.States.{may_begin}
-use Rattle.sno_run.specs.Jobs.{Job, turn_of, statements_begun, statement_at}
-use Rattle.mon_unit.specs.Runs.{run_cut}
+use Rattle.sno_ask.specs.Counting.{Passed, requests_in, statements_in}
+use Rattle.sno_run.specs.Jobs.{Job, counted_turn, turn_of, statements_begun, statement_at}
+use Rattle.mon_unit.specs.Runs.{run_cut, passed}
 use Rattle.mon_unit.specs.Serving.{Reach, serve}
 use Rattle.mon_job.specs.declared.job_end.JobEnd.{JobEnd}
 use Rattle.mon_slots.specs.declared.turned.Turned.{Turned}
@@ -14,10 +15,9 @@ use Rattle.mon_slots.specs.declared.turned.Turned.TheVariants.{Empty}
 use Rattle.mon_slots.specs.Floors.{SlotState, Floor, job_in, all_empty, first_free}
 use Rattle.mon_slots.specs.Turns.{reached, ran, turned, ends_by}
 
--- where memory breaks a turn off: after how many exchanges, and how many statements its calls had begun
+-- where memory breaks a turn off: behind its first moment, in which its own statement begins, and so many more
 pub record Mark : Type 0 where
-  pub exchanges : ℕ
-  pub nested : ℕ
+  pub moments : ℕ
 
 -- for each turn, where memory breaks it off, if it does; no turn beyond the list is broken off
 abbrev pub Marks : Type 0
@@ -31,10 +31,17 @@ abbrev pub later : Marks → Marks
 later [] = []
 later (m ∷ marks) = marks
 
--- the turn's own statement has begun, and so many more; never more than may
+-- what has passed of a turn there: the statements that have begun, and what was asked
+abbrev pub passed_at : Mark → SlotState → Sets → List Passed
+passed_at m slot sets = passed (serve slot.account) (suc m.moments) (counted_turn slot.job) (reached sets slot)
+
+-- how many exchanges that are
+abbrev pub exchanges_at : Mark → SlotState → Sets → ℕ
+exchanges_at m slot sets = length (requests_in (passed_at m slot sets))
+
+-- a job of which so many more statements have begun
 abbrev pub counted : ℕ → Job → Job
-counted n job =
-    record job { state = record (job.state) { keywords = record (job.state.keywords) { begun = min (suc (statements_begun job + n)) job.limits.statements } } }
+counted n job = record job { state = record (job.state) { keywords = record (job.state.keywords) { begun = statements_begun job + n } } }
 
 -- a turn takes memory only where it begins a statement
 abbrev pub may_break : Job → Bool
@@ -43,9 +50,9 @@ may_break job = is_none job.ended && (is_some (statement_at job.point job.progra
 abbrev pub broken_by : Bool → Mark → SlotState → Sets → (Step × Job) × Reach
 broken_by false m slot sets = ran slot sets
 broken_by true m slot sets =
-    ((step.Ended Memory, counted m.nested slot.job), run_cut (serve slot.account) m.exchanges (turn_of slot.job) (reached sets slot))
+    ((step.Ended Memory, counted (statements_in (passed_at m slot sets)) slot.job), run_cut (serve slot.account) (exchanges_at m slot sets) (turn_of slot.job) (reached sets slot))
 
--- one turn of a job; where it is broken off, its exchanges stand and the job has ended
+-- one turn of a job; where it is broken off, what has passed stands and the job has ended
 abbrev pub ran_as : Option Mark → SlotState → Sets → (Step × Job) × Reach
 ran_as None slot sets = ran slot sets
 ran_as (Some m) slot sets = broken_by (may_break slot.job) m slot sets

@@ -3,3 +3,4 @@ pub mod Stepping
 pub mod Rounding
 pub mod Spelling
 pub mod Sharing
+pub mod Carding

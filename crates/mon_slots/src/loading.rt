@@ -1,50 +1,80 @@
 //! From a job's deck to what its slot holds.
-ghost use Rattle.std.specs.Prelude.{◌≡◌, drop, option_map, Some, None, IfOk, IfErr, OnOk};
-ghost use Rattle.std.specs.Option.{option_or};
-ghost use Rattle.std.specs.Result.{result_err};
+ghost use Rattle.std.specs.Prelude.{◌≡◌, ◌<◌, ℕ, List, drop, length, option_map, Some, None, Ok, IfOk, IfErr, IsOk, IsErrOf, OnOk};
 ghost use Rattle.mon_access.specs.Accounts.{find_account};
 ghost use Rattle.sno_cards.specs.Answers.{IfRefused};
 ghost use Rattle.sno_cards.specs.Statements.{statements_of};
-ghost use Rattle.sno_syntax.specs.Programs.{program_of};
+ghost use Rattle.sno_syntax.specs.Refusals.{syntax_refusal};
+ghost use Rattle.sno_syntax.specs.Programs.{program_of, IsProgram};
 ghost use Rattle.mon_unit.specs.Tying.{new_units};
 ghost use Rattle.mon_slots.specs.Told.{slot_of};
-ghost use Rattle.mon_slots.specs.Loads.{data_of, first_units, with_ties, ties_refusal, program_refusal, account_refusal, deck_refusal, slot_in};
+ghost use Rattle.mon_slots.specs.Loads.{first_units, with_ties, ties_refusal, program_refusal, program_in, deck_refusal, slot_by, slot_in};
+ghost use Rattle.mon_slots.specs.Memory.{DeckMayGrow};
 ghost use Rattle.mon_slots.specs.inner.Spelling.{IsSpelled};
+ghost use Rattle.mon_slots.specs.inner.Carding.{refused_by};
 
 use crate::slot::Slot;
 use mon_access::{Account, Accounts};
 use mon_job::{JobDeck, LoadError, UnitCard, UnitCards};
-use mon_text::{Line, Name, Stop};
+use mon_text::{Line, Stop};
 use mon_unit::{Lines, UnitError, Units};
 use sno_run::Job;
-use sno_syntax::{Program, ProgramCards, SyntaxError, parse, statements};
+use sno_syntax::{Program, ProgramCards, parse, statements};
 use std::alloc::{AllocError, Global};
 
-// A copy of the account of this name.
-fn account_of(alloc: Global, accounts: &Accounts, name: &Name) -> Result<Account, Stop<LoadError>>
-    ensures account { IfOk result (λ account. find_account accounts.now name.now ≡ Some account) }
-    ensures refused { IfErr result (IfRefused (λ refusal. account_refusal (find_account accounts.now name.now) ≡ Some refusal)) }
+// Why a unit can't be tied, if it can't, by which are tied already.
+fn tie_refused(tied: &[bool], unit: u64) -> Option<UnitError>
+    requires { length tied.now ≡ 100 }
+    ensures refusal { result ≡ refused_by unit tied.now }
+    ensures within { result ≡ None → unit < 100 }
 {
-    match accounts.find(name) {
-        Some(account) => {
-            let account = account.copy(alloc)?;
-            Ok(account)
+    if unit == 0 || unit > 99 {
+        return Some(UnitError::UnitRange(unit));
+    }
+    if tied[unit as usize] {
+        return Some(UnitError::UnitTwice(unit));
+    }
+    None
+}
+
+// Why unit cards are refused, if they are: the first that ties a unit that there is not, or one that another tied. It takes no
+// memory.
+fn ties_refused(cards: &[UnitCard]) -> Option<UnitError>
+    ensures { (lines : List (List ℕ)) → result ≡ ties_refusal cards.now (first_units lines) }
+{
+    let mut tied = [false; 100];
+    for card in cards {
+        if let Some(refusal) = tie_refused(&tied, card.unit) {
+            return Some(refusal);
         }
-        None => Err(Stop::Refused(LoadError::NoAccount)),
+        tied[card.unit as usize] = true;
+    }
+    None
+}
+
+// The account of a job whose unit cards are not refused. It takes no memory.
+fn account_of<'a>(accounts: &'a Accounts, deck: &JobDeck) -> Result<&'a Account, LoadError>
+    ensures account { IfOk result (λ account. find_account accounts.now deck.now.account ≡ Some account.now) }
+    ensures clean { OnOk result (ties_refusal deck.now.ties (first_units deck.now.lines) ≡ None) }
+    ensures refused { IfErr result (λ refusal. deck_refusal accounts.now deck.now ≡ Some refusal) }
+{
+    let Some(account) = accounts.find(&deck.account) else {
+        return Err(LoadError::NoAccount);
+    };
+    match ties_refused(deck.ties.as_slice()) {
+        Some(refusal) => Err(LoadError::Cards(refusal)),
+        None => Ok(account),
     }
 }
 
-// The cards of the program, or why they are refused.
-fn cards_of(
-    alloc: Global,
-    lines: &Lines,
-) -> Result<Result<ProgramCards, SyntaxError>, Stop<LoadError>>
-    ensures cards { IfOk result (λ cards. statements_of lines.now ≡ cards) }
-    ensures memory { IfErr result (IfRefused (λ refusal. ⊥)) }
+// The cards of the program. A refusal of theirs takes no memory.
+fn cards_of(alloc: Global, lines: &Lines) -> Result<ProgramCards, Stop<LoadError>>
+    ensures cards { IfOk result (λ cards. statements_of lines.now ≡ Ok cards) }
+    ensures refused { IfErr result (IfRefused (λ refusal. program_refusal (statements_of lines.now) ≡ Some refusal)) }
+    ensures memory { IsErrOf result Stop.Memory → IsOk (statements_of lines.now) }
 {
     match statements(alloc, lines.as_slice()) {
-        Ok(cards) => Ok(Ok(cards)),
-        Err(Stop::Refused(refusal)) => Ok(Err(refusal)),
+        Ok(cards) => Ok(cards),
+        Err(Stop::Refused(refusal)) => Err(Stop::Refused(LoadError::Syntax(refusal))),
         Err(Stop::Memory) => Err(Stop::Memory),
     }
 }
@@ -70,59 +100,35 @@ fn copied_from(alloc: Global, lines: &[Line], from: usize) -> Result<Lines, Allo
     }
 }
 
-// A copy of the job's data.
-fn data_of(
-    alloc: Global,
-    lines: &Lines,
-    cards: &Result<ProgramCards, SyntaxError>,
-) -> Result<Lines, AllocError>
-    ensures { IfOk result (λ copied. copied ≡ data_of lines.now cards.now) }
-{
-    match cards {
-        Ok(cards) => copied_from(alloc, lines.as_slice(), cards.data_from()),
-        Err(_) => Ok(Lines::new(alloc)),
-    }
-}
-
 // Ties the units, card by card.
-fn tie_all(units: &mut Units, cards: &[UnitCard]) -> Result<(), UnitError>
-    ensures refused { result_err result ≡ ties_refusal cards.now units.old }
-    ensures tied { OnOk result (units.new ≡ with_ties cards.now units.old) }
+fn tie_all(units: &mut Units, cards: &[UnitCard])
+    requires { ties_refusal cards.now units.old ≡ None }
+    ensures { units.new ≡ with_ties cards.now units.old }
 {
     for card in cards {
-        units.tie(card.unit, card.set.copy())?;
+        units.tie(card.unit, card.set.copy()).unwrap();
     }
-    Ok(())
 }
 
 // The units that the cards tie.
-fn tied(alloc: Global, lines: Lines, ties: &UnitCards) -> Result<Units, Stop<LoadError>>
-    ensures units { IfOk result (λ units. units ≡ with_ties ties.now (new_units lines)) }
-    ensures clean { OnOk result (ties_refusal ties.now (new_units lines) ≡ None) }
-    ensures refused { IfErr result (IfRefused (λ refusal. option_map LoadError.Cards (ties_refusal ties.now (new_units lines)) ≡ Some refusal)) }
+fn tied(alloc: Global, lines: Lines, ties: &UnitCards) -> Result<Units, AllocError>
+    requires { ties_refusal ties.now (new_units lines) ≡ None }
+    ensures { IfOk result (λ units. units ≡ with_ties ties.now (new_units lines)) }
 {
     let mut units = Units::new(alloc, lines)?;
-    match tie_all(&mut units, ties.as_slice()) {
-        Ok(()) => Ok(units),
-        Err(refusal) => Err(Stop::Refused(LoadError::Cards(refusal))),
-    }
+    tie_all(&mut units, ties.as_slice());
+    Ok(units)
 }
 
 // The program that the cards spell.
-fn program_of(
-    alloc: Global,
-    cards: Result<ProgramCards, SyntaxError>,
-) -> Result<Program, Stop<LoadError>>
-    ensures program { IfOk result (λ program. IsSpelled cards (program_of program)) }
-    ensures refused { IfErr result (IfRefused (λ refusal. program_refusal cards ≡ Some refusal)) }
+fn program_of(alloc: Global, cards: &ProgramCards) -> Result<Program, Stop<LoadError>>
+    ensures program { IfOk result (λ program. IsProgram cards.now (program_of program)) }
+    ensures refused { IfErr result (IfRefused (λ refusal. option_map LoadError.Syntax (syntax_refusal cards.now) ≡ Some refusal)) }
 {
-    match cards {
-        Ok(cards) => match parse(alloc, &cards) {
-            Ok(program) => Ok(program),
-            Err(Stop::Refused(refusal)) => Err(Stop::Refused(LoadError::Syntax(refusal))),
-            Err(Stop::Memory) => Err(Stop::Memory),
-        },
-        Err(refusal) => Err(Stop::Refused(LoadError::Syntax(refusal))),
+    match parse(alloc, cards) {
+        Ok(program) => Ok(program),
+        Err(Stop::Refused(refusal)) => Err(Stop::Refused(LoadError::Syntax(refusal))),
+        Err(Stop::Memory) => Err(Stop::Memory),
     }
 }
 
@@ -134,16 +140,40 @@ struct Parts {
 }
 
 fn parts_of(alloc: Global, lines: &Lines, ties: &UnitCards) -> Result<Parts, Stop<LoadError>>
+    requires { ties_refusal ties.now (first_units lines.now) ≡ None }
     ensures units { IfOk result (λ parts. parts.units ≡ with_ties ties.now (first_units lines.now)) }
     ensures program { IfOk result (λ parts. IsSpelled (statements_of lines.now) (program_of parts.program)) }
-    ensures clean { OnOk result (ties_refusal ties.now (first_units lines.now) ≡ None) }
-    ensures refused { IfErr result (IfRefused (λ refusal. option_or (option_map LoadError.Cards (ties_refusal ties.now (first_units lines.now))) (program_refusal (statements_of lines.now)) ≡ Some refusal)) }
+    ensures refused { IfErr result (IfRefused (λ refusal. program_refusal (statements_of lines.now) ≡ Some refusal)) }
+    ensures memory { IsErrOf result Stop.Memory → IsOk (statements_of lines.now) }
 {
     let cards = cards_of(alloc, lines)?;
-    let data = data_of(alloc, lines, &cards)?;
+    let program = program_of(alloc, &cards)?;
+    let data = copied_from(alloc, lines.as_slice(), cards.data_from())?;
     let units = tied(alloc, data, ties)?;
-    let program = program_of(alloc, cards)?;
     Ok(Parts { units, program })
+}
+
+// What a slot is to hold for a job of this account.
+fn slot_of_account(
+    alloc: Global,
+    account: &Account,
+    deck: JobDeck,
+) -> Result<Slot, Stop<LoadError>>
+    requires { ties_refusal deck.ties (first_units deck.lines) ≡ None }
+    ensures slot { IfOk result (λ slot. slot_by deck (Some account.now) (program_in (statements_of deck.lines)) ≡ Some (slot_of slot)) }
+    ensures clean { OnOk result (program_refusal (statements_of deck.lines) ≡ None) }
+    ensures refused { IfErr result (IfRefused (λ refusal. program_refusal (statements_of deck.lines) ≡ Some refusal)) }
+    ensures memory { IsErrOf result Stop.Memory → IsOk (statements_of deck.lines) }
+{
+    let Parts { units, program } = parts_of(alloc, &deck.lines, &deck.ties)?;
+    let account = account.copy(alloc)?;
+    let job = Job::new(alloc, program, deck.limits.get())?;
+    Ok(Slot {
+        number: deck.number,
+        account,
+        job,
+        units,
+    })
 }
 
 // What a slot is to hold for the job.
@@ -155,14 +185,10 @@ pub(crate) fn slot_for(
     ensures slot { IfOk result (λ slot. slot_in accounts.now deck ≡ Some (slot_of slot)) }
     ensures clean { OnOk result (deck_refusal accounts.now deck ≡ None) }
     ensures refused { IfErr result (IfRefused (λ refusal. deck_refusal accounts.now deck ≡ Some refusal)) }
+    ensures memory { IsErrOf result Stop.Memory → DeckMayGrow accounts.now deck }
 {
-    let account = account_of(alloc, accounts, &deck.account)?;
-    let Parts { units, program } = parts_of(alloc, &deck.lines, &deck.ties)?;
-    let job = Job::new(alloc, program, deck.limits.get())?;
-    Ok(Slot {
-        number: deck.number,
-        account,
-        job,
-        units,
-    })
+    match account_of(accounts, &deck) {
+        Ok(account) => slot_of_account(alloc, account, deck),
+        Err(refusal) => Err(Stop::Refused(refusal)),
+    }
 }

@@ -1,26 +1,27 @@
 -- One turn of one seat.
-use Rattle.std.specs.Prelude.{◌≡◌, ◌⊎◌, ◌<◌, ◌≤◌, true, ℕ, ◌+◌, List, [], ◌∷◌, Option, None, Some}
+use Rattle.std.specs.Prelude.{◌≡◌, ◌⊎◌, true, ℕ, ◌+◌, List, [], ◌∷◌, Option, None, Some}
 use Rattle.mon_catalogue.specs.Sets.{Sets}
 use Rattle.sno_run.specs.declared.ending.Step.{Step}
 use Rattle.sno_run.specs.declared.ending.Step.TheVariants as step
 use Rattle.sno_run.specs.declared.ending.Ending.{Ending}
 use Rattle.sno_run.specs.declared.ending.Ending.TheVariants.{Memory}
+use Rattle.sno_ask.specs.Counting.{statements_in}
 use Rattle.sno_run.specs.Jobs.{turn_of, statements_begun}
 use Rattle.mon_unit.specs.Runs.{run_cut}
 use Rattle.mon_unit.specs.Serving.{serve}
 use Rattle.mon_slots.specs.declared.turned.Turned.TheVariants.{Empty, Goes, Ended}
 use Rattle.mon_slots.specs.Floors.{SlotState, Floor, floor, job_in, with_seat}
 use Rattle.mon_slots.specs.Turns.{reached, ran, job_end}
-use Rattle.mon_slots.specs.Marks.{may_break}
+use Rattle.mon_slots.specs.Marks.{Mark, passed_at, exchanges_at, may_break}
 use Rattle.mon_slots.specs.Turning.{TurnOr}
 
--- the turn was broken off after some exchanges, which stand, in a statement that had begun
+-- the turn was broken off at some mark, in a statement that had begun
 pub record BrokenOff (slot : SlotState) (sets : Sets) (s : Step) (slot' : SlotState) (sets' : Sets) : Type 0 where
-  pub exchanges : ℕ
+  pub mark : Mark
   pub started : may_break slot.job ≡ true
-  pub begun : (statements_begun slot.job < statements_begun slot'.job) × (statements_begun slot'.job ≤ slot.job.limits.statements)
+  pub counted : statements_begun slot'.job ≡ statements_begun slot.job + statements_in (passed_at mark slot sets)
   pub memory : s ≡ step.Ended Memory
-  pub left : run_cut (serve slot.account) exchanges (turn_of slot.job) (reached sets slot) ≡ reached sets' slot'
+  pub left : run_cut (serve slot.account) (exchanges_at mark slot sets) (turn_of slot.job) (reached sets slot) ≡ reached sets' slot'
 
 -- the job of a slot had a turn
 pub record Stepped (slot : SlotState) (sets : Sets) (s : Step) (slot' : SlotState) (sets' : Sets) : Type 0 where

@@ -1,22 +1,20 @@
-use Rattle.std.proofs.Common.{rules, ◌≡◌}
-use Rattle.mon_access.specs.Accounts.{find_account}
+use Rattle.std.proofs.Common.{rules, None, ap, ◌∙◌}
+use Rattle.std.proofs.lemmas.Result.{IfOk-weaker, IfErr-weaker, on_ok_weaker}
 use Rattle.sno_cards.specs.Statements.{statements_of}
-use Rattle.sno_syntax.specs.Programs.{program_of}
-use Rattle.sno_run.specs.Jobs.{first_job}
-use Rattle.sno_run.specs.Told.{job_of}
-use Rattle.mon_slots.specs.Loads.{first_units, ties_refusal}
-use Rattle.mon_slots.proofs.Loads.{slot_made, deck_clean}
+use Rattle.mon_slots.specs.Loads.{program_in, slot_by}
+use Rattle.mon_slots.proofs.Loads.{deck_refused_by, stop_refused_by}
 use Rattle.mon_slots.proofs.loading.slot_for.Goals as goal
 
-pub returns-clause-slot : goal.returns-clause-slot
-returns-clause-slot c =
+pub returns-in-Ok-clause-slot : goal.returns-in-Ok-clause-slot
+returns-in-Ok-clause-slot c =
     let deck = c.args.deck in
-    let job : job_of c.in_ok-job.job ≡ first_job (program_of c.in_ok-units.field-0.program) deck.limits = search rules in
-    slot_made deck (find_account c.args.accounts.now deck.account) c.in_ok-account.account (statements_of deck.lines) (program_of c.in_ok-units.field-0.program)
-    c.in_ok-units.field-0.units (job_of c.in_ok-job.job) c.in_ok-account.ensures.account c.in_ok-units.ensures.program c.in_ok-units.ensures.units job
+    IfOk-weaker c.slot_of_account.result _ _ (λ slot h. ap (λ o. slot_by deck o (program_in (statements_of deck.lines))) c.in-Ok.ensures.account ∙ h) c.slot_of_account.ensures.slot
 
-pub returns-clause-clean : goal.returns-clause-clean
-returns-clause-clean c =
-    let deck = c.args.deck in
-    deck_clean (find_account c.args.accounts.now deck.account) c.in_ok-account.account (ties_refusal deck.ties (first_units deck.lines)) (statements_of deck.lines)
-    (program_of c.in_ok-units.field-0.program) c.in_ok-account.ensures.account c.in_ok-units.ensures.clean c.in_ok-units.ensures.program
+pub returns-in-Ok-clause-clean : goal.returns-in-Ok-clause-clean
+returns-in-Ok-clause-clean c =
+    on_ok_weaker c.slot_of_account.result (λ h. deck_refused_by c.args.accounts.now c.args.deck _ None c.in-Ok.ensures.account c.in-Ok.ensures.clean h) c.slot_of_account.ensures.clean
+
+pub returns-in-Ok-clause-refused : goal.returns-in-Ok-clause-refused
+returns-in-Ok-clause-refused c =
+    IfErr-weaker c.slot_of_account.result _ _
+    (λ stop h. stop_refused_by c.args.accounts.now c.args.deck _ stop c.in-Ok.ensures.account c.in-Ok.ensures.clean h) c.slot_of_account.ensures.refused

@@ -14,7 +14,7 @@ returns-clause-step c =
     let done = turn_done c.args.slot.now.account (job_of c.args.slot.now.job) _ _ _ _ _ refl c.statement_turn.ensures.turn.1 c.statement_turn.ensures.turn.2 in
     elim done [
       | inl h ↦ record { number = refl; account = refl; is = inl (search rules) }
-      | inr h ↦ record { number = refl; account = refl; is = inr (record { exchanges = h.exchanges; started = h.started; begun = h.begun; memory = h.memory; left = (let k = h.left in search rules) }) }
+      | inr h ↦ record { number = refl; account = refl; is = inr (record { mark = record { moments = h.moments }; started = h.started; counted = (let k = h.counted in search rules); memory = h.memory; left = (let k = h.left in search rules) }) }
     ]
 
 pub returns-clause-fit : goal.returns-clause-fit

@@ -5,19 +5,19 @@ use Rattle.mon_slots.specs.Floors.{floor}
 use Rattle.mon_slots.proofs.Calls.{turn_jobs, went_on, leaving, leaving_jobs}
 use Rattle.mon_slots.proofs.slots.Slots.turn_into.Goals as goal
 
-pub returns-in-None-clause-room : goal.returns-in-None-clause-room
-returns-in-None-clause-room c =
+pub returns-in-None-clause-jobs : goal.returns-in-None-clause-jobs
+returns-in-None-clause-jobs c =
     let w = floor c.args.catalogue.now (slots_in c.args.self.now) in
     let now = floor c.step.new.catalogue (slots_in c.step.new.self) in
     let k = turn_jobs c.args.slot w now Empty c.in-None.ensures.step in
-    omega (arith, k, c.requires.room)
+    omega (arith, k)
 
-pub returns-in-Some-Goes-clause-room : goal.returns-in-Some-Goes-clause-room
-returns-in-Some-Goes-clause-room c =
+pub returns-in-Some-Goes-clause-jobs : goal.returns-in-Some-Goes-clause-jobs
+returns-in-Some-Goes-clause-jobs c =
     let w = floor c.args.catalogue.now (slots_in c.args.self.now) in
     let now = floor c.step.new.catalogue (slots_in c.step.new.self) in
     let k = turn_jobs c.args.slot w now Goes (went_on c.args.slot w now c.step.result c.in-Some-Goes.field-0 c.in-Some-Goes.is c.in-Some-Goes.field-0-is c.step.ensures.step) in
-    omega (arith, k, c.requires.room)
+    omega (arith, k)
 
 pub keep_end-requires-clause-room : goal.keep_end-requires-clause-room
 keep_end-requires-clause-room c =
@@ -27,10 +27,10 @@ keep_end-requires-clause-room c =
     let k = leaving_jobs c.args.slot w now c.in-Some-Ended.ending gone in
     omega (arith, k, c.requires.room)
 
-pub returns-in-Some-Ended-clause-room : goal.returns-in-Some-Ended-clause-room
-returns-in-Some-Ended-clause-room c =
+pub returns-in-Some-Ended-clause-jobs : goal.returns-in-Some-Ended-clause-jobs
+returns-in-Some-Ended-clause-jobs c =
     let w = floor c.args.catalogue.now (slots_in c.args.self.now) in
     let now = floor c.step.new.catalogue (slots_in c.step.new.self) in
     let gone = leaving c.args.slot w now c.step.result c.in-Some-Ended.field-0 c.in-Some-Ended.ending c.in-Some-Ended.is c.in-Some-Ended.field-0-is c.step.ensures.step in
     let k = leaving_jobs c.args.slot w now c.in-Some-Ended.ending gone in
-    rw c.keep_end.ensures.slots (omega (arith, k, c.requires.room, c.keep_end.ensures.len, c.keep_end.ensures.room))
+    rw c.keep_end.ensures.slots (omega (arith, k, c.keep_end.ensures.len))

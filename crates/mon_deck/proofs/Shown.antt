@@ -1,0 +1,104 @@
+-- A job that memory ended shows it: a line of its printout, not the first, begins with these words.
+use Rattle.std.proofs.Common.{◌≡◌, ℕ, Bool, true, false, List, [], ◌∷◌, ◌++◌, refl, sym, ap, ◌∙◌, append_assoc, append-nil}
+use Rattle.std.specs.Prelude.{codes}
+use Rattle.std.specs.List.{flat_map, AllByRecursion}
+use Rattle.sno_run.specs.declared.ending.Ending.{Ending}
+use Rattle.sno_run.specs.declared.ending.Ending.TheVariants.{Memory}
+use Rattle.mon_command.specs.Printouts.{number, word, stored_line}
+use Rattle.mon_unit.specs.declared.note.Note.{Note}
+use Rattle.mon_job.specs.declared.job_end.JobEnd.{JobEnd}
+use Rattle.mon_job.specs.Printouts.{job_line, note_words, exchange_words, note_line, ending_line, printout}
+use Rattle.mon_slots.specs.Marks.{Marks}
+use Rattle.mon_monitor.specs.Papers.{Paper, OfCommand, OfJob, OfRefused, paper_text, papers_text}
+use Rattle.mon_monitor.specs.Laws.{NotByMemory}
+use Rattle.mon_feed.specs.declared.options.Options.{Options}
+use Rattle.mon_feed.specs.Scenes.{Scene, played_scene}
+use Rattle.mon_feed.specs.Printouts.{closing, answer_to, output_of}
+use Rattle.mon_deck.specs.Runs.{scene_of}
+use Rattle.mon_deck.specs.Laws.{HasLineWith, Unmarked, ShowsItsMarks}
+
+-- LINES
+
+abbrev EndsLine : List ℕ → Type 0
+EndsLine text = (front : List ℕ) × (text ≡ front ++ codes "\n")
+
+two_end : (xs ys : List ℕ) → EndsLine ys → EndsLine (xs ++ ys)
+two_end xs ys (front, is) = (xs ++ front, ap (λ (t : List ℕ). xs ++ t) is ∙ sym (append_assoc xs front (codes "\n")))
+
+all_end : {A : Type 0} (f : A → List ℕ) → ((x : A) → EndsLine (f x)) → (xs : List A) (text : List ℕ) → EndsLine text → EndsLine (text ++ flat_map f xs)
+all_end f each [] text (front, is) = (front, append-nil text ∙ is)
+all_end f each (x ∷ xs) text ends =
+    let rest = all_end f each xs (text ++ f x) (two_end text (f x) (each x)) in
+    (rest.0, sym (append_assoc text (f x) (flat_map f xs)) ∙ rest.1)
+
+line_behind : (text words after : List ℕ) → EndsLine text → HasLineWith words (text ++ (words ++ after))
+line_behind text words after (front, is) = (front, after, ap (λ (t : List ℕ). t ++ (words ++ after)) is ∙ append_assoc front (codes "\n") (words ++ after))
+
+in_front : (words text rest : List ℕ) → HasLineWith words text → HasLineWith words (text ++ rest)
+in_front words text rest (before, after, is) =
+    let line = codes "\n" in
+    (before, after ++ rest,
+        ap (λ (t : List ℕ). t ++ rest) is ∙ append_assoc before (line ++ (words ++ after)) rest
+        ∙ ap (λ (t : List ℕ). before ++ t) (append_assoc line (words ++ after) rest ∙ ap (λ (t : List ℕ). line ++ t) (append_assoc words after rest)))
+
+in_back : (words text rest : List ℕ) → HasLineWith words rest → HasLineWith words (text ++ rest)
+in_back words text rest (before, after, is) =
+    (text ++ before, after, ap (λ (t : List ℕ). text ++ t) is ∙ sym (append_assoc text before (codes "\n" ++ (words ++ after))))
+
+-- JOBS
+
+job_ends : (n : ℕ) (account : List ℕ) → EndsLine (job_line n account)
+job_ends n account = (codes "JOB" ++ number n ++ word account, refl)
+
+stored_ends : (text : List ℕ) → EndsLine (stored_line text)
+stored_ends text = (word text, refl)
+
+note_ends : (note : Note) → EndsLine (note_line note)
+note_ends note = (note_words note.why (exchange_words note), refl)
+
+-- all that stands before the line of its end
+before_end : (end : JobEnd) → EndsLine (job_line end.number end.account ++ flat_map stored_line end.spool ++ flat_map note_line end.notes)
+before_end end = all_end note_line note_ends end.notes _ (all_end stored_line stored_ends end.spool _ (job_ends end.number end.account))
+
+by_memory : (n : ℕ) → ending_line Memory n ≡ codes "END MEMORY" ++ (codes " AFTER" ++ (number n ++ codes "\n"))
+by_memory n =
+    let words = codes "END MEMORY" in
+    let after = codes " AFTER" in
+    append_assoc (words ++ after) (number n) (codes "\n") ∙ append_assoc words after (number n ++ codes "\n")
+
+shown : (end : JobEnd) → end.ending ≡ Memory → HasLineWith (codes "END MEMORY") (printout end)
+shown end is =
+    let front = job_line end.number end.account ++ flat_map stored_line end.spool ++ flat_map note_line end.notes in
+    let line : ending_line end.ending end.statements ≡ codes "END MEMORY" ++ (codes " AFTER" ++ (number end.statements ++ codes "\n")) =
+    ap (λ (e : Ending). ending_line e end.statements) is ∙ by_memory end.statements in
+    let there = line_behind front (codes "END MEMORY") (codes " AFTER" ++ (number end.statements ++ codes "\n")) (before_end end) in
+    (there.0, there.1, ap (λ (t : List ℕ). front ++ t) line ∙ there.2)
+
+-- PAPERS
+
+one_plain : (p : Paper) → ¬ HasLineWith (codes "END MEMORY") (paper_text p) → NotByMemory p
+one_plain (OfCommand text) none = tt
+one_plain (OfJob end) none = λ is. none (shown end is)
+one_plain (OfRefused n account refusal) none = tt
+
+all_plain : (papers : List Paper) → ¬ HasLineWith (codes "END MEMORY") (papers_text papers) → AllByRecursion NotByMemory papers
+all_plain [] none = tt
+all_plain (p ∷ ps) none = (
+    one_plain p (λ has. none (in_front (codes "END MEMORY") (paper_text p) (papers_text ps) has)),
+    all_plain ps (λ has. none (in_back (codes "END MEMORY") (paper_text p) (papers_text ps) has)),
+  )
+
+pub shows_its_marks : Unmarked → ShowsItsMarks
+shows_its_marks unmarked options m bytes none = by options.check refl
+  where
+    scene : Scene
+    scene = scene_of options bytes
+
+    by : (check : Bool) → options.check ≡ check → output_of options m bytes ≡ output_of options [] bytes
+    by true is = ap (λ (c : Bool). answer_to c 0 m scene) is ∙ sym (ap (λ (c : Bool). answer_to c 0 [] scene) is)
+    by false is =
+        let p = played_scene 0 m scene in
+        let run : output_of options m bytes ≡ papers_text p.papers ++ closing p.after.floor.sets scene.cards.ending = ap (λ (c : Bool). answer_to c 0 m scene) is in
+        unmarked options m bytes (all_plain p.papers (λ has.
+            let there = in_front (codes "END MEMORY") (papers_text p.papers) (closing p.after.floor.sets scene.cards.ending) has in
+            none (there.0, there.1, run ∙ there.2)))
