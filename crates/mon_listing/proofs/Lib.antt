@@ -1,1 +1,3 @@
+mod Firsts
 mod Listed
+mod Sections
