@@ -1,0 +1,72 @@
+//! What the program does, over any streams of std: from its words to what stands in these, and the exit status.
+ghost use Rattle.std.specs.Prelude.{◌≡◌, IfSome};
+ghost use Rattle.mon_listing.specs.declared.question.Question.{Question as AnyQuestion};
+ghost use Rattle.mon_listing.specs.Reports.{ReportedTo, status_of};
+
+use crate::options::{no_text, read_question};
+use clap::Error;
+use clap::error::ErrorKind;
+use mon_listing::{Fault, Question, report_streams};
+use std::alloc::{AllocError, Global};
+use std::convert::AsStr;
+use std::io;
+use std::io::{Read, Write};
+
+/// The exit status where the words ask nothing.
+const NOTHING_ASKED: u8 = 2;
+
+/// Tells of the deck that comes from one stream what these words ask, writes it to another, and tells on a third what went
+/// wrong. The first word is the program's name; words that are no text ask nothing.
+pub fn run<S: AsStr + Drop, R: Read, W: Write, E: Write>(
+    alloc: Global,
+    words: io::Result<Vec<S>>,
+    input: &mut R,
+    output: &mut W,
+    errors: &mut E,
+) -> u8
+    // What was written is the report on some question.
+    ensures reported { result ≡ 0 → IfSome (R.remaining input.old) (λ bytes. (question : AnyQuestion) × ReportedTo question bytes (W.contents output.old) (W.contents output.new)) }
+{
+    match given_question(alloc, words) {
+        Ok(question) => match report_streams(alloc, &question, input, output) {
+            Ok(()) => 0,
+            Err(fault) => tell(alloc, fault, errors),
+        },
+        Err(error) if error.kind() == ErrorKind::OutOfMemory => tell(alloc, Fault::Memory, errors),
+        Err(error) => refuse(error, errors),
+    }
+}
+
+// Tells a fault, as far as that can be done, and gives its status.
+fn tell<E: Write>(alloc: Global, fault: Fault, errors: &mut E) -> u8
+    ensures { result ≡ status_of fault }
+{
+    let _told = put_fault(alloc, fault, errors);
+    fault.status()
+}
+
+fn put_fault<E: Write>(alloc: Global, fault: Fault, errors: &mut E) -> io::Result<()> {
+    let mut line = Vec::new(alloc);
+    fault.put_line(&mut line)?;
+    errors.write_all(&line)
+}
+
+// Tells why the words ask nothing, as far as that can be done.
+fn refuse<E: Write>(error: Error, errors: &mut E) -> u8
+    ensures { result ≡ NOTHING_ASKED }
+{
+    let _told = write!(errors, "{error}");
+    NOTHING_ASKED
+}
+
+// What the words ask.
+fn given_question<S: AsStr + Drop>(
+    alloc: Global,
+    words: io::Result<Vec<S>>,
+) -> Result<Question, Error> {
+    match words {
+        Ok(words) => read_question(alloc, words.as_slice()),
+        Err(error) if error.kind() == io::ErrorKind::InvalidData => Err(no_text(alloc)?),
+        Err(_) => Err(Error::from(AllocError)),
+    }
+}
