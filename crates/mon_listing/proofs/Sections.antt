@@ -1,5 +1,5 @@
 -- A deck up to its stream, of one line more.
-use Rattle.std.proofs.Common.{◌≡◌, ℕ, ◌+◌, ◌==◌, Bool, true, List, [], ◌∷◌, length, Result, Err, refl, sym, ap, ◌∙◌}
+use Rattle.std.proofs.Common.{◌≡◌, ℕ, List, [], ◌∷◌, Result, Err, refl, sym, ap, ◌∙◌}
 use Rattle.std.specs.Str.Lines.{lines}
 use Rattle.mon_text.specs.declared.stop.Stop.{Stop}
 use Rattle.mon_text.specs.declared.stop.Stop.TheVariants as stop
@@ -12,8 +12,7 @@ use Rattle.mon_cards.specs.inner.Stops.{IfRefused}
 use Rattle.mon_listing.specs.declared.front.Refusal.{Refusal}
 use Rattle.mon_listing.specs.declared.front.Section.{Section}
 use Rattle.mon_listing.specs.declared.front.Section.TheVariants as section
-use Rattle.mon_listing.specs.declared.front.Step.{Step}
-use Rattle.mon_listing.specs.Fronts.{deck_from, deck_after, refused_from, refusal_at}
+use Rattle.mon_listing.specs.Fronts.{deck_from, refused_from, refusal_at}
 
 -- the accounts that were collected are those of the refused deck
 early : (at : Section) (n : ℕ) (code : Code) → (accounts : List Account) × (refused_from at n code ≡ refused_early n code accounts)

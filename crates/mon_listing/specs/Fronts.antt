@@ -1,5 +1,5 @@
 -- A deck up to its stream (own): its accounts and its data sets, or the line before the stream at which it is refused.
-use Rattle.std.specs.Prelude.{◌≡◌, ℕ, ◌+◌, List, []}
+use Rattle.std.specs.Prelude.{◌≡◌, ℕ, List, []}
 use Rattle.mon_text.specs.declared.stop.Stop.{Stop}
 use Rattle.mon_text.specs.declared.stop.Stop.TheVariants as stop
 use Rattle.mon_access.specs.declared.account.Account.{Account}

@@ -1,4 +1,4 @@
-use Rattle.std.proofs.Common.{◌≡◌, ◌<◌, ◌∙◌, Some, None, length, slice_get, sym, ap, arith}
+use Rattle.std.proofs.Common.{◌<◌, ◌∙◌, length, sym, ap, arith}
 use Rattle.std.specs.Option.{option_copied}
 use Rattle.mon_listing.specs.Access.{account_part}
 use Rattle.mon_listing.proofs.Listed.{one_more, not_past}

@@ -1,4 +1,4 @@
-use Rattle.std.proofs.Common.{◌+◌, sym, ◌∙◌, length, take, drop}
+use Rattle.std.proofs.Common.{◌+◌, sym, ◌∙◌, length}
 use Rattle.mon_listing.proofs.Firsts.{ended, unended, to_end, nothing_behind}
 use Rattle.mon_listing.proofs.lines.first_line.Goals as goal
 
