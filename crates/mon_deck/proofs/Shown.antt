@@ -1,5 +1,5 @@
 -- A job that memory ended shows it: a line of its printout, not the first, begins with these words.
-use Rattle.std.proofs.Common.{◌≡◌, ℕ, Bool, true, false, List, [], ◌∷◌, ◌++◌, refl, sym, ap, ◌∙◌, append_assoc, append-nil}
+use Rattle.std.proofs.Common.{◌≡◌, ℕ, Bool, true, false, List, [], ◌∷◌, ◌++◌, refl, sym, ap, ◌∙◌, subst, append_assoc, append-nil}
 use Rattle.std.specs.Prelude.{codes}
 use Rattle.std.specs.List.{flat_map, AllByRecursion}
 use Rattle.sno_run.specs.declared.ending.Ending.{Ending}
@@ -12,7 +12,7 @@ use Rattle.mon_slots.specs.Marks.{Marks}
 use Rattle.mon_monitor.specs.Papers.{Paper, OfCommand, OfJob, OfRefused, paper_text, papers_text}
 use Rattle.mon_monitor.specs.Laws.{NotByMemory}
 use Rattle.mon_feed.specs.declared.options.Options.{Options}
-use Rattle.mon_feed.specs.Scenes.{Scene, played_scene}
+use Rattle.mon_feed.specs.Scenes.{played_scene}
 use Rattle.mon_feed.specs.Printouts.{closing, answer_to, output_of}
 use Rattle.mon_deck.specs.Runs.{scene_of}
 use Rattle.mon_deck.specs.Laws.{HasLineWith, Unmarked, ShowsItsMarks}
@@ -37,13 +37,19 @@ line_behind text words after (front, is) = (front, after, ap (λ (t : List ℕ).
 in_front : (words text rest : List ℕ) → HasLineWith words text → HasLineWith words (text ++ rest)
 in_front words text rest (before, after, is) =
     let line = codes "\n" in
-    (before, after ++ rest,
-        ap (λ (t : List ℕ). t ++ rest) is ∙ append_assoc before (line ++ (words ++ after)) rest
-        ∙ ap (λ (t : List ℕ). before ++ t) (append_assoc line (words ++ after) rest ∙ ap (λ (t : List ℕ). line ++ t) (append_assoc words after rest)))
+    let inner = append_assoc line (words ++ after) rest ∙ ap (λ (t : List ℕ). line ++ t) (append_assoc words after rest) in
+    let outer = append_assoc before (line ++ (words ++ after)) rest ∙ ap (λ (t : List ℕ). before ++ t) inner in
+    (before, after ++ rest, ap (λ (t : List ℕ). t ++ rest) is ∙ outer)
 
 in_back : (words text rest : List ℕ) → HasLineWith words rest → HasLineWith words (text ++ rest)
 in_back words text rest (before, after, is) =
     (text ++ before, after, ap (λ (t : List ℕ). text ++ t) is ∙ sym (append_assoc text before (codes "\n" ++ (words ++ after))))
+
+none_in_front : (words text rest : List ℕ) → ¬ HasLineWith words (text ++ rest) → ¬ HasLineWith words text
+none_in_front words text rest none has = none (in_front words text rest has)
+
+none_in_back : (words text rest : List ℕ) → ¬ HasLineWith words (text ++ rest) → ¬ HasLineWith words rest
+none_in_back words text rest none has = none (in_back words text rest has)
 
 -- JOBS
 
@@ -84,21 +90,21 @@ one_plain (OfRefused n account refusal) none = tt
 all_plain : (papers : List Paper) → ¬ HasLineWith (codes "END MEMORY") (papers_text papers) → AllByRecursion NotByMemory papers
 all_plain [] none = tt
 all_plain (p ∷ ps) none = (
-    one_plain p (λ has. none (in_front (codes "END MEMORY") (paper_text p) (papers_text ps) has)),
-    all_plain ps (λ has. none (in_back (codes "END MEMORY") (paper_text p) (papers_text ps) has)),
-  )
+  one_plain p (none_in_front (codes "END MEMORY") (paper_text p) (papers_text ps) none),
+  all_plain ps (none_in_back (codes "END MEMORY") (paper_text p) (papers_text ps) none),
+)
+
+shown_by : Unmarked → (options : Options) (m : Marks) (bytes : List ℕ) → ¬ HasLineWith (codes "END MEMORY") (output_of options m bytes)
+    → (check : Bool) → options.check ≡ check → output_of options m bytes ≡ output_of options [] bytes
+shown_by unmarked options m bytes none true is =
+    ap (λ (c : Bool). answer_to c 0 m (scene_of options bytes)) is ∙ sym (ap (λ (c : Bool). answer_to c 0 [] (scene_of options bytes)) is)
+shown_by unmarked options m bytes none false is =
+    let scene = scene_of options bytes in
+    let p = played_scene 0 m scene in
+    let rest = closing p.after.floor.sets scene.cards.ending in
+    let run : output_of options m bytes ≡ papers_text p.papers ++ rest = ap (λ (c : Bool). answer_to c 0 m scene) is in
+    let none_there = subst (λ (text : List ℕ). ¬ HasLineWith (codes "END MEMORY") text) run none in
+    unmarked options m bytes (all_plain p.papers (none_in_front (codes "END MEMORY") (papers_text p.papers) rest none_there))
 
 pub shows_its_marks : Unmarked → ShowsItsMarks
-shows_its_marks unmarked options m bytes none = by options.check refl
-  where
-    scene : Scene
-    scene = scene_of options bytes
-
-    by : (check : Bool) → options.check ≡ check → output_of options m bytes ≡ output_of options [] bytes
-    by true is = ap (λ (c : Bool). answer_to c 0 m scene) is ∙ sym (ap (λ (c : Bool). answer_to c 0 [] scene) is)
-    by false is =
-        let p = played_scene 0 m scene in
-        let run : output_of options m bytes ≡ papers_text p.papers ++ closing p.after.floor.sets scene.cards.ending = ap (λ (c : Bool). answer_to c 0 m scene) is in
-        unmarked options m bytes (all_plain p.papers (λ has.
-            let there = in_front (codes "END MEMORY") (papers_text p.papers) (closing p.after.floor.sets scene.cards.ending) has in
-            none (there.0, there.1, run ∙ there.2)))
+shows_its_marks unmarked options m bytes none = shown_by unmarked options m bytes none options.check refl

@@ -154,11 +154,7 @@ fn parts_of(alloc: Global, lines: &Lines, ties: &UnitCards) -> Result<Parts, Sto
 }
 
 // What a slot is to hold for a job of this account.
-fn slot_of_account(
-    alloc: Global,
-    account: &Account,
-    deck: JobDeck,
-) -> Result<Slot, Stop<LoadError>>
+fn slot_of_account(alloc: Global, account: &Account, deck: JobDeck) -> Result<Slot, Stop<LoadError>>
     requires { ties_refusal deck.ties (first_units deck.lines) ≡ None }
     ensures slot { IfOk result (λ slot. slot_by deck (Some account.now) (program_in (statements_of deck.lines)) ≡ Some (slot_of slot)) }
     ensures clean { OnOk result (program_refusal (statements_of deck.lines) ≡ None) }

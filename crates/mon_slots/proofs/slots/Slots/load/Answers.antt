@@ -27,8 +27,7 @@ returns-in_err-slot-clause-memory c = λ h.
     let items = c.args.self.now.items.items in
     let i = c.in-Some.index in
     let some : position (λ seat. is_none seat) items ≡ Some i = ap (λ (l : List (Option Slot)). position (λ seat. is_none seat) l) (sym c.deref.ensures.value) ∙ sym c.in-Some.ensures in
-    let stop = err_from_is_err_and c.from_residual.result c.from_residual.ensures.1 in
-    (
+    let stop = err_from_is_err_and c.from_residual.result c.from_residual.ensures.1 in (
       free_some (slots_in c.args.self.now) (suc i) (free_is items ∙ ap (option_map suc) some),
       c.in_err-slot.ensures.memory (ap Err (stopped_for c.from_residual.result stop.0 c.in_err-slot.field-0.0 Memory stop.1 stop.2 h)),
     )
