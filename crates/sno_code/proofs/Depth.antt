@@ -17,8 +17,8 @@ use Rattle.sno_code.specs.declared.got.Got.{Got}
 use Rattle.sno_code.specs.declared.got.Got.TheVariants.{Gives, Fails, Halts}
 use Rattle.sno_code.specs.Outcomes.{got_of, with_value, with_name, with_name_in}
 use Rattle.sno_code.specs.Operators.{cursor, joined}
-use Rattle.sno_code.specs.Evaluation.{Setting, negated, Given, Values, Failing, Halting, with_values, one_more, given_too, evaluate, name_of, evaluate_all}
-use Rattle.sno_code.specs.Keeping.{Keeping, Matched, Between, NoMatch, Stopped, Entered, Undefined, Enters, Refused, setting_of}
+use Rattle.sno_code.specs.Evaluation.{negated, Given, Values, Failing, Halting, with_values, one_more, given_too, evaluate, name_of, evaluate_all}
+use Rattle.sno_code.specs.Keeping.{Setting, Keeping, Matched, Between, NoMatch, Stopped, Entered, Undefined, Enters, Refused, setting_of}
 use Rattle.sno_code.specs.Lines.{Act, Nothing, Uses, SetsKeyword, Assigns, Matches, Replaces, Point, At, End, Return, FailureReturn, Target, Following, To, Computed, Line, Lines, point_of}
 use Rattle.sno_code.specs.Execution.{Next, On, Over, with_text, with_text_in, with_match, computed_by, object_of, assign_all, match_then, assign_string, named_then, perform, followed, goto_after, execute}
 use Rattle.sno_code.specs.Running.{returned, go_from, call_by, executed, passed, if_begun, run_line, run_none, run, settled, turn_begun, turn_line, turn}
@@ -176,22 +176,22 @@ module _ {Q R K : Type 0} (allowed : K → ℕ) (b : ℕ) where
       objects None st h = (refl, h)
       objects (Some e) st h = same_ev e st h
 
-      all_assigned : (ps : List (List ℕ × List ℕ)) (st : K) → allowed st ≤ b → Alike (assign_all keeping ev nm ps st) (assign_all keeping ev' nm' ps st)
+      all_assigned : (ps : List (List ℕ × List ℕ)) (st : K) → allowed st ≤ b → Alike (assign_all keeping ps st) (assign_all keeping ps st)
       all_assigned [] st h = (refl, h)
       all_assigned (p ∷ ps) st h =
           both (keeping.assigned p.0 (value.Text p.1) st) (keeping.assigned p.0 (value.Text p.1) st)
-          (λ got. with_value got (λ v st1. assign_all keeping ev nm ps st1)) (λ got. with_value got (λ v st1. assign_all keeping ev' nm' ps st1)) (assigns p.0 (value.Text p.1) st h)
-          (λ r x. of_value r (λ v st1. assign_all keeping ev nm ps st1) (λ v st1. assign_all keeping ev' nm' ps st1) x (λ v st1 y. all_assigned ps st1 y))
+          (λ got. with_value got (λ v st1. assign_all keeping ps st1)) (λ got. with_value got (λ v st1. assign_all keeping ps st1)) (assigns p.0 (value.Text p.1) st h)
+          (λ r x. of_value r (λ v st1. assign_all keeping ps st1) (λ v st1. assign_all keeping ps st1) x (λ v st1 y. all_assigned ps st1 y))
 
       matched_then : (text : List ℕ) (e : E) (st : K) (go go' : ℕ → ℕ → K → Talk Q R (Got × K)) → allowed st ≤ b
           → ((from to : ℕ) (st1 : K) → allowed st1 ≤ b → Alike (go from to st1) (go' from to st1))
           → Alike (match_then keeping ev nm text e st go) (match_then keeping ev' nm' text e st go')
       matched_then text e st go go' h g =
-          both (ev e st) (ev' e st) (λ got. with_value got (λ p st1. keeping.matched text p st1 >>= (λ end. with_match end (λ from to pending st2. assign_all keeping ev nm pending st2 >>= (λ done. with_value done (λ v st3. go from to st3)))))) (λ got. with_value got (λ p st1. keeping.matched text p st1 >>= (λ end. with_match end (λ from to pending st2. assign_all keeping ev' nm' pending st2 >>= (λ done. with_value done (λ v st3. go' from to st3)))))) (same_ev e st h)
-          (λ r x. of_value r (λ p st1. keeping.matched text p st1 >>= (λ end. with_match end (λ from to pending st2. assign_all keeping ev nm pending st2 >>= (λ done. with_value done (λ v st3. go from to st3))))) (λ p st1. keeping.matched text p st1 >>= (λ end. with_match end (λ from to pending st2. assign_all keeping ev' nm' pending st2 >>= (λ done. with_value done (λ v st3. go' from to st3))))) x
-          (λ p st1 y. both (keeping.matched text p st1) (keeping.matched text p st1) (λ end. with_match end (λ from to pending st2. assign_all keeping ev nm pending st2 >>= (λ done. with_value done (λ v st3. go from to st3)))) (λ end. with_match end (λ from to pending st2. assign_all keeping ev' nm' pending st2 >>= (λ done. with_value done (λ v st3. go' from to st3)))) (matches text p st1 y)
-          (λ m z. of_match m (λ from to pending st2. assign_all keeping ev nm pending st2 >>= (λ done. with_value done (λ v st3. go from to st3))) (λ from to pending st2. assign_all keeping ev' nm' pending st2 >>= (λ done. with_value done (λ v st3. go' from to st3))) z
-          (λ from to pending st2 w. both (assign_all keeping ev nm pending st2) (assign_all keeping ev' nm' pending st2) (λ done. with_value done (λ v st3. go from to st3)) (λ done. with_value done (λ v st3. go' from to st3)) (all_assigned pending st2 w)
+          both (ev e st) (ev' e st) (λ got. with_value got (λ p st1. keeping.matched text p st1 >>= (λ end. with_match end (λ from to pending st2. assign_all keeping pending st2 >>= (λ done. with_value done (λ v st3. go from to st3)))))) (λ got. with_value got (λ p st1. keeping.matched text p st1 >>= (λ end. with_match end (λ from to pending st2. assign_all keeping pending st2 >>= (λ done. with_value done (λ v st3. go' from to st3)))))) (same_ev e st h)
+          (λ r x. of_value r (λ p st1. keeping.matched text p st1 >>= (λ end. with_match end (λ from to pending st2. assign_all keeping pending st2 >>= (λ done. with_value done (λ v st3. go from to st3))))) (λ p st1. keeping.matched text p st1 >>= (λ end. with_match end (λ from to pending st2. assign_all keeping pending st2 >>= (λ done. with_value done (λ v st3. go' from to st3))))) x
+          (λ p st1 y. both (keeping.matched text p st1) (keeping.matched text p st1) (λ end. with_match end (λ from to pending st2. assign_all keeping pending st2 >>= (λ done. with_value done (λ v st3. go from to st3)))) (λ end. with_match end (λ from to pending st2. assign_all keeping pending st2 >>= (λ done. with_value done (λ v st3. go' from to st3)))) (matches text p st1 y)
+          (λ m z. of_match m (λ from to pending st2. assign_all keeping pending st2 >>= (λ done. with_value done (λ v st3. go from to st3))) (λ from to pending st2. assign_all keeping pending st2 >>= (λ done. with_value done (λ v st3. go' from to st3))) z
+          (λ from to pending st2 w. both (assign_all keeping pending st2) (assign_all keeping pending st2) (λ done. with_value done (λ v st3. go from to st3)) (λ done. with_value done (λ v st3. go' from to st3)) (all_assigned pending st2 w)
           (λ r2 x2. of_value r2 (λ v st3. go from to st3) (λ v st3. go' from to st3) x2 (λ v st3 y3. g from to st3 y3))))))
 
       named : (v : N) (st : K) (go go' : List ℕ → K → Talk Q R (Got × K)) → allowed st ≤ b
@@ -202,7 +202,7 @@ module _ {Q R K : Type 0} (allowed : K → ℕ) (b : ℕ) where
           (λ r x. of_value r (λ u st1. with_name u st1 (λ name. go name st1)) (λ u st1. with_name u st1 (λ name. go' name st1)) x
           (λ u st1 y. of_name_in (text_of u) st1 (λ name. go name st1) (λ name. go' name st1) y (λ name. g name st1 y)))
 
-      strings : (name text : List ℕ) (st : K) → allowed st ≤ b → Alike (assign_string keeping ev nm name text st) (assign_string keeping ev' nm' name text st)
+      strings : (name text : List ℕ) (st : K) → allowed st ≤ b → Alike (assign_string keeping name text st) (assign_string keeping name text st)
       strings name text st h =
           of_value (got_of (string (keeping.most st) text), st) (λ v st1. keeping.assigned name v st1) (λ v st1. keeping.assigned name v st1) h (λ v st1 y. assigns name v st1 y)
 
@@ -222,14 +222,14 @@ module _ {Q R K : Type 0} (allowed : K → ℕ) (b : ℕ) where
           (λ v st1 y. of_text_in (text_of v) st1 (λ text. match_then keeping ev nm text pattern st1 (λ from to st2. Ends (Gives null, st2))) (λ text. match_then keeping ev' nm' text pattern st1 (λ from to st2. Ends (Gives null, st2))) y
           (λ text. matched_then text pattern st1 (λ from to st2. Ends (Gives null, st2)) (λ from to st2. Ends (Gives null, st2)) y (λ from to st2 z. (refl, z)))))
       performs (Replaces variable pattern object) st h =
-          named variable st (λ name st1. keeping.used name st1 >>= (λ got. with_value got (λ v st2. with_text v st2 (λ text. match_then keeping ev nm text pattern st2 (λ from to st3. object_of keeping ev nm object st3 >>= (λ new. with_value new (λ w st4. with_text w st4 (λ part. assign_string keeping ev nm name (take from text ++ (part ++ drop to text)) st4)))))))) (λ name st1. keeping.used name st1 >>= (λ got. with_value got (λ v st2. with_text v st2 (λ text. match_then keeping ev' nm' text pattern st2 (λ from to st3. object_of keeping ev' nm' object st3 >>= (λ new. with_value new (λ w st4. with_text w st4 (λ part. assign_string keeping ev' nm' name (take from text ++ (part ++ drop to text)) st4)))))))) h
-          (λ name st1 y. both (keeping.used name st1) (keeping.used name st1) (λ got. with_value got (λ v st2. with_text v st2 (λ text. match_then keeping ev nm text pattern st2 (λ from to st3. object_of keeping ev nm object st3 >>= (λ new. with_value new (λ w st4. with_text w st4 (λ part. assign_string keeping ev nm name (take from text ++ (part ++ drop to text)) st4))))))) (λ got. with_value got (λ v st2. with_text v st2 (λ text. match_then keeping ev' nm' text pattern st2 (λ from to st3. object_of keeping ev' nm' object st3 >>= (λ new. with_value new (λ w st4. with_text w st4 (λ part. assign_string keeping ev' nm' name (take from text ++ (part ++ drop to text)) st4))))))) (uses name st1 y)
-          (λ r x. of_value r (λ v st2. with_text v st2 (λ text. match_then keeping ev nm text pattern st2 (λ from to st3. object_of keeping ev nm object st3 >>= (λ new. with_value new (λ w st4. with_text w st4 (λ part. assign_string keeping ev nm name (take from text ++ (part ++ drop to text)) st4)))))) (λ v st2. with_text v st2 (λ text. match_then keeping ev' nm' text pattern st2 (λ from to st3. object_of keeping ev' nm' object st3 >>= (λ new. with_value new (λ w st4. with_text w st4 (λ part. assign_string keeping ev' nm' name (take from text ++ (part ++ drop to text)) st4)))))) x
-          (λ v st2 z. of_text_in (text_of v) st2 (λ text. match_then keeping ev nm text pattern st2 (λ from to st3. object_of keeping ev nm object st3 >>= (λ new. with_value new (λ w st4. with_text w st4 (λ part. assign_string keeping ev nm name (take from text ++ (part ++ drop to text)) st4))))) (λ text. match_then keeping ev' nm' text pattern st2 (λ from to st3. object_of keeping ev' nm' object st3 >>= (λ new. with_value new (λ w st4. with_text w st4 (λ part. assign_string keeping ev' nm' name (take from text ++ (part ++ drop to text)) st4))))) z
-          (λ text. matched_then text pattern st2 (λ from to st3. object_of keeping ev nm object st3 >>= (λ new. with_value new (λ w st4. with_text w st4 (λ part. assign_string keeping ev nm name (take from text ++ (part ++ drop to text)) st4)))) (λ from to st3. object_of keeping ev' nm' object st3 >>= (λ new. with_value new (λ w st4. with_text w st4 (λ part. assign_string keeping ev' nm' name (take from text ++ (part ++ drop to text)) st4)))) z
-          (λ from to st3 z3. both (object_of keeping ev nm object st3) (object_of keeping ev' nm' object st3) (λ new. with_value new (λ w st4. with_text w st4 (λ part. assign_string keeping ev nm name (take from text ++ (part ++ drop to text)) st4))) (λ new. with_value new (λ w st4. with_text w st4 (λ part. assign_string keeping ev' nm' name (take from text ++ (part ++ drop to text)) st4))) (objects object st3 z3)
-          (λ r4 x4. of_value r4 (λ w st4. with_text w st4 (λ part. assign_string keeping ev nm name (take from text ++ (part ++ drop to text)) st4)) (λ w st4. with_text w st4 (λ part. assign_string keeping ev' nm' name (take from text ++ (part ++ drop to text)) st4)) x4
-          (λ w st4 z4. of_text_in (text_of w) st4 (λ part. assign_string keeping ev nm name (take from text ++ (part ++ drop to text)) st4) (λ part. assign_string keeping ev' nm' name (take from text ++ (part ++ drop to text)) st4) z4
+          named variable st (λ name st1. keeping.used name st1 >>= (λ got. with_value got (λ v st2. with_text v st2 (λ text. match_then keeping ev nm text pattern st2 (λ from to st3. object_of keeping ev nm object st3 >>= (λ new. with_value new (λ w st4. with_text w st4 (λ part. assign_string keeping name (take from text ++ (part ++ drop to text)) st4)))))))) (λ name st1. keeping.used name st1 >>= (λ got. with_value got (λ v st2. with_text v st2 (λ text. match_then keeping ev' nm' text pattern st2 (λ from to st3. object_of keeping ev' nm' object st3 >>= (λ new. with_value new (λ w st4. with_text w st4 (λ part. assign_string keeping name (take from text ++ (part ++ drop to text)) st4)))))))) h
+          (λ name st1 y. both (keeping.used name st1) (keeping.used name st1) (λ got. with_value got (λ v st2. with_text v st2 (λ text. match_then keeping ev nm text pattern st2 (λ from to st3. object_of keeping ev nm object st3 >>= (λ new. with_value new (λ w st4. with_text w st4 (λ part. assign_string keeping name (take from text ++ (part ++ drop to text)) st4))))))) (λ got. with_value got (λ v st2. with_text v st2 (λ text. match_then keeping ev' nm' text pattern st2 (λ from to st3. object_of keeping ev' nm' object st3 >>= (λ new. with_value new (λ w st4. with_text w st4 (λ part. assign_string keeping name (take from text ++ (part ++ drop to text)) st4))))))) (uses name st1 y)
+          (λ r x. of_value r (λ v st2. with_text v st2 (λ text. match_then keeping ev nm text pattern st2 (λ from to st3. object_of keeping ev nm object st3 >>= (λ new. with_value new (λ w st4. with_text w st4 (λ part. assign_string keeping name (take from text ++ (part ++ drop to text)) st4)))))) (λ v st2. with_text v st2 (λ text. match_then keeping ev' nm' text pattern st2 (λ from to st3. object_of keeping ev' nm' object st3 >>= (λ new. with_value new (λ w st4. with_text w st4 (λ part. assign_string keeping name (take from text ++ (part ++ drop to text)) st4)))))) x
+          (λ v st2 z. of_text_in (text_of v) st2 (λ text. match_then keeping ev nm text pattern st2 (λ from to st3. object_of keeping ev nm object st3 >>= (λ new. with_value new (λ w st4. with_text w st4 (λ part. assign_string keeping name (take from text ++ (part ++ drop to text)) st4))))) (λ text. match_then keeping ev' nm' text pattern st2 (λ from to st3. object_of keeping ev' nm' object st3 >>= (λ new. with_value new (λ w st4. with_text w st4 (λ part. assign_string keeping name (take from text ++ (part ++ drop to text)) st4))))) z
+          (λ text. matched_then text pattern st2 (λ from to st3. object_of keeping ev nm object st3 >>= (λ new. with_value new (λ w st4. with_text w st4 (λ part. assign_string keeping name (take from text ++ (part ++ drop to text)) st4)))) (λ from to st3. object_of keeping ev' nm' object st3 >>= (λ new. with_value new (λ w st4. with_text w st4 (λ part. assign_string keeping name (take from text ++ (part ++ drop to text)) st4)))) z
+          (λ from to st3 z3. both (object_of keeping ev nm object st3) (object_of keeping ev' nm' object st3) (λ new. with_value new (λ w st4. with_text w st4 (λ part. assign_string keeping name (take from text ++ (part ++ drop to text)) st4))) (λ new. with_value new (λ w st4. with_text w st4 (λ part. assign_string keeping name (take from text ++ (part ++ drop to text)) st4))) (objects object st3 z3)
+          (λ r4 x4. of_value r4 (λ w st4. with_text w st4 (λ part. assign_string keeping name (take from text ++ (part ++ drop to text)) st4)) (λ w st4. with_text w st4 (λ part. assign_string keeping name (take from text ++ (part ++ drop to text)) st4)) x4
+          (λ w st4 z4. of_text_in (text_of w) st4 (λ part. assign_string keeping name (take from text ++ (part ++ drop to text)) st4) (λ part. assign_string keeping name (take from text ++ (part ++ drop to text)) st4) z4
           (λ part. strings name (take from text ++ (part ++ drop to text)) st4 z4))))))))
 
       follows : (labels : LabelList) (t : Target E) (i : ℕ) (st : K) → allowed st ≤ b → Alike (followed keeping ev nm labels t i st) (followed keeping ev' nm' labels t i st)

@@ -16,8 +16,8 @@ use Rattle.sno_value.specs.Values.{null}
 use Rattle.sno_code.specs.declared.got.Halt.TheVariants.{Normal, StatementLimit, Fault}
 use Rattle.sno_code.specs.declared.got.Got.{Got}
 use Rattle.sno_code.specs.declared.got.Got.TheVariants.{Gives, Fails, Halts}
-use Rattle.sno_code.specs.Evaluation.{Setting, evaluate, name_of}
-use Rattle.sno_code.specs.Keeping.{Keeping, NoMatch, Undefined, Enters, setting_of}
+use Rattle.sno_code.specs.Evaluation.{evaluate, name_of}
+use Rattle.sno_code.specs.Keeping.{Setting, Keeping, NoMatch, Undefined, Enters, setting_of}
 use Rattle.sno_code.specs.Lines.{Lines, At, lines_of}
 use Rattle.sno_code.specs.Running.{Turned, Goes, Ended, turn}
 

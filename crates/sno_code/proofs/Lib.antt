@@ -1,4 +1,5 @@
 pub mod Coded
+pub mod Performing
 pub mod Lined
 pub mod Depth
 pub mod Examples

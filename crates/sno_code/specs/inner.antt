@@ -1,4 +1,5 @@
 pub mod Code
+pub mod Acts
 pub mod Machine
 pub mod Coding
 pub mod Laws

@@ -6,3 +6,4 @@ pub mod Parts
 pub mod Standing
 pub mod Begins
 pub mod Assigning
+pub mod Splicing

@@ -3,6 +3,7 @@
 //! No statement is evaluated by recursion over its tree: a loop goes over its code, and only calls of functions nest.
 #![tactic(auto)]
 
+mod acting;
 mod doing;
 mod going;
 mod joining;
