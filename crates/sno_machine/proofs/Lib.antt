@@ -2,6 +2,7 @@ pub mod Counted
 pub mod Naming
 pub mod Falling
 pub mod Stepping
+pub mod Moved
 pub mod Parts
 pub mod Standing
 pub mod Begins
