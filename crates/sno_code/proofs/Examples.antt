@@ -7,7 +7,7 @@ use Rattle.sno_text.specs.declared.fault.Fault.TheVariants as fault
 use Rattle.sno_expression.specs.declared.tree.BinaryOperator.TheVariants.{Plus, Over, Times, Power}
 use Rattle.sno_expression.specs.declared.tree.UnaryOperator.TheVariants as unary
 use Rattle.sno_expression.specs.Expressions.{Expression, Identifier, Constant, Call, Unary, Binary, NoArguments, Omitted}
-use Rattle.sno_statement.specs.Statements.{Statement, Says, Does, NoBody, ValueObject, NoObject, NoGoto, Always, OnFailure}
+use Rattle.sno_statement.specs.Statements.{Says, Does, NoBody, ValueObject, Always}
 use Rattle.sno_statement.specs.Statements as statement
 use Rattle.sno_value.specs.declared.value.Value.{Value}
 use Rattle.sno_value.specs.declared.value.Value.TheVariants.{Text, Integer}
