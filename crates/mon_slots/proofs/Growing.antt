@@ -1,7 +1,7 @@
 -- Whatever holds of talks behind so many beginnings holds of a turn, if it holds of all that statements do to a job's state.
-use Rattle.std.proofs.Common.{◌≡◌, ℕ, zero, suc, ◌+◌, Bool, true, false, cond, List, [], ◌∷◌, ◌++◌, Option, Some, None, refl, sym, subst}
+use Rattle.std.proofs.Common.{◌≡◌, ℕ, zero, suc, ◌+◌, Bool, true, false, cond, List, [], ◌∷◌, ◌++◌, Option, Some, None, refl, subst}
 use Rattle.std.specs.Prelude.{take, drop, slice_get}
-use Rattle.sno_talk.specs.Talks.{Talk, Ends, Asks, ◌>>=◌}
+use Rattle.sno_talk.specs.Talks.{Talk, Ends, ◌>>=◌}
 use Rattle.sno_expression.specs.declared.tree.UnaryOperator.TheVariants as unary
 use Rattle.sno_expression.specs.Marks.{needs_variable}
 use Rattle.sno_expression.specs.Expressions.{Expression, Arguments, Identifier, Constant, Keyword, Unevaluated, Group, Call, Unary, Binary, NoArguments, Omitted, Argument}
@@ -12,7 +12,7 @@ use Rattle.sno_value.specs.Values.{null, text_of}
 use Rattle.sno_value.specs.Outcomes.{string}
 use Rattle.sno_code.specs.declared.got.Got.{Got}
 use Rattle.sno_code.specs.declared.got.Got.TheVariants.{Gives, Fails, Halts}
-use Rattle.sno_code.specs.Outcomes.{got_of, with_value, with_name, with_name_in}
+use Rattle.sno_code.specs.Outcomes.{got_of, with_value, with_name_in}
 use Rattle.sno_code.specs.Evaluation.{Setting, negated, Given, Values, Failing, Halting, with_values, one_more, given_too, evaluate, name_of, evaluate_all}
 use Rattle.sno_code.specs.Keeping.{Keeping, Matched, Between, NoMatch, Stopped, Entered, Undefined, Enters, Refused, setting_of}
 use Rattle.sno_code.specs.Lines.{Act, Nothing, Uses, SetsKeyword, Assigns, Matches, Replaces, Point, At, End, Return, FailureReturn, Target, Following, To, Computed, Line, Lines, point_of}

@@ -1,15 +1,15 @@
 -- As many statements have begun as a job's state tells.
-use Rattle.std.proofs.Common.{◌≡◌, ℕ, ◌+◌, ◌<◌, ◌≤◌, Bool, true, false, List, [], ◌∷◌, ◌++◌, Option, Some, None, refl, ap, sym, ◌∙◌, subst, arith, nat_lt, ◌&&◌}
+use Rattle.std.proofs.Common.{◌≡◌, ℕ, ◌+◌, ◌<◌, ◌≤◌, Bool, true, false, List, [], ◌∷◌, Option, Some, None, refl, ap, sym, subst, arith, nat_lt, ◌&&◌}
 use Rattle.std.specs.Prelude.{if◌then◌else◌}
 use Rattle.std.proofs.lemmas.Bool.Decides.{nat_tests}
-use Rattle.sno_talk.specs.Talks.{Talk, Ends, Asks, ◌>>=◌}
+use Rattle.sno_talk.specs.Talks.{Ends, Asks, ◌>>=◌}
 use Rattle.sno_talk.specs.Endings.{EndsIn}
 use Rattle.mon_answer.specs.declared.answer.Answer.{Answer}
 use Rattle.mon_answer.specs.declared.answer.Answer.TheVariants.{Done}
-use Rattle.sno_ask.specs.Asking.{Asking, Exchange}
-use Rattle.sno_ask.specs.Counting.{Moment, Beginning, Requesting, Counted, Passed, lifted, with_request, requests_in, with_statement, statements_in, Tells, Begins}
+use Rattle.sno_ask.specs.Asking.{Asking}
+use Rattle.sno_ask.specs.Counting.{Moment, Beginning, Requesting, Counted, Passed, lifted, with_statement, statements_in, Tells, Begins}
 use Rattle.sno_code.specs.Evaluation.{evaluate, name_of}
-use Rattle.sno_code.specs.Keeping.{Keeping, Entered, Enters}
+use Rattle.sno_code.specs.Keeping.{Entered, Enters}
 use Rattle.sno_code.specs.Lines.{Lines, Point}
 use Rattle.sno_code.specs.Running.{Turned, Goes, Ended, turn}
 use Rattle.sno_expression.specs.Expressions.{Expression}
@@ -18,7 +18,7 @@ use Rattle.sno_store.specs.States.{may_begin, with_statement as with_statement_b
 use Rattle.sno_keeping.specs.declared.limits.Limits.{Limits}
 use Rattle.sno_keeping.specs.Using.{used, assigned}
 use Rattle.sno_keeping.specs.Matching.{matched}
-use Rattle.sno_keeping.specs.Calling.{begun, entered, left}
+use Rattle.sno_keeping.specs.Calling.{begun}
 use Rattle.sno_keeping.specs.Primitives.{primitive}
 use Rattle.sno_keeping.specs.State.{keeping}
 use Rattle.sno_keeping.proofs.Counting.{Inside, used_stays, assigned_stays, keyword_stays, matched_stays, entered_stays, left_stays, primitive_stays}

@@ -1,4 +1,4 @@
-use Rattle.std.proofs.Common.{rules, None, ap, ◌∙◌}
+use Rattle.std.proofs.Common.{None, ap, ◌∙◌}
 use Rattle.std.proofs.lemmas.Result.{IfOk-weaker, IfErr-weaker, on_ok_weaker}
 use Rattle.sno_cards.specs.Statements.{statements_of}
 use Rattle.mon_slots.specs.Loads.{program_in, slot_by}
