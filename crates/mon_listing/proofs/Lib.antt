@@ -1,3 +1,4 @@
+pub mod Faults
 mod Firsts
 mod Listed
 mod Sections

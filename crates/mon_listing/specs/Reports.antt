@@ -39,6 +39,13 @@ pub record IsReport (question : Question) (bytes text : List ℕ) : Type 0 where
   pub there : missing question accounts sets ≡ None
   pub is : text ≡ access_text question accounts sets
 
+-- The deck comes to its stream, and what is asked about is not there.
+pub record IsMissing (question : Question) (bytes : List ℕ) (fault : Fault) : Type 0 where
+  pub accounts : List Account
+  pub sets : Sets
+  pub front : ReachesStream (lines bytes) accounts sets
+  pub lacking : missing question accounts sets ≡ Some fault
+
 -- a text is behind another, and is such a report
 abbrev pub Reported : Question → List ℕ → List ℕ → List ℕ → Type 0
 Reported question bytes before after = (text : List ℕ) × (after ≡ before ++ text) × IsReport question bytes text

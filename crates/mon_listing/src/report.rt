@@ -1,11 +1,11 @@
 //! The report of who may do what, from a deck's bytes, and from one stream to another.
-ghost use Rattle.std.specs.Prelude.{◌≡◌, ℕ, ◌<◌, ◌^◌, ◌++◌, length, None, OnOk, IfOk, IfSome};
+ghost use Rattle.std.specs.Prelude.{◌≡◌, ℕ, ◌<◌, ◌^◌, ◌++◌, length, None, Some, OnOk, IfOk, IfSome};
 ghost use Rattle.std.specs.Str.Lines.{lines};
 ghost use Rattle.std.specs.Io.KnownBytes.{Appends};
 ghost use Rattle.mon_cards.specs.declared.code.Code.{Code as AnyCode};
 ghost use Rattle.mon_listing.specs.Fronts.{IsRefusedEarly};
 ghost use Rattle.mon_listing.specs.Access.{access_text};
-ghost use Rattle.mon_listing.specs.Reports.{lacks_account, lacks_set, missing, Reported, ReportedTo};
+ghost use Rattle.mon_listing.specs.Reports.{lacks_account, lacks_set, missing, IsMissing, Reported, ReportedTo};
 
 use crate::access::put_access;
 use crate::fault::Fault;
@@ -24,6 +24,7 @@ use std::io::{ErrorKind, Read, Write};
 ///
 /// `DeckRefused` where the deck is refused before its stream; `NoAccount` or `NoSet` where it has none of the name that is
 /// asked about; `Memory` where a growth was refused, and `out` may then hold a part of the report.
+#[tactic(auto, using(crate::proofs::Faults::no_account_of, crate::proofs::Faults::no_set_of))]
 pub fn put_report(
     alloc: Global,
     bytes: &[u8],
@@ -33,6 +34,8 @@ pub fn put_report(
     requires { length bytes.now < 2 ^ 63 }
     ensures reported { OnOk result (Reported question.now bytes.now out.old.items out.new.items) }
     ensures refused { (n : ℕ) (code : AnyCode) → result ≡ Err (Fault.DeckRefused n code) → IsRefusedEarly (lines bytes.now) n code }
+    ensures no_account { result ≡ Err Fault.NoAccount → IsMissing question.now bytes.now Fault.NoAccount }
+    ensures no_set { result ≡ Err Fault.NoSet → IsMissing question.now bytes.now Fault.NoSet }
 {
     match read_front(alloc, bytes) {
         Ok(front) => put_front_report(&front, question, out),
@@ -45,6 +48,8 @@ fn put_front_report(front: &Front, question: &Question, out: &mut Vec<u8>) -> Re
     ensures there { OnOk result (missing question.now front.now.accounts front.now.catalogue ≡ None) }
     ensures written { OnOk result (out.new.items ≡ out.old.items ++ access_text question.now front.now.accounts front.now.catalogue) }
     ensures never { (n : ℕ) (code : AnyCode) → result ≡ Err (Fault.DeckRefused n code) → ⊥ }
+    ensures no_account { result ≡ Err Fault.NoAccount → missing question.now front.now.accounts front.now.catalogue ≡ Some Fault.NoAccount }
+    ensures no_set { result ≡ Err Fault.NoSet → missing question.now front.now.accounts front.now.catalogue ≡ Some Fault.NoSet }
 {
     if let Some(fault) = missing(front, question) {
         return Err(fault);
@@ -100,6 +105,8 @@ pub fn report_streams<R: Read, W: Write>(
     ensures reported { OnOk result (IfSome (R.remaining input.old) (λ bytes. ReportedTo question.now bytes (W.contents output.old) (W.contents output.new))) }
     ensures refused { (n : ℕ) (code : AnyCode) → result ≡ Err (Fault.DeckRefused n code) →
         IfSome (R.remaining input.old) (λ bytes. IsRefusedEarly (lines bytes) n code) }
+    ensures no_account { result ≡ Err Fault.NoAccount → IfSome (R.remaining input.old) (λ bytes. IsMissing question.now bytes Fault.NoAccount) }
+    ensures no_set { result ≡ Err Fault.NoSet → IfSome (R.remaining input.old) (λ bytes. IsMissing question.now bytes Fault.NoSet) }
 {
     let bytes = read_all(alloc, input)?;
     let mut out = Vec::new(alloc);
@@ -111,6 +118,8 @@ pub fn report_streams<R: Read, W: Write>(
 fn read_all<R: Read>(alloc: Global, input: &mut R) -> Result<Vec<u8>, Fault>
     ensures all { IfOk result (λ bytes. IfSome (R.remaining input.old) (λ told. bytes.items ≡ told)) }
     ensures never { (n : ℕ) (code : AnyCode) → result ≡ Err (Fault.DeckRefused n code) → ⊥ }
+    ensures no_account { result ≡ Err Fault.NoAccount → ⊥ }
+    ensures no_set { result ≡ Err Fault.NoSet → ⊥ }
 {
     let mut bytes = Vec::new(alloc);
     match input.read_to_end(&mut bytes) {
@@ -123,6 +132,8 @@ fn read_all<R: Read>(alloc: Global, input: &mut R) -> Result<Vec<u8>, Fault>
 fn write_all<W: Write>(output: &mut W, text: &[u8]) -> Result<(), Fault>
     ensures written { OnOk result (Appends (W.contents output.old) (W.contents output.new) text.now) }
     ensures never { (n : ℕ) (code : AnyCode) → result ≡ Err (Fault.DeckRefused n code) → ⊥ }
+    ensures no_account { result ≡ Err Fault.NoAccount → ⊥ }
+    ensures no_set { result ≡ Err Fault.NoSet → ⊥ }
 {
     match output.write_all(text) {
         Ok(()) => Ok(()),
