@@ -53,6 +53,22 @@ class Built(Trying):
         self.ran()
         self.assertEqual(self.builds(), 3)
 
+    def proved(self, *words):
+        return run([self.path('tools/proved'), *words], given=b'', cwd='/')
+
+    def test_what_the_gate_built_is_taken(self):
+        sum = self.proved('--sum', 'snomon').out.decode().strip('\n')
+        os.makedirs(self.path('crates/snomon/out'))
+        self.write('crates/snomon/out/snomon', b'#!/bin/sh\necho of the gate\n')
+        os.chmod(self.path('crates/snomon/out/snomon'), 0o755)
+        self.assertEqual(self.proved('--stamp', 'snomon', sum).status, 0)
+        done = self.ran()
+        self.assertEqual((done.status, done.out, done.err, self.builds()), (0, b'of the gate\n', '', 0))
+        self.write('crates/mon_low/specs/Low.antt', b'two\n')
+        self.proved('--stamp', 'snomon', sum)
+        self.ran()
+        self.assertEqual(self.builds(), 1)
+
     def test_help_builds_nothing(self):
         done = self.ran('--help')
         self.assertEqual((done.status, done.out, self.builds()), (2, b'', 0))
