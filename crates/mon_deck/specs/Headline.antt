@@ -28,8 +28,8 @@ history_of options m bytes = let scene = scene_of options bytes in history (aske
 pub record TellsAll (options : Options) (m : Marks) (bytes : List ℕ) (deck : Deck) (entries : List Entry) (last : Played) : Type 0 where
   -- In its order, each command and each job that its cards ask for is there, and no other.
   pub cards : cards_in entries ≡ cards_of (asked_of options bytes)
-  -- Of each job there is what its program means, up to its end or to where it was broken off for want of memory, and nothing
-  -- else: what it asks, as it is answered, and what it prints.
+  -- Of each job there is what its program means, up to its end or to where a mark breaks it off, and nothing else: what it
+  -- asks, as it is answered, and what it prints.
   pub jobs : (n : ℕ) → IsJob deck.accounts last.after.floor.slots (job_of n (asked_of options bytes)) (own n entries)
   -- Behind `$STOP` each job has ended.
   pub ended : deck.cards.ending ≡ Stopped → (s : ℕ) → job_in s last.after.floor ≡ None
@@ -38,7 +38,7 @@ pub record TellsAll (options : Options) (m : Marks) (bytes : List ℕ) (deck : D
   pub lead : Lead deck.accounts deck.catalogue entries last.after.floor.sets
   -- A record is got, a data set changed, a record, list or name shown, exactly where that is asked, then granted, and fit for the
   -- set's mode. Each denial names the entry that decides, what is missing, or MODE, which comes after the grant; and it changes
-  -- nothing.
+  -- no data set.
   pub granted : AllByRecursion (IsRight deck.accounts) entries
   -- The output is what the entries print, in order, and then the catalogue.
   pub output : output_of options m bytes ≡ papers_text (papers_in entries) ++ closing last.after.floor.sets deck.cards.ending
