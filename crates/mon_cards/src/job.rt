@@ -11,7 +11,7 @@ ghost use Rattle.mon_cards.specs.inner.Stops.{Answers};
 
 use crate::card::Card;
 use crate::code::Code;
-use crate::option::{option_number, sets_statements, sets_steps, with_option};
+use crate::job_options::{option_number, sets_statements, sets_steps, with_option};
 use crate::words::{MOST_LINE_CHARACTERS, Words, begins_with_dollar, line_of, name_of, number_of};
 use mon_job::{JobDeck, JobLimits, UnitCard, UnitCards};
 use mon_text::{Line, Name, Stop};
