@@ -1,5 +1,5 @@
 -- As many statements have begun as a job's state tells.
-use Rattle.std.proofs.Common.{◌≡◌, ℕ, ◌+◌, ◌<◌, ◌≤◌, Bool, true, false, List, [], ◌∷◌, Option, Some, None, refl, ap, sym, subst, arith, nat_lt, ◌&&◌}
+use Rattle.std.proofs.Common.{◌≡◌, ℕ, ◌+◌, ◌<◌, Bool, true, false, List, [], ◌∷◌, Option, Some, None, refl, ap, sym, subst, arith, nat_lt, ◌&&◌}
 use Rattle.std.specs.Prelude.{if◌then◌else◌}
 use Rattle.std.proofs.lemmas.Bool.Decides.{nat_tests}
 use Rattle.sno_talk.specs.Talks.{Ends, Asks, ◌>>=◌}
@@ -7,12 +7,8 @@ use Rattle.sno_talk.specs.Endings.{EndsIn}
 use Rattle.mon_answer.specs.declared.answer.Answer.{Answer}
 use Rattle.mon_answer.specs.declared.answer.Answer.TheVariants.{Done}
 use Rattle.sno_ask.specs.Asking.{Asking}
-use Rattle.sno_ask.specs.Counting.{Moment, Beginning, Requesting, Counted, Passed, lifted, with_statement, statements_in, Tells, Begins}
-use Rattle.sno_code.specs.Evaluation.{evaluate, name_of}
+use Rattle.sno_ask.specs.Counting.{Moment, Beginning, Requesting, Counted, Passed, lifted, with_statement, statements_in, Tells}
 use Rattle.sno_code.specs.Keeping.{Entered, Enters}
-use Rattle.sno_code.specs.Lines.{Lines, Point}
-use Rattle.sno_code.specs.Running.{Turned, Goes, Ended, turn}
-use Rattle.sno_expression.specs.Expressions.{Expression}
 use Rattle.sno_store.specs.declared.store.Store.{Store as State}
 use Rattle.sno_store.specs.States.{may_begin, with_statement as with_statement_begun}
 use Rattle.sno_keeping.specs.declared.limits.Limits.{Limits}
@@ -22,10 +18,7 @@ use Rattle.sno_keeping.specs.Calling.{begun}
 use Rattle.sno_keeping.specs.Primitives.{primitive}
 use Rattle.sno_keeping.specs.State.{keeping}
 use Rattle.sno_keeping.proofs.Counting.{Inside, used_stays, assigned_stays, keyword_stays, matched_stays, entered_stays, left_stays, primitive_stays}
-use Rattle.sno_run.specs.declared.ending.Ending.{Ending}
-use Rattle.sno_run.specs.declared.ending.Step.{Step}
-use Rattle.sno_run.specs.Jobs.{Job, stepped, turn_from, counted_turn, statements_begun}
-use Rattle.mon_slots.proofs.Growing.{Grows, holds_turn}
+use Rattle.sno_code.proofs.Growing.{Grows}
 
 -- so many statements have begun: each that begins is one more, within the limit; and what it ends with tells how many
 abbrev pub Tallied : {A : Type 0} → ℕ → (A → ℕ) → ℕ → Counted A → Type 0
@@ -34,7 +27,7 @@ Tallied limit count n (Asks Beginning f) = (n < limit) × Tallied limit count (n
 Tallied limit count n (Asks (Requesting q) f) = (r : Answer) → Tallied limit count n (f r)
 
 module _ (limit : ℕ) where
-  tallied_then : {A B : Type 0} (count : A → ℕ) (counts : B → ℕ) (n : ℕ) (t : Counted A) (k : A → Counted B)
+  pub tallied_then : {A B : Type 0} (count : A → ℕ) (counts : B → ℕ) (n : ℕ) (t : Counted A) (k : A → Counted B)
       → Tallied limit count n t → ((a : A) → Tallied limit counts (count a) (k a)) → Tallied limit counts n (t >>= k)
   tallied_then count counts n (Ends a) k h g = subst (λ (m : ℕ). Tallied limit counts m (k a)) h (g a)
   tallied_then count counts n (Asks Beginning f) k h g = (h.0, tallied_then count counts (n + 1) (f Done) k h.1 g)
@@ -55,17 +48,6 @@ module _ (limit : ℕ) where
   tallied_told count n (Asks (Requesting q) f) (m ∷ x) a h g =
       subst (λ (z : Moment). count a ≡ n + with_statement z (statements_in x)) (sym g.0) (tallied_told count n (f m.reply) x a (h m.reply) g.2)
 
-  -- and no more begin than the limit
-  pub tallied_within : {A : Type 0} (count : A → ℕ) (n : ℕ) (t : Counted A) (x : List Passed) → Tallied limit count n t → n ≤ limit → Begins t x → n + statements_in x ≤ limit
-  tallied_within count n t [] h le g = omega (arith, le)
-  tallied_within count n (Ends b) (m ∷ x) h le g = absurd g
-  tallied_within count n (Asks Beginning f) (m ∷ x) h le g =
-      let below = h.0 in
-      let rest : n + 1 + statements_in x ≤ limit = tallied_within count (n + 1) (f Done) x h.1 (omega (arith, below)) (subst (λ (r : Answer). Begins (f r) x) g.1 g.2) in
-      subst (λ (z : Moment). n + with_statement z (statements_in x) ≤ limit) (sym g.0) (omega (arith, rest))
-  tallied_within count n (Asks (Requesting q) f) (m ∷ x) h le g =
-      subst (λ (z : Moment). n + with_statement z (statements_in x) ≤ limit) (sym g.0) (tallied_within count n (f m.reply) x (h m.reply) le g.2)
-
 -- A STATE
 
 abbrev One : ℕ → State → Option State → Type 0
@@ -85,20 +67,20 @@ one_begun limit number s = by (may_begin limit s) refl
         (grind (arith, nat_tests), refl)
     by false h = tt
 
-abbrev StateTallied : ℕ → (A : Type 0) → ℕ → Counted (A × State) → Type 0
+abbrev pub StateTallied : ℕ → (A : Type 0) → ℕ → Counted (A × State) → Type 0
 StateTallied limit A n t = Tallied limit (λ (r : A × State). r.1.keywords.begun) n t
 
-state_done : (limit : ℕ) (A : Type 0) (r : A × State) → StateTallied limit A r.1.keywords.begun (Ends r)
+pub state_done : (limit : ℕ) (A : Type 0) (r : A × State) → StateTallied limit A r.1.keywords.begun (Ends r)
 state_done limit A r = refl
 
-state_then : (limit : ℕ) (A C : Type 0) (n : ℕ) (t : Counted (A × State)) (k : A × State → Counted (C × State)) → StateTallied limit A n t
+pub state_then : (limit : ℕ) (A C : Type 0) (n : ℕ) (t : Counted (A × State)) (k : A × State → Counted (C × State)) → StateTallied limit A n t
     → ((r : A × State) → StateTallied limit C r.1.keywords.begun (k r)) → StateTallied limit C n (t >>= k)
 state_then limit A C n t k h g = tallied_then limit (λ (r : A × State). r.1.keywords.begun) (λ (r : C × State). r.1.keywords.begun) n t k h g
 
-abbrev begun_in : State → ℕ
+abbrev pub begun_in : State → ℕ
 begun_in s = s.keywords.begun
 
-state_grows : (limits : Limits) → Grows begun_in (StateTallied limits.statements) (state_done limits.statements) (state_then limits.statements) (keeping limits)
+pub state_grows : (limits : Limits) → Grows begun_in (StateTallied limits.statements) (state_done limits.statements) (state_then limits.statements) (keeping limits)
 state_grows limits = record {
   used = λ name s. tallied_lifted limits.statements _ s.keywords.begun (used name s) (used_stays s.keywords.begun name s refl);
   assigned = λ name v s. tallied_lifted limits.statements _ s.keywords.begun (assigned name v s) (assigned_stays s.keywords.begun name v s refl);
@@ -111,25 +93,3 @@ state_grows limits = record {
   left = λ s. left_stays s.keywords.begun s refl;
   primitive = λ f vs s. tallied_lifted limits.statements _ s.keywords.begun (primitive f vs s) (primitive_stays s.keywords.begun f vs s refl);
 }
-
-turn_tallied : (limits : Limits) (program : Lines Expression Expression) (n : ℕ) (p : Point) (s : State)
-    → StateTallied limits.statements Turned s.keywords.begun (turn (keeping limits) evaluate name_of program n p s)
-turn_tallied limits program n p s =
-    holds_turn begun_in (StateTallied limits.statements) (state_done limits.statements) (state_then limits.statements) (keeping limits) (state_grows limits) program n p s
-
--- A JOB
-
-stepped_count : (job : Job) (r : Turned × State) → statements_begun (stepped job r).1 ≡ r.1.keywords.begun
-stepped_count job (Goes p, s) = refl
-stepped_count job (Ended h, s) = refl
-
--- what a turn leaves tells how many statements have begun
-pub job_tallied : (job : Job) → Tallied job.limits.statements (λ (r : Step × Job). statements_begun r.1) (statements_begun job) (counted_turn job)
-job_tallied job = by (job.ended)
-  where
-    by : (o : Option Ending) → Tallied job.limits.statements (λ (r : Step × Job). statements_begun r.1) (statements_begun job) (turn_from o job)
-    by (Some e) = refl
-    by None =
-        tallied_then job.limits.statements (λ (r : Turned × State). r.1.keywords.begun) (λ (r : Step × Job). statements_begun r.1) (statements_begun job)
-        (turn (keeping job.limits) evaluate name_of job.program job.limits.statements job.point job.state) (λ r. Ends (stepped job r))
-        (turn_tallied job.limits job.program job.limits.statements job.point job.state) (stepped_count job)
