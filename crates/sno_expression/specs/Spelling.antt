@@ -32,10 +32,13 @@ abbrev mutual
   SpellsTo b (Constant c) ts rest = (a : Bool) × (ts ≡ spaced b a (token.Constant c) ∷ rest)
   SpellsTo b (Keyword n) ts rest = (a : Bool) × (ts ≡ spaced b false (token.Mark Ampersand) ∷ spaced false a (token.Identifier n) ∷ rest)
   SpellsTo b (Unevaluated n) ts rest = (a : Bool) × (ts ≡ spaced b false (token.Mark Star) ∷ spaced false a (token.Identifier n) ∷ rest)
-  SpellsTo b (Group t) ts rest = (m : List Token) × (a : Bool) × (c : Bool) × (d : Bool) × (e : Bool) × (ts ≡ spaced b a token.Open ∷ m) × SpellsTo c t m (spaced d e token.Close ∷ rest)
+  SpellsTo b (Group t) ts rest = (m : List Token) × (a : Bool) × (c : Bool) × (d : Bool) × (e : Bool) × (ts ≡ spaced b a token.Open ∷ m)
+      × SpellsTo c t m (spaced d e token.Close ∷ rest)
   SpellsTo b (Call f args) ts rest =
-      (m : List Token) × (a : Bool) × (c : Bool) × (d : Bool) × (e : Bool) × (ts ≡ spaced b a (token.Identifier f) ∷ spaced false c token.Open ∷ m) × SpellTo args m (spaced d e token.Close ∷ rest)
-  SpellsTo b (Unary s t) ts rest = (m : List Token) × (k : Mark) × (prefix_of k ≡ Some (OfOperand s)) × (ts ≡ spaced b false (token.Mark k) ∷ m) × SpellsTo false t m rest
+      (m : List Token) × (a : Bool) × (c : Bool) × (d : Bool) × (e : Bool) × (ts ≡ spaced b a (token.Identifier f) ∷ spaced false c token.Open ∷ m)
+          × SpellTo args m (spaced d e token.Close ∷ rest)
+  SpellsTo b (Unary s t) ts rest = (m : List Token) × (k : Mark) × (prefix_of k ≡ Some (OfOperand s)) × (ts ≡ spaced b false (token.Mark k) ∷ m)
+      × SpellsTo false t m rest
   SpellsTo b (Binary o l r) ts rest = (m : List Token) × (n : List Token) × SpellsTo b l ts m × Joins o m n × SpellsTo true r n rest
 
   pub SpellTo : Arguments → List Token → List Token → Type 0

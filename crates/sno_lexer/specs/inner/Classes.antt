@@ -14,7 +14,7 @@ use Rattle.sno_token.specs.declared.TokenKind.TheVariants as kind
 use Rattle.sno_token.specs.declared.Part.TheVariants as part
 use Rattle.sno_token.specs.declared.Constant.TheVariants as constant
 use Rattle.sno_lexer.specs.Written.{is_identifier_character, is_label_character, is_letter_or_digit, is_quote}
-use Rattle.sno_lexer.specs.Following.{begins}
+use Rattle.sno_lexer.specs.Following.{first_passes}
 use Rattle.sno_lexer.specs.declared.character.Run.{Run}
 use Rattle.sno_lexer.specs.declared.character.Run.TheVariants.{InIdentifier, InInteger, InLabel, InLiteral}
 use Rattle.sno_lexer.specs.declared.begin.Class.{Class}
@@ -43,7 +43,7 @@ quoted_in (quote ∷ text) = run_in (InLiteral quote) text
 -- WHAT BEGINS
 
 abbrev pub begins_with : ℕ → List ℕ → Bool
-begins_with code text = begins (λ c. c == code) text
+begins_with code text = first_passes (λ c. c == code) text
 
 -- `S` or `F`, and nothing else
 abbrev pub outcome_of : List ℕ → Option Outcome
