@@ -14,7 +14,7 @@ use Rattle.mon_catalogue.specs.declared.mode.Mode.TheVariants.{Seq, Append}
 use Rattle.mon_catalogue.specs.declared.data_set.DataSet.{DataSet}
 use Rattle.mon_catalogue.specs.declared.catalogue.CreateError.{CreateError}
 use Rattle.mon_catalogue.specs.Sets.{Sets, find_set, create_refusal}
-use Rattle.mon_catalogue.specs.Changes.{with_changed, without_set, listed}
+use Rattle.mon_catalogue.specs.Changes.{with_changed, without_set}
 use Rattle.mon_catalogue.specs.Writing.{Change, Add, writing, records_after, recorded}
 use Rattle.mon_catalogue.proofs.Changed.{other_sets_stay, named_set_changes}
 use Rattle.mon_answer.specs.declared.answer.Reason.{Reason}
@@ -36,6 +36,7 @@ use Rattle.mon_monitor.specs.History.{Entry, Entered, Refused, Asked, Ended, Ord
 use Rattle.mon_monitor.specs.Headline.{StandsOver, sets_after, Lead}
 use Rattle.mon_monitor.specs.Appending.{Begins, Keeps, HasDeleted, Deletes, NoneDeletes, AppendOnly}
 use Rattle.mon_monitor.proofs.Accounting.{history_lead}
+use Rattle.mon_catalogue.proofs.Shorthand.{listed}
 
 begins_then : (a b c : List (List ℕ)) → Begins a b → Begins b c → Begins a c
 begins_then a b c h k = (h.0 ++ k.0, k.1 ∙ ap (λ (l : List (List ℕ)). l ++ k.0) h.1 ∙ append_assoc a h.0 k.0)

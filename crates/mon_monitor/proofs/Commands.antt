@@ -20,7 +20,7 @@ use Rattle.mon_catalogue.specs.declared.data_set.DataSet.{DataSet}
 use Rattle.mon_catalogue.specs.declared.catalogue.CreateError.{CreateError}
 use Rattle.mon_catalogue.specs.declared.catalogue.CreateError.TheVariants.{NameTaken, CatalogueFull}
 use Rattle.mon_catalogue.specs.Sets.{Sets, find_set, NamesDiffer, create_refusal}
-use Rattle.mon_catalogue.specs.Changes.{without_set, with_acl, listed}
+use Rattle.mon_catalogue.specs.Changes.{without_set, with_acl}
 use Rattle.mon_catalogue.proofs.Changed.{other_sets_stay, named_set_changes, order_stays}
 use Rattle.mon_answer.specs.declared.answer.Reason.{Reason}
 use Rattle.mon_answer.specs.declared.answer.Reason.TheVariants.{NoSet, NotOwner}
@@ -36,6 +36,7 @@ use Rattle.mon_monitor.specs.Agreeing.{LooksAlike, Both}
 use Rattle.mon_monitor.specs.Isolation.{CommandsAgree}
 use Rattle.mon_monitor.proofs.Finding.{BothFound, found_both, both_changed, both_length, both_append, both_without, both_keys}
 use Rattle.mon_monitor.proofs.Requests.{like_itself, decided_alike, ties_stay}
+use Rattle.mon_catalogue.proofs.Shorthand.{listed}
 
 -- what a command is answered, and what it leaves
 record StillAlike (account : Account) (sets others : Sets) (s t : Served) : Type 0 where

@@ -12,7 +12,7 @@ use Rattle.mon_catalogue.specs.declared.mode.Mode.TheVariants.{Seq, Append}
 use Rattle.mon_catalogue.specs.declared.data_set.DataSet.{DataSet}
 use Rattle.mon_catalogue.specs.declared.data_set.SetFull.{SetFull}
 use Rattle.mon_catalogue.specs.Sets.{Sets, find_set}
-use Rattle.mon_catalogue.specs.Writing.{Change, Put, Cut, Add, add_refusal, writing, recorded}
+use Rattle.mon_catalogue.specs.Writing.{Change, Put, Cut, Add, writing, recorded, change_refusal}
 use Rattle.mon_catalogue.proofs.Changed.{named_set_changes}
 use Rattle.mon_answer.specs.declared.answer.Reason.TheVariants.{Mode as WrongMode}
 use Rattle.mon_answer.specs.declared.answer.Answer.TheVariants.{Denied, Full}
@@ -129,7 +129,7 @@ module _ (account : Account) (d e : DataSet) (l : LooksAlike account d e) where
   adds_alike : (line : List ℕ) → length d.records ≡ length e.records → OneAct account d e (changing (Add line) d.records) (changing (Add line) e.records)
   adds_alike line many =
       subst (λ (o : Option SetFull). OneAct account d e (changing (Add line) d.records) (made (Add line) e.records o))
-      (ap (λ (n : ℕ). if nat_le 100000 n then Some (record {}) else None) many) (by (add_refusal d.records))
+      (ap (λ (n : ℕ). if nat_le 100000 n then Some (record {}) else None) many) (by (change_refusal (Add line) d.records))
     where
       by : (o : Option SetFull) → OneAct account d e (made (Add line) d.records o) (made (Add line) e.records o)
       by None = record { act = refl; alike = added_alike line many; moves = λ p h. absurd cc }
