@@ -58,8 +58,7 @@ ended Append position records = only_answered (Denied reason.Mode)
 
 abbrev pub asks : Act → Perms
 asks (Read position) = to_read
-asks (Write position line) = to_write
-asks (End position) = to_write
+asks act = to_write
 
 -- what is granted, by the set's mode
 abbrev pub done : Act → DataSet → Acted

@@ -30,13 +30,14 @@ use Rattle.mon_unit.specs.declared.tie.Tie.{Tie}
 use Rattle.mon_unit.specs.declared.note.NoteAct.{NoteAct}
 use Rattle.mon_unit.specs.declared.note.NoteTarget.{NoteTarget}
 use Rattle.mon_unit.specs.State.{UnitState}
-use Rattle.mon_unit.specs.Tying.{or_untied, tie_at}
-use Rattle.mon_unit.specs.Serving.{Reach, unit_of, note_act, note_target, noted, moved, spooled, on_set, acted_at, Effect, effect_of, set_at, set_of, looked, changed_at, effect, serve}
+use Rattle.mon_unit.specs.Tying.{tie_at}
+use Rattle.mon_unit.specs.Serving.{Reach, unit_of, note_act, note_target, noted, moved, spooled, on_set, acted_at, Effect, effect_of, set_at, set_of, changed_at, effect, serve}
 use Rattle.mon_unit.specs.Laws.{Same}
 use Rattle.mon_unit.proofs.Looks.{serve_alike}
 use Rattle.mon_monitor.specs.Agreeing.{LooksAlike, Both, TiesFit}
 use Rattle.mon_monitor.specs.Isolation.{RequestAgrees, RequestsAgree}
 use Rattle.mon_monitor.proofs.Finding.{BothFound, found_both, both_changed}
+use Rattle.mon_unit.proofs.Shorthand.{or_untied, looked}
 
 abbrev with_records : List (List ℕ) → DataSet → DataSet
 with_records records set = record set { records = records }
