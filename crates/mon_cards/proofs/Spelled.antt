@@ -12,14 +12,17 @@ use Rattle.mon_cards.specs.declared.card.Card.{Card}
 use Rattle.mon_cards.specs.declared.card.Card.TheVariants as card
 use Rattle.mon_cards.specs.declared.code.Code.{Code}
 use Rattle.mon_cards.specs.declared.code.Code.TheVariants.{BadCharacter, LineTooLong, UnknownCard, BadCard, OutOfPlace}
-use Rattle.mon_cards.specs.Cards.{card_among, is_same_card, is_card}
-use Rattle.mon_cards.specs.Refusing.{or_else, unless, line_refusal, lone_card_refusal, is_dollar_line}
+use Rattle.mon_cards.specs.Cards.{card_among, is_card}
+use Rattle.mon_cards.specs.Refusing.{unless, line_refusal, lone_card_refusal, is_dollar_line}
 use Rattle.mon_cards.specs.CardLines.{IsLineWithin, IsCard}
+use Rattle.std.specs.Option.{option_or}
+use denote.Enum.Bare.{sameb}
+use Rattle.mon_cards.specs.contracts.card.Card.{the_type}
 
 pub both_hold : (a b : Bool) → a ≡ true → b ≡ true → (a && b) ≡ true
 both_hold a b h k = rw (h, k) refl
 
-pub neither : (a b : Option Code) → or_else a b ≡ None → (a ≡ None) × (b ≡ None)
+pub neither : (a b : Option Code) → option_or a b ≡ None → (a ≡ None) × (b ≡ None)
 neither None b h = (refl, h)
 neither (Some code) b h = cc
 
@@ -93,11 +96,11 @@ no_dollar_names line names = by (is_dollar_line line) refl
 
 -- ---- cards
 
-pub lone_card_taken : (due : Card) (limit : ℕ) (line : List ℕ) → is_same_card due due ≡ true → IsCard limit due [] line → lone_card_refusal due (words line) ≡ None
+pub lone_card_taken : (due : Card) (limit : ℕ) (line : List ℕ) → sameb the_type due due ≡ true → IsCard limit due [] line → lone_card_refusal due (words line) ≡ None
 lone_card_taken due limit line same is =
     ap (lone_card_refusal due) is.words_are
-    ∙ ap (λ (o : Option Card). or_else (unless (is_some o) UnknownCard) (or_else (unless (is_card due o) OutOfPlace) (unless (length (is.word ∷ []) == 1) BadCard))) is.names_it
-    ∙ ap (λ (b : Bool). or_else (unless b OutOfPlace) None) same
+    ∙ ap (λ (o : Option Card). option_or (unless (is_some o) UnknownCard) (option_or (unless (is_card due o) OutOfPlace) (unless (length (is.word ∷ []) == 1) BadCard))) is.names_it
+    ∙ ap (λ (b : Bool). option_or (unless b OutOfPlace) None) same
 
 -- a card with no further word
 pub alone : (due : Card) (limit : ℕ) (line : List ℕ) → IsLineWithin limit line → card_among (words line) ≡ Some due → (length (words line) == 1) ≡ true → IsCard limit due [] line
