@@ -5,7 +5,7 @@ use Rattle.std.specs.List.{list_all, list_any}
 use Rattle.std.proofs.lemmas.List.{take-append-drop}
 use Rattle.std.proofs.lemmas.Bool.Decides.{nat_tests}
 use mathlib.Core.Logic.{inl, inr}
-use Rattle.mon_text.specs.Characters.{is_blank, is_digit, is_letter, is_printable}
+use Rattle.mon_text.specs.Characters.{is_blank, is_digit, is_letter, is_printable, is_quote, is_letter_or_digit}
 use Rattle.mon_text.specs.Counts.{value_of}
 use Rattle.mon_text.specs.Lines.{is_line}
 use Rattle.sno_token.specs.declared.TokenKind.{TokenKind}
@@ -17,7 +17,6 @@ use Rattle.sno_lexer.specs.declared.begin.Context.{Context}
 use Rattle.sno_lexer.specs.declared.fault.FaultKind.{FaultKind}
 use Rattle.sno_lexer.specs.declared.fault.FaultKind.TheVariants.{BadConstant, Foreign, TooMany}
 use Rattle.sno_lexer.specs.inner.Classes.{class_of, class_of_quote, class_of_sign, class_of_value, class_of_word, found, further, is_one_too_many, kind_of, let_in, let_in_if_good, run_in, star, text_of}
-use Rattle.sno_lexer.specs.Written.{is_letter_or_digit, is_quote}
 use Rattle.sno_lexer.specs.Following.{IsFault, fault_of, is_label_due, is_too_many}
 use Rattle.sno_lexer.proofs.Contexts.{Knows, limits_are}
 use Rattle.sno_lexer.proofs.Words.{IsSmall, Whole, all_of_run, class_whole, digit_not_due, integer_stands}

@@ -3,7 +3,7 @@ use Rattle.std.proofs.Common.{arith, ◌≡◌, ℕ, ◌+◌, ◌-◌, List, [],
 use Rattle.std.specs.Prelude.{Bool, true, false, not, ◌&&◌, ◌||◌, ◌==◌, ◌^◌, cond, pos, ℤ, Option, Some, None, Result, Ok, Err, nat_lt, codes, if◌then◌else◌}
 use Rattle.std.specs.List.{list_all, list_any, position_or_len}
 use Rattle.std.proofs.lemmas.Bool.Decides.{nat_tests}
-use Rattle.mon_text.specs.Characters.{is_blank, is_digit, is_letter}
+use Rattle.mon_text.specs.Characters.{is_blank, is_digit, is_letter, is_quote, is_identifier_character, is_letter_or_digit}
 use Rattle.mon_text.specs.Counts.{value_of}
 use Rattle.sno_token.specs.declared.TokenKind.{TokenKind}
 use Rattle.sno_token.specs.declared.TokenKind.TheVariants as kind
@@ -21,11 +21,12 @@ use Rattle.sno_lexer.specs.declared.begin.Context.{Context}
 use Rattle.sno_lexer.specs.declared.fault.FaultKind.{FaultKind}
 use Rattle.sno_lexer.specs.declared.fault.FaultKind.TheVariants.{BadConstant, Foreign, TooMany}
 use Rattle.sno_lexer.specs.inner.Classes.{class_of, class_of_quote, class_of_sign, class_of_value, class_of_word, found, further, goes_on, kind_of, let_in_if_good, name_or, outcome_of, run_in, star, text_of}
-use Rattle.sno_lexer.specs.Written.{begins_token, continues, is_identifier_character, is_label_character, is_letter_or_digit, is_quote, mark_text}
-use Rattle.sno_lexer.specs.Following.{Stands, first_passes, fault_of, since_colon, in_goto, is_label_due, is_outcome, is_outcome_due, is_too_many, open_after}
+use Rattle.sno_lexer.specs.Written.{begins_token, continues, is_label_character, mark_text}
+use Rattle.sno_lexer.specs.Following.{Stands, fault_of, since_colon, in_goto, is_label_due, is_outcome, is_outcome_due, is_too_many, open_after}
 use Rattle.sno_lexer.proofs.Contexts.{Knows, outcome_due}
 use Rattle.sno_lexer.proofs.Faults.{good_or, let_in_is}
 use Rattle.sno_lexer.proofs.Words.{IsSmall, and_false, both, run_on, word_goes_on}
+use Rattle.mon_text.specs.Beginnings.{first_passes}
 
 -- RUNS
 

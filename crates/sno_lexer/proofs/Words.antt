@@ -5,7 +5,7 @@ use Rattle.std.specs.List.{list_all, list_any, position_or_len}
 use Rattle.std.proofs.lemmas.List.Sums.{prefix_len-le-length}
 use Rattle.std.proofs.lemmas.List.Folds.{length-prefix_len}
 use Rattle.std.proofs.lemmas.Bool.Decides.{nat_tests}
-use Rattle.mon_text.specs.Characters.{is_letter, is_digit}
+use Rattle.mon_text.specs.Characters.{is_letter, is_digit, is_quote, is_identifier_character, is_letter_or_digit}
 use Rattle.mon_text.specs.Counts.{value_of}
 use Rattle.sno_token.specs.declared.TokenKind.{TokenKind}
 use Rattle.sno_token.specs.declared.Mark.TheVariants.{Power, Star, Slash, Plus, Minus, Bar, Dot, Dollar, At, Tilde, Question, Ampersand}
@@ -19,9 +19,10 @@ use Rattle.sno_lexer.specs.declared.begin.Context.{Context}
 use Rattle.sno_lexer.specs.declared.fault.FaultKind.{FaultKind}
 use Rattle.sno_lexer.specs.declared.fault.FaultKind.TheVariants.{BadConstant, Foreign}
 use Rattle.sno_lexer.specs.inner.Classes.{at_goto, goes_on, run_in, text_of, kind_of, further, outcome_of, name_or, class_of_word, class_of_value, class_of_quote, class_of_sign, class_of, begins_with, star}
-use Rattle.sno_lexer.specs.Written.{IsRun, is_identifier_character, is_letter_or_digit, is_quote}
-use Rattle.sno_lexer.specs.Following.{Stands, first_passes, is_label_due, is_outcome, is_outcome_due}
+use Rattle.sno_lexer.specs.Written.{IsRun}
+use Rattle.sno_lexer.specs.Following.{Stands, is_label_due, is_outcome, is_outcome_due}
 use Rattle.sno_lexer.proofs.Contexts.{Knows, outcome_due}
+use Rattle.mon_text.specs.Beginnings.{first_passes}
 
 -- RUNS
 

@@ -2,7 +2,7 @@
 -- are listed with the last one first.
 use Rattle.std.specs.Prelude.{◌≡◌, ℕ, ◌+◌, ◌-◌, ◌^◌, Bool, true, false, ◌&&◌, ◌||◌, ◌==◌, nat_le, nat_lt, List, [], ◌∷◌, ◌++◌, length, drop, Option, Some, None, Result, Ok, Err, ◌⊎◌, if◌then◌else◌}
 use Rattle.std.specs.List.{list_all, list_any}
-use Rattle.mon_text.specs.Characters.{is_blank}
+use Rattle.mon_text.specs.Characters.{is_blank, is_quote}
 use Rattle.mon_text.specs.Counts.{value_of}
 use Rattle.mon_text.specs.Lines.{is_line}
 use Rattle.sno_token.specs.declared.Token.{Token}
@@ -14,7 +14,8 @@ use Rattle.sno_lexer.specs.declared.fault.FaultKind.{FaultKind}
 use Rattle.sno_lexer.specs.declared.fault.FaultKind.TheVariants.{BadConstant, Foreign, TooMany}
 use Rattle.sno_lexer.specs.declared.fault.LexFault.{LexFault}
 use Rattle.sno_lexer.specs.Listed.{TokenList}
-use Rattle.sno_lexer.specs.Written.{IsWritten, begins_token, continues, held_in, is_quote}
+use Rattle.sno_lexer.specs.Written.{IsWritten, begins_token, continues, held_in}
+use Rattle.mon_text.specs.Beginnings.{first_passes}
 
 -- WHERE A TOKEN STANDS
 
@@ -61,11 +62,6 @@ MayStandAfter before (kind.Constant (constant.Integer value)) = is_label_due bef
 MayStandAfter before (kind.Part (part.On outcome)) = is_outcome_due before ≡ true
 MayStandAfter before (kind.Part (part.Label label)) = is_label_due before ≡ true
 MayStandAfter before kind = Unit {0}
-
--- whether a text begins with a character that passes a test
-abbrev pub first_passes : (ℕ → Bool) → List ℕ → Bool
-first_passes test [] = false
-first_passes test (c ∷ cs) = test c
 
 -- A token stands after these tokens and before the rest: it is written out, as long as it can be, and fits.
 abbrev pub Stands : List TokenKind → TokenKind → List ℕ → List ℕ → Type 0

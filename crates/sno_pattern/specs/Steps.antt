@@ -5,7 +5,7 @@ use Rattle.std.specs.List.{range_with_len, starts_with, filter, list_all, prefix
 use Rattle.sno_talk.specs.Talks.{Talk, Ends, ask, ◌>>=◌}
 use Rattle.sno_text.specs.declared.fault.Fault.{Fault as AFault}
 use Rattle.sno_nodes.specs.Patterns.{Pattern}
-use Rattle.sno_nodes.specs.Sets.{is_one_of, begins_with}
+use Rattle.sno_nodes.specs.Sets.{is_one_of}
 use Rattle.sno_nodes.specs.Patterns as pattern
 use Rattle.sno_pattern.specs.declared.host.Looked.{Looked}
 use Rattle.sno_pattern.specs.declared.host.Looked.TheVariants as looked
@@ -14,6 +14,7 @@ use Rattle.sno_pattern.specs.declared.ending.Pending.{Pending}
 use Rattle.sno_pattern.specs.declared.ending.MatchEnd.{MatchEnd}
 use Rattle.sno_pattern.specs.declared.ending.MatchEnd.TheVariants as end
 use Rattle.sno_pattern.specs.Looks.{Look, LookUp, Assign, Told, Found, Given, Refused, Faulty}
+use Rattle.mon_text.specs.Beginnings.{first_passes}
 
 -- what is still to be met, each from the cursor where the one before it ends
 pub data Goal : Type 0 where
@@ -117,11 +118,11 @@ module _ (text : List ℕ) where
       if nat_le (c + k) (length text) then go r (length text - k) pending n else ends Failure n
   row go (Meet pattern.Rem) r c pending n = go r (length text) pending n
   row go (Meet (pattern.Any s)) r c pending n =
-      if begins_with (is_one_of s) (drop c text) then go r (c + 1) pending n else ends Failure n
+      if first_passes (is_one_of s) (drop c text) then go r (c + 1) pending n else ends Failure n
   row go (Meet (pattern.NotAny s)) r c pending n =
-      if begins_with (λ x. not (is_one_of s x)) (drop c text) then go r (c + 1) pending n else ends Failure n
+      if first_passes (λ x. not (is_one_of s x)) (drop c text) then go r (c + 1) pending n else ends Failure n
   row go (Meet (pattern.Span s)) r c pending n =
-      if begins_with (is_one_of s) (drop c text)
+      if first_passes (is_one_of s) (drop c text)
       then go r (c + prefix_len (is_one_of s) (drop c text)) pending n
       else ends Failure n
   row go (Meet (pattern.Break s)) r c pending n =
