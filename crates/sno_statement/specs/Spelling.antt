@@ -14,9 +14,9 @@ use Rattle.sno_statement.specs.Statements.{Target, To, Computed, Goto, NoGoto, A
 -- a target stands in parentheses
 abbrev pub TargetTo : Target → List Token → List Token → Type 0
 TargetTo (To l) ts rest =
-    (b : Bool) × (a : Bool) × (c : Bool) × (d : Bool) × (e : Bool) × (f : Bool) × (ts ≡ spaced b a token.Open ∷ spaced c d (token.Part (Label l)) ∷ spaced e f token.Close ∷ rest)
+    (b a c d e f : Bool) × (ts ≡ spaced b a token.Open ∷ spaced c d (token.Part (Label l)) ∷ spaced e f token.Close ∷ rest)
 TargetTo (Computed t) ts rest =
-    (m : List Token) × (b : Bool) × (a : Bool) × (c : Bool) × (e : Bool) × (f : Bool) × (ts ≡ spaced b a token.Open ∷ m) × SpellsTo c (Unary Indirect t) m (spaced e f token.Close ∷ rest)
+    (m : List Token) × (b a c e f : Bool) × (ts ≡ spaced b a token.Open ∷ m) × SpellsTo c (Unary Indirect t) m (spaced e f token.Close ∷ rest)
 
 abbrev pub OutcomeTo : Outcome → Target → List Token → List Token → Type 0
 OutcomeTo o t ts rest = (m : List Token) × (b : Bool) × (c : Bool) × (ts ≡ spaced b c (token.Part (On o)) ∷ m) × TargetTo t m rest
@@ -45,7 +45,7 @@ ObjectTo (ValueObject t) ts rest = (m : List Token) × (ts ≡ spaced true true 
 -- a blank stands before a pattern
 abbrev pub BodyTo : Body → List Token → List Token → Type 0
 BodyTo NoBody ts rest = ts ≡ rest
-BodyTo (Does s p o) ts rest = (m : List Token) × (n : List Token) × (b : Bool) × SpellsTo b s ts m × MatchOption p (m ≡ n) (λ t. SpellsTo true t m n) × ObjectTo o n rest
+BodyTo (Does s p o) ts rest = (m n : List Token) × (b : Bool) × SpellsTo b s ts m × MatchOption p (m ≡ n) (λ t. SpellsTo true t m n) × ObjectTo o n rest
 
 -- the tokens are those of the statement
 abbrev pub Spells : Statement → List Token → Type 0

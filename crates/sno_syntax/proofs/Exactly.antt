@@ -10,9 +10,10 @@ use Rattle.sno_statement.specs.declared.fault.Fault.{Fault}
 use Rattle.sno_statement.specs.inner.Faults.{fault}
 use Rattle.sno_statement.proofs.Leftmost.{found, is_found}
 use Rattle.sno_syntax.specs.Labels.{label_fault}
-use Rattle.sno_syntax.specs.Refusals.{fault_refusal, stage_refusal, with_place, tokens_of, label_of, label_first, HasTokens, IsRefusedBehind, IsRefusedBy}
+use Rattle.sno_syntax.specs.Refusals.{fault_refusal, stage_refusal, with_place, tokens_of, label_of, label_first, HasTokens, IsRefusedBehind}
 use Rattle.sno_syntax.specs.Laws.{RefusedExactly}
 use Rattle.sno_syntax.proofs.Behind.{given, given_stands, only_given}
+use Rattle.sno_syntax.proofs.Shorthand.{IsRefusedBy}
 
 behind : (text : List Placed) (r : Result TokenList LexFault) (e : SyntaxError) → HasTokens text r → stage_refusal text (with_place text r) ≡ Some e
     → IsRefusedBehind text e

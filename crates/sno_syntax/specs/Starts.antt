@@ -1,5 +1,5 @@
 -- Where a run of a program begins (own).
-use Rattle.std.specs.Prelude.{ℕ, zero, suc, bytes_eq, List, [], ◌∷◌, Option, Some, None, option_map, if◌then◌else◌}
+use Rattle.std.specs.Prelude.{ℕ, bytes_eq, List, [], ◌∷◌, Option, Some, None, option_map, if◌then◌else◌, ◌==◌}
 use Rattle.std.specs.Map.{lookup}
 use Rattle.sno_syntax.specs.declared.start.Start.{Start}
 use Rattle.sno_syntax.specs.declared.start.Start.TheVariants.{Statement, End}
@@ -7,8 +7,7 @@ use Rattle.sno_syntax.specs.Labels.{LabelList, is_end}
 
 -- the first statement, or END where there is none
 abbrev pub first_start : ℕ → Start
-first_start zero = End
-first_start (suc more) = Statement 0
+first_start count = if count == 0 then End else Statement 0
 
 -- END, or the statement of this label
 abbrev pub start_named : LabelList → List ℕ → Option Start
