@@ -53,10 +53,7 @@ ends e n = Ends (record { end = e; left = n })
 -- the second attempt after an end, if that is failure, with the steps that are left
 abbrev pub after_end : End → ℕ → (ℕ → Trying) → Trying
 after_end Failure n second = second n
-after_end (Success at pending) n second = ends (Success at pending) n
-after_end WholeFails n second = ends WholeFails n
-after_end OutOfSteps n second = ends OutOfSteps n
-after_end (Fault f) n second = ends (Fault f) n
+after_end e n second = ends e n
 
 abbrev pub on_failure : Trying → (ℕ → Trying) → Trying
 on_failure first second = first >>= (λ o. after_end o.end o.left second)
@@ -92,16 +89,14 @@ pattern_found (looked.Defer v) = pattern.Defer v
 -- how it goes on with what the host told: with what was found
 abbrev pub with_found : Told → ℕ → (Pattern → Trying) → Trying
 with_found (Found looked) n go = go (pattern_found looked)
-with_found Given n go = ends Failure n
-with_found Refused n go = ends Failure n
 with_found (Faulty f) n go = ends (Fault f) n
+with_found told n go = ends Failure n
 
 -- or once an assignment was made
 abbrev pub if_given : Told → ℕ → Trying → Trying
 if_given Given n go = go
-if_given (Found looked) n go = ends Failure n
-if_given Refused n go = ends Failure n
 if_given (Faulty f) n go = ends (Fault f) n
+if_given told n go = ends Failure n
 
 module _ (text : List ℕ) where
   -- THE TABLE: a goal at the cursor c, with the rest r of the goals

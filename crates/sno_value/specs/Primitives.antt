@@ -4,7 +4,7 @@ use Rattle.std.specs.Prelude.{ℕ, ℤ, pos, negsuc, int_lt, int_le, Bool, true,
 use Rattle.std.specs.Option.{option_map_or, unwrap_or}
 use Rattle.std.specs.Ordering.{nat_cmp, int_eq, is_gt}
 use Rattle.std.specs.Cmp.Lexicographic.{pointwise, slice_cmp}
-use Rattle.sno_text.specs.Texts.{repeated, without_trailing_blanks}
+use Rattle.sno_text.specs.Texts.{without_trailing_blanks}
 use Rattle.sno_text.specs.declared.fault.Fault.TheVariants.{Null, Negative}
 use Rattle.sno_nodes.specs.Patterns as patterns
 use Rattle.sno_value.specs.declared.value.Value.{Value}
@@ -21,6 +21,7 @@ use Rattle.sno_value.specs.declared.primitive.Primitive.{Primitive}
 use Rattle.sno_value.specs.declared.primitive.Primitive.TheVariants as primitive
 use Rattle.sno_value.specs.Values.{null, number_of, pattern_of}
 use Rattle.sno_value.specs.Outcomes.{or_wrong_type, with_text, with_number, predicate, string, pattern}
+use Rattle.std.specs.List.{repeat}
 
 -- TEXTS
 
@@ -34,7 +35,7 @@ trimmed s = with_text s (λ t. Gives (Text (without_trailing_blanks t)))
 
 -- so many of a text; it fails for a negative number
 abbrev pub copies : ℕ → List ℕ → ℤ → Outcome
-copies most t (pos n) = string most (repeated n t)
+copies most t (pos n) = string most (repeat n t)
 copies most t (negsuc n) = Fails
 
 -- DUPL(S,N)

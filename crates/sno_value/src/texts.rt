@@ -1,10 +1,10 @@
 //! The primitive functions of texts. Failure and faults take no memory.
 ghost use Rattle.std.specs.Prelude.{◌≡◌, ◌<◌, ◌*◌, ℕ, true, nat_lt, length, slice_index, IfOk, OnErr};
 ghost use Rattle.mon_text.specs.Lines.{IsLine};
-ghost use Rattle.sno_text.specs.Texts.{repeated};
 ghost use Rattle.sno_value.specs.Outcomes.{string};
 ghost use Rattle.sno_value.specs.Primitives.{size, trimmed, copies, duplicated, replacement, replaced, replace, type_name, data_type};
 ghost use Rattle.sno_value.specs.Memory.{is_given};
+ghost use Rattle.std.specs.List.{repeat};
 
 use crate::outcome::Outcome;
 use crate::value::Value;
@@ -50,8 +50,8 @@ fn is_too_long(text: &[u8], times: usize, most: u64) -> bool
 // So many of a text, if they are not too long.
 fn copied(alloc: Global, text: &[u8], times: usize, most: u64) -> Result<Outcome, AllocError>
     requires { IsLine text.now }
-    ensures value { IfOk result (λ outcome. outcome ≡ string most (repeated times text.now)) }
-    ensures memory { OnErr result (is_given (string most (repeated times text.now)) ≡ true) }
+    ensures value { IfOk result (λ outcome. outcome ≡ string most (repeat times text.now)) }
+    ensures memory { OnErr result (is_given (string most (repeat times text.now)) ≡ true) }
 {
     if is_too_long(text, times, most) {
         return Ok(Outcome::Faults(Fault::Length));
