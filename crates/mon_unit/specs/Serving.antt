@@ -58,8 +58,7 @@ noted statement act target answer units = units
 
 -- the unit's position, where it moves
 abbrev pub moved : ℕ → Option ℕ → UnitState → UnitState
-moved u None units = units
-moved u (Some position) units = with_tie u (record (tie_at units u) { position = position }) units
+moved u position units = option_map_or (λ p. with_tie u (record (tie_at units u) { position = p }) units) position units
 
 -- a line that is written to the spool is its last one
 abbrev pub spooled : Act → Target → UnitState → UnitState

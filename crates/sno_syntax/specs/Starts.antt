@@ -5,16 +5,12 @@ use Rattle.sno_syntax.specs.declared.start.Start.{Start}
 use Rattle.sno_syntax.specs.declared.start.Start.TheVariants.{Statement, End}
 use Rattle.sno_syntax.specs.Labels.{LabelList, is_end}
 
--- the first statement, or END where there is none
-abbrev pub first_start : ℕ → Start
-first_start count = if count == 0 then End else Statement 0
-
 -- END, or the statement of this label
 abbrev pub start_named : LabelList → List ℕ → Option Start
 start_named labels label = if is_end label then Some End else option_map Statement (lookup (bytes_eq label) labels)
 
 -- what the words after END say, where there are so many statements: nothing, or one label
 abbrev pub start_of : ℕ → LabelList → List (List ℕ) → Option Start
-start_of count labels [] = Some (first_start count)
+start_of count labels [] = Some (if count == 0 then End else Statement 0)
 start_of count labels (word ∷ []) = start_named labels word
 start_of count labels _ = None
