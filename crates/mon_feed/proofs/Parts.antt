@@ -143,7 +143,7 @@ pub none_at_all : (part : List ℕ) → has_no_end part ≡ true → (taken afte
 none_at_all part open_part taken after same = omega (arith, none_ended part open_part, same)
 
 open_both : (u v : List ℕ) → has_no_end u ≡ true → has_no_end v ≡ true → has_no_end (u ++ v) ≡ true
-open_both u v a b = list_all-append not (is_line_feed u) v ∙ ap (λ x. x && has_no_end v) a ∙ b
+open_both u v a b = list_all-append (λ b. not (is_line_feed b)) u v ∙ ap (λ x. x && has_no_end v) a ∙ b
 
 -- a line has ended, and what was taken told none: then it is longer than any may be
 module _ (options : Options) (jobs : ℕ) (m : Marks) (stage : Stage) (n : ℕ) (old front new : List ℕ) (used : ℕ)
