@@ -5,7 +5,7 @@ use Rattle.mon_text.specs.Lines.{IsLine}
 use Rattle.sno_text.proofs.Printable.{line_of_join}
 use Rattle.std.specs.List.{repeat}
 
-pub repeated_null : (n : ℕ) → repeat n [] ≡ []
+pub repeated_null : (n : ℕ) → repeat {A = ℕ} n [] ≡ []
 repeated_null zero = refl
 repeated_null (suc n) = repeated_null n
 
