@@ -1,8 +1,6 @@
 -- Parts of the definitions by names of their own.
 use Rattle.std.specs.Prelude.{ℕ, List, [], ◌∷◌, ◌++◌, Option, None, Some, Result, Ok, Err, if◌then◌else◌}
 use Rattle.std.specs.Option.{option_map_or}
-use Rattle.mon_acl.specs.declared.text.AclText.{AclText}
-use Rattle.mon_acl.specs.Forms.{list_of_text}
 use Rattle.mon_access.specs.declared.account.Account.{Account}
 use Rattle.mon_access.specs.Matches.{is_owner}
 use Rattle.mon_catalogue.specs.declared.mode.Mode.{Mode}
@@ -12,19 +10,14 @@ use Rattle.mon_catalogue.specs.Sets.{Sets}
 use Rattle.mon_catalogue.specs.Changes.{without_set}
 use Rattle.mon_answer.specs.declared.answer.Reason.{Reason}
 use Rattle.mon_answer.specs.declared.answer.Reason.TheVariants.{NoSet, NotOwner}
-use Rattle.mon_guard.specs.declared.answer.AclAnswer.{AclAnswer}
-use Rattle.mon_guard.specs.declared.answer.AclAnswer.TheVariants as acl
 use Rattle.mon_guard.specs.Deciding.{to_read, where_granted}
-use Rattle.mon_guard.specs.Owning.{given, new_set}
+use Rattle.mon_guard.specs.Owning.{new_set}
 
 abbrev pub owner_denial_of : Account → Option DataSet → Option Reason
 owner_denial_of account set = option_map_or (λ d. if is_owner account d.owner then None else Some NotOwner) set (Some NoSet)
 
 abbrev pub removed_unless : Option Reason → Sets → List ℕ → Result (Unit {0}) Reason × Sets
 removed_unless denial sets name = option_map_or (λ reason. (Err reason, sets)) denial (Ok tt, without_set name sets)
-
-abbrev pub acl_set_unless : Option Reason → Sets → List ℕ → AclText → AclAnswer × Sets
-acl_set_unless denial sets name text = option_map_or (λ reason. (acl.Denied reason, sets)) denial (given (list_of_text text) sets name)
 
 abbrev pub created_unless : Option CreateError → Account → Sets → List ℕ → Mode → Result (Unit {0}) CreateError × Sets
 created_unless refusal account sets name mode =

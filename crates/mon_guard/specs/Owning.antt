@@ -33,10 +33,13 @@ abbrev pub given : Result (List Entry) AclError → Sets → List ℕ → AclAns
 given (Ok list) sets name = (acl.Done, with_acl name list sets)
 given (Err error) sets name = (acl.BadList error, sets)
 
+abbrev pub acl_set_unless : Option Reason → Sets → List ℕ → AclText → AclAnswer × Sets
+acl_set_unless (Some reason) sets name text = (acl.Denied reason, sets)
+acl_set_unless None sets name text = given (list_of_text text) sets name
+
 -- the owner gives the set another list, and the text is tried last: no such set, not the owner, then the text's refusal
 abbrev pub acl_set : Account → Sets → List ℕ → AclText → AclAnswer × Sets
-acl_set account sets name text =
-    option_map_or (λ reason. (acl.Denied reason, sets)) (owner_denial account sets name) (given (list_of_text text) sets name)
+acl_set account sets name text = acl_set_unless (owner_denial account sets name) sets name text
 
 -- an entry without a qualifier
 abbrev pub plain : Tag → Perms → Entry

@@ -18,7 +18,7 @@ use Rattle.mon_catalogue.specs.Changes.{with_changed, without_set}
 use Rattle.mon_catalogue.specs.Writing.{Change, Add, writing, records_after, recorded}
 use Rattle.mon_catalogue.proofs.Changed.{other_sets_stay, named_set_changes}
 use Rattle.mon_answer.specs.declared.answer.Reason.{Reason}
-use Rattle.mon_guard.specs.Owning.{owner_denial, given, new_set}
+use Rattle.mon_guard.specs.Owning.{owner_denial, given, new_set, acl_set_unless}
 use Rattle.mon_guard.specs.Laws.{IsThere}
 use Rattle.sno_ask.specs.declared.request.Act.{Act}
 use Rattle.sno_ask.specs.declared.request.Act.TheVariants.{Read, Write, Endfile, Rewind}
@@ -37,7 +37,7 @@ use Rattle.mon_monitor.specs.Headline.{StandsOver, sets_after, Lead}
 use Rattle.mon_monitor.specs.Appending.{Begins, Keeps, HasDeleted, Deletes, NoneDeletes, AppendOnly}
 use Rattle.mon_monitor.proofs.Accounting.{history_lead}
 use Rattle.mon_catalogue.proofs.Shorthand.{listed}
-use Rattle.mon_guard.proofs.Shorthand.{removed_unless, acl_set_unless, created_unless}
+use Rattle.mon_guard.proofs.Shorthand.{removed_unless, created_unless}
 use Rattle.mon_command.proofs.Shorthand.{served_if_known}
 
 begins_then : (a b c : List (List ℕ)) → Begins a b → Begins b c → Begins a c
