@@ -52,7 +52,7 @@ abbrev pub after_set_due : Version → ℕ → Sets → List ℕ → Progress
 after_set_due version n sets line =
     if is_blank_line line then SetDue version n sets
     else option_map_or (λ head. option_map_or Refused (head_refusal n sets head) (ListDue version n sets head))
-        (head_of version (words line)) (Refused (BadText n))
+    (head_of version (words line)) (Refused (BadText n))
 
 abbrev pub after_acl : Version → ℕ → Sets → Head → Result (List Entry) AclError → Progress
 after_acl version n sets head (Err _) = Refused (BadText n)

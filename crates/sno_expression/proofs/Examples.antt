@@ -66,7 +66,7 @@ words = refl
 alone : reading true (spaced true false (token.Identifier A) ∷ spaced true false token.Open ∷ spaced false false (token.Identifier B)
     ∷ spaced false false token.Close ∷ spaced true false (token.Identifier C) ∷ [])
     ≡ Read (Some (Identifier A)) (spaced true false token.Open ∷ spaced false false (token.Identifier B) ∷ spaced false false token.Close
-        ∷ spaced true false (token.Identifier C) ∷ [])
+    ∷ spaced true false (token.Identifier C) ∷ [])
 alone = refl
 
 alone_call : reading true (spaced true false (token.Identifier A) ∷ spaced false false token.Open ∷ spaced false false (token.Identifier B)

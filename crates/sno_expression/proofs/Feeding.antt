@@ -37,7 +37,7 @@ apart_joins _ r m n rest j s = subst Apart (sym j.2) refl
 -- where more than one element is read, the operand is followed as anywhere
 on_whole : (alone : Bool) (st : Stack) (t : Expression) (b a : Bool) (k : TokenKind) (m : List Token) → closed alone st ≡ false
     → answer alone (At st (Whole t)) (spaced b a k ∷ m) ≡ and_then (go_on st t b a k) (Read (result (At st (Whole t))) (spaced b a k ∷ m))
-        (λ v. answer alone v m)
+    (λ v. answer alone v m)
 on_whole alone st t b a k m c = ap (λ (x : Bool). and_then (if x then None else go_on st t b a k)
     (Read (result (At st (Whole t))) (spaced b a k ∷ m)) (λ v. answer alone v m)) c
 
@@ -45,7 +45,7 @@ on_whole alone st t b a k m c = ap (λ (x : Bool). and_then (if x then None else
 blank_step : (alone : Bool) (st : Stack) (t : Expression) (a : Bool) (k : TokenKind) (n m : List Token) (v : State) → closed alone st ≡ false
     → n ≡ spaced true a k ∷ m
     → go_on st t true a k ≡ Some v → begin st (After t Concatenation) a k ≡ Some v
-        → answer alone (At st (Whole t)) n ≡ answer alone (At st (Due (After t Concatenation))) n
+    → answer alone (At st (Whole t)) n ≡ answer alone (At st (Due (After t Concatenation))) n
 blank_step alone st t a k n m v c s e f =
     ap (answer alone (At st (Whole t))) s
     ∙ (on_whole alone st t true a k m c
@@ -78,14 +78,14 @@ joins _ r alone st t m n rest c j s =
     ap (answer alone (At st (Whole t))) j.2
     ∙ (on_whole alone st t true true (token.Mark j.0) n c
     ∙ ap (λ (p : Option BinaryOperator). and_then (joined st t p) (Read (result (At st (Whole t))) (spaced true true (token.Mark j.0) ∷ n))
-        (λ v. answer alone v n)) j.1)
+    (λ v. answer alone v n)) j.1)
 
 named : (alone : Bool) (st : Stack) (h : Hole) (n : List ℕ) (rest : List Token) → Apart rest
     → answer alone (At st (Named h n)) rest ≡ answer alone (At st (Whole (fill h (Identifier n)))) rest
 named alone st h n [] a = refl
 named alone st h n (t ∷ ts) a =
     ap (λ (c : Bool). and_then (if c then Some (At (InCall n NoArguments h st) (Due Begin)) else after alone st
-        (fill h (Identifier n)) t.blank_before t.blank_after t.kind)
+    (fill h (Identifier n)) t.blank_before t.blank_after t.kind)
     (Read (result (At st (Named h n))) (t ∷ ts)) (λ v. answer alone v ts)) a
 
 -- the blank that an operand may have there

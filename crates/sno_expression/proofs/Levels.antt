@@ -95,25 +95,25 @@ no_false false h = refl
 pub not_under : (i o : BinaryOperator) → binds_into_left i o ≡ true → binds_into_right o i ≡ false
 not_under i o h =
     is_false (binds_into_right o i) (mp (binds_into_left i o) (no (binds_into_right o i))
-        (each_op (λ o. implies (binds_into_left i o) (no (binds_into_right o i)))
-        (each_op (λ i. all0 (λ o. implies (binds_into_left i o) (no (binds_into_right o i)))) refl i) o) h)
+    (each_op (λ o. implies (binds_into_left i o) (no (binds_into_right o i)))
+    (each_op (λ i. all0 (λ o. implies (binds_into_left i o) (no (binds_into_right o i)))) refl i) o) h)
 
 pub then_left : (i o : BinaryOperator) → binds_into_right o i ≡ false → binds_into_left i o ≡ true
 then_left i o h =
     mp (no (binds_into_right o i)) (binds_into_left i o) (each_op (λ o. implies (no (binds_into_right o i)) (binds_into_left i o))
-        (each_op (λ i. all0 (λ o. implies (no (binds_into_right o i)) (binds_into_left i o))) refl i) o) (no_false (binds_into_right o i) h)
+    (each_op (λ i. all0 (λ o. implies (no (binds_into_right o i)) (binds_into_left i o))) refl i) o) (no_false (binds_into_right o i) h)
 
 pub under_both : (a b c : BinaryOperator) → binds_into_right a b ≡ true → binds_into_right b c ≡ true → binds_into_right a c ≡ true
 under_both a b c h k =
     let T : BinaryOperator → BinaryOperator → BinaryOperator → Bool =
-        λ a b c. implies (binds_into_right a b) (implies (binds_into_right b c) (binds_into_right a c)) in
+    λ a b c. implies (binds_into_right a b) (implies (binds_into_right b c) (binds_into_right a c)) in
     let e = each_op (λ c. T a b c) (each_op (λ b. all0 (λ c. T a b c)) (each_op (λ a. all0 (λ b. all0 (λ c. T a b c))) refl a) b) c in
     mp (binds_into_right b c) (binds_into_right a c) (mp (binds_into_right a b) (implies (binds_into_right b c) (binds_into_right a c)) e h) k
 
 pub left_under : (a b c : BinaryOperator) → binds_into_left a b ≡ true → binds_into_right b c ≡ true → binds_into_right a c ≡ true
 left_under a b c h k =
     let T : BinaryOperator → BinaryOperator → BinaryOperator → Bool =
-        λ a b c. implies (binds_into_left a b) (implies (binds_into_right b c) (binds_into_right a c)) in
+    λ a b c. implies (binds_into_left a b) (implies (binds_into_right b c) (binds_into_right a c)) in
     let e = each_op (λ c. T a b c) (each_op (λ b. all0 (λ c. T a b c)) (each_op (λ a. all0 (λ b. all0 (λ c. T a b c))) refl a) b) c in
     mp (binds_into_right b c) (binds_into_right a c) (mp (binds_into_left a b) (implies (binds_into_right b c) (binds_into_right a c)) e h) k
 

@@ -26,7 +26,7 @@ pub on_next : (alone : Bool) (s v : State) (t : Token) (ts m : List Token) (a : 
     → a ≡ answer alone s ts → a ≡ answer alone v m
 on_next alone s v t ts m a d e h =
     h ∙ (ap (answer alone s) d ∙ ap (λ (o : Option State). and_then o (Read (result s) (t ∷ m)) (λ r. answer alone r m))
-        (next_step (read alone s t) (result s) v e))
+    (next_step (read alone s t) (result s) v e))
 
 -- a token is not taken
 pub on_end : (alone : Bool) (s : State) (u : Option Expression) (t : Token) (ts m : List Token) (a : Reading) → ts ≡ t ∷ m

@@ -120,7 +120,7 @@ StackReads (InGroup h st) ts m =
 StackReads (InCall f args h st) ts m =
     (k : List Token) × (j : List Token) × (c : Bool) × (b : Bool) × (n : List Token) × (i : List Token)
     × StackReads st ts k × HoleReads h c k j b × ((a : Bool) × (d : Bool) × (j ≡ spaced b a (token.Identifier f) ∷ spaced false d token.Open ∷ n))
-        × SpellTo args n i × Parts args i m × HaveLevels args
+    × SpellTo args n i × Parts args i m × HaveLevels args
 
 abbrev pub fits : Hole → Bool → Type 0
 fits Begin b = Unit {0}
@@ -165,15 +165,30 @@ closes (InGroup h st) t ts k m c d e r u =
     whole st h (Group t) ts r.0 r.1 m r.2 r.3 r.4 r.5 tt u.levels (k, r.6.0, c, d, e, r.6.1, u.spells)
 closes (InCall f args h st) t ts k m c d e r u =
     whole st h (Call f (Argument args t)) ts r.0 r.1 m r.2 r.3 r.6 r.7 tt (tt, (r.11, u.levels))
-        (r.4, r.8.0, r.8.1, d, e, r.8.2, (r.5, k, c, r.9, r.10, u.spells))
+    (r.4, r.8.0, r.8.1, d, e, r.8.2, (r.5, k, c, r.9, r.10, u.spells))
 
 commas : (st : Stack) (t : Expression) (ts k m : List Token) (c d e : Bool) → StackReads st ts k → Made c t k (spaced d e token.Comma ∷ m)
     → NextReads (comma st t) ts m
 commas Bottom t ts k m c d e r u = tt
 commas (InGroup h st) t ts k m c d e r u = tt
-commas (InCall f args h st) t ts k m c d e r u =
-    (m, (r.0, r.1, r.2, r.3, r.4, spaced d e token.Comma ∷ m, r.6, r.7, r.8, (r.5, k, c, r.9, r.10, u.spells), (d, e, refl),
-        (r.11, u.levels)), λ e f. (e, (refl, refl)))
+commas (InCall f args h st) t ts k m c d e r u = (
+  m,
+  (
+    r.0,
+    r.1,
+    r.2,
+    r.3,
+    r.4,
+    spaced d e token.Comma ∷ m,
+    r.6,
+    r.7,
+    r.8,
+    (r.5, k, c, r.9, r.10, u.spells),
+    (d, e, refl),
+    (r.11, u.levels),
+  ),
+  λ e f. (e, (refl, refl)),
+)
 
 firsts : (st : Stack) (b a : Bool) (t : TokenKind) (ts k m : List Token) → StackReads st ts k → k ≡ spaced b a t ∷ m → NextReads (first st a t) ts m
 firsts Bottom b a token.Close ts k m r e = tt
@@ -182,10 +197,25 @@ firsts (InGroup h st) b a token.Close ts k m r e = tt
 firsts (InGroup h st) b a token.Comma ts k m r e = tt
 firsts (InCall f args h st) d a token.Close ts k m r e =
     whole st h (Call f (Omitted args)) ts r.0 r.1 m r.2 r.3 r.6 r.7 tt (tt, r.11)
-        (r.4, r.8.0, r.8.1, d, a, r.8.2, (r.5, r.9, subst (λ (l : List Token). Parts args r.5 l) e r.10))
-firsts (InCall f args h st) d a token.Comma ts k m r e =
-    (m, (r.0, r.1, r.2, r.3, r.4, spaced d a token.Comma ∷ m, r.6, r.7, r.8, (r.5, r.9, subst (λ (l : List Token). Parts args r.5 l) e r.10),
-        (d, a, refl), r.11), λ e f. (e, (refl, refl)))
+    (r.4, r.8.0, r.8.1, d, a, r.8.2, (r.5, r.9, subst (λ (l : List Token). Parts args r.5 l) e r.10))
+firsts (InCall f args h st) d a token.Comma ts k m r e = (
+  m,
+  (
+    r.0,
+    r.1,
+    r.2,
+    r.3,
+    r.4,
+    spaced d a token.Comma ∷ m,
+    r.6,
+    r.7,
+    r.8,
+    (r.5, r.9, subst (λ (l : List Token). Parts args r.5 l) e r.10),
+    (d, a, refl),
+    r.11,
+  ),
+  λ e f. (e, (refl, refl)),
+)
 firsts st b a t ts k m r e = begins st Begin b a t ts k k m b r (refl, refl) e
 
 -- with a blank before it

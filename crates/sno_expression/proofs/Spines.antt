@@ -20,7 +20,7 @@ through : (js : Pending) (o : BinaryOperator) (x t : Expression) → is_ordered 
 through pending.End o x t d a = refl
 through (pending.More' l p c rest) o x t d a =
     through rest o x (Binary p (expression_of l.value) t) (and_right (is_above p rest) (is_ordered rest) d)
-        (outward o p rest a (and_left (is_above p rest) (is_ordered rest) d))
+    (outward o p rest a (and_left (is_above p rest) (is_ordered rest) d))
     ∙ ap (spread rest) (push_under o p x (expression_of l.value) t a)
 
 -- where the operator may stand under the innermost one, and the last operand under it

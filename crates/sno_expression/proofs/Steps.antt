@@ -98,10 +98,10 @@ pub read_walks : (alone : Bool) (s : State) (t : Token) → walk_of (read alone 
 read_walks alone (At st (Due Begin)) t = first_walks st t.blank_after t.kind
 read_walks alone (At st (Due (After l o))) t =
     or_none t.blank_before (parens st) (begin st (After l o) t.blank_after t.kind) (walking.begin (variable_due (After l o)) t.blank_after t.kind)
-        (begin_walks st (After l o) t.blank_after t.kind)
+    (begin_walks st (After l o) t.blank_after t.kind)
 read_walks alone (At st (Due (Under s h))) t =
     none_or t.blank_before (parens st) (begin st (Under s h) t.blank_after t.kind) (walking.begin (variable_due (Under s h)) t.blank_after t.kind)
-        (begin_walks st (Under s h) t.blank_after t.kind)
+    (begin_walks st (Under s h) t.blank_after t.kind)
 read_walks alone (At st (Prefixed h w)) t = prefix_walks st h w t.blank_before t.kind
 read_walks alone (At st (Named h n)) t = call_or (opens_call t.blank_before t.kind) alone st h n t.blank_before t.blank_after t.kind
 read_walks alone (At st (Whole l)) t = after_walks alone st l t.blank_before t.blank_after t.kind

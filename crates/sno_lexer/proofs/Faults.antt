@@ -136,7 +136,7 @@ fault_at s before c cs fault true letter digit quote k b t l d q e = cc
 fault_at s before c cs fault false true digit quote k b t l d q e = cc
 fault_at s before c cs fault false false true quote k b t l d q e =
     value_fault before c cs (value_of (run_in InInteger (c ∷ cs))) (nat_lt (value_of (run_in InInteger (c ∷ cs))) (2 ^ 63)) fault refl d
-        (digit_not_due s before c k t d) refl e
+    (digit_not_due s before c k t d) refl e
 fault_at s before c cs fault false false false true k b t l d q e = quote_fault before c cs fault (list_any (λ d. d == c) cs) q refl e
 fault_at s before c cs fault false false false false k b t l d q e =
     let f = sign_fault c cs fault e in
@@ -177,8 +177,15 @@ refused_at s before c cs fault (Err other) k b r e =
 refused_at s before c cs fault (Ok found) k b r e =
     let w = class_whole s before c cs found k r in
     let f = further found (c ∷ cs) in
-    inl (kind_of found (text_of found (c ∷ cs)), c ∷ take f cs, drop f cs, split f c cs, w.1, bad_is found fault _
-        (sym (let_in_is s before found c cs k w.2) ∙ e))
+    inl (
+      kind_of found (text_of found (c ∷ cs)),
+      c ∷ take f cs,
+      drop f cs,
+      split f c cs,
+      w.1,
+      bad_is found fault _
+          (sym (let_in_is s before found c cs k w.2) ∙ e),
+    )
 
 pub found_refused : (s : Context) (before : List TokenKind) (c : ℕ) (cs : List ℕ) (fault : FaultKind) → Knows s before → is_blank c ≡ false
     → found s (c ∷ cs) ≡ Err fault → IsFault before fault (c ∷ cs)

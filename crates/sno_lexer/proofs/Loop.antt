@@ -224,12 +224,12 @@ inside_token s text e = ap (λ (b : Bool). if b then Pass (record s { skip = s.s
 pub at_blank : (s : Context) (text : List ℕ) → nat_lt 0 s.skip ≡ false → begins_with 32 text ≡ true → step s text ≡ Pass (record s { after_blank = true })
 at_blank s text e b =
     ap (λ (a : Bool). if a then Pass (record s { skip = s.skip - 1 }) else if begins_with 32 text then Pass
-        (record s { after_blank = true }) else taken (found s text)) e
+    (record s { after_blank = true }) else taken (found s text)) e
     ∙ ap (λ (a : Bool). if a then Pass (record s { after_blank = true }) else taken (found s text)) b
 
 pub at_other : (s : Context) (text : List ℕ) (r : Result Class FaultKind) → nat_lt 0 s.skip ≡ false → begins_with 32 text ≡ false → r ≡ found s text
     → step s text ≡ taken r
 at_other s text r e b f =
     ap (λ (a : Bool). if a then Pass (record s { skip = s.skip - 1 }) else if begins_with 32 text then Pass
-        (record s { after_blank = true }) else taken (found s text)) e
+    (record s { after_blank = true }) else taken (found s text)) e
     ∙ (ap (λ (a : Bool). if a then Pass (record s { after_blank = true }) else taken (found s text)) b ∙ ap taken (sym f))

@@ -36,7 +36,7 @@ turn_found : (s : Context) (at c : ℕ) (cs : List ℕ) (r : Result Class FaultK
 turn_found s at c cs r z b e =
     on_turn s at c (c ∷ cs) cs (taken r) refl
     (third (nat_lt 0 s.skip) (c == 32) (Pass (record s { skip = s.skip - 1 })) (Pass (record s { after_blank = true })) (taken (found s (c ∷ cs)))
-        (ap (nat_lt 0) z) b ∙ ap taken e)
+    (ap (nat_lt 0) z) b ∙ ap taken e)
 
 second : {X : Type 0} (a b : Bool) (x y z : X) → a ≡ false → b ≡ true → (if a then x else if b then y else z) ≡ y
 second true b x y z e f = cc
@@ -59,7 +59,7 @@ passes (c ∷ blanks) rest s at z e = at_first (is_blank c) refl e (λ h. passes
     at_first : (b : Bool) → is_blank c ≡ b → (b && list_all is_blank blanks) ≡ true
         → (list_all is_blank blanks ≡ true
         → stage (record s { after_blank = true }) (at + 1) (blanks ++ rest)
-            ≡ stage (record s { after_blank = true || is_some_text blanks }) (at + 1 + length blanks) rest)
+        ≡ stage (record s { after_blank = true || is_some_text blanks }) (at + 1 + length blanks) rest)
         → stage s at (c ∷ (blanks ++ rest)) ≡ stage (record s { after_blank = s.after_blank || true }) (at + length (c ∷ blanks)) rest
     at_first false b h on = cc
     at_first true b h on =
@@ -118,9 +118,9 @@ goes_on_at s before k at c w rest knows z good f =
           turn_found s at c (w ++ rest) (Ok f.class) z f.first (f.is ∙ ap (good_or f.class) good)
           ∙ ap (with_first (token_of s f.class text) at) (skips w rest next (at + 1) f.size ∙ ap (λ (n : ℕ). stage (record next { skip = 0 }) n rest) p)
           ∙ ap (λ (b : Bool). with_first (record { blank_before = s.after_blank; blank_after = b; kind = kind_of f.class (text_of f.class text) }) at
-              (stage (record next { skip = 0 }) (at + length (c ∷ w)) rest)) apart
+          (stage (record next { skip = 0 }) (at + length (c ∷ w)) rest)) apart
           ∙ ap (λ (x : TokenKind). with_first (record { blank_before = s.after_blank; blank_after = is_apart rest; kind = x }) at
-              (stage (record next { skip = 0 }) (at + length (c ∷ w)) rest)) f.token;
+          (stage (record next { skip = 0 }) (at + length (c ∷ w)) rest)) f.token;
     }
 
 goes_on : (s : Context) (before : List TokenKind) (k : TokenKind) (at : ℕ) (word rest : List ℕ) → Knows s before → s.skip ≡ 0 → Stands before k word rest
@@ -191,7 +191,7 @@ stage_told end (t ∷ tokens) (offset ∷ offsets) text s before at knows z (bla
     ∙ passes blanks (word ++ rest) s at z are
     ∙ g.is
     ∙ ap (λ (n : ℕ). with_first (record { blank_before = blank; blank_after = is_apart rest; kind = t.kind }) n
-        (stage g.next (n + length word) rest)) (sym place)
+    (stage g.next (n + length word) rest)) (sym place)
     ∙ ap (with_first (record { blank_before = blank; blank_after = is_apart rest; kind = t.kind }) offset)
     (stage_told end tokens offsets rest g.next (t.kind ∷ before) (offset + length word) g.knows g.skip told)
     ∙ ap (λ (x : Token). with_first x offset (answer end tokens offsets)) (token_is t blank (is_apart rest) apart behind)

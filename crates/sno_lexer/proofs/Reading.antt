@@ -354,7 +354,7 @@ in_range : (s : Context) (before : List TokenKind) (k : TokenKind) (c : ℕ) (w 
 in_range s before k c w rest knows small r =
     let text = c ∷ (w ++ rest) in
     let word : c ∷ take (further r.class text) (w ++ rest) ≡ c ∷ w = ap (λ (n : ℕ). c ∷ take n (w ++ rest)) r.size
-        ∙ ap (λ (x : List ℕ). c ∷ x) (take_all w rest) in
+    ∙ ap (λ (x : List ℕ). c ∷ x) (take_all w rest) in
     let in_range = subst (λ (x : TokenKind). IsInRange x (c ∷ w)) (sym r.token) small in
     let fits = subst (λ (x : List ℕ). IsSmall r.class x) (sym word) (small_at r.class (text_of r.class text) (c ∷ w) in_range) in record {
       class = r.class;
@@ -380,7 +380,7 @@ out_of_range s before value c w rest knows v large (first, is, r) = record {
   is =
       ap (let_in_if_good s (c ∷ (w ++ rest))) is
       ∙ sym (ap (λ (b : Bool). good_or (Integer value) (if b then (if is_too_many before
-          (kind.Constant (constant.Integer value)) then Some TooMany else None) else Some BadConstant)) large);
+      (kind.Constant (constant.Integer value)) then Some TooMany else None) else Some BadConstant)) large);
 }
 
 -- the text of a token that stands there begins with a character, and the token is found there
@@ -395,7 +395,7 @@ by_range : (s : Context) (before : List TokenKind) (value : ℤ) (word rest : Li
     → Stands before (kind.Constant (constant.Integer value)) word rest → HasFound s before (kind.Constant (constant.Integer value)) word rest
 by_range s before value word rest true knows small stands =
     as_read s before (kind.Constant (constant.Integer value)) word rest knows small
-        (token_read s before (kind.Constant (constant.Integer value)) word rest knows stands small)
+    (token_read s before (kind.Constant (constant.Integer value)) word rest knows stands small)
 by_range s before value [] rest false knows large (written, more, due) = absurd written.1
 by_range s before value (c ∷ w) rest false knows large ((v, (d, a)), more, due) =
     (c, w, refl, out_of_range s before value c w rest knows v large (integer_read s before c w rest knows d a more due large))

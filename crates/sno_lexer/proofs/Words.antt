@@ -117,7 +117,7 @@ pub integer_stands : (before : List TokenKind) (c : ℕ) (cs : List ℕ) (n : �
     → n ≡ value_of (run_in InInteger (c ∷ cs))
     → (further (Integer (pos n)) (c ∷ cs) ≤ length cs)
     × Stands before (kind_of (Integer (pos n)) (text_of (Integer (pos n)) (c ∷ cs))) (c ∷ take (further (Integer (pos n)) (c ∷ cs)) cs)
-        (drop (further (Integer (pos n)) (c ∷ cs)) cs)
+    (drop (further (Integer (pos n)) (c ∷ cs)) cs)
     × (nat_lt n (2 ^ 63) ≡ nat_lt (value_of (c ∷ take (further (Integer (pos n)) (c ∷ cs)) cs)) (2 ^ 63))
 integer_stands before c cs n e due v =
     let w = run_word InInteger is_digit c cs e e in
@@ -141,7 +141,7 @@ quoted q (c ∷ cs) e = at (c == q) refl e (λ h. quoted q cs h)
   where
     at : (b : Bool) → (c == q) ≡ b → (b || list_any (λ d. d == q) cs) ≡ true
         → (list_any (λ d. d == q) cs ≡ true → (length (run_in (InLiteral q) cs) + 1 ≤ length cs)
-            × (take (length (run_in (InLiteral q) cs) + 1) cs ≡ run_in (InLiteral q) cs ++ q ∷ []))
+        × (take (length (run_in (InLiteral q) cs) + 1) cs ≡ run_in (InLiteral q) cs ++ q ∷ []))
         → (length (take (cond (not (not (not b))) (1 + position_or_len (λ d. not (goes_on (InLiteral q) d)) cs) 0) (c ∷ cs)) + 1 ≤ length (c ∷ cs))
         × (take (length (take (cond (not (not (not b))) (1 + position_or_len (λ d. not (goes_on (InLiteral q) d)) cs) 0) (c ∷ cs)) + 1) (c ∷ cs)
         ≡ take (cond (not (not (not b))) (1 + position_or_len (λ d. not (goes_on (InLiteral q) d)) cs) 0) (c ∷ cs) ++ q ∷ [])
@@ -306,7 +306,7 @@ class_at s before c cs class false true digit quote k t l d q e =
     subst (λ (x : Class). Whole before x c cs) h (word_whole before c cs (at_goto s) l (letter_not_due s before c k t l) (sym (outcome_due s before k)))
 class_at s before c cs class false false true quote k t l d q e =
     value_at (value_of (run_in InInteger (c ∷ cs))) (nat_lt (value_of (run_in InInteger (c ∷ cs))) (2 ^ 63)) class before c cs refl d
-        (digit_not_due s before c k t d) refl e
+    (digit_not_due s before c k t d) refl e
 class_at s before c cs class false false false true k t l d q e = quote_at before c cs class (list_any (λ d. d == c) cs) q refl e
 class_at s before c cs class false false false false k t l d q e = sign_whole before c cs class e
 

@@ -20,9 +20,9 @@ loop-index-preserved c =
       | then-byte-ne32 w ↦
           let ink : is_blank code ≡ false = grind (arith, nat_tests, w.if-byte-ne32.true) in
           ap (λ last. end_from (place_after cs last) (drop (i + 1) cs)) w.last-is ∙ past_other cs i code 0 c.loop-index.last within is ink
-              ∙ c.loop-index.invariant
+          ∙ c.loop-index.invariant
       | else-byte-ne32 w ↦
           let blank : is_blank code ≡ true = grind (arith, nat_tests, w.if-byte-ne32.false) in
           ap (λ last. end_from (place_after cs last) (drop (i + 1) cs)) w.last-is ∙ past_blank cs i code 0 c.loop-index.last within is blank
-              ∙ c.loop-index.invariant
+          ∙ c.loop-index.invariant
     ]
