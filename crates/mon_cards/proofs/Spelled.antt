@@ -112,13 +112,13 @@ alone due limit line within is one = by (words line) refl is one
     by (word ∷ other ∷ ws) e is one = absurd (true≢false (sym one ∙ ne_eqb (suc (suc (length ws))) 1 (omega arith)))
 
 -- the card that is found is the one that is due
-pub is_due : (due : Card) (o : Option Card) → is_card due o ≡ true → o ≡ Some due
-is_due due None h = cc
-is_due due (Some card) h = ap Some (same_true the_type tt card due h)
+pub found_is_due : (due : Card) (o : Option Card) → is_card due o ≡ true → o ≡ Some due
+found_is_due due None h = cc
+found_is_due due (Some card) h = ap Some (same_true the_type tt card due h)
 
 pub lone_card : (due : Card) (limit : ℕ) (line : List ℕ) → IsLineWithin limit line → lone_card_refusal due (words line) ≡ None → IsCard limit due [] line
 lone_card due limit line within h =
     let some = neither (unless (is_some (card_among (words line))) UnknownCard) _ h in
     let two = neither (unless (is_card due (card_among (words line))) OutOfPlace) _ some.1 in
-    alone due limit line within (is_due due (card_among (words line)) (passes (is_card due (card_among (words line))) OutOfPlace two.0))
+    alone due limit line within (found_is_due due (card_among (words line)) (passes (is_card due (card_among (words line))) OutOfPlace two.0))
     (passes (length (words line) == 1) BadCard two.1)
