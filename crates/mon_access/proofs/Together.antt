@@ -1,7 +1,7 @@
 -- Kinds of entries, joined, and told by where an entry stands.
 use Rattle.std.proofs.Common.{◌≡◌, ◌∙◌, ℕ, suc, ◌+◌, ◌<◌, min, Bool, true, false, cond, not, ◌&&◌, ◌||◌, ◌==◌, List, [], ◌∷◌, length, get_or, take, drop, refl, sym, ap, ap₂, arith, nat_eq, nat_lt, true≢false, Option, None, Some, bytes_eq, All, take-append-drop}
 use Rattle.std.specs.List.{list_any, position_or_len}
-use Rattle.std.specs.Option.{option_map_or}
+use Rattle.std.specs.Option.{option_map_or, unwrap_or}
 use Rattle.std.specs.Cmp.Lexicographic.{pointwise, nat_list_eq_equiv, texts_ties}
 use Rattle.std.proofs.lemmas.Bool.Decides.{nat_tests}
 use Rattle.std.proofs.lemmas.List.Folds.{list_any_more, list_any-append}
@@ -9,7 +9,7 @@ use Rattle.mon_acl.specs.declared.entries.Perms.{Perms}
 use Rattle.mon_acl.specs.declared.entries.Tag.{Tag}
 use Rattle.mon_acl.specs.declared.entries.Tag.TheVariants.{UserObj, User, GroupObj, Group, Mask, Other}
 use Rattle.mon_acl.specs.declared.entries.Entry.{Entry}
-use Rattle.mon_acl.specs.Entries.{rank, has_tag, bytes_of, qualifier, is_qualified, sort_key, IsEntry}
+use Rattle.mon_acl.specs.Entries.{rank, has_tag, qualifier, is_qualified, sort_key, IsEntry}
 use Rattle.mon_acl.specs.Permissions.{holds}
 use Rattle.mon_access.specs.declared.account.Account.{Account}
 use Rattle.mon_access.specs.declared.finding.Found.{Found}
@@ -103,7 +103,7 @@ unfolding row
 user_kind name e valid = stands (rank User) name e ∙ by e.tag e.name valid
   where
     by : (t : Tag) (o : Option (List ℕ)) → is_qualified t o ≡ true →
-        ((rank t == 1) && pointwise nat_eq (bytes_of o) name) ≡ ((rank t == 1) && option_map_or (bytes_eq name) o false)
+        ((rank t == 1) && pointwise nat_eq (unwrap_or o []) name) ≡ ((rank t == 1) && option_map_or (bytes_eq name) o false)
     by UserObj o v = refl
     by User None v = absurd (true≢false (sym v))
     by User (Some m) v = nat_list_eq_equiv.symm m name
@@ -140,7 +140,7 @@ lone_kind t e bare valid = stands (rank t) [] e ∙ by e.tag e.name valid
     group Mask v = refl
     group Other v = refl
 
-    by : (u : Tag) (o : Option (List ℕ)) → is_qualified u o ≡ true → ((rank u == rank t) && pointwise nat_eq (bytes_of o) []) ≡ (rank u == rank t)
+    by : (u : Tag) (o : Option (List ℕ)) → is_qualified u o ≡ true → ((rank u == rank t) && pointwise nat_eq (unwrap_or o []) []) ≡ (rank u == rank t)
     by u None v = and_true (rank u == rank t)
     by UserObj (Some m) v = absurd (true≢false (sym v))
     by User (Some m) v = rw (user t bare) refl
@@ -162,7 +162,7 @@ named_group account e valid =
   where
     by : (t : Tag) (o : Option (List ℕ)) → is_qualified t o ≡ true →
         ((rank t == 3) && option_map_or (is_in_group account) o false)
-        ≡ (((rank t == 3) && pointwise nat_eq (bytes_of o) account.primary) || list_any (λ (name : List ℕ). (rank t == 3) && pointwise nat_eq (bytes_of o) name) account.groups)
+        ≡ (((rank t == 3) && pointwise nat_eq (unwrap_or o []) account.primary) || list_any (λ (name : List ℕ). (rank t == 3) && pointwise nat_eq (unwrap_or o []) name) account.groups)
     by UserObj o v = sym (none_of account.groups)
     by User o v = sym (none_of account.groups)
     by GroupObj o v = sym (none_of account.groups)

@@ -8,7 +8,6 @@ use Rattle.mon_acl.specs.declared.entries.Entry.{Entry}
 use Rattle.mon_acl.specs.Entries.{has_tag}
 use Rattle.mon_acl.specs.Permissions.{holds}
 use Rattle.mon_access.specs.declared.account.Account.{Account}
-use Rattle.mon_access.specs.Groups.{is_among}
 
 -- the account is the data set's owner
 abbrev pub is_owner : Account → List ℕ → Bool
@@ -16,7 +15,7 @@ is_owner account owner = bytes_eq account.name owner
 
 -- the group is one of the account's, its primary one or a further one
 abbrev pub is_in_group : Account → List ℕ → Bool
-is_in_group account group = bytes_eq account.primary group || is_among group account.groups
+is_in_group account group = bytes_eq account.primary group || list_any (bytes_eq group) account.groups
 
 -- a USER entry whose qualifier is the account
 abbrev pub is_for_user : Account → Entry → Bool

@@ -9,10 +9,13 @@ use Rattle.std.proofs.lemmas.List.Sorted.{All-permutation, IsPermutation-reverse
 use Rattle.std.proofs.lemmas.List.Splits.{slice_split_at, slice_split_none, slice_split-cons_yes}
 use Rattle.mon_acl.specs.declared.entries.Entry.{Entry}
 use Rattle.mon_acl.specs.declared.refusals.AclError.{AclError}
-use Rattle.mon_acl.specs.Texts.{is_gap, is_colon, is_hash, is_line_feed, is_filled, without_leading_gaps, trimmed, fields, without_comment, long_pieces}
+use Rattle.mon_acl.specs.Texts.{is_gap, is_colon, is_hash, is_filled, trimmed, fields, without_comment, long_pieces}
 use Rattle.mon_acl.specs.Refusals.{◌>>=◌, entry_of_fields, joined, lacking, entries_on}
-use Rattle.mon_acl.specs.Reading.{whole, arranged, read_long}
+use Rattle.mon_acl.specs.Reading.{arranged, read_long}
 use Rattle.mon_acl.specs.Laws.{BeginsLine, CommentsSayNothing}
+use Rattle.mon_text.specs.Characters.{is_line_feed}
+use Rattle.mon_text.specs.Beginnings.{without_leading}
+use Rattle.mon_acl.proofs.Lacks.{whole}
 
 abbrev pub AreGaps : List ℕ → Type 0
 AreGaps blanks = All (λ c. IsTrue (is_gap c)) blanks
@@ -63,37 +66,37 @@ parts_longer p (c ∷ cs) tail rest lacks ends = at (p c) (parts_longer p cs tai
 
 -- ---- blanks behind a field, and behind an entry's text
 
-gaps_skipped : (blanks text : List ℕ) → AreGaps blanks → without_leading_gaps (blanks ++ text) ≡ without_leading_gaps text
+gaps_skipped : (blanks text : List ℕ) → AreGaps blanks → without_leading is_gap (blanks ++ text) ≡ without_leading is_gap text
 gaps_skipped [] text g = refl
 gaps_skipped (c ∷ cs) text g =
-    ap (λ (b : Bool). cond b (without_leading_gaps (cs ++ text)) (c ∷ (cs ++ text))) (All-head (λ c. IsTrue (is_gap c)) c cs g)
+    ap (λ (b : Bool). cond b (without_leading is_gap (cs ++ text)) (c ∷ (cs ++ text))) (All-head (λ c. IsTrue (is_gap c)) c cs g)
     ∙ gaps_skipped cs text (All-tail (λ c. IsTrue (is_gap c)) c cs g)
 
-gaps_gone : (blanks : List ℕ) → AreGaps blanks → without_leading_gaps blanks ≡ []
-gaps_gone blanks g = ap without_leading_gaps (sym (append-nil blanks)) ∙ gaps_skipped blanks [] g
+gaps_gone : (blanks : List ℕ) → AreGaps blanks → without_leading is_gap blanks ≡ []
+gaps_gone blanks g = ap (without_leading is_gap) (sym (append-nil blanks)) ∙ gaps_skipped blanks [] g
 
 front : (text blanks : List ℕ) → AreGaps blanks →
-    (without_leading_gaps (text ++ blanks) ≡ without_leading_gaps text ++ blanks) ⊎ ((without_leading_gaps (text ++ blanks) ≡ []) × (without_leading_gaps text ≡ []))
+    (without_leading is_gap (text ++ blanks) ≡ without_leading is_gap text ++ blanks) ⊎ ((without_leading is_gap (text ++ blanks) ≡ []) × (without_leading is_gap text ≡ []))
 front [] blanks g = inr (gaps_gone blanks g, refl)
 front (c ∷ cs) blanks g = at (is_gap c) (front cs blanks g)
   where
     at : (b : Bool) →
-        (without_leading_gaps (cs ++ blanks) ≡ without_leading_gaps cs ++ blanks) ⊎ ((without_leading_gaps (cs ++ blanks) ≡ []) × (without_leading_gaps cs ≡ [])) →
-        (cond b (without_leading_gaps (cs ++ blanks)) (c ∷ (cs ++ blanks)) ≡ cond b (without_leading_gaps cs) (c ∷ cs) ++ blanks)
-        ⊎ ((cond b (without_leading_gaps (cs ++ blanks)) (c ∷ (cs ++ blanks)) ≡ []) × (cond b (without_leading_gaps cs) (c ∷ cs) ≡ []))
+        (without_leading is_gap (cs ++ blanks) ≡ without_leading is_gap cs ++ blanks) ⊎ ((without_leading is_gap (cs ++ blanks) ≡ []) × (without_leading is_gap cs ≡ [])) →
+        (cond b (without_leading is_gap (cs ++ blanks)) (c ∷ (cs ++ blanks)) ≡ cond b (without_leading is_gap cs) (c ∷ cs) ++ blanks)
+        ⊎ ((cond b (without_leading is_gap (cs ++ blanks)) (c ∷ (cs ++ blanks)) ≡ []) × (cond b (without_leading is_gap cs) (c ∷ cs) ≡ []))
     at true more = more
     at false more = inl refl
 
 trimmed_blanks : (text blanks : List ℕ) → AreGaps blanks → trimmed (text ++ blanks) ≡ trimmed text
 trimmed_blanks text blanks g = at (front text blanks g)
   where
-    at : (without_leading_gaps (text ++ blanks) ≡ without_leading_gaps text ++ blanks) ⊎ ((without_leading_gaps (text ++ blanks) ≡ []) × (without_leading_gaps text ≡ [])) →
+    at : (without_leading is_gap (text ++ blanks) ≡ without_leading is_gap text ++ blanks) ⊎ ((without_leading is_gap (text ++ blanks) ≡ []) × (without_leading is_gap text ≡ [])) →
         trimmed (text ++ blanks) ≡ trimmed text
     at (inl e) =
-        ap (λ (t : List ℕ). reverse (without_leading_gaps (reverse t))) e
-        ∙ ap (λ (t : List ℕ). reverse (without_leading_gaps t)) (reverse-append (without_leading_gaps text) blanks)
-        ∙ ap reverse (gaps_skipped (reverse blanks) (reverse (without_leading_gaps text)) (All-permutation (λ c. IsTrue (is_gap c)) blanks (reverse blanks) (IsPermutation-reverse blanks) g))
-    at (inr e) = ap (λ (t : List ℕ). reverse (without_leading_gaps (reverse t))) (e.0 ∙ sym e.1)
+        ap (λ (t : List ℕ). reverse (without_leading is_gap (reverse t))) e
+        ∙ ap (λ (t : List ℕ). reverse (without_leading is_gap t)) (reverse-append (without_leading is_gap text) blanks)
+        ∙ ap reverse (gaps_skipped (reverse blanks) (reverse (without_leading is_gap text)) (All-permutation (λ c. IsTrue (is_gap c)) blanks (reverse blanks) (IsPermutation-reverse blanks) g))
+    at (inr e) = ap (λ (t : List ℕ). reverse (without_leading is_gap (reverse t))) (e.0 ∙ sym e.1)
 
 trimmed_longer : (blanks : List ℕ) → AreGaps blanks → (ls ms : List (List ℕ)) → AllZip (Longer blanks) ls ms → map trimmed ls ≡ map trimmed ms
 trimmed_longer blanks g [] [] z = refl

@@ -10,12 +10,13 @@ use Rattle.mon_acl.specs.declared.entries.Tag.{Tag}
 use Rattle.mon_acl.specs.declared.entries.Tag.TheVariants.{UserObj, User, GroupObj, Group, Mask, Other}
 use Rattle.mon_acl.specs.declared.entries.Entry.{Entry}
 use Rattle.mon_acl.specs.Entries.{qualifier, IsEntry}
-use Rattle.mon_acl.specs.Texts.{is_gap, is_hash, is_line_feed, is_filled, without_comment, long_pieces, tag_word, SpellsFields, SpellsEntry}
+use Rattle.mon_acl.specs.Texts.{is_gap, is_hash, is_filled, without_comment, long_pieces, tag_word, SpellsFields, SpellsEntry}
 use Rattle.mon_acl.specs.Printing.{perms_text, entry_text, effective, effective_text, long_line}
 use Rattle.mon_acl.specs.Laws.{AnyLineOrder}
 use Rattle.mon_acl.proofs.Valid.{valid_moved}
 use Rattle.mon_acl.proofs.Spelling.{Lacks, hashes, line_feeds, perms_lack, entry_lacks, in_fields, printed_entry}
 use Rattle.mon_acl.proofs.Comments.{up_to_hash, fields_blanks}
+use Rattle.mon_text.specs.Characters.{is_line_feed}
 
 -- what is left of the comment: the tab before it
 abbrev pub tab_of : Option Perms → List ℕ

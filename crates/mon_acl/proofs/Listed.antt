@@ -15,10 +15,11 @@ use Rattle.mon_acl.specs.declared.refusals.AclError.TheVariants.{Twice, TooMany,
 use Rattle.mon_acl.specs.Entries.{has_tag, is_named, is_for, IsValidAcl, IsCanonical, IsAcl, compared}
 use Rattle.mon_acl.specs.Texts.{SpellsEntry, SpellList}
 use Rattle.mon_acl.specs.Refusals.{◌>>=◌, joined, lacking, entry_of, entries_on}
-use Rattle.mon_acl.specs.Reading.{whole, arranged, read_pieces}
+use Rattle.mon_acl.specs.Reading.{arranged, read_pieces}
 use Rattle.mon_acl.proofs.Order.{order, count_moved, arranged_moves}
 use Rattle.mon_acl.proofs.Spelled.{bind_ok, read_spells, spelled_read}
 use Rattle.mon_acl.proofs.Valid.{count_some, IsApart, apart_rest, apart_moved, arranged_sorted, counted, count_less, some_of_count, joined_ok, readable, read_acl, valid_moved}
+use Rattle.mon_acl.proofs.Lacks.{whole}
 
 -- ---- what is read is spelled
 

@@ -11,9 +11,10 @@ use Rattle.mon_acl.specs.declared.entries.Tag.TheVariants.{UserObj, User, GroupO
 use Rattle.mon_acl.specs.declared.entries.Entry.{Entry}
 use Rattle.mon_acl.specs.declared.refusals.AclError.{AclError}
 use Rattle.mon_acl.specs.declared.refusals.AclError.TheVariants.{BadTag, BadQualifier, BadPerms}
-use Rattle.mon_acl.specs.Entries.{is_qualified, qualifier, bytes_of, IsEntry}
+use Rattle.mon_acl.specs.Entries.{is_qualified, qualifier, IsEntry}
 use Rattle.mon_acl.specs.Texts.{fields, is_permission, times, once_if, may_leave_out, SpellsTag, SpellsPerms, SpellsFields, SpellsEntry}
 use Rattle.mon_acl.specs.Refusals.{◌>>=◌, is_either, type_of, named_type, qualified, parts_of, is_perms, perms_of, entry_of, entry_of_fields}
+use Rattle.std.specs.Option.{unwrap_or}
 
 -- ---- results in a row
 
@@ -96,7 +97,7 @@ type_spelled word Other (inr h) = ap type_of h
 pub record Whole (plain : Tag) (name : List ℕ) (t : Tag) (o : Option (List ℕ)) : Type 0 where
   pub valid : IsTrue (is_qualified t o)
   pub same_word : plain_of t ≡ plain
-  pub is : name ≡ bytes_of o
+  pub is : name ≡ unwrap_or o []
   pub left_out : name ≡ [] → t ≡ plain
 
 whole_of : (plain : Tag) (name : List ℕ) (w : Tag × Option (List ℕ)) → is_plain plain ≡ true → qualified plain name ≡ Some w → Whole plain name w.0 w.1
@@ -127,7 +128,7 @@ whole_of plain (c ∷ cs) w p h = at plain (if_some (is_name (c ∷ cs)) (option
     at Mask n = absurd (let k : None ≡ Some w = n.1 in cc)
     at Other n = absurd (let k : None ≡ Some w = n.1 in cc)
 
-qualified_spelled : (t : Tag) (o : Option (List ℕ)) → IsTrue (is_qualified t o) → qualified (plain_of t) (bytes_of o) ≡ Some (t, o)
+qualified_spelled : (t : Tag) (o : Option (List ℕ)) → IsTrue (is_qualified t o) → qualified (plain_of t) (unwrap_or o []) ≡ Some (t, o)
 qualified_spelled UserObj None h = refl
 qualified_spelled GroupObj None h = refl
 qualified_spelled Mask None h = refl
@@ -251,7 +252,7 @@ in_a_row n word rest name perms e s parts same valid p =
     ∙ ap (λ (o : Option Perms). ok_or o (BadPerms n) >>= λ ps. Ok (record { tag = e.tag; name = e.name; perms = ps })) (perms_spelled perms e.perms p)
 
 -- where the qualifier is left out there is none
-none_left_out : (t : Tag) (o : Option (List ℕ)) → IsTrue (may_leave_out t) → IsTrue (is_qualified t o) → ([] ≡ bytes_of o) × (may_leave_out (plain_of t) ≡ true)
+none_left_out : (t : Tag) (o : Option (List ℕ)) → IsTrue (may_leave_out t) → IsTrue (is_qualified t o) → ([] ≡ unwrap_or o []) × (may_leave_out (plain_of t) ≡ true)
 none_left_out Mask None l v = (refl, refl)
 none_left_out Other None l v = (refl, refl)
 none_left_out Mask (Some n) l v = absurd (let k : false ≡ true = v in cc)

@@ -7,17 +7,19 @@ use Rattle.std.proofs.lemmas.List.Elements.{All-nil, All-cons, All-head, All-tai
 use Rattle.std.proofs.lemmas.List.Sorted.{All-permutation, IsPermutation-reverse, IsPermutation-sym}
 use Rattle.std.proofs.lemmas.List.{reverse-reverse}
 use Rattle.std.proofs.lemmas.List.Splits.{slice_split_at, slice_split_none}
-use Rattle.mon_text.specs.Characters.{is_letter, is_digit}
+use Rattle.mon_text.specs.Characters.{is_letter, is_digit, is_comma, is_line_feed}
 use Rattle.mon_text.specs.Names.{is_name, is_name_character}
 use Rattle.mon_acl.specs.declared.entries.Perms.{Perms}
 use Rattle.mon_acl.specs.declared.entries.Tag.{Tag}
 use Rattle.mon_acl.specs.declared.entries.Tag.TheVariants.{UserObj, User, GroupObj, Group, Mask, Other}
 use Rattle.mon_acl.specs.declared.entries.Entry.{Entry}
-use Rattle.mon_acl.specs.Entries.{is_qualified, bytes_of, qualifier, IsEntry, IsValidAcl, IsAcl}
-use Rattle.mon_acl.specs.Texts.{is_gap, is_comma, is_colon, is_hash, is_line_feed, without_leading_gaps, trimmed, pieces, fields, tag_word, SpellsPerms, SpellsFields, SpellsEntry, IsShortText}
+use Rattle.mon_acl.specs.Entries.{is_qualified, qualifier, IsEntry, IsValidAcl, IsAcl}
+use Rattle.mon_acl.specs.Texts.{is_gap, is_colon, is_hash, trimmed, pieces, fields, tag_word, SpellsPerms, SpellsFields, SpellsEntry, IsShortText}
 use Rattle.mon_acl.specs.Printing.{letter, perms_text, entry_head, entry_text, short_form}
 use Rattle.mon_acl.proofs.Spelled.{both}
 use Rattle.mon_acl.proofs.Valid.{valid_moved}
+use Rattle.std.specs.Option.{unwrap_or}
+use Rattle.mon_text.specs.Beginnings.{without_leading}
 
 -- no character of the text passes the test
 abbrev pub Lacks : (ℕ → Bool) → List ℕ → Type 0
@@ -66,7 +68,7 @@ name_lacks p f (c ∷ cs) h =
     let b = both (is_letter c) (list_all is_name_character cs) a.0 in
     All-cons (λ c. p c ≡ false) c cs (f c (letter_of_name c b.0)) (name_characters p f cs b.1)
 
-qualifier_lacks : (p : ℕ → Bool) → Foreign p → (t : Tag) (o : Option (List ℕ)) → IsTrue (is_qualified t o) → Lacks p (bytes_of o)
+qualifier_lacks : (p : ℕ → Bool) → Foreign p → (t : Tag) (o : Option (List ℕ)) → IsTrue (is_qualified t o) → Lacks p (unwrap_or o [])
 qualifier_lacks p f t None h = All-nil (λ c. p c ≡ false)
 qualifier_lacks p f User (Some name) h = name_lacks p f name h
 qualifier_lacks p f Group (Some name) h = name_lacks p f name h
@@ -104,13 +106,13 @@ entry_lacks p f colon e v =
 
 -- ---- a field that has no gap is as it was
 
-front_stays : (text : List ℕ) → Lacks is_gap text → without_leading_gaps text ≡ text
+front_stays : (text : List ℕ) → Lacks is_gap text → without_leading is_gap text ≡ text
 front_stays [] h = refl
-front_stays (c ∷ cs) h = ap (λ (b : Bool). cond b (without_leading_gaps cs) (c ∷ cs)) (All-head (λ c. is_gap c ≡ false) c cs h)
+front_stays (c ∷ cs) h = ap (λ (b : Bool). cond b (without_leading is_gap cs) (c ∷ cs)) (All-head (λ c. is_gap c ≡ false) c cs h)
 
 stays : (text : List ℕ) → Lacks is_gap text → trimmed text ≡ text
 stays text h =
-    ap (λ (t : List ℕ). reverse (without_leading_gaps (reverse t))) (front_stays text h)
+    ap (λ (t : List ℕ). reverse (without_leading is_gap (reverse t))) (front_stays text h)
     ∙ ap reverse (front_stays (reverse text) (All-permutation (λ c. is_gap c ≡ false) text (reverse text) (IsPermutation-reverse text) h))
     ∙ reverse-reverse text
 

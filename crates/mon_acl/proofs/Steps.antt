@@ -13,9 +13,10 @@ use Rattle.mon_acl.specs.declared.refusals.AclError.{AclError}
 use Rattle.mon_acl.specs.declared.refusals.AclError.TheVariants.{Twice, TooMany}
 use Rattle.mon_acl.specs.Entries.{compared, is_for, qualifier, is_named, has_tag, IsCanonical}
 use Rattle.mon_acl.specs.Refusals.{◌>>=◌, entry_of, joined, entries_on, entries_of, lacking}
-use Rattle.mon_acl.specs.Reading.{MayGrow, put_in, arranged, read_pieces, whole}
+use Rattle.mon_acl.specs.Reading.{MayGrow, put_in, arranged, read_pieces}
 use Rattle.mon_acl.specs.inner.Building.{added, piece_added, canonical_entries_of}
 use Rattle.mon_acl.proofs.Order.{any_arranged, count_arranged, put_sorted}
+use Rattle.mon_acl.proofs.Lacks.{whole}
 
 abbrev pub sorted_on : ℕ → List Entry → List (List ℕ) → Result (List Entry) AclError
 sorted_on n es [] = Ok es

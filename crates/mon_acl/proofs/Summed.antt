@@ -15,10 +15,11 @@ use Rattle.mon_acl.specs.declared.entries.Perms.{Perms}
 use Rattle.mon_acl.specs.declared.entries.Tag.{Tag}
 use Rattle.mon_acl.specs.declared.entries.Tag.TheVariants.{UserObj, User, GroupObj, Group, Mask, Other}
 use Rattle.mon_acl.specs.declared.entries.Entry.{Entry}
-use Rattle.mon_acl.specs.Entries.{rank, is_tag, has_tag, is_named, sort_key, is_for, qualifier, bytes_of, is_qualified, IsEntry, IsValidAcl}
+use Rattle.mon_acl.specs.Entries.{rank, is_tag, has_tag, is_named, sort_key, is_for, qualifier, is_qualified, IsEntry, IsValidAcl}
 use Rattle.mon_acl.specs.inner.Summaries.{word_of, code_of, key_of, summary_of, bucket_of, buckets_of}
 use Rattle.mon_acl.specs.inner.Chains.{IsLast, IsChained}
 use Rattle.mon_acl.proofs.Valid.{counted}
+use Rattle.std.specs.Option.{unwrap_or}
 
 -- ---- names are bytes
 abbrev pub AreBytes : List ℕ → Type 0
@@ -44,7 +45,7 @@ name_bytes [] h k = omega arith
 name_bytes (c ∷ cs) h zero = letter c (both _ _ (both _ _ h).0).0
 name_bytes (c ∷ cs) h (suc k) = characters cs (both _ _ (both _ _ h).0).1 k
 
-qualifier_bytes : (t : Tag) (o : Option (List ℕ)) → is_qualified t o ≡ true → AreBytes (bytes_of o)
+qualifier_bytes : (t : Tag) (o : Option (List ℕ)) → is_qualified t o ≡ true → AreBytes (unwrap_or o [])
 qualifier_bytes t None h k = omega arith
 qualifier_bytes UserObj (Some name) h k = absurd (true≢false (sym h))
 qualifier_bytes User (Some name) h k = name_bytes name h k

@@ -13,11 +13,13 @@ use Rattle.mon_acl.specs.declared.entries.Tag.TheVariants.{UserObj, User, GroupO
 use Rattle.mon_acl.specs.declared.entries.Entry.{Entry}
 use Rattle.mon_acl.specs.declared.refusals.AclError.{AclError}
 use Rattle.mon_acl.specs.declared.refusals.AclError.TheVariants.{Twice, TooMany, Missing, NoMask}
-use Rattle.mon_acl.specs.Entries.{rank, sort_key, is_tag, has_tag, is_named, is_for, qualifier, is_qualified, bytes_of, IsEntry, IsValidAcl, IsCanonical, IsAcl}
+use Rattle.mon_acl.specs.Entries.{rank, sort_key, is_tag, has_tag, is_named, is_for, qualifier, is_qualified, IsEntry, IsValidAcl, IsCanonical, IsAcl}
 use Rattle.mon_acl.specs.Refusals.{◌>>=◌, joined, lacking, entry_of, entries_on, entries_of}
-use Rattle.mon_acl.specs.Reading.{whole, arranged, read_pieces}
+use Rattle.mon_acl.specs.Reading.{arranged, read_pieces}
 use Rattle.mon_acl.proofs.Order.{put_sorted, none_sorted, any_arranged, count_moved, arranged_moves}
 use Rattle.mon_acl.proofs.Spelled.{bind_ok, read_spells}
+use Rattle.std.specs.Option.{unwrap_or}
+use Rattle.mon_acl.proofs.Lacks.{whole}
 
 -- ---- tests and counts
 
@@ -167,7 +169,7 @@ lacks_nothing es h =
 
 -- an entry of a type without qualifier is for the empty name
 plain_for : (t tag : Tag) (name : Option (List ℕ)) → is_tag User t ≡ false → is_tag Group t ≡ false → IsTrue (is_qualified tag name) →
-    is_tag tag t ≡ true → (is_tag tag t && pointwise nat_eq (bytes_of name) []) ≡ true
+    is_tag tag t ≡ true → (is_tag tag t && pointwise nat_eq (unwrap_or name []) []) ≡ true
 plain_for t UserObj None u g v h = ap (λ (b : Bool). b && true) h
 plain_for t GroupObj None u g v h = ap (λ (b : Bool). b && true) h
 plain_for t Mask None u g v h = ap (λ (b : Bool). b && true) h

@@ -9,13 +9,14 @@ use Rattle.mon_acl.specs.declared.entries.Entry.{Entry}
 use Rattle.mon_acl.specs.declared.refusals.AclError.{AclError}
 use Rattle.mon_acl.specs.Texts.{pieces, long_pieces, SpellList}
 use Rattle.mon_acl.specs.Refusals.{◌>>=◌, entries_of, lacking, refusal_in, first_refusal}
-use Rattle.mon_acl.specs.Reading.{whole, arranged, read_pieces, read_short, read_long}
+use Rattle.mon_acl.specs.Reading.{arranged, read_pieces, read_short, read_long}
 use Rattle.mon_acl.specs.Printing.{short_form, mask_of, long_form}
 use Rattle.mon_acl.specs.Laws.{ReadingSpells, OneList, RefusedOrSpells, ReadsBack, OneForm, OneOrder, AnyOrder, LongReadingSpells, OneLongList, LongRefusedOrSpells, LongReadsBack, OneLongForm, AnyLineOrder, CommentsSayNothing}
 use Rattle.mon_acl.proofs.Listed as listed
 use Rattle.mon_acl.proofs.Spelling.{reordered}
 use Rattle.mon_acl.proofs.Lines.{reordered_lines}
 use Rattle.mon_acl.proofs.Comments as comments
+use Rattle.mon_acl.proofs.Lacks.{whole}
 
 -- ---- the texts of entries, in either form
 

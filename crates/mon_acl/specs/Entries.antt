@@ -9,6 +9,7 @@ use Rattle.mon_text.specs.Names.{is_name}
 use Rattle.mon_acl.specs.declared.entries.Tag.{Tag}
 use Rattle.mon_acl.specs.declared.entries.Tag.TheVariants.{UserObj, User, GroupObj, Group, Mask, Other}
 use Rattle.mon_acl.specs.declared.entries.Entry.{Entry}
+use Rattle.std.specs.Option.{is_none, option_map_or, unwrap_or}
 
 -- the types in canonical order (own)
 abbrev pub rank : Tag → ℕ
@@ -31,14 +32,9 @@ has_tag t e = is_tag e.tag t
 abbrev pub is_named : Entry → Bool
 is_named e = has_tag User e || has_tag Group e
 
--- the bytes of a name; empty for none
-abbrev pub bytes_of : Option (List ℕ) → List ℕ
-bytes_of (Some name) = name
-bytes_of None = []
-
 -- the name that an entry is for; empty for an entry of the owner, the owning group, the mask and all others
 abbrev pub qualifier : Entry → List ℕ
-qualifier e = bytes_of e.name
+qualifier e = unwrap_or e.name []
 
 -- an entry of this type for this name
 abbrev pub is_for : Tag → List ℕ → Entry → Bool
@@ -51,12 +47,9 @@ IsIndexOf t name es index = MatchOption index (IsFalse (list_any (is_for t name)
 
 -- named users and groups have a name, other entries have none
 abbrev pub is_qualified : Tag → Option (List ℕ) → Bool
-is_qualified User (Some name) = is_name name
-is_qualified User None = false
-is_qualified Group (Some name) = is_name name
-is_qualified Group None = false
-is_qualified _ (Some name) = false
-is_qualified _ None = true
+is_qualified User name = option_map_or is_name name false
+is_qualified Group name = option_map_or is_name name false
+is_qualified _ name = is_none name
 
 -- an entry that a list may have
 abbrev pub IsEntry : Entry → Type 0

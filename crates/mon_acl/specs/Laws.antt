@@ -3,10 +3,11 @@ use Rattle.std.specs.Prelude.{◌≡◌, ℕ, ◌⊎◌, false, List, [], ◌∷
 use Rattle.mon_acl.specs.declared.entries.Perms.{Perms}
 use Rattle.mon_acl.specs.declared.entries.Entry.{Entry}
 use Rattle.mon_acl.specs.Entries.{IsValidAcl, IsCanonical, IsAcl}
-use Rattle.mon_acl.specs.Texts.{is_gap, is_line_feed, IsShortText, IsLongText}
+use Rattle.mon_acl.specs.Texts.{is_gap, IsShortText, IsLongText}
 use Rattle.mon_acl.specs.Refusals.{acl_refusal, long_refusal}
 use Rattle.mon_acl.specs.Reading.{read_short, read_long}
 use Rattle.mon_acl.specs.Printing.{short_form, long_line, long_form}
+use Rattle.mon_text.specs.Characters.{is_line_feed}
 
 -- reading gives the list that the text spells, and every list that a text spells is read
 abbrev pub ReadingSpells : Type 0

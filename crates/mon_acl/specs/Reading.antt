@@ -6,6 +6,7 @@ use Rattle.mon_acl.specs.declared.refusals.AclError.{AclError}
 use Rattle.mon_acl.specs.Entries.{compared}
 use Rattle.mon_acl.specs.Texts.{pieces, long_pieces}
 use Rattle.mon_acl.specs.Refusals.{◌>>=◌, entries_of, lacking}
+use Rattle.std.specs.Option.{option_map_or}
 
 -- an entry put behind those that stand before it in canonical order
 abbrev pub put_in : Entry → List Entry → List Entry
@@ -17,14 +18,9 @@ abbrev pub arranged : List Entry → List Entry
 arranged [] = []
 arranged (e ∷ es) = put_in e (arranged es)
 
--- a list that lacks nothing
-abbrev pub whole : Option AclError → List Entry → Result (List Entry) AclError
-whole (Some refusal) es = Err refusal
-whole None es = Ok es
-
--- the list that the texts of entries spell, or their first refusal
+-- the list that the texts of entries spell, or their first refusal, or what the list lacks
 abbrev pub read_pieces : List (List ℕ) → Result (List Entry) AclError
-read_pieces texts = entries_of texts >>= λ es. whole (lacking es) (arranged es)
+read_pieces texts = entries_of texts >>= λ es. option_map_or Err (lacking es) (Ok (arranged es))
 
 -- the list that a short text spells, or its first refusal
 abbrev pub read_short : List ℕ → Result (List Entry) AclError

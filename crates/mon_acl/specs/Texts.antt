@@ -6,23 +6,16 @@ use Rattle.mon_acl.specs.declared.entries.Tag.{Tag}
 use Rattle.mon_acl.specs.declared.entries.Tag.TheVariants.{UserObj, User, GroupObj, Group, Mask, Other}
 use Rattle.mon_acl.specs.declared.entries.Entry.{Entry}
 use Rattle.mon_acl.specs.Entries.{qualifier, is_tag, IsEntry, IsAcl}
+use Rattle.mon_text.specs.Characters.{is_comma, is_line_feed}
+use Rattle.mon_text.specs.Beginnings.{without_leading}
 
 -- a blank: a space or a tab
 abbrev pub is_gap : ℕ → Bool
 is_gap c = c == 32 || c == 9
 
--- the text from its first character on that is no blank
-abbrev pub without_leading_gaps : List ℕ → List ℕ
-without_leading_gaps [] = []
-without_leading_gaps (c ∷ cs) = if is_gap c then without_leading_gaps cs else c ∷ cs
-
 -- the text without the blanks round it
 abbrev pub trimmed : List ℕ → List ℕ
-trimmed text = reverse (without_leading_gaps (reverse (without_leading_gaps text)))
-
--- `,`
-abbrev pub is_comma : ℕ → Bool
-is_comma c = c == 44
+trimmed text = reverse (without_leading is_gap (reverse (without_leading is_gap text)))
 
 -- `:`
 abbrev pub is_colon : ℕ → Bool
@@ -31,10 +24,6 @@ is_colon c = c == 58
 -- what stands between commas: the texts of the entries in the short form
 abbrev pub pieces : List ℕ → List (List ℕ)
 pieces text = slice_split is_comma text
-
--- LF
-abbrev pub is_line_feed : ℕ → Bool
-is_line_feed c = c == 10
 
 -- `#`
 abbrev pub is_hash : ℕ → Bool

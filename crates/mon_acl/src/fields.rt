@@ -1,8 +1,9 @@
 //! Cutting a text at a separator, and skipping the gaps (spaces and tabs) round a field.
 ghost use Rattle.std.specs.Prelude.{◌≡◌, ◌<◌, ◌==◌, ◌∷◌, length, reverse, position, IfSome, option_copied};
 ghost use Rattle.std.specs.List.{slice_split};
-ghost use Rattle.mon_acl.specs.Texts.{is_gap, without_leading_gaps, trimmed};
+ghost use Rattle.mon_acl.specs.Texts.{is_gap, trimmed};
 ghost use Rattle.mon_acl.specs.inner.Building.{parts_behind};
+ghost use Rattle.mon_text.specs.Beginnings.{without_leading};
 
 /// Whether a byte is a space or a tab.
 pub(crate) fn is_gap(byte: u8) -> bool
@@ -13,7 +14,7 @@ pub(crate) fn is_gap(byte: u8) -> bool
 
 /// The text without the gaps before it.
 fn without_leading_gaps(text: &[u8]) -> &[u8]
-    ensures { result.now ≡ without_leading_gaps text.now }
+    ensures { result.now ≡ without_leading is_gap text.now }
 {
     let mut text = text;
     while let [first, rest @ ..] = text {
@@ -27,7 +28,7 @@ fn without_leading_gaps(text: &[u8]) -> &[u8]
 
 /// The text without the gaps behind it.
 fn without_trailing_gaps(text: &[u8]) -> &[u8]
-    ensures { result.now ≡ reverse (without_leading_gaps (reverse text.now)) }
+    ensures { result.now ≡ reverse (without_leading is_gap (reverse text.now)) }
 {
     let mut text = text;
     while let [rest @ .., last] = text {

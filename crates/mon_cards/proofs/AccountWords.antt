@@ -11,8 +11,9 @@ use Rattle.mon_cards.specs.declared.code.Code.TheVariants.{BadName, BadCard}
 use Rattle.mon_text.specs.declared.stop.Stop.{Stop}
 use Rattle.mon_text.specs.declared.stop.Stop.TheVariants.{Refused, Memory}
 use Rattle.mon_cards.specs.inner.Stops.{IfRefused}
-use Rattle.mon_cards.specs.Refusing.{or_else, unless}
+use Rattle.mon_cards.specs.Refusing.{unless}
 use Rattle.mon_cards.specs.Sections.{words_refusal, account_on}
+use Rattle.std.specs.Option.{option_or}
 
 -- a word behind the first two is one of the others
 others_at : (ws : List (List ℕ)) (place : ℕ) (w : List ℕ) → 2 ≤ place → slice_get ws place ≡ Some w → slice_get (drop 2 ws) (place - 2) ≡ Some w
@@ -49,7 +50,7 @@ names_apart (c ∷ d ∷ ws) a b first second =
     let two : nat_lt 1 (suc (suc (length ws))) ≡ true = grind (arith, nat_tests) in
     let one : c ≡ a = cc in
     let other : d ≡ b = cc in
-    ap (λ t. or_else (unless t BadCard) (unless (is_name c && (is_name d && list_all is_name ws)) BadName)) two
+    ap (λ t. option_or (unless t BadCard) (unless (is_name c && (is_name d && list_all is_name ws)) BadName)) two
     ∙ ap (λ v. unless (is_name v && (is_name d && list_all is_name ws)) BadName) one
     ∙ ap (λ v. unless (is_name a && (is_name v && list_all is_name ws)) BadName) other
 

@@ -9,10 +9,12 @@ use Rattle.mon_catalogue.proofs.Blanks.{both}
 use Rattle.sno_keeping.specs.declared.limits.Limits.{Limits}
 use Rattle.sno_keeping.specs.Limits.{IsLimit}
 use Rattle.mon_cards.specs.declared.code.Code.TheVariants.{BadNumber, BadCard}
-use Rattle.mon_cards.specs.Refusing.{or_else, unless}
-use Rattle.mon_cards.specs.Jobs.{is_within, sets_statements, sets_steps, are_options, option_text, has_number, is_limit, limits_refusal, usual_limits, with_option, with_options}
+use Rattle.mon_cards.specs.Refusing.{unless}
+use Rattle.mon_cards.specs.Jobs.{is_within, sets_statements, sets_steps, are_options, option_text, has_number, is_limit, limits_refusal, usual_limits, with_option}
 use Rattle.mon_cards.specs.JobSpelling.{SpellsLimit, SpellsStatements, SpellsSteps, SpellsLimits}
 use Rattle.mon_cards.proofs.Spelled.{both_hold, neither, passes}
+use Rattle.std.specs.Option.{option_or}
+use Rattle.std.specs.List.{fold}
 
 pub within_is : (most n : ℕ) → 1 ≤ n → n ≤ most → is_within most n ≡ true
 within_is most n low high = both_hold (nat_le 1 n) (nat_le n most) (le-leb 1 n low) (le-leb n most high)
@@ -110,7 +112,7 @@ limits_are limits a b first second =
 pub record LimitsRead (options : List (List ℕ)) (limits : Limits) : Type 0 where
   pub are : are_options options ≡ true
   pub fine : limits_refusal options ≡ None
-  pub limits_are : with_options usual_limits options ≡ limits
+  pub limits_are : fold with_option usual_limits options ≡ limits
 
 or_right : (a b : Bool) → b ≡ true → (a || b) ≡ true
 or_right true b h = refl
@@ -121,11 +123,11 @@ or_left true b h = refl
 or_left false b h = absurd (true≢false (sym h))
 
 one_fine : (w : List ℕ) (n : ℕ) → Reads w n → limits_refusal (w ∷ []) ≡ None
-one_fine w n r = ap (λ (b : Bool). or_else (unless b BadNumber) (unless (is_limit w) BadCard)) r.number ∙ ap (λ (b : Bool). unless b BadCard) r.within
+one_fine w n r = ap (λ (b : Bool). option_or (unless b BadNumber) (unless (is_limit w) BadCard)) r.number ∙ ap (λ (b : Bool). unless b BadCard) r.within
 
 two_fine : (w v : List ℕ) (n m : ℕ) → Reads w n → Reads v m → limits_refusal (w ∷ v ∷ []) ≡ None
 two_fine w v n m r s =
-    ap (λ (b : Bool). or_else (unless b BadNumber) (unless (is_limit w && is_limit v) BadCard)) (both_hold (has_number w) (has_number v) r.number s.number)
+    ap (λ (b : Bool). option_or (unless b BadNumber) (unless (is_limit w && is_limit v) BadCard)) (both_hold (has_number w) (has_number v) r.number s.number)
     ∙ ap (λ (b : Bool). unless b BadCard) (both_hold (is_limit w) (is_limit v) r.within s.within)
 
 pub limits_read : (options : List (List ℕ)) (limits : Limits) → SpellsLimits options limits → LimitsRead options limits
@@ -216,7 +218,7 @@ two_spelled w v are number within = by (sets_statements w && sets_steps v) refl 
         let limits = with_option (with_option usual_limits w) v in
         inr (steps_on w limits is.0 number.0 within.0 (sym (ap (λ (l : Limits). l.steps) all)), statements_on v limits is.1 number.1 within.1 (sym (ap (λ (l : Limits). l.statements) all)))
 
-pub limits_spelled : (options : List (List ℕ)) → are_options options ≡ true → limits_refusal options ≡ None → SpellsLimits options (with_options usual_limits options)
+pub limits_spelled : (options : List (List ℕ)) → are_options options ≡ true → limits_refusal options ≡ None → SpellsLimits options (fold with_option usual_limits options)
 limits_spelled [] are fine = refl
 limits_spelled (w ∷ []) are fine =
     let parts = neither (unless (has_number w) BadNumber) (unless (is_limit w) BadCard) fine in

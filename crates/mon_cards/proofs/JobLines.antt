@@ -13,11 +13,12 @@ use Rattle.mon_cards.specs.declared.card.Card.{Card}
 use Rattle.mon_cards.specs.declared.card.Card.TheVariants as card
 use Rattle.mon_cards.specs.declared.job.OpenJob.{OpenJob}
 use Rattle.mon_cards.specs.Cards.{card_among, is_card, word_at}
-use Rattle.mon_cards.specs.Refusing.{or_else, unless, line_refusal, is_dollar_line}
+use Rattle.mon_cards.specs.Refusing.{unless, line_refusal, is_dollar_line}
 use Rattle.mon_cards.specs.CardLines.{IsLineWithin, IsCard}
 use Rattle.mon_cards.specs.Jobs.{is_job_card_line, program_text, has_begun, unit_refusal, unit_on, job_card_refusal, job_line_refusal, ends_job, with_unit, with_program_line, after_job_line}
 use Rattle.mon_cards.specs.JobSpelling.{SpellsUnit, SpellsText}
 use Rattle.mon_cards.proofs.Spelled.{both_hold, neither, passes, line_taken}
+use Rattle.std.specs.Option.{option_or}
 
 -- ---- words
 
@@ -117,14 +118,14 @@ module _ (job : OpenJob) (line : List ℕ) where
   card_refused : line_refusal 200 line ≡ None → is_job_card_line line ≡ true
       → job_line_refusal job line ≡ job_card_refusal (card_among (words line)) (has_begun job) (words line)
   card_refused good here =
-      ap (λ r. or_else r (if is_job_card_line line then job_card_refusal (card_among (words line)) (has_begun job) (words line) else None)) good
+      ap (λ r. option_or r (if is_job_card_line line then job_card_refusal (card_among (words line)) (has_begun job) (words line) else None)) good
       ∙ ap (λ (b : Bool). if b then job_card_refusal (card_among (words line)) (has_begun job) (words line) else None) here
 
   pub text_taken : (text : List ℕ) → SpellsText line text → GoesOn job line (with_program_line job text)
   text_taken text (within, is) =
       let plain = text_line line text is in
       record {
-        good = ap (λ r. or_else r (if is_job_card_line line then job_card_refusal (card_among (words line)) (has_begun job) (words line) else None)) (line_taken 200 line within)
+        good = ap (λ r. option_or r (if is_job_card_line line then job_card_refusal (card_among (words line)) (has_begun job) (words line) else None)) (line_taken 200 line within)
             ∙ ap (λ (b : Bool). if b then job_card_refusal (card_among (words line)) (has_begun job) (words line) else None) plain.0;
         stays_open = ap (λ (b : Bool). b && is_card card.EndJob (card_among (words line))) plain.0;
         after_is = ap (λ (b : Bool). if b then with_unit job (unit_on (words line)) else with_program_line job (program_text line)) plain.0
@@ -138,9 +139,9 @@ module _ (job : OpenJob) (line : List ℕ) where
       record {
         good = card_refused (line_taken 200 line is.card_is.line_is) here
             ∙ ap (λ (o : Option Card). job_card_refusal o (has_begun job) (words line)) named_it
-            ∙ ap (λ (b : Bool). or_else (unless (not b) OutOfPlace) (unit_refusal (words line))) before
+            ∙ ap (λ (b : Bool). option_or (unless (not b) OutOfPlace) (unit_refusal (words line))) before
             ∙ ap unit_refusal is.card_is.words_are
-            ∙ ap (λ (b : Bool). or_else (unless b BadNumber) (unless (is_name tie.set) BadName)) is.count
+            ∙ ap (λ (b : Bool). option_or (unless b BadNumber) (unless (is_name tie.set) BadName)) is.count
             ∙ ap (λ (b : Bool). unless b BadName) is.set_is;
         stays_open = both_false (is_job_card_line line) (is_card card.EndJob (card_among (words line))) (ap (is_card card.EndJob) named_it);
         after_is = ap (λ (b : Bool). if b then with_unit job (unit_on (words line)) else with_program_line job (program_text line)) here
@@ -173,8 +174,8 @@ unit_spelled line within at_once is fine = by (words line) refl is fine
         let two = neither (unless (length (word ∷ others) == 3) BadCard) _ fine in
         let more = three_words word others (passes (length (word ∷ others) == 3) BadCard two.0) in
         let all : words line ≡ word ∷ more.first ∷ more.second ∷ [] = e ∙ ap (λ (os : List (List ℕ)). word ∷ os) more.are in
-        let rest : or_else (unless (is_count more.first) BadNumber) (unless (is_name more.second) BadName) ≡ None =
-        sym (ap (λ (os : List (List ℕ)). or_else (unless (is_count (word_at 1 (word ∷ os))) BadNumber) (unless (is_name (word_at 2 (word ∷ os))) BadName)) more.are) ∙ two.1 in
+        let rest : option_or (unless (is_count more.first) BadNumber) (unless (is_name more.second) BadName) ≡ None =
+        sym (ap (λ (os : List (List ℕ)). option_or (unless (is_count (word_at 1 (word ∷ os))) BadNumber) (unless (is_name (word_at 2 (word ∷ os))) BadName)) more.are) ∙ two.1 in
         let parts = neither (unless (is_count more.first) BadNumber) (unless (is_name more.second) BadName) rest in
         subst (SpellsUnit line) (ap unit_on (sym all)) (
         record {

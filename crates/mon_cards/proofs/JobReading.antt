@@ -14,10 +14,11 @@ use Rattle.mon_cards.specs.Decks.{Cards, Enters}
 use Rattle.mon_cards.specs.Refusing.{unless, line_refusal, is_dollar_line}
 use Rattle.mon_cards.specs.CardLines.{IsLineWithin, IsCard}
 use Rattle.mon_cards.specs.Jobs.{is_job_card_line, program_text, has_begun, unit_refusal, unit_on, job_card_refusal, job_line_refusal, ends_job, with_unit, with_program_line, after_job_line}
-use Rattle.mon_cards.specs.Sections.{Closed, InJob, and_then, goes_on, stream_section}
+use Rattle.mon_cards.specs.Sections.{Closed, InJob, and_then, stream_section}
 use Rattle.mon_cards.specs.JobSpelling.{SpellsUnit, SpellsUnits, SpellsText, SpellsTexts}
 use Rattle.mon_cards.proofs.Spelled.{neither, passes, taken_line, alone}
 use Rattle.mon_cards.proofs.JobLines.{GoesOn, line_text, text_taken, unit_taken, end_taken, unit_spelled}
+use Rattle.mon_cards.proofs.Shorthand.{goes_on}
 
 -- a job with further unit cards, and with further lines
 abbrev pub with_units : OpenJob → List UnitCard → OpenJob

@@ -13,13 +13,14 @@ use Rattle.mon_cards.specs.declared.job.OpenJob.{OpenJob}
 use Rattle.mon_cards.specs.declared.turn.Turn.{Turn}
 use Rattle.mon_cards.specs.Cards.{card_among}
 use Rattle.mon_cards.specs.CardLines.{IsLineWithin, IsCard}
-use Rattle.mon_cards.specs.Refusing.{or_else, unless}
+use Rattle.mon_cards.specs.Refusing.{unless}
 use Rattle.mon_cards.specs.Jobs.{is_within, are_options, limits_refusal, job_refusal, opened_job, job_on, turn_refusal, turn_on}
 use Rattle.mon_cards.specs.JobSpelling.{SpellsLimits, SpellsUnits, SpellsTexts, SpellsJob, SpellsTurn}
 use Rattle.mon_cards.proofs.Spelled.{both_hold, neither, passes}
 use Rattle.mon_cards.proofs.JobLimits.{within_is, is_within_then, limits_read, limits_spelled}
 use Rattle.mon_cards.proofs.JobLines.{three_words}
 use Rattle.mon_cards.proofs.JobReading.{Job}
+use Rattle.std.specs.Option.{option_or}
 
 -- ---- `$JOB`
 
@@ -27,9 +28,9 @@ module _ (word account : List ℕ) (options : List (List ℕ)) (limits : Limits)
   pub job_fine : job_refusal (word ∷ account ∷ options) ≡ None
   job_fine =
       let read = limits_read options limits spelled in
-      ap (λ (b : Bool). or_else (unless (b && are_options options) BadCard) (or_else (unless (is_name account) BadName) (limits_refusal options))) (lt-ltb 1 (suc (suc (length options))) (omega arith))
-      ∙ ap (λ (b : Bool). or_else (unless b BadCard) (or_else (unless (is_name account) BadName) (limits_refusal options))) read.are
-      ∙ ap (λ (b : Bool). or_else (unless b BadName) (limits_refusal options)) name
+      ap (λ (b : Bool). option_or (unless (b && are_options options) BadCard) (option_or (unless (is_name account) BadName) (limits_refusal options))) (lt-ltb 1 (suc (suc (length options))) (omega arith))
+      ∙ ap (λ (b : Bool). option_or (unless b BadCard) (option_or (unless (is_name account) BadName) (limits_refusal options))) read.are
+      ∙ ap (λ (b : Bool). option_or (unless b BadName) (limits_refusal options)) name
       ∙ read.fine
 
   pub job_asked : job_on (word ∷ account ∷ options) ≡ opened_job account limits
@@ -105,7 +106,7 @@ module _ (word line : List ℕ) (turn : Turn) (is : SpellsTurn line turn) where
   turn_fine =
       let slot_within : is_within 8 (value_of is.slot) ≡ true = ap (is_within 8) (sym is.slot_is) ∙ within_is 8 turn.slot is.slot_within.0 is.slot_within.1 in
       let count_within : is_within 1000000 (value_of is.count) ≡ true = ap (is_within 1000000) (sym is.count_is) ∙ within_is 1000000 turn.count is.count_within.0 is.count_within.1 in
-      ap (λ (b : Bool). or_else (unless b BadNumber) (unless (is_within 8 (value_of is.slot) && is_within 1000000 (value_of is.count)) BadCard)) (both_hold (is_count is.slot) (is_count is.count) is.counts.0 is.counts.1)
+      ap (λ (b : Bool). option_or (unless b BadNumber) (unless (is_within 8 (value_of is.slot) && is_within 1000000 (value_of is.count)) BadCard)) (both_hold (is_count is.slot) (is_count is.count) is.counts.0 is.counts.1)
       ∙ ap (λ (b : Bool). unless b BadCard) (both_hold (is_within 8 (value_of is.slot)) (is_within 1000000 (value_of is.count)) slot_within count_within)
 
   pub turn_asked : turn_on (word ∷ is.slot ∷ is.count ∷ []) ≡ turn

@@ -12,14 +12,17 @@ use Rattle.mon_cards.specs.declared.card.Card.{Card}
 use Rattle.mon_cards.specs.declared.card.Card.TheVariants as card
 use Rattle.mon_cards.specs.declared.code.Code.{Code}
 use Rattle.mon_cards.specs.declared.code.Code.TheVariants.{BadCharacter, LineTooLong, UnknownCard, BadCard, OutOfPlace}
-use Rattle.mon_cards.specs.Cards.{card_among, is_same_card, is_card}
-use Rattle.mon_cards.specs.Refusing.{or_else, unless, line_refusal, lone_card_refusal, is_dollar_line}
+use Rattle.mon_cards.specs.Cards.{card_among, is_card}
+use Rattle.mon_cards.specs.Refusing.{unless, line_refusal, lone_card_refusal, is_dollar_line}
 use Rattle.mon_cards.specs.CardLines.{IsLineWithin, IsCard}
+use Rattle.std.specs.Option.{option_or}
+use denote.Enum.Bare.{sameb, same_true}
+use Rattle.mon_cards.specs.contracts.card.Card.{the_type}
 
 pub both_hold : (a b : Bool) → a ≡ true → b ≡ true → (a && b) ≡ true
 both_hold a b h k = rw (h, k) refl
 
-pub neither : (a b : Option Code) → or_else a b ≡ None → (a ≡ None) × (b ≡ None)
+pub neither : (a b : Option Code) → option_or a b ≡ None → (a ≡ None) × (b ≡ None)
 neither None b h = (refl, h)
 neither (Some code) b h = cc
 
@@ -93,11 +96,11 @@ no_dollar_names line names = by (is_dollar_line line) refl
 
 -- ---- cards
 
-pub lone_card_taken : (due : Card) (limit : ℕ) (line : List ℕ) → is_same_card due due ≡ true → IsCard limit due [] line → lone_card_refusal due (words line) ≡ None
+pub lone_card_taken : (due : Card) (limit : ℕ) (line : List ℕ) → sameb the_type due due ≡ true → IsCard limit due [] line → lone_card_refusal due (words line) ≡ None
 lone_card_taken due limit line same is =
     ap (lone_card_refusal due) is.words_are
-    ∙ ap (λ (o : Option Card). or_else (unless (is_some o) UnknownCard) (or_else (unless (is_card due o) OutOfPlace) (unless (length (is.word ∷ []) == 1) BadCard))) is.names_it
-    ∙ ap (λ (b : Bool). or_else (unless b OutOfPlace) None) same
+    ∙ ap (λ (o : Option Card). option_or (unless (is_some o) UnknownCard) (option_or (unless (is_card due o) OutOfPlace) (unless (length (is.word ∷ []) == 1) BadCard))) is.names_it
+    ∙ ap (λ (b : Bool). option_or (unless b OutOfPlace) None) same
 
 -- a card with no further word
 pub alone : (due : Card) (limit : ℕ) (line : List ℕ) → IsLineWithin limit line → card_among (words line) ≡ Some due → (length (words line) == 1) ≡ true → IsCard limit due [] line
@@ -108,89 +111,14 @@ alone due limit line within is one = by (words line) refl is one
     by (word ∷ []) e is one = record { word = word; line_is = within; words_are = e; names_it = is }
     by (word ∷ other ∷ ws) e is one = absurd (true≢false (sym one ∙ ne_eqb (suc (suc (length ws))) 1 (omega arith)))
 
-pub lone_card : (due : Card) (limit : ℕ) (line : List ℕ) → ((o : Option Card) → is_card due o ≡ true → o ≡ Some due)
-    → IsLineWithin limit line → lone_card_refusal due (words line) ≡ None → IsCard limit due [] line
-lone_card due limit line only within h =
+-- the card that is found is the one that is due
+pub found_is_due : (due : Card) (o : Option Card) → is_card due o ≡ true → o ≡ Some due
+found_is_due due None h = cc
+found_is_due due (Some card) h = ap Some (same_true the_type tt card due h)
+
+pub lone_card : (due : Card) (limit : ℕ) (line : List ℕ) → IsLineWithin limit line → lone_card_refusal due (words line) ≡ None → IsCard limit due [] line
+lone_card due limit line within h =
     let some = neither (unless (is_some (card_among (words line))) UnknownCard) _ h in
     let two = neither (unless (is_card due (card_among (words line))) OutOfPlace) _ some.1 in
-    alone due limit line within (only (card_among (words line)) (passes (is_card due (card_among (words line))) OutOfPlace two.0)) (passes (length (words line) == 1) BadCard two.1)
-
-pub is_accounts : (o : Option Card) → is_card card.Accounts o ≡ true → o ≡ Some card.Accounts
-is_accounts None h = cc
-is_accounts (Some card.Accounts) h = refl
-is_accounts (Some card.Catalogue) h = cc
-is_accounts (Some card.Set) h = cc
-is_accounts (Some card.Stream) h = cc
-is_accounts (Some card.Create) h = cc
-is_accounts (Some card.Delete) h = cc
-is_accounts (Some card.SetAcl) h = cc
-is_accounts (Some card.EndAcl) h = cc
-is_accounts (Some card.ShowAcl) h = cc
-is_accounts (Some card.List) h = cc
-is_accounts (Some card.Catalog) h = cc
-is_accounts (Some card.Job) h = cc
-is_accounts (Some card.Tie) h = cc
-is_accounts (Some card.EndJob) h = cc
-is_accounts (Some card.Turn) h = cc
-is_accounts (Some card.Drain) h = cc
-is_accounts (Some card.Stop) h = cc
-
-pub is_catalogue : (o : Option Card) → is_card card.Catalogue o ≡ true → o ≡ Some card.Catalogue
-is_catalogue None h = cc
-is_catalogue (Some card.Accounts) h = cc
-is_catalogue (Some card.Catalogue) h = refl
-is_catalogue (Some card.Set) h = cc
-is_catalogue (Some card.Stream) h = cc
-is_catalogue (Some card.Create) h = cc
-is_catalogue (Some card.Delete) h = cc
-is_catalogue (Some card.SetAcl) h = cc
-is_catalogue (Some card.EndAcl) h = cc
-is_catalogue (Some card.ShowAcl) h = cc
-is_catalogue (Some card.List) h = cc
-is_catalogue (Some card.Catalog) h = cc
-is_catalogue (Some card.Job) h = cc
-is_catalogue (Some card.Tie) h = cc
-is_catalogue (Some card.EndJob) h = cc
-is_catalogue (Some card.Turn) h = cc
-is_catalogue (Some card.Drain) h = cc
-is_catalogue (Some card.Stop) h = cc
-
-pub is_stream : (o : Option Card) → is_card card.Stream o ≡ true → o ≡ Some card.Stream
-is_stream None h = cc
-is_stream (Some card.Accounts) h = cc
-is_stream (Some card.Catalogue) h = cc
-is_stream (Some card.Set) h = cc
-is_stream (Some card.Stream) h = refl
-is_stream (Some card.Create) h = cc
-is_stream (Some card.Delete) h = cc
-is_stream (Some card.SetAcl) h = cc
-is_stream (Some card.EndAcl) h = cc
-is_stream (Some card.ShowAcl) h = cc
-is_stream (Some card.List) h = cc
-is_stream (Some card.Catalog) h = cc
-is_stream (Some card.Job) h = cc
-is_stream (Some card.Tie) h = cc
-is_stream (Some card.EndJob) h = cc
-is_stream (Some card.Turn) h = cc
-is_stream (Some card.Drain) h = cc
-is_stream (Some card.Stop) h = cc
-
-pub is_end : (o : Option Card) → is_card card.EndAcl o ≡ true → o ≡ Some card.EndAcl
-is_end None h = cc
-is_end (Some card.Accounts) h = cc
-is_end (Some card.Catalogue) h = cc
-is_end (Some card.Set) h = cc
-is_end (Some card.Stream) h = cc
-is_end (Some card.Create) h = cc
-is_end (Some card.Delete) h = cc
-is_end (Some card.SetAcl) h = cc
-is_end (Some card.EndAcl) h = refl
-is_end (Some card.ShowAcl) h = cc
-is_end (Some card.List) h = cc
-is_end (Some card.Catalog) h = cc
-is_end (Some card.Job) h = cc
-is_end (Some card.Tie) h = cc
-is_end (Some card.EndJob) h = cc
-is_end (Some card.Turn) h = cc
-is_end (Some card.Drain) h = cc
-is_end (Some card.Stop) h = cc
+    alone due limit line within (found_is_due due (card_among (words line)) (passes (is_card due (card_among (words line))) OutOfPlace two.0))
+    (passes (length (words line) == 1) BadCard two.1)

@@ -1,6 +1,6 @@
 -- The cards of jobs and of turns (own): what each asks for, and what a line says where a job is open.
 use Rattle.std.specs.Prelude.{ℕ, ◌==◌, ◌&&◌, ◌||◌, Bool, true, false, not, nat_lt, nat_le, nat_eq, List, [], ◌∷◌, ◌++◌, length, drop, Option, Some, None, if◌then◌else◌, codes}
-use Rattle.std.specs.List.{starts_with}
+use Rattle.std.specs.List.{starts_with, fold}
 use Rattle.mon_text.specs.Names.{is_name}
 use Rattle.mon_text.specs.Counts.{is_count, value_of}
 use Rattle.mon_text.specs.Lines.{words}
@@ -14,7 +14,8 @@ use Rattle.mon_cards.specs.declared.card.Card.TheVariants.{Tie, EndJob}
 use Rattle.mon_cards.specs.declared.job.OpenJob.{OpenJob}
 use Rattle.mon_cards.specs.declared.turn.Turn.{Turn}
 use Rattle.mon_cards.specs.Cards.{card_among, is_card, word_at}
-use Rattle.mon_cards.specs.Refusing.{or_else, unless, line_refusal, is_dollar_line}
+use Rattle.mon_cards.specs.Refusing.{unless, line_refusal, is_dollar_line, further_refusal}
+use Rattle.std.specs.Option.{option_or}
 
 -- from 1 to so many
 abbrev pub is_within : ℕ → ℕ → Bool
@@ -49,15 +50,15 @@ is_limit word = is_within 10000000 (value_of (option_text word))
 -- the numbers of all options, and then how large they are
 abbrev pub limits_refusal : List (List ℕ) → Option Code
 limits_refusal [] = None
-limits_refusal (word ∷ []) = or_else (unless (has_number word) BadNumber) (unless (is_limit word) BadCard)
+limits_refusal (word ∷ []) = option_or (unless (has_number word) BadNumber) (unless (is_limit word) BadCard)
 limits_refusal (word ∷ other ∷ _) =
-    or_else (unless (has_number word && has_number other) BadNumber) (unless (is_limit word && is_limit other) BadCard)
+    option_or (unless (has_number word && has_number other) BadNumber) (unless (is_limit word && is_limit other) BadCard)
 
 -- the number of words and the options; a name; and then the numbers
 abbrev pub job_refusal : List (List ℕ) → Option Code
 job_refusal ws =
-    or_else (unless (nat_lt 1 (length ws) && are_options (drop 2 ws)) BadCard)
-    (or_else (unless (is_name (word_at 1 ws)) BadName) (limits_refusal (drop 2 ws)))
+    option_or (unless (nat_lt 1 (length ws) && are_options (drop 2 ws)) BadCard)
+    (option_or (unless (is_name (word_at 1 ws)) BadName) (limits_refusal (drop 2 ws)))
 
 abbrev pub usual_limits : Limits
 usual_limits = record { statements = 50000; steps = 1000000 }
@@ -67,32 +68,25 @@ with_option limits word =
     if sets_statements word then record limits { statements = value_of (option_text word) }
     else record limits { steps = value_of (option_text word) }
 
-abbrev pub with_options : Limits → List (List ℕ) → Limits
-with_options limits [] = limits
-with_options limits (word ∷ others) = with_options (with_option limits word) others
-
 -- a job that is open has no line at first
 abbrev pub opened_job : List ℕ → Limits → OpenJob
 opened_job account limits = record { account = account; limits = limits; ties = []; lines = [] }
 
 abbrev pub job_on : List (List ℕ) → OpenJob
-job_on ws = opened_job (word_at 1 ws) (with_options usual_limits (drop 2 ws))
+job_on ws = opened_job (word_at 1 ws) (fold with_option usual_limits (drop 2 ws))
 
 -- ---- `$TURN`: a slot, and how many turns it is given
 
 abbrev pub turn_refusal : List (List ℕ) → Option Code
 turn_refusal ws =
-    or_else (unless (length ws == 3) BadCard)
-    (or_else (unless (is_count (word_at 1 ws) && is_count (word_at 2 ws)) BadNumber)
+    option_or (unless (length ws == 3) BadCard)
+    (option_or (unless (is_count (word_at 1 ws) && is_count (word_at 2 ws)) BadNumber)
     (unless (is_within 8 (value_of (word_at 1 ws)) && is_within 1000000 (value_of (word_at 2 ws))) BadCard))
 
 abbrev pub turn_on : List (List ℕ) → Turn
 turn_on ws = record { slot = value_of (word_at 1 ws); count = value_of (word_at 2 ws) }
 
 -- ---- `$DRAIN`
-
-abbrev pub drain_refusal : List (List ℕ) → Option Code
-drain_refusal ws = unless (length ws == 1) BadCard
 
 -- ---- where a job is open
 
@@ -110,22 +104,22 @@ has_begun job = not (length job.lines == 0)
 -- `$UNIT`: a unit, and a data set. Whether there is such a unit is tried where the job is loaded.
 abbrev pub unit_refusal : List (List ℕ) → Option Code
 unit_refusal ws =
-    or_else (unless (length ws == 3) BadCard)
-    (or_else (unless (is_count (word_at 1 ws)) BadNumber) (unless (is_name (word_at 2 ws)) BadName))
+    option_or (unless (length ws == 3) BadCard)
+    (option_or (unless (is_count (word_at 1 ws)) BadNumber) (unless (is_name (word_at 2 ws)) BadName))
 
 abbrev pub unit_on : List (List ℕ) → UnitCard
 unit_on ws = record { unit = value_of (word_at 1 ws); set = word_at 2 ws }
 
 -- a unit card stands before the program; behind its first line all but `$EOJ` are out of place, cards or not
 abbrev pub job_card_refusal : Option Card → Bool → List (List ℕ) → Option Code
-job_card_refusal (Some EndJob) begun ws = unless (length ws == 1) BadCard
-job_card_refusal (Some Tie) begun ws = or_else (unless (not begun) OutOfPlace) (unit_refusal ws)
+job_card_refusal (Some EndJob) begun ws = further_refusal ws
+job_card_refusal (Some Tie) begun ws = option_or (unless (not begun) OutOfPlace) (unit_refusal ws)
 job_card_refusal (Some _) begun ws = Some OutOfPlace
 job_card_refusal None begun ws = Some (if begun then OutOfPlace else UnknownCard)
 
 abbrev pub job_line_refusal : OpenJob → List ℕ → Option Code
 job_line_refusal job line =
-    or_else (line_refusal 200 line)
+    option_or (line_refusal 200 line)
     (if is_job_card_line line then job_card_refusal (card_among (words line)) (has_begun job) (words line) else None)
 
 -- whether a good line ends the job

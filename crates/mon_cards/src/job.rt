@@ -5,13 +5,15 @@ ghost use Rattle.mon_text.specs.Lines.{words};
 ghost use Rattle.mon_cards.specs.declared.code.Code.TheVariants.{BadNumber, BadCard, OutOfPlace};
 ghost use Rattle.mon_cards.specs.declared.card.Card.TheVariants as card;
 ghost use Rattle.mon_cards.specs.Cards.{card_among, is_card};
-ghost use Rattle.mon_cards.specs.Refusing.{or_else, unless, line_refusal};
-ghost use Rattle.mon_cards.specs.Jobs.{sets_statements, sets_steps, are_options, option_text, has_number, is_limit, with_option, limits_refusal, usual_limits, with_options, job_refusal, opened_job, job_on, is_job_card_line, program_text, has_begun, unit_refusal, unit_on, job_card_refusal, job_line_refusal, ends_job, with_unit, with_program_line, after_job_line, job_deck_of};
+ghost use Rattle.mon_cards.specs.Refusing.{unless, line_refusal};
+ghost use Rattle.mon_cards.specs.Jobs.{sets_statements, sets_steps, are_options, option_text, has_number, is_limit, with_option, limits_refusal, usual_limits, job_refusal, opened_job, job_on, is_job_card_line, program_text, has_begun, unit_refusal, unit_on, job_card_refusal, job_line_refusal, ends_job, with_unit, with_program_line, after_job_line, job_deck_of};
 ghost use Rattle.mon_cards.specs.inner.Stops.{Answers};
+ghost use Rattle.std.specs.Option.{option_or};
+ghost use Rattle.std.specs.List.{fold};
 
 use crate::card::Card;
 use crate::code::Code;
-use crate::option::{option_number, sets_statements, sets_steps, with_option};
+use crate::job_options::{option_number, sets_statements, sets_steps, with_option};
 use crate::words::{MOST_LINE_CHARACTERS, Words, begins_with_dollar, line_of, name_of, number_of};
 use mon_job::{JobDeck, JobLimits, UnitCard, UnitCards};
 use mon_text::{Line, Name, Stop};
@@ -53,7 +55,7 @@ fn are_two_options(word: &[u8], other: &[u8]) -> bool
 fn read_limits(words: &Words<'_>) -> Result<JobLimits, Stop<Code>>
     requires { (nat_lt 1 (length words.now) && are_options (drop 2 words.now)) ≡ true }
     ensures answers { Answers (limits_refusal (drop 2 words.now)) result }
-    ensures value { IfOk result (λ limits. limits ≡ with_options usual_limits (drop 2 words.now)) }
+    ensures value { IfOk result (λ limits. limits ≡ fold with_option usual_limits (drop 2 words.now)) }
 {
     match words.len() {
         2 => Ok(JobLimits::usual()),
@@ -65,7 +67,7 @@ fn read_limits(words: &Words<'_>) -> Result<JobLimits, Stop<Code>>
 fn read_option(word: &[u8]) -> Result<JobLimits, Stop<Code>>
     requires { are_options (word.now ∷ []) ≡ true }
     ensures answers { Answers (limits_refusal (word.now ∷ [])) result }
-    ensures value { IfOk result (λ limits. limits ≡ with_options usual_limits (word.now ∷ [])) }
+    ensures value { IfOk result (λ limits. limits ≡ fold with_option usual_limits (word.now ∷ [])) }
 {
     let number = option_number(word)?;
     with_option(JobLimits::usual(), word, number)
@@ -75,7 +77,7 @@ fn read_option(word: &[u8]) -> Result<JobLimits, Stop<Code>>
 fn read_two_options(word: &[u8], other: &[u8]) -> Result<JobLimits, Stop<Code>>
     requires { are_options (word.now ∷ other.now ∷ []) ≡ true }
     ensures answers { Answers (limits_refusal (word.now ∷ other.now ∷ [])) result }
-    ensures value { IfOk result (λ limits. limits ≡ with_options usual_limits (word.now ∷ other.now ∷ [])) }
+    ensures value { IfOk result (λ limits. limits ≡ fold with_option usual_limits (word.now ∷ other.now ∷ [])) }
 {
     let (number, last) = option_numbers(word, other)?;
     with_two_options(word, number, other, last)
@@ -208,7 +210,7 @@ impl OpenJob {
 
     // A line that is a card: whether it ends the job.
     fn take_card(&mut self, alloc: Global, text: &[u8]) -> Result<bool, Stop<Code>>
-        ensures answers { Answers (or_else (line_refusal 200 text.now) (job_card_refusal (card_among (words text.now)) (has_begun self.old) (words text.now))) result }
+        ensures answers { Answers (option_or (line_refusal 200 text.now) (job_card_refusal (card_among (words text.now)) (has_begun self.old) (words text.now))) result }
         ensures ends { IfOk result (λ ends. ends ≡ is_card card.EndJob (card_among (words text.now))) }
         ensures taken { IfOk result (λ ends. self.new ≡ (if ends then self.old else with_unit self.old (unit_on (words text.now)))) }
         ensures unchanged { OnErr result (self.new ≡ self.old) }
@@ -240,7 +242,7 @@ impl OpenJob {
 
     // A unit card.
     fn take_unit(&mut self, words: &Words<'_>) -> Result<(), Stop<Code>>
-        ensures answers { Answers (or_else (unless (not (has_begun self.old)) OutOfPlace) (unit_refusal words.now)) result }
+        ensures answers { Answers (option_or (unless (not (has_begun self.old)) OutOfPlace) (unit_refusal words.now)) result }
         ensures taken { OnOk result (self.new ≡ with_unit self.old (unit_on words.now)) }
         ensures unchanged { OnErr result (self.new ≡ self.old) }
     {

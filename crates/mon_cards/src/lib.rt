@@ -4,9 +4,9 @@
 pub mod card;
 pub mod code;
 pub mod job;
+mod job_options;
 pub mod laws;
 pub mod list;
-mod option;
 pub mod reading;
 pub mod request;
 pub mod turn;

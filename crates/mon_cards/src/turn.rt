@@ -8,7 +8,7 @@ ghost use Rattle.mon_cards.specs.Jobs.{turn_refusal, turn_on};
 ghost use Rattle.mon_cards.specs.inner.Stops.{Answers};
 
 use crate::code::Code;
-use crate::option::is_within;
+use crate::job_options::is_within;
 use crate::words::{Words, number_of};
 use mon_text::Stop;
 

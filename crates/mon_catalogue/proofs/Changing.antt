@@ -8,7 +8,8 @@ use Rattle.std.specs.List.{IsDistinct}
 use Rattle.mon_acl.specs.declared.entries.Entry.{Entry}
 use Rattle.mon_catalogue.specs.declared.data_set.DataSet.{DataSet}
 use Rattle.mon_catalogue.specs.Sets.{Sets, find_set, IsCatalogue}
-use Rattle.mon_catalogue.specs.Changes.{with_changed, with_acl, listed}
+use Rattle.mon_catalogue.specs.Changes.{with_changed, with_acl}
+use Rattle.mon_catalogue.proofs.Shorthand.{listed}
 
 keys_stay : (sets : Sets) (i : ℕ) (set : DataSet) → keys_of (set_value_at sets i set) ≡ keys_of sets
 keys_stay [] i set = refl

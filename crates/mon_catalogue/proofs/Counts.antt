@@ -6,7 +6,8 @@ use Rattle.std.proofs.lemmas.Fmt.{decimal_by_steps, decimal_nonempty, length-dec
 use Rattle.std.proofs.lemmas.List.Folds.{list_all-append}
 use borrow.Author.Tests.{le-leb}
 use Rattle.mon_text.specs.Characters.{is_digit}
-use Rattle.mon_text.specs.Counts.{IsCount, value_of, read_on}
+use Rattle.mon_text.specs.Counts.{IsCount, value_of}
+use Rattle.mon_text.proofs.Digits.{read_on}
 
 -- the digits of a number, and their value
 abbrev AreDigitsOf : ℕ → List ℕ → Type 0

@@ -1,4 +1,5 @@
 pub mod Heads
+pub mod Shorthand
 pub mod Steps
 pub mod Texts
 pub mod AtOnce

@@ -16,10 +16,6 @@ with_changed name change [] = []
 with_changed name change (named ∷ sets) =
     if pointwise nat_eq name named.0 then (named.0, change named.1) ∷ sets else named ∷ with_changed name change sets
 
--- the same set with this list
-abbrev pub listed : List Entry → DataSet → DataSet
-listed acl set = record set { acl = acl }
-
 -- the set of this name has this list
 abbrev pub with_acl : List ℕ → List Entry → Sets → Sets
-with_acl name acl sets = with_changed name (listed acl) sets
+with_acl name acl sets = with_changed name (λ set. record set { acl = acl }) sets

@@ -16,6 +16,8 @@ use Rattle.mon_catalogue.specs.declared.loading.CatalogueError.TheVariants.{BadT
 use Rattle.mon_catalogue.specs.Records.{is_record}
 use Rattle.mon_catalogue.specs.Sets.{Sets, empty_set}
 use Rattle.mon_catalogue.specs.Head.{head_of, head_refusal}
+use Rattle.std.specs.Option.{option_map_or}
+use Rattle.std.specs.List.{fold}
 
 pub data Progress : Type 0 where
   -- so many lines of a text of this version spell these sets, and a `$SET` line is due
@@ -45,17 +47,12 @@ is_due _ = false
 abbrev pub with_due : Version → ℕ → Sets → List ℕ → DataSet → ℕ → Progress
 with_due version n sets name set left = if left == 0 then SetDue version n (sets ++ (name, set) ∷ []) else RecordsDue version n sets name set left
 
-abbrev pub after_head : Version → ℕ → Sets → Head → Option CatalogueError → Progress
-after_head version n sets head None = ListDue version n sets head
-after_head version n sets head (Some e) = Refused e
-
-abbrev pub after_words : Version → ℕ → Sets → Option Head → Progress
-after_words version n sets None = Refused (BadText n)
-after_words version n sets (Some head) = after_head version n sets head (head_refusal n sets head)
-
 -- after the n-th line, where a `$SET` line was due: blank lines are skipped
 abbrev pub after_set_due : Version → ℕ → Sets → List ℕ → Progress
-after_set_due version n sets line = if is_blank_line line then SetDue version n sets else after_words version n sets (head_of version (words line))
+after_set_due version n sets line =
+    if is_blank_line line then SetDue version n sets
+    else option_map_or (λ head. option_map_or Refused (head_refusal n sets head) (ListDue version n sets head))
+    (head_of version (words line)) (Refused (BadText n))
 
 abbrev pub after_acl : Version → ℕ → Sets → Head → Result (List Entry) AclError → Progress
 after_acl version n sets head (Err _) = Refused (BadText n)
@@ -72,8 +69,7 @@ abbrev pub step : Progress → List ℕ → Progress
 step (SetDue version n sets) line = after_set_due version (n + 1) sets line
 step (ListDue version n sets head) line = after_acl version (n + 1) sets head (read_short line)
 step (RecordsDue version n sets name set left) line = after_record version (n + 1) sets name set left line
-step (Refused e) line = Refused e
-step OutOfMemory line = OutOfMemory
+step p line = p
 
 -- what the text says if it ends here: a set that isn't whole is refused at the line after the last
 abbrev pub finished : Progress → Result Sets (Stop CatalogueError)
@@ -83,14 +79,9 @@ finished (RecordsDue _ n _ _ _ _) = Err (stop.Refused (BadText (n + 1)))
 finished (Refused e) = Err (stop.Refused e)
 finished OutOfMemory = Err stop.Memory
 
--- where it stands after these lines
-abbrev pub after_lines : Progress → List (List ℕ) → Progress
-after_lines p [] = p
-after_lines p (line ∷ lines) = after_lines (step p line) lines
-
 -- where the reading of a text stands after its first lines
 abbrev pub loaded : Version → List (List ℕ) → Progress
-loaded version lines = after_lines (SetDue version 0 []) lines
+loaded version lines = fold step (SetDue version 0 []) lines
 
 -- why the reading has stopped, if it has
 abbrev pub stopped : Progress → Option (Stop CatalogueError)

@@ -4,7 +4,7 @@ ghost use Rattle.std.specs.Option.{option_copied};
 ghost use Rattle.mon_text.specs.Stops.{refused_as};
 ghost use Rattle.mon_text.specs.declared.stop.Stop.{Stop};
 ghost use Rattle.mon_catalogue.specs.Records.{AreRecords};
-ghost use Rattle.mon_catalogue.specs.Writing.{Put, Cut, Add, put_at, cut_at, put_refusal, added, add_refusal, recorded};
+ghost use Rattle.mon_catalogue.specs.Writing.{Put, Cut, Add, recorded, records_after, change_refusal};
 
 use crate::mode::Mode;
 use mon_acl::Acl;
@@ -106,8 +106,8 @@ impl Records {
     #[tactic(auto, using(crate::proofs::Written::still_records_put))]
     fn put_at(&mut self, position: u64, line: Line) -> Result<(), Stop<SetFull>>
         requires short { length line ≤ MOST_RECORD_CHARACTERS }
-        ensures put { OnOk result (self.new ≡ put_at position line self.old) }
-        ensures refused { refused_as result ≡ put_refusal position self.old }
+        ensures put { OnOk result (self.new ≡ records_after (Put position line) self.old) }
+        ensures refused { refused_as result ≡ change_refusal (Put position line) self.old }
         ensures unchanged { OnErr result (self.new ≡ self.old) }
         ensures memory { IsErrOf result Stop.Memory → length self.old ≤ position }
     {
@@ -126,8 +126,8 @@ impl Records {
     // Puts a line last.
     fn add(&mut self, line: Line) -> Result<(), Stop<SetFull>>
         requires short { length line ≤ MOST_RECORD_CHARACTERS }
-        ensures added { OnOk result (self.new ≡ added line self.old) }
-        ensures refused { refused_as result ≡ add_refusal self.old }
+        ensures added { OnOk result (self.new ≡ records_after (Add line) self.old) }
+        ensures refused { refused_as result ≡ change_refusal (Add line) self.old }
         ensures unchanged { OnErr result (self.new ≡ self.old) }
     {
         if self.len() >= MOST_RECORDS {
@@ -140,7 +140,7 @@ impl Records {
     // Cuts off what stands at a position and behind it.
     #[tactic(auto, using(crate::proofs::Written::still_records))]
     fn cut_at(&mut self, position: u64)
-        ensures { self.new ≡ cut_at position self.old }
+        ensures { self.new ≡ records_after (Cut position) self.old }
     {
         if position < self.len() {
             self.lines.truncate(position as usize);
@@ -166,7 +166,7 @@ impl DataSet {
     pub fn put_at(&mut self, position: u64, line: Line) -> Result<(), Stop<SetFull>>
         requires short { length line ≤ MOST_RECORD_CHARACTERS }
         ensures put { OnOk result (self.new ≡ recorded (Put position line) self.old) }
-        ensures refused { refused_as result ≡ put_refusal position self.old.records }
+        ensures refused { refused_as result ≡ change_refusal (Put position line) self.old.records }
         ensures unchanged { OnErr result (self.new ≡ self.old) }
         ensures memory { IsErrOf result Stop.Memory → length self.old.records ≤ position }
     {
@@ -182,7 +182,7 @@ impl DataSet {
     pub fn append(&mut self, line: Line) -> Result<(), Stop<SetFull>>
         requires short { length line ≤ MOST_RECORD_CHARACTERS }
         ensures added { OnOk result (self.new ≡ recorded (Add line) self.old) }
-        ensures refused { refused_as result ≡ add_refusal self.old.records }
+        ensures refused { refused_as result ≡ change_refusal (Add line) self.old.records }
         ensures unchanged { OnErr result (self.new ≡ self.old) }
     {
         self.records.add(line)

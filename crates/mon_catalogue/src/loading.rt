@@ -5,12 +5,13 @@ ghost use Rattle.mon_text.specs.declared.stop.Stop.{Stop};
 ghost use Rattle.mon_acl.specs.Reading.{read_short};
 ghost use Rattle.mon_catalogue.specs.declared.loading.CatalogueError.{CatalogueError};
 ghost use Rattle.mon_catalogue.specs.Head.{head_refusal};
-ghost use Rattle.mon_catalogue.specs.Progress.{Answers, SetDue, stopped, MayGrow, ListGrows, step, finished, is_due, lines_taken, with_due, after_head, after_set_due, after_acl, after_record};
+ghost use Rattle.mon_catalogue.specs.Progress.{Answers, SetDue, stopped, MayGrow, ListGrows, step, finished, is_due, lines_taken, with_due, after_set_due, after_acl, after_record, ListDue, Refused};
 ghost use Rattle.mon_catalogue.specs.Reading.{catalogue_of, catalogue_refusal, Gives};
 ghost use Rattle.mon_catalogue.specs.Records.{is_record};
 ghost use Rattle.mon_catalogue.specs.Sets.{Sets};
 ghost use Rattle.mon_catalogue.specs.Spelling.{IsCatalogueText};
 ghost use Rattle.mon_catalogue.specs.inner.Stages.{Reaches, Arrives, Pushes, IsSound, IsAwaited, progress_of};
+ghost use Rattle.std.specs.Option.{option_map_or};
 
 use crate::catalogue::{Catalogue, MOST_SETS};
 use crate::data_set::{DataSet, MOST_RECORD_CHARACTERS, MOST_RECORDS, Records};
@@ -264,7 +265,7 @@ fn after_head(
     number: u64,
     head: Head,
 ) -> Result<Stage, Stop<CatalogueError>>
-    ensures step { Reaches version number catalogue.now ⊥ result (after_head version number catalogue.now head (head_refusal number catalogue.now head)) }
+    ensures step { Reaches version number catalogue.now ⊥ result (option_map_or Refused (head_refusal number catalogue.now head) (ListDue version number catalogue.now head)) }
     ensures sound { IfOk result (IsSound catalogue.now) }
 {
     if head.count > MOST_RECORDS {

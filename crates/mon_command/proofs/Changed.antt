@@ -18,8 +18,9 @@ use Rattle.mon_command.specs.declared.command.Command.TheVariants.{Create, Delet
 use Rattle.mon_command.specs.declared.reply.Reply.{Reply}
 use Rattle.mon_command.specs.declared.reply.Reply.TheVariants.{Done, Denied, NameTaken, CatalogueFull, BadList}
 use Rattle.mon_command.specs.Commands.{account_of}
-use Rattle.mon_command.specs.Commanded.{Answer, Told, Records, Shown, Names, Served, told_by, creation_reply, removal_reply, acl_reply, shown_as, served, served_if_known, answered}
+use Rattle.mon_command.specs.Commanded.{Answer, Told, Records, Shown, Names, Served, told_by, creation_reply, removal_reply, acl_reply, shown_as, served, answered}
 use Rattle.mon_command.specs.Laws.{IsKnown, Changes, done, ChangesWhereGranted, IsNamed, OtherSetsStay}
+use Rattle.mon_command.proofs.Shorthand.{served_if_known}
 
 pub answered_known : (accounts : List Account) (sets : Sets) (command : Command) (account : Account) → IsKnown accounts command account
     → answered accounts sets command ≡ served account command sets

@@ -1,3 +1,4 @@
+pub mod Shorthand
 mod Names
 mod Changed
 mod Shows

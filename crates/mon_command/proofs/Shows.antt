@@ -11,14 +11,16 @@ use Rattle.mon_answer.specs.declared.answer.Reason.{Reason}
 use Rattle.mon_acl.specs.declared.text.AclText.{AclText}
 use Rattle.mon_acl.specs.Forms.{list_of_text}
 use Rattle.mon_guard.specs.Lending.{AclPart, records_lent, acl_lent, names_lent}
-use Rattle.mon_guard.specs.Owning.{owner_denial, removed_unless, given, acl_set_unless, created}
+use Rattle.mon_guard.specs.Owning.{owner_denial, given, created, acl_set_unless}
 use Rattle.mon_guard.specs.Laws as guard
 use Rattle.mon_command.specs.declared.command.Command.{Command}
 use Rattle.mon_command.specs.declared.command.Command.TheVariants.{Create, Delete, SetAcl, ShowAcl, List as Listing, Catalog}
 use Rattle.mon_command.specs.declared.reply.Reply.TheVariants.{Done, Denied, NameTaken, CatalogueFull, BadList}
-use Rattle.mon_command.specs.Commanded.{Answer, Told, Records, Shown, Names, Served, creation_reply, removal_reply, acl_reply, shown_as, served, served_if_known, printed, printed_as, commanded}
+use Rattle.mon_command.specs.Commanded.{Answer, Told, Records, Shown, Names, Served, creation_reply, removal_reply, acl_reply, shown_as, served, printed, commanded}
 use Rattle.mon_command.specs.Laws.{ShowsWhereGranted, HiddenSetsHaveNoEffect, IsWhy, DenialsSayWhy}
 use Rattle.mon_command.proofs.Changed.{answered_known}
+use Rattle.mon_guard.proofs.Shorthand.{removed_unless}
+use Rattle.mon_command.proofs.Shorthand.{served_if_known, printed_as}
 
 records_from : (r : Result (List (List ℕ)) Reason) (records : List (List ℕ)) → shown_as Records r ≡ Records records → r ≡ Ok records
 records_from (Ok lent) records h = let same : Records lent ≡ Records records = h in cc

@@ -18,6 +18,7 @@ use Rattle.mon_command.specs.declared.reply.Reply.TheVariants.{Done, NoAccount, 
 use Rattle.mon_command.specs.Commands.{account_of, heading}
 use Rattle.mon_command.specs.Printouts.{records_text, acl_text, names_text}
 use Rattle.mon_command.specs.Replies.{reply_line}
+use Rattle.std.specs.Option.{option_map_or}
 
 -- what is printed below the command's own line
 pub data Answer : Type 0 where
@@ -70,13 +71,10 @@ served account (ShowAcl _ name) sets = only_shown (shown_as Shown (acl_lent acco
 served account (Listing _ name) sets = only_shown (shown_as Records (records_lent account sets name)) sets
 served account (Catalog _) sets = only_shown (Names (names_lent account sets)) sets
 
-abbrev pub served_if_known : Option Account → Command → Sets → Served
-served_if_known None command sets = record { answer = Told NoAccount; sets = sets }
-served_if_known (Some account) command sets = served account command sets
-
 -- what a command is answered, and the data sets after it
 abbrev pub answered : List Account → Sets → Command → Served
-answered accounts sets command = served_if_known (find_account accounts (account_of command)) command sets
+answered accounts sets command =
+    option_map_or (λ account. served account command sets) (find_account accounts (account_of command)) (only_shown (Told NoAccount) sets)
 
 -- what is printed below the command's own line
 abbrev pub answer_text : Answer → List ℕ
@@ -93,8 +91,5 @@ pub record Commanded : Type 0 where
   pub printout : List ℕ
   pub sets : Sets
 
-abbrev pub printed_as : Command → Served → Commanded
-printed_as command s = record { printout = printed command s.answer; sets = s.sets }
-
 abbrev pub commanded : List Account → Sets → Command → Commanded
-commanded accounts sets command = printed_as command (answered accounts sets command)
+commanded accounts sets command = let s = answered accounts sets command in record { printout = printed command s.answer; sets = s.sets }

@@ -14,7 +14,7 @@ use Rattle.mon_slots.specs.Marks.{Marks, mark_of, later, turn_as, Past, nothing,
 use Rattle.mon_slots.proofs.Past.{either_way, until_stops, until_goes, until_append, unmarked}
 use Rattle.mon_monitor.specs.Worlds.{World, with_floor, first_world}
 use Rattle.mon_monitor.specs.Events.{Event, Serve, Load, Give, Drain}
-use Rattle.mon_monitor.specs.Papers.{Paper, OfJob, paper_text, papers_text, of_ends}
+use Rattle.mon_monitor.specs.Papers.{Paper, OfJob, paper_text, papers_text}
 use Rattle.mon_monitor.specs.Played.{Played, and_played, of_turns, then_played, happened, played}
 use Rattle.mon_monitor.specs.Laws.{CardByCard, DrainEmpties}
 use Rattle.mon_monitor.proofs.Playing.{ends_text}
@@ -32,6 +32,7 @@ use Rattle.mon_deck.specs.Schedules.{GivesTurns, EndsInTurns, done_before, AnyTu
 use Rattle.mon_deck.proofs.Ordered.{output_with, is_run, events_both}
 use Rattle.mon_deck.proofs.Rearranged.{same_ends}
 use Rattle.mon_deck.proofs.Staying.{played_names}
+use Rattle.mon_monitor.proofs.Shorthand.{of_ends}
 
 -- TURNS ALONE ARE TURNS OF THE SLOTS IN SOME ORDER
 

@@ -10,11 +10,11 @@ use Rattle.mon_monitor.specs.Told.{world_of}
 use Rattle.mon_cards.specs.declared.code.Code.{Code}
 use Rattle.mon_cards.specs.declared.code.Code.TheVariants.{LineTooLong, BadCharacter, Truncated}
 use Rattle.mon_cards.specs.Decks.{Commands, Enters, Deck}
-use Rattle.mon_cards.specs.Refusing.{or_else, unless, line_refusal, is_dollar_line}
+use Rattle.mon_cards.specs.Refusing.{unless, line_refusal, is_dollar_line}
 use Rattle.mon_cards.specs.Requests.{end_refusal, list_text_refusal, list_line_refusal, is_list_character, stream_refusal, request_on, set_acl_of, with_line}
 use Rattle.mon_cards.specs.Jobs.{ends_job, after_job_line}
 use Rattle.mon_cards.specs.declared.request.Request.{Request}
-use Rattle.mon_cards.specs.Sections.{Closed, InList, InJob, goes_on, deck_goes_on, refused_early, requested, and_then, stream_section}
+use Rattle.mon_cards.specs.Sections.{Closed, InList, InJob, refused_early, requested, and_then, stream_section}
 use Rattle.mon_feed.specs.declared.options.Options.{Options}
 use Rattle.mon_feed.specs.declared.stage.Stage.{Stage}
 use Rattle.mon_feed.specs.declared.stage.Stage.TheVariants as stage
@@ -22,6 +22,8 @@ use Rattle.mon_feed.specs.declared.stage.State.{State}
 use Rattle.mon_feed.specs.declared.stage.State.TheVariants as state
 use Rattle.mon_feed.specs.Scenes.{over, opening}
 use Rattle.mon_feed.specs.Feeds.{scene_from, refused_from, outcome_of, outcome, refused_at}
+use Rattle.std.specs.Option.{option_or}
+use Rattle.mon_cards.proofs.Shorthand.{goes_on, deck_goes_on}
 
 -- a deck that is refused where nothing was asked
 pub outcome_refused : (check : Bool) (slots jobs : ℕ) (m : Marks) (stage : Stage) (n : ℕ) (code : Code) → outcome_of check jobs m (refused_from slots stage n code) ≡ refused_at n code
@@ -58,26 +60,26 @@ list_too_long line long = by (is_dollar_line line) refl
   where
     by : (b : Bool) → is_dollar_line line ≡ b → list_line_refusal line ≡ Some LineTooLong
     by true e =
-        ap (λ b. if b then or_else (line_refusal 200 line) (end_refusal (words line)) else list_text_refusal line) e
-        ∙ ap (λ r. or_else r (end_refusal (words line))) (too_long 200 line (omega arith) long)
+        ap (λ b. if b then option_or (line_refusal 200 line) (end_refusal (words line)) else list_text_refusal line) e
+        ∙ ap (λ r. option_or r (end_refusal (words line))) (too_long 200 line (omega arith) long)
     by false e =
         let past : nat_lt 200 (length line) ≡ true = grind (arith, nat_tests) in
-        ap (λ b. if b then or_else (line_refusal 200 line) (end_refusal (words line)) else list_text_refusal line) e
+        ap (λ b. if b then option_or (line_refusal 200 line) (end_refusal (words line)) else list_text_refusal line) e
         ∙ ap (λ b. if b then Some LineTooLong else unless (list_all is_list_character line) BadCharacter) past
 
-first_refused : (refusal later : Option Code) (code : Code) → refusal ≡ Some code → or_else refusal later ≡ Some code
-first_refused refusal later code e = ap (λ r. or_else r later) e
+first_refused : (refusal later : Option Code) (code : Code) → refusal ≡ Some code → option_or refusal later ≡ Some code
+first_refused refusal later code e = ap (λ r. option_or r later) e
 
 stops_at : (slots : ℕ) (refusal later : Option Code) (code : Code) (n : ℕ) (accounts : List Account) (rest : Deck)
-    → refusal ≡ Some code → opening slots (deck_goes_on (or_else refusal later) n accounts rest) ≡ opening slots (refused_early n code accounts)
-stops_at slots refusal later code n accounts rest e = ap (λ r. opening slots (deck_goes_on (or_else r later) n accounts rest)) e
+    → refusal ≡ Some code → opening slots (deck_goes_on (option_or refusal later) n accounts rest) ≡ opening slots (refused_early n code accounts)
+stops_at slots refusal later code n accounts rest e = ap (λ r. opening slots (deck_goes_on (option_or r later) n accounts rest)) e
 
 pub long_refused : (slots : ℕ) (stage : Stage) (n : ℕ) (line : List ℕ) (ls : List (List ℕ)) → 5000 < length line → scene_from slots stage n (line ∷ ls) ≡ refused_from slots stage n LineTooLong
 long_refused slots stage.Opening n line ls long = stops_at slots _ _ LineTooLong n _ _ (too_long 200 line (omega arith) long)
 long_refused slots (stage.Accounts accounts) n line ls long = stops_at slots _ _ LineTooLong n _ _ (too_long 200 line (omega arith) long)
 long_refused slots (stage.Catalogue accounts progress) n line ls long = stops_at slots _ _ LineTooLong n _ _ (too_long 5000 line (omega arith) long)
 long_refused slots (stage.Stream w) n line ls long =
-    ap (λ r. over (world_of w) (goes_on (or_else r (stream_refusal line)) n (requested (request_on line) (λ pending. stream_section (n + 1) pending ls)))) (too_long 200 line (omega arith) long)
+    ap (λ r. over (world_of w) (goes_on (option_or r (stream_refusal line)) n (requested (request_on line) (λ pending. stream_section (n + 1) pending ls)))) (too_long 200 line (omega arith) long)
 long_refused slots (stage.List w list) n line ls long =
     ap (λ r. over (world_of w) (goes_on r n (if is_dollar_line line then and_then (Commands (set_acl_of list)) (stream_section (n + 1) Closed ls) else stream_section (n + 1) (InList (with_line list line)) ls)))
     (list_too_long line long)
@@ -97,7 +99,7 @@ alike options jobs m (state.Reading stage) n (x ∷ xs) (y ∷ ys) (inr long) =
     ap (outcome_of options.check jobs m) (long_refused options.slots.number stage n x xs long.0 ∙ sym (long_refused options.slots.number stage n y ys long.1))
 
 -- what a good line of the stream asks for
-pub line_asks : (n : ℕ) (line : List ℕ) (ls : List (List ℕ)) (r : Request) → or_else (line_refusal 200 line) (stream_refusal line) ≡ None → r ≡ request_on line
+pub line_asks : (n : ℕ) (line : List ℕ) (ls : List (List ℕ)) (r : Request) → option_or (line_refusal 200 line) (stream_refusal line) ≡ None → r ≡ request_on line
     → stream_section n Closed (line ∷ ls) ≡ requested r (λ pending. stream_section (n + 1) pending ls)
 line_asks n line ls r good is =
     ap (λ refusal. goes_on refusal n (requested (request_on line) (λ pending. stream_section (n + 1) pending ls))) good

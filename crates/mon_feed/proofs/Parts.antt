@@ -6,7 +6,7 @@ use Rattle.std.specs.Str.Lines.{lines, strip_carriage_return}
 use Rattle.std.proofs.lemmas.Bool.Decides.{nat_tests}
 use Rattle.std.proofs.lemmas.List.{drop_all, take-append-drop}
 use Rattle.std.proofs.lemmas.List.Folds.{list_all-append}
-use Rattle.mon_text.specs.Feeding.{is_line_feed, is_inside, has_no_end, taken_of, Alike, Takes}
+use Rattle.mon_text.specs.Feeding.{has_no_end, taken_of, Alike, Takes}
 use Rattle.mon_text.proofs.Cutting.{line_ends, last_line}
 use Rattle.mon_cards.specs.declared.code.Code.TheVariants.{LineTooLong}
 use Rattle.mon_slots.specs.Marks.{Marks}
@@ -18,21 +18,22 @@ use Rattle.mon_feed.specs.declared.stage.State.TheVariants as state
 use Rattle.mon_feed.specs.Feeds.{outcome, outcome_of, behind, refused_at}
 use Rattle.mon_feed.specs.inner.Counting.{lines_ended}
 use Rattle.mon_feed.proofs.Following.{long_refused, outcome_refused}
+use Rattle.mon_text.specs.Characters.{is_line_feed}
 
 -- where the first LF stands, a byte further on
-on : (x : ℕ) (xs : List ℕ) → is_inside x ≡ true → position_or_len is_line_feed (x ∷ xs) ≡ suc (position_or_len is_line_feed xs)
+on : (x : ℕ) (xs : List ℕ) → not (is_line_feed x) ≡ true → position_or_len is_line_feed (x ∷ xs) ≡ suc (position_or_len is_line_feed xs)
 on x xs e = let next : 1 + position_or_len is_line_feed xs ≡ suc (position_or_len is_line_feed xs) = omega arith in ap (λ b. cond b (1 + position_or_len is_line_feed xs) 0) e ∙ next
 
-here : (x : ℕ) (xs : List ℕ) → is_inside x ≡ false → position_or_len is_line_feed (x ∷ xs) ≡ 0
+here : (x : ℕ) (xs : List ℕ) → not (is_line_feed x) ≡ false → position_or_len is_line_feed (x ∷ xs) ≡ 0
 here x xs e = ap (λ b. cond b (1 + position_or_len is_line_feed xs) 0) e
 
-taken_on : (x : ℕ) (xs : List ℕ) → is_inside x ≡ true → taken_of (x ∷ xs) ≡ suc (taken_of xs)
+taken_on : (x : ℕ) (xs : List ℕ) → not (is_line_feed x) ≡ true → taken_of (x ∷ xs) ≡ suc (taken_of xs)
 taken_on x xs e = let place = on x xs e in grind (arith, nat_tests, place)
 
-taken_here : (x : ℕ) (xs : List ℕ) → is_inside x ≡ false → taken_of (x ∷ xs) ≡ 1
+taken_here : (x : ℕ) (xs : List ℕ) → not (is_line_feed x) ≡ false → taken_of (x ∷ xs) ≡ 1
 taken_here x xs e = let place = here x xs e in grind (arith, nat_tests, place)
 
-is_ten : (x : ℕ) → is_inside x ≡ false → x ≡ 10
+is_ten : (x : ℕ) → not (is_line_feed x) ≡ false → x ≡ 10
 is_ten x e = grind (arith, nat_tests, e)
 
 -- what a search for the first LF found
@@ -60,22 +61,22 @@ pub data Part (part : List ℕ) : Type 0 where
 
 pub parted : (piece : List ℕ) → Part (take (taken_of piece) piece)
 parted [] = Open refl
-parted (x ∷ xs) = by (is_inside x) refl (parted xs)
+parted (x ∷ xs) = by (not (is_line_feed x)) refl (parted xs)
   where
-    more : is_inside x ≡ true → (part : List ℕ) → Part part → Part (x ∷ part)
+    more : not (is_line_feed x) ≡ true → (part : List ℕ) → Part part → Part (x ∷ part)
     more e part (Open open_part) = Open (ap (λ b. b && has_no_end part) e ∙ open_part)
     more e part (Ended front are open_front) = Ended (x ∷ front) (ap (λ p. x ∷ p) are) (ap (λ b. b && has_no_end front) e ∙ open_front)
 
-    by : (b : Bool) → is_inside x ≡ b → Part (take (taken_of xs) xs) → Part (take (taken_of (x ∷ xs)) (x ∷ xs))
+    by : (b : Bool) → not (is_line_feed x) ≡ b → Part (take (taken_of xs) xs) → Part (take (taken_of (x ∷ xs)) (x ∷ xs))
     by true e rest = subst (λ (k : ℕ). Part (take k (x ∷ xs))) (sym (taken_on x xs e)) (more e (take (taken_of xs) xs) rest)
     by false e rest = subst (λ (k : ℕ). Part (take k (x ∷ xs))) (sym (taken_here x xs e)) (Ended [] (ap (λ c. c ∷ []) (is_ten x e)) refl)
 
 -- all of it is taken
 pub taken_whole : (piece : List ℕ) → taken_of (take (taken_of piece) piece) ≡ length (take (taken_of piece) piece)
 taken_whole [] = refl
-taken_whole (x ∷ xs) = by (is_inside x) refl (taken_whole xs)
+taken_whole (x ∷ xs) = by (not (is_line_feed x)) refl (taken_whole xs)
   where
-    by : (b : Bool) → is_inside x ≡ b → taken_of (take (taken_of xs) xs) ≡ length (take (taken_of xs) xs)
+    by : (b : Bool) → not (is_line_feed x) ≡ b → taken_of (take (taken_of xs) xs) ≡ length (take (taken_of xs) xs)
         → taken_of (take (taken_of (x ∷ xs)) (x ∷ xs)) ≡ length (take (taken_of (x ∷ xs)) (x ∷ xs))
     by true e rest = subst (λ (k : ℕ). taken_of (take k (x ∷ xs)) ≡ length (take k (x ∷ xs))) (sym (taken_on x xs e)) (taken_on x (take (taken_of xs) xs) e ∙ ap suc rest)
     by false e rest = subst (λ (k : ℕ). taken_of (take k (x ∷ xs)) ≡ length (take k (x ∷ xs))) (sym (taken_here x xs e)) (taken_here x [] e)
@@ -142,7 +143,7 @@ pub none_at_all : (part : List ℕ) → has_no_end part ≡ true → (taken afte
 none_at_all part open_part taken after same = omega (arith, none_ended part open_part, same)
 
 open_both : (u v : List ℕ) → has_no_end u ≡ true → has_no_end v ≡ true → has_no_end (u ++ v) ≡ true
-open_both u v a b = list_all-append is_inside u v ∙ ap (λ x. x && has_no_end v) a ∙ b
+open_both u v a b = list_all-append (λ b. not (is_line_feed b)) u v ∙ ap (λ x. x && has_no_end v) a ∙ b
 
 -- a line has ended, and what was taken told none: then it is longer than any may be
 module _ (options : Options) (jobs : ℕ) (m : Marks) (stage : Stage) (n : ℕ) (old front new : List ℕ) (used : ℕ)

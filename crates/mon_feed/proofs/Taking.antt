@@ -7,9 +7,9 @@ use Rattle.mon_access.specs.declared.account.Account.{Account}
 use Rattle.mon_catalogue.specs.Progress.{Progress, step}
 use Rattle.mon_cards.specs.Decks.{Asked, Deck}
 use Rattle.mon_cards.specs.declared.request.Request.{Request}
-use Rattle.mon_cards.specs.Refusing.{or_else, line_refusal}
+use Rattle.mon_cards.specs.Refusing.{line_refusal}
 use Rattle.mon_cards.specs.Requests.{stream_refusal, request_on}
-use Rattle.mon_cards.specs.Sections.{Closed, and_then, stopped, requested, stream_section, catalogue_section, catalogue_refusal, ends_catalogue, sets_of, deck_goes_on}
+use Rattle.mon_cards.specs.Sections.{Closed, and_then, stopped, requested, stream_section, catalogue_section, catalogue_refusal, ends_catalogue, sets_of}
 use Rattle.mon_feed.specs.declared.options.Counts.{Counts}
 use Rattle.mon_feed.specs.declared.options.Options.{Options}
 use Rattle.mon_feed.specs.declared.stage.Stage.{Stage}
@@ -20,6 +20,8 @@ use Rattle.mon_feed.specs.Printouts.{answer_to}
 use Rattle.mon_feed.specs.Feeds.{scene_from, outcome_of, behind, Good}
 use Rattle.mon_feed.specs.inner.Lines.{TookLine, Served, Stopping}
 use Rattle.mon_feed.proofs.Following.{line_asks}
+use Rattle.std.specs.Option.{option_or}
+use Rattle.mon_cards.proofs.Shorthand.{deck_goes_on}
 
 -- nothing happened
 pub unmoved : (options : Options) (s s' : Stage) (line out : List ℕ) (counts : Counts)
@@ -31,13 +33,13 @@ unmoved options s s' line out counts same = record {
 }
 
 -- what a good line of the stream asks for
-pub asks_over : (slots : ℕ) (w : Monitor) (line : List ℕ) (q r : Request) → or_else (line_refusal 200 line) (stream_refusal line) ≡ None → q ≡ request_on line → q ≡ r
+pub asks_over : (slots : ℕ) (w : Monitor) (line : List ℕ) (q r : Request) → option_or (line_refusal 200 line) (stream_refusal line) ≡ None → q ≡ request_on line → q ≡ r
     → (n : ℕ) → (ls : List (List ℕ)) → scene_from slots (stage.Stream w) n (line ∷ ls) ≡ over (world_of w) (requested r (λ pending. stream_section (n + 1) pending ls))
 asks_over slots w line q r good is same n ls = ap (over (world_of w)) (line_asks n line ls r good (sym same ∙ is))
 
 -- a line of the catalogue that does not end it
 pub catalogue_line : (slots n : ℕ) (accounts : List Account) (p p' : Progress) (line : List ℕ) (ls : List (List ℕ)) (ends : Bool)
-    → or_else (line_refusal 5000 line) (catalogue_refusal p line) ≡ None → ends ≡ ends_catalogue p line → p' ≡ (if ends then p else step p line) → not ends ≡ true
+    → option_or (line_refusal 5000 line) (catalogue_refusal p line) ≡ None → ends ≡ ends_catalogue p line → p' ≡ (if ends then p else step p line) → not ends ≡ true
     → opening slots (catalogue_section (n + 1) accounts p' ls) ≡ opening slots (catalogue_section n accounts p (line ∷ ls))
 catalogue_line slots n accounts p p' line ls true good is after goes = cc
 catalogue_line slots n accounts p p' line ls false good is after goes =

@@ -56,8 +56,7 @@ both_counted a b = record { jobs = a.jobs + b.jobs; commands = a.commands + b.co
 abbrev pub one_counted : Asked → Counts
 one_counted (Commands command) = record { jobs = 0; commands = 1 }
 one_counted (Enters job) = record { jobs = 1; commands = 0 }
-one_counted (Gives turn) = nothing_counted
-one_counted Drains = nothing_counted
+one_counted asked = nothing_counted
 
 abbrev pub all_counted : List Asked → Counts
 all_counted [] = nothing_counted

@@ -20,12 +20,12 @@ use Rattle.mon_catalogue.specs.declared.mode.Mode.{Mode}
 use Rattle.mon_catalogue.specs.declared.data_set.DataSet.{DataSet}
 use Rattle.mon_catalogue.specs.Sets.{Sets, find_set}
 use Rattle.mon_catalogue.specs.Writing.{Change, recorded}
-use Rattle.mon_catalogue.specs.Changes.{with_changed, without_set, with_acl, listed}
+use Rattle.mon_catalogue.specs.Changes.{with_changed, without_set, with_acl}
 use Rattle.mon_catalogue.proofs.Changed.{other_sets_stay, named_set_changes}
 use Rattle.mon_acl.specs.declared.entries.Entry.{Entry}
 use Rattle.mon_guard.specs.declared.rows.Row.{Row}
 use Rattle.mon_guard.specs.Acting.{left, changed}
-use Rattle.mon_guard.specs.Owning.{new_set, created_unless, created}
+use Rattle.mon_guard.specs.Owning.{new_set, created}
 use Rattle.mon_guard.proofs.Owned.{behind}
 use Rattle.mon_guard.proofs.Acting.{left_so, left_as_it_was}
 use Rattle.mon_catalogue.specs.declared.catalogue.CreateError.TheVariants.{NameTaken, CatalogueFull}
@@ -36,6 +36,8 @@ use Rattle.mon_catalogue.specs.declared.catalogue.CreateError.{CreateError}
 use Rattle.mon_catalogue.specs.Sets.{create_refusal}
 use Rattle.mon_guard.specs.Rows.{ready_on, Fits, RowsFit, is_beside, rows_beside, Begins}
 use Rattle.mon_guard.specs.inner.Keeping.{row_on, FitOn, MayKeep}
+use Rattle.mon_catalogue.proofs.Shorthand.{listed}
+use Rattle.mon_guard.proofs.Shorthand.{created_unless}
 
 -- rows that fit go on fitting where each by itself does
 still_fit : (rows : List Row) (sets after : Sets) → ((row : Row) → Fits sets row → Fits after row) → RowsFit rows sets → RowsFit rows after

@@ -10,7 +10,7 @@ use Rattle.mon_catalogue.specs.declared.data_set.DataSet.{DataSet}
 use Rattle.mon_catalogue.specs.declared.data_set.SetFull.{SetFull}
 use Rattle.mon_catalogue.specs.Sets.{Sets, find_set}
 use Rattle.mon_catalogue.specs.Changes.{with_changed}
-use Rattle.mon_catalogue.specs.Writing.{Change, Put, Cut, Add, put_at, cut_at, writing, change_refusal, recorded}
+use Rattle.mon_catalogue.specs.Writing.{Change, Put, Cut, Add, writing, change_refusal, recorded, records_after}
 use Rattle.mon_answer.specs.declared.answer.Reason.{Reason}
 use Rattle.mon_answer.specs.declared.answer.Reason.TheVariants as reason
 use Rattle.mon_answer.specs.declared.answer.Answer.{Answer}
@@ -40,9 +40,8 @@ read_at position (Some line) = record { answer = Got line; position = Some (posi
 
 -- where the position moves to: behind what was put there, or behind what is left; where a line was added it stays
 abbrev pub position_after : Change → List (List ℕ) → Option ℕ
-position_after (Put position line) records = Some (length (put_at position line records))
-position_after (Cut position) records = Some (length (cut_at position records))
 position_after (Add line) records = None
+position_after change records = Some (length (records_after change records))
 
 abbrev pub made : Change → List (List ℕ) → Option SetFull → Acted
 made change records (Some full) = only_answered Full
@@ -59,8 +58,7 @@ ended Append position records = only_answered (Denied reason.Mode)
 
 abbrev pub asks : Act → Perms
 asks (Read position) = to_read
-asks (Write position line) = to_write
-asks (End position) = to_write
+asks act = to_write
 
 -- what is granted, by the set's mode
 abbrev pub done : Act → DataSet → Acted

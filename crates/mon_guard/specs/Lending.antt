@@ -9,15 +9,11 @@ use Rattle.mon_catalogue.specs.Sets.{Sets, find_set}
 use Rattle.mon_answer.specs.declared.answer.Reason.{Reason}
 use Rattle.mon_answer.specs.declared.answer.Reason.TheVariants.{NoSet}
 use Rattle.mon_guard.specs.Deciding.{to_read, to_execute, where_granted, may_be_shown}
+use Rattle.std.specs.Option.{option_map_or}
 
--- the records, where r is granted
-abbrev pub records_of : Account → Option DataSet → Result (List (List ℕ)) Reason
-records_of account None = Err NoSet
-records_of account (Some set) = where_granted account to_read set set.records
-
--- the records of the set of this name
+-- the records of the set of this name, where r is granted
 abbrev pub records_lent : Account → Sets → List ℕ → Result (List (List ℕ)) Reason
-records_lent account sets name = records_of account (find_set name sets)
+records_lent account sets name = option_map_or (λ set. where_granted account to_read set set.records) (find_set name sets) (Err NoSet)
 
 -- a data set without its records: who owns it, its group and its permission list
 pub record AclPart : Type 0 where

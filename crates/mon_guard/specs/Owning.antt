@@ -18,22 +18,15 @@ use Rattle.mon_answer.specs.declared.answer.Reason.{Reason}
 use Rattle.mon_answer.specs.declared.answer.Reason.TheVariants.{NoSet, NotOwner}
 use Rattle.mon_guard.specs.declared.answer.AclAnswer.{AclAnswer}
 use Rattle.mon_guard.specs.declared.answer.AclAnswer.TheVariants as acl
-
-abbrev pub owner_denial_of : Account → Option DataSet → Option Reason
-owner_denial_of account None = Some NoSet
-owner_denial_of account (Some set) = if is_owner account set.owner then None else Some NotOwner
+use Rattle.std.specs.Option.{option_map_or}
 
 -- why an account may not do what only the owner may: there is no such set, or it is another's
 abbrev pub owner_denial : Account → Sets → List ℕ → Option Reason
-owner_denial account sets name = owner_denial_of account (find_set name sets)
-
-abbrev pub removed_unless : Option Reason → Sets → List ℕ → Result (Unit {0}) Reason × Sets
-removed_unless (Some reason) sets name = (Err reason, sets)
-removed_unless None sets name = (Ok tt, without_set name sets)
+owner_denial account sets name = option_map_or (λ set. if is_owner account set.owner then None else Some NotOwner) (find_set name sets) (Some NoSet)
 
 -- the owner removes the set; another changes nothing
 abbrev pub removed : Account → Sets → List ℕ → Result (Unit {0}) Reason × Sets
-removed account sets name = removed_unless (owner_denial account sets name) sets name
+removed account sets name = option_map_or (λ reason. (Err reason, sets)) (owner_denial account sets name) (Ok tt, without_set name sets)
 
 -- a list is given to the set only where the text spells one
 abbrev pub given : Result (List Entry) AclError → Sets → List ℕ → AclAnswer × Sets
@@ -63,10 +56,7 @@ new_list =
 abbrev pub new_set : Account → Mode → DataSet
 new_set account mode = empty_set account.name account.primary mode new_list
 
-abbrev pub created_unless : Option CreateError → Account → Sets → List ℕ → Mode → Result (Unit {0}) CreateError × Sets
-created_unless (Some refusal) account sets name mode = (Err refusal, sets)
-created_unless None account sets name mode = (Ok tt, sets ++ (name, new_set account mode) ∷ [])
-
 -- every account may create a set: it is put last, unless its name is taken or there are 1,000 sets
 abbrev pub created : Account → Sets → List ℕ → Mode → Result (Unit {0}) CreateError × Sets
-created account sets name mode = created_unless (create_refusal name sets) account sets name mode
+created account sets name mode =
+    option_map_or (λ refusal. (Err refusal, sets)) (create_refusal name sets) (Ok tt, sets ++ (name, new_set account mode) ∷ [])

@@ -7,11 +7,11 @@ use Rattle.mon_access.specs.declared.access.Decider.{Decider}
 use Rattle.mon_access.specs.declared.access.Decider.TheVariants as decider
 use Rattle.mon_answer.specs.declared.answer.Reason.{Reason}
 use Rattle.mon_answer.specs.declared.answer.Reason.TheVariants.{By}
+use Rattle.std.specs.Option.{option_map_or}
 
 -- what is named of an entry; where there is none, the type alone
 abbrev pub reason_at : Tag → Option Entry → Reason
-reason_at t (Some e) = By e.tag e.name
-reason_at t None = By t None
+reason_at t entry = option_map_or (λ e. By e.tag e.name) entry (By t None)
 
 -- what a denial by the access check names of a list's entries
 abbrev pub reason_of : List Entry → Decider → Reason

@@ -3,8 +3,8 @@ use Rattle.std.proofs.Common.{◌≡◌, ℕ, ◌+◌, ◌-◌, ◌<◌, ◌==�
 use Rattle.std.specs.Str.Lines.{lines, strip_carriage_return}
 use Rattle.std.proofs.lemmas.Bool.Decides.{nat_tests}
 use Rattle.std.proofs.lemmas.List.{take_all, drop_all, length-drop}
-use Rattle.mon_text.specs.Feeding.{is_line_feed}
 use Rattle.mon_text.proofs.Cutting.{cut_at, uncut, line_ends, last_line}
+use Rattle.mon_text.specs.Characters.{is_line_feed}
 
 -- it has a line end
 pub ended : (bytes line behind : List ℕ) (end : ℕ) → position is_line_feed bytes ≡ Some end → line ≡ strip_carriage_return (take end bytes) → behind ≡ drop (end + 1) bytes

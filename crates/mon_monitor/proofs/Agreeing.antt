@@ -11,13 +11,14 @@ use Rattle.mon_slots.specs.Marks.{Marks, mark_of, later, turn_as, Past, nothing,
 use Rattle.mon_slots.proofs.Past.{either_way, until_stops, until_goes}
 use Rattle.mon_monitor.specs.Worlds.{World, with_floor}
 use Rattle.mon_monitor.specs.Events.{Event, Serve, Load, Give, Drain}
-use Rattle.mon_monitor.specs.Papers.{Paper, OfCommand, of_ends, of_load}
+use Rattle.mon_monitor.specs.Papers.{Paper, OfCommand, of_load}
 use Rattle.mon_monitor.specs.Played.{Played, and_played, of_turns, of_loading, then_played, happened, played}
 use Rattle.mon_monitor.specs.Agreeing.{FloorsAgree, Agree}
 use Rattle.mon_monitor.specs.Isolation.{IsOwn, Isolated}
 use Rattle.mon_monitor.proofs.Turning.{floor_turn}
 use Rattle.mon_monitor.proofs.Commands.{commands_agree}
 use Rattle.mon_monitor.proofs.Loading.{loads_agree}
+use Rattle.mon_monitor.proofs.Shorthand.{of_ends}
 
 record PastAlike (account : Account) (p q : Past) : Type 0 where
   pub ends : p.ends ≡ q.ends

@@ -14,11 +14,11 @@ use Rattle.mon_catalogue.specs.declared.mode.Mode.TheVariants.{Seq, Append}
 use Rattle.mon_catalogue.specs.declared.data_set.DataSet.{DataSet}
 use Rattle.mon_catalogue.specs.declared.catalogue.CreateError.{CreateError}
 use Rattle.mon_catalogue.specs.Sets.{Sets, find_set, create_refusal}
-use Rattle.mon_catalogue.specs.Changes.{with_changed, without_set, listed}
+use Rattle.mon_catalogue.specs.Changes.{with_changed, without_set}
 use Rattle.mon_catalogue.specs.Writing.{Change, Add, writing, records_after, recorded}
 use Rattle.mon_catalogue.proofs.Changed.{other_sets_stay, named_set_changes}
 use Rattle.mon_answer.specs.declared.answer.Reason.{Reason}
-use Rattle.mon_guard.specs.Owning.{owner_denial, removed_unless, given, acl_set_unless, created_unless, new_set}
+use Rattle.mon_guard.specs.Owning.{owner_denial, given, new_set, acl_set_unless}
 use Rattle.mon_guard.specs.Laws.{IsThere}
 use Rattle.sno_ask.specs.declared.request.Act.{Act}
 use Rattle.sno_ask.specs.declared.request.Act.TheVariants.{Read, Write, Endfile, Rewind}
@@ -27,7 +27,7 @@ use Rattle.mon_command.specs.declared.command.Command.{Command}
 use Rattle.mon_command.specs.declared.command.Command.TheVariants.{Create, Delete, SetAcl, ShowAcl, List as Listing, Catalog}
 use Rattle.mon_command.specs.Commands.{account_of}
 use Rattle.mon_command.specs.Commanded as commands
-use Rattle.mon_command.specs.Commanded.{told_by, removal_reply, served, served_if_known, answered}
+use Rattle.mon_command.specs.Commanded.{told_by, removal_reply, served, answered}
 use Rattle.mon_unit.specs.Serving.{Reach, serve}
 use Rattle.mon_unit.specs.Laws as units
 use Rattle.mon_unit.specs.Laws.{AsksChange}
@@ -36,6 +36,9 @@ use Rattle.mon_monitor.specs.History.{Entry, Entered, Refused, Asked, Ended, Ord
 use Rattle.mon_monitor.specs.Headline.{StandsOver, sets_after, Lead}
 use Rattle.mon_monitor.specs.Appending.{Begins, Keeps, HasDeleted, Deletes, NoneDeletes, AppendOnly}
 use Rattle.mon_monitor.proofs.Accounting.{history_lead}
+use Rattle.mon_catalogue.proofs.Shorthand.{listed}
+use Rattle.mon_guard.proofs.Shorthand.{removed_unless, created_unless}
+use Rattle.mon_command.proofs.Shorthand.{served_if_known}
 
 begins_then : (a b c : List (List ℕ)) → Begins a b → Begins b c → Begins a c
 begins_then a b c h k = (h.0 ++ k.0, k.1 ∙ ap (λ (l : List (List ℕ)). l ++ k.0) h.1 ∙ append_assoc a h.0 k.0)

@@ -23,10 +23,11 @@ use Rattle.mon_slots.proofs.Seats.{seat_length}
 use Rattle.mon_slots.proofs.Past.{either_way, until_stops, until_goes, until_length}
 use Rattle.mon_monitor.specs.Worlds.{World, with_floor}
 use Rattle.mon_monitor.specs.Events.{Event, Serve, Load, Give, Drain}
-use Rattle.mon_monitor.specs.Papers.{Paper, papers_text, of_ends, of_load}
+use Rattle.mon_monitor.specs.Papers.{Paper, papers_text, of_load}
 use Rattle.mon_monitor.specs.Played.{Played, loading, of_turns, and_played, happened, played}
 use Rattle.mon_monitor.specs.Laws.{CardByCard, PrintedInOrder, NotByMemory, AsUnmarked, PlayedUnmarked, LoadHasRoom, AccountsStay, SlotsStay}
 use Rattle.mon_monitor.proofs.Playing.{papers_append}
+use Rattle.mon_monitor.proofs.Shorthand.{of_ends}
 
 pub card_by_card : CardByCard
 card_by_card [] F m w = refl

@@ -1,3 +1,4 @@
+pub mod Shorthand
 pub mod Playing
 pub mod Histories
 mod Exchanging

@@ -19,9 +19,10 @@ use Rattle.mon_slots.specs.Marks.{Marks, Past, marked, drain, room}
 use Rattle.mon_slots.specs.Turning.{Passed, MarkedIs, DrainIs, RoomIs}
 use Rattle.mon_monitor.specs.Worlds.{World, world, with_floor, with_sets}
 use Rattle.mon_monitor.specs.Events.{Serve, Load, Give, Drain}
-use Rattle.mon_monitor.specs.Papers.{Paper, OfCommand, OfRefused, papers_text, paper_text, of_ends, of_load}
+use Rattle.mon_monitor.specs.Papers.{Paper, OfCommand, OfRefused, papers_text, paper_text, of_load}
 use Rattle.mon_monitor.specs.Played.{Played, loading, of_turns, of_loading, and_played, then_played}
 use Rattle.mon_monitor.specs.Happening.{Does, Happens, HappensUnmarked}
+use Rattle.mon_monitor.proofs.Shorthand.{of_ends}
 
 pub papers_append : (xs ys : List Paper) → papers_text (xs ++ ys) ≡ papers_text xs ++ papers_text ys
 papers_append xs ys = flat_map-append paper_text xs ys

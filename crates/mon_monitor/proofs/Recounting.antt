@@ -35,7 +35,7 @@ use Rattle.mon_monitor.proofs.Histories.{event_accounts}
 use Rattle.mon_monitor.proofs.Accounting.{in_rounds}
 use Rattle.mon_unit.proofs.Fitting.{serve_fits}
 use Rattle.mon_monitor.proofs.Exchanging.{whole_told, cut_told, all_passed, all_told, all_asked, cut_asks}
-use Rattle.mon_slots.proofs.Tallying.{tallied_told, job_tallied}
+use Rattle.sno_run.proofs.Tallying.{turn_counts}
 use Rattle.mon_slots.proofs.Seating.{IsSeat, seat_changed, free_seat}
 use Rattle.mon_monitor.proofs.Telling.{same_or_not, not_same, AreOf, none_of, more_of, number_is, number_not, own_more, own_same, Sitting, goes_on, Turn, Again, IsToCome, SoFar, still_job, turn_far}
 
@@ -104,9 +104,7 @@ module _ (accounts : List Account) (J : ℕ → Option JobDeck) (numbered : (n :
           fewer = ok.fewer;
           passed = all_passed slot.number slot.account (counted_turn slot.job) (reached sets slot);
           asked = all_asked slot.number slot.account (counted_turn slot.job) (reached sets slot);
-          counted =
-              tallied_told slot.job.limits.statements (λ (r : Step × Job). statements_begun r.1) (statements_begun slot.job) (counted_turn slot.job)
-              (all_passed slot.number slot.account (counted_turn slot.job) (reached sets slot)) (ran slot sets).0 (job_tallied slot.job) tells;
+          counted = turn_counts slot.job (all_passed slot.number slot.account (counted_turn slot.job) (reached sets slot)) (ran slot sets).0 tells;
           ends = inl (tells, ok.over);
         }
 

@@ -12,7 +12,7 @@ use Rattle.mon_catalogue.specs.declared.mode.Mode.TheVariants.{Seq, Append}
 use Rattle.mon_catalogue.specs.declared.data_set.DataSet.{DataSet}
 use Rattle.mon_catalogue.specs.declared.data_set.SetFull.{SetFull}
 use Rattle.mon_catalogue.specs.Sets.{Sets, find_set}
-use Rattle.mon_catalogue.specs.Writing.{Change, Put, Cut, Add, add_refusal, writing, recorded}
+use Rattle.mon_catalogue.specs.Writing.{Change, Put, Cut, Add, writing, recorded, change_refusal}
 use Rattle.mon_catalogue.proofs.Changed.{named_set_changes}
 use Rattle.mon_answer.specs.declared.answer.Reason.TheVariants.{Mode as WrongMode}
 use Rattle.mon_answer.specs.declared.answer.Answer.TheVariants.{Denied, Full}
@@ -30,13 +30,14 @@ use Rattle.mon_unit.specs.declared.tie.Tie.{Tie}
 use Rattle.mon_unit.specs.declared.note.NoteAct.{NoteAct}
 use Rattle.mon_unit.specs.declared.note.NoteTarget.{NoteTarget}
 use Rattle.mon_unit.specs.State.{UnitState}
-use Rattle.mon_unit.specs.Tying.{or_untied, tie_at}
-use Rattle.mon_unit.specs.Serving.{Reach, unit_of, note_act, note_target, noted, moved, spooled, on_set, acted_at, Effect, effect_of, set_at, set_of, looked, changed_at, effect, serve}
+use Rattle.mon_unit.specs.Tying.{tie_at}
+use Rattle.mon_unit.specs.Serving.{Reach, unit_of, note_act, note_target, noted, moved, spooled, on_set, acted_at, Effect, effect_of, set_at, set_of, changed_at, effect, serve}
 use Rattle.mon_unit.specs.Laws.{Same}
 use Rattle.mon_unit.proofs.Looks.{serve_alike}
 use Rattle.mon_monitor.specs.Agreeing.{LooksAlike, Both, TiesFit}
 use Rattle.mon_monitor.specs.Isolation.{RequestAgrees, RequestsAgree}
 use Rattle.mon_monitor.proofs.Finding.{BothFound, found_both, both_changed}
+use Rattle.mon_unit.proofs.Shorthand.{or_untied, looked}
 
 abbrev with_records : List (List ℕ) → DataSet → DataSet
 with_records records set = record set { records = records }
@@ -129,7 +130,7 @@ module _ (account : Account) (d e : DataSet) (l : LooksAlike account d e) where
   adds_alike : (line : List ℕ) → length d.records ≡ length e.records → OneAct account d e (changing (Add line) d.records) (changing (Add line) e.records)
   adds_alike line many =
       subst (λ (o : Option SetFull). OneAct account d e (changing (Add line) d.records) (made (Add line) e.records o))
-      (ap (λ (n : ℕ). if nat_le 100000 n then Some (record {}) else None) many) (by (add_refusal d.records))
+      (ap (λ (n : ℕ). if nat_le 100000 n then Some (record {}) else None) many) (by (change_refusal (Add line) d.records))
     where
       by : (o : Option SetFull) → OneAct account d e (made (Add line) d.records o) (made (Add line) e.records o)
       by None = record { act = refl; alike = added_alike line many; moves = λ p h. absurd cc }

@@ -14,7 +14,7 @@ use Rattle.sno_run.specs.Jobs.{Job, turn_of}
 use Rattle.mon_unit.specs.declared.tie.Target.{Target}
 use Rattle.mon_unit.specs.declared.tie.Target.TheVariants.{Untied, Data, Spool, Set}
 use Rattle.mon_unit.specs.State.{UnitState}
-use Rattle.mon_unit.specs.Serving.{Reach, set_of, looked, serve}
+use Rattle.mon_unit.specs.Serving.{Reach, set_of, serve}
 use Rattle.mon_unit.specs.Laws.{Same, targets, TiedTo}
 use Rattle.mon_unit.proofs.Runs.{run_alike}
 use Rattle.mon_unit.proofs.Looks.{one_look, looks_at_tied, targets_stay, run_keeps_to_ties}
@@ -31,6 +31,7 @@ use Rattle.mon_slots.specs.Ties.{Independent}
 use Rattle.mon_monitor.specs.Schedules.{turns_given, of_slot, AsAlone, EndsAlone, AnySchedule, Settles, InAnyOrder, DrainedInAnyOrder}
 use Rattle.mon_monitor.proofs.Names.{tell_name, same_lists}
 use Rattle.mon_monitor.proofs.Turning.{seat_after, seat_is}
+use Rattle.mon_unit.proofs.Shorthand.{looked}
 
 -- seats
 seat_same : (s : ℕ) (o : Option SlotState) (slots : List (Option SlotState)) (slot : SlotState) → seat_at s slots ≡ Some slot → seat_at s (with_seat s o slots) ≡ o

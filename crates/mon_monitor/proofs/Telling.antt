@@ -5,17 +5,16 @@ use Rattle.std.proofs.lemmas.List.{map-append}
 use Rattle.std.proofs.lemmas.List.Elements.{filter-append}
 use Rattle.std.proofs.lemmas.List.Concat.{flat_map-append}
 use Rattle.std.proofs.lemmas.Bool.{eq-eqb, eqb-true, eqb-false}
-use Rattle.sno_talk.specs.Talks.{◌>>=◌}
 use Rattle.sno_ask.specs.Asking as asking
-use Rattle.sno_ask.specs.Asking.{Asking, Exchange}
+use Rattle.sno_ask.specs.Asking.{Exchange}
 use Rattle.mon_answer.specs.declared.answer.Answer.{Answer}
-use Rattle.sno_ask.specs.Counting.{Moment, Beginning, Requesting, Passed, MomentFits, Tells, Begins, plain, with_request, requests_in, with_statement, statements_in}
-use Rattle.sno_ask.proofs.Counting.{plain_then, plain_told}
+use Rattle.sno_ask.specs.Counting.{Moment, Beginning, Requesting, Passed, MomentFits, Tells, Begins, with_request, requests_in, with_statement, statements_in}
+use Rattle.sno_ask.proofs.Counting.{plain_told}
 use Rattle.sno_run.specs.declared.ending.Ending.{Ending}
 use Rattle.sno_run.specs.declared.ending.Ending.TheVariants.{Memory}
 use Rattle.sno_run.specs.declared.ending.Step.{Step}
 use Rattle.sno_run.specs.declared.ending.Step.TheVariants as step
-use Rattle.sno_run.specs.Jobs.{Job, counted_turn, turn_of, turns_of, statements_begun}
+use Rattle.sno_run.specs.Jobs.{Job, counted_turn, counted_turns, turns_of, statements_begun}
 use Rattle.mon_access.specs.declared.account.Account.{Account}
 use Rattle.mon_unit.specs.declared.note.Note.{Note}
 use Rattle.mon_unit.specs.State.{UnitState}
@@ -26,7 +25,7 @@ use Rattle.mon_slots.specs.Loads.{first_units, with_ties}
 use Rattle.mon_slots.specs.Turns.{seat, told}
 use Rattle.mon_monitor.specs.Events.{Event}
 use Rattle.mon_monitor.specs.History.{Exchanged, Entry, Entered, Asked, end_entry, is_of, own}
-use Rattle.mon_monitor.specs.Headline.{job_in_cards, counted_turns, exchange, exchanges, Follow, spooled, noted, Course, GoesOn, IsJob, job_of}
+use Rattle.mon_monitor.specs.Headline.{job_in_cards, exchange, exchanges, Follow, spooled, noted, Course, GoesOn, IsJob, job_of}
 use Rattle.sno_talk.proofs.Told.{tells_then, begins_then, begins_first}
 use Rattle.mon_monitor.proofs.Exchanging.{Told, follow_both}
 use Rattle.mon_slots.proofs.Seating.{seat_changed, taken_seat}
@@ -110,19 +109,11 @@ pub statements_both : (x y : List Passed) → statements_in (x ++ y) ≡ stateme
 statements_both [] y = omega arith
 statements_both (m ∷ x) y = ap (with_statement m.asked) (statements_both x y) ∙ one_begun m.asked (statements_in x) (statements_in y)
 
-plain_turns : (k : ℕ) (job : Job) → plain (counted_turns k job) ≡ turns_of k job
-plain_turns zero job = refl
-plain_turns (suc k) job =
-    plain_then (counted_turns k job) (λ r. counted_turn r.1)
-    ∙ ap (λ (t : Asking (Step × Job)). t >>= (λ r. turn_of r.1)) (plain_turns k job)
-
 -- what is asked alone
 pub asked_alone : (k : ℕ) (first : Job) (r : Step × Job) (passed : List Passed) (x : List Exchange) → x ≡ requests_in passed → Tells (counted_turns k first) passed r
     → asking.Tells (turns_of k first) x r
 asked_alone k first r passed x is h =
-    subst (λ (t : Asking (Step × Job)). asking.Tells t x r) (plain_turns k first)
-    (subst (λ (l : List Exchange). asking.Tells (plain (counted_turns k first)) l r) (sym is)
-    (plain_told (counted_turns k first) passed r h))
+    subst (λ (l : List Exchange). asking.Tells (turns_of k first) l r) (sym is) (plain_told (counted_turns k first) passed r h)
 
 -- A JOB IN ITS SLOT
 

@@ -1,20 +1,18 @@
 -- What the history tells (own): a job's own entries are what its program means, each entry is answered as the data sets stand
 -- then, and what is granted, denied and printed follows. The law `history_tells` says it of all events. Which turns come when,
 -- and that what is asked in one turn stands together, is left to the definition of `history`.
-use Rattle.std.specs.Prelude.{◌≡◌, ◌≢◌, ◌⊎◌, ◌↔◌, ◌==◌, ℕ, zero, suc, List, [], ◌∷◌, ◌++◌, map, Option, Some, None, if◌then◌else◌}
+use Rattle.std.specs.Prelude.{◌≡◌, ◌≢◌, ◌⊎◌, ◌↔◌, ◌==◌, ℕ, suc, List, [], ◌∷◌, ◌++◌, map, Option, Some, None, if◌then◌else◌}
 use Rattle.std.specs.List.{AllByRecursion, flat_map}
-use Rattle.sno_talk.specs.Talks.{Ends, ◌>>=◌}
 use Rattle.sno_ask.specs.Asking.{Exchange}
 use Rattle.sno_ask.specs.Asking as asking
-use Rattle.sno_ask.specs.Counting.{Counted, Passed, Tells, Begins, requests_in, statements_in}
+use Rattle.sno_ask.specs.Counting.{Passed, Tells, Begins, requests_in, statements_in}
 use Rattle.sno_ask.specs.declared.request.Act.{Act}
 use Rattle.sno_ask.specs.declared.request.Act.TheVariants.{Read, Write, Endfile, Rewind}
 use Rattle.mon_answer.specs.declared.answer.Answer.{Answer}
 use Rattle.mon_answer.specs.declared.answer.Answer.TheVariants.{Done, Got, EndOfFile, Denied, Full}
 use Rattle.sno_run.specs.declared.ending.Ending.TheVariants.{Memory}
-use Rattle.sno_run.specs.declared.ending.Step.{Step}
 use Rattle.sno_run.specs.declared.ending.Step.TheVariants as step
-use Rattle.sno_run.specs.Jobs.{Job, counted_turn, turns_of, first_job}
+use Rattle.sno_run.specs.Jobs.{Job, counted_turns, turns_of, first_job}
 use Rattle.sno_cards.specs.Statements.{statements_of}
 use Rattle.sno_syntax.specs.Programs.{Program}
 use Rattle.mon_access.specs.declared.account.Account.{Account}
@@ -103,11 +101,6 @@ note_by EndOfFile e = []
 -- the notes of these exchanges
 abbrev pub noted : List Exchanged → List Note
 noted asked = flat_map (λ e. note_by e.answer e) asked
-
--- so many turns of a job, one after another, with the statements that begin
-abbrev pub counted_turns : ℕ → Job → Counted (Step × Job)
-counted_turns zero job = Ends (step.Goes, job)
-counted_turns (suc k) job = counted_turns k job >>= (λ r. counted_turn r.1)
 
 -- What passed of a job: it asked this, as many statements began as it ended with, and it came to its end; or it ended for want
 -- of memory (END MEMORY), at a beginning of all that would have passed.

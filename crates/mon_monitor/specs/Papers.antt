@@ -22,10 +22,6 @@ paper_text (OfRefused n account refusal) = refusal_text n account refusal
 abbrev pub papers_text : List Paper → List ℕ
 papers_text papers = flat_map paper_text papers
 
--- of the jobs that ended, in order
-abbrev pub of_ends : List JobEnd → List Paper
-of_ends ends = map OfJob ends
-
 -- of a job that was to be loaded
 abbrev pub of_load : JobDeck → Result ℕ LoadError → List Paper
 of_load deck (Ok slot) = []

@@ -10,7 +10,7 @@ use Rattle.mon_slots.specs.Loads.{loaded}
 use Rattle.mon_slots.specs.Floors.{floor}
 use Rattle.mon_monitor.specs.Worlds.{World, with_floor, with_sets}
 use Rattle.mon_monitor.specs.Events.{Event, Serve, Load, Give, Drain}
-use Rattle.mon_monitor.specs.Papers.{Paper, OfCommand, of_ends, of_load}
+use Rattle.mon_monitor.specs.Papers.{Paper, OfCommand, of_load, OfJob}
 
 -- the papers in order; what is left; and the marks that no turn took
 pub record Played : Type 0 where
@@ -18,15 +18,12 @@ pub record Played : Type 0 where
   pub after : World
   pub marks : Marks
 
-abbrev pub nothing_played : Marks → World → Played
-nothing_played m w = record { papers = []; after = w; marks = m }
-
 abbrev pub and_played : List Paper → Played → Played
 and_played papers p = record { papers = papers ++ p.papers; after = p.after; marks = p.marks }
 
 -- turns print what the jobs print that end in them
 abbrev pub of_turns : World → Past → Played
-of_turns w p = record { papers = of_ends (map (λ e. e.1) p.ends); after = with_floor w p.after; marks = p.marks }
+of_turns w p = record { papers = map OfJob (map (λ e. e.1) p.ends); after = with_floor w p.after; marks = p.marks }
 
 -- a job is loaded into the lowest free slot, or refused
 abbrev pub loading : JobDeck → World → Result ℕ LoadError × World
@@ -57,5 +54,5 @@ happened Drain m w = of_turns w (drain m w.floor)
 
 -- events in order
 abbrev pub played : List Event → Marks → World → Played
-played [] m w = nothing_played m w
+played [] m w = record { papers = []; after = w; marks = m }
 played (event ∷ events) m w = then_played (happened event m w) (played events)

@@ -8,11 +8,12 @@ use Rattle.mon_unit.specs.declared.tie.Tie.{Tie}
 use Rattle.mon_unit.specs.declared.units.UnitError.{UnitError}
 use Rattle.mon_unit.specs.declared.units.UnitError.TheVariants.{UnitRange, UnitTwice}
 use Rattle.mon_unit.specs.State.{UnitState}
-use Rattle.mon_unit.specs.Tying.{new_units, or_untied, is_a_set, tied_to, tie_refusal}
+use Rattle.mon_unit.specs.Tying.{new_units, is_a_set, tied_to, tie_refusal}
 use Rattle.mon_job.specs.declared.deck.UnitCard.{UnitCard}
 use Rattle.mon_slots.specs.Loads.{tied_by, ties_refusal}
 use Rattle.mon_slots.specs.inner.Carding.{refused_by, cards_refused}
 use Rattle.mon_slots.proofs.Seats.{map_set}
+use Rattle.mon_unit.proofs.Shorthand.{or_untied}
 
 abbrev pub is_tied : Tie → Bool
 is_tied tie = is_a_set tie.target

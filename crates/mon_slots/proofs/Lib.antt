@@ -1,8 +1,6 @@
 pub mod Seats
 pub mod Seating
 pub mod Begun
-pub mod Growing
-pub mod Tallying
 pub mod Past
 pub mod Rounding
 pub mod Giving

@@ -1,4 +1,5 @@
 pub mod Characters
+pub mod Beginnings
 pub mod Names
 pub mod Lines
 pub mod Feeding

@@ -22,9 +22,10 @@ use Rattle.mon_answer.specs.declared.answer.Answer.TheVariants.{Done, Denied}
 use Rattle.mon_unit.specs.declared.tie.Target.{Target}
 use Rattle.mon_unit.specs.declared.tie.Target.TheVariants.{Untied, Data, Spool, Set}
 use Rattle.mon_unit.specs.State.{UnitState}
-use Rattle.mon_unit.specs.Serving.{acted_at, set_at, looked, changed_at}
+use Rattle.mon_unit.specs.Serving.{acted_at, set_at, changed_at}
 use Rattle.mon_unit.specs.Laws.{AsksChange, AsksGuard, IsOfData, IsOfSpool, ChangedWhereGranted, DenialsSayWhy, target_of, position_of}
 use Rattle.mon_unit.proofs.Acting.{acted_cases, is_plain}
+use Rattle.mon_unit.proofs.Shorthand.{looked}
 
 module _ (account : Account) (units : UnitState) (sets : Sets) (p : ℕ) where
   -- what an act comes to at a unit that is tied so

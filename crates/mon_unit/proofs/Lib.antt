@@ -1,3 +1,4 @@
+pub mod Shorthand
 mod Ties
 mod Acting
 mod Exchanges

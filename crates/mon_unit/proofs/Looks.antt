@@ -22,11 +22,12 @@ use Rattle.mon_unit.specs.declared.tie.Tie.{Tie}
 use Rattle.mon_unit.specs.declared.note.NoteAct.{NoteAct}
 use Rattle.mon_unit.specs.declared.note.NoteTarget.{NoteTarget}
 use Rattle.mon_unit.specs.State.{UnitState}
-use Rattle.mon_unit.specs.Tying.{or_untied, tie_at}
-use Rattle.mon_unit.specs.Serving.{Reach, unit_of, note_act, note_target, acted_at, noted, moved, spooled, Effect, set_at, set_of, looked, changed_at, effect, serve}
+use Rattle.mon_unit.specs.Tying.{tie_at}
+use Rattle.mon_unit.specs.Serving.{Reach, unit_of, note_act, note_target, acted_at, noted, moved, spooled, Effect, set_at, set_of, changed_at, effect, serve}
 use Rattle.mon_unit.specs.Runs.{run, run_cut}
 use Rattle.mon_unit.specs.Laws.{targets, TiedTo, Same, LooksOnce, OneLook, OneChange, KeepsToTies}
 use Rattle.mon_unit.proofs.Runs.{run_keeps, run_cut_keeps}
+use Rattle.mon_unit.proofs.Shorthand.{or_untied, looked}
 
 -- a change of one set keeps what was the same, the other sets and the names
 changed_same : (name other : List ℕ) (f : DataSet → DataSet) (sets others : Sets) → Same other sets others

@@ -23,8 +23,9 @@ use Rattle.mon_unit.specs.declared.note.Why.{Why}
 use Rattle.mon_unit.specs.declared.note.Why.TheVariants as why
 use Rattle.mon_unit.specs.State.{UnitState}
 use Rattle.mon_unit.specs.Tying.{tie_at}
-use Rattle.mon_unit.specs.Serving.{Reach, unit_of, note_act, note_target, with_note, set_of, looked, serve}
+use Rattle.mon_unit.specs.Serving.{Reach, unit_of, note_act, note_target, with_note, set_of, serve}
 use Rattle.mon_unit.specs.Runs.{run, run_cut}
+use Rattle.std.specs.Option.{option_and_then}
 
 -- what the unit that is asked of is tied to, and its position
 abbrev pub target_of : UnitState → Request → Target
@@ -144,7 +145,8 @@ pub record LooksOnce (account : Account) (own : UnitState) (q : Request) (sets o
 
 abbrev pub OneLook : Type 0
 OneLook = (account : Account) (units : UnitState) (q : Request) (sets others : Sets)
-    → looked (set_of units q) sets ≡ looked (set_of units q) others → LooksOnce account units q sets others
+    → option_and_then (λ name. find_set name sets) (set_of units q) ≡ option_and_then (λ name. find_set name others) (set_of units q)
+    → LooksOnce account units q sets others
 
 abbrev pub OneChange : Type 0
 OneChange = (account : Account) (reach : Reach) (q : Request)

@@ -23,6 +23,7 @@ use Rattle.mon_unit.specs.declared.note.Why.TheVariants as why
 use Rattle.mon_unit.specs.declared.note.Note.{Note}
 use Rattle.mon_unit.specs.State.{UnitState}
 use Rattle.mon_unit.specs.Tying.{tie_at, with_tie}
+use Rattle.std.specs.Option.{option_and_then, option_map_or}
 
 -- what a job's requests reach: the data sets, and its own units
 pub record Reach : Type 0 where
@@ -43,10 +44,8 @@ note_act (Rewind u) = act.Rewind
 
 -- a note names the data set, or the unit where that is tied to none
 abbrev pub note_target : ℕ → Target → NoteTarget
-note_target u Untied = of.Unit u
-note_target u Data = of.Unit u
-note_target u Spool = of.Unit u
 note_target u (Set name) = of.Set name
+note_target u target = of.Unit u
 
 abbrev pub with_note : Note → UnitState → UnitState
 with_note note units = record units { notes = units.notes ++ note ∷ [] }
@@ -55,24 +54,16 @@ with_note note units = record units { notes = units.notes ++ note ∷ [] }
 abbrev pub noted : ℕ → NoteAct → NoteTarget → Answer → UnitState → UnitState
 noted statement act target (Denied reason) units = with_note (record { statement = statement; act = act; target = target; why = why.Denied reason }) units
 noted statement act target Full units = with_note (record { statement = statement; act = act; target = target; why = why.Full }) units
-noted statement act target Done units = units
-noted statement act target (Got line) units = units
-noted statement act target EndOfFile units = units
+noted statement act target answer units = units
 
 -- the unit's position, where it moves
 abbrev pub moved : ℕ → Option ℕ → UnitState → UnitState
-moved u None units = units
-moved u (Some position) units = with_tie u (record (tie_at units u) { position = position }) units
+moved u position units = option_map_or (λ p. with_tie u (record (tie_at units u) { position = p }) units) position units
 
 -- a line that is written to the spool is its last one
 abbrev pub spooled : Act → Target → UnitState → UnitState
 spooled (Write u line) Spool units = record units { spool = units.spool ++ line ∷ [] }
-spooled (Write u line) Untied units = units
-spooled (Write u line) Data units = units
-spooled (Write u line) (Set name) units = units
-spooled (Read u) target units = units
-spooled (Endfile u) target units = units
-spooled (Rewind u) target units = units
+spooled act target units = units
 
 -- back to the first record
 abbrev pub rewound : Acted
@@ -81,16 +72,14 @@ rewound = record { answer = Done; position = Some 0; change = None }
 -- the deck's data are read alone
 abbrev pub on_data : Act → ℕ → List (List ℕ) → Acted
 on_data (Read u) position deck = read_at position (slice_get deck position)
-on_data (Write u line) position deck = only_answered (Denied InStream)
-on_data (Endfile u) position deck = only_answered (Denied InStream)
 on_data (Rewind u) position deck = rewound
+on_data act position deck = only_answered (Denied InStream)
 
 -- the spool is written alone
 abbrev pub on_spool : Act → Acted
 on_spool (Read u) = only_answered (Denied SpoolUnit)
-on_spool (Write u line) = only_answered Done
 on_spool (Endfile u) = only_answered (Denied SpoolUnit)
-on_spool (Rewind u) = only_answered Done
+on_spool act = only_answered Done
 
 -- a data set is asked for by the guard; to go back it isn't looked up
 abbrev pub on_set : Account → Act → ℕ → Option DataSet → Acted
@@ -120,13 +109,10 @@ effect_of q target units acted = record {
   change = acted.change;
 }
 
--- by the tie of its unit
-abbrev pub by_tie : Account → UnitState → Request → Tie → Option DataSet → Effect
-by_tie account units q tie set = effect_of q tie.target units (acted_at account q.act units tie.position tie.target set)
-
--- what a request does, by the data set that it looks at
+-- what a request does, by the tie of its unit and by the data set that it looks at
 abbrev pub effect : Account → UnitState → Request → Option DataSet → Effect
-effect account units q set = by_tie account units q (tie_at units (unit_of q.act)) set
+effect account units q set =
+    let tie = tie_at units (unit_of q.act) in effect_of q tie.target units (acted_at account q.act units tie.position tie.target set)
 
 -- the one data set that a request looks at
 abbrev pub set_at : Act → Target → Option (List ℕ)
@@ -134,21 +120,14 @@ set_at act Untied = None
 set_at act Data = None
 set_at act Spool = None
 set_at (Rewind u) (Set name) = None
-set_at (Read u) (Set name) = Some name
-set_at (Write u line) (Set name) = Some name
-set_at (Endfile u) (Set name) = Some name
+set_at act (Set name) = Some name
 
 abbrev pub set_of : UnitState → Request → Option (List ℕ)
 set_of units q = set_at q.act (tie_at units (unit_of q.act)).target
 
-abbrev pub looked : Option (List ℕ) → Sets → Option DataSet
-looked None sets = None
-looked (Some name) sets = find_set name sets
-
 -- that data set alone is changed
 abbrev pub changed_at : Option (List ℕ) → Option Change → Sets → Sets
-changed_at None change sets = sets
-changed_at (Some name) change sets = changed name change sets
+changed_at name change sets = option_map_or (λ n. changed n change sets) name sets
 
 abbrev pub done_by : Option (List ℕ) → Effect → Sets → Answer × Reach
 done_by name e sets = (e.answer, record { sets = changed_at name e.change sets; units = e.units })
@@ -156,4 +135,4 @@ done_by name e sets = (e.answer, record { sets = changed_at name e.change sets; 
 -- AN EXCHANGE: the answer to an account's request, and what the requests reach then
 abbrev pub serve : Account → Reach → Request → Answer × Reach
 serve account reach q =
-    done_by (set_of reach.units q) (effect account reach.units q (looked (set_of reach.units q) reach.sets)) reach.sets
+    done_by (set_of reach.units q) (effect account reach.units q (option_and_then (λ name. find_set name reach.sets) (set_of reach.units q))) reach.sets

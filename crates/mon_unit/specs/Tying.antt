@@ -10,6 +10,7 @@ use Rattle.mon_unit.specs.declared.tie.Tie.{Tie}
 use Rattle.mon_unit.specs.declared.units.UnitError.{UnitError}
 use Rattle.mon_unit.specs.declared.units.UnitError.TheVariants.{UnitRange, UnitTwice}
 use Rattle.mon_unit.specs.State.{UnitState}
+use Rattle.std.specs.Option.{unwrap_or}
 
 abbrev pub tied_to : Target → Tie
 tied_to target = record { target = target; position = 0 }
@@ -24,19 +25,13 @@ first_tie u = tied_to (first_target u)
 abbrev pub new_units : List (List ℕ) → UnitState
 new_units deck = record { ties = map first_tie (range_with_len 0 100); deck = deck; spool = []; notes = [] }
 
-abbrev pub or_untied : Option Tie → Tie
-or_untied None = tied_to Untied
-or_untied (Some tie) = tie
-
 -- the tie of a unit
 abbrev pub tie_at : UnitState → ℕ → Tie
-tie_at units u = or_untied (slice_get units.ties u)
+tie_at units u = unwrap_or (slice_get units.ties u) (tied_to Untied)
 
 abbrev pub is_a_set : Target → Bool
-is_a_set Untied = false
-is_a_set Data = false
-is_a_set Spool = false
 is_a_set (Set name) = true
+is_a_set target = false
 
 -- why a unit can't be tied to a data set: there is no such unit, or else it is tied to one
 abbrev pub tie_refusal : ℕ → UnitState → Option UnitError

@@ -4,8 +4,9 @@ use Rattle.std.specs.List.{onto_first}
 use Rattle.std.proofs.lemmas.Bool.Decides.{nat_tests}
 use Rattle.sno_cards.specs.Texts.{Placed}
 use Rattle.sno_cards.specs.Cards.{is_semicolon}
-use Rattle.sno_cards.specs.Statements.{is_quote, literal_after, ends_statement, pieces}
+use Rattle.sno_cards.specs.Statements.{literal_after, ends_statement, pieces}
 use Rattle.sno_cards.specs.Laws.{is_whole, literal_at_end, IsCut, OneCut}
+use Rattle.mon_text.specs.Characters.{is_quote}
 
 semicolon_begins_none : (c : ℕ) → is_semicolon c ≡ true → literal_after None c ≡ None
 semicolon_begins_none c e = let no_quote : is_quote c ≡ false = grind (arith, nat_tests) in rw no_quote refl

@@ -1,3 +1,4 @@
+pub mod Shorthand
 pub mod Placing
 pub mod Finding
 pub mod Pieces

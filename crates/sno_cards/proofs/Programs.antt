@@ -5,7 +5,8 @@ use Rattle.std.proofs.lemmas.List.Folds.{find_at}
 use Rattle.sno_cards.specs.declared.refusal.SyntaxError.{SyntaxError}
 use Rattle.sno_cards.specs.declared.refusal.SyntaxCode.TheVariants.{NoEndLine}
 use Rattle.sno_cards.specs.Cards.{is_end_line}
-use Rattle.sno_cards.specs.Statements.{numbered, first_refusal, end_index, refused_card, program_ended_by, program_with, unless_refused, statements_of}
+use Rattle.sno_cards.specs.Statements.{numbered, first_refusal, end_index, refused_card, program_ended_by, statements_of}
+use Rattle.sno_cards.proofs.Shorthand.{program_with, unless_refused}
 
 -- with what is known of the cards before the END line, and of that line
 pub statements_by : (lines : List (List ℕ)) (refusal : Option SyntaxError) (end_line : Option (List ℕ))

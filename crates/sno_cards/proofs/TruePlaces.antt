@@ -10,8 +10,9 @@ use Rattle.sno_cards.specs.declared.refusal.SyntaxError.{SyntaxError}
 use Rattle.sno_cards.specs.Texts.{Placed}
 use Rattle.sno_cards.specs.Cards.{kind_by_mark, is_end_line, is_semicolon, ends_label, rest_of_end_line}
 use Rattle.sno_cards.specs.Programs.{ProgramText}
-use Rattle.sno_cards.specs.Statements.{Card, numbered, placed_on, without_mark, is_continuation_card, is_statement_card, continued, joined, literal_after, ends_statement, pieces, is_statement, statements_in, statements_on, end_index, first_refusal, program_ended_by, program_with, unless_refused}
+use Rattle.sno_cards.specs.Statements.{Card, numbered, placed_on, without_mark, is_continuation_card, is_statement_card, continued, joined, literal_after, ends_statement, pieces, is_statement, statements_in, statements_on, end_index, first_refusal, program_ended_by}
 use Rattle.sno_cards.specs.Laws.{as_read, character_at, StandsThere, PlacesAreTrue}
+use Rattle.sno_cards.proofs.Shorthand.{program_with, unless_refused}
 
 -- ONE CARD
 

@@ -11,6 +11,8 @@ use Rattle.sno_cards.specs.declared.refusal.SyntaxCode.TheVariants.{NoEndLine, N
 use Rattle.sno_cards.specs.Texts.{Placed, text_of}
 use Rattle.sno_cards.specs.Cards.{kind_of, is_start, is_continuation, is_end_line, is_semicolon, rest_of_end_line}
 use Rattle.sno_cards.specs.Programs.{ProgramText}
+use Rattle.mon_text.specs.Characters.{is_quote}
+use Rattle.std.specs.Option.{ok_or, option_map, option_map_or, option_or}
 
 -- CARDS AND THEIR CHARACTERS
 
@@ -61,9 +63,6 @@ joined (card ∷ cards) =
 
 -- STATEMENTS
 
-abbrev pub is_quote : ℕ → Bool
-is_quote c = c == 39 || c == 34
-
 -- which quote has begun a literal that is still open after a character
 abbrev pub literal_after : Option ℕ → ℕ → Option ℕ
 literal_after None c = if is_quote c then Some c else None
@@ -104,16 +103,11 @@ card_refusal begun kind = None
 abbrev pub refused_card : ℕ → SyntaxCode → SyntaxError
 refused_card number code = record { code = code; place = record { card = number; column = 1 } }
 
--- the first of two refusals
-abbrev pub refused_first : ℕ → Option SyntaxCode → Option SyntaxError → Option SyntaxError
-refused_first number (Some code) later = Some (refused_card number code)
-refused_first number None later = later
-
 -- the first refusal of a card before the END line
 abbrev pub first_refusal : Bool → List Card → Option SyntaxError
 first_refusal begun [] = None
 first_refusal begun (card ∷ cards) =
-    refused_first card.number (card_refusal begun (kind_of card.text)) (first_refusal (begun || is_start_card card) cards)
+    option_or (option_map (refused_card card.number) (card_refusal begun (kind_of card.text))) (first_refusal (begun || is_start_card card) cards)
 
 -- THE PROGRAM
 
@@ -129,16 +123,8 @@ program_ended_by end_line lines = record {
   data_from = end_index lines + 1;
 }
 
--- without an END line, the program is refused at the card after the last
-abbrev pub program_with : Option (List ℕ) → List (List ℕ) → Result ProgramText SyntaxError
-program_with None lines = Err (refused_card (length lines + 1) NoEndLine)
-program_with (Some end_line) lines = Ok (program_ended_by end_line lines)
-
-abbrev pub unless_refused : Option SyntaxError → Result ProgramText SyntaxError → Result ProgramText SyntaxError
-unless_refused None program = program
-unless_refused (Some refusal) program = Err refusal
-
--- the program that these lines are, or its first refusal
+-- the program that these lines are, or its first refusal; without an END line, it is refused at the card after the last
 abbrev pub statements_of : List (List ℕ) → Result ProgramText SyntaxError
 statements_of lines =
-    unless_refused (first_refusal false (numbered 1 (before_first is_end_line lines))) (program_with (find is_end_line lines) lines)
+    option_map_or Err (first_refusal false (numbered 1 (before_first is_end_line lines)))
+    (ok_or (option_map (λ end_line. program_ended_by end_line lines) (find is_end_line lines)) (refused_card (length lines + 1) NoEndLine))

@@ -1,8 +1,9 @@
 //! Statements: a line of them cut at each `;` outside literals, as its characters come.
 ghost use Rattle.std.specs.Prelude.{◌≡◌, ◌==◌, ◌||◌, ◌+◌, ◌<◌, ◌^◌, ◌++◌, ◌∷◌, [], length, filter, IfOk, OnOk};
 ghost use Rattle.mon_text.specs.Lines.{is_blank_line};
-ghost use Rattle.sno_cards.specs.Statements.{is_quote, literal_after, ends_statement, is_statement, placed_on};
+ghost use Rattle.sno_cards.specs.Statements.{literal_after, ends_statement, is_statement, placed_on};
 ghost use Rattle.sno_cards.specs.inner.Cuts.{cut_of, begun, ended, fed};
+ghost use Rattle.mon_text.specs.Characters.{is_quote};
 
 use crate::text::StatementText;
 use std::alloc::{AllocError, Global};

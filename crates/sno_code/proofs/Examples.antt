@@ -7,7 +7,7 @@ use Rattle.sno_text.specs.declared.fault.Fault.TheVariants as fault
 use Rattle.sno_expression.specs.declared.tree.BinaryOperator.TheVariants.{Plus, Over, Times, Power}
 use Rattle.sno_expression.specs.declared.tree.UnaryOperator.TheVariants as unary
 use Rattle.sno_expression.specs.Expressions.{Expression, Identifier, Constant, Call, Unary, Binary, NoArguments, Omitted}
-use Rattle.sno_statement.specs.Statements.{Statement, Says, Does, NoBody, ValueObject, NoObject, NoGoto, Always, OnFailure}
+use Rattle.sno_statement.specs.Statements.{Says, Does, NoBody, ValueObject, Always}
 use Rattle.sno_statement.specs.Statements as statement
 use Rattle.sno_value.specs.declared.value.Value.{Value}
 use Rattle.sno_value.specs.declared.value.Value.TheVariants.{Text, Integer}
@@ -16,8 +16,8 @@ use Rattle.sno_value.specs.Values.{null}
 use Rattle.sno_code.specs.declared.got.Halt.TheVariants.{Normal, StatementLimit, Fault}
 use Rattle.sno_code.specs.declared.got.Got.{Got}
 use Rattle.sno_code.specs.declared.got.Got.TheVariants.{Gives, Fails, Halts}
-use Rattle.sno_code.specs.Evaluation.{Setting, evaluate, name_of}
-use Rattle.sno_code.specs.Keeping.{Keeping, NoMatch, Undefined, Enters, setting_of}
+use Rattle.sno_code.specs.Evaluation.{evaluate, name_of}
+use Rattle.sno_code.specs.Keeping.{Setting, Keeping, NoMatch, Undefined, Enters, setting_of}
 use Rattle.sno_code.specs.Lines.{Lines, At, lines_of}
 use Rattle.sno_code.specs.Running.{Turned, Goes, Ended, turn}
 

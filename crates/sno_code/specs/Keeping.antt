@@ -6,7 +6,6 @@ use Rattle.sno_value.specs.declared.value.Value.{Value}
 use Rattle.sno_value.specs.declared.outcome.Outcome.{Outcome}
 use Rattle.sno_code.specs.declared.got.Halt.{Halt}
 use Rattle.sno_code.specs.declared.got.Got.{Got}
-use Rattle.sno_code.specs.Evaluation.{Setting}
 
 -- how a match ends: between two cursors, with the texts that variables are to have then
 pub data Matched : Type 0 where
@@ -43,6 +42,11 @@ pub record Keeping (Q R K : Type 0) : Type 0 where
   -- a function that the program did not define
   pub primitive : List ℕ → List Value → K → Talk Q R (Got × K)
 
+-- what an expression rests on: the state of the job, and what a call of a function with these values does
+pub record Setting (Q R K : Type 0) : Type 0 where
+  pub keeping : Keeping Q R K
+  pub called : List ℕ → List Value → K → Talk Q R (Got × K)
+
 -- expressions, where calls do this
 abbrev pub setting_of : {Q R K : Type 0} → Keeping Q R K → (List ℕ → List Value → K → Talk Q R (Got × K)) → Setting Q R K
-setting_of keeping called = record { used = keeping.used; keyword = keeping.keyword; called = called; most = keeping.most }
+setting_of keeping called = record { keeping = keeping; called = called }

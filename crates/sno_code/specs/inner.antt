@@ -1,5 +1,7 @@
 pub mod Code
+pub mod Acts
 pub mod Machine
+pub mod Moves
 pub mod Coding
 pub mod Laws
 pub mod Seen

@@ -1,7 +1,7 @@
 //! Laws of code. Each is the contract of a function that does nothing.
 ghost use Rattle.sno_code.specs.Laws.{CodeAloneMeansTree, CodeMeansName, CodeRunsAlike};
 ghost use Rattle.sno_code.specs.Limits.{LimitIsExact};
-ghost use Rattle.sno_code.specs.inner.Laws.{CodeMeansTree};
+ghost use Rattle.sno_code.specs.inner.Laws.{CodeMeansAct, CodeMeansTree};
 
 /// The code of an expression does what the expression means, whatever variables, keywords and functions do.
 pub fn code_alone_means_tree<Q, R, K>()
@@ -17,6 +17,11 @@ pub fn code_means_name<Q, R, K>()
 /// catches the failure.
 pub fn code_means_tree<Q, R, K>()
     ensures { CodeMeansTree Q R K }
+{}
+
+/// The code of what a statement does, does what the statement means, whatever calls do.
+pub fn code_means_act<Q, R, K>()
+    ensures { CodeMeansAct Q R K }
 {}
 
 /// A program in code does what its statements mean, with all calls of its functions, whatever keeps the state of a job.

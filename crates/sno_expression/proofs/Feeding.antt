@@ -36,12 +36,16 @@ apart_joins _ r m n rest j s = subst Apart (sym j.2) refl
 
 -- where more than one element is read, the operand is followed as anywhere
 on_whole : (alone : Bool) (st : Stack) (t : Expression) (b a : Bool) (k : TokenKind) (m : List Token) → closed alone st ≡ false
-    → answer alone (At st (Whole t)) (spaced b a k ∷ m) ≡ and_then (go_on st t b a k) (Read (result (At st (Whole t))) (spaced b a k ∷ m)) (λ v. answer alone v m)
-on_whole alone st t b a k m c = ap (λ (x : Bool). and_then (if x then None else go_on st t b a k) (Read (result (At st (Whole t))) (spaced b a k ∷ m)) (λ v. answer alone v m)) c
+    → answer alone (At st (Whole t)) (spaced b a k ∷ m) ≡ and_then (go_on st t b a k) (Read (result (At st (Whole t))) (spaced b a k ∷ m))
+    (λ v. answer alone v m)
+on_whole alone st t b a k m c = ap (λ (x : Bool). and_then (if x then None else go_on st t b a k)
+    (Read (result (At st (Whole t))) (spaced b a k ∷ m)) (λ v. answer alone v m)) c
 
 -- a blank between operands joins them
-blank_step : (alone : Bool) (st : Stack) (t : Expression) (a : Bool) (k : TokenKind) (n m : List Token) (v : State) → closed alone st ≡ false → n ≡ spaced true a k ∷ m
-    → go_on st t true a k ≡ Some v → begin st (After t Concatenation) a k ≡ Some v → answer alone (At st (Whole t)) n ≡ answer alone (At st (Due (After t Concatenation))) n
+blank_step : (alone : Bool) (st : Stack) (t : Expression) (a : Bool) (k : TokenKind) (n m : List Token) (v : State) → closed alone st ≡ false
+    → n ≡ spaced true a k ∷ m
+    → go_on st t true a k ≡ Some v → begin st (After t Concatenation) a k ≡ Some v
+    → answer alone (At st (Whole t)) n ≡ answer alone (At st (Due (After t Concatenation))) n
 blank_step alone st t a k n m v c s e f =
     ap (answer alone (At st (Whole t))) s
     ∙ (on_whole alone st t true a k m c
@@ -51,10 +55,14 @@ blank_step alone st t a k n m v c s e f =
 
 blank_joins : (r : Expression) (alone : Bool) (st : Stack) (t : Expression) (n rest : List Token) → closed alone st ≡ false → SpellsTo true r n rest
     → answer alone (At st (Whole t)) n ≡ answer alone (At st (Due (After t Concatenation))) n
-blank_joins (Identifier x) alone st t n rest c s = blank_step alone st t s.0 (token.Identifier x) n rest (At st (Named (After t Concatenation) x)) c s.1 refl refl
-blank_joins (Constant x) alone st t n rest c s = blank_step alone st t s.0 (token.Constant x) n rest (At st (Whole (fill (After t Concatenation) (Constant x)))) c s.1 refl refl
-blank_joins (Keyword x) alone st t n rest c s = blank_step alone st t false (token.Mark Ampersand) n (spaced false s.0 (token.Identifier x) ∷ rest) _ c s.1 refl refl
-blank_joins (Unevaluated x) alone st t n rest c s = blank_step alone st t false (token.Mark Star) n (spaced false s.0 (token.Identifier x) ∷ rest) _ c s.1 refl refl
+blank_joins (Identifier x) alone st t n rest c s = blank_step alone st t s.0 (token.Identifier x) n rest
+    (At st (Named (After t Concatenation) x)) c s.1 refl refl
+blank_joins (Constant x) alone st t n rest c s = blank_step alone st t s.0 (token.Constant x) n rest
+    (At st (Whole (fill (After t Concatenation) (Constant x)))) c s.1 refl refl
+blank_joins (Keyword x) alone st t n rest c s = blank_step alone st t false (token.Mark Ampersand) n
+    (spaced false s.0 (token.Identifier x) ∷ rest) _ c s.1 refl refl
+blank_joins (Unevaluated x) alone st t n rest c s = blank_step alone st t false (token.Mark Star) n
+    (spaced false s.0 (token.Identifier x) ∷ rest) _ c s.1 refl refl
 blank_joins (Group u) alone st t n rest c s = blank_step alone st t s.1 token.Open n s.0 _ c s.5 refl refl
 blank_joins (Call f args) alone st t n rest c s = blank_step alone st t s.1 (token.Identifier f) n (spaced false s.2 token.Open ∷ s.0) _ c s.5 refl refl
 blank_joins (Unary k u) alone st t n rest c s =
@@ -62,18 +70,22 @@ blank_joins (Unary k u) alone st t n rest c s =
     (ap (prefixed st (After t Concatenation)) s.2) (ap (prefixed st (After t Concatenation)) s.2)
 blank_joins (Binary o l r) alone st t n rest c s = blank_joins l alone st t n s.0 c s.2
 
-joins : (o : BinaryOperator) (r : Expression) (alone : Bool) (st : Stack) (t : Expression) (m n rest : List Token) → closed alone st ≡ false → Joins o m n → SpellsTo true r n rest
+joins : (o : BinaryOperator) (r : Expression) (alone : Bool) (st : Stack) (t : Expression) (m n rest : List Token) → closed alone st ≡ false
+    → Joins o m n → SpellsTo true r n rest
     → answer alone (At st (Whole t)) m ≡ answer alone (At st (Due (After t o))) n
 joins Concatenation r alone st t m n rest c j s = ap (answer alone (At st (Whole t))) j ∙ blank_joins r alone st t n rest c s
 joins _ r alone st t m n rest c j s =
     ap (answer alone (At st (Whole t))) j.2
     ∙ (on_whole alone st t true true (token.Mark j.0) n c
-    ∙ ap (λ (p : Option BinaryOperator). and_then (joined st t p) (Read (result (At st (Whole t))) (spaced true true (token.Mark j.0) ∷ n)) (λ v. answer alone v n)) j.1)
+    ∙ ap (λ (p : Option BinaryOperator). and_then (joined st t p) (Read (result (At st (Whole t))) (spaced true true (token.Mark j.0) ∷ n))
+    (λ v. answer alone v n)) j.1)
 
-named : (alone : Bool) (st : Stack) (h : Hole) (n : List ℕ) (rest : List Token) → Apart rest → answer alone (At st (Named h n)) rest ≡ answer alone (At st (Whole (fill h (Identifier n)))) rest
+named : (alone : Bool) (st : Stack) (h : Hole) (n : List ℕ) (rest : List Token) → Apart rest
+    → answer alone (At st (Named h n)) rest ≡ answer alone (At st (Whole (fill h (Identifier n)))) rest
 named alone st h n [] a = refl
 named alone st h n (t ∷ ts) a =
-    ap (λ (c : Bool). and_then (if c then Some (At (InCall n NoArguments h st) (Due Begin)) else after alone st (fill h (Identifier n)) t.blank_before t.blank_after t.kind)
+    ap (λ (c : Bool). and_then (if c then Some (At (InCall n NoArguments h st) (Due Begin)) else after alone st
+    (fill h (Identifier n)) t.blank_before t.blank_after t.kind)
     (Read (result (At st (Named h n))) (t ∷ ts)) (λ v. answer alone v ts)) a
 
 -- the blank that an operand may have there
@@ -97,7 +109,8 @@ fits_under : (b : Bool) (s : UnaryOperator) (h : Hole) → fits (Under s h) b �
 fits_under true s h f = sym f
 fits_under false s h f = refl
 
-due : (alone : Bool) (st : Stack) (h : Hole) (b a : Bool) (k : TokenKind) → Begins k → fits h b ≡ true → read alone (At st (Due h)) (spaced b a k) ≡ begin st h a k
+due : (alone : Bool) (st : Stack) (h : Hole) (b a : Bool) (k : TokenKind) → Begins k → fits h b ≡ true
+    → read alone (At st (Due h)) (spaced b a k) ≡ begin st h a k
 due alone st Begin b a k i f = firsts st a k i
 due alone st (After l o) b a k i f = ap (λ (c : Bool). if c then begin st (After l o) a k else None) f
 due alone st (Under s h) b a k i f = ap (λ (c : Bool). if c then None else begin st (Under s h) a k) (fits_under b s h f)
@@ -116,7 +129,8 @@ abbrev ApartAfter : Arguments → List Token → Type 0
 ApartAfter NoArguments ts = Unit {0}
 ApartAfter _ ts = Apart ts
 
-parted : (args : Arguments) (alone : Bool) (f : List ℕ) (h : Hole) (st : Stack) (m n : List Token) → Parts args m n → answer alone (past f h st args) m ≡ answer alone (At (InCall f args h st) (Due Begin)) n
+parted : (args : Arguments) (alone : Bool) (f : List ℕ) (h : Hole) (st : Stack) (m n : List Token) → Parts args m n
+    → answer alone (past f h st args) m ≡ answer alone (At (InCall f args h st) (Due Begin)) n
 parted NoArguments alone f h st m n p = ap (answer alone (At (InCall f NoArguments h st) (Due Begin))) p
 parted (Omitted args) alone f h st m n p = ap (answer alone (At (InCall f args h st) (Due Begin))) p.2
 parted (Argument args t) alone f h st m n p = ap (answer alone (At (InCall f args h st) (Whole t))) p.2
@@ -147,12 +161,16 @@ operand_suits true t i = i
 operand_suits false t i = tt
 
 mutual
-  pub feed : (t : Expression) (alone b : Bool) (ts rest : List Token) (h : Hole) (st : Stack) → HasLevels t → Suits (closed alone st) t → SpellsTo b t ts rest → fits h b ≡ true → Apart rest
+  pub feed : (t : Expression) (alone b : Bool) (ts rest : List Token) (h : Hole) (st : Stack) → HasLevels t → Suits (closed alone st) t
+      → SpellsTo b t ts rest → fits h b ≡ true → Apart rest
       → answer alone (At st (Due h)) ts ≡ answer alone (At st (Whole (settle h t))) rest
-  feed (Identifier n) alone b ts rest h st v u s f a = ap (answer alone (At st (Due h))) s.1 ∙ (due_answer alone st h b s.0 (token.Identifier n) rest tt f ∙ named alone st h n rest a)
+  feed (Identifier n) alone b ts rest h st v u s f a = ap (answer alone (At st (Due h))) s.1
+      ∙ (due_answer alone st h b s.0 (token.Identifier n) rest tt f ∙ named alone st h n rest a)
   feed (Constant c) alone b ts rest h st v u s f a = ap (answer alone (At st (Due h))) s.1 ∙ due_answer alone st h b s.0 (token.Constant c) rest tt f
-  feed (Keyword n) alone b ts rest h st v u s f a = ap (answer alone (At st (Due h))) s.1 ∙ due_answer alone st h b false (token.Mark Ampersand) (spaced false s.0 (token.Identifier n) ∷ rest) tt f
-  feed (Unevaluated n) alone b ts rest h st v u s f a = ap (answer alone (At st (Due h))) s.1 ∙ due_answer alone st h b false (token.Mark Star) (spaced false s.0 (token.Identifier n) ∷ rest) tt f
+  feed (Keyword n) alone b ts rest h st v u s f a = ap (answer alone (At st (Due h))) s.1
+      ∙ due_answer alone st h b false (token.Mark Ampersand) (spaced false s.0 (token.Identifier n) ∷ rest) tt f
+  feed (Unevaluated n) alone b ts rest h st v u s f a = ap (answer alone (At st (Due h))) s.1
+      ∙ due_answer alone st h b false (token.Mark Star) (spaced false s.0 (token.Identifier n) ∷ rest) tt f
   feed (Group t) alone b ts rest h st v u s f a =
       ap (answer alone (At st (Due h))) s.5
       ∙ (due_answer alone st h b s.1 token.Open s.0 tt f
@@ -204,10 +222,12 @@ not_on b a _ t e = absurd e
 stopped : (rest : List Token) (alone : Bool) (t : Expression) → Stops alone rest → answer alone (At Bottom (Whole t)) rest ≡ Read (Some t) rest
 stopped [] alone t e = refl
 stopped (u ∷ ts) true t e = refl
-stopped (u ∷ ts) false t e = ap (λ (o : Option State). and_then o (Read (Some t) (u ∷ ts)) (λ v. answer false v ts)) (not_on u.blank_before u.blank_after u.kind t e)
+stopped (u ∷ ts) false t e = ap (λ (o : Option State). and_then o (Read (Some t) (u ∷ ts)) (λ v. answer false v ts))
+    (not_on u.blank_before u.blank_after u.kind t e)
 
 -- what has levels and spells the tokens before the rest is read from them
-pub complete : (alone : Bool) (t : Expression) (b : Bool) (ts rest : List Token) → HasLevels t → Suits alone t → SpellsTo b t ts rest → Stops alone rest → reading alone ts ≡ Read (Some t) rest
+pub complete : (alone : Bool) (t : Expression) (b : Bool) (ts rest : List Token) → HasLevels t → Suits alone t → SpellsTo b t ts rest
+    → Stops alone rest → reading alone ts ≡ Read (Some t) rest
 complete alone t b ts rest v u s e =
     feed t alone b ts rest Begin Bottom v u s refl (apart_stops rest alone e)
     ∙ (ap (λ x. answer alone (At Bottom (Whole x)) rest) (settled t v) ∙ stopped rest alone t e)

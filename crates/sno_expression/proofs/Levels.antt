@@ -94,21 +94,26 @@ no_false false h = refl
 -- what goes left of an operator is no place for that operator to go under, and the other way round
 pub not_under : (i o : BinaryOperator) → binds_into_left i o ≡ true → binds_into_right o i ≡ false
 not_under i o h =
-    is_false (binds_into_right o i) (mp (binds_into_left i o) (no (binds_into_right o i)) (each_op (λ o. implies (binds_into_left i o) (no (binds_into_right o i))) (each_op (λ i. all0 (λ o. implies (binds_into_left i o) (no (binds_into_right o i)))) refl i) o) h)
+    is_false (binds_into_right o i) (mp (binds_into_left i o) (no (binds_into_right o i))
+    (each_op (λ o. implies (binds_into_left i o) (no (binds_into_right o i)))
+    (each_op (λ i. all0 (λ o. implies (binds_into_left i o) (no (binds_into_right o i)))) refl i) o) h)
 
 pub then_left : (i o : BinaryOperator) → binds_into_right o i ≡ false → binds_into_left i o ≡ true
 then_left i o h =
-    mp (no (binds_into_right o i)) (binds_into_left i o) (each_op (λ o. implies (no (binds_into_right o i)) (binds_into_left i o)) (each_op (λ i. all0 (λ o. implies (no (binds_into_right o i)) (binds_into_left i o))) refl i) o) (no_false (binds_into_right o i) h)
+    mp (no (binds_into_right o i)) (binds_into_left i o) (each_op (λ o. implies (no (binds_into_right o i)) (binds_into_left i o))
+    (each_op (λ i. all0 (λ o. implies (no (binds_into_right o i)) (binds_into_left i o))) refl i) o) (no_false (binds_into_right o i) h)
 
 pub under_both : (a b c : BinaryOperator) → binds_into_right a b ≡ true → binds_into_right b c ≡ true → binds_into_right a c ≡ true
 under_both a b c h k =
-    let T : BinaryOperator → BinaryOperator → BinaryOperator → Bool = λ a b c. implies (binds_into_right a b) (implies (binds_into_right b c) (binds_into_right a c)) in
+    let T : BinaryOperator → BinaryOperator → BinaryOperator → Bool =
+    λ a b c. implies (binds_into_right a b) (implies (binds_into_right b c) (binds_into_right a c)) in
     let e = each_op (λ c. T a b c) (each_op (λ b. all0 (λ c. T a b c)) (each_op (λ a. all0 (λ b. all0 (λ c. T a b c))) refl a) b) c in
     mp (binds_into_right b c) (binds_into_right a c) (mp (binds_into_right a b) (implies (binds_into_right b c) (binds_into_right a c)) e h) k
 
 pub left_under : (a b c : BinaryOperator) → binds_into_left a b ≡ true → binds_into_right b c ≡ true → binds_into_right a c ≡ true
 left_under a b c h k =
-    let T : BinaryOperator → BinaryOperator → BinaryOperator → Bool = λ a b c. implies (binds_into_left a b) (implies (binds_into_right b c) (binds_into_right a c)) in
+    let T : BinaryOperator → BinaryOperator → BinaryOperator → Bool =
+    λ a b c. implies (binds_into_left a b) (implies (binds_into_right b c) (binds_into_right a c)) in
     let e = each_op (λ c. T a b c) (each_op (λ b. all0 (λ c. T a b c)) (each_op (λ a. all0 (λ b. all0 (λ c. T a b c))) refl a) b) c in
     mp (binds_into_right b c) (binds_into_right a c) (mp (binds_into_left a b) (implies (binds_into_right b c) (binds_into_right a c)) e h) k
 
@@ -135,11 +140,13 @@ fits_inner : (c : Expression) (q p : BinaryOperator) → FitsLeft q c → binds_
 fits_inner (Binary i a b) q p f h = left_under i q p f h
 fits_inner _ q p f h = tt
 
-descend_operand : (b : Expression) (o p : BinaryOperator) (l a : Expression) → binds_into_right p o ≡ true → IsOperand b → HasLevels b → settle (After (Binary o l a) p) b ≡ Binary o l (settle (After a p) b)
+descend_operand : (b : Expression) (o p : BinaryOperator) (l a : Expression) → binds_into_right p o ≡ true → IsOperand b → HasLevels b
+    → settle (After (Binary o l a) p) b ≡ Binary o l (settle (After a p) b)
 descend_operand b o p l a h i v =
     operand_settles b (After (Binary o l a) p) i v ∙ (push_under p o b l a h ∙ ap (λ t. Binary o l t) (sym (operand_settles b (After a p) i v)))
 
-descend : (b : Expression) (o p : BinaryOperator) (l a : Expression) → binds_into_right p o ≡ true → HasLevels b → FitsRight p b → settle (After (Binary o l a) p) b ≡ Binary o l (settle (After a p) b)
+descend : (b : Expression) (o p : BinaryOperator) (l a : Expression) → binds_into_right p o ≡ true → HasLevels b → FitsRight p b
+    → settle (After (Binary o l a) p) b ≡ Binary o l (settle (After a p) b)
 descend (Binary q c d) o p l a h v f =
     ap (λ t. settle (After t q) d) (descend c o p l a h v.2 (fits_inner c q p v.0 f))
     ∙ descend d o q l (settle (After a p) c) (under_both q p o f h) v.3 v.1

@@ -60,12 +60,14 @@ abbrev pub LoneNext : Bool → Option State → Type 0
 LoneNext alone None = Unit {0}
 LoneNext alone (Some v) = Lone alone v
 
-prefixed_lone : (alone : Bool) (st : Stack) (h : Hole) (p : Option Prefix) → LoneStack alone st → LoneHole (closed alone st) h → LoneNext alone (prefixed st h p)
+prefixed_lone : (alone : Bool) (st : Stack) (h : Hole) (p : Option Prefix) → LoneStack alone st → LoneHole (closed alone st) h
+    → LoneNext alone (prefixed st h p)
 prefixed_lone alone st h None r q = tt
 prefixed_lone alone st h (Some (OfOperand s)) r q = (r, under_lone (closed alone st) s h q)
 prefixed_lone alone st h (Some (OfIdentifier w)) r q = (r, q)
 
-begin_lone : (alone : Bool) (st : Stack) (h : Hole) (a : Bool) (k : TokenKind) → LoneStack alone st → LoneHole (closed alone st) h → LoneNext alone (begin st h a k)
+begin_lone : (alone : Bool) (st : Stack) (h : Hole) (a : Bool) (k : TokenKind) → LoneStack alone st → LoneHole (closed alone st) h
+    → LoneNext alone (begin st h a k)
 begin_lone alone st h a (token.Identifier n) r q = (r, q)
 begin_lone alone st h a (token.Constant c) r q = (r, fill_suits (closed alone st) h (Constant c) q tt)
 begin_lone alone st h false (token.Mark m) r q = prefixed_lone alone st h (prefix_of m) r q
@@ -98,14 +100,17 @@ first_lone alone (InCall f args h st) a token.Close r = (r.1, fill_suits (closed
 first_lone alone (InCall f args h st) a token.Comma r = (r, tt)
 first_lone alone st a k r = begin_anew alone st a k r
 
-joined_lone : (alone : Bool) (st : Stack) (l : Expression) (o : Option BinaryOperator) → closed alone st ≡ false → LoneStack alone st → LoneNext alone (joined st l o)
+joined_lone : (alone : Bool) (st : Stack) (l : Expression) (o : Option BinaryOperator) → closed alone st ≡ false → LoneStack alone st
+    → LoneNext alone (joined st l o)
 joined_lone alone st l None e r = tt
 joined_lone alone st l (Some o) e r = (r, open_lone (closed alone st) (After l o) e)
 
-blank_lone : (alone : Bool) (st : Stack) (l : Expression) (a : Bool) (k : TokenKind) → closed alone st ≡ false → LoneStack alone st → LoneNext alone (begin st (After l Concatenation) a k)
+blank_lone : (alone : Bool) (st : Stack) (l : Expression) (a : Bool) (k : TokenKind) → closed alone st ≡ false → LoneStack alone st
+    → LoneNext alone (begin st (After l Concatenation) a k)
 blank_lone alone st l a k e r = begin_lone alone st (After l Concatenation) a k r (open_lone (closed alone st) (After l Concatenation) e)
 
-go_on_lone : (alone : Bool) (st : Stack) (l : Expression) (b a : Bool) (k : TokenKind) → closed alone st ≡ false → LoneStack alone st → LoneNext alone (go_on st l b a k)
+go_on_lone : (alone : Bool) (st : Stack) (l : Expression) (b a : Bool) (k : TokenKind) → closed alone st ≡ false → LoneStack alone st
+    → LoneNext alone (go_on st l b a k)
 go_on_lone alone st l b a token.Close e r = close_lone alone st l r
 go_on_lone alone st l b a token.Comma e r = comma_lone alone st l r
 go_on_lone alone st l true true (token.Mark m) e r = joined_lone alone st l (operator_of m) e r
@@ -123,7 +128,8 @@ prefix_operand : (w : IdentifierPrefix) (n : List ℕ) → IsOperand (with_prefi
 prefix_operand prefix.Keyword n = tt
 prefix_operand prefix.Unevaluated n = tt
 
-prefix_lone : (alone : Bool) (st : Stack) (h : Hole) (w : IdentifierPrefix) (b : Bool) (k : TokenKind) → LoneStack alone st → LoneHole (closed alone st) h → LoneNext alone (after_prefix st h w b k)
+prefix_lone : (alone : Bool) (st : Stack) (h : Hole) (w : IdentifierPrefix) (b : Bool) (k : TokenKind) → LoneStack alone st
+    → LoneHole (closed alone st) h → LoneNext alone (after_prefix st h w b k)
 prefix_lone alone st h w false (token.Identifier n) r q = (r, fill_suits (closed alone st) h (with_prefix w n) q (prefix_operand w n))
 prefix_lone alone st h w b k r q = tt
 

@@ -22,12 +22,15 @@ end_tree None r t e = cc
 end_tree (Some s) r t e = cc
 
 -- a token is read
-pub on_next : (alone : Bool) (s v : State) (t : Token) (ts m : List Token) (a : Reading) → ts ≡ t ∷ m → Next v ≡ stepped (read alone s t) (result s) → a ≡ answer alone s ts → a ≡ answer alone v m
+pub on_next : (alone : Bool) (s v : State) (t : Token) (ts m : List Token) (a : Reading) → ts ≡ t ∷ m → Next v ≡ stepped (read alone s t) (result s)
+    → a ≡ answer alone s ts → a ≡ answer alone v m
 on_next alone s v t ts m a d e h =
-    h ∙ (ap (answer alone s) d ∙ ap (λ (o : Option State). and_then o (Read (result s) (t ∷ m)) (λ r. answer alone r m)) (next_step (read alone s t) (result s) v e))
+    h ∙ (ap (answer alone s) d ∙ ap (λ (o : Option State). and_then o (Read (result s) (t ∷ m)) (λ r. answer alone r m))
+    (next_step (read alone s t) (result s) v e))
 
 -- a token is not taken
-pub on_end : (alone : Bool) (s : State) (u : Option Expression) (t : Token) (ts m : List Token) (a : Reading) → ts ≡ t ∷ m → End u ≡ stepped (read alone s t) (result s) → a ≡ answer alone s ts → Read u ts ≡ a
+pub on_end : (alone : Bool) (s : State) (u : Option Expression) (t : Token) (ts m : List Token) (a : Reading) → ts ≡ t ∷ m
+    → End u ≡ stepped (read alone s t) (result s) → a ≡ answer alone s ts → Read u ts ≡ a
 on_end alone s u t ts m a d e h =
     ap (λ (l : List Token). Read u l) d
     ∙ (ap (λ (o : Option Expression). Read o (t ∷ m)) (end_tree (read alone s t) (result s) u e)
@@ -35,7 +38,8 @@ on_end alone s u t ts m a d e h =
     ∙ (sym (ap (answer alone s) d) ∙ sym h)))
 
 -- there are no more tokens
-pub at_end : (alone : Bool) (s : State) (u : Option Expression) (ts rest : List Token) (a : Reading) → ts ≡ [] → rest ≡ [] → u ≡ result s → a ≡ answer alone s ts → Read u rest ≡ a
+pub at_end : (alone : Bool) (s : State) (u : Option Expression) (ts rest : List Token) (a : Reading) → ts ≡ [] → rest ≡ [] → u ≡ result s
+    → a ≡ answer alone s ts → Read u rest ≡ a
 at_end alone s u ts rest a d f e h =
     ap (λ (l : List Token). Read u l) f
     ∙ (ap (λ (o : Option Expression). Read o []) e

@@ -19,9 +19,11 @@ outward o p (pending.More' l q c rest) h a = under_both o p q h a
 through : (js : Pending) (o : BinaryOperator) (x t : Expression) → is_ordered js ≡ true → is_above o js ≡ true → push o x (spread js t) ≡ spread js (push o x t)
 through pending.End o x t d a = refl
 through (pending.More' l p c rest) o x t d a =
-    through rest o x (Binary p (expression_of l.value) t) (and_right (is_above p rest) (is_ordered rest) d) (outward o p rest a (and_left (is_above p rest) (is_ordered rest) d))
+    through rest o x (Binary p (expression_of l.value) t) (and_right (is_above p rest) (is_ordered rest) d)
+    (outward o p rest a (and_left (is_above p rest) (is_ordered rest) d))
     ∙ ap (spread rest) (push_under o p x (expression_of l.value) t a)
 
 -- where the operator may stand under the innermost one, and the last operand under it
-pub grown : (js : Pending) (o : BinaryOperator) (x t : Expression) → is_ordered js ≡ true → is_above o js ≡ true → FitsLeft o t → spread js (Binary o t x) ≡ push o x (spread js t)
+pub grown : (js : Pending) (o : BinaryOperator) (x t : Expression) → is_ordered js ≡ true → is_above o js ≡ true → FitsLeft o t
+    → spread js (Binary o t x) ≡ push o x (spread js t)
 grown js o x t d a f = sym (through js o x t d a ∙ ap (spread js) (push_here o x t f))

@@ -61,25 +61,30 @@ first_walks (InCall f args h st) a token.Close = refl
 first_walks (InCall f args h st) a token.Comma = refl
 first_walks (InCall f args h st) a k = begin_walks (InCall f args h st) Begin a k
 
-go_on_walks : (st : Stack) (l : Expression) (b a : Bool) (k : TokenKind) → walk_of (go_on st l b a k) ≡ moved (parens st) (walking.go_on (inner_of (parens st)) b a k)
+go_on_walks : (st : Stack) (l : Expression) (b a : Bool) (k : TokenKind)
+    → walk_of (go_on st l b a k) ≡ moved (parens st) (walking.go_on (inner_of (parens st)) b a k)
 go_on_walks st l b a token.Close = close_walks st l
 go_on_walks st l b a token.Comma = comma_walks st l
 go_on_walks st l true true (token.Mark m) = joined_walks st l (operator_of m)
 go_on_walks st l true a k = begin_walks st (After l Concatenation) a k
 go_on_walks st l false a k = refl
 
-none_or : (b : Bool) (ps : List Paren) (o : Option State) (m : Option Move) → walk_of o ≡ moved ps m → walk_of (if b then None else o) ≡ moved ps (if b then None else m)
+none_or : (b : Bool) (ps : List Paren) (o : Option State) (m : Option Move) → walk_of o ≡ moved ps m
+    → walk_of (if b then None else o) ≡ moved ps (if b then None else m)
 none_or true ps o m h = refl
 none_or false ps o m h = h
 
-or_none : (b : Bool) (ps : List Paren) (o : Option State) (m : Option Move) → walk_of o ≡ moved ps m → walk_of (if b then o else None) ≡ moved ps (if b then m else None)
+or_none : (b : Bool) (ps : List Paren) (o : Option State) (m : Option Move) → walk_of o ≡ moved ps m
+    → walk_of (if b then o else None) ≡ moved ps (if b then m else None)
 or_none true ps o m h = h
 or_none false ps o m h = refl
 
-after_walks : (alone : Bool) (st : Stack) (l : Expression) (b a : Bool) (k : TokenKind) → walk_of (after alone st l b a k) ≡ moved (parens st) (walking.after_operand alone (inner_of (parens st)) b a k)
+after_walks : (alone : Bool) (st : Stack) (l : Expression) (b a : Bool) (k : TokenKind)
+    → walk_of (after alone st l b a k) ≡ moved (parens st) (walking.after_operand alone (inner_of (parens st)) b a k)
 after_walks alone st l b a k = none_or (closed alone st) (parens st) (go_on st l b a k) (walking.go_on (inner_of (parens st)) b a k) (go_on_walks st l b a k)
 
-prefix_walks : (st : Stack) (h : Hole) (w : IdentifierPrefix) (b : Bool) (k : TokenKind) → walk_of (after_prefix st h w b k) ≡ moved (parens st) (walking.after_prefix b k)
+prefix_walks : (st : Stack) (h : Hole) (w : IdentifierPrefix) (b : Bool) (k : TokenKind)
+    → walk_of (after_prefix st h w b k) ≡ moved (parens st) (walking.after_prefix b k)
 prefix_walks st h w false (token.Identifier n) = refl
 prefix_walks st h w b k = refl
 
@@ -92,9 +97,11 @@ call_or false alone st h n b a k = after_walks alone st (fill h (Identifier n)) 
 pub read_walks : (alone : Bool) (s : State) (t : Token) → walk_of (read alone s t) ≡ take alone (walk s) t
 read_walks alone (At st (Due Begin)) t = first_walks st t.blank_after t.kind
 read_walks alone (At st (Due (After l o))) t =
-    or_none t.blank_before (parens st) (begin st (After l o) t.blank_after t.kind) (walking.begin (variable_due (After l o)) t.blank_after t.kind) (begin_walks st (After l o) t.blank_after t.kind)
+    or_none t.blank_before (parens st) (begin st (After l o) t.blank_after t.kind) (walking.begin (variable_due (After l o)) t.blank_after t.kind)
+    (begin_walks st (After l o) t.blank_after t.kind)
 read_walks alone (At st (Due (Under s h))) t =
-    none_or t.blank_before (parens st) (begin st (Under s h) t.blank_after t.kind) (walking.begin (variable_due (Under s h)) t.blank_after t.kind) (begin_walks st (Under s h) t.blank_after t.kind)
+    none_or t.blank_before (parens st) (begin st (Under s h) t.blank_after t.kind) (walking.begin (variable_due (Under s h)) t.blank_after t.kind)
+    (begin_walks st (Under s h) t.blank_after t.kind)
 read_walks alone (At st (Prefixed h w)) t = prefix_walks st h w t.blank_before t.kind
 read_walks alone (At st (Named h n)) t = call_or (opens_call t.blank_before t.kind) alone st h n t.blank_before t.blank_after t.kind
 read_walks alone (At st (Whole l)) t = after_walks alone st l t.blank_before t.blank_after t.kind

@@ -69,14 +69,11 @@ AreSome _ = Unit {0}
 
 abbrev mutual
   pub HasLevels : Expression → Type 0
-  HasLevels (Identifier n) = Unit {0}
-  HasLevels (Constant c) = Unit {0}
-  HasLevels (Keyword n) = Unit {0}
-  HasLevels (Unevaluated n) = Unit {0}
   HasLevels (Group t) = HasLevels t
   HasLevels (Call f args) = AreSome args × HaveLevels args
   HasLevels (Unary s t) = IsOperand t × HasLevels t
   HasLevels (Binary o l r) = FitsLeft o l × FitsRight o r × HasLevels l × HasLevels r
+  HasLevels _ = Unit {0}
 
   pub HaveLevels : Arguments → Type 0
   HaveLevels NoArguments = Unit {0}

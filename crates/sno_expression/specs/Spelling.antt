@@ -32,16 +32,18 @@ abbrev mutual
   SpellsTo b (Constant c) ts rest = (a : Bool) × (ts ≡ spaced b a (token.Constant c) ∷ rest)
   SpellsTo b (Keyword n) ts rest = (a : Bool) × (ts ≡ spaced b false (token.Mark Ampersand) ∷ spaced false a (token.Identifier n) ∷ rest)
   SpellsTo b (Unevaluated n) ts rest = (a : Bool) × (ts ≡ spaced b false (token.Mark Star) ∷ spaced false a (token.Identifier n) ∷ rest)
-  SpellsTo b (Group t) ts rest = (m : List Token) × (a : Bool) × (c : Bool) × (d : Bool) × (e : Bool) × (ts ≡ spaced b a token.Open ∷ m) × SpellsTo c t m (spaced d e token.Close ∷ rest)
+  SpellsTo b (Group t) ts rest = (m : List Token) × (a c d e : Bool) × (ts ≡ spaced b a token.Open ∷ m) × SpellsTo c t m (spaced d e token.Close ∷ rest)
   SpellsTo b (Call f args) ts rest =
-      (m : List Token) × (a : Bool) × (c : Bool) × (d : Bool) × (e : Bool) × (ts ≡ spaced b a (token.Identifier f) ∷ spaced false c token.Open ∷ m) × SpellTo args m (spaced d e token.Close ∷ rest)
-  SpellsTo b (Unary s t) ts rest = (m : List Token) × (k : Mark) × (prefix_of k ≡ Some (OfOperand s)) × (ts ≡ spaced b false (token.Mark k) ∷ m) × SpellsTo false t m rest
-  SpellsTo b (Binary o l r) ts rest = (m : List Token) × (n : List Token) × SpellsTo b l ts m × Joins o m n × SpellsTo true r n rest
+      (m : List Token) × (a c d e : Bool) × (ts ≡ spaced b a (token.Identifier f) ∷ spaced false c token.Open ∷ m)
+      × SpellTo args m (spaced d e token.Close ∷ rest)
+  SpellsTo b (Unary s t) ts rest = (m : List Token) × (k : Mark) × (prefix_of k ≡ Some (OfOperand s)) × (ts ≡ spaced b false (token.Mark k) ∷ m)
+      × SpellsTo false t m rest
+  SpellsTo b (Binary o l r) ts rest = (m n : List Token) × SpellsTo b l ts m × Joins o m n × SpellsTo true r n rest
 
   pub SpellTo : Arguments → List Token → List Token → Type 0
   SpellTo NoArguments ts rest = ts ≡ rest
   SpellTo (Omitted args) ts rest = (m : List Token) × SpellTo args ts m × Parts args m rest
-  SpellTo (Argument args t) ts rest = (m : List Token) × (n : List Token) × (b : Bool) × SpellTo args ts m × Parts args m n × SpellsTo b t n rest
+  SpellTo (Argument args t) ts rest = (m n : List Token) × (b : Bool) × SpellTo args ts m × Parts args m n × SpellsTo b t n rest
 
 abbrev pub Spells : Expression → List Token → Type 0
 Spells t ts = (b : Bool) × SpellsTo b t ts []

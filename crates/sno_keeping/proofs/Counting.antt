@@ -34,8 +34,8 @@ use Rattle.sno_store.specs.declared.keyword.Keyword.{Keyword}
 use Rattle.sno_store.specs.declared.keyword.Keyword.TheVariants.{Anchor, FullScan, Trim, StatementLimit, MaximumLength, StatementCount, StatementNumber, FunctionLevel}
 use Rattle.sno_store.specs.Levels.{Level}
 use Rattle.sno_store.specs.declared.store.Store.{Store as State}
-use Rattle.sno_store.specs.Variables as variables
-use Rattle.sno_store.specs.Variables.{Use, use_of, variable_of}
+use Rattle.sno_variables.specs.Variables as variables
+use Rattle.sno_variables.specs.Variables.{Use, use_of, variable_of}
 use Rattle.sno_store.specs.Keywords.{KeywordValues, keyword_named, with_keyword, with_statement_limit, with_maximum_length, is_settable}
 use Rattle.sno_store.specs.States.{with_value, with_keywords, with_keyword_set, function_of, may_begin, with_statement}
 use Rattle.sno_store.specs.Calls as calls

@@ -1,4 +1,5 @@
 pub mod Counting
+pub mod Tallying
 pub mod Ending
 pub mod Loans
 pub mod Writing

@@ -17,8 +17,8 @@ use Rattle.sno_prototype.specs.Formats.{records}
 use Rattle.sno_prototype.specs.declared.association.Input.{Input}
 use Rattle.sno_prototype.specs.declared.association.Output.{Output}
 use Rattle.sno_store.specs.declared.store.Store.{Store as State}
-use Rattle.sno_store.specs.Variables as variables
-use Rattle.sno_store.specs.Variables.{Use, use_of, variable_of}
+use Rattle.sno_variables.specs.Variables as variables
+use Rattle.sno_variables.specs.Variables.{Use, use_of, variable_of}
 use Rattle.sno_store.specs.States.{with_value, kept_of}
 use Rattle.sno_keeping.specs.Asking.{request, if_done}
 

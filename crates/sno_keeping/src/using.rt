@@ -6,7 +6,7 @@ ghost use Rattle.sno_value.specs.declared.value.Value.TheVariants as value;
 ghost use Rattle.sno_ask.specs.Asking.{Held, Runs};
 ghost use Rattle.sno_ask.specs.declared.request.Act.TheVariants.{Write as Writing};
 ghost use Rattle.sno_prototype.specs.Formats.{records};
-ghost use Rattle.sno_store.specs.Variables.{Reads};
+ghost use Rattle.sno_variables.specs.Variables.{Reads};
 ghost use Rattle.sno_store.specs.States.{kept_of};
 ghost use Rattle.sno_keeping.specs.Asking.{request};
 ghost use Rattle.sno_keeping.specs.Using.{stored, used_by, used, write_all, write_text, assigned};

@@ -7,14 +7,14 @@ use Rattle.sno_lexer.specs.declared.begin.Class.TheVariants.{Identifier, Label, 
 use Rattle.sno_lexer.specs.declared.begin.Context.{Context}
 use Rattle.sno_lexer.specs.inner.Classes.{at_goto, is_one_too_many, is_opening, kind_of}
 use Rattle.sno_lexer.specs.inner.Lexing.{after, depth_after, is_colon, start}
-use Rattle.sno_lexer.specs.Following.{goto_of, in_goto, is_label_due, is_outcome_due, is_too_many, open_after, open_with}
+use Rattle.sno_lexer.specs.Following.{since_colon, in_goto, is_label_due, is_outcome_due, is_too_many, open_after, open_with}
 use Rattle.sno_lexer.specs.Following as told
 
 pub record Knows (s : Context) (before : List TokenKind) : Type 0 where
   pub tokens : s.tokens ≡ length before
   pub depth : s.depth ≡ open_after before
   pub goto : s.in_goto ≡ in_goto before
-  pub inside : s.inside ≡ open_after (goto_of before)
+  pub inside : s.inside ≡ open_after (since_colon before)
   pub target : s.at_target ≡ is_label_due before
 
 pub at_start : Knows start []
@@ -36,7 +36,7 @@ depth_is n Equals text = refl
 depth_is n Colon text = refl
 depth_is n (On outcome) text = refl
 
-colon_is : (class : Class) (text : List ℕ) → is_colon class ≡ told.is_colon (kind_of class text)
+colon_is : (class : Class) (text : List ℕ) → is_colon class ≡ told.begins_goto (kind_of class text)
 colon_is Identifier text = refl
 colon_is Label text = refl
 colon_is (Integer value) text = refl
@@ -69,15 +69,16 @@ inside_is true n m k behind e = e
 inside_is false n m k behind e = refl
 
 -- after one more token
-pub knows_after : (s : Context) (before : List TokenKind) (class : Class) (text held : List ℕ) → Knows s before → Knows (after s class text) (kind_of class held ∷ before)
+pub knows_after : (s : Context) (before : List TokenKind) (class : Class) (text held : List ℕ) → Knows s before
+    → Knows (after s class text) (kind_of class held ∷ before)
 knows_after s before class text held k = record {
   tokens = let t = k.tokens in omega (arith, t);
   depth = ap (λ (n : ℕ). depth_after n class) k.depth ∙ depth_is (open_after before) class held;
   goto = ap (λ (b : Bool). is_colon class || b) k.goto ∙ ap (λ (b : Bool). b || in_goto before) (colon_is class held);
   inside =
       ap (λ (b : Bool). if b then depth_after s.inside class else 0) k.goto
-      ∙ inside_is (in_goto before) 0 (depth_after s.inside class) (kind_of class held) (goto_of before)
-      (ap (λ (n : ℕ). depth_after n class) k.inside ∙ depth_is (open_after (goto_of before)) class held);
+      ∙ inside_is (in_goto before) 0 (depth_after s.inside class) (kind_of class held) (since_colon before)
+      (ap (λ (n : ℕ). depth_after n class) k.inside ∙ depth_is (open_after (since_colon before)) class held);
   target = target_is class held before (at_goto s) (outcome_due s before k);
 }
 

@@ -41,13 +41,15 @@ assignment = refl
 
 -- `**` is one token, and `***` two; a unary mark touches what follows
 stars : lexed (codes "A ** B***-C") 0 ≡ found
-    (apart (Identifier (codes "A")) ∷ apart (Mark Power) ∷ before (Identifier (codes "B")) ∷ close (Mark Power) ∷ close (Mark Star) ∷ close (Mark Minus) ∷ behind (Identifier (codes "C")) ∷ [])
+    (apart (Identifier (codes "A")) ∷ apart (Mark Power) ∷ before (Identifier (codes "B")) ∷ close (Mark Power) ∷ close (Mark Star)
+    ∷ close (Mark Minus) ∷ behind (Identifier (codes "C")) ∷ [])
     (0 ∷ 2 ∷ 5 ∷ 6 ∷ 8 ∷ 9 ∷ 10 ∷ [])
 stars = refl
 
 -- integers have leading zeros or not, and a quote stands in a literal of the other quote
 constants : lexed (codes "007 \"it's\" 1X") 0 ≡ found
-    (apart (Constant (Integer (pos 7))) ∷ apart (Constant (Literal (codes "it's"))) ∷ before (Constant (Integer (pos 1))) ∷ behind (Identifier (codes "X")) ∷ []) (0 ∷ 4 ∷ 11 ∷ 12 ∷ [])
+    (apart (Constant (Integer (pos 7))) ∷ apart (Constant (Literal (codes "it's"))) ∷ before (Constant (Integer (pos 1)))
+    ∷ behind (Identifier (codes "X")) ∷ []) (0 ∷ 4 ∷ 11 ∷ 12 ∷ [])
 constants = refl
 
 -- the outcomes and labels of a goto: a label may hold any character but a blank and `)`; `S` is an outcome in a goto alone
@@ -59,7 +61,8 @@ goto = refl
 
 -- a computed target has ordinary tokens, also where one stands after its first parenthesis; SF is an identifier
 computed : lexed (codes ":SF($(S 'A'))") 0 ≡ found
-    (before (Part Colon) ∷ close (Identifier (codes "SF")) ∷ close Open ∷ close (Mark Dollar) ∷ close Open ∷ behind (Identifier (codes "S")) ∷ before (Constant (Literal (codes "A")))
+    (before (Part Colon) ∷ close (Identifier (codes "SF")) ∷ close Open ∷ close (Mark Dollar) ∷ close Open ∷ behind (Identifier (codes "S"))
+    ∷ before (Constant (Literal (codes "A")))
     ∷ close Close ∷ behind Close ∷ [])
     (0 ∷ 1 ∷ 3 ∷ 4 ∷ 5 ∷ 6 ∷ 8 ∷ 11 ∷ 12 ∷ [])
 computed = refl

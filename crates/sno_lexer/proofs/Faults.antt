@@ -5,7 +5,7 @@ use Rattle.std.specs.List.{list_all, list_any}
 use Rattle.std.proofs.lemmas.List.{take-append-drop}
 use Rattle.std.proofs.lemmas.Bool.Decides.{nat_tests}
 use mathlib.Core.Logic.{inl, inr}
-use Rattle.mon_text.specs.Characters.{is_blank, is_digit, is_letter, is_printable}
+use Rattle.mon_text.specs.Characters.{is_blank, is_digit, is_letter, is_printable, is_quote, is_letter_or_digit}
 use Rattle.mon_text.specs.Counts.{value_of}
 use Rattle.mon_text.specs.Lines.{is_line}
 use Rattle.sno_token.specs.declared.TokenKind.{TokenKind}
@@ -17,7 +17,6 @@ use Rattle.sno_lexer.specs.declared.begin.Context.{Context}
 use Rattle.sno_lexer.specs.declared.fault.FaultKind.{FaultKind}
 use Rattle.sno_lexer.specs.declared.fault.FaultKind.TheVariants.{BadConstant, Foreign, TooMany}
 use Rattle.sno_lexer.specs.inner.Classes.{class_of, class_of_quote, class_of_sign, class_of_value, class_of_word, found, further, is_one_too_many, kind_of, let_in, let_in_if_good, run_in, star, text_of}
-use Rattle.sno_lexer.specs.Written.{is_letter_or_digit, is_quote}
 use Rattle.sno_lexer.specs.Following.{IsFault, fault_of, is_label_due, is_too_many}
 use Rattle.sno_lexer.proofs.Contexts.{Knows, limits_are}
 use Rattle.sno_lexer.proofs.Words.{IsSmall, Whole, all_of_run, class_whole, digit_not_due, integer_stands}
@@ -76,7 +75,8 @@ let_in_is s before class c cs k small =
 split : (f c : ℕ) (cs : List ℕ) → c ∷ cs ≡ (c ∷ take f cs) ++ drop f cs
 split f c cs = ap (λ (x : List ℕ). c ∷ x) (sym (take-append-drop f cs))
 
-value_fault : (before : List TokenKind) (c : ℕ) (cs : List ℕ) (n : ℕ) (b : Bool) (fault : FaultKind) → nat_lt n (2 ^ 63) ≡ b → is_digit c ≡ true → is_label_due before ≡ false
+value_fault : (before : List TokenKind) (c : ℕ) (cs : List ℕ) (n : ℕ) (b : Bool) (fault : FaultKind) → nat_lt n (2 ^ 63) ≡ b → is_digit c ≡ true
+    → is_label_due before ≡ false
     → n ≡ value_of (run_in InInteger (c ∷ cs)) → (if b then Ok (Integer (pos n)) else Err BadConstant) ≡ Err fault → IsFault before fault (c ∷ cs)
 value_fault before c cs n true fault small d due v e = cc
 value_fault before c cs n false fault small d due v e =
@@ -123,7 +123,8 @@ none_begins : (c : ℕ) (signs : Bool) → is_blank c ≡ false → is_letter c 
     → (is_blank c || (is_letter c || is_digit c || is_quote c || signs)) ≡ false
 none_begins c signs b l d q e = rw (b, l, d, q, e) refl
 
-fault_at : (s : Context) (before : List TokenKind) (c : ℕ) (cs : List ℕ) (fault : FaultKind) (target letter digit quote : Bool) → Knows s before → is_blank c ≡ false
+fault_at : (s : Context) (before : List TokenKind) (c : ℕ) (cs : List ℕ) (fault : FaultKind) (target letter digit quote : Bool) → Knows s before
+    → is_blank c ≡ false
     → (s.at_target && is_letter_or_digit c) ≡ target → is_letter c ≡ letter → is_digit c ≡ digit → is_quote c ≡ quote
     → (if target then Ok Label
     else if letter then Ok (class_of_word s (run_in InIdentifier (c ∷ cs)))
@@ -134,7 +135,8 @@ fault_at : (s : Context) (before : List TokenKind) (c : ℕ) (cs : List ℕ) (fa
 fault_at s before c cs fault true letter digit quote k b t l d q e = cc
 fault_at s before c cs fault false true digit quote k b t l d q e = cc
 fault_at s before c cs fault false false true quote k b t l d q e =
-    value_fault before c cs (value_of (run_in InInteger (c ∷ cs))) (nat_lt (value_of (run_in InInteger (c ∷ cs))) (2 ^ 63)) fault refl d (digit_not_due s before c k t d) refl e
+    value_fault before c cs (value_of (run_in InInteger (c ∷ cs))) (nat_lt (value_of (run_in InInteger (c ∷ cs))) (2 ^ 63)) fault refl d
+    (digit_not_due s before c k t d) refl e
 fault_at s before c cs fault false false false true k b t l d q e = quote_fault before c cs fault (list_any (λ d. d == c) cs) q refl e
 fault_at s before c cs fault false false false false k b t l d q e =
     let f = sign_fault c cs fault e in
@@ -163,17 +165,27 @@ taken_at s before c cs class (Ok found) k r e =
     let g = good_is found class _ (sym (let_in_is s before found c cs k w.2) ∙ e) in
     subst (λ (x : Class). IsTaken before x c cs) g.0 (w, g.1)
 
-pub found_taken : (s : Context) (before : List TokenKind) (c : ℕ) (cs : List ℕ) (class : Class) → Knows s before → found s (c ∷ cs) ≡ Ok class → IsTaken before class c cs
+pub found_taken : (s : Context) (before : List TokenKind) (c : ℕ) (cs : List ℕ) (class : Class) → Knows s before → found s (c ∷ cs) ≡ Ok class
+    → IsTaken before class c cs
 found_taken s before c cs class k e = taken_at s before c cs class (class_of s (c ∷ cs)) k refl e
 
-refused_at : (s : Context) (before : List TokenKind) (c : ℕ) (cs : List ℕ) (fault : FaultKind) (r : Result Class FaultKind) → Knows s before → is_blank c ≡ false → class_of s (c ∷ cs) ≡ r
+refused_at : (s : Context) (before : List TokenKind) (c : ℕ) (cs : List ℕ) (fault : FaultKind) (r : Result Class FaultKind) → Knows s before
+    → is_blank c ≡ false → class_of s (c ∷ cs) ≡ r
     → let_in_if_good s (c ∷ cs) r ≡ Err fault → IsFault before fault (c ∷ cs)
 refused_at s before c cs fault (Err other) k b r e =
     fault_at s before c cs fault (s.at_target && is_letter_or_digit c) (is_letter c) (is_digit c) (is_quote c) k b refl refl refl refl (r ∙ e)
 refused_at s before c cs fault (Ok found) k b r e =
     let w = class_whole s before c cs found k r in
     let f = further found (c ∷ cs) in
-    inl (kind_of found (text_of found (c ∷ cs)), c ∷ take f cs, drop f cs, split f c cs, w.1, bad_is found fault _ (sym (let_in_is s before found c cs k w.2) ∙ e))
+    inl (
+      kind_of found (text_of found (c ∷ cs)),
+      c ∷ take f cs,
+      drop f cs,
+      split f c cs,
+      w.1,
+      bad_is found fault _
+          (sym (let_in_is s before found c cs k w.2) ∙ e),
+    )
 
 pub found_refused : (s : Context) (before : List TokenKind) (c : ℕ) (cs : List ℕ) (fault : FaultKind) → Knows s before → is_blank c ≡ false
     → found s (c ∷ cs) ≡ Err fault → IsFault before fault (c ∷ cs)

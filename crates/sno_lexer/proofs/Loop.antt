@@ -30,7 +30,8 @@ let_in_fits s k class true b d e = cc
 let_in_fits s k class false true d e = cc
 let_in_fits s k class false false d e = let h : k ≡ class = cc in subst (λ (x : Class). is_one_too_many s x ≡ false) h d
 
-found_fits : (s : Context) (text : List ℕ) (class : Class) (r : Result Class FaultKind) → taken (let_in_if_good s text r) ≡ Take class → is_one_too_many s class ≡ false
+found_fits : (s : Context) (text : List ℕ) (class : Class) (r : Result Class FaultKind) → taken (let_in_if_good s text r) ≡ Take class
+    → is_one_too_many s class ≡ false
 found_fits s text class (Err fault) e = cc
 found_fits s text class (Ok k) e = let_in_fits s k class (not (is_line (text_of k text))) (is_one_too_many s k) refl e
 
@@ -51,7 +52,8 @@ let_in_line s text k class false b d e = cc
 let_in_line s text k class true true d e = cc
 let_in_line s text k class true false d e = let h : k ≡ class = cc in subst (λ (x : Class). is_line (text_of x text) ≡ true) h d
 
-found_line : (s : Context) (text : List ℕ) (class : Class) (r : Result Class FaultKind) → taken (let_in_if_good s text r) ≡ Take class → is_line (text_of class text) ≡ true
+found_line : (s : Context) (text : List ℕ) (class : Class) (r : Result Class FaultKind) → taken (let_in_if_good s text r) ≡ Take class
+    → is_line (text_of class text) ≡ true
 found_line s text class (Err fault) e = cc
 found_line s text class (Ok k) e = let_in_line s text k class (is_line (text_of k text)) (is_one_too_many s k) refl e
 
@@ -92,8 +94,10 @@ within_after s class text h e = record {
 
 step_within : (s v : Context) (a b : Bool) (r : Result Class FaultKind) → IsWithin s
     → (if a then Pass (record s { skip = s.skip - 1 }) else if b then Pass (record s { after_blank = true }) else taken r) ≡ Pass v → IsWithin v
-step_within s v true b r h e = let d : record s { skip = s.skip - 1 } ≡ v = cc in subst IsWithin d (record { tokens = h.tokens; depth = h.depth; inside = h.inside })
-step_within s v false true r h e = let d : record s { after_blank = true } ≡ v = cc in subst IsWithin d (record { tokens = h.tokens; depth = h.depth; inside = h.inside })
+step_within s v true b r h e = let d : record s { skip = s.skip - 1 } ≡ v = cc in
+    subst IsWithin d (record { tokens = h.tokens; depth = h.depth; inside = h.inside })
+step_within s v false true r h e = let d : record s { after_blank = true } ≡ v = cc in
+    subst IsWithin d (record { tokens = h.tokens; depth = h.depth; inside = h.inside })
 step_within s v false false (Ok class) h e = cc
 step_within s v false false (Err fault) h e = cc
 
@@ -129,7 +133,8 @@ on_take s at c text rest class tokens offsets all d e h =
     sym (joined_first tokens offsets (token_of s class text) at (stage (after s class text) (at + 1) rest))
     ∙ (ap (joined tokens offsets) (sym (on_turn s at c text rest (Take class) d e)) ∙ h)
 
-pub on_taken : (s v : Context) (at c : ℕ) (text rest : List ℕ) (class : Class) (token : Token) (tokens tokens' : List Token) (offsets offsets' : List ℕ) (all : Result TokenList LexFault)
+pub on_taken : (s v : Context) (at c : ℕ) (text rest : List ℕ) (class : Class) (token : Token) (tokens tokens' : List Token)
+    (offsets offsets' : List ℕ) (all : Result TokenList LexFault)
     → text ≡ c ∷ rest → step s text ≡ Take class → joined tokens offsets (stage s at text) ≡ all
     → token ≡ token_of s class text → tokens' ≡ tokens ++ token ∷ [] → offsets' ≡ offsets ++ at ∷ [] → v ≡ after s class text
     → joined tokens' offsets' (stage v (at + 1) rest) ≡ all
@@ -142,7 +147,8 @@ pub as_many_taken : (at : ℕ) (token : Token) (tokens tokens' : List Token) (of
 as_many_taken at token tokens tokens' offsets offsets' h e1 e2 = rw (e1, e2) (simp length-append (omega arith))
 
 -- the context after a token, by how many characters follow its first
-pub after_is : (s : Context) (class : Class) (text : List ℕ) (more : ℕ) → more ≡ further class text → record (after s class []) { skip = more } ≡ after s class text
+pub after_is : (s : Context) (class : Class) (text : List ℕ) (more : ℕ) → more ≡ further class text
+    → record (after s class []) { skip = more } ≡ after s class text
 after_is s class text more e = ap (λ (n : ℕ). record (after s class []) { skip = n }) e
 
 pub on_refuse : (s : Context) (at c : ℕ) (text rest : List ℕ) (class : FaultKind) (tokens : List Token) (offsets : List ℕ) (all : Result TokenList LexFault)
@@ -212,14 +218,18 @@ counted_fault (Err other) fault e = cc
 
 -- what is done inside a token, at a blank, and at another character
 pub inside_token : (s : Context) (text : List ℕ) → nat_lt 0 s.skip ≡ true → step s text ≡ Pass (record s { skip = s.skip - 1 })
-inside_token s text e = ap (λ (b : Bool). if b then Pass (record s { skip = s.skip - 1 }) else if begins_with 32 text then Pass (record s { after_blank = true }) else taken (found s text)) e
+inside_token s text e = ap (λ (b : Bool). if b then Pass (record s { skip = s.skip - 1 }) else if begins_with 32 text then Pass
+    (record s { after_blank = true }) else taken (found s text)) e
 
 pub at_blank : (s : Context) (text : List ℕ) → nat_lt 0 s.skip ≡ false → begins_with 32 text ≡ true → step s text ≡ Pass (record s { after_blank = true })
 at_blank s text e b =
-    ap (λ (a : Bool). if a then Pass (record s { skip = s.skip - 1 }) else if begins_with 32 text then Pass (record s { after_blank = true }) else taken (found s text)) e
+    ap (λ (a : Bool). if a then Pass (record s { skip = s.skip - 1 }) else if begins_with 32 text then Pass
+    (record s { after_blank = true }) else taken (found s text)) e
     ∙ ap (λ (a : Bool). if a then Pass (record s { after_blank = true }) else taken (found s text)) b
 
-pub at_other : (s : Context) (text : List ℕ) (r : Result Class FaultKind) → nat_lt 0 s.skip ≡ false → begins_with 32 text ≡ false → r ≡ found s text → step s text ≡ taken r
+pub at_other : (s : Context) (text : List ℕ) (r : Result Class FaultKind) → nat_lt 0 s.skip ≡ false → begins_with 32 text ≡ false → r ≡ found s text
+    → step s text ≡ taken r
 at_other s text r e b f =
-    ap (λ (a : Bool). if a then Pass (record s { skip = s.skip - 1 }) else if begins_with 32 text then Pass (record s { after_blank = true }) else taken (found s text)) e
+    ap (λ (a : Bool). if a then Pass (record s { skip = s.skip - 1 }) else if begins_with 32 text then Pass
+    (record s { after_blank = true }) else taken (found s text)) e
     ∙ (ap (λ (a : Bool). if a then Pass (record s { after_blank = true }) else taken (found s text)) b ∙ ap taken (sym f))

@@ -15,7 +15,7 @@ use Rattle.sno_lexer.specs.declared.fault.LexFault.{LexFault}
 use Rattle.sno_lexer.specs.inner.Classes.{found, further, kind_of, text_of, token_of}
 use Rattle.sno_lexer.specs.inner.Lexing.{after, on_action, stage, start, taken, with_first}
 use Rattle.sno_lexer.specs.Listed.{TokenList}
-use Rattle.sno_lexer.specs.Following.{IsEnd, IsFault, Stands, Tells, fault_of, is_apart, is_some_text}
+use Rattle.sno_lexer.specs.Following.{IsEnd, IsFault, Stands, TellText, fault_of, is_apart, is_some_text}
 use Rattle.sno_lexer.specs.Laws.{NothingElseTellsIt}
 use Rattle.sno_lexer.proofs.Contexts.{Knows, at_start, knows_after}
 use Rattle.sno_lexer.proofs.Faults.{good_or}
@@ -35,7 +35,8 @@ turn_found : (s : Context) (at c : ℕ) (cs : List ℕ) (r : Result Class FaultK
     → stage s at (c ∷ cs) ≡ on_action s at (c ∷ cs) (taken r) (λ next. stage next (at + 1) cs)
 turn_found s at c cs r z b e =
     on_turn s at c (c ∷ cs) cs (taken r) refl
-    (third (nat_lt 0 s.skip) (c == 32) (Pass (record s { skip = s.skip - 1 })) (Pass (record s { after_blank = true })) (taken (found s (c ∷ cs))) (ap (nat_lt 0) z) b ∙ ap taken e)
+    (third (nat_lt 0 s.skip) (c == 32) (Pass (record s { skip = s.skip - 1 })) (Pass (record s { after_blank = true })) (taken (found s (c ∷ cs)))
+    (ap (nat_lt 0) z) b ∙ ap taken e)
 
 second : {X : Type 0} (a b : Bool) (x y z : X) → a ≡ false → b ≡ true → (if a then x else if b then y else z) ≡ y
 second true b x y z e f = cc
@@ -57,7 +58,8 @@ passes (c ∷ blanks) rest s at z e = at_first (is_blank c) refl e (λ h. passes
   where
     at_first : (b : Bool) → is_blank c ≡ b → (b && list_all is_blank blanks) ≡ true
         → (list_all is_blank blanks ≡ true
-        → stage (record s { after_blank = true }) (at + 1) (blanks ++ rest) ≡ stage (record s { after_blank = true || is_some_text blanks }) (at + 1 + length blanks) rest)
+        → stage (record s { after_blank = true }) (at + 1) (blanks ++ rest)
+        ≡ stage (record s { after_blank = true || is_some_text blanks }) (at + 1 + length blanks) rest)
         → stage s at (c ∷ (blanks ++ rest)) ≡ stage (record s { after_blank = s.after_blank || true }) (at + length (c ∷ blanks)) rest
     at_first false b h on = cc
     at_first true b h on =
@@ -95,9 +97,11 @@ record GoesOn (s : Context) (before : List TokenKind) (k : TokenKind) (at : ℕ)
   knows : Knows next (k ∷ before)
   skip : next.skip ≡ 0
   blank : next.after_blank ≡ false
-  is : stage s at (word ++ rest) ≡ with_first (record { blank_before = s.after_blank; blank_after = is_apart rest; kind = k }) at (stage next (at + length word) rest)
+  is : stage s at (word ++ rest) ≡ with_first (record { blank_before = s.after_blank; blank_after = is_apart rest; kind = k }) at
+      (stage next (at + length word) rest)
 
-goes_on_at : (s : Context) (before : List TokenKind) (k : TokenKind) (at c : ℕ) (w rest : List ℕ) → Knows s before → s.skip ≡ 0 → fault_of before k (c ∷ w) ≡ None
+goes_on_at : (s : Context) (before : List TokenKind) (k : TokenKind) (at c : ℕ) (w rest : List ℕ) → Knows s before → s.skip ≡ 0
+    → fault_of before k (c ∷ w) ≡ None
     → IsFound s before k c w rest → GoesOn s before k at (c ∷ w) rest
 goes_on_at s before k at c w rest knows z good f =
     let text = c ∷ (w ++ rest) in
@@ -113,8 +117,10 @@ goes_on_at s before k at c w rest knows z good f =
       is =
           turn_found s at c (w ++ rest) (Ok f.class) z f.first (f.is ∙ ap (good_or f.class) good)
           ∙ ap (with_first (token_of s f.class text) at) (skips w rest next (at + 1) f.size ∙ ap (λ (n : ℕ). stage (record next { skip = 0 }) n rest) p)
-          ∙ ap (λ (b : Bool). with_first (record { blank_before = s.after_blank; blank_after = b; kind = kind_of f.class (text_of f.class text) }) at (stage (record next { skip = 0 }) (at + length (c ∷ w)) rest)) apart
-          ∙ ap (λ (x : TokenKind). with_first (record { blank_before = s.after_blank; blank_after = is_apart rest; kind = x }) at (stage (record next { skip = 0 }) (at + length (c ∷ w)) rest)) f.token;
+          ∙ ap (λ (b : Bool). with_first (record { blank_before = s.after_blank; blank_after = b; kind = kind_of f.class (text_of f.class text) }) at
+          (stage (record next { skip = 0 }) (at + length (c ∷ w)) rest)) apart
+          ∙ ap (λ (x : TokenKind). with_first (record { blank_before = s.after_blank; blank_after = is_apart rest; kind = x }) at
+          (stage (record next { skip = 0 }) (at + length (c ∷ w)) rest)) f.token;
     }
 
 goes_on : (s : Context) (before : List TokenKind) (k : TokenKind) (at : ℕ) (word rest : List ℕ) → Knows s before → s.skip ≡ 0 → Stands before k word rest
@@ -168,8 +174,9 @@ token_is t b a e f =
     ap (λ (x : Bool). record { blank_before = x; blank_after = a; kind = t.kind }) (sym e)
     ∙ ap (λ (x : Bool). record { blank_before = t.blank_before; blank_after = x; kind = t.kind }) (sym f)
 
-stage_told : (end : Option LexFault) (tokens : List Token) (offsets text : List ℕ) (s : Context) (before : List TokenKind) (at : ℕ) → Knows s before → s.skip ≡ 0
-    → Tells end at s.after_blank before tokens offsets text → stage s at text ≡ answer end tokens offsets
+stage_told : (end : Option LexFault) (tokens : List Token) (offsets text : List ℕ) (s : Context) (before : List TokenKind) (at : ℕ) → Knows s before
+    → s.skip ≡ 0
+    → TellText end at s.after_blank before tokens offsets text → stage s at text ≡ answer end tokens offsets
 stage_told end [] [] text s before at knows z (blanks, rest, whole, are, ends) =
     let blank = s.after_blank || is_some_text blanks in
     ap (stage s at) whole
@@ -179,11 +186,12 @@ stage_told end (t ∷ tokens) (offset ∷ offsets) text s before at knows z (bla
     let blank = s.after_blank || is_some_text blanks in
     let here = record s { after_blank = blank } in
     let g = goes_on here before t.kind (at + length blanks) word rest (blanks_known s before blank knows) z stands good in
-    let told = subst (λ (b : Bool). Tells end (offset + length word) b (t.kind ∷ before) tokens offsets rest) (sym g.blank) later in
+    let told = subst (λ (b : Bool). TellText end (offset + length word) b (t.kind ∷ before) tokens offsets rest) (sym g.blank) later in
     ap (stage s at) whole
     ∙ passes blanks (word ++ rest) s at z are
     ∙ g.is
-    ∙ ap (λ (n : ℕ). with_first (record { blank_before = blank; blank_after = is_apart rest; kind = t.kind }) n (stage g.next (n + length word) rest)) (sym place)
+    ∙ ap (λ (n : ℕ). with_first (record { blank_before = blank; blank_after = is_apart rest; kind = t.kind }) n
+    (stage g.next (n + length word) rest)) (sym place)
     ∙ ap (with_first (record { blank_before = blank; blank_after = is_apart rest; kind = t.kind }) offset)
     (stage_told end tokens offsets rest g.next (t.kind ∷ before) (offset + length word) g.knows g.skip told)
     ∙ ap (λ (x : Token). with_first x offset (answer end tokens offsets)) (token_is t blank (is_apart rest) apart behind)

@@ -3,7 +3,7 @@ use Rattle.std.proofs.Common.{arith, ◌≡◌, ℕ, ◌+◌, ◌-◌, List, [],
 use Rattle.std.specs.Prelude.{Bool, true, false, not, ◌&&◌, ◌||◌, ◌==◌, ◌^◌, cond, pos, ℤ, Option, Some, None, Result, Ok, Err, nat_lt, codes, if◌then◌else◌}
 use Rattle.std.specs.List.{list_all, list_any, position_or_len}
 use Rattle.std.proofs.lemmas.Bool.Decides.{nat_tests}
-use Rattle.mon_text.specs.Characters.{is_blank, is_digit, is_letter}
+use Rattle.mon_text.specs.Characters.{is_blank, is_digit, is_letter, is_quote, is_identifier_character, is_letter_or_digit}
 use Rattle.mon_text.specs.Counts.{value_of}
 use Rattle.sno_token.specs.declared.TokenKind.{TokenKind}
 use Rattle.sno_token.specs.declared.TokenKind.TheVariants as kind
@@ -21,11 +21,12 @@ use Rattle.sno_lexer.specs.declared.begin.Context.{Context}
 use Rattle.sno_lexer.specs.declared.fault.FaultKind.{FaultKind}
 use Rattle.sno_lexer.specs.declared.fault.FaultKind.TheVariants.{BadConstant, Foreign, TooMany}
 use Rattle.sno_lexer.specs.inner.Classes.{class_of, class_of_quote, class_of_sign, class_of_value, class_of_word, found, further, goes_on, kind_of, let_in_if_good, name_or, outcome_of, run_in, star, text_of}
-use Rattle.sno_lexer.specs.Written.{begins_token, continues, is_identifier_character, is_label_character, is_letter_or_digit, is_quote, mark_text}
-use Rattle.sno_lexer.specs.Following.{Stands, begins, fault_of, goto_of, in_goto, is_label_due, is_outcome, is_outcome_due, is_too_many, open_after}
+use Rattle.sno_lexer.specs.Written.{begins_token, continues, is_label_character, mark_text}
+use Rattle.sno_lexer.specs.Following.{Stands, fault_of, since_colon, in_goto, is_label_due, is_outcome, is_outcome_due, is_too_many, open_after}
 use Rattle.sno_lexer.proofs.Contexts.{Knows, outcome_due}
 use Rattle.sno_lexer.proofs.Faults.{good_or, let_in_is}
 use Rattle.sno_lexer.proofs.Words.{IsSmall, and_false, both, run_on, word_goes_on}
+use Rattle.mon_text.specs.Beginnings.{first_passes}
 
 -- RUNS
 
@@ -34,12 +35,12 @@ stop_step n c cs true e = cc
 stop_step n c cs false e = refl
 
 -- a run that can't go on is empty
-run_off : (run : Run) (text : List ℕ) → begins (goes_on run) text ≡ false → run_in run text ≡ []
+run_off : (run : Run) (text : List ℕ) → first_passes (goes_on run) text ≡ false → run_in run text ≡ []
 run_off run [] e = refl
 run_off run (c ∷ cs) e = stop_step (position_or_len (λ d. not (goes_on run d)) cs) c cs (goes_on run c) e
 
 -- a run goes on as far as it can
-run_whole : (run : Run) (word rest : List ℕ) → list_all (goes_on run) word ≡ true → begins (goes_on run) rest ≡ false → run_in run (word ++ rest) ≡ word
+run_whole : (run : Run) (word rest : List ℕ) → list_all (goes_on run) word ≡ true → first_passes (goes_on run) rest ≡ false → run_in run (word ++ rest) ≡ word
 run_whole run [] rest a e = run_off run rest e
 run_whole run (c ∷ cs) rest a e =
     let b = both (goes_on run c) (list_all (goes_on run) cs) a in
@@ -114,8 +115,9 @@ identifier_class : (due : Bool) (word : List ℕ) → (due && is_outcome word) �
 identifier_class true word e = ap name_or (outcome_none word e)
 identifier_class false word e = refl
 
-reads_identifier : (s : Context) (before : List TokenKind) (c : ℕ) (w rest : List ℕ) → Knows s before → is_letter c ≡ true → list_all is_identifier_character w ≡ true
-    → begins is_identifier_character rest ≡ false → is_label_due before ≡ false → (is_outcome_due before && is_outcome (c ∷ w)) ≡ false
+reads_identifier : (s : Context) (before : List TokenKind) (c : ℕ) (w rest : List ℕ) → Knows s before → is_letter c ≡ true
+    → list_all is_identifier_character w ≡ true
+    → first_passes is_identifier_character rest ≡ false → is_label_due before ≡ false → (is_outcome_due before && is_outcome (c ∷ w)) ≡ false
     → Reads s (kind.Identifier (c ∷ w)) c w rest
 reads_identifier s before c w rest k l a e due none =
     let r = run_whole InIdentifier (c ∷ w) rest (all_with is_identifier_character c w (word_goes_on c l) a) e in record {
@@ -131,7 +133,7 @@ reads_identifier s before c w rest k l a e due none =
     }
 
 reads_outcome : (s : Context) (before : List TokenKind) (c : ℕ) (outcome : Outcome) (rest : List ℕ) → Knows s before → is_letter c ≡ true
-    → outcome_of (c ∷ []) ≡ Some outcome → begins is_identifier_character rest ≡ false → is_label_due before ≡ false → is_outcome_due before ≡ true
+    → outcome_of (c ∷ []) ≡ Some outcome → first_passes is_identifier_character rest ≡ false → is_label_due before ≡ false → is_outcome_due before ≡ true
     → Reads s (kind.Part (part.On outcome)) c [] rest
 reads_outcome s before c outcome rest k l o e target due =
     let r = run_whole InIdentifier (c ∷ []) rest (all_with is_identifier_character c [] (word_goes_on c l) refl) e in record {
@@ -146,8 +148,9 @@ reads_outcome s before c outcome rest k l o e target due =
       size = refl;
     }
 
-reads_label : (s : Context) (before : List TokenKind) (c : ℕ) (w rest : List ℕ) → Knows s before → is_letter_or_digit c ≡ true → list_all is_label_character w ≡ true
-    → begins is_label_character rest ≡ false → is_label_due before ≡ true → Reads s (kind.Part (part.Label (c ∷ w))) c w rest
+reads_label : (s : Context) (before : List TokenKind) (c : ℕ) (w rest : List ℕ) → Knows s before → is_letter_or_digit c ≡ true
+    → list_all is_label_character w ≡ true
+    → first_passes is_label_character rest ≡ false → is_label_due before ≡ true → Reads s (kind.Part (part.Label (c ∷ w))) c w rest
 reads_label s before c w rest k l a e due =
     let i = label_is c l in
     let r = run_whole InLabel (c ∷ w) rest (all_with is_label_character c w i.1 a) e in record {
@@ -179,7 +182,7 @@ reads_literal : (s : Context) (q : ℕ) (held rest : List ℕ) → is_quote q �
     → Reads s (kind.Constant (constant.Literal held)) q (held ++ q ∷ []) rest
 reads_literal s q held rest e none =
     let i = quote_is q e in
-    let ends : begins (goes_on (InLiteral q)) (q ∷ rest) ≡ false = let j : (q == q) ≡ true = grind (arith, nat_tests) in ap not j in
+    let ends : first_passes (goes_on (InLiteral q)) (q ∷ rest) ≡ false = let j : (q == q) ≡ true = grind (arith, nat_tests) in ap not j in
     let r : run_in (InLiteral q) ((held ++ q ∷ []) ++ rest) ≡ held =
     ap (run_in (InLiteral q)) (append_assoc held (q ∷ []) rest) ∙ run_whole (InLiteral q) held (q ∷ rest) (none_all q held none) ends in record {
       class = Literal;
@@ -197,7 +200,8 @@ reads_literal s q held rest e none =
     longer (x ∷ xs) q = let h = longer xs q in omega (arith, h)
 
 -- a sign that is one character
-reads_sign : (s : Context) (k : TokenKind) (class : Class) (c : ℕ) (rest : List ℕ) → is_blank c ≡ false → is_letter_or_digit c ≡ false → is_letter c ≡ false → is_digit c ≡ false
+reads_sign : (s : Context) (k : TokenKind) (class : Class) (c : ℕ) (rest : List ℕ) → is_blank c ≡ false → is_letter_or_digit c ≡ false
+    → is_letter c ≡ false → is_digit c ≡ false
     → is_quote c ≡ false → class_of_sign c rest ≡ Ok class → kind_of class (text_of class (c ∷ rest)) ≡ k → further class (c ∷ rest) ≡ 0 → Reads s k c [] rest
 reads_sign s k class c rest b a l d q e t f = record {
   class = class;
@@ -207,7 +211,7 @@ reads_sign s k class c rest b a l d q e t f = record {
   size = f;
 }
 
-reads_star : (s : Context) (rest : List ℕ) → begins (λ c. c == 42) rest ≡ false → Reads s (kind.Mark Star) 42 [] rest
+reads_star : (s : Context) (rest : List ℕ) → first_passes (λ c. c == 42) rest ≡ false → Reads s (kind.Mark Star) 42 [] rest
 reads_star s rest e =
     reads_sign s (kind.Mark Star) (Operator Star) 42 rest refl refl refl refl refl
     (ap (λ (b : Bool). Ok (Operator (if b then Power else Star))) e) refl refl
@@ -230,10 +234,10 @@ open_not_due false behind = refl
 
 due_apart : (before : List TokenKind) → is_outcome_due before ≡ true → is_label_due before ≡ false
 due_apart [] e = refl
-due_apart (kind.Open ∷ before) e = cannot (in_goto before) (open_not_due (in_goto before) (goto_of before)) e
+due_apart (kind.Open ∷ before) e = cannot (in_goto before) (open_not_due (in_goto before) (since_colon before)) e
   where
-    cannot : (b : Bool) → (b && open_after (if b then kind.Open ∷ goto_of before else []) == 0) ≡ false
-        → (b && open_after (if b then kind.Open ∷ goto_of before else []) == 0) ≡ true → is_outcome_due before ≡ false
+    cannot : (b : Bool) → (b && open_after (if b then kind.Open ∷ since_colon before else []) == 0) ≡ false
+        → (b && open_after (if b then kind.Open ∷ since_colon before else []) == 0) ≡ true → is_outcome_due before ≡ false
     cannot b f t = let h : false ≡ true = sym f ∙ t in cc
 due_apart (k ∷ before) e = refl
 
@@ -241,12 +245,13 @@ due_apart (k ∷ before) e = refl
 abbrev pub IsRead : Context → TokenKind → List ℕ → List ℕ → Type 0
 IsRead s k word rest = (c : ℕ) × (w : List ℕ) × (word ≡ c ∷ w) × Reads s k c w rest
 
-sign : (s : Context) (k : TokenKind) (class : Class) (c : ℕ) (word rest : List ℕ) → word ≡ c ∷ [] → is_blank c ≡ false → is_letter_or_digit c ≡ false → is_letter c ≡ false
+sign : (s : Context) (k : TokenKind) (class : Class) (c : ℕ) (word rest : List ℕ) → word ≡ c ∷ [] → is_blank c ≡ false → is_letter_or_digit c ≡ false
+    → is_letter c ≡ false
     → is_digit c ≡ false → is_quote c ≡ false → class_of_sign c rest ≡ Ok class → kind_of class (text_of class (c ∷ rest)) ≡ k → further class (c ∷ rest) ≡ 0
     → IsRead s k word rest
 sign s k class c word rest e b a l d q o t f = (c, [], e, reads_sign s k class c rest b a l d q o t f)
 
-mark_read : (s : Context) (mark : Mark) (word rest : List ℕ) → word ≡ mark_text mark → begins (continues (kind.Mark mark)) rest ≡ false
+mark_read : (s : Context) (mark : Mark) (word rest : List ℕ) → word ≡ mark_text mark → first_passes (continues (kind.Mark mark)) rest ≡ false
     → IsRead s (kind.Mark mark) word rest
 mark_read s Power word rest e more = (42, 42 ∷ [], e, reads_power s rest)
 mark_read s Star word rest e more = (42, [], e, reads_star s rest more)
@@ -267,7 +272,7 @@ IsInRange (kind.Constant (constant.Integer value)) word = nat_lt (value_of word)
 IsInRange k word = Unit {0}
 
 reads_integer : (s : Context) (before : List TokenKind) (value : ℤ) (c : ℕ) (w rest : List ℕ) → Knows s before → is_digit c ≡ true → list_all is_digit w ≡ true
-    → begins is_digit rest ≡ false → is_label_due before ≡ false → value ≡ pos (value_of (c ∷ w)) → nat_lt (value_of (c ∷ w)) (2 ^ 63) ≡ true
+    → first_passes is_digit rest ≡ false → is_label_due before ≡ false → value ≡ pos (value_of (c ∷ w)) → nat_lt (value_of (c ∷ w)) (2 ^ 63) ≡ true
     → Reads s (kind.Constant (constant.Integer value)) c w rest
 reads_integer s before value c w rest k d a e due v small =
     let i = digit_is c d in
@@ -314,7 +319,7 @@ token_read s before (kind.Part (part.Label label)) (c ∷ w) rest k ((is, (l, a)
     (c, w, refl, subst (λ (x : List ℕ). Reads s (kind.Part (part.Label x)) c w rest) is (reads_label s before c w rest k l a more due))
 
 integer_read : (s : Context) (before : List TokenKind) (c : ℕ) (w rest : List ℕ) → Knows s before → is_digit c ≡ true → list_all is_digit w ≡ true
-    → begins is_digit rest ≡ false → is_label_due before ≡ false → nat_lt (value_of (c ∷ w)) (2 ^ 63) ≡ false
+    → first_passes is_digit rest ≡ false → is_label_due before ≡ false → nat_lt (value_of (c ∷ w)) (2 ^ 63) ≡ false
     → (is_blank c ≡ false) × (class_of s (c ∷ (w ++ rest)) ≡ Err BadConstant) × (run_in InInteger (c ∷ (w ++ rest)) ≡ c ∷ w)
 integer_read s before c w rest k d a e due large =
     let i = digit_is c d in
@@ -344,10 +349,12 @@ small_at : (class : Class) (text word : List ℕ) → IsInRange (kind_of class t
 small_at (Integer value) text word h = h
 small_at class text word h = tt
 
-in_range : (s : Context) (before : List TokenKind) (k : TokenKind) (c : ℕ) (w rest : List ℕ) → Knows s before → IsInRange k (c ∷ w) → Reads s k c w rest → IsFound s before k c w rest
+in_range : (s : Context) (before : List TokenKind) (k : TokenKind) (c : ℕ) (w rest : List ℕ) → Knows s before → IsInRange k (c ∷ w)
+    → Reads s k c w rest → IsFound s before k c w rest
 in_range s before k c w rest knows small r =
     let text = c ∷ (w ++ rest) in
-    let word : c ∷ take (further r.class text) (w ++ rest) ≡ c ∷ w = ap (λ (n : ℕ). c ∷ take n (w ++ rest)) r.size ∙ ap (λ (x : List ℕ). c ∷ x) (take_all w rest) in
+    let word : c ∷ take (further r.class text) (w ++ rest) ≡ c ∷ w = ap (λ (n : ℕ). c ∷ take n (w ++ rest)) r.size
+    ∙ ap (λ (x : List ℕ). c ∷ x) (take_all w rest) in
     let in_range = subst (λ (x : TokenKind). IsInRange x (c ∷ w)) (sym r.token) small in
     let fits = subst (λ (x : List ℕ). IsSmall r.class x) (sym word) (small_at r.class (text_of r.class text) (c ∷ w) in_range) in record {
       class = r.class;
@@ -372,26 +379,31 @@ out_of_range s before value c w rest knows v large (first, is, r) = record {
   size = less_one c w (run_in InInteger (c ∷ (w ++ rest))) r;
   is =
       ap (let_in_if_good s (c ∷ (w ++ rest))) is
-      ∙ sym (ap (λ (b : Bool). good_or (Integer value) (if b then (if is_too_many before (kind.Constant (constant.Integer value)) then Some TooMany else None) else Some BadConstant)) large);
+      ∙ sym (ap (λ (b : Bool). good_or (Integer value) (if b then (if is_too_many before
+      (kind.Constant (constant.Integer value)) then Some TooMany else None) else Some BadConstant)) large);
 }
 
 -- the text of a token that stands there begins with a character, and the token is found there
 abbrev pub HasFound : Context → List TokenKind → TokenKind → List ℕ → List ℕ → Type 0
 HasFound s before k word rest = (c : ℕ) × (w : List ℕ) × (word ≡ c ∷ w) × IsFound s before k c w rest
 
-as_read : (s : Context) (before : List TokenKind) (k : TokenKind) (word rest : List ℕ) → Knows s before → IsInRange k word → IsRead s k word rest → HasFound s before k word rest
+as_read : (s : Context) (before : List TokenKind) (k : TokenKind) (word rest : List ℕ) → Knows s before → IsInRange k word → IsRead s k word rest
+    → HasFound s before k word rest
 as_read s before k word rest knows small (c, w, e, r) = (c, w, e, in_range s before k c w rest knows (subst (IsInRange k) e small) r)
 
 by_range : (s : Context) (before : List TokenKind) (value : ℤ) (word rest : List ℕ) (b : Bool) → Knows s before → nat_lt (value_of word) (2 ^ 63) ≡ b
     → Stands before (kind.Constant (constant.Integer value)) word rest → HasFound s before (kind.Constant (constant.Integer value)) word rest
 by_range s before value word rest true knows small stands =
-    as_read s before (kind.Constant (constant.Integer value)) word rest knows small (token_read s before (kind.Constant (constant.Integer value)) word rest knows stands small)
+    as_read s before (kind.Constant (constant.Integer value)) word rest knows small
+    (token_read s before (kind.Constant (constant.Integer value)) word rest knows stands small)
 by_range s before value [] rest false knows large (written, more, due) = absurd written.1
 by_range s before value (c ∷ w) rest false knows large ((v, (d, a)), more, due) =
     (c, w, refl, out_of_range s before value c w rest knows v large (integer_read s before c w rest knows d a more due large))
 
-pub has_found : (s : Context) (before : List TokenKind) (k : TokenKind) (word rest : List ℕ) → Knows s before → Stands before k word rest → HasFound s before k word rest
-has_found s before (kind.Constant (constant.Integer value)) word rest knows stands = by_range s before value word rest (nat_lt (value_of word) (2 ^ 63)) knows refl stands
+pub has_found : (s : Context) (before : List TokenKind) (k : TokenKind) (word rest : List ℕ) → Knows s before → Stands before k word rest
+    → HasFound s before k word rest
+has_found s before (kind.Constant (constant.Integer value)) word rest knows stands =
+    by_range s before value word rest (nat_lt (value_of word) (2 ^ 63)) knows refl stands
 has_found s before k word rest knows stands = as_read s before k word rest knows tt (token_read s before k word rest knows stands tt)
 
 -- FAULTS

@@ -17,7 +17,7 @@ use Rattle.sno_lexer.specs.inner.Classes.{found, further, is_blank_or_end, kind_
 use Rattle.sno_lexer.specs.inner.Lexing.{after, on_action, stage, start, taken, with_first}
 use Rattle.sno_lexer.specs.Lexed.{lexed}
 use Rattle.sno_lexer.specs.Listed.{TokenList}
-use Rattle.sno_lexer.specs.Following.{Tells, Told, is_apart}
+use Rattle.sno_lexer.specs.Following.{TellText, Told, is_apart}
 use Rattle.sno_lexer.specs.Laws.{TokensTellTheText}
 use Rattle.sno_lexer.proofs.Contexts.{Knows, at_start, knows_after}
 use Rattle.sno_lexer.proofs.Faults.{IsTaken, found_refused, found_taken}
@@ -38,9 +38,10 @@ behind_is (c ∷ cs) zero = refl
 behind_is (c ∷ cs) (suc n) = behind_is cs n
 
 -- a token and what follows it
-with_token : (end : Option LexFault) (s : Context) (before : List TokenKind) (at c : ℕ) (cs : List ℕ) (class : Class) (tokens : List Token) (offsets : List ℕ) → IsTaken before class c cs
-    → Tells end (at + 1 + further class (c ∷ cs)) false (kind_of class (text_of class (c ∷ cs)) ∷ before) tokens offsets (drop (further class (c ∷ cs)) cs)
-    → Tells end at s.after_blank before (token_of s class (c ∷ cs) ∷ tokens) (at ∷ offsets) (c ∷ cs)
+with_token : (end : Option LexFault) (s : Context) (before : List TokenKind) (at c : ℕ) (cs : List ℕ) (class : Class) (tokens : List Token)
+    (offsets : List ℕ) → IsTaken before class c cs
+    → TellText end (at + 1 + further class (c ∷ cs)) false (kind_of class (text_of class (c ∷ cs)) ∷ before) tokens offsets (drop (further class (c ∷ cs)) cs)
+    → TellText end at s.after_blank before (token_of s class (c ∷ cs) ∷ tokens) (at ∷ offsets) (c ∷ cs)
 with_token end s before at c cs class tokens offsets w h =
     let f = further class (c ∷ cs) in
     let k = kind_of class (text_of class (c ∷ cs)) in
@@ -58,7 +59,7 @@ with_token end s before at c cs class tokens offsets w h =
       w.1,
       or_false s.after_blank,
       behind_is cs f,
-      subst (λ (x : ℕ). Tells end x false (k ∷ before) tokens offsets (drop f cs)) p h,
+      subst (λ (x : ℕ). TellText end x false (k ∷ before) tokens offsets (drop f cs)) p h,
     )
 
 told_token : (r : Result TokenList LexFault) (s : Context) (before : List TokenKind) (at c : ℕ) (cs : List ℕ) (class : Class) → IsTaken before class c cs
@@ -72,8 +73,9 @@ told_token (Err fault) s before at c cs class w (list, h) = (
 
 -- ONE BLANK
 
-with_blank : (end : Option LexFault) (before : List TokenKind) (at c : ℕ) (cs : List ℕ) (blank : Bool) (tokens : List Token) (offsets : List ℕ) → is_blank c ≡ true
-    → Tells end (at + 1) true before tokens offsets cs → Tells end at blank before tokens offsets (c ∷ cs)
+with_blank : (end : Option LexFault) (before : List TokenKind) (at c : ℕ) (cs : List ℕ) (blank : Bool) (tokens : List Token) (offsets : List ℕ)
+    → is_blank c ≡ true
+    → TellText end (at + 1) true before tokens offsets cs → TellText end at blank before tokens offsets (c ∷ cs)
 with_blank None before at c cs blank [] [] e (blanks, rest, whole, are, ends) =
     (c ∷ blanks, rest, ap (λ (x : List ℕ). c ∷ x) whole, rw (e, are) refl, ends)
 with_blank (Some fault) before at c cs blank [] [] e (blanks, rest, whole, are, (place, is)) =

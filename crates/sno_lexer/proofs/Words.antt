@@ -5,7 +5,7 @@ use Rattle.std.specs.List.{list_all, list_any, position_or_len}
 use Rattle.std.proofs.lemmas.List.Sums.{prefix_len-le-length}
 use Rattle.std.proofs.lemmas.List.Folds.{length-prefix_len}
 use Rattle.std.proofs.lemmas.Bool.Decides.{nat_tests}
-use Rattle.mon_text.specs.Characters.{is_letter, is_digit}
+use Rattle.mon_text.specs.Characters.{is_letter, is_digit, is_quote, is_identifier_character, is_letter_or_digit}
 use Rattle.mon_text.specs.Counts.{value_of}
 use Rattle.sno_token.specs.declared.TokenKind.{TokenKind}
 use Rattle.sno_token.specs.declared.Mark.TheVariants.{Power, Star, Slash, Plus, Minus, Bar, Dot, Dollar, At, Tilde, Question, Ampersand}
@@ -19,9 +19,10 @@ use Rattle.sno_lexer.specs.declared.begin.Context.{Context}
 use Rattle.sno_lexer.specs.declared.fault.FaultKind.{FaultKind}
 use Rattle.sno_lexer.specs.declared.fault.FaultKind.TheVariants.{BadConstant, Foreign}
 use Rattle.sno_lexer.specs.inner.Classes.{at_goto, goes_on, run_in, text_of, kind_of, further, outcome_of, name_or, class_of_word, class_of_value, class_of_quote, class_of_sign, class_of, begins_with, star}
-use Rattle.sno_lexer.specs.Written.{IsRun, is_identifier_character, is_letter_or_digit, is_quote}
-use Rattle.sno_lexer.specs.Following.{Stands, begins, is_label_due, is_outcome, is_outcome_due}
+use Rattle.sno_lexer.specs.Written.{IsRun}
+use Rattle.sno_lexer.specs.Following.{Stands, is_label_due, is_outcome, is_outcome_due}
 use Rattle.sno_lexer.proofs.Contexts.{Knows, outcome_due}
+use Rattle.mon_text.specs.Beginnings.{first_passes}
 
 -- RUNS
 
@@ -58,13 +59,13 @@ pub all_of_run : (run : Run) (text : List ℕ) → list_all (goes_on run) (run_i
 all_of_run run [] = refl
 all_of_run run (c ∷ cs) = all_step (goes_on run) (position_or_len (λ d. not (goes_on run d)) cs) c cs (goes_on run c) refl (all_of_run run cs)
 
-rest_step : (p : ℕ → Bool) (n c : ℕ) (cs : List ℕ) (b : Bool) → p c ≡ b → begins p (drop (length (take n cs)) cs) ≡ false
-    → begins p (drop (length (take (cond (not (not b)) (1 + n) 0) (c ∷ cs))) (c ∷ cs)) ≡ false
+rest_step : (p : ℕ → Bool) (n c : ℕ) (cs : List ℕ) (b : Bool) → p c ≡ b → first_passes p (drop (length (take n cs)) cs) ≡ false
+    → first_passes p (drop (length (take (cond (not (not b)) (1 + n) 0) (c ∷ cs))) (c ∷ cs)) ≡ false
 rest_step p n c cs false e h = e
-rest_step p n c cs true e h = ap (λ (k : ℕ). begins p (drop (length (take k (c ∷ cs))) (c ∷ cs))) (one_more n) ∙ h
+rest_step p n c cs true e h = ap (λ (k : ℕ). first_passes p (drop (length (take k (c ∷ cs))) (c ∷ cs))) (one_more n) ∙ h
 
 -- and not with what follows it
-rest_of_run : (run : Run) (text : List ℕ) → begins (goes_on run) (drop (length (run_in run text)) text) ≡ false
+rest_of_run : (run : Run) (text : List ℕ) → first_passes (goes_on run) (drop (length (run_in run text)) text) ≡ false
 rest_of_run run [] = refl
 rest_of_run run (c ∷ cs) = rest_step (goes_on run) (position_or_len (λ d. not (goes_on run d)) cs) c cs (goes_on run c) refl (rest_of_run run cs)
 
@@ -73,7 +74,7 @@ run_word : (run : Run) (first : ℕ → Bool) (c : ℕ) (cs : List ℕ) → goes
     → (length (run_in run (c ∷ cs)) - 1 ≤ length cs)
     × (c ∷ take (length (run_in run (c ∷ cs)) - 1) cs ≡ run_in run (c ∷ cs))
     × IsRun first (goes_on run) (c ∷ take (length (run_in run (c ∷ cs)) - 1) cs)
-    × (begins (goes_on run) (drop (length (run_in run (c ∷ cs)) - 1) cs) ≡ false)
+    × (first_passes (goes_on run) (drop (length (run_in run (c ∷ cs)) - 1) cs) ≡ false)
 run_word run first c cs e h =
     let r = run_on run c cs e in
     let l : length (run_in run (c ∷ cs)) - 1 ≡ length (run_in run cs) = let k = ap length r in omega (arith, k) in
@@ -82,7 +83,7 @@ run_word run first c cs e h =
       omega (arith, l, f),
       ap (λ (x : List ℕ). c ∷ x) t ∙ sym r,
       (h, ap (list_all (goes_on run)) t ∙ all_of_run run cs),
-      ap (λ (k : ℕ). begins (goes_on run) (drop k cs)) l ∙ rest_of_run run cs,
+      ap (λ (k : ℕ). first_passes (goes_on run) (drop k cs)) l ∙ rest_of_run run cs,
     )
 
 -- ONE TOKEN
@@ -115,14 +116,16 @@ identifier_whole before c cs e due none = let w = run_word InIdentifier is_lette
 pub integer_stands : (before : List TokenKind) (c : ℕ) (cs : List ℕ) (n : ℕ) → is_digit c ≡ true → is_label_due before ≡ false
     → n ≡ value_of (run_in InInteger (c ∷ cs))
     → (further (Integer (pos n)) (c ∷ cs) ≤ length cs)
-    × Stands before (kind_of (Integer (pos n)) (text_of (Integer (pos n)) (c ∷ cs))) (c ∷ take (further (Integer (pos n)) (c ∷ cs)) cs) (drop (further (Integer (pos n)) (c ∷ cs)) cs)
+    × Stands before (kind_of (Integer (pos n)) (text_of (Integer (pos n)) (c ∷ cs))) (c ∷ take (further (Integer (pos n)) (c ∷ cs)) cs)
+    (drop (further (Integer (pos n)) (c ∷ cs)) cs)
     × (nat_lt n (2 ^ 63) ≡ nat_lt (value_of (c ∷ take (further (Integer (pos n)) (c ∷ cs)) cs)) (2 ^ 63))
 integer_stands before c cs n e due v =
     let w = run_word InInteger is_digit c cs e e in
     let same_value = v ∙ ap value_of (sym w.1) in
     (w.0, ((ap pos same_value, w.2), w.3, due), ap (λ (m : ℕ). nat_lt m (2 ^ 63)) same_value)
 
-value_at : (n : ℕ) (b : Bool) (class : Class) (before : List TokenKind) (c : ℕ) (cs : List ℕ) → nat_lt n (2 ^ 63) ≡ b → is_digit c ≡ true → is_label_due before ≡ false
+value_at : (n : ℕ) (b : Bool) (class : Class) (before : List TokenKind) (c : ℕ) (cs : List ℕ) → nat_lt n (2 ^ 63) ≡ b → is_digit c ≡ true
+    → is_label_due before ≡ false
     → n ≡ value_of (run_in InInteger (c ∷ cs)) → (if b then Ok (Integer (pos n)) else Err BadConstant) ≡ Ok class → Whole before class c cs
 value_at n true class before c cs small d due v e =
     let h : Integer (pos n) ≡ class = cc in
@@ -137,7 +140,8 @@ quoted q [] e = cc
 quoted q (c ∷ cs) e = at (c == q) refl e (λ h. quoted q cs h)
   where
     at : (b : Bool) → (c == q) ≡ b → (b || list_any (λ d. d == q) cs) ≡ true
-        → (list_any (λ d. d == q) cs ≡ true → (length (run_in (InLiteral q) cs) + 1 ≤ length cs) × (take (length (run_in (InLiteral q) cs) + 1) cs ≡ run_in (InLiteral q) cs ++ q ∷ []))
+        → (list_any (λ d. d == q) cs ≡ true → (length (run_in (InLiteral q) cs) + 1 ≤ length cs)
+        × (take (length (run_in (InLiteral q) cs) + 1) cs ≡ run_in (InLiteral q) cs ++ q ∷ []))
         → (length (take (cond (not (not (not b))) (1 + position_or_len (λ d. not (goes_on (InLiteral q) d)) cs) 0) (c ∷ cs)) + 1 ≤ length (c ∷ cs))
         × (take (length (take (cond (not (not (not b))) (1 + position_or_len (λ d. not (goes_on (InLiteral q) d)) cs) 0) (c ∷ cs)) + 1) (c ∷ cs)
         ≡ take (cond (not (not (not b))) (1 + position_or_len (λ d. not (goes_on (InLiteral q) d)) cs) 0) (c ∷ cs) ++ q ∷ [])
@@ -157,7 +161,7 @@ none_of q (c ∷ cs) h = at (c == q) h (λ k. none_of q cs k)
     at true h on = cc
     at false h on = on h
 
-pub no_more : (text : List ℕ) → begins (λ c. false) text ≡ false
+pub no_more : (text : List ℕ) → first_passes (λ c. false) text ≡ false
 no_more [] = refl
 no_more (c ∷ cs) = refl
 
@@ -216,7 +220,7 @@ sign_whole before c cs class =
 -- ALL CLASSES
 
 outcome_at : (before : List TokenKind) (c : ℕ) (cs : List ℕ) (outcome : Outcome) (b d : Bool) → (c == 83) ≡ b → (c == 70) ≡ d
-    → (if b then Some Success else if d then Some Failure else None) ≡ Some outcome → begins is_identifier_character cs ≡ false
+    → (if b then Some Success else if d then Some Failure else None) ≡ Some outcome → first_passes is_identifier_character cs ≡ false
     → is_outcome_due before ≡ true → Whole before (On outcome) c cs
 outcome_at before c cs outcome true d h k e more due =
     let o : Success ≡ outcome = cc in
@@ -230,7 +234,7 @@ outcome_in : (before : List TokenKind) (c : ℕ) (cs word : List ℕ) (outcome :
     → is_outcome_due before ≡ true → Whole before (On outcome) c cs
 outcome_in before c cs [] outcome r e due =
     outcome_at before c cs outcome (c == 83) (c == 70) refl refl e
-    (ap (λ (x : List ℕ). begins is_identifier_character (drop (length x) cs)) (sym r) ∙ rest_of_run InIdentifier cs) due
+    (ap (λ (x : List ℕ). first_passes is_identifier_character (drop (length x) cs)) (sym r) ∙ rest_of_run InIdentifier cs) due
 outcome_in before c cs (d ∷ word) outcome r e due = cc
 
 none_is : (word : List ℕ) → outcome_of word ≡ None → is_outcome word ≡ false
@@ -277,10 +281,12 @@ or_right true b e = refl
 or_right false b e = e
 
 -- where no label is due: what begins with a letter, and with a digit
-pub letter_not_due : (s : Context) (before : List TokenKind) (c : ℕ) → Knows s before → (s.at_target && is_letter_or_digit c) ≡ false → is_letter c ≡ true → is_label_due before ≡ false
+pub letter_not_due : (s : Context) (before : List TokenKind) (c : ℕ) → Knows s before → (s.at_target && is_letter_or_digit c) ≡ false
+    → is_letter c ≡ true → is_label_due before ≡ false
 letter_not_due s before c k e l = sym k.target ∙ not_due s.at_target (is_letter_or_digit c) e (or_left (is_letter c) (is_digit c) l)
 
-pub digit_not_due : (s : Context) (before : List TokenKind) (c : ℕ) → Knows s before → (s.at_target && is_letter_or_digit c) ≡ false → is_digit c ≡ true → is_label_due before ≡ false
+pub digit_not_due : (s : Context) (before : List TokenKind) (c : ℕ) → Knows s before → (s.at_target && is_letter_or_digit c) ≡ false
+    → is_digit c ≡ true → is_label_due before ≡ false
 digit_not_due s before c k e d = sym k.target ∙ not_due s.at_target (is_letter_or_digit c) e (or_right (is_letter c) (is_digit c) d)
 
 class_at : (s : Context) (before : List TokenKind) (c : ℕ) (cs : List ℕ) (class : Class) (target letter digit quote : Bool) → Knows s before
@@ -299,10 +305,12 @@ class_at s before c cs class false true digit quote k t l d q e =
     let h : class_of_word s (run_in InIdentifier (c ∷ cs)) ≡ class = cc in
     subst (λ (x : Class). Whole before x c cs) h (word_whole before c cs (at_goto s) l (letter_not_due s before c k t l) (sym (outcome_due s before k)))
 class_at s before c cs class false false true quote k t l d q e =
-    value_at (value_of (run_in InInteger (c ∷ cs))) (nat_lt (value_of (run_in InInteger (c ∷ cs))) (2 ^ 63)) class before c cs refl d (digit_not_due s before c k t d) refl e
+    value_at (value_of (run_in InInteger (c ∷ cs))) (nat_lt (value_of (run_in InInteger (c ∷ cs))) (2 ^ 63)) class before c cs refl d
+    (digit_not_due s before c k t d) refl e
 class_at s before c cs class false false false true k t l d q e = quote_at before c cs class (list_any (λ d. d == c) cs) q refl e
 class_at s before c cs class false false false false k t l d q e = sign_whole before c cs class e
 
-pub class_whole : (s : Context) (before : List TokenKind) (c : ℕ) (cs : List ℕ) (class : Class) → Knows s before → class_of s (c ∷ cs) ≡ Ok class → Whole before class c cs
+pub class_whole : (s : Context) (before : List TokenKind) (c : ℕ) (cs : List ℕ) (class : Class) → Knows s before → class_of s (c ∷ cs) ≡ Ok class
+    → Whole before class c cs
 class_whole s before c cs class k e =
     class_at s before c cs class (s.at_target && is_letter_or_digit c) (is_letter c) (is_digit c) (is_quote c) k refl refl refl refl e

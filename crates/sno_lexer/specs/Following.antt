@@ -2,7 +2,7 @@
 -- are listed with the last one first.
 use Rattle.std.specs.Prelude.{◌≡◌, ℕ, ◌+◌, ◌-◌, ◌^◌, Bool, true, false, ◌&&◌, ◌||◌, ◌==◌, nat_le, nat_lt, List, [], ◌∷◌, ◌++◌, length, drop, Option, Some, None, Result, Ok, Err, ◌⊎◌, if◌then◌else◌}
 use Rattle.std.specs.List.{list_all, list_any}
-use Rattle.mon_text.specs.Characters.{is_blank}
+use Rattle.mon_text.specs.Characters.{is_blank, is_quote}
 use Rattle.mon_text.specs.Counts.{value_of}
 use Rattle.mon_text.specs.Lines.{is_line}
 use Rattle.sno_token.specs.declared.Token.{Token}
@@ -14,22 +14,23 @@ use Rattle.sno_lexer.specs.declared.fault.FaultKind.{FaultKind}
 use Rattle.sno_lexer.specs.declared.fault.FaultKind.TheVariants.{BadConstant, Foreign, TooMany}
 use Rattle.sno_lexer.specs.declared.fault.LexFault.{LexFault}
 use Rattle.sno_lexer.specs.Listed.{TokenList}
-use Rattle.sno_lexer.specs.Written.{IsWritten, begins_token, continues, held_in, is_quote}
+use Rattle.sno_lexer.specs.Written.{IsWritten, begins_token, continues, held_in}
+use Rattle.mon_text.specs.Beginnings.{first_passes}
 
 -- WHERE A TOKEN STANDS
 
-abbrev pub is_colon : TokenKind → Bool
-is_colon (kind.Part part.Colon) = true
-is_colon kind = false
+abbrev pub begins_goto : TokenKind → Bool
+begins_goto (kind.Part part.Colon) = true
+begins_goto kind = false
 
 -- the goto begins with the first `:`
 abbrev pub in_goto : List TokenKind → Bool
-in_goto before = list_any is_colon before
+in_goto before = list_any begins_goto before
 
 -- the tokens behind the first `:`
-abbrev pub goto_of : List TokenKind → List TokenKind
-goto_of [] = []
-goto_of (k ∷ before) = if in_goto before then k ∷ goto_of before else []
+abbrev pub since_colon : List TokenKind → List TokenKind
+since_colon [] = []
+since_colon (k ∷ before) = if in_goto before then k ∷ since_colon before else []
 
 -- how many parentheses are open after a token; one that closes none takes nothing away
 abbrev pub open_with : TokenKind → ℕ → ℕ
@@ -43,7 +44,7 @@ open_after (k ∷ before) = open_with k (open_after before)
 
 -- in the goto, where none of its own parentheses is open, `S` and `F` are outcomes
 abbrev pub is_outcome_due : List TokenKind → Bool
-is_outcome_due before = in_goto before && open_after (goto_of before) == 0
+is_outcome_due before = in_goto before && open_after (since_colon before) == 0
 
 -- and after a `(` that stands there a letter or digit begins a label
 abbrev pub is_label_due : List TokenKind → Bool
@@ -55,21 +56,16 @@ is_outcome (c ∷ []) = c == 83 || c == 70
 is_outcome text = false
 
 -- whether a token may stand after these
-abbrev pub Fits : List TokenKind → TokenKind → Type 0
-Fits before (kind.Identifier name) = (is_label_due before ≡ false) × ((is_outcome_due before && is_outcome name) ≡ false)
-Fits before (kind.Constant (constant.Integer value)) = is_label_due before ≡ false
-Fits before (kind.Part (part.On outcome)) = is_outcome_due before ≡ true
-Fits before (kind.Part (part.Label label)) = is_label_due before ≡ true
-Fits before kind = Unit {0}
-
--- whether a text begins with a character that passes a test
-abbrev pub begins : (ℕ → Bool) → List ℕ → Bool
-begins test [] = false
-begins test (c ∷ cs) = test c
+abbrev pub MayStandAfter : List TokenKind → TokenKind → Type 0
+MayStandAfter before (kind.Identifier name) = (is_label_due before ≡ false) × ((is_outcome_due before && is_outcome name) ≡ false)
+MayStandAfter before (kind.Constant (constant.Integer value)) = is_label_due before ≡ false
+MayStandAfter before (kind.Part (part.On outcome)) = is_outcome_due before ≡ true
+MayStandAfter before (kind.Part (part.Label label)) = is_label_due before ≡ true
+MayStandAfter before kind = Unit {0}
 
 -- A token stands after these tokens and before the rest: it is written out, as long as it can be, and fits.
 abbrev pub Stands : List TokenKind → TokenKind → List ℕ → List ℕ → Type 0
-Stands before kind word rest = IsWritten kind word × (begins (continues kind) rest ≡ false) × Fits before kind
+Stands before kind word rest = IsWritten kind word × (first_passes (continues kind) rest ≡ false) × MayStandAfter before kind
 
 -- WHAT IS WRONG
 
@@ -98,7 +94,7 @@ IsFault before fault text =
 -- THE WHOLE TEXT
 
 abbrev pub is_some_text : List ℕ → Bool
-is_some_text text = begins (λ c. true) text
+is_some_text text = first_passes (λ c. true) text
 
 -- a blank, or the end, comes next
 abbrev pub is_apart : List ℕ → Bool
@@ -112,20 +108,20 @@ IsEnd (Some fault) before at text = (fault.offset ≡ at) × IsFault before faul
 
 -- A text that begins at an offset, after these tokens and after a blank or not, is tokens written out, each where its
 -- offset says, with nothing but blanks before, between and after them, and then its end.
-abbrev pub Tells : Option LexFault → ℕ → Bool → List TokenKind → List Token → List ℕ → List ℕ → Type 0
-Tells end at blank before [] [] text = (blanks : List ℕ) × (rest : List ℕ)
+abbrev pub TellText : Option LexFault → ℕ → Bool → List TokenKind → List Token → List ℕ → List ℕ → Type 0
+TellText end at blank before [] [] text = (blanks : List ℕ) × (rest : List ℕ)
     × (text ≡ blanks ++ rest) × (list_all is_blank blanks ≡ true) × IsEnd end before (at + length blanks) rest
-Tells end at blank before (t ∷ ts) (offset ∷ offsets) text = (blanks : List ℕ) × (word : List ℕ) × (rest : List ℕ)
+TellText end at blank before (t ∷ ts) (offset ∷ offsets) text = (blanks : List ℕ) × (word : List ℕ) × (rest : List ℕ)
     × (text ≡ blanks ++ (word ++ rest)) × (list_all is_blank blanks ≡ true) × (offset ≡ at + length blanks)
     × Stands before t.kind word rest × (fault_of before t.kind word ≡ None)
     × (t.blank_before ≡ (blank || is_some_text blanks)) × (t.blank_after ≡ is_apart rest)
-    × Tells end (offset + length word) false (t.kind ∷ before) ts offsets rest
-Tells end at blank before _ _ text = ⊥
+    × TellText end (offset + length word) false (t.kind ∷ before) ts offsets rest
+TellText end at blank before _ _ text = ⊥
 
 -- its tokens tell a text, or tokens tell it up to its fault
 abbrev pub Told : Result TokenList LexFault → ℕ → Bool → List TokenKind → List ℕ → Type 0
-Told (Ok list) at blank before text = Tells None at blank before list.tokens list.offsets text
-Told (Err fault) at blank before text = (list : TokenList) × Tells (Some fault) at blank before list.tokens list.offsets text
+Told (Ok list) at blank before text = TellText None at blank before list.tokens list.offsets text
+Told (Err fault) at blank before text = (list : TokenList) × TellText (Some fault) at blank before list.tokens list.offsets text
 
 -- the tokens of what stands in a text from an offset on, or its first fault
 abbrev pub IsLexed : List ℕ → ℕ → Result TokenList LexFault → Type 0

@@ -2,7 +2,7 @@
 -- chapter 1; the mark `~`, the range of integers and what a goto's label may hold are own).
 use Rattle.std.specs.Prelude.{◌≡◌, ℕ, pos, Bool, false, true, not, ◌||◌, ◌==◌, List, [], ◌∷◌, ◌++◌, codes}
 use Rattle.std.specs.List.{list_all, list_any}
-use Rattle.mon_text.specs.Characters.{is_letter, is_digit, is_blank}
+use Rattle.mon_text.specs.Characters.{is_letter, is_digit, is_blank, is_quote, is_identifier_character, is_letter_or_digit}
 use Rattle.mon_text.specs.Counts.{value_of}
 use Rattle.sno_token.specs.declared.Mark.{Mark}
 use Rattle.sno_token.specs.declared.Mark.TheVariants.{Power, Star, Slash, Plus, Minus, Bar, Dot, Dollar, At, Tilde, Question, Ampersand}
@@ -14,18 +14,7 @@ use Rattle.sno_token.specs.declared.Constant.TheVariants as constant
 
 -- CHARACTERS
 
-abbrev pub is_quote : ℕ → Bool
-is_quote c = c == 39 || c == 34
-
--- what an identifier goes on with after its first letter: letters, digits, `.` and `_`
-abbrev pub is_identifier_character : ℕ → Bool
-is_identifier_character c = is_letter c || is_digit c || c == 46 || c == 95
-
--- what the label of a goto begins with
-abbrev pub is_letter_or_digit : ℕ → Bool
-is_letter_or_digit c = is_letter c || is_digit c
-
--- and what it goes on with: all but a blank and `)`
+-- what the label of a goto goes on with after its first letter or digit: all but a blank and `)`
 abbrev pub is_label_character : ℕ → Bool
 is_label_character c = not (is_blank c || c == 41)
 

@@ -1,9 +1,8 @@
 //! The characters that tokens are made of, and runs of them.
 ghost use Rattle.std.specs.Prelude.{not, ◌≡◌, ◌==◌, ◌≤◌, length, position, IfSome, ◌||◌};
 ghost use Rattle.std.specs.List.{before_first, position_or_len};
-ghost use Rattle.mon_text.specs.Characters.{is_letter, is_digit, is_printable};
+ghost use Rattle.mon_text.specs.Characters.{is_letter, is_digit, is_printable, is_quote, is_identifier_character};
 ghost use Rattle.mon_text.specs.Lines.{is_line};
-ghost use Rattle.sno_lexer.specs.Written.{is_identifier_character, is_quote};
 ghost use Rattle.sno_lexer.specs.inner.Classes.{goes_on, run_in};
 
 /// Characters that belong together.

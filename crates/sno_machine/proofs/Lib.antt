@@ -1,8 +1,10 @@
 pub mod Counted
 pub mod Naming
-pub mod Falling
 pub mod Stepping
+pub mod Moved
 pub mod Parts
 pub mod Standing
 pub mod Begins
 pub mod Assigning
+pub mod Splicing
+pub mod Staying

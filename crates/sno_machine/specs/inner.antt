@@ -1,4 +1,3 @@
-pub mod Moves
 pub mod Resting
 pub mod Counting
 pub mod Doing

@@ -9,7 +9,6 @@ ghost use Rattle.sno_code.specs.inner.Seen.{point_seen, next_seen};
 ghost use Rattle.sno_machine.specs.inner.Counting.{Counts};
 ghost use Rattle.sno_machine.specs.inner.Doing.{statement_in, next_by, returned_by};
 
-use crate::resting::leave;
 use sno_code::{Got, Halt, Next, Point, point_of};
 use sno_keeping::Limits;
 use sno_store::{StatementNumber, Store};
@@ -99,7 +98,7 @@ pub(crate) fn number_of(index: usize) -> StatementNumber
 /// # Errors
 ///
 /// Where a growth was refused.
-#[tactic(auto, using(crate::proofs::Counted::counting))]
+#[tactic(auto, using(crate::proofs::Counted::counting, crate::proofs::Counted::counts_same), unfolding(crate::specs::inner::Resting::kept))]
 pub(crate) fn returned(limits: Limits, got: Got, state: &mut Store) -> Result<Got, AllocError>
     ensures returned { IfOk result (λ after. (after, state.new) ≡ returned_by limits (got, state.old)) }
     ensures counted { Counts limits state.old state.new }
@@ -107,11 +106,11 @@ pub(crate) fn returned(limits: Limits, got: Got, state: &mut Store) -> Result<Go
 {
     match got {
         Got::Gives(_) => {
-            let value = leave(limits, state)?;
+            let value = state.leave()?;
             Ok(Got::Gives(value))
         }
         Got::Fails => {
-            leave(limits, state)?;
+            state.leave()?;
             Ok(Got::Fails)
         }
         Got::Halts(halt) => Ok(Got::Halts(halt)),

@@ -3,12 +3,11 @@
 //! No statement is evaluated by recursion over its tree: a loop goes over its code, and only calls of functions nest.
 #![tactic(auto)]
 
+mod acting;
 mod doing;
 mod going;
-mod joining;
 pub mod loaded;
 mod machine;
-mod moving;
 mod quick;
 mod resting;
 

@@ -4,8 +4,3 @@ use Rattle.std.specs.List.{list_any}
 
 abbrev pub is_one_of : List ℕ → ℕ → Bool
 is_one_of characters x = list_any (λ y. nat_eq y x) characters
-
--- there is a first character, and it passes
-abbrev pub begins_with : (ℕ → Bool) → List ℕ → Bool
-begins_with test [] = false
-begins_with test (x ∷ xs) = test x

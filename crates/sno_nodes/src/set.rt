@@ -1,7 +1,8 @@
 //! How a text begins: with a part, or with characters of a set.
 ghost use Rattle.std.specs.Prelude.{◌≡◌, ◌≤◌, not, length, nat_eq};
 ghost use Rattle.std.specs.List.{starts_with, prefix_len, position_or_len};
-ghost use Rattle.sno_nodes.specs.Sets.{is_one_of, begins_with};
+ghost use Rattle.sno_nodes.specs.Sets.{is_one_of};
+ghost use Rattle.mon_text.specs.Beginnings.{first_passes};
 
 /// Whether a text begins with a part. Most often the first character tells.
 #[inline(always)]
@@ -28,7 +29,7 @@ fn is_one_of(characters: &[u8], character: u8) -> bool
 /// Whether a character of the set comes first.
 #[inline]
 pub fn begins_with_one_of(rest: &[u8], characters: &[u8]) -> bool
-    ensures { result ≡ begins_with (is_one_of characters.now) rest.now }
+    ensures { result ≡ first_passes (is_one_of characters.now) rest.now }
 {
     match rest.first() {
         Some(first) => is_one_of(characters, *first),
@@ -39,7 +40,7 @@ pub fn begins_with_one_of(rest: &[u8], characters: &[u8]) -> bool
 /// Whether a character comes first that is not of the set.
 #[inline]
 pub fn begins_with_another(rest: &[u8], characters: &[u8]) -> bool
-    ensures { result ≡ begins_with (λ x. not (is_one_of characters.now x)) rest.now }
+    ensures { result ≡ first_passes (λ x. not (is_one_of characters.now x)) rest.now }
 {
     match rest.first() {
         Some(first) => !is_one_of(characters, *first),

@@ -7,10 +7,11 @@ use Rattle.sno_nodes.specs.Patterns.{Pattern}
 use Rattle.sno_nodes.specs.Patterns as pattern
 use Rattle.sno_pattern.specs.declared.ending.Pending.{Pending}
 use Rattle.sno_pattern.specs.Looks.{Told, Found, Given, Refused, Faulty}
-use Rattle.sno_nodes.specs.Sets.{is_one_of, begins_with}
+use Rattle.sno_nodes.specs.Sets.{is_one_of}
 use Rattle.sno_pattern.specs.Steps.{Goal, Meet, More, EndConditional, EndImmediate, End, Success, Failure, WholeFails, OutOfSteps, Fault, Trying, Way, ends, after_end, on_failure, at_each, part, balanced_ends, pattern_found, with_found, if_given, row, attempt, outcome}
 use Rattle.sno_pattern.proofs.Trying.{LeavesAtMost, Falls, leaves_more, fails_falls}
 use Rattle.sno_pattern.proofs.Table.{row_falls, attempt_falls}
+use Rattle.mon_text.specs.Beginnings.{first_passes}
 
 -- t' is t with j + 1 steps more
 abbrev pub Longer : ℕ → Trying → Trying → Type 0
@@ -95,11 +96,11 @@ module _ (go go' : Way) (j n : ℕ) (longer : (gs : List Goal) (c : ℕ) (p : Li
   row_longer text (Meet (pattern.Tab k)) r c p = if_longer j (nat_le c k && nat_le k (length text)) (go r k p n) (go' r k p (n + suc j)) n (here r k p)
   row_longer text (Meet (pattern.RTab k)) r c p = if_longer j (nat_le (c + k) (length text)) (go r (length text - k) p n)
       (go' r (length text - k) p (n + suc j)) n (here r (length text - k) p)
-  row_longer text (Meet (pattern.Any s)) r c p = if_longer j (begins_with (is_one_of s) (drop c text)) (go r (c + 1) p n)
+  row_longer text (Meet (pattern.Any s)) r c p = if_longer j (first_passes (is_one_of s) (drop c text)) (go r (c + 1) p n)
       (go' r (c + 1) p (n + suc j)) n (here r (c + 1) p)
-  row_longer text (Meet (pattern.NotAny s)) r c p = if_longer j (begins_with (λ x. not (is_one_of s x)) (drop c text)) (go r (c + 1) p n)
+  row_longer text (Meet (pattern.NotAny s)) r c p = if_longer j (first_passes (λ x. not (is_one_of s x)) (drop c text)) (go r (c + 1) p n)
       (go' r (c + 1) p (n + suc j)) n (here r (c + 1) p)
-  row_longer text (Meet (pattern.Span s)) r c p = if_longer j (begins_with (is_one_of s) (drop c text))
+  row_longer text (Meet (pattern.Span s)) r c p = if_longer j (first_passes (is_one_of s) (drop c text))
       (go r (c + prefix_len (is_one_of s) (drop c text)) p n) (go' r (c + prefix_len (is_one_of s) (drop c text)) p (n + suc j)) n
       (here r (c + prefix_len (is_one_of s) (drop c text)) p)
   row_longer text (Meet (pattern.Break s)) r c p = if_longer j (nat_lt (c + position_or_len (is_one_of s) (drop c text)) (length text))

@@ -10,9 +10,10 @@ use Rattle.sno_talk.specs.Talks.{Ends, Asks}
 use Rattle.sno_nodes.specs.Patterns.{Pattern}
 use Rattle.sno_nodes.specs.Patterns as pattern
 use Rattle.sno_pattern.specs.declared.ending.Pending.{Pending}
-use Rattle.sno_nodes.specs.Sets.{is_one_of, begins_with}
+use Rattle.sno_nodes.specs.Sets.{is_one_of}
 use Rattle.sno_pattern.specs.Steps.{Goal, Meet, More, EndConditional, EndImmediate, End, Success, Failure, WholeFails, OutOfSteps, Fault, Trying, Way, ends, after_end, on_failure, at_each, part, in_pairs, balanced_ends, row, attempt, outcome}
 use Rattle.sno_pattern.specs.Places.{IsSimple, ends_of_turns, one_end, ends_of, Finds, Comes}
+use Rattle.mon_text.specs.Beginnings.{first_passes}
 
 -- each is at a cursor from c on, and within the text
 abbrev pub Between : ℕ → ℕ → List ℕ → Type 0
@@ -117,11 +118,11 @@ text_within text s c h q =
     let fits : length s ≤ length text - c = omega (arith, length-take (length s) (drop c text), length-drop c text) in
     omega arith
 
-some_first : (test : ℕ → Bool) (xs : List ℕ) → begins_with test xs ≡ true → 0 < length xs
+some_first : (test : ℕ → Bool) (xs : List ℕ) → first_passes test xs ≡ true → 0 < length xs
 some_first test [] h = absurd (cc (h))
 some_first test (x ∷ xs) h = omega arith
 
-first_within : (text : List ℕ) (test : ℕ → Bool) (c : ℕ) → c ≤ length text → begins_with test (drop c text) ≡ true → c + 1 ≤ length text
+first_within : (text : List ℕ) (test : ℕ → Bool) (c : ℕ) → c ≤ length text → first_passes test (drop c text) ≡ true → c + 1 ≤ length text
 first_within text test c h q = let some : 0 < length (drop c text) = some_first test (drop c text) q in omega (arith, length-drop c text)
 
 run_if : (b : Bool) (k l : ℕ) → k ≤ l → cond b (1 + k) 0 ≤ suc l
@@ -160,12 +161,12 @@ ends_between text (pattern.Tab k) c h = between_one (length text) c k (nat_le c 
     (λ q. (is_le c k (both_first (nat_le c k) (nat_le k (length text)) q), is_le k (length text) (both_second (nat_le c k) (nat_le k (length text)) q)))
 ends_between text (pattern.RTab k) c h = between_one (length text) c (length text - k) (nat_le (c + k) (length text))
     (λ q. let w : c + k ≤ length text = is_le (c + k) (length text) q in (omega arith, omega arith))
-ends_between text (pattern.Any s) c h = between_one (length text) c (c + 1) (begins_with (is_one_of s) (drop c text))
+ends_between text (pattern.Any s) c h = between_one (length text) c (c + 1) (first_passes (is_one_of s) (drop c text))
     (λ q. let w = first_within text (is_one_of s) c h q in (omega arith, w))
-ends_between text (pattern.NotAny s) c h = between_one (length text) c (c + 1) (begins_with (λ x. not (is_one_of s x)) (drop c text))
+ends_between text (pattern.NotAny s) c h = between_one (length text) c (c + 1) (first_passes (λ x. not (is_one_of s x)) (drop c text))
     (λ q. let w = first_within text (λ x. not (is_one_of s x)) c h q in (omega arith, w))
 ends_between text (pattern.Span s) c h = between_one (length text) c (c + prefix_len (is_one_of s) (drop c text))
-    (begins_with (is_one_of s) (drop c text)) (λ q. let w = span_within text (is_one_of s) c h in (omega arith, w))
+    (first_passes (is_one_of s) (drop c text)) (λ q. let w = span_within text (is_one_of s) c h in (omega arith, w))
 ends_between text (pattern.Break s) c h = between_one (length text) c (c + position_or_len (is_one_of s) (drop c text))
     (nat_lt (c + position_or_len (is_one_of s) (drop c text)) (length text))
     (λ q. let w = is_lt (c + position_or_len (is_one_of s) (drop c text)) (length text) q in (omega arith, w))
@@ -280,12 +281,12 @@ module _ (text : List ℕ) (go : Way) (finds : (gs : List Goal) (c : ℕ) (p : L
   row_finds (Meet (pattern.Tab k)) r c p n k' h = single_finds r k (nat_le c k && nat_le k (length text)) c p n k'.1 (ends_between text (pattern.Tab k) c h)
   row_finds (Meet (pattern.RTab k)) r c p n k' h = single_finds r (length text - k) (nat_le (c + k) (length text)) c p n k'.1
       (ends_between text (pattern.RTab k) c h)
-  row_finds (Meet (pattern.Any s)) r c p n k' h = single_finds r (c + 1) (begins_with (is_one_of s) (drop c text)) c p n k'.1
+  row_finds (Meet (pattern.Any s)) r c p n k' h = single_finds r (c + 1) (first_passes (is_one_of s) (drop c text)) c p n k'.1
       (ends_between text (pattern.Any s) c h)
-  row_finds (Meet (pattern.NotAny s)) r c p n k' h = single_finds r (c + 1) (begins_with (λ x. not (is_one_of s x)) (drop c text)) c p n k'.1
+  row_finds (Meet (pattern.NotAny s)) r c p n k' h = single_finds r (c + 1) (first_passes (λ x. not (is_one_of s x)) (drop c text)) c p n k'.1
       (ends_between text (pattern.NotAny s) c h)
   row_finds (Meet (pattern.Span s)) r c p n k' h = single_finds r (c + prefix_len (is_one_of s) (drop c text))
-      (begins_with (is_one_of s) (drop c text)) c p n k'.1 (ends_between text (pattern.Span s) c h)
+      (first_passes (is_one_of s) (drop c text)) c p n k'.1 (ends_between text (pattern.Span s) c h)
   row_finds (Meet (pattern.Break s)) r c p n k' h = single_finds r (c + position_or_len (is_one_of s) (drop c text))
       (nat_lt (c + position_or_len (is_one_of s) (drop c text)) (length text)) c p n k'.1 (ends_between text (pattern.Break s) c h)
   row_finds (Meet pattern.Rem) r c p n k h = one_finds r (length text) p n k.1 (omega arith)

@@ -7,9 +7,10 @@ use Rattle.sno_nodes.specs.Patterns as pattern
 use Rattle.sno_pattern.specs.declared.ending.Pending.{Pending}
 use Rattle.sno_pattern.specs.declared.reach.Reach.{Reach}
 use Rattle.sno_pattern.specs.declared.reach.Reach.TheVariants.{Here, Nowhere, Depends}
-use Rattle.sno_nodes.specs.Sets.{is_one_of, begins_with}
+use Rattle.sno_nodes.specs.Sets.{is_one_of}
 use Rattle.sno_pattern.specs.Steps.{Goal, Meet, Failure, Trying, Way, ends, row}
 use Rattle.sno_pattern.specs.inner.Reaching.{here_if, reached, is_nowhere, IsQuiet, IsEntered, IsParted}
+use Rattle.mon_text.specs.Beginnings.{first_passes}
 
 abbrev IsHere : Reach → Type 0
 IsHere (Here c) = Unit {0}
@@ -57,9 +58,9 @@ module _ (text : List ℕ) (go : Way) (r : List Goal) (c : ℕ) (w : List Pendin
   row_nowhere (pattern.RPos k) h = if_nowhere (nat_eq (c + k) (length text)) c (go r c w n) (ends Failure n) h
   row_nowhere (pattern.Tab k) h = if_nowhere (nat_le c k && nat_le k (length text)) k (go r k w n) (ends Failure n) h
   row_nowhere (pattern.RTab k) h = if_nowhere (nat_le (c + k) (length text)) (length text - k) (go r (length text - k) w n) (ends Failure n) h
-  row_nowhere (pattern.Any s) h = if_nowhere (begins_with (is_one_of s) (drop c text)) (c + 1) (go r (c + 1) w n) (ends Failure n) h
-  row_nowhere (pattern.NotAny s) h = if_nowhere (begins_with (λ x. not (is_one_of s x)) (drop c text)) (c + 1) (go r (c + 1) w n) (ends Failure n) h
-  row_nowhere (pattern.Span s) h = if_nowhere (begins_with (is_one_of s) (drop c text)) (c + prefix_len (is_one_of s) (drop c text))
+  row_nowhere (pattern.Any s) h = if_nowhere (first_passes (is_one_of s) (drop c text)) (c + 1) (go r (c + 1) w n) (ends Failure n) h
+  row_nowhere (pattern.NotAny s) h = if_nowhere (first_passes (λ x. not (is_one_of s x)) (drop c text)) (c + 1) (go r (c + 1) w n) (ends Failure n) h
+  row_nowhere (pattern.Span s) h = if_nowhere (first_passes (is_one_of s) (drop c text)) (c + prefix_len (is_one_of s) (drop c text))
       (go r (c + prefix_len (is_one_of s) (drop c text)) w n) (ends Failure n) h
   row_nowhere (pattern.Break s) h = if_nowhere (nat_lt (c + position_or_len (is_one_of s) (drop c text)) (length text))
       (c + position_or_len (is_one_of s) (drop c text)) (go r (c + position_or_len (is_one_of s) (drop c text)) w n) (ends Failure n) h
@@ -86,9 +87,9 @@ module _ (text : List ℕ) (go : Way) (r : List Goal) (c : ℕ) (w : List Pendin
   row_here (pattern.RPos k) e h = if_here (nat_eq (c + k) (length text)) c e (λ k'. go r k' w n) (ends Failure n) h
   row_here (pattern.Tab k) e h = if_here (nat_le c k && nat_le k (length text)) k e (λ k'. go r k' w n) (ends Failure n) h
   row_here (pattern.RTab k) e h = if_here (nat_le (c + k) (length text)) (length text - k) e (λ k'. go r k' w n) (ends Failure n) h
-  row_here (pattern.Any s) e h = if_here (begins_with (is_one_of s) (drop c text)) (c + 1) e (λ k'. go r k' w n) (ends Failure n) h
-  row_here (pattern.NotAny s) e h = if_here (begins_with (λ x. not (is_one_of s x)) (drop c text)) (c + 1) e (λ k'. go r k' w n) (ends Failure n) h
-  row_here (pattern.Span s) e h = if_here (begins_with (is_one_of s) (drop c text)) (c + prefix_len (is_one_of s) (drop c text)) e
+  row_here (pattern.Any s) e h = if_here (first_passes (is_one_of s) (drop c text)) (c + 1) e (λ k'. go r k' w n) (ends Failure n) h
+  row_here (pattern.NotAny s) e h = if_here (first_passes (λ x. not (is_one_of s x)) (drop c text)) (c + 1) e (λ k'. go r k' w n) (ends Failure n) h
+  row_here (pattern.Span s) e h = if_here (first_passes (is_one_of s) (drop c text)) (c + prefix_len (is_one_of s) (drop c text)) e
       (λ k'. go r k' w n) (ends Failure n) h
   row_here (pattern.Break s) e h = if_here (nat_lt (c + position_or_len (is_one_of s) (drop c text)) (length text))
       (c + position_or_len (is_one_of s) (drop c text)) e (λ k'. go r k' w n) (ends Failure n) h
@@ -117,9 +118,9 @@ parted_if text (pattern.Pos k) c h q e = if_depends (nat_eq c k) c h
 parted_if text (pattern.RPos k) c h q e = if_depends (nat_eq (c + k) (length text)) c h
 parted_if text (pattern.Tab k) c h q e = if_depends (nat_le c k && nat_le k (length text)) k h
 parted_if text (pattern.RTab k) c h q e = if_depends (nat_le (c + k) (length text)) (length text - k) h
-parted_if text (pattern.Any s) c h q e = if_depends (begins_with (is_one_of s) (drop c text)) (c + 1) h
-parted_if text (pattern.NotAny s) c h q e = if_depends (begins_with (λ x. not (is_one_of s x)) (drop c text)) (c + 1) h
-parted_if text (pattern.Span s) c h q e = if_depends (begins_with (is_one_of s) (drop c text)) (c + prefix_len (is_one_of s) (drop c text)) h
+parted_if text (pattern.Any s) c h q e = if_depends (first_passes (is_one_of s) (drop c text)) (c + 1) h
+parted_if text (pattern.NotAny s) c h q e = if_depends (first_passes (λ x. not (is_one_of s x)) (drop c text)) (c + 1) h
+parted_if text (pattern.Span s) c h q e = if_depends (first_passes (is_one_of s) (drop c text)) (c + prefix_len (is_one_of s) (drop c text)) h
 parted_if text (pattern.Break s) c h q e = if_depends (nat_lt (c + position_or_len (is_one_of s) (drop c text)) (length text))
     (c + position_or_len (is_one_of s) (drop c text)) h
 parted_if text pattern.Fail c h q e = h

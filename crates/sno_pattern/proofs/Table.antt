@@ -7,9 +7,10 @@ use Rattle.sno_nodes.specs.Patterns as pattern
 use Rattle.sno_pattern.specs.declared.ending.Pending.{Pending}
 use Rattle.sno_pattern.specs.declared.host.Taken.TheVariants.{Part, Cursor}
 use Rattle.sno_pattern.specs.Looks.{LookUp, Assign}
-use Rattle.sno_nodes.specs.Sets.{is_one_of, begins_with}
+use Rattle.sno_nodes.specs.Sets.{is_one_of}
 use Rattle.sno_pattern.specs.Steps.{Goal, Meet, More, EndConditional, EndImmediate, Success, Failure, WholeFails, OutOfSteps, Way, ends, on_failure, at_each, part, balanced_ends, with_found, if_given, row, attempt, outcome}
 use Rattle.sno_pattern.proofs.Trying.{LeavesAtMost, Falls, Agree, leaves_more, fails_falls, fails_agree, if_falls, found_falls, given_falls, found_agrees, asks_same}
+use Rattle.mon_text.specs.Beginnings.{first_passes}
 
 module _ (go : Way) (falls : Falls go) where
   up : (gs : List Goal) (c : ℕ) (p : List Pending) (m n : ℕ) → m ≤ n → LeavesAtMost n (go gs c p m)
@@ -36,9 +37,9 @@ module _ (go : Way) (falls : Falls go) where
   row_falls text (Meet (pattern.RPos k)) r c p n = if_falls (nat_eq (c + k) (length text)) (go r c p n) n (falls r c p n)
   row_falls text (Meet (pattern.Tab k)) r c p n = if_falls (nat_le c k && nat_le k (length text)) (go r k p n) n (falls r k p n)
   row_falls text (Meet (pattern.RTab k)) r c p n = if_falls (nat_le (c + k) (length text)) (go r (length text - k) p n) n (falls r (length text - k) p n)
-  row_falls text (Meet (pattern.Any s)) r c p n = if_falls (begins_with (is_one_of s) (drop c text)) (go r (c + 1) p n) n (falls r (c + 1) p n)
-  row_falls text (Meet (pattern.NotAny s)) r c p n = if_falls (begins_with (λ x. not (is_one_of s x)) (drop c text)) (go r (c + 1) p n) n (falls r (c + 1) p n)
-  row_falls text (Meet (pattern.Span s)) r c p n = if_falls (begins_with (is_one_of s) (drop c text))
+  row_falls text (Meet (pattern.Any s)) r c p n = if_falls (first_passes (is_one_of s) (drop c text)) (go r (c + 1) p n) n (falls r (c + 1) p n)
+  row_falls text (Meet (pattern.NotAny s)) r c p n = if_falls (first_passes (λ x. not (is_one_of s x)) (drop c text)) (go r (c + 1) p n) n (falls r (c + 1) p n)
+  row_falls text (Meet (pattern.Span s)) r c p n = if_falls (first_passes (is_one_of s) (drop c text))
       (go r (c + prefix_len (is_one_of s) (drop c text)) p n) n (falls r (c + prefix_len (is_one_of s) (drop c text)) p n)
   row_falls text (Meet (pattern.Break s)) r c p n = if_falls (nat_lt (c + position_or_len (is_one_of s) (drop c text)) (length text))
       (go r (c + position_or_len (is_one_of s) (drop c text)) p n) n (falls r (c + position_or_len (is_one_of s) (drop c text)) p n)
@@ -84,10 +85,10 @@ module _ (go : Way) (falls : Falls go) where
     row_agrees text (Meet (pattern.RPos k)) r c p = ap (λ o. if nat_eq (c + k) (length text) then o else ends Failure n) (here r c p)
     row_agrees text (Meet (pattern.Tab k)) r c p = ap (λ o. if nat_le c k && nat_le k (length text) then o else ends Failure n) (here r k p)
     row_agrees text (Meet (pattern.RTab k)) r c p = ap (λ o. if nat_le (c + k) (length text) then o else ends Failure n) (here r (length text - k) p)
-    row_agrees text (Meet (pattern.Any s)) r c p = ap (λ o. if begins_with (is_one_of s) (drop c text) then o else ends Failure n) (here r (c + 1) p)
-    row_agrees text (Meet (pattern.NotAny s)) r c p = ap (λ o. if begins_with (λ x. not (is_one_of s x)) (drop c text) then o else ends Failure n)
+    row_agrees text (Meet (pattern.Any s)) r c p = ap (λ o. if first_passes (is_one_of s) (drop c text) then o else ends Failure n) (here r (c + 1) p)
+    row_agrees text (Meet (pattern.NotAny s)) r c p = ap (λ o. if first_passes (λ x. not (is_one_of s x)) (drop c text) then o else ends Failure n)
         (here r (c + 1) p)
-    row_agrees text (Meet (pattern.Span s)) r c p = ap (λ o. if begins_with (is_one_of s) (drop c text) then o else ends Failure n)
+    row_agrees text (Meet (pattern.Span s)) r c p = ap (λ o. if first_passes (is_one_of s) (drop c text) then o else ends Failure n)
         (here r (c + prefix_len (is_one_of s) (drop c text)) p)
     row_agrees text (Meet (pattern.Break s)) r c p = ap (λ o. if nat_lt (c + position_or_len (is_one_of s) (drop c text))
         (length text) then o else ends Failure n) (here r (c + position_or_len (is_one_of s) (drop c text)) p)

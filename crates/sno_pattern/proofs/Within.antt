@@ -11,12 +11,13 @@ use Rattle.sno_nodes.specs.Patterns.{Pattern}
 use Rattle.sno_nodes.specs.Patterns as pattern
 use Rattle.sno_pattern.specs.declared.ending.Pending.{Pending}
 use Rattle.sno_pattern.specs.Looks.{Look, Told, Found, Given, Refused, Faulty}
-use Rattle.sno_nodes.specs.Sets.{is_one_of, begins_with}
+use Rattle.sno_nodes.specs.Sets.{is_one_of}
 use Rattle.sno_pattern.specs.Steps.{Goal, Meet, More, EndConditional, EndImmediate, End, Success, Failure, WholeFails, OutOfSteps, Fault, Outcome, Trying, Way, ends, after_end, on_failure, at_each, part, balanced_ends, pattern_found, with_found, if_given, row, attempt, outcome, Finish, settle, from_starts}
 use Rattle.sno_pattern.specs.Places.{one_end, MatchesWithin}
 use Rattle.sno_pattern.specs.Laws.{MatchIsWithin}
 use Rattle.sno_pattern.proofs.Finding.{Between, ends_between}
 use Rattle.sno_pattern.proofs.Firsts.{enough_starts}
+use Rattle.mon_text.specs.Beginnings.{first_passes}
 
 -- goals come out from a cursor on
 abbrev Onward : ℕ → ℕ → End → Type 0
@@ -95,11 +96,11 @@ module _ (text : List ℕ) (go : Way) (comes : (gs : List Goal) (c : ℕ) (p : L
   row_comes (Meet (pattern.RPos k)) r c p n h = one_comes r c c (nat_eq (c + k) (length text)) p n (ends_between text (pattern.RPos k) c h)
   row_comes (Meet (pattern.Tab k)) r c p n h = one_comes r c k (nat_le c k && nat_le k (length text)) p n (ends_between text (pattern.Tab k) c h)
   row_comes (Meet (pattern.RTab k)) r c p n h = one_comes r c (length text - k) (nat_le (c + k) (length text)) p n (ends_between text (pattern.RTab k) c h)
-  row_comes (Meet (pattern.Any s)) r c p n h = one_comes r c (c + 1) (begins_with (is_one_of s) (drop c text)) p n (ends_between text (pattern.Any s) c h)
-  row_comes (Meet (pattern.NotAny s)) r c p n h = one_comes r c (c + 1) (begins_with (λ x. not (is_one_of s x)) (drop c text)) p n
+  row_comes (Meet (pattern.Any s)) r c p n h = one_comes r c (c + 1) (first_passes (is_one_of s) (drop c text)) p n (ends_between text (pattern.Any s) c h)
+  row_comes (Meet (pattern.NotAny s)) r c p n h = one_comes r c (c + 1) (first_passes (λ x. not (is_one_of s x)) (drop c text)) p n
       (ends_between text (pattern.NotAny s) c h)
   row_comes (Meet (pattern.Span s)) r c p n h = one_comes r c (c + prefix_len (is_one_of s) (drop c text))
-      (begins_with (is_one_of s) (drop c text)) p n (ends_between text (pattern.Span s) c h)
+      (first_passes (is_one_of s) (drop c text)) p n (ends_between text (pattern.Span s) c h)
   row_comes (Meet (pattern.Break s)) r c p n h = one_comes r c (c + position_or_len (is_one_of s) (drop c text))
       (nat_lt (c + position_or_len (is_one_of s) (drop c text)) (length text)) p n (ends_between text (pattern.Break s) c h)
   row_comes (Meet pattern.Rem) r c p n h = further (length text) c (length text) h (go r (length text) p n) (comes r (length text) p n (omega arith))

@@ -7,8 +7,9 @@ use Rattle.sno_nodes.specs.Patterns.{Pattern}
 use Rattle.sno_nodes.specs.Patterns as pattern
 use Rattle.sno_pattern.specs.declared.ending.MatchEnd.{MatchEnd}
 use Rattle.sno_pattern.specs.declared.ending.MatchEnd.TheVariants as end
-use Rattle.sno_nodes.specs.Sets.{is_one_of, begins_with}
+use Rattle.sno_nodes.specs.Sets.{is_one_of}
 use Rattle.sno_pattern.specs.Steps.{End, Success, Failure, WholeFails, OutOfSteps, Fault, Trying, balanced_ends}
+use Rattle.mon_text.specs.Beginnings.{first_passes}
 
 -- no host is asked, and nothing cuts off what is still to be tried
 abbrev pub IsSimple : Pattern → Type 0
@@ -39,9 +40,9 @@ ends_of text (pattern.Pos k) c = one_end (nat_eq c k) c
 ends_of text (pattern.RPos k) c = one_end (nat_eq (c + k) (length text)) c
 ends_of text (pattern.Tab k) c = one_end (nat_le c k && nat_le k (length text)) k
 ends_of text (pattern.RTab k) c = one_end (nat_le (c + k) (length text)) (length text - k)
-ends_of text (pattern.Any s) c = one_end (begins_with (is_one_of s) (drop c text)) (c + 1)
-ends_of text (pattern.NotAny s) c = one_end (begins_with (λ x. not (is_one_of s x)) (drop c text)) (c + 1)
-ends_of text (pattern.Span s) c = one_end (begins_with (is_one_of s) (drop c text)) (c + prefix_len (is_one_of s) (drop c text))
+ends_of text (pattern.Any s) c = one_end (first_passes (is_one_of s) (drop c text)) (c + 1)
+ends_of text (pattern.NotAny s) c = one_end (first_passes (λ x. not (is_one_of s x)) (drop c text)) (c + 1)
+ends_of text (pattern.Span s) c = one_end (first_passes (is_one_of s) (drop c text)) (c + prefix_len (is_one_of s) (drop c text))
 ends_of text (pattern.Break s) c = one_end (nat_lt (c + position_or_len (is_one_of s) (drop c text)) (length text))
     (c + position_or_len (is_one_of s) (drop c text))
 ends_of text pattern.Rem c = length text ∷ []

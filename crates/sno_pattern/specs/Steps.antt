@@ -5,7 +5,7 @@ use Rattle.std.specs.List.{range_with_len, starts_with, filter, list_all, prefix
 use Rattle.sno_talk.specs.Talks.{Talk, Ends, ask, ◌>>=◌}
 use Rattle.sno_text.specs.declared.fault.Fault.{Fault as AFault}
 use Rattle.sno_nodes.specs.Patterns.{Pattern}
-use Rattle.sno_nodes.specs.Sets.{is_one_of, begins_with}
+use Rattle.sno_nodes.specs.Sets.{is_one_of}
 use Rattle.sno_nodes.specs.Patterns as pattern
 use Rattle.sno_pattern.specs.declared.host.Looked.{Looked}
 use Rattle.sno_pattern.specs.declared.host.Looked.TheVariants as looked
@@ -14,6 +14,7 @@ use Rattle.sno_pattern.specs.declared.ending.Pending.{Pending}
 use Rattle.sno_pattern.specs.declared.ending.MatchEnd.{MatchEnd}
 use Rattle.sno_pattern.specs.declared.ending.MatchEnd.TheVariants as end
 use Rattle.sno_pattern.specs.Looks.{Look, LookUp, Assign, Told, Found, Given, Refused, Faulty}
+use Rattle.mon_text.specs.Beginnings.{first_passes}
 
 -- what is still to be met, each from the cursor where the one before it ends
 pub data Goal : Type 0 where
@@ -52,10 +53,7 @@ ends e n = Ends (record { end = e; left = n })
 -- the second attempt after an end, if that is failure, with the steps that are left
 abbrev pub after_end : End → ℕ → (ℕ → Trying) → Trying
 after_end Failure n second = second n
-after_end (Success at pending) n second = ends (Success at pending) n
-after_end WholeFails n second = ends WholeFails n
-after_end OutOfSteps n second = ends OutOfSteps n
-after_end (Fault f) n second = ends (Fault f) n
+after_end e n second = ends e n
 
 abbrev pub on_failure : Trying → (ℕ → Trying) → Trying
 on_failure first second = first >>= (λ o. after_end o.end o.left second)
@@ -91,16 +89,14 @@ pattern_found (looked.Defer v) = pattern.Defer v
 -- how it goes on with what the host told: with what was found
 abbrev pub with_found : Told → ℕ → (Pattern → Trying) → Trying
 with_found (Found looked) n go = go (pattern_found looked)
-with_found Given n go = ends Failure n
-with_found Refused n go = ends Failure n
 with_found (Faulty f) n go = ends (Fault f) n
+with_found told n go = ends Failure n
 
 -- or once an assignment was made
 abbrev pub if_given : Told → ℕ → Trying → Trying
 if_given Given n go = go
-if_given (Found looked) n go = ends Failure n
-if_given Refused n go = ends Failure n
 if_given (Faulty f) n go = ends (Fault f) n
+if_given told n go = ends Failure n
 
 module _ (text : List ℕ) where
   -- THE TABLE: a goal at the cursor c, with the rest r of the goals
@@ -117,11 +113,11 @@ module _ (text : List ℕ) where
       if nat_le (c + k) (length text) then go r (length text - k) pending n else ends Failure n
   row go (Meet pattern.Rem) r c pending n = go r (length text) pending n
   row go (Meet (pattern.Any s)) r c pending n =
-      if begins_with (is_one_of s) (drop c text) then go r (c + 1) pending n else ends Failure n
+      if first_passes (is_one_of s) (drop c text) then go r (c + 1) pending n else ends Failure n
   row go (Meet (pattern.NotAny s)) r c pending n =
-      if begins_with (λ x. not (is_one_of s x)) (drop c text) then go r (c + 1) pending n else ends Failure n
+      if first_passes (λ x. not (is_one_of s x)) (drop c text) then go r (c + 1) pending n else ends Failure n
   row go (Meet (pattern.Span s)) r c pending n =
-      if begins_with (is_one_of s) (drop c text)
+      if first_passes (is_one_of s) (drop c text)
       then go r (c + prefix_len (is_one_of s) (drop c text)) pending n
       else ends Failure n
   row go (Meet (pattern.Break s)) r c pending n =

@@ -7,8 +7,9 @@ use Rattle.std.proofs.lemmas.Bool.Decides.{nat_tests}
 use Rattle.sno_value.specs.declared.value.Value.{Value}
 use Rattle.sno_value.specs.declared.value.Value.TheVariants.{Integer}
 use Rattle.sno_value.specs.Values.{text_of}
-use Rattle.sno_prototype.specs.Formats.{format_of, format_behind, format_without_blank}
-use Rattle.sno_prototype.specs.Arguments.{format_by}
+use Rattle.sno_prototype.specs.Formats.{format_of}
+use Rattle.std.specs.Option.{option_and_then}
+use Rattle.sno_prototype.proofs.Shorthand.{format_without_blank, format_behind}
 
 -- what begins with no parenthesis, if with anything
 abbrev begins : List ℕ → ℕ
@@ -48,5 +49,5 @@ unformatted : (z : ℤ) → None ≡ format_of (signed_decimal z)
 unformatted (pos n) = sym (unread (decimal n) (decimals n))
 unformatted (negsuc n) = sym (unread (45 ∷ decimal (suc n)) refl)
 
-pub no_format : (v : Value) (z : ℤ) → v ≡ Integer z → None ≡ format_by (text_of v)
-no_format v z is = unformatted z ∙ sym (ap (λ (w : Value). format_by (text_of w)) is)
+pub no_format : (v : Value) (z : ℤ) → v ≡ Integer z → None ≡ option_and_then format_of (text_of v)
+no_format v z is = unformatted z ∙ sym (ap (λ (w : Value). option_and_then format_of (text_of w)) is)

@@ -1,3 +1,4 @@
+mod Shorthand
 mod Numbers
 mod Identifiers
 mod Listing

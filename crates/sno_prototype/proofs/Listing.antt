@@ -8,8 +8,9 @@ use Rattle.std.proofs.lemmas.Bool.Decides.{nat_tests}
 use Rattle.std.proofs.lemmas.List.Folds.{list_all-append}
 use Rattle.std.proofs.lemmas.List.Splits.{slice_split-cons_no, slice_split_first}
 use Rattle.mon_text.specs.Lines.{is_blank_line}
-use Rattle.sno_prototype.specs.Prototypes.{is_identifier, trimmed, is_comma, items, cut_at}
+use Rattle.sno_prototype.specs.Prototypes.{is_identifier, trimmed, items, cut_at}
 use Rattle.sno_prototype.specs.inner.Reading.{told, listed}
+use Rattle.mon_text.specs.Characters.{is_comma}
 
 -- THE FIRST ITEM
 

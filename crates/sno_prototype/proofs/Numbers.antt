@@ -4,8 +4,9 @@ use Rattle.std.specs.Prelude.{if◌then◌else◌}
 use Rattle.std.specs.List.{list_all}
 use Rattle.std.proofs.lemmas.Bool.Decides.{nat_tests}
 use Rattle.mon_text.specs.Characters.{is_digit}
-use Rattle.mon_text.specs.Counts.{read_on, value_of}
+use Rattle.mon_text.specs.Counts.{value_of}
 use Rattle.sno_prototype.specs.Formats.{number_to}
+use Rattle.mon_text.proofs.Digits.{read_on}
 
 grows : (n : ℕ) (digits : List ℕ) → n ≤ read_on n digits
 grows n [] = omega arith

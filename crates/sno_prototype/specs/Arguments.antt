@@ -8,6 +8,7 @@ use Rattle.sno_value.specs.Values.{is_null, text_of, number_of}
 use Rattle.sno_prototype.specs.Formats.{RecordFormat, format_of}
 use Rattle.sno_prototype.specs.declared.association.Input.{Input}
 use Rattle.sno_prototype.specs.declared.association.Output.{Output}
+use Rattle.std.specs.Option.{ok_or, option_and_then}
 
 -- goes on with what there is, if there is no fault before
 abbrev pub go_on : {A B : Type 0} → Result A Fault → (A → Result B Fault) → Result B Fault
@@ -16,8 +17,7 @@ go_on (Err f) go = Err f
 
 -- what there is, or a fault
 abbrev pub or_fault : {A : Type 0} → Fault → Option A → Result A Fault
-or_fault f None = Err f
-or_fault f (Some a) = Ok a
+or_fault f seen = ok_or seen f
 
 abbrev pub name_in_text : List ℕ → Result (List ℕ) Fault
 name_in_text [] = Err fault.Null
@@ -39,21 +39,13 @@ unit_in v = go_on (or_fault fault.WrongType (number_of v)) (λ z. or_fault fault
 abbrev pub unit_or : ℕ → Value → Result ℕ Fault
 unit_or usual v = if is_null v then Ok usual else unit_in v
 
-abbrev pub most_of : Option ℤ → Option ℕ
-most_of None = None
-most_of (Some z) = number_within 1 1024 z
-
 -- how many characters of a record are kept: 1 to 1,024, all if null
 abbrev pub most_in : Value → Result ℕ Fault
-most_in v = if is_null v then Ok 1024 else or_fault fault.Format (most_of (number_of v))
-
-abbrev pub format_by : Option (List ℕ) → Option RecordFormat
-format_by None = None
-format_by (Some text) = format_of text
+most_in v = if is_null v then Ok 1024 else or_fault fault.Format (option_and_then (number_within 1 1024) (number_of v))
 
 -- how a text is cut into records: 1,024 characters each, if null
 abbrev pub format_in : Value → Result RecordFormat Fault
-format_in v = if is_null v then Ok (record { characters = 1024; blank = false }) else or_fault fault.Format (format_by (text_of v))
+format_in v = if is_null v then Ok (record { characters = 1024; blank = false }) else or_fault fault.Format (option_and_then format_of (text_of v))
 
 -- INPUT(name, unit, most) and OUTPUT(name, unit, format), beside the name
 abbrev pub input_in : Value → Value → Result Input Fault

@@ -1,7 +1,7 @@
 -- Formats of records (own): `(nA1)` for n characters a record, 1 to 1,024, and `(1X,nA1)` for a blank and n characters, 1 to 1,023.
 use Rattle.std.specs.Prelude.{ℕ, zero, suc, ◌-◌, ◌≤◌, nat_le, nat_eq, Bool, true, false, ◌&&◌, List, [], ◌∷◌, length, take, drop, map, codes, Option, Some, None, if◌then◌else◌}
 use Rattle.std.specs.List.{list_all, onto_first}
-use Rattle.std.specs.Option.{option_map, option_and_then}
+use Rattle.std.specs.Option.{option_map, option_and_then, option_map_or}
 use Rattle.std.specs.Cmp.Lexicographic.{pointwise}
 use Rattle.mon_text.specs.Characters.{is_digit}
 use Rattle.mon_text.specs.Counts.{value_of}
@@ -38,16 +38,9 @@ characters_in most text = option_and_then (number_to most) (before (codes "A1)")
 abbrev pub with_characters : Bool → List ℕ → Option RecordFormat
 with_characters blank rest = option_map (λ n. record { characters = n; blank = blank }) (characters_in (most_characters blank) rest)
 
-abbrev pub format_without_blank : Option (List ℕ) → Option RecordFormat
-format_without_blank None = None
-format_without_blank (Some rest) = with_characters false rest
-
-abbrev pub format_behind : List ℕ → Option (List ℕ) → Option RecordFormat
-format_behind text None = format_without_blank (behind (codes "(") text)
-format_behind text (Some rest) = with_characters true rest
-
 abbrev pub format_of : List ℕ → Option RecordFormat
-format_of text = format_behind text (behind (codes "(1X,") text)
+format_of text =
+    option_map_or (with_characters true) (behind (codes "(1X,") text) (option_and_then (with_characters false) (behind (codes "(") text))
 
 -- a text cut into pieces of n characters, of which so many may still go into the first one; no text is one piece without characters
 abbrev pub pieces : ℕ → ℕ → List ℕ → List (List ℕ)

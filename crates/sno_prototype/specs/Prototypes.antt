@@ -3,32 +3,22 @@ use Rattle.std.specs.Prelude.{ℕ, ◌+◌, ◌==◌, nat_eq, Bool, true, false,
 use Rattle.std.specs.List.{list_all, list_any, slice_split}
 use Rattle.std.specs.Option.{option_map, option_and_then}
 use Rattle.std.specs.Cmp.Lexicographic.{pointwise}
-use Rattle.mon_text.specs.Characters.{is_letter, is_digit, is_blank}
+use Rattle.mon_text.specs.Characters.{is_letter, is_digit, is_blank, is_identifier_character, is_comma}
 use Rattle.mon_text.specs.Lines.{is_blank_line}
 use Rattle.sno_text.specs.Texts.{without_trailing_blanks}
 use Rattle.sno_prototype.specs.declared.prototype.Prototype.{Prototype}
-
--- as in programs: a letter, then letters, digits, `.` and `_`
-abbrev pub is_identifier_character : ℕ → Bool
-is_identifier_character c = is_letter c || is_digit c || c == 46 || c == 95
+use Rattle.mon_text.specs.Beginnings.{without_leading}
 
 abbrev pub is_identifier : List ℕ → Bool
 is_identifier [] = false
 is_identifier (c ∷ cs) = is_letter c && list_all is_identifier_character cs
 
-abbrev pub without_leading_blanks : List ℕ → List ℕ
-without_leading_blanks [] = []
-without_leading_blanks (c ∷ cs) = if is_blank c then without_leading_blanks cs else c ∷ cs
-
 abbrev pub trimmed : List ℕ → List ℕ
-trimmed text = without_trailing_blanks (without_leading_blanks text)
+trimmed text = without_trailing_blanks (without_leading is_blank text)
 
 -- what stands before a character's first place and behind it
 abbrev pub cut_at : ℕ → List ℕ → Option (List ℕ × List ℕ)
 cut_at c text = option_map (λ i. (take i text, drop (i + 1) text)) (position (λ d. d == c) text)
-
-abbrev pub is_comma : ℕ → Bool
-is_comma c = c == 44
 
 -- what stands between the commas; of blanks alone there is nothing
 abbrev pub items : List ℕ → List (List ℕ)

@@ -2,7 +2,9 @@
 ghost use Rattle.std.specs.Prelude.{◌≡◌, IsSome, IsErrOf};
 ghost use Rattle.mon_text.specs.Stops.{Gives};
 ghost use Rattle.sno_value.specs.Values.{text_of};
-ghost use Rattle.sno_prototype.specs.Arguments.{or_fault, name_in, number_within, unit_in, unit_or, most_in, format_by, format_in, input_in, output_in};
+ghost use Rattle.sno_prototype.specs.Arguments.{or_fault, name_in, number_within, unit_in, unit_or, most_in, format_in, input_in, output_in};
+ghost use Rattle.std.specs.Option.{option_and_then};
+ghost use Rattle.sno_prototype.specs.Formats.{format_of};
 
 use crate::association::{Input, Output};
 use crate::format::{Format, read_format};
@@ -106,7 +108,7 @@ fn most_in(value: &Value) -> Result<u64, Fault>
 /// The format that the text of a value is. That of a number is none.
 #[tactic(auto, using(crate::proofs::Decimals::no_format))]
 fn format_by(value: &Value) -> Option<Format>
-    ensures { result ≡ format_by (text_of value.now) }
+    ensures { result ≡ option_and_then format_of (text_of value.now) }
 {
     match value {
         Value::Text(text) => read_format(text.as_bytes()),

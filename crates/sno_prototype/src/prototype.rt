@@ -4,8 +4,10 @@ ghost use Rattle.std.specs.List.{list_all, list_any, slice_split};
 ghost use Rattle.std.specs.Option.{option_map};
 ghost use Rattle.std.specs.Cmp.Lexicographic.{pointwise};
 ghost use Rattle.mon_text.specs.Lines.{is_blank_line};
-ghost use Rattle.sno_prototype.specs.Prototypes.{is_identifier_character, is_identifier, without_leading_blanks, trimmed, cut_at, is_comma, names_of, are_different, prototype_with, prototype_of};
+ghost use Rattle.sno_prototype.specs.Prototypes.{is_identifier, trimmed, cut_at, names_of, are_different, prototype_with, prototype_of};
 ghost use Rattle.sno_prototype.specs.inner.Reading.{told, listed, items_from, are_apart, both_listed};
+ghost use Rattle.mon_text.specs.Characters.{is_identifier_character, is_comma, is_blank};
+ghost use Rattle.mon_text.specs.Beginnings.{without_leading};
 
 use crate::names::Names;
 use sno_text::{Named, Text, without_trailing_blanks};
@@ -50,7 +52,7 @@ fn is_blank_line(text: &[u8]) -> bool
 }
 
 fn without_leading_blanks(text: &[u8]) -> &[u8]
-    ensures { result.now ≡ without_leading_blanks text.now }
+    ensures { result.now ≡ without_leading is_blank text.now }
 {
     let mut from = 0;
     while from < text.len() && text[from] == b' ' {

@@ -15,11 +15,12 @@ use Rattle.sno_expression.specs.Spelling.{spaced, SpellsTo}
 use Rattle.sno_expression.specs.inner.Reading.{Stops, reading}
 use Rattle.sno_statement.specs.declared.walking.Role.{Role}
 use Rattle.sno_statement.specs.inner.Walking.{stands}
-use Rattle.sno_statement.specs.Statements.{Target, To, Computed, Goto, NoGoto, Always, OnSuccess, OnFailure, OnBoth, Object, NoObject, NullObject, ValueObject, Body, NoBody, Does, Statement, Says, TargetHasLevels, GotoHasLevels, PatternHasLevels, ObjectHasLevels, StatementHasLevels}
-use Rattle.sno_statement.specs.Spelling.{TargetTo, OutcomeTo, LeadsTo, ColonTo, GotoTo, PatternTo, ObjectTo, Spells}
+use Rattle.sno_statement.specs.Statements.{Target, To, Computed, Goto, NoGoto, Always, OnSuccess, OnFailure, OnBoth, Object, NoObject, NullObject, ValueObject, Body, NoBody, Does, Statement, Says, TargetHasLevels, GotoHasLevels, ObjectHasLevels, StatementHasLevels}
+use Rattle.sno_statement.specs.Spelling.{TargetTo, OutcomeTo, LeadsTo, GotoTo, ObjectTo, Spells}
 use Rattle.sno_statement.specs.inner.Reading.{Aimed, computed, inside, target_in, always, both, next, chosen, goto_in, going, ending, giving, by_object, object_in, pattern_then, matching, by_subject, subject_then, acting, by_first, statement_in}
 use Rattle.sno_expression.proofs.Feeding.{complete}
 use Rattle.sno_statement.proofs.Roles.{headed, stops_blank, dollar}
+use Rattle.sno_statement.proofs.Shorthand.{PatternHasLevels, PatternTo, ColonTo}
 
 computed_inside : (ts m : List Token) (c : Bool) (k : Mark) → k ≡ Dollar → ts ≡ spaced c false (token.Mark k) ∷ m → inside ts ≡ computed (reading true ts)
 computed_inside ts m c k e d =

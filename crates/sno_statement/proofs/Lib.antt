@@ -1,4 +1,5 @@
 mod Examples
+pub mod Shorthand
 pub mod Roles
 pub mod Completing
 pub mod Sound

@@ -1,6 +1,6 @@
 -- A walk over the tokens of a statement notes the places that lack a variable.
 use Rattle.std.proofs.Common.{◌≡◌, ℕ, ◌+◌, List, [], ◌∷◌, ◌++◌, refl, sym, ap, ◌∙◌}
-use Rattle.std.specs.Prelude.{Bool, true, false, not, ◌&&◌, Option, Some, None}
+use Rattle.std.specs.Prelude.{Bool, true, false, not, ◌&&◌, Option, Some, None, is_some}
 use Rattle.std.proofs.Common.{inl, inr}
 use Rattle.sno_token.specs.declared.Mark.{Mark}
 use Rattle.sno_token.specs.declared.Mark.TheVariants.{Dollar}
@@ -24,19 +24,20 @@ use Rattle.sno_expression.specs.inner.Reading.{Stops}
 use Rattle.sno_statement.specs.declared.walking.Field.TheVariants.{Subject, Pattern, Object as Given, Target as InComputed}
 use Rattle.sno_statement.specs.declared.walking.Stage.TheVariants.{First, In, AfterEquals, AfterColon, AfterOutcome, InTarget, AfterTarget}
 use Rattle.sno_statement.specs.declared.walking.SubjectKind.{SubjectKind}
-use Rattle.sno_statement.specs.Statements.{Target, To, Computed, Goto, NoGoto, Always, OnSuccess, OnFailure, OnBoth, Object, NoObject, NullObject, ValueObject, NoBody, Does, Statement, Says, TargetHasLevels, GotoHasLevels, PatternHasLevels, ObjectHasLevels, StatementHasLevels, kind_of, can_be_set, is_pattern}
-use Rattle.sno_statement.specs.Spelling.{TargetTo, OutcomeTo, LeadsTo, ColonTo, GotoTo, PatternTo, ObjectTo, Spells}
+use Rattle.sno_statement.specs.Statements.{Target, To, Computed, Goto, NoGoto, Always, OnSuccess, OnFailure, OnBoth, Object, NoObject, NullObject, ValueObject, NoBody, Does, Statement, Says, TargetHasLevels, GotoHasLevels, ObjectHasLevels, StatementHasLevels, kind_of, can_be_set}
+use Rattle.sno_statement.specs.Spelling.{TargetTo, OutcomeTo, LeadsTo, GotoTo, ObjectTo, Spells}
 use Rattle.sno_statement.specs.declared.walking.Role.{Role}
 use Rattle.sno_statement.specs.declared.walking.Field.{Field}
 use Rattle.sno_expression.specs.Marks.{operand_is_variable}
 use Rattle.sno_statement.specs.inner.Walking.{Walk, At, begins, other, role_by, stands, advanced, enter, continued, at_first, after_equals, after_subject}
 use Rattle.sno_statement.specs.inner.Faults.{note, least, noted_from, then_note, noted, is_unset, subject_kind}
 use Rattle.sno_expression.specs.Lacking.{lacking}
-use Rattle.sno_statement.specs.Lacking.{is_wrong, lacking_pattern, lacking_object, lacking_body, lacking_target, lacking_goto, named_first, lacking_in}
+use Rattle.sno_statement.specs.Lacking.{is_wrong, lacking_object, lacking_body, lacking_target, lacking_goto, named_first, lacking_in}
 use Rattle.sno_statement.proofs.Roles.{Apart, dollar, kind_spelled}
 use Rattle.sno_statement.proofs.Completing.{goto_stops, object_stops, pattern_stops}
 use Rattle.sno_statement.proofs.Marked.{marked, none, marked_append, marked_same, raised}
 use Rattle.sno_statement.proofs.Placed.{Due, moved_in, due_start, stepped, tree_noted}
+use Rattle.sno_statement.proofs.Shorthand.{PatternHasLevels, PatternTo, ColonTo, lacking_pattern}
 
 -- TARGETS AND GOTOS
 
@@ -258,7 +259,7 @@ behind_noted (ValueObject t) g w k i u m q h z v y s d =
 pattern_noted : (p : Option Expression) (o : Object) (g : Goto) (k : SubjectKind) (i : ℕ) (m n q : List Token)
     → PatternHasLevels p → ObjectHasLevels o → GotoHasLevels g → PatternTo p m n → ObjectTo o n q → GotoTo g q
     → noted_from k i (At [] (In Subject AfterOperand)) m
-    ≡ least (note (used o (not (can_be_set k (is_pattern p)))) 0) (marked (lacking_pattern p) (marked (lacking_object o) (marked (lacking_goto (named_first q) g) none)) i)
+    ≡ least (note (used o (not (can_be_set k (is_some p)))) 0) (marked (lacking_pattern p) (marked (lacking_object o) (marked (lacking_goto (named_first q) g) none)) i)
 pattern_noted None o g k i m n q v w y c d e =
     ap (noted_from k i (At [] (In Subject AfterOperand))) c
     ∙ behind_noted o g (At [] (In Subject AfterOperand)) k i (not (can_be_set k false)) n q go_subject (λ j ts. refl) w y d e
@@ -271,7 +272,7 @@ pattern_noted (Some p) o g k i m n q v w y c d e =
 
 -- THE SUBJECT
 
-wrong_used : (s : Expression) (p : Option Expression) (o : Object) → used o (not (can_be_set (kind_of s) (is_pattern p))) ≡ is_wrong s p o
+wrong_used : (s : Expression) (p : Option Expression) (o : Object) → used o (not (can_be_set (kind_of s) (is_some p))) ≡ is_wrong s p o
 wrong_used s p NoObject = refl
 wrong_used s p NullObject = refl
 wrong_used s p (ValueObject t) = refl
@@ -283,8 +284,8 @@ set_variable _ p e = refl
 
 wrong_variable : (s : Expression) (p : Option Expression) (o : Object) → is_wrong s p o ≡ true → is_variable s ≡ false
 wrong_variable s p NoObject e = cc
-wrong_variable s p NullObject e = set_variable s (is_pattern p) e
-wrong_variable s p (ValueObject t) e = set_variable s (is_pattern p) e
+wrong_variable s p NullObject e = set_variable s (is_some p) e
+wrong_variable s p (ValueObject t) e = set_variable s (is_some p) e
 
 and_wrong : (u v : Bool) → (u ≡ true → v ≡ false) → (u && not v) ≡ u
 and_wrong false v h = refl

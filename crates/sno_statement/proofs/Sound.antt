@@ -14,12 +14,13 @@ use Rattle.sno_expression.specs.Spelling.{spaced, SpellsTo}
 use Rattle.sno_expression.specs.inner.Reading.{Reading, Read, reading}
 use Rattle.sno_statement.specs.declared.walking.Role.{Role}
 use Rattle.sno_statement.specs.declared.walking.Role.TheVariants.{Assigns, Goes, Follows, Touches}
-use Rattle.sno_statement.specs.Statements.{Target, To, Computed, Goto, NoGoto, Always, OnSuccess, OnFailure, OnBoth, NoObject, NullObject, ValueObject, Body, NoBody, Does, Statement, Says, TargetHasLevels, GotoHasLevels, PatternHasLevels, BodyHasLevels, StatementHasLevels}
-use Rattle.sno_statement.specs.Spelling.{TargetTo, OutcomeTo, LeadsTo, GotoTo, PatternTo, BodyTo, Spells}
+use Rattle.sno_statement.specs.Statements.{Target, To, Computed, Goto, NoGoto, Always, OnSuccess, OnFailure, OnBoth, NoObject, NullObject, ValueObject, Body, NoBody, Does, Statement, Says, TargetHasLevels, GotoHasLevels, BodyHasLevels, StatementHasLevels}
+use Rattle.sno_statement.specs.Spelling.{TargetTo, OutcomeTo, LeadsTo, GotoTo, BodyTo, Spells}
 use Rattle.sno_statement.specs.inner.Walking.{role}
 use Rattle.sno_statement.specs.inner.Reading.{Aim, Missed, Aimed, closed_by, closing, computed, inside_by, inside, target_by, target_in, at_last, always, both, next_by, next, chosen, goto_by, goto_in, going, ends_by, ending, giving, by_object, object_in, by_pattern, pattern_then, matching, by_subject, subject_then, acting, by_first, statement_in}
 use Rattle.sno_expression.proofs.Sound.{IsRead, sound}
 use Rattle.sno_statement.proofs.Roles.{goes, assigns, blank_spells}
+use Rattle.sno_statement.proofs.Shorthand.{PatternHasLevels, PatternTo}
 
 abbrev AimRight : Aim → List Token → Type 0
 AimRight Missed ts = Unit {0}

@@ -1,6 +1,6 @@
 -- The tokens of a statement behind its label (own; after the SNOBOL4 book, chapter 1), part by part: each time the tokens of
 -- a part, and then the rest.
-use Rattle.std.specs.Prelude.{◌≡◌, Bool, true, List, [], ◌∷◌, Option, Some, None, ◌⊎◌}
+use Rattle.std.specs.Prelude.{◌≡◌, Bool, true, List, [], ◌∷◌, Option, Some, None, ◌⊎◌, MatchOption}
 use Rattle.sno_token.specs.declared.Outcome.{Outcome}
 use Rattle.sno_token.specs.declared.Outcome.TheVariants.{Success, Failure}
 use Rattle.sno_token.specs.declared.Part.TheVariants.{Equals, Colon, On, Label}
@@ -14,9 +14,9 @@ use Rattle.sno_statement.specs.Statements.{Target, To, Computed, Goto, NoGoto, A
 -- a target stands in parentheses
 abbrev pub TargetTo : Target → List Token → List Token → Type 0
 TargetTo (To l) ts rest =
-    (b : Bool) × (a : Bool) × (c : Bool) × (d : Bool) × (e : Bool) × (f : Bool) × (ts ≡ spaced b a token.Open ∷ spaced c d (token.Part (Label l)) ∷ spaced e f token.Close ∷ rest)
+    (b a c d e f : Bool) × (ts ≡ spaced b a token.Open ∷ spaced c d (token.Part (Label l)) ∷ spaced e f token.Close ∷ rest)
 TargetTo (Computed t) ts rest =
-    (m : List Token) × (b : Bool) × (a : Bool) × (c : Bool) × (e : Bool) × (f : Bool) × (ts ≡ spaced b a token.Open ∷ m) × SpellsTo c (Unary Indirect t) m (spaced e f token.Close ∷ rest)
+    (m : List Token) × (b a c e f : Bool) × (ts ≡ spaced b a token.Open ∷ m) × SpellsTo c (Unary Indirect t) m (spaced e f token.Close ∷ rest)
 
 abbrev pub OutcomeTo : Outcome → Target → List Token → List Token → Type 0
 OutcomeTo o t ts rest = (m : List Token) × (b : Bool) × (c : Bool) × (ts ≡ spaced b c (token.Part (On o)) ∷ m) × TargetTo t m rest
@@ -31,21 +31,10 @@ LeadsTo (OnBoth s f) ts =
     ((m : List Token) × OutcomeTo Success s ts m × OutcomeTo Failure f m [])
     ⊎ ((m : List Token) × OutcomeTo Failure f ts m × OutcomeTo Success s m [])
 
-abbrev pub ColonTo : Goto → List Token → Type 0
-ColonTo g ts = (m : List Token) × (c : Bool) × (ts ≡ spaced true c (token.Part Colon) ∷ m) × LeadsTo g m
-
--- a goto begins with `:` after a blank
+-- nothing, or a colon after a blank and what the goto leads to
 abbrev pub GotoTo : Goto → List Token → Type 0
 GotoTo NoGoto ts = ts ≡ []
-GotoTo (Always t) ts = ColonTo (Always t) ts
-GotoTo (OnSuccess t) ts = ColonTo (OnSuccess t) ts
-GotoTo (OnFailure t) ts = ColonTo (OnFailure t) ts
-GotoTo (OnBoth s f) ts = ColonTo (OnBoth s f) ts
-
--- a blank stands before a pattern
-abbrev pub PatternTo : Option Expression → List Token → List Token → Type 0
-PatternTo None ts rest = ts ≡ rest
-PatternTo (Some p) ts rest = SpellsTo true p ts rest
+GotoTo g ts = (m : List Token) × (c : Bool) × (ts ≡ spaced true c (token.Part Colon) ∷ m) × LeadsTo g m
 
 -- `=` has a blank before it, and a blank or the end after it
 abbrev pub ObjectTo : Object → List Token → List Token → Type 0
@@ -53,9 +42,10 @@ ObjectTo NoObject ts rest = ts ≡ rest
 ObjectTo NullObject ts rest = ts ≡ spaced true true (token.Part Equals) ∷ rest
 ObjectTo (ValueObject t) ts rest = (m : List Token) × (ts ≡ spaced true true (token.Part Equals) ∷ m) × SpellsTo true t m rest
 
+-- a blank stands before a pattern
 abbrev pub BodyTo : Body → List Token → List Token → Type 0
 BodyTo NoBody ts rest = ts ≡ rest
-BodyTo (Does s p o) ts rest = (m : List Token) × (n : List Token) × (b : Bool) × SpellsTo b s ts m × PatternTo p m n × ObjectTo o n rest
+BodyTo (Does s p o) ts rest = (m n : List Token) × (b : Bool) × SpellsTo b s ts m × MatchOption p (m ≡ n) (λ t. SpellsTo true t m n) × ObjectTo o n rest
 
 -- the tokens are those of the statement
 abbrev pub Spells : Statement → List Token → Type 0

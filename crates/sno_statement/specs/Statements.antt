@@ -1,6 +1,6 @@
 -- Statements without their labels, and the statements that the grammar allows (the SNOBOL4 book, Griswold, Poage and
 -- Polonsky, 2nd ed., chapter 1).
-use Rattle.std.specs.Prelude.{◌≡◌, ℕ, Bool, true, false, List, Option, Some, None, if◌then◌else◌}
+use Rattle.std.specs.Prelude.{◌≡◌, ℕ, Bool, true, false, List, Option, Some, None, if◌then◌else◌, IfSome}
 use Rattle.sno_expression.specs.declared.tree.UnaryOperator.TheVariants.{Indirect}
 use Rattle.sno_expression.specs.Expressions.{Expression, Identifier, Keyword, Unary, HasLevels, IsOperand}
 use Rattle.sno_statement.specs.declared.walking.SubjectKind.{SubjectKind}
@@ -41,19 +41,14 @@ GotoHasLevels (OnSuccess t) = TargetHasLevels t
 GotoHasLevels (OnFailure t) = TargetHasLevels t
 GotoHasLevels (OnBoth s f) = TargetHasLevels s × TargetHasLevels f
 
-abbrev pub PatternHasLevels : Option Expression → Type 0
-PatternHasLevels None = Unit {0}
-PatternHasLevels (Some p) = HasLevels p
-
 abbrev pub ObjectHasLevels : Object → Type 0
-ObjectHasLevels NoObject = Unit {0}
-ObjectHasLevels NullObject = Unit {0}
 ObjectHasLevels (ValueObject t) = HasLevels t
+ObjectHasLevels _ = Unit {0}
 
 -- the subject is one element
 abbrev pub BodyHasLevels : Body → Type 0
 BodyHasLevels NoBody = Unit {0}
-BodyHasLevels (Does s p o) = IsOperand s × HasLevels s × PatternHasLevels p × ObjectHasLevels o
+BodyHasLevels (Does s p o) = IsOperand s × HasLevels s × IfSome p HasLevels × ObjectHasLevels o
 
 abbrev pub StatementHasLevels : Statement → Type 0
 StatementHasLevels (Says b g) = BodyHasLevels b × GotoHasLevels g
@@ -70,7 +65,3 @@ abbrev pub can_be_set : SubjectKind → Bool → Bool
 can_be_set kind.Variable p = true
 can_be_set kind.Keyword p = if p then false else true
 can_be_set kind.Other p = false
-
-abbrev pub is_pattern : Option Expression → Bool
-is_pattern None = false
-is_pattern (Some p) = true

@@ -1,8 +1,8 @@
 //! Whether a statement lacks a variable.
 
-ghost use Rattle.std.specs.Prelude.{◌≡◌};
+ghost use Rattle.std.specs.Prelude.{◌≡◌, is_some};
 ghost use Rattle.sno_expression.specs.Told.{expression_of, expressions_of};
-ghost use Rattle.sno_statement.specs.Statements.{kind_of, is_pattern};
+ghost use Rattle.sno_statement.specs.Statements.{kind_of};
 ghost use Rattle.sno_statement.specs.Lacking.{is_wrong};
 ghost use Rattle.sno_statement.specs.Told.{target_of, goto_of, object_of, body_of, statement_of};
 ghost use Rattle.sno_statement.specs.inner.Told.{statements_of};
@@ -66,7 +66,7 @@ fn kind_of(subject: &Expression) -> SubjectKind
 }
 
 fn is_pattern(pattern: &Option<Expression>) -> bool
-    ensures { result ≡ is_pattern (expressions_of pattern.now) }
+    ensures { result ≡ is_some (expressions_of pattern.now) }
 {
     pattern.is_some()
 }

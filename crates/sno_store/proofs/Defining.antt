@@ -6,7 +6,7 @@ use Rattle.std.specs.Cmp.Lexicographic.{pointwise, bytes_decides}
 use Rattle.indexmap.specs.IndexMap.{insert_entry}
 use Rattle.sno_prototype.specs.declared.definition.Definition.{Definition}
 use Rattle.sno_store.specs.Callees.{is_built_in, any_built_in}
-use Rattle.sno_store.proofs.Looking.{same}
+use Rattle.sno_variables.proofs.Looking.{same}
 
 neither : (a b : Bool) → (a || b) ≡ false → (a ≡ false) × (b ≡ false)
 neither true b h = absurd (true≢false h)

@@ -11,7 +11,7 @@ use Rattle.sno_prototype.specs.declared.definition.Definition.{Definition}
 use Rattle.sno_prototype.specs.Arguments.{go_on, name_in, input_in, output_in}
 use Rattle.sno_prototype.specs.Definitions.{definition_in}
 use Rattle.sno_store.specs.declared.store.Store.{Store as State}
-use Rattle.sno_store.specs.Variables.{is_named, reading, writing, detached}
+use Rattle.sno_variables.specs.Variables.{is_named, reading, writing, detached}
 use Rattle.sno_store.specs.States.{with_variables, with_input, with_output, without_associations}
 use Rattle.sno_store.specs.Memory.{may_grow}
 use Rattle.sno_store.specs.inner.Naming.{is_number}

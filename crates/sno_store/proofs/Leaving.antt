@@ -3,9 +3,10 @@ use Rattle.std.proofs.Common.{◌≡◌, ℕ, List, [], ◌∷◌, drop, None, S
 use Rattle.sno_value.specs.Values.{null}
 use Rattle.sno_store.specs.Levels.{Level}
 use Rattle.sno_store.specs.declared.store.Store.{Store as State}
-use Rattle.sno_store.specs.Variables.{Variables}
+use Rattle.sno_variables.specs.Variables.{Variables}
 use Rattle.sno_store.specs.Keywords.{at_statement}
-use Rattle.sno_store.specs.Calls.{assigned, saved_by, statement_of, left_by, left, given_by, given_back}
+use Rattle.sno_variables.specs.Bindings.{assigned}
+use Rattle.sno_store.specs.Calls.{saved_by, statement_of, left_by, left, given_by, given_back}
 
 left_to : (s : State) (levels : List Level) (n : ℕ) → Some n ≡ statement_of levels
     → record s { variables = assigned (saved_by levels) s.variables; keywords = at_statement n s.keywords; levels = drop 1 levels } ≡ left_by levels s

@@ -1,12 +1,7 @@
-pub mod Looking
-pub mod Places
 pub mod Defining
-pub mod Changing
 pub mod Growing
-pub mod Written
-pub mod Binding
 pub mod Leaving
 mod Steps
-pub mod Restoring
+pub mod Calling
+mod Restoring
 mod Nesting
-pub mod Exchanged

@@ -1,28 +1,16 @@
--- What several steps come to.
-use Rattle.std.proofs.Common.{◌≡◌, ℕ, false, List, [], ◌∙◌, sym, ap, ap₂, nat_eq, Ok}
-use Rattle.std.specs.Prelude.{Result, codes}
+-- What several steps come to: a function that is defined.
+use Rattle.std.proofs.Common.{◌≡◌, ℕ, List, ◌∙◌, sym, ap, ap₂, nat_eq, Ok}
+use Rattle.std.specs.Prelude.{Result}
 use Rattle.std.specs.Cmp.Lexicographic.{pointwise}
 use Rattle.indexmap.specs.IndexMap.{insert_entry}
 use Rattle.sno_text.specs.declared.fault.Fault.{Fault}
 use Rattle.sno_value.specs.declared.value.Value.{Value}
 use Rattle.sno_prototype.specs.declared.definition.Definition.{Definition}
 use Rattle.sno_store.specs.declared.store.Store.{Store as State}
-use Rattle.sno_store.specs.Variables.{Variables, reading, writing}
-use Rattle.sno_store.specs.First.{with_patterns, first_variables}
 use Rattle.sno_prototype.specs.Arguments.{go_on}
 use Rattle.sno_prototype.specs.Definitions.{definition_in}
 use Rattle.sno_store.specs.States.{with_function}
 
--- the variables that there are at first, one after the other
-pub first_by : (a b c d : Variables) → a ≡ with_patterns [] → b ≡ reading (codes "INPUT") (record { unit = 5; most = 1024 }) a
-    → c ≡ writing (codes "OUTPUT") (record { unit = 6; format = record { characters = 132; blank = false } }) b
-    → d ≡ writing (codes "PUNCH") (record { unit = 7; format = record { characters = 80; blank = false } }) c → d ≡ first_variables
-first_by a b c d p q r s =
-    s ∙ ap (λ (vs : Variables). writing (codes "PUNCH") (record { unit = 7; format = record { characters = 80; blank = false } }) vs)
-    (r ∙ ap (λ (vs : Variables). writing (codes "OUTPUT") (record { unit = 6; format = record { characters = 132; blank = false } }) vs)
-    (q ∙ ap (λ (vs : Variables). reading (codes "INPUT") (record { unit = 5; most = 1024 }) vs) p))
-
--- a function that is defined
 pub defined : (prototype entry : Value) (s : State) (d f : Definition) (name : List ℕ) (fs : List (List ℕ × Definition)) → definition_in prototype entry ≡ Ok d
     → name ≡ d.prototype.name → f ≡ d → fs ≡ insert_entry (pointwise nat_eq) s.functions name f → with_function prototype entry s ≡ Ok (record s { functions = fs })
 defined prototype entry s d f name fs is named same inserted =

@@ -1,28 +1,16 @@
 -- Calls of functions that were defined (the SNOBOL4 book, chapter 4; that setting and restoring reads and writes nothing is
 -- own).
-use Rattle.std.specs.Prelude.{ℕ, List, [], ◌∷◌, ◌++◌, map, Option, None, Some}
+use Rattle.std.specs.Prelude.{ℕ, List, [], ◌∷◌, ◌++◌, Option, None, Some}
 use Rattle.sno_value.specs.declared.value.Value.{Value}
 use Rattle.sno_value.specs.Values.{null}
 use Rattle.sno_prototype.specs.declared.prototype.Prototype.{Prototype}
 use Rattle.sno_prototype.specs.Prototypes.{names_of}
 use Rattle.sno_prototype.specs.declared.definition.Definition.{Definition}
-use Rattle.sno_store.specs.Levels.{Bindings, paired, Level}
+use Rattle.sno_variables.specs.Variables.{Variables, value_of}
+use Rattle.sno_variables.specs.Bindings.{Bindings, paired, saved, assigned}
+use Rattle.sno_store.specs.Levels.{Level}
 use Rattle.sno_store.specs.declared.store.Store.{Store as State}
 use Rattle.sno_store.specs.Keywords.{at_statement}
-use Rattle.sno_store.specs.Variables.{Variables, given, value_of}
-
--- a name with its value
-abbrev pub value_now : Variables → List ℕ → List ℕ × Value
-value_now vs name = (name, value_of name vs)
-
--- names, each with the value that it has now
-abbrev pub saved : List (List ℕ) → Variables → Bindings
-saved names vs = map (value_now vs) names
-
--- each gets its value
-abbrev pub assigned : Bindings → Variables → Variables
-assigned [] vs = vs
-assigned (b ∷ bs) vs = assigned bs (given b.0 b.1 vs)
 
 -- what a call gives the function's variables
 abbrev pub bindings_of : Prototype → List Value → Bindings

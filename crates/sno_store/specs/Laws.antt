@@ -5,34 +5,12 @@ use Rattle.std.specs.Cmp.Lexicographic.{pointwise}
 use Rattle.sno_value.specs.declared.value.Value.{Value}
 use Rattle.sno_text.specs.declared.fault.Fault.{Fault}
 use Rattle.sno_prototype.specs.Prototypes.{names_of}
-use Rattle.sno_store.specs.declared.variable.Variable.{Variable}
 use Rattle.sno_prototype.specs.declared.definition.Definition.{Definition}
 use Rattle.sno_store.specs.declared.store.Store.{Store as State}
-use Rattle.sno_store.specs.Variables.{Variables, variable_of, value_of, put, noted}
+use Rattle.sno_variables.specs.Variables.{value_of}
 use Rattle.sno_store.specs.declared.keyword.Keyword.{Keyword}
 use Rattle.sno_store.specs.States.{with_value, with_name, with_statement, with_input, with_output, without_associations, with_function, with_keyword_set}
-use Rattle.sno_store.specs.Levels.{Bindings}
-use Rattle.sno_store.specs.Calls.{assigned, level_of, entered, left}
-
--- what was put is found
-abbrev pub PutIsFound : Type 0
-PutIsFound = (name : List ℕ) (variable : Variable) (vs : Variables) → variable_of name (put name variable vs) ≡ variable
-
--- and the other names stay as they are
-abbrev pub OthersStay : Type 0
-OthersStay =
-    (name other : List ℕ) (variable : Variable) (vs : Variables) → pointwise nat_eq other name ≡ false → variable_of other (put name variable vs) ≡ variable_of other vs
-
--- naming a variable changes none
-abbrev pub NamingChangesNothing : Type 0
-NamingChangesNothing = (name other : List ℕ) (vs : Variables) → variable_of other (noted name vs) ≡ variable_of other vs
-
--- values that calls set and restore leave all associations as they are
-abbrev pub AssociationsStay : Type 0
-AssociationsStay =
-    (bindings : Bindings) (vs : Variables) (name : List ℕ)
-    → ((variable_of name (assigned bindings vs)).input ≡ (variable_of name vs).input)
-    × ((variable_of name (assigned bindings vs)).output ≡ (variable_of name vs).output)
+use Rattle.sno_store.specs.Calls.{level_of, entered, left}
 
 -- a call restores the values of the function's name, parameters and locals, whatever was done between
 abbrev pub CallRestores : Type 0

@@ -1,5 +1,3 @@
-pub mod Variables
-pub mod First
 pub mod Keywords
 pub mod Callees
 pub mod States

@@ -4,7 +4,7 @@ use Rattle.sno_text.specs.declared.fault.Fault.{Fault}
 use Rattle.sno_value.specs.declared.value.Value.{Value}
 use Rattle.sno_value.specs.declared.value.Value.TheVariants.{Text, Integer, Pattern, Unevaluated}
 use Rattle.sno_store.specs.declared.store.Store.{Store as State}
-use Rattle.sno_store.specs.Variables.{is_named}
+use Rattle.sno_variables.specs.Variables.{is_named}
 
 -- The text of a number has to be formed. A string takes none where the call is refused, nor where it names a variable that was named before.
 abbrev pub may_grow : Value → Result State Fault → State → Bool

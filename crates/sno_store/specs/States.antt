@@ -13,8 +13,8 @@ use Rattle.sno_prototype.specs.declared.association.Input.{Input}
 use Rattle.sno_store.specs.declared.keyword.Keyword.{Keyword}
 use Rattle.sno_prototype.specs.declared.definition.Definition.{Definition}
 use Rattle.sno_store.specs.declared.store.Store.{Store as State}
-use Rattle.sno_store.specs.Variables.{Variables, given, reading, writing, detached, noted}
-use Rattle.sno_store.specs.First.{first_variables}
+use Rattle.sno_variables.specs.Variables.{Variables, given, reading, writing, detached, noted}
+use Rattle.sno_variables.specs.First.{first_variables}
 use Rattle.sno_store.specs.Keywords.{KeywordValues, first_keywords, keyword_value, with_keyword, is_settable, trims, begins, with_begun}
 use Rattle.sno_prototype.specs.Arguments.{go_on, or_fault, name_in, input_in, output_in}
 

@@ -1,5 +1,3 @@
 pub mod Answers
-pub mod Places
-pub mod Lending
 pub mod Naming
-pub mod Exchanging
+pub mod Filling

@@ -1,13 +1,14 @@
 //! What a call has to restore, and how calls begin and end.
 ghost use Rattle.std.specs.Prelude.{◌≡◌, ◌<◌, ◌^◌, ◌∷◌, ◌++◌, [], length, drop, slice_get, unwrap_or, option_map, vec_len, vec_capacity, IfOk, OnOk, OnErr};
 ghost use Rattle.sno_value.specs.Values.{null};
-ghost use Rattle.sno_store.specs.Calls.{assigned, bindings_of, given_by, level_with, saved_by, statement_of};
-ghost use Rattle.sno_store.specs.inner.Exchanging.{fitted, values_for};
+ghost use Rattle.sno_variables.specs.Bindings.{assigned};
+ghost use Rattle.sno_store.specs.Calls.{bindings_of, given_by, level_with, saved_by, statement_of};
+ghost use Rattle.sno_store.specs.inner.Filling.{fitted, values_for};
 
 use crate::keyword::StatementNumber;
-use crate::variables::{Variables, value_at};
 use sno_prototype::{Function, Prototype};
 use sno_value::Value;
+use sno_variables::{Variables, value_at};
 use std::alloc::{AllocError, Global};
 use std::marker::Model;
 use std::mem;
@@ -26,7 +27,8 @@ impl Model for Level {
     ghost use Rattle.std.specs.Coded.{codes};
     ghost use Rattle.sno_nodes.specs.inner.Codes.{pattern_code};
     ghost use Rattle.sno_prototype.specs.Prototypes.{names_of};
-    ghost use Rattle.sno_store.specs.Levels.{Level as Kept, paired};
+    ghost use Rattle.sno_variables.specs.Bindings.{paired};
+    ghost use Rattle.sno_store.specs.Levels.{Level as Kept};
 
     ghost Value = { Kept };
 
@@ -60,7 +62,7 @@ impl Model for Levels {
 }
 
 // So many values behind others: those that are missing are null, and further ones are left out.
-#[tactic(auto, using(crate::proofs::Exchanged::fitting))]
+#[tactic(auto, using(crate::proofs::Calling::fitting))]
 fn fit(values: &mut Vec<Value>, arguments: &[Value], count: usize) -> Result<(), AllocError>
     ensures { OnOk result (values.new.items ≡ values.old.items ++ fitted count arguments.now) }
 {
@@ -156,7 +158,7 @@ impl Levels {
     /// # Errors
     ///
     /// Where a growth was refused; nothing has changed then.
-    #[tactic(auto, using(crate::proofs::Exchanged::beginning))]
+    #[tactic(auto, using(crate::proofs::Calling::beginning))]
     pub fn begin(
         &mut self,
         alloc: Global,
@@ -189,7 +191,7 @@ impl Levels {
     /// # Errors
     ///
     /// Where a growth was refused; nothing has changed then. Where there is no call it takes no memory.
-    #[tactic(auto, using(crate::proofs::Exchanged::ending))]
+    #[tactic(auto, using(crate::proofs::Calling::ending))]
     pub fn end(
         &mut self,
         variables: &mut Variables,

@@ -3,24 +3,22 @@ ghost use Rattle.std.specs.Prelude.{◌≡◌, ◌<◌, ◌^◌, false, length, 
 ghost use Rattle.std.specs.Option.{option_copied};
 ghost use Rattle.mon_text.specs.Stops.{Gives};
 ghost use Rattle.sno_value.specs.Values.{text_of};
-ghost use Rattle.sno_store.specs.Variables.{variable_of, value_of, use_of, seen, is_named};
+ghost use Rattle.sno_variables.specs.Variables.{variable_of, value_of, use_of, seen, is_named};
 ghost use Rattle.sno_store.specs.States.{first_state, with_value, with_name, kept_of, with_input, with_output, without_associations, with_function, function_of, value_of_keyword, with_keyword_set, may_begin, with_statement};
 ghost use Rattle.sno_store.specs.Calls.{entered, left, given_back};
 ghost use Rattle.sno_store.specs.Memory.{may_grow};
 ghost use Rattle.sno_store.specs.inner.Answers.{Answers};
 
 use crate::callee::Callee;
-use crate::first::first_variables;
 use crate::function::Functions;
 use crate::keyword::{Keyword, Keywords, StatementNumber};
 use crate::level::Levels;
 use crate::naming::name_of;
-use crate::variable::Found;
-use crate::variables::Variables;
 use mon_text::{Line, Stop};
 use sno_prototype::{Function, Input, Output, definition_in, input_in, output_in};
 use sno_text::{Fault, Named, Text};
 use sno_value::Value;
+use sno_variables::{Found, Variables, first_variables};
 use std::alloc::{AllocError, Global};
 
 /// The state of a job. Its fields are what statements change.

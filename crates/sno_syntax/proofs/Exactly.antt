@@ -10,11 +10,13 @@ use Rattle.sno_statement.specs.declared.fault.Fault.{Fault}
 use Rattle.sno_statement.specs.inner.Faults.{fault}
 use Rattle.sno_statement.proofs.Leftmost.{found, is_found}
 use Rattle.sno_syntax.specs.Labels.{label_fault}
-use Rattle.sno_syntax.specs.Refusals.{fault_refusal, stage_refusal, with_place, tokens_of, label_of, label_first, HasTokens, IsRefusedBehind, IsRefusedBy}
+use Rattle.sno_syntax.specs.Refusals.{fault_refusal, stage_refusal, with_place, tokens_of, label_of, label_first, HasTokens, IsRefusedBehind}
 use Rattle.sno_syntax.specs.Laws.{RefusedExactly}
 use Rattle.sno_syntax.proofs.Behind.{given, given_stands, only_given}
+use Rattle.sno_syntax.proofs.Shorthand.{IsRefusedBy}
 
-behind : (text : List Placed) (r : Result TokenList LexFault) (e : SyntaxError) → HasTokens text r → stage_refusal text (with_place text r) ≡ Some e → IsRefusedBehind text e
+behind : (text : List Placed) (r : Result TokenList LexFault) (e : SyntaxError) → HasTokens text r → stage_refusal text (with_place text r) ≡ Some e
+    → IsRefusedBehind text e
 behind text (Err f) e s h = inl (f, s, cc)
 behind text (Ok list) e s h = at (fault list.tokens) refl h
   where
@@ -29,11 +31,13 @@ ahead text e (inr p) =
     ap (stage_refusal text) (only_given text (Ok list) p.2)
     ∙ (ap (option_map (fault_refusal text list.offsets)) (is_found list.tokens p.1 p.3) ∙ ap Some (sym p.4))
 
-by_label : (text : List Placed) (o : Option SyntaxCode) (e : SyntaxError) → label_first text o (stage_refusal text (tokens_of text)) ≡ Some e → IsRefusedBy text o e
+by_label : (text : List Placed) (o : Option SyntaxCode) (e : SyntaxError) → label_first text o (stage_refusal text (tokens_of text)) ≡ Some e
+    → IsRefusedBy text o e
 by_label text (Some code) e h = cc
 by_label text None e h = behind text (given text) e (given_stands text) h
 
-from_label : (text : List Placed) (o : Option SyntaxCode) (e : SyntaxError) → IsRefusedBy text o e → label_first text o (stage_refusal text (tokens_of text)) ≡ Some e
+from_label : (text : List Placed) (o : Option SyntaxCode) (e : SyntaxError) → IsRefusedBy text o e
+    → label_first text o (stage_refusal text (tokens_of text)) ≡ Some e
 from_label text (Some code) e h = ap Some (sym h)
 from_label text None e h = ahead text e h
 

@@ -1,4 +1,5 @@
 pub mod Tables
+pub mod Shorthand
 pub mod Ends
 pub mod Behind
 pub mod Spelled

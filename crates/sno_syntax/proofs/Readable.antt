@@ -15,18 +15,20 @@ use Rattle.sno_statement.proofs.Completing.{statement_read}
 use Rattle.sno_statement.proofs.Leftmost.{none_fit}
 use Rattle.sno_syntax.specs.declared.start.Start.{Start}
 use Rattle.sno_syntax.specs.Labels.{LabelList, label_fault}
-use Rattle.sno_syntax.specs.Refusals.{label_of, tokens_of, with_label, labels_in, start_in, fault_refusal, with_place, HasTokens, stage_refusal, label_first, statement_refusal, statements_refusal, end_refusal}
+use Rattle.sno_syntax.specs.Refusals.{label_of, tokens_of, with_label, labels_in, start_in, fault_refusal, with_place, HasTokens, stage_refusal, label_first, statement_refusal, statements_refusal}
 use Rattle.sno_syntax.specs.Programs.{Program, TextSpells, SpellFrom}
 use Rattle.sno_syntax.specs.Reading.{statement_on, before, all_statements, program_by}
 use Rattle.sno_syntax.specs.Laws.{ReadsPrograms, SpellsOne}
 use Rattle.sno_syntax.specs.inner.Tokens.{AreTokensOf}
 use Rattle.sno_syntax.proofs.Behind.{given, given_stands, tokens_spell}
+use Rattle.sno_syntax.proofs.Shorthand.{end_refusal}
 
 statement_spelled : (s : Statement) (tokens : Result TokenList SyntaxError) → AreTokensOf s tokens → statement_on tokens ≡ Some s
 statement_spelled s (Ok list) a = statement_read s list.tokens a.0 a.2
 statement_spelled s (Err refusal) a = absurd a
 
-statements_spelled : (labels : LabelList) (i : ℕ) (texts : List (List Placed)) (ss : List Statement) → SpellFrom labels i texts ss → all_statements texts ≡ Some ss
+statements_spelled : (labels : LabelList) (i : ℕ) (texts : List (List Placed)) (ss : List Statement) → SpellFrom labels i texts ss
+    → all_statements texts ≡ Some ss
 statements_spelled labels i [] [] a = refl
 statements_spelled labels i [] (s ∷ ss) a = absurd a
 statements_spelled labels i (text ∷ texts) [] a = absurd a
@@ -45,11 +47,13 @@ no_fault text offsets None e = refl
 no_fault text offsets (Some f) e = absurd cc
 
 -- what is refused nowhere spells a statement
-clean_spells : (text : List Placed) (r : Result TokenList LexFault) → HasTokens text r → stage_refusal text (with_place text r) ≡ None → (s : Statement) × TextSpells text s
+clean_spells : (text : List Placed) (r : Result TokenList LexFault) → HasTokens text r → stage_refusal text (with_place text r) ≡ None
+    → (s : Statement) × TextSpells text s
 clean_spells text (Err fault) h e = absurd cc
 clean_spells text (Ok list) h e = let q = none_fit list.tokens (no_fault text list.offsets (fault list.tokens) e) in (q.0, (list, h, q.1, q.2, q.3))
 
-label_clean : (text : List Placed) (label : Option SyntaxCode) (later : Option SyntaxError) → label_first text label later ≡ None → (label ≡ None) × (later ≡ None)
+label_clean : (text : List Placed) (label : Option SyntaxCode) (later : Option SyntaxError) → label_first text label later ≡ None → (label ≡ None)
+    × (later ≡ None)
 label_clean text None later e = (refl, e)
 label_clean text (Some code) later e = absurd cc
 
@@ -57,7 +61,8 @@ both_clean : (first later : Option SyntaxError) → option_or first later ≡ No
 both_clean None later e = (refl, e)
 both_clean (Some refusal) later e = absurd cc
 
-texts_spell : (labels : LabelList) (i : ℕ) (texts : List (List Placed)) → statements_refusal labels i texts ≡ None → (ss : List Statement) × SpellFrom labels i texts ss
+texts_spell : (labels : LabelList) (i : ℕ) (texts : List (List Placed)) → statements_refusal labels i texts ≡ None → (ss : List Statement)
+    × SpellFrom labels i texts ss
 texts_spell labels i [] e = ([], tt)
 texts_spell labels i (text ∷ texts) e =
     let b = both_clean (statement_refusal labels text) (statements_refusal (with_label labels (label_of text) i) (i + 1) texts) e in

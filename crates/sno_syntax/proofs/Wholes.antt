@@ -8,12 +8,13 @@ use Rattle.sno_lexer.specs.Listed.{TokenList}
 use Rattle.sno_statement.specs.Statements.{Statement}
 use Rattle.sno_syntax.specs.declared.start.Start.{Start}
 use Rattle.sno_syntax.specs.Labels.{LabelList}
-use Rattle.sno_syntax.specs.Refusals.{label_of, tokens_of, with_label, statements_refusal, end_refusal, start_in, syntax_refusal}
+use Rattle.sno_syntax.specs.Refusals.{label_of, tokens_of, with_label, statements_refusal, start_in, syntax_refusal}
 use Rattle.sno_syntax.specs.Programs.{Program, SpellsBehind, SpellFrom, IsProgram}
 use Rattle.sno_syntax.specs.inner.Tokens.{AreTokensOf}
 use Rattle.sno_syntax.proofs.Behind.{tokens_spell}
 use Rattle.sno_statement.proofs.Grammar.{one_statement}
 use Rattle.sno_syntax.proofs.Spelled.{no_refusal}
+use Rattle.sno_syntax.proofs.Shorthand.{end_refusal}
 
 one_of_tokens : (s t : Statement) (tokens : Result TokenList SyntaxError) → AreTokensOf s tokens → AreTokensOf t tokens → s ≡ t
 one_of_tokens s t (Err f) a b = absurd a
@@ -22,7 +23,8 @@ one_of_tokens s t (Ok list) a b = one_statement s t list.tokens a.0 a.2 b.0 b.2
 one_behind : (labels : LabelList) (text : List Placed) (s t : Statement) → SpellsBehind labels text s → SpellsBehind labels text t → s ≡ t
 one_behind labels text s t a b = one_of_tokens s t (tokens_of text) (tokens_spell text s a.1) (tokens_spell text t b.1)
 
-one_from : (labels : LabelList) (i : ℕ) (texts : List (List Placed)) (ss ts : List Statement) → SpellFrom labels i texts ss → SpellFrom labels i texts ts → ss ≡ ts
+one_from : (labels : LabelList) (i : ℕ) (texts : List (List Placed)) (ss ts : List Statement) → SpellFrom labels i texts ss
+    → SpellFrom labels i texts ts → ss ≡ ts
 one_from labels i [] [] [] a b = refl
 one_from labels i [] [] (t ∷ ts) a b = absurd b
 one_from labels i [] (s ∷ ss) ts a b = absurd a
@@ -40,7 +42,8 @@ one_program cards p q a b =
     ∙ ap (λ ls. record { statements = q.statements; labels = ls; start = p.start }) (a.1 ∙ sym b.1)
     ∙ ap (λ s. record q { start = s }) (one_start p.start q.start (sym a.2 ∙ b.2))
 
-clean_from : (labels : LabelList) (i : ℕ) (texts : List (List Placed)) (ss : List Statement) → SpellFrom labels i texts ss → statements_refusal labels i texts ≡ None
+clean_from : (labels : LabelList) (i : ℕ) (texts : List (List Placed)) (ss : List Statement) → SpellFrom labels i texts ss
+    → statements_refusal labels i texts ≡ None
 clean_from labels i [] ss a = refl
 clean_from labels i (text ∷ texts) [] a = absurd a
 clean_from labels i (text ∷ texts) (s ∷ ss) a =

@@ -3,16 +3,9 @@
 use Rattle.std.specs.Prelude.{ℕ, Bool, false, not, ◌||◌, bytes_eq, codes, is_some, List, [], ◌∷◌, Option, Some, None, if◌then◌else◌}
 use Rattle.std.specs.List.{before_first}
 use Rattle.std.specs.Map.{lookup}
-use Rattle.mon_text.specs.Characters.{is_letter, is_digit, is_blank}
+use Rattle.mon_text.specs.Characters.{is_letter_or_digit}
 use Rattle.sno_cards.specs.declared.refusal.SyntaxCode.{SyntaxCode}
 use Rattle.sno_cards.specs.declared.refusal.SyntaxCode.TheVariants.{Unexpected, LabelTaken, BadEnd}
-
--- the label of a statement is what stands before its first blank; one that begins with a blank has none
-abbrev pub label_in : List ℕ → List ℕ
-label_in text = before_first is_blank text
-
-abbrev pub begins_label : ℕ → Bool
-begins_label c = is_letter c || is_digit c
 
 abbrev pub is_end : List ℕ → Bool
 is_end label = bytes_eq label (codes "END")
@@ -25,20 +18,17 @@ is_kept label = bytes_eq label (codes "RETURN") || bytes_eq label (codes "FRETUR
 abbrev pub LabelList : Type 0
 LabelList = List (List ℕ × ℕ)
 
-abbrev pub is_defined : LabelList → List ℕ → Bool
-is_defined labels label = is_some (lookup (bytes_eq label) labels)
-
 -- a label begins with something else
 abbrev pub is_bad_label : List ℕ → Bool
 is_bad_label [] = false
-is_bad_label (c ∷ cs) = not (begins_label c)
+is_bad_label (c ∷ cs) = not (is_letter_or_digit c)
 
 -- why a statement may not have a label, where these are defined before it: it begins with something else than a letter or
 -- digit; it is END, which is the END line's; it was defined before, or is kept
 abbrev pub label_fault : LabelList → List ℕ → Option SyntaxCode
 label_fault labels [] = None
 label_fault labels (c ∷ cs) =
-    if not (begins_label c) then Some Unexpected
+    if not (is_letter_or_digit c) then Some Unexpected
     else if is_end (c ∷ cs) then Some BadEnd
-    else if is_kept (c ∷ cs) || is_defined labels (c ∷ cs) then Some LabelTaken
+    else if is_kept (c ∷ cs) || is_some (lookup (bytes_eq (c ∷ cs)) labels) then Some LabelTaken
     else None

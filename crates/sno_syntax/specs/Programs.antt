@@ -30,9 +30,8 @@ SpellsBehind labels text s = (label_fault labels (label_of text) ≡ None) × Te
 -- the texts from an index on spell the statements, one each
 abbrev pub SpellFrom : LabelList → ℕ → List (List Placed) → List Statement → Type 0
 SpellFrom labels index [] [] = Unit {0}
-SpellFrom labels index [] (s ∷ ss) = ⊥
-SpellFrom labels index (text ∷ texts) [] = ⊥
 SpellFrom labels index (text ∷ texts) (s ∷ ss) = SpellsBehind labels text s × SpellFrom (with_label labels (label_of text) index) (index + 1) texts ss
+SpellFrom labels index _ _ = ⊥
 
 -- the cards spell the program, its labels are theirs, and the END line says where it begins
 abbrev pub IsProgram : ProgramText → Program → Type 0

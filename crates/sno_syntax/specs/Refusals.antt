@@ -1,8 +1,8 @@
 -- The first refusal of a program (own; after Griswold, Poage and Polonsky, "The SNOBOL4 Programming Language", 2nd edition,
 -- chapter 1).
-use Rattle.std.specs.Prelude.{◌≡◌, ℕ, ◌+◌, nat_lt, not, bytes_eq, List, [], ◌∷◌, length, get_or, Option, Some, None, option_map, Result, Ok, Err, ◌⊎◌, if◌then◌else◌}
-use Rattle.std.specs.List.{position_or_len}
-use Rattle.std.specs.Option.{option_or}
+use Rattle.std.specs.Prelude.{◌≡◌, ℕ, ◌+◌, nat_lt, not, bytes_eq, List, [], ◌∷◌, length, get_or, Option, Some, None, option_map, Result, Ok, Err, ◌⊎◌, if◌then◌else◌, MatchOption}
+use Rattle.std.specs.List.{position_or_len, before_first}
+use Rattle.std.specs.Option.{option_or, is_none}
 use Rattle.indexmap.specs.IndexMap.{insert_entry}
 use Rattle.mon_text.specs.Characters.{is_blank}
 use Rattle.mon_text.specs.Lines.{words}
@@ -24,9 +24,10 @@ use Rattle.sno_statement.specs.declared.fault.Fault.{Fault}
 use Rattle.sno_statement.specs.Faults.{IsFault}
 use Rattle.sno_statement.specs.inner.Faults.{fault}
 use Rattle.sno_syntax.specs.declared.start.Start.{Start}
-use Rattle.sno_syntax.specs.Labels.{LabelList, label_in, is_bad_label, label_fault}
+use Rattle.sno_syntax.specs.Labels.{LabelList, is_bad_label, label_fault}
 use Rattle.sno_syntax.specs.Places.{place_at, end_of, refused}
 use Rattle.sno_syntax.specs.Starts.{start_of}
+use Rattle.std.specs.Bool.{then_some}
 
 -- A STATEMENT
 
@@ -40,8 +41,9 @@ code_of_fault MissingBlank = BlankMissing
 code_of_fault Unfit = Unexpected
 code_of_fault NoVariable = VariableNeeded
 
+-- the label of a statement is what stands before its first blank; one that begins with a blank has none
 abbrev pub label_of : List Placed → List ℕ
-label_of text = label_in (text_of text)
+label_of text = before_first is_blank (text_of text)
 
 -- where a token stands, or the end where there is none
 abbrev pub token_place : List Placed → List ℕ → ℕ → Place
@@ -89,14 +91,9 @@ IsRefusedBehind text e =
     ((f : LexFault) × HasTokens text (Err f) × (e ≡ lex_refusal text f))
     ⊎ ((list : TokenList) × (f : Fault) × HasTokens text (Ok list) × IsFault list.tokens f × (e ≡ fault_refusal text list.offsets f))
 
--- what refuses it: what is wrong with its label, or else what refuses it behind that
-abbrev pub IsRefusedBy : List Placed → Option SyntaxCode → SyntaxError → Type 0
-IsRefusedBy text (Some code) e = e ≡ refused code (place_at text 0)
-IsRefusedBy text None e = IsRefusedBehind text e
-
--- the refusal that a statement has, where these labels are defined before it
+-- the refusal of a statement that stands behind these labels: its label's, at its beginning, or else of what stands behind it
 abbrev pub IsRefusalOf : LabelList → List Placed → SyntaxError → Type 0
-IsRefusalOf labels text e = IsRefusedBy text (label_fault labels (label_of text)) e
+IsRefusalOf labels text e = MatchOption (label_fault labels (label_of text)) (IsRefusedBehind text e) (λ code. e ≡ refused code (place_at text 0))
 
 -- ALL STATEMENTS
 
@@ -124,14 +121,11 @@ labels_in texts = labels_from [] 0 texts
 abbrev pub begin_of : List Placed → Place
 begin_of text = place_at text (position_or_len (λ c. not (is_blank c)) (text_of text))
 
-abbrev pub end_refusal : List Placed → Option Start → Option SyntaxError
-end_refusal rest (Some start) = None
-end_refusal rest None = Some (refused BadEnd (begin_of rest))
-
 -- where the run begins, if the END line says it
 abbrev pub start_in : ProgramText → Option Start
 start_in program = start_of (length program.statements) (labels_in program.statements) (words (text_of program.end_rest))
 
 -- statement by statement, and then the END line
 abbrev pub syntax_refusal : ProgramText → Option SyntaxError
-syntax_refusal program = option_or (statements_refusal [] 0 program.statements) (end_refusal program.end_rest (start_in program))
+syntax_refusal program = option_or (statements_refusal [] 0 program.statements)
+    (then_some (is_none (start_in program)) (refused BadEnd (begin_of program.end_rest)))

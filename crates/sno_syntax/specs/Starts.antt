@@ -1,14 +1,9 @@
 -- Where a run of a program begins (own).
-use Rattle.std.specs.Prelude.{ℕ, zero, suc, bytes_eq, List, [], ◌∷◌, Option, Some, None, option_map, if◌then◌else◌}
+use Rattle.std.specs.Prelude.{ℕ, bytes_eq, List, [], ◌∷◌, Option, Some, None, option_map, if◌then◌else◌, ◌==◌}
 use Rattle.std.specs.Map.{lookup}
 use Rattle.sno_syntax.specs.declared.start.Start.{Start}
 use Rattle.sno_syntax.specs.declared.start.Start.TheVariants.{Statement, End}
 use Rattle.sno_syntax.specs.Labels.{LabelList, is_end}
-
--- the first statement, or END where there is none
-abbrev pub first_start : ℕ → Start
-first_start zero = End
-first_start (suc more) = Statement 0
 
 -- END, or the statement of this label
 abbrev pub start_named : LabelList → List ℕ → Option Start
@@ -16,6 +11,6 @@ start_named labels label = if is_end label then Some End else option_map Stateme
 
 -- what the words after END say, where there are so many statements: nothing, or one label
 abbrev pub start_of : ℕ → LabelList → List (List ℕ) → Option Start
-start_of count labels [] = Some (first_start count)
+start_of count labels [] = Some (if count == 0 then End else Statement 0)
 start_of count labels (word ∷ []) = start_named labels word
 start_of count labels _ = None

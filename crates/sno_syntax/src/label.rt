@@ -1,10 +1,10 @@
 //! Labels, and which statement each stands before.
 ghost use Rattle.std.specs.Prelude.{◌≡◌, ◌≤◌, [], bytes_eq, length, position, option_map, slice_get, OnOk};
-ghost use Rattle.std.specs.List.{position_or_len};
+ghost use Rattle.std.specs.List.{position_or_len, before_first};
 ghost use Rattle.std.specs.Map.{lookup};
 ghost use Rattle.indexmap.specs.IndexMap.{insert_entry};
-ghost use Rattle.mon_text.specs.Characters.{is_blank};
-ghost use Rattle.sno_syntax.specs.Labels.{label_in, begins_label, is_bad_label, is_end, is_kept, label_fault};
+ghost use Rattle.mon_text.specs.Characters.{is_blank, is_letter_or_digit};
+ghost use Rattle.sno_syntax.specs.Labels.{is_bad_label, is_end, is_kept, label_fault};
 
 use indexmap::IndexMap;
 use sno_cards::SyntaxCode;
@@ -75,7 +75,7 @@ impl Labels {
 
 /// The label of a statement's text, which is empty where column 1 holds a blank.
 pub(crate) fn label_in(text: &[u8]) -> &[u8]
-    ensures { result.now ≡ label_in text.now }
+    ensures { result.now ≡ before_first is_blank text.now }
 {
     &text[..label_length(text)]
 }
@@ -95,7 +95,7 @@ pub(crate) fn label_length(text: &[u8]) -> usize
 }
 
 fn begins_label(byte: u8) -> bool
-    ensures { result ≡ begins_label byte }
+    ensures { result ≡ is_letter_or_digit byte }
 {
     byte.is_ascii_alphanumeric()
 }

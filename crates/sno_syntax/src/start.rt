@@ -1,7 +1,8 @@
 //! Where a run of a program begins.
-ghost use Rattle.std.specs.Prelude.{◌≡◌, map, IfOk};
+ghost use Rattle.std.specs.Prelude.{◌≡◌, map, IfOk, ◌==◌, if◌then◌else◌};
 ghost use Rattle.mon_text.specs.Lines.{words};
-ghost use Rattle.sno_syntax.specs.Starts.{first_start, start_named, start_of};
+ghost use Rattle.sno_syntax.specs.Starts.{start_named, start_of};
+ghost use Rattle.sno_syntax.specs.declared.start.Start.TheVariants.{End, Statement};
 
 use crate::label::{Labels, is_end};
 use std::alloc::{AllocError, Global};
@@ -16,7 +17,7 @@ pub enum Start {
 }
 
 fn first_start(count: usize) -> Start
-    ensures { result ≡ first_start count }
+    ensures { result ≡ (if count == 0 then End else Statement 0) }
 {
     if count == 0 {
         Start::End

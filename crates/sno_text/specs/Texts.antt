@@ -2,11 +2,6 @@
 use Rattle.std.specs.Prelude.{ℕ, zero, suc, List, [], ◌∷◌, ◌++◌, if◌then◌else◌}
 use Rattle.mon_text.specs.Characters.{is_blank}
 
--- so many of a text, one after the other (the SNOBOL4 book, chapter 3, DUPL)
-abbrev pub repeated : ℕ → List ℕ → List ℕ
-repeated zero text = []
-repeated (suc n) text = text ++ repeated n text
-
 -- a character before a text that has no blanks at its end
 abbrev pub before_trimmed : ℕ → List ℕ → List ℕ
 before_trimmed c [] = if is_blank c then [] else c ∷ []

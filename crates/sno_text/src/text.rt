@@ -1,6 +1,6 @@
 //! Texts, which are shared.
 ghost use Rattle.std.specs.Prelude.{◌≡◌, ◌==◌, ◌<◌, ◌≤◌, ◌+◌, ◌*◌, ◌++◌, [], length, take, drop, nat_eq, refl, vec_capacity, Some, IfOk, OnErr};
-ghost use Rattle.std.specs.List.{slice_range};
+ghost use Rattle.std.specs.List.{slice_range, repeat};
 ghost use Rattle.std.specs.Fmt.{signed_decimal};
 ghost use Rattle.std.specs.Ordering.{nat_cmp};
 ghost use Rattle.std.specs.Hash as fed;
@@ -9,7 +9,7 @@ ghost use Rattle.std.specs.Cmp.{partial_equiv_from_equiv};
 ghost use Rattle.std.specs.Cmp.Rules.{hashing};
 ghost use Rattle.std.proofs.Common.{rules};
 ghost use Rattle.mon_text.specs.Lines.{IsLine};
-ghost use Rattle.sno_text.specs.Texts.{repeated, without_trailing_blanks};
+ghost use Rattle.sno_text.specs.Texts.{without_trailing_blanks};
 
 use itoa::Buffer;
 use mon_text::Line;
@@ -201,7 +201,7 @@ impl Text {
     /// Where a growth was refused.
     pub fn repeated(alloc: Global, text: &[u8], times: usize) -> Result<Text, AllocError>
         requires { IsLine text.now }
-        ensures value { IfOk result (λ all. all ≡ repeated times text.now) }
+        ensures value { IfOk result (λ all. all ≡ repeat times text.now) }
         ensures memory { OnErr result (0 < times * length text.now) }
     {
         if text.is_empty() {

@@ -13,7 +13,7 @@ use Rattle.sno_value.specs.declared.primitive.CharacterPattern.TheVariants.{Span
 use Rattle.sno_value.specs.declared.primitive.Primitive.TheVariants as primitive
 use Rattle.sno_value.specs.Values.{null, number_of}
 use Rattle.sno_value.specs.Operators.{concatenation, arithmetic, negation}
-use Rattle.sno_value.specs.Primitives.{duplicated, identical, of_characters, of_number, primitive_gives, primitive_named, replace}
+use Rattle.sno_value.specs.Primitives.{primitive_gives, primitive_named, applied}
 
 -- 7 / 2 is 3, and -7 / 2 is -3
 rounds_toward_zero : arithmetic Quotient (Integer (pos 7)) (Text (codes "2")) ≡ Gives (Integer (pos 3))
@@ -57,25 +57,25 @@ too_long_together = refl
 with_what_is_not_evaluated : concatenation 0 (Text (codes "A")) (Unevaluated (codes "X")) ≡ Gives (Pattern (pattern.Cat (pattern.Text (codes "A")) (pattern.Defer (codes "X"))))
 with_what_is_not_evaluated = refl
 
-one_and_its_text_differ : identical (Integer (pos 1)) (Text (codes "1")) ≡ Fails
+one_and_its_text_differ : applied primitive.Identical (Integer (pos 1)) (Text (codes "1")) null 0 ≡ Fails
 one_and_its_text_differ = refl
 
-patterns_are_not_compared : identical (Pattern pattern.Arb) (Pattern pattern.Arb) ≡ Faults WrongType
+patterns_are_not_compared : applied primitive.Identical (Pattern pattern.Arb) (Pattern pattern.Arb) null 0 ≡ Faults WrongType
 patterns_are_not_compared = refl
 
-rightmost_counts : replace (Text (codes "BANANA")) (Text (codes "ANA")) (Text (codes "123")) ≡ Gives (Text (codes "B32323"))
+rightmost_counts : applied primitive.Replace (Text (codes "BANANA")) (Text (codes "ANA")) (Text (codes "123")) 0 ≡ Gives (Text (codes "B32323"))
 rightmost_counts = refl
 
-not_as_many : replace (Text (codes "AB")) (Text (codes "A")) null ≡ Fails
+not_as_many : applied primitive.Replace (Text (codes "AB")) (Text (codes "A")) null 0 ≡ Fails
 not_as_many = refl
 
-never_many : duplicated 5 null (Integer (pos 12)) ≡ Gives null
+never_many : applied primitive.Duplicate null (Integer (pos 12)) null 5 ≡ Gives null
 never_many = refl
 
-no_negative_length : of_number Len (Text (codes "-1")) ≡ Faults Negative
+no_negative_length : applied (primitive.OfNumber Len) (Text (codes "-1")) null null 0 ≡ Faults Negative
 no_negative_length = refl
 
-of_no_characters : of_characters Span null ≡ Faults Null
+of_no_characters : applied (primitive.OfCharacters Span) null null null 0 ≡ Faults Null
 of_no_characters = refl
 
 further_arguments_are_dropped : primitive_gives (primitive.Compare Less) (Integer (pos 1) ∷ Integer (pos 2) ∷ Pattern pattern.Arb ∷ []) 0 ≡ Gives null

@@ -12,7 +12,7 @@ use Rattle.std.proofs.lemmas.Bool.Decides.{nat_tests, Decides-int_eq}
 use Rattle.std.proofs.lemmas.Cmp.{nat_list_eq_equiv}
 use Rattle.std.proofs.lemmas.Int.{quot-rem, rem_below, unsigned_abs-mul}
 use Rattle.mon_text.specs.Characters.{is_digit}
-use Rattle.mon_text.specs.Counts.{read_on, value_of}
+use Rattle.mon_text.specs.Counts.{value_of}
 use Rattle.sno_value.specs.declared.value.Value.TheVariants.{Text, Integer, Pattern, Unevaluated}
 use Rattle.sno_value.specs.declared.outcome.Outcome.{Outcome}
 use Rattle.sno_value.specs.declared.outcome.Outcome.TheVariants.{Gives}
@@ -20,6 +20,7 @@ use Rattle.sno_value.specs.Values.{null, is_integer, integer_of, is_unsigned, si
 use Rattle.sno_value.specs.Outcomes.{string, calculated}
 use Rattle.sno_value.specs.Laws.{NumbersReadBack, NullIsNeutral, TextsAreJoined, JoinsAssociate, IdenticalAreEqual, EqualAreIdentical, QuotientsTruncate}
 use Rattle.sno_value.proofs.Strings.{not_too_long}
+use Rattle.mon_text.proofs.Digits.{read_on}
 
 -- NUMBERS
 

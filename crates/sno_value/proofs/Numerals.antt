@@ -5,7 +5,7 @@ use Rattle.std.specs.Fmt.{signed_decimal}
 use Rattle.std.specs.Int.Signed.{mag}
 use Rattle.std.proofs.lemmas.Fmt.{decimal_nonempty}
 use Rattle.std.proofs.lemmas.Bool.Decides.{nat_tests}
-use Rattle.mon_text.specs.Counts.{read_on}
+use Rattle.mon_text.proofs.Digits.{read_on}
 
 grows : (digits : List ℕ) (n : ℕ) → n ≤ read_on n digits
 grows [] n = omega arith

@@ -2,13 +2,13 @@
 use Rattle.std.proofs.Common.{arith, ◌≡◌, ℕ, ◌*◌, ◌≤◌, ◌<◌, List, length, sym, ap, Bool, true, false}
 use Rattle.std.specs.Prelude.{ℤ, pos, negsuc, nat_le, nat_lt, unsigned_abs, int_lt, if◌then◌else◌}
 use Rattle.std.proofs.lemmas.Bool.Decides.{nat_tests}
-use Rattle.sno_text.specs.Texts.{repeated}
 use Rattle.sno_text.proofs.Repeating.{length-repeated}
 use Rattle.sno_text.specs.declared.fault.Fault.TheVariants.{Length}
 use Rattle.sno_value.specs.declared.value.Value.TheVariants.{Text}
 use Rattle.sno_value.specs.declared.outcome.Outcome.TheVariants.{Gives, Faults}
 use Rattle.sno_value.specs.Outcomes.{string}
 use Rattle.sno_value.specs.Primitives.{copies}
+use Rattle.std.specs.List.{repeat}
 
 by_length : (text : List ℕ) (b : Bool) (given : Bool) → b ≡ given → (if given then Gives (Text text) else Faults Length) ≡ (if b then Gives (Text text) else Faults Length)
 by_length text b given e = ap (λ (c : Bool). if c then Gives (Text text) else Faults Length) (sym e)
@@ -20,13 +20,13 @@ pub not_too_long : (most : ℕ) (text : List ℕ) → length text ≤ most → G
 not_too_long most text within = by_length text (nat_le (length text) most) true (grind (arith, nat_tests, within))
 
 -- the same by the test on their number
-pub too_many : (most n : ℕ) (text : List ℕ) (b : Bool) → b ≡ nat_lt most (n * length text) → b ≡ true → Faults Length ≡ string most (repeated n text)
-too_many most n text b test e = let long = length-repeated n text in too_long most (repeated n text) (grind (arith, nat_tests, test, e, long))
+pub too_many : (most n : ℕ) (text : List ℕ) (b : Bool) → b ≡ nat_lt most (n * length text) → b ≡ true → Faults Length ≡ string most (repeat n text)
+too_many most n text b test e = let long = length-repeated n text in too_long most (repeat n text) (grind (arith, nat_tests, test, e, long))
 
-pub not_too_many : (most n : ℕ) (text : List ℕ) (b : Bool) → b ≡ nat_lt most (n * length text) → b ≡ false → Gives (Text (repeated n text)) ≡ string most (repeated n text)
-not_too_many most n text b test e = let long = length-repeated n text in not_too_long most (repeated n text) (grind (arith, nat_tests, test, e, long))
+pub not_too_many : (most n : ℕ) (text : List ℕ) (b : Bool) → b ≡ nat_lt most (n * length text) → b ≡ false → Gives (Text (repeat n text)) ≡ string most (repeat n text)
+not_too_many most n text b test e = let long = length-repeated n text in not_too_long most (repeat n text) (grind (arith, nat_tests, test, e, long))
 
 -- a number that is not negative counts copies
-pub copies_of : (most : ℕ) (text : List ℕ) (z : ℤ) (n : ℕ) → n ≡ unsigned_abs z → int_lt z (pos 0) ≡ false → string most (repeated n text) ≡ copies most text z
-copies_of most text (pos k) n is sign = ap (λ (m : ℕ). string most (repeated m text)) is
+pub copies_of : (most : ℕ) (text : List ℕ) (z : ℤ) (n : ℕ) → n ≡ unsigned_abs z → int_lt z (pos 0) ≡ false → string most (repeat n text) ≡ copies most text z
+copies_of most text (pos k) n is sign = ap (λ (m : ℕ). string most (repeat m text)) is
 copies_of most text (negsuc k) n is sign = absurd (cc)

@@ -18,8 +18,7 @@ use Rattle.sno_value.specs.Outcomes.{with_number, integer, string, pattern}
 -- two values of which neither is null: two texts are one, and whatever else there is stands for a pattern
 abbrev pub joined : ℕ → Option (List ℕ) → Option (List ℕ) → patterns.Pattern → patterns.Pattern → Outcome
 joined most (Some s) (Some t) p q = string most (s ++ t)
-joined most (Some s) None p q = pattern (Cat p q)
-joined most None t p q = pattern (Cat p q)
+joined most s t p q = pattern (Cat p q)
 
 -- the null string changes nothing, neither value nor type
 abbrev pub concatenation : ℕ → Value → Value → Outcome

@@ -8,11 +8,11 @@ use Rattle.sno_value.specs.declared.value.Value.TheVariants.{Text, Integer, Patt
 use Rattle.sno_value.specs.declared.outcome.Outcome.{Outcome}
 use Rattle.sno_value.specs.declared.outcome.Outcome.TheVariants.{Gives, Fails, Faults}
 use Rattle.sno_value.specs.Values.{null, text_of, number_of, integer_of}
+use Rattle.std.specs.Option.{option_map_or}
 
 -- goes on with what a value is seen as; where it can't be seen so, it is of the wrong type
 abbrev pub or_wrong_type : {A : Type 0} → Option A → (A → Outcome) → Outcome
-or_wrong_type None go = Faults WrongType
-or_wrong_type (Some a) go = go a
+or_wrong_type seen go = option_map_or go seen (Faults WrongType)
 
 abbrev pub with_text : Value → (List ℕ → Outcome) → Outcome
 with_text v go = or_wrong_type (text_of v) go
@@ -22,13 +22,11 @@ with_number v go = or_wrong_type (number_of v) go
 
 -- what a predicate gives: the null string, or failure
 abbrev pub predicate : Bool → Outcome
-predicate true = Gives null
-predicate false = Fails
+predicate holds = if holds then Gives null else Fails
 
 -- a number that is calculated, if it is an integer
 abbrev pub calculated : Option ℤ → Outcome
-calculated (Some z) = Gives (Integer z)
-calculated None = Faults Arithmetic
+calculated number = option_map_or (λ z. Gives (Integer z)) number (Faults Arithmetic)
 
 abbrev pub integer : ℤ → Outcome
 integer z = calculated (integer_of z)

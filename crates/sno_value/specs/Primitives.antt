@@ -1,10 +1,10 @@
 -- The primitive functions that depend on nothing but their arguments (the SNOBOL4 book, chapters 2 and 3; the faults, their
 -- order, REPLACE of nothing by nothing and IDENT of patterns are own).
-use Rattle.std.specs.Prelude.{ℕ, ℤ, pos, negsuc, int_lt, int_le, Bool, true, false, not, ◌==◌, nat_eq, List, [], ◌∷◌, length, map, reverse, find, zip, codes, Option, Some, None, is_some, slice_get, if◌then◌else◌}
+use Rattle.std.specs.Prelude.{ℕ, ℤ, pos, negsuc, int_lt, int_le, Bool, true, false, not, ◌==◌, nat_eq, List, [], ◌∷◌, length, map, reverse, find, zip, codes, Option, Some, None, is_some, slice_get, if◌then◌else◌, bytes_eq}
 use Rattle.std.specs.Option.{option_map_or, unwrap_or}
 use Rattle.std.specs.Ordering.{nat_cmp, int_eq, is_gt}
 use Rattle.std.specs.Cmp.Lexicographic.{pointwise, slice_cmp}
-use Rattle.sno_text.specs.Texts.{repeated, without_trailing_blanks}
+use Rattle.sno_text.specs.Texts.{without_trailing_blanks}
 use Rattle.sno_text.specs.declared.fault.Fault.TheVariants.{Null, Negative}
 use Rattle.sno_nodes.specs.Patterns as patterns
 use Rattle.sno_value.specs.declared.value.Value.{Value}
@@ -21,25 +21,14 @@ use Rattle.sno_value.specs.declared.primitive.Primitive.{Primitive}
 use Rattle.sno_value.specs.declared.primitive.Primitive.TheVariants as primitive
 use Rattle.sno_value.specs.Values.{null, number_of, pattern_of}
 use Rattle.sno_value.specs.Outcomes.{or_wrong_type, with_text, with_number, predicate, string, pattern}
+use Rattle.std.specs.List.{repeat}
 
 -- TEXTS
 
--- SIZE(S): how many characters
-abbrev pub size : Value → Outcome
-size s = with_text s (λ t. Gives (Integer (pos (length t))))
-
--- TRIM(S): without the blanks at its end
-abbrev pub trimmed : Value → Outcome
-trimmed s = with_text s (λ t. Gives (Text (without_trailing_blanks t)))
-
 -- so many of a text; it fails for a negative number
 abbrev pub copies : ℕ → List ℕ → ℤ → Outcome
-copies most t (pos n) = string most (repeated n t)
+copies most t (pos n) = string most (repeat n t)
 copies most t (negsuc n) = Fails
-
--- DUPL(S,N)
-abbrev pub duplicated : ℕ → Value → Value → Outcome
-duplicated most s n = with_text s (λ t. with_number n (λ k. copies most t k))
 
 -- what stands for a character: the one at the place of its rightmost occurrence, or itself if it does not occur
 abbrev pub replacement : List ℕ → List ℕ → ℕ → ℕ
@@ -47,10 +36,6 @@ replacement from to c = option_map_or (λ p. p.1) (find (λ p. p.0 == c) (revers
 
 abbrev pub replaced : List ℕ → List ℕ → List ℕ → Outcome
 replaced t from to = if length from == length to then Gives (Text (map (replacement from to) t)) else Fails
-
--- REPLACE(S,A,B): each character of S that is in A becomes the one of B at its place
-abbrev pub replace : Value → Value → Value → Outcome
-replace s a b = with_text s (λ t. with_text a (λ from. with_text b (λ to. replaced t from to)))
 
 -- PREDICATES
 
@@ -66,14 +51,6 @@ compares GreaterOrEqual a b = int_le b a
 abbrev pub compared : Comparison → Value → Value → Outcome
 compared comparison a b = with_number a (λ m. with_number b (λ n. predicate (compares comparison m n)))
 
--- a text that stands after another one, by the codes of the characters
-abbrev pub is_after : List ℕ → List ℕ → Bool
-is_after s t = is_gt (slice_cmp nat_cmp s t)
-
--- LGT(S,T)
-abbrev pub lexically_greater : Value → Value → Outcome
-lexically_greater a b = with_text a (λ s. with_text b (λ t. predicate (is_after s t)))
-
 -- values of one type that are equal; patterns are not compared
 abbrev pub are_identical : Value → Value → Option Bool
 are_identical (Text s) (Text t) = Some (pointwise nat_eq s t)
@@ -82,26 +59,12 @@ are_identical (Unevaluated s) (Unevaluated t) = Some (pointwise nat_eq s t)
 are_identical (Pattern p) (Pattern q) = None
 are_identical a b = Some false
 
--- IDENT(A,B), and DIFFER(A,B)
-abbrev pub identical : Value → Value → Outcome
-identical a b = or_wrong_type (are_identical a b) predicate
-
-abbrev pub different : Value → Value → Outcome
-different a b = or_wrong_type (are_identical a b) (λ same. predicate (not same))
-
--- INTEGER(V): it has a number
-abbrev pub is_numeric : Value → Outcome
-is_numeric v = predicate (is_some (number_of v))
-
 -- DATATYPE(V)
 abbrev pub type_name : Value → List ℕ
 type_name (Text t) = codes "STRING"
 type_name (Integer i) = codes "INTEGER"
 type_name (Pattern p) = codes "PATTERN"
 type_name (Unevaluated name) = codes "EXPRESSION"
-
-abbrev pub data_type : Value → Outcome
-data_type v = Gives (Text (type_name v))
 
 -- PATTERNS
 
@@ -116,10 +79,6 @@ abbrev pub at_number : NumberPattern → ℤ → Outcome
 at_number kind (pos n) = Gives (Pattern (number_pattern kind n))
 at_number kind (negsuc n) = Faults Negative
 
--- LEN(N), POS, RPOS, TAB, RTAB: of a number that is not negative
-abbrev pub of_number : NumberPattern → Value → Outcome
-of_number kind v = with_number v (λ n. at_number kind n)
-
 abbrev pub character_pattern : CharacterPattern → List ℕ → patterns.Pattern
 character_pattern Span t = patterns.Span t
 character_pattern Break t = patterns.Break t
@@ -130,14 +89,6 @@ abbrev pub among : CharacterPattern → List ℕ → Outcome
 among kind [] = Faults Null
 among kind (c ∷ cs) = Gives (Pattern (character_pattern kind (c ∷ cs)))
 
--- SPAN(S), BREAK, ANY, NOTANY: of characters, of which there is at least one
-abbrev pub of_characters : CharacterPattern → Value → Outcome
-of_characters kind v = with_text v (λ t. among kind t)
-
--- ARBNO(P)
-abbrev pub any_number_of : Value → Outcome
-any_number_of v = pattern (patterns.Arbno (pattern_of v))
-
 -- CALLS
 
 -- an argument that is missing is null
@@ -146,19 +97,19 @@ argument at given = unwrap_or (slice_get given at) null
 
 -- what a primitive gives for its first three arguments
 abbrev pub applied : Primitive → Value → Value → Value → ℕ → Outcome
-applied primitive.Size a b c most = size a
-applied primitive.Trim a b c most = trimmed a
-applied primitive.Duplicate a b c most = duplicated most a b
-applied primitive.Replace a b c most = replace a b c
+applied primitive.Size a b c most = with_text a (λ t. Gives (Integer (pos (length t))))
+applied primitive.Trim a b c most = with_text a (λ t. Gives (Text (without_trailing_blanks t)))
+applied primitive.Duplicate a b c most = with_text a (λ t. with_number b (λ n. copies most t n))
+applied primitive.Replace a b c most = with_text a (λ t. with_text b (λ from. with_text c (λ to. replaced t from to)))
 applied (primitive.Compare comparison) a b c most = compared comparison a b
-applied primitive.LexicallyGreater a b c most = lexically_greater a b
-applied primitive.Identical a b c most = identical a b
-applied primitive.Different a b c most = different a b
-applied primitive.Numeric a b c most = is_numeric a
-applied primitive.DataType a b c most = data_type a
-applied (primitive.OfNumber kind) a b c most = of_number kind a
-applied (primitive.OfCharacters kind) a b c most = of_characters kind a
-applied primitive.Arbno a b c most = any_number_of a
+applied primitive.LexicallyGreater a b c most = with_text a (λ s. with_text b (λ t. predicate (is_gt (slice_cmp nat_cmp s t))))
+applied primitive.Identical a b c most = or_wrong_type (are_identical a b) predicate
+applied primitive.Different a b c most = or_wrong_type (are_identical a b) (λ same. predicate (not same))
+applied primitive.Numeric a b c most = predicate (is_some (number_of a))
+applied primitive.DataType a b c most = Gives (Text (type_name a))
+applied (primitive.OfNumber kind) a b c most = with_number a (λ n. at_number kind n)
+applied (primitive.OfCharacters kind) a b c most = with_text a (λ t. among kind t)
+applied primitive.Arbno a b c most = pattern (patterns.Arbno (pattern_of a))
 
 -- whether it takes memory: a text, a pattern
 abbrev pub takes_memory : Primitive → Bool
@@ -176,43 +127,40 @@ primitive_gives which given most = applied which (argument 0 given) (argument 1 
 
 -- NAMES
 
-abbrev pub is_text : List ℕ → List ℕ → Bool
-is_text text name = pointwise nat_eq name text
-
 abbrev pub pattern_function : List ℕ → Option Primitive
 pattern_function name =
-    if is_text (codes "LEN") name then Some (primitive.OfNumber Len)
-    else if is_text (codes "POS") name then Some (primitive.OfNumber Pos)
-    else if is_text (codes "RPOS") name then Some (primitive.OfNumber RPos)
-    else if is_text (codes "TAB") name then Some (primitive.OfNumber Tab)
-    else if is_text (codes "RTAB") name then Some (primitive.OfNumber RTab)
-    else if is_text (codes "SPAN") name then Some (primitive.OfCharacters Span)
-    else if is_text (codes "BREAK") name then Some (primitive.OfCharacters Break)
-    else if is_text (codes "ANY") name then Some (primitive.OfCharacters Any)
-    else if is_text (codes "NOTANY") name then Some (primitive.OfCharacters NotAny)
-    else if is_text (codes "ARBNO") name then Some primitive.Arbno
+    if bytes_eq name (codes "LEN") then Some (primitive.OfNumber Len)
+    else if bytes_eq name (codes "POS") then Some (primitive.OfNumber Pos)
+    else if bytes_eq name (codes "RPOS") then Some (primitive.OfNumber RPos)
+    else if bytes_eq name (codes "TAB") then Some (primitive.OfNumber Tab)
+    else if bytes_eq name (codes "RTAB") then Some (primitive.OfNumber RTab)
+    else if bytes_eq name (codes "SPAN") then Some (primitive.OfCharacters Span)
+    else if bytes_eq name (codes "BREAK") then Some (primitive.OfCharacters Break)
+    else if bytes_eq name (codes "ANY") then Some (primitive.OfCharacters Any)
+    else if bytes_eq name (codes "NOTANY") then Some (primitive.OfCharacters NotAny)
+    else if bytes_eq name (codes "ARBNO") then Some primitive.Arbno
     else None
 
 abbrev pub comparison_function : List ℕ → Option Primitive
 comparison_function name =
-    if is_text (codes "EQ") name then Some (primitive.Compare Equal)
-    else if is_text (codes "NE") name then Some (primitive.Compare NotEqual)
-    else if is_text (codes "LT") name then Some (primitive.Compare Less)
-    else if is_text (codes "LE") name then Some (primitive.Compare LessOrEqual)
-    else if is_text (codes "GT") name then Some (primitive.Compare Greater)
-    else if is_text (codes "GE") name then Some (primitive.Compare GreaterOrEqual)
+    if bytes_eq name (codes "EQ") then Some (primitive.Compare Equal)
+    else if bytes_eq name (codes "NE") then Some (primitive.Compare NotEqual)
+    else if bytes_eq name (codes "LT") then Some (primitive.Compare Less)
+    else if bytes_eq name (codes "LE") then Some (primitive.Compare LessOrEqual)
+    else if bytes_eq name (codes "GT") then Some (primitive.Compare Greater)
+    else if bytes_eq name (codes "GE") then Some (primitive.Compare GreaterOrEqual)
     else pattern_function name
 
 -- the primitive of a name
 abbrev pub primitive_named : List ℕ → Option Primitive
 primitive_named name =
-    if is_text (codes "SIZE") name then Some primitive.Size
-    else if is_text (codes "TRIM") name then Some primitive.Trim
-    else if is_text (codes "DUPL") name then Some primitive.Duplicate
-    else if is_text (codes "REPLACE") name then Some primitive.Replace
-    else if is_text (codes "LGT") name then Some primitive.LexicallyGreater
-    else if is_text (codes "IDENT") name then Some primitive.Identical
-    else if is_text (codes "DIFFER") name then Some primitive.Different
-    else if is_text (codes "INTEGER") name then Some primitive.Numeric
-    else if is_text (codes "DATATYPE") name then Some primitive.DataType
+    if bytes_eq name (codes "SIZE") then Some primitive.Size
+    else if bytes_eq name (codes "TRIM") then Some primitive.Trim
+    else if bytes_eq name (codes "DUPL") then Some primitive.Duplicate
+    else if bytes_eq name (codes "REPLACE") then Some primitive.Replace
+    else if bytes_eq name (codes "LGT") then Some primitive.LexicallyGreater
+    else if bytes_eq name (codes "IDENT") then Some primitive.Identical
+    else if bytes_eq name (codes "DIFFER") then Some primitive.Different
+    else if bytes_eq name (codes "INTEGER") then Some primitive.Numeric
+    else if bytes_eq name (codes "DATATYPE") then Some primitive.DataType
     else comparison_function name

@@ -14,9 +14,7 @@ null = Text []
 
 abbrev pub is_null : Value → Bool
 is_null (Text t) = length t == 0
-is_null (Integer i) = false
-is_null (Pattern p) = false
-is_null (Unevaluated name) = false
+is_null v = false
 
 -- AS A TEXT
 
@@ -24,8 +22,7 @@ is_null (Unevaluated name) = false
 abbrev pub text_of : Value → Option (List ℕ)
 text_of (Text t) = Some t
 text_of (Integer i) = Some (signed_decimal i)
-text_of (Pattern p) = None
-text_of (Unevaluated name) = None
+text_of v = None
 
 -- AS A NUMBER
 
@@ -56,8 +53,7 @@ number_of_text (c ∷ cs) = if c == 43 then signed_number pos cs else (if c == 4
 abbrev pub number_of : Value → Option ℤ
 number_of (Text t) = number_of_text t
 number_of (Integer i) = Some i
-number_of (Pattern p) = None
-number_of (Unevaluated name) = None
+number_of v = None
 
 -- AS A PATTERN
 

@@ -1,7 +1,9 @@
 //! The primitive functions that make patterns. What they refuse takes no memory.
 ghost use Rattle.std.specs.Prelude.{◌≡◌, true, IfOk, OnErr};
-ghost use Rattle.sno_value.specs.Primitives.{number_pattern, at_number, of_number, character_pattern, among, of_characters, any_number_of};
+ghost use Rattle.sno_value.specs.Primitives.{number_pattern, at_number, character_pattern, among, applied};
 ghost use Rattle.sno_value.specs.Memory.{is_given};
+ghost use Rattle.sno_value.specs.Values.{null};
+ghost use Rattle.sno_value.specs.declared.primitive.Primitive.TheVariants as primitive;
 
 use crate::outcome::{Outcome, formed};
 use crate::primitive::{CharacterPattern, NumberPattern};
@@ -39,8 +41,8 @@ pub(crate) fn of_number(
     kind: NumberPattern,
     value: &Value,
 ) -> Result<Outcome, AllocError>
-    ensures value { IfOk result (λ outcome. outcome ≡ of_number kind value.now) }
-    ensures memory { OnErr result (is_given (of_number kind value.now) ≡ true) }
+    ensures value { IfOk result (λ outcome. outcome ≡ applied (primitive.OfNumber kind) value.now null null 0) }
+    ensures memory { OnErr result (is_given (applied (primitive.OfNumber kind) value.now null null 0) ≡ true) }
 {
     match value.to_number() {
         Some(number) => at_number(alloc, kind, number),
@@ -80,8 +82,8 @@ pub(crate) fn of_characters(
     kind: CharacterPattern,
     value: &Value,
 ) -> Result<Outcome, AllocError>
-    ensures value { IfOk result (λ outcome. outcome ≡ of_characters kind value.now) }
-    ensures memory { OnErr result (is_given (of_characters kind value.now) ≡ true) }
+    ensures value { IfOk result (λ outcome. outcome ≡ applied (primitive.OfCharacters kind) value.now null null 0) }
+    ensures memory { OnErr result (is_given (applied (primitive.OfCharacters kind) value.now null null 0) ≡ true) }
 {
     match value.to_text(alloc)? {
         Some(characters) => among(alloc, kind, characters),
@@ -91,8 +93,8 @@ pub(crate) fn of_characters(
 
 /// ARBNO.
 pub(crate) fn any_number_of(alloc: Global, value: &Value) -> Result<Outcome, AllocError>
-    ensures value { IfOk result (λ outcome. outcome ≡ any_number_of value.now) }
-    ensures memory { OnErr result (is_given (any_number_of value.now) ≡ true) }
+    ensures value { IfOk result (λ outcome. outcome ≡ applied primitive.Arbno value.now null null 0) }
+    ensures memory { OnErr result (is_given (applied primitive.Arbno value.now null null 0) ≡ true) }
 {
     if value.is_full() {
         return Ok(Outcome::Faults(Fault::Depth));

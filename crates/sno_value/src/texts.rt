@@ -1,10 +1,12 @@
 //! The primitive functions of texts. Failure and faults take no memory.
 ghost use Rattle.std.specs.Prelude.{◌≡◌, ◌<◌, ◌*◌, ℕ, true, nat_lt, length, slice_index, IfOk, OnErr};
 ghost use Rattle.mon_text.specs.Lines.{IsLine};
-ghost use Rattle.sno_text.specs.Texts.{repeated};
 ghost use Rattle.sno_value.specs.Outcomes.{string};
-ghost use Rattle.sno_value.specs.Primitives.{size, trimmed, copies, duplicated, replacement, replaced, replace, type_name, data_type};
+ghost use Rattle.sno_value.specs.Primitives.{copies, replacement, replaced, type_name, applied};
 ghost use Rattle.sno_value.specs.Memory.{is_given};
+ghost use Rattle.std.specs.List.{repeat};
+ghost use Rattle.sno_value.specs.Values.{null};
+ghost use Rattle.sno_value.specs.declared.primitive.Primitive.TheVariants as primitive;
 
 use crate::outcome::Outcome;
 use crate::value::Value;
@@ -14,7 +16,7 @@ use std::alloc::{AllocError, Global};
 
 /// SIZE. It takes no memory.
 pub(crate) fn size(value: &Value) -> Outcome
-    ensures { result ≡ size value.now }
+    ensures { result ≡ applied primitive.Size value.now null null 0 }
 {
     let mut buffer = Buffer::new();
     match value.characters(&mut buffer) {
@@ -25,8 +27,8 @@ pub(crate) fn size(value: &Value) -> Outcome
 
 /// TRIM.
 pub(crate) fn trim(alloc: Global, value: &Value) -> Result<Outcome, AllocError>
-    ensures value { IfOk result (λ outcome. outcome ≡ trimmed value.now) }
-    ensures memory { OnErr result (is_given (trimmed value.now) ≡ true) }
+    ensures value { IfOk result (λ outcome. outcome ≡ applied primitive.Trim value.now null null 0) }
+    ensures memory { OnErr result (is_given (applied primitive.Trim value.now null null 0) ≡ true) }
 {
     match value.to_text(alloc)? {
         Some(text) => {
@@ -50,8 +52,8 @@ fn is_too_long(text: &[u8], times: usize, most: u64) -> bool
 // So many of a text, if they are not too long.
 fn copied(alloc: Global, text: &[u8], times: usize, most: u64) -> Result<Outcome, AllocError>
     requires { IsLine text.now }
-    ensures value { IfOk result (λ outcome. outcome ≡ string most (repeated times text.now)) }
-    ensures memory { OnErr result (is_given (string most (repeated times text.now)) ≡ true) }
+    ensures value { IfOk result (λ outcome. outcome ≡ string most (repeat times text.now)) }
+    ensures memory { OnErr result (is_given (string most (repeat times text.now)) ≡ true) }
 {
     if is_too_long(text, times, most) {
         return Ok(Outcome::Faults(Fault::Length));
@@ -80,8 +82,8 @@ pub(crate) fn duplicate(
     times: &Value,
     most: u64,
 ) -> Result<Outcome, AllocError>
-    ensures value { IfOk result (λ outcome. outcome ≡ duplicated most value.now times.now) }
-    ensures memory { OnErr result (is_given (duplicated most value.now times.now) ≡ true) }
+    ensures value { IfOk result (λ outcome. outcome ≡ applied primitive.Duplicate value.now times.now null most) }
+    ensures memory { OnErr result (is_given (applied primitive.Duplicate value.now times.now null most) ≡ true) }
 {
     let mut buffer = Buffer::new();
     match (value.characters(&mut buffer), times.to_number()) {
@@ -131,8 +133,8 @@ pub(crate) fn replace(
     from: &Value,
     to: &Value,
 ) -> Result<Outcome, AllocError>
-    ensures value { IfOk result (λ outcome. outcome ≡ replace value.now from.now to.now) }
-    ensures memory { OnErr result (is_given (replace value.now from.now to.now) ≡ true) }
+    ensures value { IfOk result (λ outcome. outcome ≡ applied primitive.Replace value.now from.now to.now 0) }
+    ensures memory { OnErr result (is_given (applied primitive.Replace value.now from.now to.now 0) ≡ true) }
 {
     let (mut first, mut second, mut third) = (Buffer::new(), Buffer::new(), Buffer::new());
     match (
@@ -159,7 +161,7 @@ fn type_name(value: &Value) -> &'static [u8]
 
 /// DATATYPE.
 pub(crate) fn data_type(alloc: Global, value: &Value) -> Result<Outcome, AllocError>
-    ensures { IfOk result (λ outcome. outcome ≡ data_type value.now) }
+    ensures { IfOk result (λ outcome. outcome ≡ applied primitive.DataType value.now null null 0) }
 {
     let text = Text::of_slice(alloc, type_name(value))?;
     Ok(Outcome::Gives(Value::Text(text)))

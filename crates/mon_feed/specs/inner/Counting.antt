@@ -1,6 +1,6 @@
 -- How many lines end in bytes.
 use Rattle.std.specs.Prelude.{ℕ, ◌+◌, List, [], ◌∷◌, if◌then◌else◌}
-use Rattle.mon_text.specs.Feeding.{is_line_feed}
+use Rattle.mon_text.specs.Characters.{is_line_feed}
 
 abbrev pub lines_ended : List ℕ → ℕ
 lines_ended [] = 0

@@ -1,7 +1,7 @@
 -- What begins a token, and how far it goes, all of it said of the text from the token's first character on.
 use Rattle.std.specs.Prelude.{ℕ, ◌+◌, ◌-◌, ◌^◌, pos, Bool, true, false, not, ◌&&◌, ◌||◌, ◌==◌, nat_le, nat_lt, List, [], ◌∷◌, length, Option, Some, None, Result, Ok, Err, slice_get, if◌then◌else◌}
 use Rattle.std.specs.List.{before_first, list_any}
-use Rattle.mon_text.specs.Characters.{is_letter, is_digit, is_blank}
+use Rattle.mon_text.specs.Characters.{is_letter, is_digit, is_blank, is_quote, is_identifier_character, is_letter_or_digit}
 use Rattle.mon_text.specs.Counts.{value_of}
 use Rattle.mon_text.specs.Lines.{is_line}
 use Rattle.sno_token.specs.declared.Mark.{Mark}
@@ -13,8 +13,7 @@ use Rattle.sno_token.specs.declared.TokenKind.{TokenKind}
 use Rattle.sno_token.specs.declared.TokenKind.TheVariants as kind
 use Rattle.sno_token.specs.declared.Part.TheVariants as part
 use Rattle.sno_token.specs.declared.Constant.TheVariants as constant
-use Rattle.sno_lexer.specs.Written.{is_identifier_character, is_label_character, is_letter_or_digit, is_quote}
-use Rattle.sno_lexer.specs.Following.{begins}
+use Rattle.sno_lexer.specs.Written.{is_label_character}
 use Rattle.sno_lexer.specs.declared.character.Run.{Run}
 use Rattle.sno_lexer.specs.declared.character.Run.TheVariants.{InIdentifier, InInteger, InLabel, InLiteral}
 use Rattle.sno_lexer.specs.declared.begin.Class.{Class}
@@ -22,6 +21,7 @@ use Rattle.sno_lexer.specs.declared.begin.Class.TheVariants.{Identifier, Label, 
 use Rattle.sno_lexer.specs.declared.begin.Context.{Context}
 use Rattle.sno_lexer.specs.declared.fault.FaultKind.{FaultKind}
 use Rattle.sno_lexer.specs.declared.fault.FaultKind.TheVariants.{BadConstant, Foreign, TooMany}
+use Rattle.mon_text.specs.Beginnings.{first_passes}
 
 -- RUNS OF CHARACTERS
 
@@ -43,7 +43,7 @@ quoted_in (quote ∷ text) = run_in (InLiteral quote) text
 -- WHAT BEGINS
 
 abbrev pub begins_with : ℕ → List ℕ → Bool
-begins_with code text = begins (λ c. c == code) text
+begins_with code text = first_passes (λ c. c == code) text
 
 -- `S` or `F`, and nothing else
 abbrev pub outcome_of : List ℕ → Option Outcome

@@ -5,8 +5,9 @@ use Rattle.sno_nodes.specs.Patterns.{Pattern}
 use Rattle.sno_nodes.specs.Patterns as pattern
 use Rattle.sno_pattern.specs.declared.reach.Reach.{Reach}
 use Rattle.sno_pattern.specs.declared.reach.Reach.TheVariants.{Here, Nowhere, Depends}
-use Rattle.sno_nodes.specs.Sets.{is_one_of, begins_with}
+use Rattle.sno_nodes.specs.Sets.{is_one_of}
 use Rattle.sno_pattern.specs.Steps.{balanced_ends}
+use Rattle.mon_text.specs.Beginnings.{first_passes}
 
 abbrev pub here_if : Bool → ℕ → Reach
 here_if holds c = if holds then Here c else Nowhere
@@ -20,9 +21,9 @@ reached text (pattern.RPos k) c = here_if (nat_eq (c + k) (length text)) c
 reached text (pattern.Tab k) c = here_if (nat_le c k && nat_le k (length text)) k
 reached text (pattern.RTab k) c = here_if (nat_le (c + k) (length text)) (length text - k)
 reached text pattern.Rem c = Here (length text)
-reached text (pattern.Any s) c = here_if (begins_with (is_one_of s) (drop c text)) (c + 1)
-reached text (pattern.NotAny s) c = here_if (begins_with (λ x. not (is_one_of s x)) (drop c text)) (c + 1)
-reached text (pattern.Span s) c = here_if (begins_with (is_one_of s) (drop c text)) (c + prefix_len (is_one_of s) (drop c text))
+reached text (pattern.Any s) c = here_if (first_passes (is_one_of s) (drop c text)) (c + 1)
+reached text (pattern.NotAny s) c = here_if (first_passes (λ x. not (is_one_of s x)) (drop c text)) (c + 1)
+reached text (pattern.Span s) c = here_if (first_passes (is_one_of s) (drop c text)) (c + prefix_len (is_one_of s) (drop c text))
 reached text (pattern.Break s) c =
     here_if (nat_lt (c + position_or_len (is_one_of s) (drop c text)) (length text)) (c + position_or_len (is_one_of s) (drop c text))
 reached text pattern.Fail c = Nowhere

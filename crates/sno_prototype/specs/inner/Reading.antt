@@ -3,7 +3,8 @@ use Rattle.std.specs.Prelude.{ℕ, nat_eq, Bool, true, not, ◌&&◌, List, [], 
 use Rattle.std.specs.Borrow.{Bor}
 use Rattle.std.specs.List.{list_all, list_any, slice_split}
 use Rattle.std.specs.Cmp.Lexicographic.{pointwise}
-use Rattle.sno_prototype.specs.Prototypes.{is_identifier, is_comma, items}
+use Rattle.sno_prototype.specs.Prototypes.{is_identifier, items}
+use Rattle.mon_text.specs.Characters.{is_comma}
 
 -- two references by what they point to
 abbrev pub told : Bor (List ℕ) × Bor (List ℕ) → List ℕ × List ℕ

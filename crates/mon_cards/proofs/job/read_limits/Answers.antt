@@ -1,8 +1,9 @@
 use Rattle.std.proofs.Common.{◌≡◌, ℕ, List, nat_lt, length, drop, sym, ap, subst, ◌∙◌, IfOk}
-use Rattle.mon_cards.specs.Jobs.{are_options, limits_refusal, usual_limits, with_options}
+use Rattle.mon_cards.specs.Jobs.{are_options, limits_refusal, usual_limits, with_option}
 use Rattle.mon_cards.specs.inner.Stops.{Answers}
 use Rattle.mon_cards.proofs.Options.{one_option, two_options, second_of}
 use Rattle.mon_cards.proofs.job.read_limits.Goals as goal
+use Rattle.std.specs.List.{fold}
 
 pub read_two_options-requires : goal.read_two_options-requires
 read_two_options-requires c =
@@ -31,5 +32,5 @@ returns-in_default-clause-value c =
     let ws = c.args.words.now in
     let good = second_of (nat_lt 1 (length ws)) (are_options (drop 2 ws)) c.requires in
     let are = two_options ws c.at-in_default.result.now c.at-in_default-2.result.now good c.at-in_default.ensures c.at-in_default-2.ensures in
-    let P : List (List ℕ) → Type 0 = λ options. IfOk c.read_two_options.result (λ limits. limits ≡ with_options usual_limits options) in
+    let P : List (List ℕ) → Type 0 = λ options. IfOk c.read_two_options.result (λ limits. limits ≡ fold with_option usual_limits options) in
     subst P (sym are) c.read_two_options.ensures.value

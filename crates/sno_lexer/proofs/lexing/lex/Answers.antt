@@ -10,4 +10,5 @@ returns-in-Ok-clause-within c =
 
 pub returns-in-Err-count_tokens-clause-within : goal.returns-in-Err-count_tokens-clause-within
 returns-in-Err-count_tokens-clause-within c =
-    lexed_stands c.args.text.now c.args.from (Err c.in-Err-count_tokens.fault) (counted_fault (lexed c.args.text.now c.args.from) c.in-Err-count_tokens.fault (sym c.in-Err-count_tokens.ensures))
+    lexed_stands c.args.text.now c.args.from (Err c.in-Err-count_tokens.fault)
+    (counted_fault (lexed c.args.text.now c.args.from) c.in-Err-count_tokens.fault (sym c.in-Err-count_tokens.ensures))

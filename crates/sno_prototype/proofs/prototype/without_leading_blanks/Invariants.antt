@@ -1,9 +1,10 @@
 use Rattle.std.proofs.Common.{◌≡◌, ◌-◌, ◌≤◌, length, drop}
-use Rattle.sno_prototype.specs.Prototypes.{without_leading_blanks}
 use Rattle.sno_prototype.proofs.prototype.without_leading_blanks.Given as goal
+use Rattle.mon_text.specs.Beginnings.{without_leading}
+use Rattle.mon_text.specs.Characters.{is_blank}
 
 abbrev pub invariant-loop-from : goal.invariant-loop-from
-invariant-loop-from l = (l.from ≤ length l.text) × (without_leading_blanks (drop l.from l.text) ≡ without_leading_blanks l.text)
+invariant-loop-from l = (l.from ≤ length l.text) × (without_leading is_blank (drop l.from l.text) ≡ without_leading is_blank l.text)
 
 abbrev pub decreases-loop-from : goal.decreases-loop-from
 decreases-loop-from l = length l.text - l.from

@@ -1,5 +1,5 @@
 use Rattle.std.proofs.Common.{◌≡◌, ◌≤◌, ◌++◌, ◌-◌}
-use Rattle.sno_store.specs.inner.Exchanging.{fitted}
+use Rattle.sno_store.specs.inner.Filling.{fitted}
 use Rattle.sno_store.proofs.level.fit.Given as goal
 
 abbrev pub invariant-loop-at : goal.invariant-loop-at

@@ -3,11 +3,11 @@ use Rattle.std.proofs.lemmas.List.{length-map}
 use Rattle.std.proofs.lemmas.Bool.Decides.{nat_tests}
 use Rattle.mon_text.specs.Characters.{is_blank}
 use Rattle.sno_cards.specs.Texts.{Placed, text_of}
-use Rattle.sno_syntax.specs.Places.{end_from}
 use Rattle.sno_syntax.specs.inner.Ends.{place_after}
 use Rattle.sno_syntax.proofs.Ends.{past_blank, past_other}
 use Rattle.sno_syntax.proofs.place.end_of.Goals as goal
 use Rattle.sno_syntax.proofs.place.end_of.Goals.{then-byte-ne32, else-byte-ne32}
+use Rattle.sno_syntax.proofs.Shorthand.{end_from}
 
 pub loop-index-preserved : goal.loop-index-preserved
 loop-index-preserved c =
@@ -19,8 +19,10 @@ loop-index-preserved c =
     elim c.if-byte-ne32.branch [
       | then-byte-ne32 w ↦
           let ink : is_blank code ≡ false = grind (arith, nat_tests, w.if-byte-ne32.true) in
-          ap (λ last. end_from (place_after cs last) (drop (i + 1) cs)) w.last-is ∙ past_other cs i code 0 c.loop-index.last within is ink ∙ c.loop-index.invariant
+          ap (λ last. end_from (place_after cs last) (drop (i + 1) cs)) w.last-is ∙ past_other cs i code 0 c.loop-index.last within is ink
+          ∙ c.loop-index.invariant
       | else-byte-ne32 w ↦
           let blank : is_blank code ≡ true = grind (arith, nat_tests, w.if-byte-ne32.false) in
-          ap (λ last. end_from (place_after cs last) (drop (i + 1) cs)) w.last-is ∙ past_blank cs i code 0 c.loop-index.last within is blank ∙ c.loop-index.invariant
+          ap (λ last. end_from (place_after cs last) (drop (i + 1) cs)) w.last-is ∙ past_blank cs i code 0 c.loop-index.last within is blank
+          ∙ c.loop-index.invariant
     ]

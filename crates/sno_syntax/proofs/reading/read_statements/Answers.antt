@@ -13,7 +13,8 @@ loop-index-preserved c =
     let text = c.index-texts-index.result in
     let labels = c.loop-index.body.labels in
     let next = c.read_next.new.body.labels in
-    let here : drop i texts ≡ text ∷ drop (i + 1) texts = drop_more texts i text c.loop-index-test.true ∙ ap (λ t. t ∷ drop (i + 1) texts) (sym c.index-texts-index.is) in
+    let here : drop i texts ≡ text ∷ drop (i + 1) texts = drop_more texts i text c.loop-index-test.true
+    ∙ ap (λ t. t ∷ drop (i + 1) texts) (sym c.index-texts-index.is) in
     let read = c.in_ok-read_next.ensures.spelled in
     let s = statement_of read.0 in
     let noted : next ≡ with_label labels (label_of text) i = c.in_ok-read_next.ensures.labels in
@@ -26,4 +27,5 @@ loop-index-preserved c =
 
 pub returns-clause-spelled : goal.returns-clause-spelled
 returns-clause-spelled c =
-    spelled_all c.args.texts.now c.loop-index.body.labels c.loop-index.index c.loop-index.body.statements.items (drop_all c.loop-index.index c.args.texts.now c.loop-index-test.false) c.loop-index.invariant.spelled
+    spelled_all c.args.texts.now c.loop-index.body.labels c.loop-index.index c.loop-index.body.statements.items
+    (drop_all c.loop-index.index c.args.texts.now c.loop-index-test.false) c.loop-index.invariant.spelled

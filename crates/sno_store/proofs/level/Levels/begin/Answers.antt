@@ -1,6 +1,6 @@
 -- The new level stands before the others.
 use Rattle.std.proofs.Common.{◌∙◌, rules}
-use Rattle.sno_store.proofs.Exchanged.{level_added}
+use Rattle.sno_store.proofs.Calling.{level_added}
 use Rattle.sno_store.proofs.level.Levels.begin.Goals as goal
 
 pub returns-clause-begun : goal.returns-clause-begun

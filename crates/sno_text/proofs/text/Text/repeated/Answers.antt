@@ -1,16 +1,16 @@
 -- The text once more, each time.
 use Rattle.std.proofs.Common.{rules, ◌+◌, ◌++◌, suc, List, ℕ, ◌<◌, ◌*◌, length, ◌∙◌, ◌≡◌, sym, ap, subst, arith}
 use Rattle.std.proofs.lemmas.Result.{on_err_weaker}
-use Rattle.sno_text.specs.Texts.{repeated}
 use Rattle.sno_text.proofs.Repeating.{null_repeated, repeated_more, line_of_repeated, length-repeated}
 use Rattle.sno_text.proofs.text.Text.repeated.Goals as goal
+use Rattle.std.specs.List.{repeat}
 
 pub loop-preserved : goal.loop-preserved
 loop-preserved c =
     let text = c.args.text.now in
     let next : suc c.loop.counter ≡ c.loop.counter + 1 = omega arith in
     c.in_ok-extend_from_slice.ensures.items ∙ ap (λ (xs : List ℕ). xs ++ text) c.loop.invariant ∙ sym (repeated_more c.loop.counter text)
-    ∙ ap (λ (n : ℕ). repeated n text) next
+    ∙ ap (λ (n : ℕ). repeat n text) next
 
 pub of_bytes-requires : goal.of_bytes-requires
 of_bytes-requires c = rw c.loop.invariant (line_of_repeated c.loop.counter c.args.text.now c.requires)

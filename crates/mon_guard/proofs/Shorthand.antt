@@ -1,0 +1,27 @@
+-- Parts of the definitions by names of their own.
+use Rattle.std.specs.Prelude.{ℕ, List, [], ◌∷◌, ◌++◌, Option, None, Some, Result, Ok, Err, if◌then◌else◌}
+use Rattle.std.specs.Option.{option_map_or}
+use Rattle.mon_access.specs.declared.account.Account.{Account}
+use Rattle.mon_access.specs.Matches.{is_owner}
+use Rattle.mon_catalogue.specs.declared.mode.Mode.{Mode}
+use Rattle.mon_catalogue.specs.declared.data_set.DataSet.{DataSet}
+use Rattle.mon_catalogue.specs.declared.catalogue.CreateError.{CreateError}
+use Rattle.mon_catalogue.specs.Sets.{Sets}
+use Rattle.mon_catalogue.specs.Changes.{without_set}
+use Rattle.mon_answer.specs.declared.answer.Reason.{Reason}
+use Rattle.mon_answer.specs.declared.answer.Reason.TheVariants.{NoSet, NotOwner}
+use Rattle.mon_guard.specs.Deciding.{to_read, where_granted}
+use Rattle.mon_guard.specs.Owning.{new_set}
+
+abbrev pub owner_denial_of : Account → Option DataSet → Option Reason
+owner_denial_of account set = option_map_or (λ d. if is_owner account d.owner then None else Some NotOwner) set (Some NoSet)
+
+abbrev pub removed_unless : Option Reason → Sets → List ℕ → Result (Unit {0}) Reason × Sets
+removed_unless denial sets name = option_map_or (λ reason. (Err reason, sets)) denial (Ok tt, without_set name sets)
+
+abbrev pub created_unless : Option CreateError → Account → Sets → List ℕ → Mode → Result (Unit {0}) CreateError × Sets
+created_unless refusal account sets name mode =
+    option_map_or (λ error. (Err error, sets)) refusal (Ok tt, sets ++ (name, new_set account mode) ∷ [])
+
+abbrev pub records_of : Account → Option DataSet → Result (List (List ℕ)) Reason
+records_of account set = option_map_or (λ d. where_granted account to_read d d.records) set (Err NoSet)

@@ -1,0 +1,24 @@
+-- Parts of the definitions by names of their own.
+use Rattle.std.specs.Prelude.{◌≡◌, Bool, true, false, List, [], ◌∷◌, Option, IfSome, MatchOption}
+use Rattle.std.specs.Option.{option_map_or}
+use Rattle.sno_token.specs.declared.Part.TheVariants.{Colon}
+use Rattle.sno_token.specs.declared.Token.{Token}
+use Rattle.sno_token.specs.declared.TokenKind.TheVariants as token
+use Rattle.sno_expression.specs.Expressions.{Expression, HasLevels}
+use Rattle.sno_expression.specs.Lacking.{lacking}
+use Rattle.sno_expression.specs.Spelling.{spaced, SpellsTo}
+use Rattle.sno_statement.specs.Spelling.{LeadsTo}
+use Rattle.sno_statement.specs.Statements.{Goto}
+
+abbrev pub PatternHasLevels : Option Expression → Type 0
+PatternHasLevels p = IfSome p HasLevels
+
+abbrev pub lacking_pattern : Option Expression → List Bool
+lacking_pattern p = option_map_or (lacking false) p []
+
+-- a blank stands before a pattern
+abbrev pub PatternTo : Option Expression → List Token → List Token → Type 0
+PatternTo p ts rest = MatchOption p (ts ≡ rest) (λ t. SpellsTo true t ts rest)
+
+abbrev pub ColonTo : Goto → List Token → Type 0
+ColonTo g ts = (m : List Token) × (c : Bool) × (ts ≡ spaced true c (token.Part Colon) ∷ m) × LeadsTo g m

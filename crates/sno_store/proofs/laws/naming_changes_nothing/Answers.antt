@@ -1,5 +1,0 @@
-use Rattle.sno_store.proofs.Looking.{naming_changes_nothing}
-use Rattle.sno_store.proofs.laws.naming_changes_nothing.Goals as goal
-
-pub returns : goal.returns
-returns c = naming_changes_nothing

@@ -1,5 +1,0 @@
-use Rattle.sno_store.proofs.Looking.{put_is_found}
-use Rattle.sno_store.proofs.laws.put_is_found.Goals as goal
-
-pub returns : goal.returns
-returns c = put_is_found

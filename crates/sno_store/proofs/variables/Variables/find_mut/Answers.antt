@@ -1,6 +1,0 @@
--- Whatever is written, no two names are equal.
-use Rattle.sno_store.proofs.Places.{still_distinct}
-use Rattle.sno_store.proofs.variables.Variables.find_mut.Goals as goal
-
-pub invariant_of-self-lent : goal.invariant_of-self-lent
-invariant_of-self-lent c = λ _. (λ w. still_distinct c.self.inside.variables.entries _ w c.self.invariant, c.self.invariant)
