@@ -8,7 +8,7 @@ import functools
 import itertools
 import re
 from dataclasses import dataclass
-from typing import BinaryIO, Dict, Iterator, List, Optional, Set, Tuple
+from typing import BinaryIO, Dict, Iterator, List, Match, Optional, Set, Tuple
 
 from .files import opened
 from .text import NAME, Lines, OutputLines, counted, shown, text_of
@@ -32,52 +32,69 @@ class Cell:
     deniers: Deniers
 
 
-def access_page(report: str, page: BinaryIO) -> None:
-    """The page of this report. Each row is written as it was read, so memory does not grow with the number of data sets."""
-    with opened(report) as file:
-        rows = read_rows(OutputLines(report, file))
-        first = next(rows, None)
-        page.write(HEAD)
-        if first is None:
-            page.write(b'<p>The report has no account, or no data set.</p>\n')
-        else:
-            accounts = list(first[1])
-            _write_table(accounts, itertools.chain([first], rows), page)
-        page.write(END)
+class Report:
+    """Reads a report from front to back. Refused is what no report has, and where it was cut off within a data set."""
 
+    def __init__(self, lines: Lines) -> None:
+        self.lines = lines
+        self.names: Set[bytes] = set()   # of the data sets that were read
+        self.accounts: List[bytes] = []  # those of the first data set, which all others have in the same order
 
-def read_rows(lines: Lines) -> Iterator[Tuple[bytes, Row]]:
-    """The data sets of a report, each with its row. Refused is what is no line of a report, an account or data set that is
-    told of twice, and a data set that has not the accounts of the first one, in their order."""
-    title = lines.next()
-    if title is None:
-        raise lines.cut_off(f'the line {shown(TITLE)} is due')
-    if title != TITLE:
-        raise lines.refused(f'the line {shown(TITLE)} is due, and there is {shown(title)}')
-    accounts: List[bytes] = []
-    names: Set[bytes] = set()
-    for name, cells in itertools.groupby(_cells(lines), key=lambda cell: cell.data_set):
-        row = _row(lines, name, names, cells, accounts)
-        accounts = accounts or list(row)
-        names.add(name)
-        yield name, row
+    def rows(self) -> Iterator[Tuple[bytes, Row]]:
+        """Each data set with its row."""
+        title = self.lines.next()
+        if title is None:
+            raise self.lines.cut_off(f'the line {shown(TITLE)} is due')
+        if title != TITLE:
+            raise self.lines.refused(f'the line {shown(TITLE)} is due, and there is {shown(title)}')
+        for name, cells in itertools.groupby(self._cells(), key=lambda cell: cell.data_set):
+            row = self._row(name, cells)
+            self.names.add(name)
+            self.accounts = self.accounts or list(row)
+            yield name, row
 
+    def _cells(self) -> Iterator[Cell]:
+        for three in iter(lambda: self.lines.take(len(WORDS)), []):
+            begun = self.lines.number - len(three) + 1
+            found = []
+            for number, (permission, line) in enumerate(zip(WORDS, three), begun):
+                found.append(self._answer(line, number))
+                due, there = (*found[0].group(1, 2), permission), found[-1].group(1, 2, 3)
+                if there != due:
+                    raise self.lines.refused(f'{_asked(*due)} is due, and there is {_asked(*there)}', number)
+            if len(three) < len(WORDS):
+                raise self.lines.cut_off(f'the report was cut off: there is no more of {_asked(*found[0].group(1, 2))}')
+            yield Cell(begun, *found[0].group(1, 2), tuple(answer.group(4) for answer in found))
 
-def _cells(lines: Lines) -> Iterator[Cell]:
-    for three in iter(lambda: lines.take(len(WORDS)), []):
-        begun = lines.number - len(three) + 1
-        found = []
-        for number, (permission, line) in enumerate(zip(WORDS, three), begun):
-            answer = LINE.fullmatch(line)
-            if answer is None:
-                raise lines.refused(f'a report has no such line: {shown(line)}', number)
-            found.append(answer)
-            due = (*found[0].group(1, 2), permission)
-            if answer.group(1, 2, 3) != due:
-                raise lines.refused(f'{_asked(*due)} is due, and there is {_asked(*answer.group(1, 2, 3))}', number)
-        if len(three) < len(WORDS):
-            raise lines.cut_off(f'the report was cut off: there is no more of {_asked(*found[0].group(1, 2))}')
-        yield Cell(begun, *found[0].group(1, 2), tuple(answer.group(4) for answer in found))
+    def _answer(self, line: bytes, number: int) -> Match[bytes]:
+        answer = LINE.fullmatch(line)
+        if answer is None:
+            raise self.lines.refused(f'a report has no such line: {shown(line)}', number)
+        return answer
+
+    def _row(self, name: bytes, cells: Iterator[Cell]) -> Row:
+        row: Row = {}
+        behind = 0
+        for cell in cells:
+            if not row and name in self.names:
+                raise self.lines.refused(f'{shown(name)} was told of before', cell.line)
+            if cell.account in row:
+                raise self.lines.refused(f'{_asked(cell.account, name)} was told of before', cell.line)
+            if self.names:
+                self._check_account(cell, len(row))
+            row[cell.account] = cell.deniers
+            behind = cell.line + len(WORDS)
+        if len(row) < len(self.accounts):
+            raise self.lines.refused(f'{_asked(self.accounts[len(row)], name)} is due, as for the first data set', behind)
+        return row
+
+    def _check_account(self, cell: Cell, place: int) -> None:
+        """Refuses a cell of another account than the one that the first data set has at this place."""
+        due = self.accounts[place] if place < len(self.accounts) else None
+        if cell.account != due:
+            wanted = 'another data set' if due is None else _asked(due, cell.data_set)
+            there = _asked(cell.account, cell.data_set)
+            raise self.lines.refused(f'{wanted} is due, as for the first data set, and there is {there}', cell.line)
 
 
 def _asked(account: bytes, data_set: bytes, permission: bytes = b'') -> str:
@@ -85,23 +102,18 @@ def _asked(account: bytes, data_set: bytes, permission: bytes = b'') -> str:
     return f'{shown(permission)} of {asked}' if permission else asked
 
 
-def _row(lines: Lines, name: bytes, names: Set[bytes], cells: Iterator[Cell], accounts: List[bytes]) -> Row:
-    """The row of these cells. `names` are the data sets before it, and `accounts` those of the first; none where it is that."""
-    row: Row = {}
-    behind = 0
-    for cell in cells:
-        if not row and name in names:
-            raise lines.refused(f'{shown(name)} was told of before', cell.line)
-        if cell.account in row:
-            raise lines.refused(f'{_asked(cell.account, name)} was told of before', cell.line)
-        if accounts and accounts[len(row):len(row) + 1] != [cell.account]:
-            due = _asked(accounts[len(row)], name) if len(row) < len(accounts) else 'another data set'
-            raise lines.refused(f'{due} is due, as for the first data set, and there is {_asked(cell.account, name)}', cell.line)
-        row[cell.account] = cell.deniers
-        behind = cell.line + len(WORDS)
-    if len(row) < len(accounts):
-        raise lines.refused(f'{_asked(accounts[len(row)], name)} is due, as for the first data set', behind)
-    return row
+def access_page(report: str, page: BinaryIO) -> None:
+    """The page of this report. Each row is written as it was read, so memory does not grow with the number of data sets."""
+    with opened(report) as file:
+        reading = Report(OutputLines(report, file))
+        rows = reading.rows()
+        first = next(rows, None)
+        page.write(HEAD)
+        if first is None:
+            page.write(b'<p>The report has no account, or no data set.</p>\n')
+        else:
+            _write_table(reading.accounts, itertools.chain([first], rows), page)
+        page.write(END)
 
 
 def _write_table(accounts: List[bytes], rows: Iterator[Tuple[bytes, Row]], page: BinaryIO) -> None:
@@ -147,7 +159,8 @@ body { margin: 1rem; background: var(--page); color: var(--text); font: 0.95rem/
 p { max-width: 48em }
 table { table-layout: fixed; border-spacing: 0; border: solid var(--line); border-width: 1px 0 0 1px }
 caption { padding: 0.5em 0; text-align: left; font-weight: bold }
-th, td { padding: 0.3em 0.5em; border: solid var(--line); border-width: 0 1px 1px 0; text-align: left; vertical-align: top; overflow-wrap: anywhere }
+th, td { padding: 0.3em 0.5em; border: solid var(--line); border-width: 0 1px 1px 0 }
+th, td { text-align: left; vertical-align: top; overflow-wrap: anywhere }
 th { position: sticky; background: var(--head) }
 thead th { top: 0; z-index: 1 }
 tbody th, thead th:first-child { left: 0 }
