@@ -132,7 +132,7 @@ class Made(Trying):
         self.assertEqual(page.all('html')[0][1], {'lang': 'en'})
         self.assertEqual([page.texts(tag) for tag in ('title', 'h1', 'caption')],
                          [['Who may do what'], ['Who may do what'], ['What each account may do with each data set']])
-        self.assertEqual([at for at, tag in enumerate(page.texts('tr', 'caption')) if tag == page.texts('caption')[0]], [0])
+        self.assertEqual(page.all('tr', 'caption')[0][0], 'caption')
         style = page.texts('style')[0]
         self.assertIn('prefers-color-scheme: dark', style)
         names = set(re.findall(r'(--\w+):', style))
