@@ -1,1 +1,1 @@
-"""What `deck` is made of. From below: text, lists, files; catalogue, cards, output; rounds, split, join; command."""
+"""What `deck` is made of. From below: text, lists, files; catalogue, cards, output; rounds, split, join, page; command."""

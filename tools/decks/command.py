@@ -8,7 +8,7 @@ import signal
 import sys
 from typing import Callable, Sequence
 
-from . import join, rounds, split
+from . import join, page, rounds, split
 from .catalogue import MODES
 from .cards import SLOTS_LIMIT
 from .files import written
@@ -17,7 +17,7 @@ from .parts import PARTS_LIMIT
 from .text import Fault, Refused, is_name
 
 STATUS_REFUSED, STATUS_FAULT = 1, 3
-ABOUT = 'Makes decks for snomon from what its runs have printed, and cuts a deck into several.'
+ABOUT = 'Makes decks for snomon from what its runs have printed, cuts a deck into several, and makes a page of who may do what.'
 STATUSES = ('The status is 0; 1 where a file is not what it should be; 2 where these words are not; 3 where reading or '
             'writing fails. Where it is not 0 nothing was written, but to a pipe or device that broke.')
 NEW_LIST = 'user::rwx,group::---,other::---'
@@ -74,6 +74,7 @@ def _options() -> argparse.ArgumentParser:
     _add_sets(kind)
     _add_new(kind)
     _add_split(kind)
+    _add_page(kind)
     return parser
 
 
@@ -141,6 +142,14 @@ def _add_split(kind: Kind) -> None:
                 'Jobs are numbered, and data sets stand, as in the output of the whole deck.')
     made.add_argument('folder', metavar='DIR', help='the folder that split filled, with an output for each deck')
     _gives(made, 'the output')
+
+
+def _add_page(kind: Kind) -> None:
+    made = kind('page', _page, 'make a page of HTML of who may do what',
+                'It has a row for each data set and a column for each account. It stands alone: no script, and nothing from '
+                'outside.')
+    made.add_argument('report', metavar='REPORT', help='what listing --access --csv has written, with the status 0')
+    _gives(made, 'the page')
 
 
 def _takes_output(parser: argparse.ArgumentParser) -> None:
@@ -221,3 +230,8 @@ def _split(options: argparse.Namespace) -> None:
 def _join(options: argparse.Namespace) -> None:
     with written(options.target) as file:
         join.join_outputs(options.folder, file)
+
+
+def _page(options: argparse.Namespace) -> None:
+    with written(options.target) as file:
+        page.access_page(options.report, file)

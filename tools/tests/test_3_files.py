@@ -5,13 +5,11 @@ import shutil
 import signal
 import subprocess
 import sys
-import tempfile
 import time
-from trying import ACCOUNTS, BOTH, DECK, Trying, deck, run
+from trying import ACCOUNTS, BOTH, DECK, MOST_MEMORY, Trying, deck, run
 
 LONG = 300_000_000
 LIST = b'user::rwx,group::---,other::---\n'
-MOST_MEMORY = 64 * 1024  # KiB
 
 
 def write_a_long_output(file, bytes_in_all, width):
@@ -125,11 +123,11 @@ class Whole(Trying):
 
     def test_words_that_are_none_and_help_write_no_file(self):
         for words in ([], ['bogus'], ['next', 'x'], ['get', 'x'], ['printouts', 'x', '--job', '-1'], ['split', 'x', 'y', '--slots', '9'],
-                      ['split', 'x', 'y', '--parts', '0'], ['join'], ['names', 'x', 'y']):
+                      ['split', 'x', 'y', '--parts', '0'], ['join'], ['names', 'x', 'y'], ['page']):
             done = deck(*words)
             self.assertEqual((done.status, done.out), (2, b''))
             self.assertIn('usage: deck', done.err)
-        for words in ([], ['next'], ['get'], ['put'], ['names'], ['printouts'], ['new'], ['split'], ['join']):
+        for words in ([], ['next'], ['get'], ['put'], ['names'], ['printouts'], ['new'], ['split'], ['join'], ['page']):
             done = deck(*words, '--help')
             self.assertEqual((done.status, done.err), (0, ''))
             self.assertTrue(done.out.startswith(b'usage: deck'))
@@ -157,13 +155,3 @@ class Long(Trying):
             file.write(b'$CATALOGUE\n')
             file.truncate(100_000_000)
         self.assertLess(self.memory_of(['names', self.path('output')], 1), MOST_MEMORY)
-
-    def memory_of(self, words, status=0):
-        """The most that a run took, in KiB."""
-        with tempfile.TemporaryFile() as said:
-            process = os.posix_spawn(sys.executable, [sys.executable, DECK, *words], os.environ,
-                                     file_actions=[(os.POSIX_SPAWN_DUP2, said.fileno(), 2)])
-            _, ended, used = os.wait4(process, 0)
-            said.seek(0)
-            self.assertEqual(os.WEXITSTATUS(ended), status, said.read())
-        return used.ru_maxrss

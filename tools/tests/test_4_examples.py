@@ -17,6 +17,8 @@ class Installed(Trying):
             self.assertTrue(os.path.isfile(name), name)
         self.assertEqual(sorted(os.listdir(self.path('there'))), ['bin', 'lib', 'share'])
         self.assertLessEqual({'deck', 'snomon'}, set(os.listdir(self.path('there/bin'))))
+        pages = [name for _, _, names in os.walk(self.path('there/share/man')) for name in names]
+        self.assertEqual(sorted(pages), sorted(os.listdir(os.path.join(TOP, 'docs', 'man'))))
         self.assertFalse([name for _, _, names in os.walk(self.path('there')) for name in names if name.startswith('.')])
         self.write('output', BOTH[2])
         done = run([self.path('there/bin/deck'), 'printouts', self.path('output')])
@@ -34,7 +36,7 @@ class Installed(Trying):
     def test_man_pages_are_set_without_a_warning(self):
         if not shutil.which('groff'):
             self.skipTest('there is no groff')
-        for page in ('snomon.1', 'snomon-deck.5'):
+        for page in ('snomon.1', 'listing.1', 'snomon-deck.5'):
             done = run(['groff', '-mdoc', '-Tascii', '-ww', os.path.join(TOP, 'docs', 'man', page)])
             self.assertEqual((done.status, done.err), (0, ''))
             self.assertIn(b'DESCRIPTION', re.sub(b'.\x08', b'', done.out))
