@@ -1,7 +1,7 @@
 -- Where values take memory (own).
 use Rattle.std.specs.Prelude.{Bool, true, false, nat_lt, length}
 use Rattle.sno_value.specs.declared.value.Value.{Value}
-use Rattle.sno_value.specs.declared.value.Value.TheVariants.{Text, Integer, Pattern, Unevaluated}
+use Rattle.sno_value.specs.declared.value.Value.TheVariants.{Text, Integer, Pattern, Unevaluated, Table}
 use Rattle.sno_value.specs.declared.outcome.Outcome.{Outcome}
 use Rattle.sno_value.specs.declared.outcome.Outcome.TheVariants.{Gives, Fails, Faults}
 
@@ -11,6 +11,7 @@ has_shared (Text t) = nat_lt 0 (length t)
 has_shared (Integer i) = false
 has_shared (Pattern p) = true
 has_shared (Unevaluated name) = nat_lt 0 (length name)
+has_shared (Table n) = false
 
 -- a value is given; failure and faults take no memory
 abbrev pub is_given : Outcome → Bool

@@ -1,0 +1,43 @@
+//! What keeps values from becoming parts of a pattern: a table stands for none, and a pattern may be too deep. It is found out
+//! before any memory is taken.
+ghost use Rattle.std.specs.Prelude.{◌≡◌, true, None, IfSome};
+ghost use Rattle.sno_nodes.specs.Patterns.{Cat, Alt, Arbno};
+ghost use Rattle.sno_value.specs.Values.{pattern_of};
+ghost use Rattle.sno_value.specs.Outcomes.{pattern_with, pattern_with_both};
+ghost use Rattle.sno_value.specs.Memory.{is_given};
+ghost use Rattle.sno_value.specs.declared.outcome.Outcome.TheVariants.{Faults};
+
+use crate::value::Value;
+use sno_text::Fault;
+
+/// Why ARBNO makes no pattern of a value, if it makes none.
+#[tactic(auto, using(crate::proofs::Forming::none_repeated, crate::proofs::Forming::repeated_deep, crate::proofs::Forming::repeated))]
+pub(crate) fn refusal(value: &Value) -> Option<Fault>
+    ensures refused { IfSome result (λ fault. pattern_with Arbno (pattern_of value.now) ≡ Faults fault) }
+    ensures given { result ≡ None → is_given (pattern_with Arbno (pattern_of value.now)) ≡ true }
+{
+    if !value.has_pattern() {
+        Some(Fault::WrongType)
+    } else if value.is_full() {
+        Some(Fault::Depth)
+    } else {
+        None
+    }
+}
+
+/// Why two values are no pattern together, one after the other or one or else the other, if they are none.
+#[tactic(auto, using(crate::proofs::Forming::none_joined, crate::proofs::Forming::joined_deep, crate::proofs::Forming::joined, crate::proofs::Forming::chosen_deep, crate::proofs::Forming::chosen))]
+pub(crate) fn refusal_of_two(left: &Value, right: &Value) -> Option<Fault>
+    ensures joined { IfSome result (λ fault. pattern_with_both Cat (pattern_of left.now) (pattern_of right.now) ≡ Faults fault) }
+    ensures chosen { IfSome result (λ fault. pattern_with_both Alt (pattern_of left.now) (pattern_of right.now) ≡ Faults fault) }
+    ensures joined_given { result ≡ None → is_given (pattern_with_both Cat (pattern_of left.now) (pattern_of right.now)) ≡ true }
+    ensures chosen_given { result ≡ None → is_given (pattern_with_both Alt (pattern_of left.now) (pattern_of right.now)) ≡ true }
+{
+    if !left.has_pattern() || !right.has_pattern() {
+        Some(Fault::WrongType)
+    } else if left.is_full() || right.is_full() {
+        Some(Fault::Depth)
+    } else {
+        None
+    }
+}
