@@ -21,6 +21,7 @@ class Maker:
         self.functions = []
         self.labels = []
         self.at = 0
+        self.tables = False
 
     def pick(self, xs):
         return self.r.choice(xs)
@@ -41,9 +42,19 @@ class Maker:
     def assigned(self):
         return self.variable() if self.chance(0.8) else 'OUTPUT'
 
+    # items of tables: mostly of T and U, which hold tables at first
+    def item(self, deep):
+        key = self.pick(['1', "'1'", "''", 'N', 'A', "'A'", 'T', '2 - 1']) if self.chance(0.8) else self.any(deep - 1)
+        return self.pick(['T', 'T', 'T', 'U', 'U', 'A']) + '<' + key + '>'
+
+    def is_item(self, p):
+        return self.tables and self.chance(p)
+
     # elements and expressions
     def number(self, deep):
         k = self.r.random()
+        if deep > 0 and self.is_item(0.12):
+            return self.item(deep)
         if deep <= 0 or k < 0.25:
             return self.pick(NUMBERS)
         if k < 0.45:
@@ -85,9 +96,9 @@ class Maker:
                 quote = None if ch == quote else quote
             elif ch in '\'"':
                 quote = ch
-            elif ch == '(':
+            elif ch in '(<':
                 level += 1
-            elif ch == ')':
+            elif ch in ')>':
                 level -= 1
             elif ch == ' ' and level == 0:
                 return '(' + e + ')'
@@ -95,6 +106,8 @@ class Maker:
 
     def text(self, deep):
         k = self.r.random()
+        if deep > 0 and self.is_item(0.12):
+            return self.item(deep)
         if deep <= 0 or k < 0.22:
             return self.pick(STRINGS)
         if k < 0.42:
@@ -159,6 +172,8 @@ class Maker:
 
     def pattern(self, deep):
         k = self.r.random()
+        if self.is_item(0.02):
+            return self.pick(['*T', 'T', 'T<1>'])
         if deep <= 0 or k < 0.14:
             return self.text(0)
         if k < 0.22:
@@ -181,6 +196,8 @@ class Maker:
 
     def any(self, deep):
         k = self.r.random()
+        if self.is_item(0.06):
+            return self.pick(['T', 'U', 'TABLE()', 'T<T>'])
         if k < 0.35:
             return self.text(deep)
         if k < 0.6:
@@ -222,6 +239,10 @@ class Maker:
     def body(self):
         k = self.r.random()
         deep = self.pick([1, 2, 2, 3])
+        if self.is_item(0.25):
+            item = self.item(deep)
+            return self.pick([item + ' = ' + self.any(deep), item + ' = ' + self.number(deep), item + ' ' + self.pattern(deep),
+                              item + ' ' + self.pattern(deep) + ' = ' + self.text(deep), item + ' =', item, 'U = T', 'T = TABLE()'])
         if k < 0.30:
             return self.assigned() + ' = ' + self.any(deep)
         if k < 0.42:
@@ -263,6 +284,9 @@ class Maker:
             lines.append("  INPUT('R',8)")
         if self.chance(0.5):
             lines.append("  OUTPUT('W',9,%s)" % self.pick(["''", "'(2A1)'", "'(1X,3A1)'"]))
+        self.tables = self.chance(0.4)
+        if self.tables:
+            lines.append('  T = TABLE(); U = TABLE()')
         if self.chance(0.7):
             lines.append("  A = %s; S = %s" % (self.pick(STRINGS), self.pick(STRINGS)))
             lines.append("  N = %s; P = %s" % (self.pick(NUMBERS[:6]), self.pattern(2)))
