@@ -15,6 +15,9 @@ The cases, at their whole size:
   calls           10,000,000 calls of a function, in two jobs that come one behind the other, ten calls a statement
   matches         a match in each of 10,000,000 statements
   strings         870,031 statements: words cut off a text by a pattern, and counted in variables named by them
+  words           the same words, counted by the items of a table
+  items           4,100,000 statements: each of 50,000 items of a table counts by one, again and again
+  names           the same with variables that are named by an index
   lists           the case of decks.py: 20,000 commands, 2,018,000 access checks on lists of 100 named entries
   many_names      20,000 $CATALOG over 1,000 data sets of 100 named entries; a list is set anew now and then
   joined          1,000 statements of 996 joined names, read and refused at the END line, so that nothing runs
@@ -137,6 +140,46 @@ def strings(size):
     )
 
 
+def words(size):
+    return job(
+        "$JOB lisa ST=1000000",
+        [
+            "  W = BREAK(' ') . X SPAN(' ')",
+            "  T = TABLE()",
+            "G S = 'THE QUICK BROWN FOX JUMPS OVER THE LAZY DOG AND RUNS AWAY AGAIN '",
+            "L S W = :F(N)",
+            "  T<X> = T<X> + 1 :(L)",
+            f"N N = LT(N,{int(30_000 * size)}) N + 1 :S(G)",
+            "  OUTPUT = T<'THE'>",
+            "END",
+        ],
+    )
+
+
+def counting(size, item):
+    return job(
+        "$JOB lisa ST=5000000",
+        [
+            "  T = TABLE()",
+            "G I = 0",
+            "L I = LT(I,50000) I + 1 :F(N)",
+            f"  {item} = {item} + 1 :(L)",
+            f"N K = LT(K,{int(40 * size)}) K + 1 :S(G)",
+            "  I = 7",
+            f"  OUTPUT = {item}",
+            "END",
+        ],
+    )
+
+
+def items(size):
+    return counting(size, "T<I>")
+
+
+def names(size):
+    return counting(size, "$('T.' I)")
+
+
 def lists(size):
     return decks.drawn_lists(int(1_000 * size), 20_000)
 
@@ -201,6 +244,9 @@ CASES = {
         calls,
         matches,
         strings,
+        words,
+        items,
+        names,
         lists,
         many_names,
         joined,
