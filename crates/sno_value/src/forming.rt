@@ -17,27 +17,34 @@ pub(crate) fn refusal(value: &Value) -> Option<Fault>
     ensures given { result ≡ None → is_given (pattern_with Arbno (pattern_of value.now)) ≡ true }
 {
     if !value.has_pattern() {
-        Some(Fault::WrongType)
-    } else if value.is_full() {
-        Some(Fault::Depth)
-    } else {
-        None
+        return Some(Fault::WrongType);
     }
+    if value.is_full() {
+        return Some(Fault::Depth);
+    }
+    None
 }
 
-/// Why two values are no pattern together, one after the other or one or else the other, if they are none.
-#[tactic(auto, using(crate::proofs::Forming::none_joined, crate::proofs::Forming::joined_deep, crate::proofs::Forming::joined, crate::proofs::Forming::chosen_deep, crate::proofs::Forming::chosen))]
+/// Why two values are no pattern together, one after the other or one or else the other, if they are none. That one stands for
+/// none is told before that one is too deep.
+#[tactic(auto, using(crate::proofs::Forming::none_left, crate::proofs::Forming::none_right, crate::proofs::Forming::joined_deep_left, crate::proofs::Forming::joined_deep_right, crate::proofs::Forming::joined, crate::proofs::Forming::chosen_deep_left, crate::proofs::Forming::chosen_deep_right, crate::proofs::Forming::chosen))]
 pub(crate) fn refusal_of_two(left: &Value, right: &Value) -> Option<Fault>
     ensures joined { IfSome result (λ fault. pattern_with_both Cat (pattern_of left.now) (pattern_of right.now) ≡ Faults fault) }
     ensures chosen { IfSome result (λ fault. pattern_with_both Alt (pattern_of left.now) (pattern_of right.now) ≡ Faults fault) }
     ensures joined_given { result ≡ None → is_given (pattern_with_both Cat (pattern_of left.now) (pattern_of right.now)) ≡ true }
     ensures chosen_given { result ≡ None → is_given (pattern_with_both Alt (pattern_of left.now) (pattern_of right.now)) ≡ true }
 {
-    if !left.has_pattern() || !right.has_pattern() {
-        Some(Fault::WrongType)
-    } else if left.is_full() || right.is_full() {
-        Some(Fault::Depth)
-    } else {
-        None
+    if !left.has_pattern() {
+        return Some(Fault::WrongType);
     }
+    if !right.has_pattern() {
+        return Some(Fault::WrongType);
+    }
+    if left.is_full() {
+        return Some(Fault::Depth);
+    }
+    if right.is_full() {
+        return Some(Fault::Depth);
+    }
+    None
 }
