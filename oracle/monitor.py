@@ -2,10 +2,11 @@
 
 python3 monitor.py [--slots N] < deck       prints what snomon has to print
 
-Programs are run by snobol.py, which says of a program that is refused only that it is; `REFUSED ?` stands for its code."""
+Programs are run by snobol.py; refusals.py says which are refused, and where."""
 import re
 import sys
 import snobol
+from refusals import verdict
 from snobol import in_a_large_stack
 
 NAME = re.compile(r'[A-Za-z][A-Za-z0-9._-]{0,30}\Z')
@@ -251,11 +252,11 @@ class Monitor:
                 return
             units[u] = Unit('set', name)
         end = next((i for i, line in enumerate(lines) if line[:1] != '*' and snobol.is_end_line(line)), len(lines))
-        try:
-            program = snobol.Program(lines[:end + 1])
-        except (SyntaxError, IndexError, KeyError):
-            self.out += [head, 'REFUSED ?']
+        said = verdict(lines[:end + 1])
+        if said != 'parsed':
+            self.out += [head, said]
             return
+        program = snobol.Program(lines[:end + 1])
         self.slots[self.slots.index(None)] = Running(
             self, number, (account, self.accounts[account]), program, lines[end + 1:], units, statements, steps)
 
