@@ -6,7 +6,6 @@ Programs are run by snobol.py; refusals.py says which are refused, and where."""
 import re
 import sys
 import snobol
-from refusals import verdict
 from snobol import in_a_large_stack
 
 NAME = re.compile(r'[A-Za-z][A-Za-z0-9._-]{0,30}\Z')
@@ -252,11 +251,11 @@ class Monitor:
                 return
             units[u] = Unit('set', name)
         end = next((i for i, line in enumerate(lines) if line[:1] != '*' and snobol.is_end_line(line)), len(lines))
-        said = verdict(lines[:end + 1])
-        if said != 'parsed':
-            self.out += [head, said]
+        try:
+            program = snobol.Program(lines[:end + 1])
+        except SyntaxError as said:
+            self.out += [head, str(said)]
             return
-        program = snobol.Program(lines[:end + 1])
         self.slots[self.slots.index(None)] = Running(
             self, number, (account, self.accounts[account]), program, lines[end + 1:], units, statements, steps)
 
