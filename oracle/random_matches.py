@@ -29,6 +29,7 @@ def one(seed):
     m.call = lambda deep: m.pick(['A', "'B'", 'P'])
     deep = m.pick([2, 3, 4])
     lines = ["  A = %s; X = %s; N = 2" % (m.pick(["'A'", "'AB'", "''"]), m.pick(["'B'", "*A", "LEN(1)"])),
+             "  T = TABLE(); U = T; T<1> = 'A'; U<'A'> = %s; T<N> = P" % m.pick(["'AB'", '*X', "LEN(1) | 'B'"]),
              "  P = %s" % m.pattern(2), "  S = %s" % m.pick(TEXTS)]
     if m.chance(0.2):
         lines.append("  &ANCHOR = 1")
