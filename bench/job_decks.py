@@ -19,7 +19,7 @@ The cases, at their whole size:
   variable_counts the same over variables that `$` names
   item_words      870,012 words cut off a text by a pattern, and counted in the items of a table
   variable_words  the same over variables that `$` names
-  items           100,000 items, the most that a job may have, of a string of 1,000 characters each
+  items           100,000 items, the most that a job may have, of an integer each
   lists           the case of decks.py: 20,000 commands, 2,018,000 access checks on lists of 100 named entries
   many_names      20,000 $CATALOG over 1,000 data sets of 100 named entries; a list is set anew now and then
   joined          1,000 statements of 996 joined names, read and refused at the END line, so that nothing runs
@@ -192,7 +192,7 @@ def items(size):
     program = [
         "  T = TABLE()",
         f"L N = LT(N,{int(100_000 * size)}) N + 1 :F(END)",
-        "  T<N> = DUPL('A',1000) :(L)",
+        "  T<N> = N :(L)",
         "END",
     ]
     return job("$JOB lisa ST=300000", program)
