@@ -125,11 +125,14 @@ class Walk:
     'behind'   behind an operand
     'object'   behind `=`: an element, a goto or nothing
     'empty'    behind `(` or `,` of a call: an element, `,` or `)`
-    and those of gotos. `open` has what is open: 'group', 'call', 'item'."""
+    'goto'     behind `:` or an outcome's target: a target or an outcome
+    'due'      behind an outcome: its target
+    'target', 'target-end', 'done'   in a target's parentheses, before them closing, behind the last target
+    `open` has what is open: 'group', 'call', 'item'."""
 
     def __init__(self):
         self.state, self.open, self.has_equals, self.in_subject = 'start', (), False, True
-        self.named, self.targets, self.target_of = None, (), None
+        self.targets, self.in_computed = (), False      # the outcomes that were given; within `($ ..)` of a goto
 
     def copy(self):
         new = Walk.__new__(Walk)
@@ -137,12 +140,9 @@ class Walk:
         return new
 
     def after_operand(self):
-        if self.state_is_target():
-            return 'target-end'
-        return 'first' if self.in_subject and not self.open else 'behind'
-
-    def state_is_target(self):
-        return self.target_of is not None and not self.open
+        if self.open:
+            return 'behind'
+        return 'target-end' if self.in_computed else 'first' if self.in_subject else 'behind'
 
     def take(self, t):
         """the walk behind this token, or None"""
@@ -240,13 +240,13 @@ class Walk:
         if t.kind == 'label':
             return self.go('target-end')
         if t.kind == '$' and not t.after:
-            self.target_of, self.in_subject = True, False
+            self.in_computed = True
             return self.go('prefixed')
         return False
 
     def at_target_end(self, t):
         if t.kind == ')':
-            self.target_of = None
+            self.in_computed = False
             return self.go('done' if len(self.targets) == 2 else 'goto')
         return False
 
@@ -258,7 +258,7 @@ class Walk:
             return True
         if self.state == 'goto':
             return bool(self.targets)
-        return not self.open and self.target_of is None and self.state in ('name', 'first', 'behind')
+        return not self.open and not self.in_computed and self.state in ('name', 'first', 'behind')
 
 
 def fits(walk, t):
