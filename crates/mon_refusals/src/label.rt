@@ -66,7 +66,7 @@ impl SeenLabels {
 }
 
 /// The label of a statement's text, which is empty where column 1 holds a blank.
-pub(crate) fn label_in(text: &[u8]) -> &[u8]
+pub fn label_in(text: &[u8]) -> &[u8]
     ensures { result.now ≡ before_first is_blank text.now }
 {
     &text[..label_length(text)]

@@ -11,6 +11,6 @@ mod start;
 mod statement;
 mod ties;
 
-pub use label::SeenLabels;
+pub use label::{SeenLabels, label_in};
 pub use program::{put_cards, put_program};
 pub use refusals::all_refusals;

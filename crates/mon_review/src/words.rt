@@ -1,0 +1,50 @@
+//! Lines, their words, and the card that the first of these names.
+
+use mon_cards::card::{Card, card_of};
+use mon_text::{Line, read_line};
+use std::alloc::{AllocError, Global};
+
+/// The pieces of a text between blanks, without the empty ones.
+///
+/// # Errors
+///
+/// Where a growth was refused.
+pub(crate) fn words_of(alloc: Global, text: &[u8]) -> Result<Vec<&[u8]>, AllocError> {
+    text.split(|byte| *byte == b' ')
+        .filter(|word| !word.is_empty())
+        .collect(alloc)
+}
+
+/// The card that the first word of a text names.
+///
+/// # Errors
+///
+/// Where a growth was refused.
+pub(crate) fn first_card(alloc: Global, text: &[u8]) -> Result<Option<Card>, AllocError> {
+    let words = words_of(alloc, text)?;
+    match words.as_slice() {
+        [] => Ok(None),
+        [first, ..] => Ok(card_of(first)),
+    }
+}
+
+/// Whether a card may begin something in the stream.
+pub(crate) fn is_stream_card(card: Card) -> bool {
+    match card {
+        Card::Create | Card::Delete | Card::SetAcl | Card::ShowAcl | Card::List => true,
+        Card::Catalog | Card::Job | Card::Turn | Card::Drain | Card::Stop => true,
+        _ => false,
+    }
+}
+
+/// The line that a text is.
+///
+/// # Errors
+///
+/// Where a growth was refused, and for a text that is no line.
+pub(crate) fn line_of(alloc: Global, text: &[u8]) -> Result<Line, AllocError> {
+    match read_line(alloc, text, text.len()) {
+        Ok(line) => Ok(line),
+        Err(_) => Err(AllocError),
+    }
+}
