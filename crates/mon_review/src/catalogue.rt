@@ -2,7 +2,7 @@
 
 use crate::desk::Desk;
 use crate::stage::{Due, SetHead, Sets, Stage};
-use crate::words::{first_card, words_of};
+use crate::words::{first_card, is_line_code, words_of};
 use mon_acl::Acl;
 use mon_cards::{Code, put_catalogue_line};
 use mon_catalogue::{Loading, Version};
@@ -27,7 +27,8 @@ pub(crate) fn opened(version: Version) -> Sets {
     }
 }
 
-/// What is due behind a line of the catalogue. Nothing, where the line is refused and something else has to read it.
+/// What is due behind a line of the catalogue, and whether the line was read: else it is refused there, and may be read
+/// elsewhere.
 ///
 /// # Errors
 ///
@@ -46,8 +47,8 @@ pub(crate) fn after_set_line(
             Some(_) => after_due_line(desk, alloc, version, last, text, out),
             None => Ok((staying(version, Due::Card, last), true)),
         },
-        Due::List(loading) => {
-            tell_list_line(desk, alloc, loading, &last, text, out)?;
+        Due::List => {
+            tell_list_line(desk, alloc, &last, text, out)?;
             Ok((staying(version, records_due(&last), last), true))
         }
         Due::Records(left) => {
@@ -94,12 +95,12 @@ fn after_due_line(
         Ok(false) => {
             let head = read_head(alloc, desk.line, text)?;
             note_set(desk, alloc, &head, text, out)?;
-            Ok((staying(version, Due::List(loading), Some(head)), true))
+            Ok((staying(version, Due::List, Some(head)), true))
         }
         Err(Stop::Refused(code)) => {
             desk.refuse(alloc, code, text, MOST_CHARACTERS as u64, out)?;
             put_behind(code, &last, out)?;
-            Ok((staying(version, Due::Card, last), false))
+            Ok((staying(version, Due::Card, last), is_line_code(code)))
         }
         Err(Stop::Memory) => Err(AllocError),
     }
@@ -153,37 +154,44 @@ fn set_refusal(desk: &Desk, name: &Name) -> Option<Code> {
 fn tell_list_line(
     desk: &mut Desk,
     alloc: Global,
-    loading: Loading,
     last: &Option<SetHead>,
     text: &[u8],
     out: &mut Vec<u8>,
 ) -> Result<(), AllocError> {
-    let mut loading = loading;
-    match put_catalogue_line(alloc, &mut loading, text) {
-        Ok(_) => Ok(()),
-        Err(Stop::Refused(code)) => {
-            tell_list(desk, alloc, code, text, out)?;
+    match line_refusal(alloc, text)? {
+        Some(code) => {
+            desk.refuse(alloc, code, text, MOST_CHARACTERS as u64, out)?;
+            put_within(last, out)
+        }
+        None => tell_list(desk, alloc, last, text, out),
+    }
+}
+
+// Tells why a text is no permission list, if it is none.
+fn tell_list(
+    desk: &mut Desk,
+    alloc: Global,
+    last: &Option<SetHead>,
+    text: &[u8],
+    out: &mut Vec<u8>,
+) -> Result<(), AllocError> {
+    match Acl::parse_short(alloc, text) {
+        Ok(_acl) => Ok(()),
+        Err(Stop::Refused(error)) => {
+            desk.refuse_list(alloc, error, text, 1, out)?;
             put_within(last, out)
         }
         Err(Stop::Memory) => Err(AllocError),
     }
 }
 
-// Tells why the line of a permission list is refused: for a list that is none by its own code.
-fn tell_list(
-    desk: &mut Desk,
-    alloc: Global,
-    code: Code,
-    text: &[u8],
-    out: &mut Vec<u8>,
-) -> Result<(), AllocError> {
-    match code {
-        Code::BadText => match Acl::parse_short(alloc, text) {
-            Ok(_acl) => desk.refuse(alloc, code, text, MOST_CHARACTERS as u64, out),
-            Err(Stop::Refused(error)) => desk.refuse_list(alloc, error, text, 1, out),
-            Err(Stop::Memory) => Err(AllocError),
-        },
-        _ => desk.refuse(alloc, code, text, MOST_CHARACTERS as u64, out),
+// Why a line of the catalogue is none.
+fn line_refusal(alloc: Global, text: &[u8]) -> Result<Option<Code>, AllocError> {
+    match read_line(alloc, text, MOST_CHARACTERS) {
+        Ok(_line) => Ok(None),
+        Err(Stop::Refused(LineError::LineTooLong)) => Ok(Some(Code::LineTooLong)),
+        Err(Stop::Refused(LineError::BadCharacter)) => Ok(Some(Code::BadCharacter)),
+        Err(Stop::Memory) => Err(AllocError),
     }
 }
 
@@ -195,23 +203,19 @@ fn tell_record(
     text: &[u8],
     out: &mut Vec<u8>,
 ) -> Result<(), AllocError> {
-    match record_refusal(alloc, text) {
-        Ok(None) => Ok(()),
-        Ok(Some(code)) => {
+    match record_refusal(alloc, text)? {
+        None => Ok(()),
+        Some(code) => {
             desk.refuse(alloc, code, text, MOST_CHARACTERS as u64, out)?;
             put_within(last, out)
         }
-        Err(AllocError) => Err(AllocError),
     }
 }
 
 fn record_refusal(alloc: Global, text: &[u8]) -> Result<Option<Code>, AllocError> {
-    match read_line(alloc, text, MOST_CHARACTERS) {
-        Ok(line) if line.len() > MOST_RECORD_CHARACTERS => Ok(Some(Code::BadText)),
-        Ok(_) => Ok(None),
-        Err(Stop::Refused(LineError::LineTooLong)) => Ok(Some(Code::LineTooLong)),
-        Err(Stop::Refused(LineError::BadCharacter)) => Ok(Some(Code::BadCharacter)),
-        Err(Stop::Memory) => Err(AllocError),
+    match line_refusal(alloc, text)? {
+        None if text.len() > MOST_RECORD_CHARACTERS => Ok(Some(Code::BadText)),
+        refusal => Ok(refusal),
     }
 }
 

@@ -1,7 +1,7 @@
 //! What the next line of a deck belongs to.
 
 use mon_cards::{OpenJob, OpenList};
-use mon_catalogue::{Loading, Version};
+use mon_catalogue::Version;
 use mon_text::Name;
 
 /// A data set, as its `$SET` card on a line of the deck has it.
@@ -18,7 +18,7 @@ pub(crate) enum Due {
     /// A `$SET` card, or `$STREAM`.
     Set,
     /// The permission list of the data set that is being read.
-    List(Loading),
+    List,
     /// So many records.
     Records(u64),
     /// Whatever stands before the next card.

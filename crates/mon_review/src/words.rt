@@ -1,7 +1,7 @@
-//! Lines, their words, and the card that the first of these names.
+//! The words of a line, and the card that the first of these names.
 
+use mon_cards::Code;
 use mon_cards::card::{Card, card_of};
-use mon_text::{Line, read_line};
 use std::alloc::{AllocError, Global};
 
 /// The pieces of a text between blanks, without the empty ones.
@@ -37,14 +37,7 @@ pub(crate) fn is_stream_card(card: Card) -> bool {
     }
 }
 
-/// The line that a text is.
-///
-/// # Errors
-///
-/// Where a growth was refused, and for a text that is no line.
-pub(crate) fn line_of(alloc: Global, text: &[u8]) -> Result<Line, AllocError> {
-    match read_line(alloc, text, text.len()) {
-        Ok(line) => Ok(line),
-        Err(_) => Err(AllocError),
-    }
+/// Whether a line is refused for its characters or their number, and so nowhere else is read.
+pub(crate) fn is_line_code(code: Code) -> bool {
+    matches!(code, Code::LineTooLong | Code::BadCharacter)
 }
