@@ -33,7 +33,7 @@ pub(crate) fn syntax_cause(code: SyntaxCode) -> &'static str {
         SyntaxCode::NothingToContinue => "no statement is before it",
         SyntaxCode::UnknownControlCard => "only -LIST, -UNLIST and -EJECT are known",
         SyntaxCode::BadConstant => "the literal is not closed, or the integer is too large",
-        SyntaxCode::BlankMissing => "a blank has to stand here",
+        SyntaxCode::BlankMissing => "it would fit with other blanks around it",
         SyntaxCode::Unexpected => "the statement can't go on or end like this",
         SyntaxCode::LabelTaken => "the label is further up, or kept for the language",
         SyntaxCode::VariableNeeded => "a variable has to stand here",

@@ -219,8 +219,20 @@ fn record_refusal(alloc: Global, text: &[u8]) -> Result<Option<Code>, AllocError
     }
 }
 
+/// Appends which data set is not whole, if one is.
+///
+/// # Errors
+///
+/// Where a growth was refused.
+pub(crate) fn put_unfinished(sets: &Sets, out: &mut Vec<u8>) -> Result<(), AllocError> {
+    match &sets.due {
+        Due::List | Due::Records(_) => put_within(&sets.last, out),
+        Due::Set | Due::Card => Ok(()),
+    }
+}
+
 // Appends which data set a line would be in, if it is in one.
-pub(crate) fn put_within(last: &Option<SetHead>, out: &mut Vec<u8>) -> Result<(), AllocError> {
+fn put_within(last: &Option<SetHead>, out: &mut Vec<u8>) -> Result<(), AllocError> {
     match last {
         Some(head) => {
             out.extend_from_slice(b"    in data set ")?;

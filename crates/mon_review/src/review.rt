@@ -1,6 +1,6 @@
 //! A review of a deck that comes in pieces.
 
-use crate::catalogue::{after_set_line, put_within};
+use crate::catalogue::{after_set_line, put_unfinished};
 use crate::desk::{Desk, Tally};
 use crate::front::{after_account_line, after_opening_line, after_refused};
 use crate::job::after_job_line;
@@ -163,7 +163,7 @@ fn end_stage(
         }
         Stage::Catalogue(sets) => {
             tell_end(desk, out)?;
-            put_within(&sets.last, out)
+            put_unfinished(&sets, out)
         }
         _ => tell_end(desk, out),
     }

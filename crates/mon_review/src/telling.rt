@@ -13,7 +13,7 @@ use mon_unit::UnitError;
 use sno_syntax::SyntaxError;
 use std::alloc::{AllocError, Global};
 
-// A job whose lines are all there, and where its cards stand.
+// A job whose lines are all there, and where its cards stand. Where it has no program, the first line is that of its card.
 #[derive(Drop)]
 struct JobCase {
     deck: JobDeck,
@@ -50,7 +50,7 @@ pub(crate) fn review_job(
         card,
         is_good,
         tie_lines,
-        first_line,
+        first_line: if first_line == 0 { line } else { first_line },
     };
     tell_case(desk, alloc, &case, out)
 }
