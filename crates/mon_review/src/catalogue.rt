@@ -1,11 +1,10 @@
 //! The catalogue of a deck, line by line. Of a data set no record is kept.
 
-use crate::desk::Desk;
 use crate::stage::{Due, SetHead, Sets, Stage};
-use crate::words::{first_card, is_line_code, words_of};
 use mon_acl::Acl;
 use mon_cards::{Code, put_catalogue_line};
 use mon_catalogue::{Loading, Version};
+use mon_mistakes::{Desk, first_card, is_line_code, words_of};
 use mon_text::{LineError, Name, Stop, put_number, read_count, read_line, read_name};
 use std::alloc::{AllocError, Global};
 

@@ -1,12 +1,11 @@
 //! A deck up to its stream, but for the catalogue; and where a line is read that was refused.
 
 use crate::catalogue::opened;
-use crate::desk::Desk;
 use crate::stage::Stage;
-use crate::words::{first_card, is_line_code, is_stream_card};
 use mon_cards::card::Card;
 use mon_cards::{Code, opens_accounts, put_account_line};
 use mon_catalogue::Version;
+use mon_mistakes::{Desk, first_card, is_line_code, is_stream_card};
 use mon_text::Stop;
 use std::alloc::{AllocError, Global};
 

@@ -1,12 +1,10 @@
 //! The lines of a job.
 
-use crate::desk::Desk;
 use crate::front::MOST_CHARACTERS;
 use crate::stage::{JobDraft, Stage};
-use crate::telling::review_job;
-use crate::words::{first_card, is_line_code, is_stream_card};
 use mon_cards::Code;
 use mon_cards::card::Card;
+use mon_mistakes::{Desk, JobCase, first_card, is_line_code, is_stream_card, tell_job};
 use mon_text::Stop;
 use std::alloc::{AllocError, Global};
 
@@ -39,6 +37,37 @@ pub(crate) fn after_job_line(
         }
         Err(Stop::Memory) => Err(AllocError),
     }
+}
+
+/// Tells all of a job whose lines are all there.
+///
+/// # Errors
+///
+/// Where a growth was refused.
+pub(crate) fn review_job(
+    desk: &mut Desk,
+    alloc: Global,
+    draft: JobDraft,
+    out: &mut Vec<u8>,
+) -> Result<(), AllocError> {
+    let JobDraft {
+        job,
+        number,
+        line,
+        card,
+        is_good,
+        tie_lines,
+        first_line,
+    } = draft;
+    let case = JobCase {
+        deck: job.into_deck(number),
+        line,
+        card,
+        is_good,
+        tie_lines,
+        first_line: if first_line == 0 { line } else { first_line },
+    };
+    tell_job(desk, alloc, &case, out)
 }
 
 // Notes where a unit card stands, or the first card of the program. There were so many unit cards before.

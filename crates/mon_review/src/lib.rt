@@ -4,21 +4,15 @@
 //! the data sets and the longest job or permission list, and not with the deck.
 #![tactic(auto)]
 
-mod advice;
 mod catalogue;
-mod column;
-pub mod desk;
 mod front;
 mod job;
 mod list;
 pub mod review;
-mod shown;
 mod stage;
 mod stream;
 pub mod streams;
-mod telling;
-mod words;
 
-pub use desk::Tally;
+pub use mon_mistakes::Tally;
 pub use review::Review;
 pub use streams::{ReviewFault, review_streams};

@@ -1,13 +1,12 @@
 //! The lines of a permission list in a deck's stream.
 
-use crate::desk::Desk;
 use crate::front::MOST_CHARACTERS;
 use crate::stage::Stage;
 use crate::stream::tell_list;
-use crate::words::{first_card, is_line_code, is_stream_card};
 use mon_acl::AclText;
 use mon_cards::card::Card;
 use mon_cards::{Code, OpenList, ends_list};
+use mon_mistakes::{Desk, first_card, is_line_code, is_stream_card};
 use mon_text::Stop;
 use std::alloc::{AllocError, Global};
 

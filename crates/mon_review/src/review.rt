@@ -1,14 +1,12 @@
 //! A review of a deck that comes in pieces.
 
 use crate::catalogue::{after_set_line, put_unfinished};
-use crate::desk::{Desk, Tally};
 use crate::front::{after_account_line, after_opening_line, after_refused};
-use crate::job::after_job_line;
+use crate::job::{after_job_line, review_job};
 use crate::list::after_list_line;
-use crate::shown::{NO_COLUMN, Spot};
 use crate::stage::Stage;
 use crate::stream::after_stream_line;
-use crate::telling::review_job;
+use mon_mistakes::{Desk, NO_COLUMN, Spot, Tally};
 use mon_text::{LineFeed, put_number};
 use std::alloc::{AllocError, Global};
 use std::mem;

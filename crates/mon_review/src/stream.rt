@@ -1,16 +1,13 @@
 //! The cards of a deck's stream.
 
-use crate::column::word_column;
-use crate::desk::Desk;
 use crate::front::MOST_CHARACTERS;
-use crate::shown::Spot;
 use crate::stage::{JobDraft, Stage};
-use crate::words::{first_card, words_of};
 use mon_acl::AclText;
 use mon_cards::card::Card;
 use mon_cards::{OpenJob, OpenList, Request, read_request};
 use mon_command::Command;
 use mon_job::JobLimits;
+use mon_mistakes::{Desk, Spot, first_card, word_column, words_of};
 use mon_text::{Name, Stop, read_name};
 use std::alloc::{AllocError, Global};
 

@@ -1,7 +1,7 @@
 //! A review from one stream to another.
 
-use crate::desk::Tally;
 use crate::review::Review;
+use mon_mistakes::Tally;
 use std::alloc::{AllocError, Global};
 use std::io::{ErrorKind, Read, Write};
 

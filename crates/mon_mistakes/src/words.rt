@@ -9,7 +9,7 @@ use std::alloc::{AllocError, Global};
 /// # Errors
 ///
 /// Where a growth was refused.
-pub(crate) fn words_of(alloc: Global, text: &[u8]) -> Result<Vec<&[u8]>, AllocError> {
+pub fn words_of(alloc: Global, text: &[u8]) -> Result<Vec<&[u8]>, AllocError> {
     text.split(|byte| *byte == b' ')
         .filter(|word| !word.is_empty())
         .collect(alloc)
@@ -20,7 +20,7 @@ pub(crate) fn words_of(alloc: Global, text: &[u8]) -> Result<Vec<&[u8]>, AllocEr
 /// # Errors
 ///
 /// Where a growth was refused.
-pub(crate) fn first_card(alloc: Global, text: &[u8]) -> Result<Option<Card>, AllocError> {
+pub fn first_card(alloc: Global, text: &[u8]) -> Result<Option<Card>, AllocError> {
     let words = words_of(alloc, text)?;
     match words.as_slice() {
         [] => Ok(None),
@@ -29,7 +29,7 @@ pub(crate) fn first_card(alloc: Global, text: &[u8]) -> Result<Option<Card>, All
 }
 
 /// Whether a card may begin something in the stream.
-pub(crate) fn is_stream_card(card: Card) -> bool {
+pub fn is_stream_card(card: Card) -> bool {
     match card {
         Card::Create | Card::Delete | Card::SetAcl | Card::ShowAcl | Card::List => true,
         Card::Catalog | Card::Job | Card::Turn | Card::Drain | Card::Stop => true,
@@ -38,6 +38,6 @@ pub(crate) fn is_stream_card(card: Card) -> bool {
 }
 
 /// Whether a line is refused for its characters or their number, and so nowhere else is read.
-pub(crate) fn is_line_code(code: Code) -> bool {
+pub fn is_line_code(code: Code) -> bool {
     matches!(code, Code::LineTooLong | Code::BadCharacter)
 }

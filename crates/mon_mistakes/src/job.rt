@@ -4,7 +4,6 @@ use crate::advice::{put_cause, syntax_cause};
 use crate::column::word_column;
 use crate::desk::Desk;
 use crate::shown::{NO_COLUMN, Spot};
-use crate::stage::JobDraft;
 use mon_job::{JobDeck, LoadError, UnitCard};
 use mon_refusals::all_refusals;
 use mon_source::{LooseKind, LooseName, Source, loose_names, put_rows, read_source};
@@ -13,49 +12,27 @@ use mon_unit::UnitError;
 use sno_syntax::SyntaxError;
 use std::alloc::{AllocError, Global};
 
-// A job whose lines are all there, and where its cards stand. Where it has no program, the first line is that of its card.
+/// A job whose lines are all there, and where its cards stand.
 #[derive(Drop)]
-struct JobCase {
-    deck: JobDeck,
-    line: u64,
-    card: Vec<u8>,
-    is_good: bool,
-    tie_lines: Vec<u64>,
-    first_line: u64,
+pub struct JobCase {
+    pub deck: JobDeck,
+    /// The line of its card, and the card.
+    pub line: u64,
+    pub card: Vec<u8>,
+    /// Whether the card was good.
+    pub is_good: bool,
+    /// The lines of its unit cards.
+    pub tie_lines: Vec<u64>,
+    /// The line of the first card of its program; of the job's card, where there is none.
+    pub first_line: u64,
 }
 
-/// Tells all of a job.
+/// Tells all of a job: its listing, unless mistakes alone are told, and what is wrong with it.
 ///
 /// # Errors
 ///
 /// Where a growth was refused.
-pub(crate) fn review_job(
-    desk: &mut Desk,
-    alloc: Global,
-    draft: JobDraft,
-    out: &mut Vec<u8>,
-) -> Result<(), AllocError> {
-    let JobDraft {
-        job,
-        number,
-        line,
-        card,
-        is_good,
-        tie_lines,
-        first_line,
-    } = draft;
-    let case = JobCase {
-        deck: job.into_deck(number),
-        line,
-        card,
-        is_good,
-        tie_lines,
-        first_line: if first_line == 0 { line } else { first_line },
-    };
-    tell_case(desk, alloc, &case, out)
-}
-
-fn tell_case(
+pub fn tell_job(
     desk: &mut Desk,
     alloc: Global,
     case: &JobCase,

@@ -7,7 +7,7 @@ use mon_text::{read_count, read_name};
 use std::alloc::{AllocError, Global};
 
 /// The column at which a word begins, counted from 0; behind the text, where it has no such word.
-pub(crate) fn word_column(text: &[u8], wanted: u64) -> u64 {
+pub fn word_column(text: &[u8], wanted: u64) -> u64 {
     let mut begun: u64 = 0;
     let mut is_within = false;
     for (index, byte) in text.iter().enumerate() {

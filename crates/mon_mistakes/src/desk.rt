@@ -20,22 +20,22 @@ pub struct Tally {
 #[derive(Drop)]
 pub struct Desk {
     /// Whether mistakes alone are told.
-    pub(crate) quiet: bool,
+    pub quiet: bool,
     /// The number of the line that is looked at.
-    pub(crate) line: u64,
+    pub line: u64,
     /// How many jobs have begun.
-    pub(crate) jobs: u64,
+    pub jobs: u64,
     /// The account table.
-    pub(crate) accounts: Accounts,
+    pub accounts: Accounts,
     /// The names of the data sets.
-    pub(crate) sets: Vec<Name>,
+    pub sets: Vec<Name>,
     /// How much was found.
-    pub(crate) tally: Tally,
+    pub tally: Tally,
 }
 
 impl Desk {
     /// Nothing of a deck.
-    pub(crate) fn new(alloc: Global, quiet: bool) -> Desk {
+    pub fn new(alloc: Global, quiet: bool) -> Desk {
         Desk {
             quiet,
             line: 0,
@@ -54,7 +54,7 @@ impl Desk {
     /// # Errors
     ///
     /// Where a growth was refused.
-    pub(crate) fn mistake(
+    pub fn mistake(
         &mut self,
         spot: Spot<'_>,
         what: &[u8],
@@ -69,7 +69,7 @@ impl Desk {
     /// # Errors
     ///
     /// Where a growth was refused.
-    pub(crate) fn warning(
+    pub fn warning(
         &mut self,
         spot: Spot<'_>,
         what: &[u8],
@@ -87,7 +87,7 @@ impl Desk {
     /// # Errors
     ///
     /// Where a growth was refused.
-    pub(crate) fn refuse(
+    pub fn refuse(
         &mut self,
         alloc: Global,
         code: Code,
@@ -107,7 +107,7 @@ impl Desk {
     /// # Errors
     ///
     /// Where a growth was refused.
-    pub(crate) fn refuse_list(
+    pub fn refuse_list(
         &mut self,
         alloc: Global,
         error: AclError,
@@ -122,7 +122,7 @@ impl Desk {
     }
 
     /// Whether a data set of this name was in the catalogue.
-    pub(crate) fn has_set(&self, name: &Name) -> bool {
+    pub fn has_set(&self, name: &Name) -> bool {
         self.sets.contains(name)
     }
 }

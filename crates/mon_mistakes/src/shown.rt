@@ -11,7 +11,7 @@ pub const NO_COLUMN: u64 = 0;
 
 /// Where something is that is told: the line of the deck, its text, and the column.
 #[derive(Clone, Copy)]
-pub(crate) struct Spot<'a> {
+pub struct Spot<'a> {
     pub line: u64,
     pub text: &'a [u8],
     pub column: u64,
