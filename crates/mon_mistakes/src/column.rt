@@ -91,10 +91,18 @@ fn number_column(alloc: Global, text: &[u8]) -> Result<u64, AllocError> {
 // Whether a word is a number, or an option with one.
 fn has_number(word: &[u8]) -> bool {
     if word.starts_with(b"ST=".as_slice()) {
-        return read_count(&word[3..]).is_ok();
+        is_count_from(word, 3)
+    } else if word.starts_with(b"MATCH=".as_slice()) {
+        is_count_from(word, 6)
+    } else {
+        is_count_from(word, 0)
     }
-    if word.starts_with(b"MATCH=".as_slice()) {
-        return read_count(&word[6..]).is_ok();
+}
+
+// Whether a word is a number from an index on.
+fn is_count_from(word: &[u8], from: usize) -> bool {
+    match word.get(from..) {
+        Some(text) => read_count(text).is_ok(),
+        None => false,
     }
-    read_count(word).is_ok()
 }

@@ -75,7 +75,7 @@ of_cards cards =
     let end = then_some (is_none (start_in cards)) (refused BadEnd (begin_of cards.end_rest)) in
     of_both (statements_refused [] 0 cards.statements) (end_refused cards.end_rest (start_in cards))
     ∙ ap (λ o. option_or o (first_of (end_refused cards.end_rest (start_in cards)))) (of_statements [] 0 cards.statements)
-    ∙ ap (option_or (option_map Syntax statements)) (of_one (option_map Syntax end))
+    ∙ ap (λ o. option_or (option_map Syntax statements) o) (of_one (option_map Syntax end))
     ∙ syntax_or statements end
 
 of_program : (said : Result ProgramText SyntaxError) → first_of (program_refused said) ≡ program_refusal said
@@ -91,7 +91,7 @@ first_refusal accounts deck =
     let program = program_refused (statements_of deck.lines) in
     let all = all_by deck.ties (data_of deck.lines (statements_of deck.lines)) in
     of_listed account (ties ++ program)
-    ∙ ap (option_or account)
+    ∙ ap (λ o. option_or account o)
     (of_both ties program
     ∙ ap (λ o. option_or o (first_of program)) (of_ties deck.ties (replicate 100 false) ∙ ap (option_map Cards) (sym all))
-    ∙ ap (option_or (option_map Cards (ties_refusal deck.ties (first_units deck.lines)))) (of_program (statements_of deck.lines)))
+    ∙ ap (λ o. option_or (option_map Cards (ties_refusal deck.ties (first_units deck.lines))) o) (of_program (statements_of deck.lines)))

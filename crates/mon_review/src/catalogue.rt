@@ -108,15 +108,31 @@ fn after_due_line(
 // What a good `$SET` card says.
 fn read_head(alloc: Global, line: u64, text: &[u8]) -> Result<SetHead, AllocError> {
     let words = words_of(alloc, text)?;
-    let name = match words.as_slice() {
-        [_, name, ..] => read_name(name).ok(),
+    Ok(SetHead {
+        name: name_in(&words),
+        line,
+        count: count_in(&words),
+    })
+}
+
+fn name_in(words: &[&[u8]]) -> Option<Name> {
+    match words {
+        [_, name, ..] => match read_name(name) {
+            Ok(name) => Some(name),
+            Err(_) => None,
+        },
         _ => None,
-    };
-    let count = match words.last() {
-        Some(word) => read_count(word).unwrap_or(0),
+    }
+}
+
+fn count_in(words: &[&[u8]]) -> u64 {
+    match words.last() {
+        Some(word) => match read_count(word) {
+            Ok(count) => count,
+            Err(_) => 0,
+        },
         None => 0,
-    };
-    Ok(SetHead { name, line, count })
+    }
 }
 
 // Notes the name of a data set, or tells that it may not be.
@@ -243,13 +259,18 @@ fn put_within(last: &Option<SetHead>, out: &mut Vec<u8>) -> Result<(), AllocErro
 
 // Appends which data set is before a line that is no card, or none that may stand there.
 fn put_behind(code: Code, last: &Option<SetHead>, out: &mut Vec<u8>) -> Result<(), AllocError> {
-    match (code, last) {
-        (Code::UnknownCard, Some(head)) | (Code::OutOfPlace, Some(head)) => {
+    match last {
+        Some(head) if is_no_set(code) => {
             out.extend_from_slice(b"    behind data set ")?;
             put_head(head, out)
         }
         _ => Ok(()),
     }
+}
+
+// Whether a line is refused because it is no card, or another than `$SET`.
+fn is_no_set(code: Code) -> bool {
+    matches!(code, Code::UnknownCard | Code::OutOfPlace)
 }
 
 fn put_head(head: &SetHead, out: &mut Vec<u8>) -> Result<(), AllocError> {

@@ -34,7 +34,12 @@ impl Review {
     /// # Errors
     ///
     /// Where a growth was refused; the review is then of no use.
-    pub fn feed(&mut self, alloc: Global, piece: &[u8], out: &mut Vec<u8>) -> Result<(), AllocError> {
+    pub fn feed(
+        &mut self,
+        alloc: Global,
+        piece: &[u8],
+        out: &mut Vec<u8>,
+    ) -> Result<(), AllocError> {
         let mut rest = piece;
         for _ in 0..piece.len() {
             if rest.is_empty() {
@@ -52,13 +57,13 @@ impl Review {
         piece: &'a [u8],
         out: &mut Vec<u8>,
     ) -> Result<&'a [u8], AllocError> {
-        let (used, ended) = self.feed.take(piece)?;
-        if let Some(line) = ended {
-            take_line(&mut self.desk, &mut self.stage, alloc, line.text(), out)?;
-        }
-        match piece.get(used..) {
-            Some(rest) => Ok(rest),
-            None => Ok(&[]),
+        match self.feed.take(piece) {
+            Err(_) => Err(AllocError),
+            Ok((used, None)) => Ok(behind(piece, used)),
+            Ok((used, Some(line))) => {
+                take_line(&mut self.desk, &mut self.stage, alloc, line.text(), out)?;
+                Ok(behind(piece, used))
+            }
         }
     }
 
@@ -78,6 +83,14 @@ impl Review {
         end_stage(&mut desk, alloc, stage, out)?;
         put_tally(&desk, out)?;
         Ok(desk.tally)
+    }
+}
+
+// What stands behind so many bytes.
+fn behind(piece: &[u8], used: usize) -> &[u8] {
+    match piece.get(used..) {
+        Some(rest) => rest,
+        None => &[],
     }
 }
 

@@ -23,6 +23,11 @@ pub enum ReviewFault {
 }
 
 impl From<AllocError> for ReviewFault {
+    ghost use Rattle.std.specs.Prelude.{◌≡◌};
+    ghost use Rattle.mon_review.specs.declared.streams.ReviewFault.TheVariants.{Memory};
+
+    ghost from_gives = { λ _ fault. fault ≡ Memory };
+
     fn from(_: AllocError) -> ReviewFault {
         ReviewFault::Memory
     }
@@ -40,7 +45,7 @@ pub fn review_streams<R: Read, W: Write>(
     output: &mut W,
 ) -> Result<Tally, ReviewFault> {
     let mut review = Review::new(alloc, quiet);
-    let mut buffer = Vec::from_slice(alloc, &[0; PIECE])?;
+    let mut buffer = buffer_of(alloc)?;
     let mut out = Vec::new(alloc);
     for _ in 0..u64::MAX {
         let count = read_piece(input, &mut buffer)?;
@@ -53,6 +58,11 @@ pub fn review_streams<R: Read, W: Write>(
     let tally = review.finish(alloc, &mut out)?;
     write_out(output, &mut out)?;
     Ok(tally)
+}
+
+// A buffer for reads.
+fn buffer_of(alloc: Global) -> Result<Vec<u8>, AllocError> {
+    Ok(vec![in alloc; 0; PIECE]?)
 }
 
 // Reads some bytes: how many; none at the end.
@@ -82,7 +92,7 @@ fn feed_piece(
 
 // Writes what was gathered, and gathers anew.
 fn write_out<W: Write>(output: &mut W, out: &mut Vec<u8>) -> Result<(), ReviewFault> {
-    match output.write_all(out) {
+    match output.write_all(out.as_slice()) {
         Ok(()) => {
             out.clear();
             Ok(())

@@ -132,17 +132,33 @@ fn put_loose(
     loose: &mut Vec<LooseName>,
 ) -> Result<(), AllocError> {
     match lex(alloc, text) {
-        Ok(tokens) => {
-            for (at, token) in tokens.tokens().iter().enumerate() {
-                let place = token_place(text, tokens.offsets(), at);
-                let is_call = is_called(tokens.tokens(), at);
-                put_loose_token(alloc, known, token, is_call, place, loose)?;
-            }
-            Ok(())
-        }
+        Ok(tokens) => put_loose_tokens(
+            alloc,
+            known,
+            text,
+            tokens.tokens(),
+            tokens.offsets(),
+            loose,
+        ),
         Err(Stop::Refused(_)) => Ok(()),
         Err(Stop::Memory) => Err(AllocError),
     }
+}
+
+fn put_loose_tokens(
+    alloc: Global,
+    known: &Known,
+    text: &StatementText,
+    tokens: &[Token],
+    offsets: &[usize],
+    loose: &mut Vec<LooseName>,
+) -> Result<(), AllocError> {
+    for (at, token) in tokens.iter().enumerate() {
+        let place = token_place(text, offsets, at);
+        let is_call = is_called(tokens, at);
+        put_loose_token(alloc, known, token, is_call, place, loose)?;
+    }
+    Ok(())
 }
 
 fn token_place(text: &StatementText, offsets: &[usize], at: usize) -> Place {
