@@ -253,7 +253,7 @@ fn spot_on(case: &JobCase, card: u64, column: u64) -> Spot<'_> {
         },
         None => Spot {
             line,
-            text: b"",
+            text: b"".as_slice(),
             column: NO_COLUMN,
         },
     }

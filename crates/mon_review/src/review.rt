@@ -183,7 +183,7 @@ fn end_stage(
 fn tell_end(desk: &mut Desk, out: &mut Vec<u8>) -> Result<(), AllocError> {
     let spot = Spot {
         line: desk.line.saturating_add(1),
-        text: b"",
+        text: b"".as_slice(),
         column: NO_COLUMN,
     };
     desk.mistake(spot, b"E4 TRUNCATED: the deck ends before its $STOP", out)
