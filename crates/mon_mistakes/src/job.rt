@@ -133,11 +133,7 @@ fn tell_refusal(
     }
 }
 
-fn tell_no_account(
-    desk: &mut Desk,
-    case: &JobCase,
-    out: &mut Vec<u8>,
-) -> Result<(), AllocError> {
+fn tell_no_account(desk: &mut Desk, case: &JobCase, out: &mut Vec<u8>) -> Result<(), AllocError> {
     if !case.is_good {
         return Ok(());
     }
@@ -327,7 +323,12 @@ fn tell_name(
             desk.mistake(spot, &what, out)
         }
         LooseKind::Function => {
-            put_named(b"NO FUNCTION ", name, b": no literal of DEFINE has it", &mut what)?;
+            put_named(
+                b"NO FUNCTION ",
+                name,
+                b": no literal of DEFINE has it",
+                &mut what,
+            )?;
             desk.warning(spot, &what, out)
         }
     }

@@ -13,10 +13,7 @@ use sno_syntax::{ProgramCards, StatementText, SyntaxError, statements};
 use std::alloc::{AllocError, Global};
 
 // Puts a refusal last, if it is one.
-fn put_refusal(
-    refusal: Option<SyntaxError>,
-    found: &mut Vec<LoadError>,
-) -> Result<(), AllocError>
+fn put_refusal(refusal: Option<SyntaxError>, found: &mut Vec<LoadError>) -> Result<(), AllocError>
     ensures { OnOk result (found.new.items ≡ found.old.items ++ syntax_listed refusal) }
 {
     match refusal {

@@ -22,11 +22,7 @@ fn tie_refused(tied: &[bool; 100], unit: u64) -> Option<UnitError>
 }
 
 // One card more: why it is refused; or its unit is tied.
-fn put_tie(
-    unit: u64,
-    tied: &mut [bool; 100],
-    found: &mut Vec<LoadError>,
-) -> Result<(), AllocError>
+fn put_tie(unit: u64, tied: &mut [bool; 100], found: &mut Vec<LoadError>) -> Result<(), AllocError>
     ensures found { OnOk result (found.new.items ≡ found.old.items ++ tie_listed (refused_by unit tied.old)) }
     ensures tied { OnOk result (tied.new ≡ tied_after (refused_by unit tied.old) unit tied.old) }
 {

@@ -130,11 +130,7 @@ fn open_job(
 }
 
 // What is due behind a card that is refused: the lines of a job or of a permission list may follow it all the same.
-fn after_refused_card(
-    desk: &mut Desk,
-    alloc: Global,
-    text: &[u8],
-) -> Result<Stage, AllocError> {
+fn after_refused_card(desk: &mut Desk, alloc: Global, text: &[u8]) -> Result<Stage, AllocError> {
     match first_card(alloc, text)? {
         Some(Card::Job) => {
             let account = name_on(alloc, text)?;

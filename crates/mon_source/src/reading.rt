@@ -36,11 +36,7 @@ pub fn read_source(alloc: Global, lines: &[Line]) -> Result<Source, AllocError> 
 }
 
 // Reads a program behind the first card that is refused.
-fn read_mended(
-    alloc: Global,
-    lines: &[Line],
-    refusal: SyntaxError,
-) -> Result<Source, AllocError> {
+fn read_mended(alloc: Global, lines: &[Line], refusal: SyntaxError) -> Result<Source, AllocError> {
     let mut lines = copied(alloc, lines)?;
     mend(alloc, &mut lines, refusal)?;
     let mut further = Vec::new(alloc);
