@@ -15,6 +15,11 @@ The cases, at their whole size:
   calls           10,000,000 calls of a function, in two jobs that come one behind the other, ten calls a statement
   matches         a match in each of 10,000,000 statements
   strings         870,031 statements: words cut off a text by a pattern, and counted in variables named by them
+  item_counts     50,000 items of a table, to each of which 1 is added 20 times: 2,000,000 statements
+  variable_counts the same over variables that `$` names
+  item_words      870,012 words cut off a text by a pattern, and counted in the items of a table
+  variable_words  the same over variables that `$` names
+  items           100,000 items, the most that a job may have, of an integer each
   lists           the case of decks.py: 20,000 commands, 2,018,000 access checks on lists of 100 named entries
   many_names      20,000 $CATALOG over 1,000 data sets of 100 named entries; a list is set anew now and then
   joined          1,000 statements of 996 joined names, read and refused at the END line, so that nothing runs
@@ -137,6 +142,62 @@ def strings(size):
     )
 
 
+def counts(size, opened, one):
+    program = [
+        f"  {opened}",
+        f"G R = LT(R,{int(20 * size)}) R + 1 :F(T)",
+        "  I = 0",
+        "L I = LT(I,50000) I + 1 :F(G)",
+        f"  {one('I')} = {one('I')} + 1 :(L)",
+        f"T OUTPUT = {one('1')} ' ' {one('50000')}",
+        "END",
+    ]
+    return job("$JOB lisa ST=10000000", program)
+
+
+def words(size, opened, one):
+    program = [
+        f"  {opened}; W = BREAK(' ') . X SPAN(' ')",
+        "G S = 'THE QUICK BROWN FOX JUMPS OVER THE LAZY DOG AND RUNS AWAY AGAIN '",
+        "L S W = :F(T)",
+        f"  {one('X')} = {one('X')} + 1 :(L)",
+        f"T N = LT(N,{int(66_923 * size)}) N + 1 :S(G)",
+        f"  OUTPUT = {one(chr(39) + 'THE' + chr(39))}",
+        "END",
+    ]
+    return job("$JOB lisa ST=10000000", program)
+
+
+ITEMS = ("T = TABLE()", lambda key: f"T<{key}>")
+VARIABLES = ("T = ''", lambda key: f"$('T.' {key})")
+
+
+def item_counts(size):
+    return counts(size, *ITEMS)
+
+
+def variable_counts(size):
+    return counts(size, *VARIABLES)
+
+
+def item_words(size):
+    return words(size, *ITEMS)
+
+
+def variable_words(size):
+    return words(size, *VARIABLES)
+
+
+def items(size):
+    program = [
+        "  T = TABLE()",
+        f"L N = LT(N,{int(100_000 * size)}) N + 1 :F(END)",
+        "  T<N> = N :(L)",
+        "END",
+    ]
+    return job("$JOB lisa ST=300000", program)
+
+
 def lists(size):
     return decks.drawn_lists(int(1_000 * size), 20_000)
 
@@ -201,6 +262,11 @@ CASES = {
         calls,
         matches,
         strings,
+        item_counts,
+        variable_counts,
+        item_words,
+        variable_words,
+        items,
         lists,
         many_names,
         joined,

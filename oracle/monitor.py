@@ -2,7 +2,7 @@
 
 python3 monitor.py [--slots N] < deck       prints what snomon has to print
 
-Programs are run by snobol.py, which says of a program that is refused only that it is; `REFUSED ?` stands for its code."""
+Programs are run by snobol.py; refusals.py says which are refused, and where."""
 import re
 import sys
 import snobol
@@ -253,8 +253,8 @@ class Monitor:
         end = next((i for i, line in enumerate(lines) if line[:1] != '*' and snobol.is_end_line(line)), len(lines))
         try:
             program = snobol.Program(lines[:end + 1])
-        except (SyntaxError, IndexError, KeyError):
-            self.out += [head, 'REFUSED ?']
+        except SyntaxError as said:
+            self.out += [head, str(said)]
             return
         self.slots[self.slots.index(None)] = Running(
             self, number, (account, self.accounts[account]), program, lines[end + 1:], units, statements, steps)

@@ -30,7 +30,7 @@ def act(r, tied, reads, writes):
     u, v = r.choice([5, 6, 9, 20] + 4 * tied), r.choice('ABC')
     q = lambda: "'%s'" % r.choice(TEXTS)
     goto = r.choice(['', '', '', ' :F(END)', ' :S(L)', ' :F(L)'])
-    kind = r.randrange(9)
+    kind = r.randrange(10)
     if kind == 0:
         reads.append(v)
         return "  INPUT('%s',%d%s)" % (v, u, r.choice(['', ',3', ',40']))
@@ -45,6 +45,8 @@ def act(r, tied, reads, writes):
         return '  %s(%d)%s' % (r.choice(['REWIND', 'ENDFILE', 'ENDFILE']), u, goto)
     if kind == 7:
         return '  OUTPUT = %s%s' % (r.choice(['X', q(), 'INPUT', 'N', '&STNO', "F('Y')"]), goto)
+    if kind == 8:
+        return '  ' + r.choice(["T<X> = T<X> 'Y'", 'OUTPUT = T<N> T<X>', 'T<N> = INPUT', 'T<INPUT> = X', "T<X> 'A' = 'T'", 'T = TABLE()']) + goto
     return '  N = N + 1'
 
 
@@ -52,6 +54,7 @@ def job(r):
     reads, writes = ['INPUT'], ['OUTPUT']
     tied = r.choices([5, 6, 7, 8, 9, 9, 8], k=r.randint(0, 3))
     body = [act(r, tied, reads, writes) for _ in range(r.randint(1, 9))]
+    body.insert(0, r.choice(['  T = TABLE()', "  T = TABLE(); T<''> = 'A'", '  T = TABLE(); X = T<X>', '  N ='] if r.random() < 0.9 else ['  T = N']))
     body.insert(r.randint(0, len(body)), 'L N = N + 1')
     body.append('  %s' % r.choice(["GT(N,%d) :F(L)" % r.randint(1, 4), 'X = X', "X 'A' = 'B'"]))
     if r.random() < 0.3:

@@ -7,10 +7,10 @@ from snobol import Job, Program, in_a_large_stack
 TEXTS = ["'AABAB'", "'(A)B(())'", "'ABCABC'", "'A,B,,C'", "''", "'AAAA'", "'12AB'", "'X Y X'", "'((A+B))C'", "')A('"]
 
 
-def steps_of(cards, answers):
+def steps_of(program, answers):
     """the number of steps of the longest match of the program, by halving"""
     def limited(n):
-        return 'MATCH LIMIT' in Job(Program(cards), answers, 200, n).run()[-1]
+        return 'MATCH LIMIT' in Job(program, answers, 200, n).run()[-1]
     if limited(4000):
         return None
     low, high = 0, 4000                 # limited at low (as if), not at high
@@ -29,6 +29,7 @@ def one(seed):
     m.call = lambda deep: m.pick(['A', "'B'", 'P'])
     deep = m.pick([2, 3, 4])
     lines = ["  A = %s; X = %s; N = 2" % (m.pick(["'A'", "'AB'", "''"]), m.pick(["'B'", "*A", "LEN(1)"])),
+             "  T = TABLE(); U = T; T<1> = 'A'; U<'A'> = %s; T<N> = P" % m.pick(["'AB'", '*X', "LEN(1) | 'B'"]),
              "  P = %s" % m.pattern(2), "  S = %s" % m.pick(TEXTS)]
     if m.chance(0.2):
         lines.append("  &ANCHOR = 1")
@@ -38,12 +39,13 @@ def one(seed):
     lines += ["  OUTPUT = 'YES ' S ' ' A ' ' N :(END)", "NO OUTPUT = 'NO ' S ' ' A ' ' N"]
     cards = [c for l in lines for c in wrapped(l)] + ['END']
     answers = m.answers() if m.chance(0.5) else []
-    n = steps_of(cards, answers)
+    program = Program(cards)
+    n = steps_of(program, answers)
     if n is None or n < 2:
         raise SyntaxError('no steps')
     out = []
     for limit in (n, n - 1):
-        wanted = Job(Program(cards), answers, 200, limit).run()
+        wanted = Job(program, answers, 200, limit).run()
         out.append('$CASE m%d-%d ST=200 MATCH=%d\n%s\n$ANSWERS\n%s$WANTED\n%s\n' % (
             seed, limit, limit, '\n'.join(cards), ''.join(a + '\n' for a in answers), '\n'.join(wanted)))
     return out

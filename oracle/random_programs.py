@@ -9,6 +9,8 @@ from snobol import run, in_a_large_stack
 STRINGS = ["''", "'A'", "'AB'", "'(A)'", "'B A '", "'0'", "'12'", "'-7'", "'AAB'", "'X'", "' '", "'N'", "'A,B'", '"it\'s"']
 NUMBERS = ['0', '1', '2', '3', '7', '10', '007', '9223372036854775807']
 NAMES = ['A', 'B', 'C', 'X', 'N', 'P', 'S']
+TABLES = ['T', 'U']
+KEYS = ['1', "'1'", '2', "''", "'A'", "'AB'", 'N', 'A', 'S', 'T', 'U', '-1', '007', "'L2'", 'INPUT', '.A', 'I']
 PATTERNS = ['ARB', 'REM', 'BAL', 'FENCE', 'FAIL', 'ABORT', 'SUCCEED']
 READ_KEYS = ['&ANCHOR', '&TRIM', '&STLIMIT', '&MAXLNGTH', '&STCOUNT', '&STNO', '&FNCLEVEL', '&FULLSCAN']
 SET_KEYS = ['&ANCHOR', '&TRIM', '&FULLSCAN', '&STLIMIT', '&MAXLNGTH']
@@ -41,6 +43,17 @@ class Maker:
     def assigned(self):
         return self.variable() if self.chance(0.8) else 'OUTPUT'
 
+    def item(self, deep):
+        name = self.pick(TABLES if self.chance(0.96) else NAMES + ['OUTPUT', 'R', 'TABLE'])
+        k = self.r.random()
+        if deep <= 0 or k < 0.7:
+            key = self.pick(KEYS)
+        elif k < 0.9:
+            key = self.pick([self.text, self.number, self.item])(deep - 1)
+        else:
+            key = self.any(deep - 1)
+        return name + self.pick(['<%s>', '<%s>', '<%s>', '< %s>', '<%s >']) % key
+
     # elements and expressions
     def number(self, deep):
         k = self.r.random()
@@ -48,8 +61,10 @@ class Maker:
             return self.pick(NUMBERS)
         if k < 0.45:
             return 'N'
-        if k < 0.53:
+        if k < 0.49:
             return self.pick(READ_KEYS)
+        if k < 0.53:
+            return self.item(deep - 1)
         if k < 0.62:
             return 'SIZE(' + self.text(deep - 1) + ')'
         if k < 0.70:
@@ -85,9 +100,9 @@ class Maker:
                 quote = None if ch == quote else quote
             elif ch in '\'"':
                 quote = ch
-            elif ch == '(':
+            elif ch in '(<':
                 level += 1
-            elif ch == ')':
+            elif ch in ')>':
                 level -= 1
             elif ch == ' ' and level == 0:
                 return '(' + e + ')'
@@ -97,8 +112,10 @@ class Maker:
         k = self.r.random()
         if deep <= 0 or k < 0.22:
             return self.pick(STRINGS)
-        if k < 0.42:
+        if k < 0.38:
             return self.pick(['A', 'B', 'C', 'S', 'X', self.variable()])
+        if k < 0.42:
+            return self.item(deep - 1)
         if k < 0.47:
             return self.number(deep - 1)
         if k < 0.51:
@@ -161,8 +178,10 @@ class Maker:
         k = self.r.random()
         if deep <= 0 or k < 0.14:
             return self.text(0)
-        if k < 0.22:
+        if k < 0.20:
             return self.pick(['P', 'A', '*A', '*P', '*S', '*X', '*INPUT'])
+        if k < 0.22:
+            return self.pick([self.item(deep - 1), '*T'])
         if k < 0.32:
             return self.pick(PATTERNS[:4] if self.chance(0.6) else PATTERNS)
         if k < 0.44:
@@ -185,11 +204,13 @@ class Maker:
             return self.text(deep)
         if k < 0.6:
             return self.number(deep)
-        if k < 0.75:
+        if k < 0.72:
             return self.pattern(deep)
-        if k < 0.9:
+        if k < 0.84:
             return self.variable()
-        return '*' + self.pick(NAMES)
+        if k < 0.91:
+            return self.pick(['T', 'U', 'TABLE()', 'TABLE(N)'] + [self.item(deep - 1)] * 4)
+        return '*' + self.pick(NAMES + TABLES)
 
     # statements
     def target(self):
@@ -204,7 +225,7 @@ class Maker:
         if k < 0.90:
             return '(END)'
         if k < 0.96:
-            return '($' + self.pick(["('L' N)", "'L1'", 'S', 'INPUT', 'A', "'RETURN'", '.L2']) + ')'
+            return '($' + self.pick(["('L' N)", "'L1'", 'S', 'INPUT', 'A', "'RETURN'", '.L2', self.item(1)]) + ')'
         return '(' + self.pick(['NOWHERE', 'NRETURN']) + ')'
 
     def goto(self):
@@ -222,8 +243,12 @@ class Maker:
     def body(self):
         k = self.r.random()
         deep = self.pick([1, 2, 2, 3])
-        if k < 0.30:
+        if k < 0.20:
             return self.assigned() + ' = ' + self.any(deep)
+        if k < 0.28:
+            return self.item(2) + ' =' + self.pick(['', ' ' + self.any(deep), ' ' + self.any(deep)])
+        if k < 0.30:
+            return self.pick(TABLES) + ' = ' + self.pick(['TABLE()'] * 5 + ['T', 'U', self.item(1), self.call(1)])
         if k < 0.42:
             return self.pick(['N', 'N', self.variable()]) + ' = ' + self.number(deep)
         if k < 0.52:
@@ -235,6 +260,8 @@ class Maker:
             return self.pick(['R', 'W', 'S', 'A', 'X']) + ' ='
         if k < 0.77:
             return self.group(self.text(deep)) + ' ' + self.pattern(deep)
+        if k < 0.80:
+            return self.item(2) + ' ' + self.pattern(deep) + self.pick(['', ' =', ' = ' + self.text(deep)])
         if k < 0.87:
             return self.variable() + ' ' + self.pattern(deep) + ' = ' + self.pick([self.text(deep), self.text(1), ''])
         if k < 0.93:
@@ -253,7 +280,7 @@ class Maker:
         for f in ['F', 'G'][:functions]:
             count = self.r.randint(0, 2)
             own = self.r.randint(0, 1)
-            args = self.r.sample(NAMES, count + own)
+            args = self.r.sample(NAMES + TABLES, count + own)
             lines.append("  DEFINE('%s(%s)%s')" % (f, ','.join(args[:count]), ','.join(args[count:])))
             self.functions.append((f, count))
             tail.append(f + ' ' + self.pick([f + ' = ' + self.any(2), self.body() or f]) + self.pick(['', ' :S(RETURN)F(FRETURN)', ' :(RETURN)']))
@@ -266,6 +293,10 @@ class Maker:
         if self.chance(0.7):
             lines.append("  A = %s; S = %s" % (self.pick(STRINGS), self.pick(STRINGS)))
             lines.append("  N = %s; P = %s" % (self.pick(NUMBERS[:6]), self.pattern(2)))
+        if self.chance(0.93):
+            lines.append("  T = TABLE(); U = " + self.pick(['TABLE()', 'TABLE()', 'T']))
+            lines += ['  ' + self.pick(['T<1>', "T<'A'>", 'U<1>', "U<'L2'>", 'T<U>']) + ' = ' + self.pick(STRINGS + NUMBERS + ['P', 'T', '*A'])
+                      for _ in range(self.r.randint(0, 3))]
         for i in range(n):
             self.at = i
             label = names[i] if names[i] in self.labels else ''

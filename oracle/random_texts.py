@@ -21,9 +21,19 @@ def mutated(r, s, characters):
     return ''.join(s)
 
 
+def key(r):
+    """a number or a text, in one of the ways that a program may write it"""
+    n = r.choice(['0', '1', '7', '12', '007', '9223372036854775807', '-1', '-0', ''])
+    return r.choice(["'%s'", '%s' if n else "'%s'", "+'%s'", "TRIM('%s ')", "('' '%s')", "'%s '", "-'%s'"]) % n
+
+
 def line(r):
     k = r.random()
-    if k < 0.35:
+    if k < 0.15:
+        a, b, c = key(r), key(r), mutated(r, r.choice(["'K%s'", "'1'", '12', '.K', "'a' 'B'", "X 'A'"]).replace('%s', text(r, 'AB', 1)), "'1A +")
+        return ["  T = TABLE(); U = TABLE()", "  T<%s> = 'X'; T<%s> = 'Y'; U<%s> = 'Z'" % (a, c, b),
+                "  OUTPUT = T<%s> T<%s> T<%s> U<%s> U<%s> '.' DATATYPE(T)" % (a, b, c, b, a)]
+    if k < 0.40:
         p = mutated(r, r.choice(['F(A,B)C,D', 'F()', ' F ( A ) ', 'F(A)', 'F()B', 'A.B_1(C9)', 'F( , )', 'F(A,B),']), 'AB1,( )._')
         return ["  DEFINE('%s'%s)" % (p, r.choice(['', '', ",'L'", ",' L'", ",ARB"])), "  OUTPUT = 'DEFINED'",
                 "  OUTPUT = F(1,2,3) :F(END)", 'F', 'L F = A B C D :(RETURN)'] if 'L' not in p else ["  X = 1"]

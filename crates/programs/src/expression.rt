@@ -38,6 +38,11 @@ pub fn put_expression(expression: &Expression, out: &mut Vec<u8>) -> Result<(), 
             put_arguments(arguments, out)?;
             put(b")", out)
         }
+        Expression::TableItem(name, key) => {
+            put_item(name, out)?;
+            put_expression(key, out)?;
+            put(b")", out)
+        }
         Expression::Unary(operator, operand) => {
             put_head(unary_text(*operator), out)?;
             put_expression(operand, out)?;
@@ -79,6 +84,14 @@ fn put_arguments(arguments: &Arguments, out: &mut Vec<u8>) -> Result<(), AllocEr
             put_expression(argument, out)
         }
     }
+}
+
+// What an item of a table begins with.
+fn put_item(name: &Line, out: &mut Vec<u8>) -> Result<(), AllocError>
+    ensures { OnOk result (out.new.items ≡ out.old.items ++ codes "(item " ++ name.now ++ codes " ") }
+{
+    put_word(b"(item ", name, out)?;
+    put(b" ", out)
 }
 
 // What an operator and its operands begin with.

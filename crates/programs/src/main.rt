@@ -16,6 +16,7 @@
 //! | `&TRIM`, `*F` | a keyword, an unevaluated variable |
 //! | `(group X)` | what stands in parentheses |
 //! | `(call F X null Y)` | a call; the second argument is empty |
+//! | `(item T X)` | an item of a table, by its key |
 //! | `(unary- X)` | a unary operator and its operand |
 //! | `(* X Y)`, `(cat X Y)` | a binary operator and its operands; `cat` is concatenation |
 //! | `(=)`, `(= X)` | the object: the null string, a value |

@@ -30,7 +30,7 @@ pub enum SyntaxCode {
     LabelTaken,
     /// P5: a variable must stand here.
     VariableNeeded,
-    /// P6: a statement has too many parentheses open at one place, or too many tokens.
+    /// P6: a statement has too many parentheses or `<` open at one place, or too many tokens.
     StatementTooLarge,
     /// P7: the label END elsewhere than on the END line, or an END line that names no start.
     BadEnd,

@@ -21,6 +21,7 @@ module _ {Q R K : Type 0} (begun : K → ℕ) (P : (A : Type 0) → ℕ → Talk
     pub used : (name : List ℕ) (st : K) → P Got (begun st) (keeping.used name st)
     pub assigned : (name : List ℕ) (v : Value) (st : K) → P Got (begun st) (keeping.assigned name v st)
     pub keyword_set : (name : List ℕ) (v : Value) (st : K) → begun (keeping.keyword_set name v st).1 ≡ begun st
+    pub item_set : (t k v : Value) (st : K) → begun (keeping.item_set t k v st).1 ≡ begun st
     pub matched : (text : List ℕ) (p : Value) (st : K) → P Matched (begun st) (keeping.matched text p st)
     pub noted : (A : Type 0) (number : ℕ) (st after : K) (t : Talk Q R (A × K)) → keeping.begun number st ≡ Some after
         → P A (begun after) t → P A (begun st) (keeping.noted >>= (λ _. t))
@@ -43,6 +44,8 @@ module _ {Q R K : Type 0} (begun : K → ℕ) (P : (A : Type 0) → ℕ → Talk
       assigned = λ name v st. grows.assigned name v st;
       keyword_set = λ name v st.
           subst (λ (n : ℕ). P Got n (Ends (keeping.keyword_set name v st))) (grows.keyword_set name v st) (done Got (keeping.keyword_set name v st));
+      item_set = λ t k v st.
+          subst (λ (n : ℕ). P Got n (Ends (keeping.item_set t k v st))) (grows.item_set t k v st) (done Got (keeping.item_set t k v st));
       matched = λ text p st. grows.matched text p st;
       entered = λ f vs entry st inside is t t' h. subst (λ (n : ℕ). P Got n t) (grows.entered f vs entry st inside is) h;
       left = λ got st. subst (λ (n : ℕ). P Got n (Ends (got, (keeping.left st).1))) (grows.left st) (done Got (got, (keeping.left st).1));

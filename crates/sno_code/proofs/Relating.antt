@@ -5,7 +5,7 @@ use Rattle.std.specs.Prelude.{take, drop}
 use Rattle.sno_talk.specs.Talks.{Talk, Ends, ◌>>=◌}
 use Rattle.sno_expression.specs.declared.tree.UnaryOperator.TheVariants as unary
 use Rattle.sno_expression.specs.Marks.{needs_variable}
-use Rattle.sno_expression.specs.Expressions.{Expression, Identifier, Constant, Keyword, Unevaluated, Group, Call, Unary, Binary}
+use Rattle.sno_expression.specs.Expressions.{Expression, Identifier, Constant, Keyword, Unevaluated, Group, Call, TableItem, Unary, Binary}
 use Rattle.sno_expression.specs.Expressions.{Arguments, NoArguments, Omitted, Argument}
 use Rattle.sno_syntax.specs.Labels.{LabelList}
 use Rattle.sno_value.specs.declared.value.Value.{Value}
@@ -15,13 +15,14 @@ use Rattle.sno_value.specs.Outcomes.{string}
 use Rattle.sno_code.specs.declared.got.Got.{Got}
 use Rattle.sno_code.specs.declared.got.Got.TheVariants.{Gives, Fails, Halts}
 use Rattle.sno_code.specs.Outcomes.{got_of, with_value, with_name_in}
+use Rattle.sno_code.specs.Operators.{table, key}
 use Rattle.sno_code.specs.Evaluation.{negated, Given, Values, Failing, Halting, with_values, one_more, given_too}
 use Rattle.sno_code.specs.Evaluation.{evaluate, name_of, evaluate_all}
 use Rattle.sno_code.specs.Keeping.{Setting, Keeping, Matched, Between, NoMatch, Stopped, Entered, Undefined, Enters, Refused, setting_of}
-use Rattle.sno_code.specs.Lines.{Act, Nothing, Uses, SetsKeyword, Assigns, Matches, Replaces}
+use Rattle.sno_code.specs.Lines.{Destination, Variable, ItemAt, Act, Nothing, Uses, SetsKeyword, Assigns, Matches, Replaces}
 use Rattle.sno_code.specs.Lines.{Point, At, End, Return, FailureReturn, Target, Following, To, Computed, Line, Lines, point_of}
 use Rattle.sno_code.specs.Execution.{Next, On, Over, with_text_in, with_match, computed_by, object_of, assign_all, match_then}
-use Rattle.sno_code.specs.Execution.{assign_string, named_then, perform, followed, goto_after, execute}
+use Rattle.sno_code.specs.Execution.{Place, OfName, OfItem, put, held, put_string, named_then, item_then, place_then, perform, followed, goto_after, execute}
 use Rattle.sno_code.specs.Running.{returned, go_from, call_by, executed, passed}
 
 module _ {Q R K : Type 0} (Related : (A : Type 0) → K → Talk Q R (A × K) → Talk Q R (A × K) → Type 0)
@@ -94,6 +95,7 @@ module _ {Q R K : Type 0} (Related : (A : Type 0) → K → Talk Q R (A × K) �
     pub assigned : (name : List ℕ) (v : Value) (st : K) → Related Got st (keeping.assigned name v st) (keeping.assigned name v st)
     pub keyword_set : (name : List ℕ) (v : Value) (st : K)
         → Related Got st (Ends (keeping.keyword_set name v st)) (Ends (keeping.keyword_set name v st))
+    pub item_set : (t k v : Value) (st : K) → Related Got st (Ends (keeping.item_set t k v st)) (Ends (keeping.item_set t k v st))
     pub matched : (text : List ℕ) (p : Value) (st : K) → Related Matched st (keeping.matched text p st) (keeping.matched text p st)
     pub entered : (f : List ℕ) (vs : List Value) (entry : List ℕ) (st inside : K) → keeping.entered f vs st ≡ Enters entry inside
         → (t t' : Talk Q R (Got × K)) → Related Got inside t t' → Related Got st t t'
@@ -118,6 +120,9 @@ module _ {Q R K : Type 0} (Related : (A : Type 0) → K → Talk Q R (A × K) �
         evaluates (Unevaluated n) st = done _ _
         evaluates (Group t) st = evaluates t st
         evaluates (Call f args) st = after (all_evaluate args st) (λ r. of_values r (λ vs st1. calls f vs st1))
+        evaluates (TableItem n t) st =
+            after (after (keeps.used n st) (λ r. of_value r (λ v st1. done _ _))) (λ r. of_value r (λ v st1.
+            after (evaluates t st1) (λ r2. of_value r2 (λ u st2. done _ _))))
         evaluates (Unary unary.Plus t) st = after (evaluates t st) (λ r. of_value r (λ v st1. done _ _))
         evaluates (Unary unary.Minus t) st = after (evaluates t st) (λ r. of_value r (λ v st1. done _ _))
         evaluates (Unary unary.Indirect t) st =
@@ -165,24 +170,46 @@ module _ {Q R K : Type 0} (Related : (A : Type 0) → K → Talk Q R (A × K) �
           → Related Got st (named_then keeping ev nm v st go) (named_then keeping ev' nm' v st go')
       named v st g = after (of_nm v st) (λ r. of_value r (λ u st1. of_name (text_of u) st1 (λ name. g name st1)))
 
-      strings : (name text : List ℕ) (st : K) → Related Got st (assign_string keeping name text st) (assign_string keeping name text st)
-      strings name text st = of_value (got_of (string (keeping.most st) text), st) (λ v st1. keeps.assigned name v st1)
+      -- the table and the key of an item
+      items : (t k : E) (st : K) {go go' : Value → Value → K → Talk Q R (Got × K)}
+          → ((v u : Value) (st1 : K) → Related Got st1 (go v u st1) (go' v u st1))
+          → Related Got st (item_then keeping ev nm t k st go) (item_then keeping ev' nm' t k st go')
+      items t k st g =
+          after (of_ev t st) (λ r. of_value r (λ v st1. of_value (got_of (table v), st1) (λ holder st2.
+          after (of_ev k st2) (λ r2. of_value r2 (λ u st3. of_value (got_of (key u), st3) (λ by st4. g holder by st4))))))
+
+      placed : (d : Destination E N) (st : K) {go go' : Place → K → Talk Q R (Got × K)}
+          → ((place : Place) (st1 : K) → Related Got st1 (go place st1) (go' place st1))
+          → Related Got st (place_then keeping ev nm d st go) (place_then keeping ev' nm' d st go')
+      placed (Variable v) st g = named v st (λ name st1. g (OfName name) st1)
+      placed (ItemAt t k) st g = items t k st (λ v u st1. g (OfItem v u) st1)
+
+      puts : (place : Place) (v : Value) (st : K) → Related Got st (put keeping place v st) (put keeping place v st)
+      puts (OfName name) v st = keeps.assigned name v st
+      puts (OfItem t k) v st = keeps.item_set t k v st
+
+      holds : (place : Place) (st : K) → Related Got st (held keeping place st) (held keeping place st)
+      holds (OfName name) st = keeps.used name st
+      holds (OfItem t k) st = done _ _
+
+      strings : (place : Place) (text : List ℕ) (st : K) → Related Got st (put_string keeping place text st) (put_string keeping place text st)
+      strings place text st = of_value (got_of (string (keeping.most st) text), st) (λ v st1. puts place v st1)
 
       performs : (a : Act E N) (st : K) → Related Got st (perform keeping ev nm a st) (perform keeping ev' nm' a st)
       performs Nothing st = done _ _
       performs (Uses e) st = of_ev e st
       performs (SetsKeyword name object) st = after (objects object st) (λ r. of_value r (λ v st1. keeps.keyword_set name v st1))
-      performs (Assigns variable object) st =
-          named variable st (λ name st1. after (objects object st1) (λ r. of_value r (λ v st2. keeps.assigned name v st2)))
+      performs (Assigns destination object) st =
+          placed destination st (λ place st1. after (objects object st1) (λ r. of_value r (λ v st2. puts place v st2)))
       performs (Matches subject pattern) st =
           after (of_ev subject st) (λ r. of_value r (λ v st1.
           of_text (text_of v) st1 (λ text. matched_then text pattern st1 (λ from to st2. done _ _))))
-      performs (Replaces variable pattern object) st =
-          named variable st (λ name st1.
-          after (keeps.used name st1) (λ r. of_value r (λ v st2.
+      performs (Replaces destination pattern object) st =
+          placed destination st (λ place st1.
+          after (holds place st1) (λ r. of_value r (λ v st2.
           of_text (text_of v) st2 (λ text. matched_then text pattern st2 (λ from to st3.
           after (objects object st3) (λ r4. of_value r4 (λ w st4.
-          of_text (text_of w) st4 (λ part. strings name (take from text ++ (part ++ drop to text)) st4))))))))
+          of_text (text_of w) st4 (λ part. strings place (take from text ++ (part ++ drop to text)) st4))))))))
 
       follows : (labels : LabelList) (t : Target E) (i : ℕ) (st : K)
           → Related Next st (followed keeping ev nm labels t i st) (followed keeping ev' nm' labels t i st)

@@ -4,7 +4,7 @@ use Rattle.std.specs.Prelude.{Bool, false, not, ◌&&◌, ◌++◌, List, [], �
 use Rattle.sno_expression.specs.declared.tree.BinaryOperator.{BinaryOperator}
 use Rattle.sno_expression.specs.declared.tree.BinaryOperator.TheVariants.{Concatenation}
 use Rattle.sno_expression.specs.Marks.{needs_variable, operand_is_variable}
-use Rattle.sno_expression.specs.Expressions.{Expression, Arguments, Identifier, Constant, Keyword, Unevaluated, Group, Call, Unary, Binary, NoArguments, Omitted, Argument, is_variable}
+use Rattle.sno_expression.specs.Expressions.{Expression, Arguments, Identifier, Constant, Keyword, Unevaluated, Group, Call, TableItem, Unary, Binary, NoArguments, Omitted, Argument, is_variable}
 
 -- between two operands stands a mark, and none where they are concatenated
 abbrev pub between : BinaryOperator → List Bool
@@ -25,6 +25,7 @@ abbrev mutual
   lacking needed (Unevaluated n) = needed ∷ false ∷ []
   lacking needed (Group t) = needed ∷ (lacking false t ++ false ∷ [])
   lacking needed (Call f args) = needed ∷ false ∷ (lacking_among args ++ false ∷ [])
+  lacking needed (TableItem n t) = needed ∷ false ∷ (lacking false t ++ false ∷ [])
   lacking needed (Unary s t) = (needed && not (is_variable (Unary s t))) ∷ lacking (operand_is_variable s) t
   lacking needed (Binary o l r) = lacking needed l ++ (between o ++ lacking (needs_variable o) r)
 

@@ -17,7 +17,7 @@ use Rattle.sno_keeping.specs.Matching.{matched}
 use Rattle.sno_keeping.specs.Calling.{begun}
 use Rattle.sno_keeping.specs.Primitives.{primitive}
 use Rattle.sno_keeping.specs.State.{keeping}
-use Rattle.sno_keeping.proofs.Counting.{Inside, used_stays, assigned_stays, keyword_stays, matched_stays, entered_stays, left_stays, primitive_stays}
+use Rattle.sno_keeping.proofs.Counting.{Inside, used_stays, assigned_stays, keyword_stays, item_stays, matched_stays, entered_stays, left_stays, primitive_stays}
 use Rattle.sno_code.proofs.Growing.{Grows}
 
 -- so many statements have begun: each that begins is one more, within the limit; and what it ends with tells how many
@@ -85,6 +85,7 @@ state_grows limits = record {
   used = λ name s. tallied_lifted limits.statements _ s.keywords.begun (used name s) (used_stays s.keywords.begun name s refl);
   assigned = λ name v s. tallied_lifted limits.statements _ s.keywords.begun (assigned name v s) (assigned_stays s.keywords.begun name v s refl);
   keyword_set = λ name v s. keyword_stays s.keywords.begun name v s refl;
+  item_set = λ t k v s. item_stays s.keywords.begun t k v s refl;
   matched = λ text p s. tallied_lifted limits.statements _ s.keywords.begun (matched limits.steps text p s) (matched_stays s.keywords.begun limits.steps text p s refl);
   noted = λ A number s after t is h.
       let one : One limits.statements s (Some after) = subst (λ (o : Option State). One limits.statements s o) is (one_begun limits.statements number s) in

@@ -7,7 +7,7 @@ pub enum FaultKind {
     BadConstant,
     /// A character that begins no token, or a literal or label with a character outside ASCII 32 to 126.
     Foreign,
-    /// The 101st open parenthesis, or the 1,001st token.
+    /// The 101st open parenthesis or angular bracket, or the 1,001st token.
     TooMany,
 }
 

@@ -12,7 +12,7 @@ use Rattle.sno_token.specs.declared.TokenKind.TheVariants as token
 use Rattle.sno_expression.specs.Spelling.{spaced}
 use Rattle.sno_expression.specs.declared.tree.BinaryOperator.TheVariants as operator
 use Rattle.sno_expression.specs.declared.tree.UnaryOperator.TheVariants as unary
-use Rattle.sno_expression.specs.Expressions.{Expression, Identifier, Constant, Keyword, Group, Call, Unary, Binary, NoArguments, Omitted, Argument}
+use Rattle.sno_expression.specs.Expressions.{Expression, Identifier, Constant, Keyword, Group, Call, TableItem, Unary, Binary, NoArguments, Omitted, Argument}
 use Rattle.sno_statement.specs.declared.fault.Fault.{Fault}
 use Rattle.sno_statement.specs.declared.fault.FaultKind.TheVariants.{MissingBlank, Unfit, NoVariable}
 use Rattle.sno_statement.specs.Statements.{Target, To, Computed, NoGoto, Always, OnSuccess, OnFailure, OnBoth, NoObject, NullObject, ValueObject, NoBody, Does, Statement, Says}
@@ -253,6 +253,30 @@ group_set = refl
 -- .X = 1
 name_set : fault (mark true false Dot ∷ name false 88 ∷ equals true true ∷ one true ∷ []) ≡ Some (FaultAt 0 NoVariable)
 name_set = refl
+
+-- T<1> = 1
+item_set : answer (name true 84 ∷ spaced false false token.OpenAngle ∷ one false ∷ spaced false false token.CloseAngle ∷ equals true true ∷ one true ∷ []) ≡ (Some (Says (Does (TableItem (84 ∷ []) unit) None (ValueObject unit)) (NoGoto)), None)
+item_set = refl
+
+-- T <1> = 1
+item_apart : fault (name true 84 ∷ spaced true false token.OpenAngle ∷ one false ∷ spaced false false token.CloseAngle ∷ equals true true ∷ one true ∷ []) ≡ Some (FaultAt 1 MissingBlank)
+item_apart = refl
+
+-- T<>
+item_of_nothing : fault (name true 84 ∷ spaced false false token.OpenAngle ∷ spaced false false token.CloseAngle ∷ []) ≡ Some (FaultAt 2 Unfit)
+item_of_nothing = refl
+
+-- T<1><1>
+item_of_an_item : fault (name true 84 ∷ spaced false false token.OpenAngle ∷ one false ∷ spaced false false token.CloseAngle ∷ spaced false false token.OpenAngle ∷ one false ∷ spaced false false token.CloseAngle ∷ []) ≡ Some (FaultAt 4 Unfit)
+item_of_an_item = refl
+
+-- T<1)
+item_closed_by_a_parenthesis : fault (name true 84 ∷ spaced false false token.OpenAngle ∷ one false ∷ spaced false false token.Close ∷ []) ≡ Some (FaultAt 3 Unfit)
+item_closed_by_a_parenthesis = refl
+
+-- X P . T<1>
+assigned_item : fault (name true 88 ∷ name true 80 ∷ mark true true Dot ∷ name true 84 ∷ spaced false false token.OpenAngle ∷ one false ∷ spaced false false token.CloseAngle ∷ []) ≡ Some (FaultAt 3 NoVariable)
+assigned_item = refl
 
 -- 'A' P . (V) = 1
 subject_before_pattern : fault (one true ∷ name true 80 ∷ mark true true Dot ∷ spaced true false token.Open ∷ name false 86 ∷ spaced false false token.Close ∷ equals true true ∷ one true ∷ []) ≡ Some (FaultAt 0 NoVariable)

@@ -12,15 +12,15 @@ use Rattle.sno_expression.specs.declared.tree.UnaryOperator.{UnaryOperator}
 use Rattle.sno_expression.specs.declared.tree.UnaryOperator.TheVariants as unary
 use Rattle.sno_expression.specs.declared.tree.Prefix.TheVariants.{OfOperand}
 use Rattle.sno_expression.specs.declared.walking.Paren.{Paren}
-use Rattle.sno_expression.specs.declared.walking.Paren.TheVariants.{OfGroup, OfCall}
+use Rattle.sno_expression.specs.declared.walking.Paren.TheVariants.{OfGroup, OfCall, OfItem}
 use Rattle.sno_expression.specs.declared.walking.Position.{Position}
 use Rattle.sno_expression.specs.declared.walking.Position.TheVariants.{AtStart, AfterBinary, AfterUnary, AfterPrefix, AfterIdentifier, AfterOperand}
 use Rattle.sno_expression.specs.declared.walking.Move.{Move}
 use Rattle.sno_expression.specs.declared.walking.Move.TheVariants as move
 use Rattle.sno_expression.specs.Marks.{prefix_of, needs_variable, operand_is_variable}
-use Rattle.sno_expression.specs.Expressions.{Expression, Arguments, Identifier, Constant, Keyword, Unevaluated, Group, Call, Unary, Binary, NoArguments, Omitted, Argument, AreSome, IsOperand, HasLevels, HaveLevels, is_variable}
+use Rattle.sno_expression.specs.Expressions.{Expression, Arguments, Identifier, Constant, Keyword, Unevaluated, Group, Call, TableItem, Unary, Binary, NoArguments, Omitted, Argument, AreSome, IsOperand, HasLevels, HaveLevels, is_variable}
 use Rattle.sno_expression.specs.Spelling.{spaced, Joins, Parts, SpellsTo, SpellTo}
-use Rattle.sno_expression.specs.inner.Walking.{begin, prefixed, joined, first, go_on, stops, step, begins_variable, is_misfit, misfit_index, inner_of, outer_of, ends, after_operand}
+use Rattle.sno_expression.specs.inner.Walking.{begin, prefixed, joined, first, go_on, stops, step, begins_variable, is_misfit, misfit_index, inner_of, outer_of, ends, after_operand, paren_of}
 use Rattle.sno_statement.specs.declared.walking.Field.{Field}
 use Rattle.sno_statement.specs.declared.walking.Stage.TheVariants.{In}
 use Rattle.sno_statement.specs.declared.walking.SubjectKind.{SubjectKind}
@@ -61,6 +61,7 @@ Due w ps f b needed = (k : SubjectKind) (i : ℕ) (a : Bool) (u : TokenKind) (ts
 pub firsts : (q : Option Paren) (a : Bool) (u : TokenKind) (m : Move) → begin false a u ≡ Some m → first q a u ≡ Some m
 firsts None a u m e = e
 firsts (Some OfGroup) a u m e = e
+firsts (Some OfItem) a u m e = e
 firsts (Some OfCall) a token.Close m e = cc
 firsts (Some OfCall) a token.Comma m e = cc
 firsts (Some OfCall) a _ m e = e
@@ -77,6 +78,8 @@ due_unary ps f w k i a u ts m e = stepped k i ps f (AfterUnary w) false a u ts m
 blank_goes : (q : Option Paren) (a : Bool) (u : TokenKind) (m : Move) → begin false a u ≡ Some m → go_on q true a u ≡ Some m
 blank_goes q a token.Close m e = cc
 blank_goes q a token.Comma m e = cc
+blank_goes q a token.OpenAngle m e = cc
+blank_goes q a token.CloseAngle m e = cc
 blank_goes q true (token.Mark n) m e = cc
 blank_goes q false (token.Mark n) m e = e
 blank_goes q a (token.Identifier n) m e = e
@@ -90,11 +93,11 @@ goes al q b a u m c e = ap (λ (x : Bool). if x then None else go_on q b a u) c 
 due_blank : (ps : List Paren) (f : Field) → stops (alone f) (inner_of ps) ≡ false → Due (At ps (In f AfterOperand)) ps f true false
 due_blank ps f c k i a u ts m e = stepped k i ps f AfterOperand true a u ts m (goes (alone f) (inner_of ps) true a u m c (blank_goes (inner_of ps) a u m e))
 
--- an identifier that opens no call is an operand
+-- an identifier behind which no bracket opens is an operand
 named : (k : SubjectKind) (i : ℕ) (ps : List Paren) (f : Field) (w : Bool) (ts : List Token) → Apart ts → noted_from k i (At ps (In f (AfterIdentifier w))) ts ≡ noted_from k i (At ps (In f AfterOperand)) ts
 named k i ps f w [] a = refl
 named k i ps f w (t ∷ ts) a =
-    ap (λ (c : Bool). then_note (advanced ps (in_field f (ends (inner_of ps) (AfterIdentifier w)) t (if c then Some (move.Into OfCall AtStart) else after_operand (alone f) (inner_of ps) t.blank_before t.blank_after t.kind)))
+    ap (λ (c : Bool). then_note (advanced ps (in_field f (ends (inner_of ps) (AfterIdentifier w)) t (if c then Some (move.Into (paren_of t.kind) AtStart) else after_operand (alone f) (inner_of ps) t.blank_before t.blank_after t.kind)))
     (λ v. least (least (note (w && c) (i - 1)) (note (is_unset k f (role t)) 0)) (noted_from k (i + 1) v ts))) a
     ∙ (ap (λ (c : Bool). then_note (advanced ps (in_field f (ends (inner_of ps) (AfterIdentifier w)) t (after_operand (alone f) (inner_of ps) t.blank_before t.blank_after t.kind)))
     (λ v. least (least (note c (i - 1)) (note (is_unset k f (role t)) 0)) (noted_from k (i + 1) v ts))) (and_false w)
@@ -152,6 +155,7 @@ apart_blank (Keyword n) ts rest s = subst Apart (sym s.1) refl
 apart_blank (Unevaluated n) ts rest s = subst Apart (sym s.1) refl
 apart_blank (Group t) ts rest s = subst Apart (sym s.5) refl
 apart_blank (Call f args) ts rest s = subst Apart (sym s.5) refl
+apart_blank (TableItem n t) ts rest s = subst Apart (sym s.6) refl
 apart_blank (Unary k t) ts rest s = subst Apart (sym s.3) refl
 apart_blank (Binary o l r) ts rest s = apart_blank l ts s.0 s.2
 
@@ -255,6 +259,19 @@ mutual
       ∙ (marked_same (lacking_among args) (λ j. noted_from k j (past ps f args) (spaced s.3 s.4 token.Close ∷ rest)) (λ j. noted_from k (j + 1) (At ps (In f AfterOperand)) rest) (i + 1 + 1)
       (λ j. call_closed args k j ps f s.3 s.4 rest v.0)
       ∙ sym (marked_append (lacking_among args) (false ∷ []) (λ j. noted_from k j (At ps (In f AfterOperand)) rest) (i + 1 + 1)))))))))
+  tree_noted (TableItem n t) k i w ps f b needed ts rest d v u s x =
+      let back : i + 1 - 1 ≡ i = omega arith in
+      ap (noted_from k i w) s.6
+      ∙ (d k i s.1 (token.Identifier n) (spaced false s.2 token.OpenAngle ∷ s.0) (move.Within (AfterIdentifier needed)) refl
+      ∙ (ap (λ (c : Bool). least (note c i) (noted_from k (i + 1) (At ps (In f (AfterIdentifier needed))) (spaced false s.2 token.OpenAngle ∷ s.0))) (and_false needed)
+      ∙ (stepped k (i + 1) ps f (AfterIdentifier needed) false s.2 token.OpenAngle s.0 (move.Into OfItem AtStart) refl
+      ∙ (ap (λ (c : Bool). least (note c (i + 1 - 1)) (noted_from k (i + 1 + 1) (At (OfItem ∷ ps) (In f AtStart)) s.0)) (and_true needed)
+      ∙ (ap (λ (p : ℕ). least (note needed p) (noted_from k (i + 1 + 1) (At (OfItem ∷ ps) (In f AtStart)) s.0)) back
+      ∙ ap (least (note needed i)) (
+      tree_noted t k (i + 1 + 1) (At (OfItem ∷ ps) (In f AtStart)) (OfItem ∷ ps) f s.3 false s.0 (spaced s.4 s.5 token.CloseAngle ∷ rest) (due_start (OfItem ∷ ps) f s.3) v tt s.7 refl
+      ∙ (marked_same (lacking false t) (λ j. noted_from k j (At (OfItem ∷ ps) (In f AfterOperand)) (spaced s.4 s.5 token.CloseAngle ∷ rest)) (λ j. noted_from k (j + 1) (At ps (In f AfterOperand)) rest) (i + 1 + 1)
+      (λ j. stepped k j (OfItem ∷ ps) f AfterOperand s.4 s.5 token.CloseAngle rest (move.Out AfterOperand) refl)
+      ∙ sym (marked_append (lacking false t) (false ∷ []) (λ j. noted_from k j (At ps (In f AfterOperand)) rest) (i + 1 + 1)))))))))
   tree_noted (Unary o t) k i w ps f b needed ts rest d v u s x =
       ap (noted_from k i w) s.3
       ∙ (d k i false (token.Mark s.1) s.0 (move.Within (AfterUnary (operand_is_variable o))) (ap prefixed s.2)

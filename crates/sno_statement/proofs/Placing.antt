@@ -17,9 +17,9 @@ use Rattle.sno_expression.specs.declared.tree.UnaryOperator.TheVariants as unary
 use Rattle.sno_expression.specs.declared.walking.Position.TheVariants.{AtStart, AfterUnary, AfterOperand}
 use Rattle.sno_expression.specs.declared.walking.Move.{Move}
 use Rattle.sno_expression.specs.declared.walking.Move.TheVariants as move
-use Rattle.sno_expression.specs.Expressions.{Expression, Arguments, Identifier, Constant, Keyword, Unevaluated, Group, Call, Unary, Binary, NoArguments, Omitted, Argument, IsOperand, HasLevels, is_variable}
+use Rattle.sno_expression.specs.Expressions.{Expression, Arguments, Identifier, Constant, Keyword, Unevaluated, Group, Call, TableItem, Unary, Binary, NoArguments, Omitted, Argument, IsOperand, HasLevels, is_variable}
 use Rattle.sno_expression.specs.Spelling.{spaced, Joins, Parts, SpellsTo, SpellTo}
-use Rattle.sno_expression.specs.inner.Walking.{begin, opens_call}
+use Rattle.sno_expression.specs.inner.Walking.{begin, opens_bracket}
 use Rattle.sno_expression.specs.inner.Reading.{Stops}
 use Rattle.sno_statement.specs.declared.walking.Field.TheVariants.{Subject, Pattern, Object as Given, Target as InComputed}
 use Rattle.sno_statement.specs.declared.walking.Stage.TheVariants.{First, In, AfterEquals, AfterColon, AfterOutcome, InTarget, AfterTarget}
@@ -172,6 +172,7 @@ mutual
   tree_names (Unevaluated n) b ts rest s = ap named_first s.1
   tree_names (Group t) b ts rest s = ap named_first s.5 ∙ tree_names t s.2 s.0 (spaced s.3 s.4 token.Close ∷ rest) s.6
   tree_names (Call f args) b ts rest s = ap named_first s.5 ∙ arguments_name args s.0 (spaced s.3 s.4 token.Close ∷ rest) s.6
+  tree_names (TableItem n t) b ts rest s = ap named_first s.6 ∙ tree_names t s.3 s.0 (spaced s.4 s.5 token.CloseAngle ∷ rest) s.7
   tree_names (Unary o t) b ts rest s = ap named_first s.3 ∙ tree_names t false s.0 rest s.4
   tree_names (Binary o l r) b ts rest s = tree_names l b ts s.0 s.2 ∙ (join_names o s.0 s.1 s.3 ∙ tree_names r true s.1 rest s.4)
 
@@ -193,10 +194,13 @@ stops_apart : (al : Bool) (ts : List Token) → Stops al ts → Apart ts
 stops_apart al [] s = tt
 stops_apart al (t ∷ ts) s = at al t.blank_before t.kind s
   where
-    at : (al b : Bool) (u : TokenKind) → Stops al (spaced b false u ∷ []) → opens_call b u ≡ false
+    at : (al b : Bool) (u : TokenKind) → Stops al (spaced b false u ∷ []) → opens_bracket b u ≡ false
     at al true token.Open s = refl
     at true false token.Open s = absurd s
     at false false token.Open s = absurd s
+    at al true token.OpenAngle s = refl
+    at true false token.OpenAngle s = absurd s
+    at false false token.OpenAngle s = absurd s
     at al b _ s = refl
 
 -- A PART BEGINS
@@ -300,6 +304,7 @@ lifted (Keyword n) u on i h = refl
 lifted (Unevaluated n) u on i h = refl
 lifted (Group t) u on i h = refl
 lifted (Call f args) u on i h = refl
+lifted (TableItem n t) u on i h = refl
 lifted (Unary o t) u on i h = ap (λ (c : Bool). least (note c 0) (marked (lacking (operand_is_variable o) t) on 1)) (sym (and_wrong u (is_variable (Unary o t)) h))
 lifted (Binary o l r) u on i h = absurd i
 

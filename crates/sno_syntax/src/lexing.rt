@@ -51,7 +51,7 @@ pub(crate) fn tokens_of(
 ///
 /// The first refusal: `Unexpected` for a label that begins with something else than a letter or digit; then, from left to
 /// right, `BadConstant` for a literal that is not closed and an integer above 9,223,372,036,854,775,807, `Unexpected` for
-/// a character that begins no token, and `StatementTooLarge` at the 101st open parenthesis and the 1,001st token. A label
+/// a character that begins no token, and `StatementTooLarge` at the 101st open parenthesis or `<` and the 1,001st token. A label
 /// that may not stand there, as END, is told by `parse` alone. `Memory` where a growth was refused, and only for a text
 /// that is not refused.
 pub fn lex(alloc: Global, text: &StatementText) -> Result<Tokens<'_>, Stop<SyntaxError>>

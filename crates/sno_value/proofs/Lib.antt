@@ -4,3 +4,4 @@ mod Powers
 mod Strings
 mod Replacing
 mod Lawful
+pub mod Refusing

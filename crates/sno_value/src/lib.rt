@@ -5,6 +5,7 @@
 #![tactic(auto)]
 
 pub mod calculating;
+mod forming;
 pub mod joining;
 pub mod laws;
 mod numeral;

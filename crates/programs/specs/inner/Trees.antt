@@ -7,7 +7,7 @@ use Rattle.sno_expression.specs.declared.tree.BinaryOperator.{BinaryOperator}
 use Rattle.sno_expression.specs.declared.tree.BinaryOperator.TheVariants as operator
 use Rattle.sno_expression.specs.declared.tree.UnaryOperator.{UnaryOperator}
 use Rattle.sno_expression.specs.declared.tree.UnaryOperator.TheVariants as unary
-use Rattle.sno_expression.specs.Expressions.{Expression, Arguments, Identifier, Constant, Keyword, Unevaluated, Group, Call, Unary, Binary, NoArguments, Omitted, Argument}
+use Rattle.sno_expression.specs.Expressions.{Expression, Arguments, Identifier, Constant, Keyword, Unevaluated, Group, Call, TableItem, Unary, Binary, NoArguments, Omitted, Argument}
 
 abbrev pub operator_text : BinaryOperator → List ℕ
 operator_text operator.Concatenation = codes "cat"
@@ -41,6 +41,7 @@ abbrev mutual
   expression_text (Unevaluated name) = codes "*" ++ name
   expression_text (Group inner) = codes "(group " ++ expression_text inner ++ codes ")"
   expression_text (Call name arguments) = codes "(call " ++ name ++ arguments_text arguments ++ codes ")"
+  expression_text (TableItem name key) = codes "(item " ++ name ++ codes " " ++ expression_text key ++ codes ")"
   expression_text (Unary operator operand) = codes "(" ++ unary_text operator ++ codes " " ++ expression_text operand ++ codes ")"
   expression_text (Binary operator left right) =
       codes "(" ++ operator_text operator ++ codes " " ++ expression_text left ++ codes " " ++ expression_text right ++ codes ")"

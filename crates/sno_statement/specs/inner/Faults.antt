@@ -5,7 +5,7 @@ use Rattle.sno_token.specs.declared.Token.{Token}
 use Rattle.sno_token.specs.declared.TokenKind.{TokenKind}
 use Rattle.sno_token.specs.declared.TokenKind.TheVariants as token
 use Rattle.sno_expression.specs.Spelling.{spaced}
-use Rattle.sno_expression.specs.inner.Walking.{opens_call, is_misfit, misfit_index}
+use Rattle.sno_expression.specs.inner.Walking.{is_misfit, misfit_index}
 use Rattle.sno_statement.specs.declared.fault.FaultKind.{FaultKind}
 use Rattle.sno_statement.specs.declared.fault.FaultKind.TheVariants.{MissingBlank, Unfit, NoVariable}
 use Rattle.sno_statement.specs.declared.fault.Fault.{Fault}
@@ -48,10 +48,15 @@ refusal_from i w (t ∷ ts) = then_on (take w t) (Some (FaultAt i (refused_as w 
 abbrev pub refusal : List Token → Option Fault
 refusal ts = refusal_from 0 begins ts
 
+-- a parenthesis that touches what stands before it makes a call
+abbrev pub touches : Bool → TokenKind → Bool
+touches b token.Open = not b
+touches b _ = false
+
 -- what the subject is, by the first two tokens
 abbrev pub opens : List Token → Bool
 opens [] = false
-opens (t ∷ ts) = opens_call t.blank_before t.kind
+opens (t ∷ ts) = touches t.blank_before t.kind
 
 abbrev pub kind_by : TokenKind → Bool → SubjectKind
 kind_by (token.Identifier n) call = if call then kind.Other else kind.Variable
