@@ -1,5 +1,5 @@
 -- The first reason of all is the one for which a load refuses a job.
-use Rattle.std.proofs.Common.{◌≡◌, ℕ, ◌+◌, Bool, true, false, List, [], ◌∷◌, ◌++◌, Option, Some, None, Result, Ok, Err, refl, sym, ap, ◌∙◌}
+use Rattle.std.proofs.Common.{◌≡◌, ℕ, ◌+◌, Bool, true, false, List, [], ◌∷◌, ◌++◌, Option, Some, None, Result, Ok, Err, refl, sym, ap, ◌∙◌, append_assoc}
 use Rattle.std.specs.Prelude.{option_map, replicate, slice_set, is_none}
 use Rattle.std.specs.Bool.{then_some}
 use Rattle.std.specs.Option.{option_or}
@@ -90,7 +90,8 @@ first_refusal accounts deck =
     let ties = ties_refused deck.ties (replicate 100 false) in
     let program = program_refused (statements_of deck.lines) in
     let all = all_by deck.ties (data_of deck.lines (statements_of deck.lines)) in
-    of_listed account (ties ++ program)
+    ap first_of (append_assoc (listed account) ties program)
+    ∙ of_listed account (ties ++ program)
     ∙ ap (λ o. option_or account o)
     (of_both ties program
     ∙ ap (λ o. option_or o (first_of program)) (of_ties deck.ties (replicate 100 false) ∙ ap (option_map Cards) (sym all))

@@ -18,7 +18,7 @@ module _ (texts : List (List Placed)) (labels next : LabelList) (i : ℕ) (text 
       let reasons = syntax_listed (statement_refusal labels text) in
       ap (λ reached. reached ++ statements_refused next (i + 1) rest) put
       ∙ append_assoc before reasons (statements_refused next (i + 1) rest)
-      ∙ ap (λ ls. before ++ reasons ++ statements_refused ls (i + 1) rest) noted
+      ∙ ap (λ ls. before ++ (reasons ++ statements_refused ls (i + 1) rest)) noted
       ∙ sym (ap (λ ts. before ++ statements_refused labels i ts) here)
       ∙ so_far
 

@@ -53,7 +53,7 @@ ties_more cards i card tied after before found whole lt is so_far put next =
     let reasons = tie_listed (refused_by card.unit tied) in
     ap (λ reached. reached ++ ties_refused rest after) put
     ∙ append_assoc before reasons (ties_refused rest after)
-    ∙ ap (λ a. before ++ reasons ++ ties_refused rest a) next
+    ∙ ap (λ a. before ++ (reasons ++ ties_refused rest a)) next
     ∙ sym (ap (λ (c : UnitCard). before ++ ties_refused (c ∷ rest) tied) is)
     ∙ sym (ap (λ reasons. before ++ reasons) (at_drop_more (λ (cs : List UnitCard). ties_refused cs tied) cards i card lt))
     ∙ so_far
