@@ -88,7 +88,7 @@ pub(crate) fn after_refused(
 fn at_set(stage: Stage) -> (Stage, bool) {
     match stage {
         Stage::Catalogue(sets) => (Stage::Catalogue(sets), false),
-        _ => (Stage::Catalogue(opened(Version::Two)), true),
+        _other => (Stage::Catalogue(opened(Version::Two)), true),
     }
 }
 
