@@ -9,6 +9,15 @@ use mon_text::{Name, read_name};
 use std::alloc::{AllocError, Global};
 use std::convert::AsStr;
 
+/// What is asked of a deck.
+#[derive(Drop)]
+pub enum Asked {
+    /// A listing of its jobs and its mistakes; where it is quiet, of its mistakes alone.
+    Listing { quiet: bool },
+    /// Who may do what.
+    Access(Question),
+}
+
 /// What the words of a command line ask. The first word is the program's name.
 ///
 /// # Errors
@@ -16,18 +25,45 @@ use std::convert::AsStr;
 /// Where the words ask nothing: an unknown one, one that is given twice, a name that is none, or a call for help or for the
 /// version. The text of the error, which is that of the help and the version too, is `clap`'s. Its kind is `OutOfMemory` where
 /// a growth was refused.
-pub fn read_question<S: AsStr>(alloc: Global, words: &[S]) -> Result<Question, Error> {
+pub fn read_asked<S: AsStr>(alloc: Global, words: &[S]) -> Result<Asked, Error> {
     let matches = command(alloc)?.try_get_matches_from(words)?;
-    if !matches.get_flag("access") {
-        return Err(nothing_asked(alloc)?);
+    if matches.get_flag("access") {
+        read_access(alloc, &matches)
+    } else {
+        read_listing(alloc, &matches)
     }
-    let account = name_in(alloc, &matches, "account")?;
-    let set = name_in(alloc, &matches, "set")?;
-    Ok(Question {
+}
+
+// What is asked where it is who may do what.
+fn read_access(alloc: Global, matches: &ArgMatches) -> Result<Asked, Error> {
+    if matches.get_flag("quiet") {
+        return Err(in_conflict(alloc, "--quiet goes without --access")?);
+    }
+    let account = name_in(alloc, matches, "account")?;
+    let set = name_in(alloc, matches, "set")?;
+    Ok(Asked::Access(Question {
         account,
         set,
-        form: form_in(&matches),
+        form: form_in(matches),
+    }))
+}
+
+// What is asked where it is a listing.
+fn read_listing(alloc: Global, matches: &ArgMatches) -> Result<Asked, Error> {
+    if narrows(matches) {
+        let text = "--csv, --account and --set go with --access";
+        return Err(in_conflict(alloc, text)?);
+    }
+    Ok(Asked::Listing {
+        quiet: matches.get_flag("quiet"),
     })
+}
+
+// Whether an option is given that narrows who may do what.
+fn narrows(matches: &ArgMatches) -> bool {
+    matches.get_flag("csv")
+        || matches.get_str("account").is_some()
+        || matches.get_str("set").is_some()
 }
 
 // Whether the lines are to have fields.
@@ -52,11 +88,8 @@ fn name_in(alloc: Global, matches: &ArgMatches, id: &str) -> Result<Option<Name>
     }
 }
 
-fn nothing_asked(alloc: Global) -> Result<Error, AllocError> {
-    command(alloc)?.error(
-        ErrorKind::MissingRequiredArgument,
-        "nothing is asked: --access asks who may do what",
-    )
+fn in_conflict(alloc: Global, text: &str) -> Result<Error, AllocError> {
+    command(alloc)?.error(ErrorKind::ArgumentConflict, text)
 }
 
 fn no_name(alloc: Global) -> Result<Error, AllocError> {
@@ -77,13 +110,14 @@ pub fn no_text(alloc: Global) -> Result<Error, AllocError> {
 
 // What follows the list of options in the help.
 const AFTER_HELP: &str =
-    "The deck comes from standard input, and only what stands before its stream is read:
+    "The deck comes from standard input. Without --access its jobs are listed with all mistakes:
 
-  listing --access < payroll.deck
+  listing < payroll.deck
 
-Exit status: 0 where all was told; 1 where the deck is refused before its stream, or has no
-account or data set of the name that is asked about; 2 where the words ask nothing, or ask for
-this help or the version, which go to standard error; 3 where reading, writing or memory failed.
+Exit status: 0 where there is no mistake, or all was told of who may do what; 1 where there is
+one, or the deck is refused before its stream or has no account or data set of the name that is
+asked about; 2 where the words ask nothing, or ask for this help or the version, which go to
+standard error; 3 where reading, writing or memory failed.
 ";
 
 // The program's options, as `clap` knows them. Help and version are among them without being named.
@@ -94,16 +128,21 @@ fn command<'a>(alloc: Global) -> Result<Command<'a>, AllocError> {
         .after_help(AFTER_HELP)
         .arg(flag(
             alloc,
+            "quiet",
+            "Only the mistakes, without the listing and without warnings",
+        ))?
+        .arg(flag(
+            alloc,
             "access",
             "Tells who may do what: each account on each data set",
         ))?
         .arg(flag(
             alloc,
             "csv",
-            "A line for each data set, account and permission, with commas between its fields",
+            "With --access: a line for each data set, account and permission, with commas",
         ))?
-        .arg(named(alloc, "account", "Only this account"))?
-        .arg(named(alloc, "set", "Only this data set"))
+        .arg(named(alloc, "account", "With --access: only this account"))?
+        .arg(named(alloc, "set", "With --access: only this data set"))
 }
 
 // An option that is given or not.

@@ -1,12 +1,12 @@
 //! What the program does, over any streams of std: from its words to what stands in these, and the exit status.
 ghost use Rattle.std.specs.Prelude.{◌≡◌, IfSome};
-ghost use Rattle.mon_listing.specs.declared.question.Question.{Question as AnyQuestion};
 ghost use Rattle.mon_listing.specs.Reports.{ReportedTo, status_of};
 
-use crate::options::{no_text, read_question};
+use crate::options::{Asked, no_text, read_asked};
 use clap::Error;
 use clap::error::ErrorKind;
 use mon_listing::{Fault, Question, report_streams};
+use mon_review::{ReviewFault, Tally, review_streams};
 use std::alloc::{AllocError, Global};
 use std::convert::AsStr;
 use std::io;
@@ -14,6 +14,9 @@ use std::io::{Read, Write};
 
 /// The exit status where the words ask nothing.
 const NOTHING_ASKED: u8 = 2;
+
+/// The exit status where a listing has a mistake.
+const HAS_MISTAKES: u8 = 1;
 
 /// Tells of the deck that comes from one stream what these words ask, writes it to another, and tells on a third what went
 /// wrong. The first word is the program's name; words that are no text ask nothing.
@@ -23,17 +26,55 @@ pub fn run<S: AsStr + Drop, R: Read, W: Write, E: Write>(
     input: &mut R,
     output: &mut W,
     errors: &mut E,
-) -> u8
-    // What was written is the report on some question.
-    ensures reported { result ≡ 0 → IfSome (R.remaining input.old) (λ bytes. (question : AnyQuestion) × ReportedTo question bytes (W.contents output.old) (W.contents output.new)) }
-{
-    match given_question(alloc, words) {
-        Ok(question) => match report_streams(alloc, &question, input, output) {
-            Ok(()) => 0,
-            Err(fault) => tell(alloc, fault, errors),
-        },
+) -> u8 {
+    match given_words(alloc, words) {
+        Ok(Asked::Listing { quiet }) => run_listing(alloc, quiet, input, output, errors),
+        Ok(Asked::Access(question)) => run_access(alloc, &question, input, output, errors),
         Err(error) if error.kind() == ErrorKind::OutOfMemory => tell(alloc, Fault::Memory, errors),
         Err(error) => refuse(error, errors),
+    }
+}
+
+/// Tells who may do what.
+pub fn run_access<R: Read, W: Write, E: Write>(
+    alloc: Global,
+    question: &Question,
+    input: &mut R,
+    output: &mut W,
+    errors: &mut E,
+) -> u8
+    ensures reported { result ≡ 0 → IfSome (R.remaining input.old) (λ bytes. ReportedTo question.now bytes (W.contents output.old) (W.contents output.new)) }
+{
+    match report_streams(alloc, question, input, output) {
+        Ok(()) => 0,
+        Err(fault) => tell(alloc, fault, errors),
+    }
+}
+
+/// Lists the jobs of a deck, and its mistakes; or, where it is quiet, these alone.
+pub fn run_listing<R: Read, W: Write, E: Write>(
+    alloc: Global,
+    quiet: bool,
+    input: &mut R,
+    output: &mut W,
+    errors: &mut E,
+) -> u8 {
+    match review_streams(alloc, quiet, input, output) {
+        Ok(tally) => status_of_listing(tally),
+        Err(fault) => tell(alloc, fault_of_listing(fault), errors),
+    }
+}
+
+// Warnings alone are no mistakes.
+fn status_of_listing(tally: Tally) -> u8 {
+    if tally.mistakes > 0 { HAS_MISTAKES } else { 0 }
+}
+
+fn fault_of_listing(fault: ReviewFault) -> Fault {
+    match fault {
+        ReviewFault::Read => Fault::ReadFault,
+        ReviewFault::Write => Fault::WriteFault,
+        ReviewFault::Memory => Fault::Memory,
     }
 }
 
@@ -60,12 +101,9 @@ fn refuse<E: Write>(error: Error, errors: &mut E) -> u8
 }
 
 // What the words ask.
-fn given_question<S: AsStr + Drop>(
-    alloc: Global,
-    words: io::Result<Vec<S>>,
-) -> Result<Question, Error> {
+fn given_words<S: AsStr + Drop>(alloc: Global, words: io::Result<Vec<S>>) -> Result<Asked, Error> {
     match words {
-        Ok(words) => read_question(alloc, words.as_slice()),
+        Ok(words) => read_asked(alloc, words.as_slice()),
         Err(error) if error.kind() == io::ErrorKind::InvalidData => Err(no_text(alloc)?),
         Err(_) => Err(Error::from(AllocError)),
     }

@@ -1,0 +1,4 @@
+pub mod Tables
+mod Firsts
+mod Gathering
+mod Tying

@@ -1,0 +1,32 @@
+-- Labels in a table whose keys are texts.
+use Rattle.std.proofs.Common.{◌≡◌, ℕ, Bool, true, false, List, [], ◌∷◌, Some, slice_get, map, if◌then◌else◌, zero, suc, refl, ap}
+use Rattle.std.specs.Prelude.{Vec, bytes_eq, option_map}
+use Rattle.std.specs.Map.{lookup}
+use Rattle.indexmap.specs.IndexMap.{insert_entry}
+use Rattle.sno_syntax.specs.Labels.{LabelList}
+
+module _ {Z : Type 0} where
+  abbrev pub shown : List (Vec ℕ Z × ℕ) → LabelList
+  shown es = map (λ e. (e.0.items, e.1)) es
+
+  pub lookup_shown : (p : List ℕ → Bool) (es : List (Vec ℕ Z × ℕ)) → lookup p (shown es) ≡ lookup (λ v. p v.items) es
+  lookup_shown p [] = refl
+  lookup_shown p (e ∷ es) = ap (λ o. if p e.0.items then Some e.1 else o) (lookup_shown p es)
+
+  pub insert_shown : (es : List (Vec ℕ Z × ℕ)) (key : Vec ℕ Z) (at : ℕ)
+      → shown (insert_entry (λ a b. bytes_eq a.items b.items) es key at) ≡ insert_entry bytes_eq (shown es) key.items at
+  insert_shown [] key at = refl
+  insert_shown (e ∷ es) key at = by (bytes_eq key.items e.0.items) (insert_shown es key at)
+    where
+      by : (b : Bool) → shown (insert_entry (λ a b. bytes_eq a.items b.items) es key at) ≡ insert_entry bytes_eq (shown es) key.items at
+          → shown (if b then (e.0, at) ∷ es else e ∷ insert_entry (λ a b. bytes_eq a.items b.items) es key at)
+          ≡ (if b then (e.0.items, at) ∷ shown es else (e.0.items, e.1) ∷ insert_entry bytes_eq (shown es) key.items at)
+      by true same = refl
+      by false same = ap (λ l. (e.0.items, e.1) ∷ l) same
+
+  pub entry_shown : (es : List (Vec ℕ Z × ℕ)) (i : ℕ) → slice_get (shown es) i ≡ option_map (λ e. (e.0.items, e.1)) (slice_get es i)
+  entry_shown [] i = refl
+  entry_shown (e ∷ es) zero = refl
+  entry_shown (e ∷ es) (suc i) = entry_shown es i
+
+pub ruleset tables = (lookup_shown, insert_shown, entry_shown)

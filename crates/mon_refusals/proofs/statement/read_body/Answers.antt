@@ -1,0 +1,21 @@
+use Rattle.std.proofs.Common.{rules, Result, sym, subst}
+use Rattle.sno_cards.specs.declared.refusal.SyntaxError.{SyntaxError}
+use Rattle.sno_lexer.specs.Listed.{TokenList}
+use Rattle.sno_statement.specs.Told.{statement_of}
+use Rattle.sno_statement.proofs.Leftmost.{is_found}
+use Rattle.sno_syntax.specs.inner.Tokens.{AreTokensOf}
+use Rattle.sno_syntax.proofs.Behind.{text_spells}
+use Rattle.mon_refusals.proofs.statement.read_body.Goals as goal
+
+pub returns-in-Ok-clause-spelled : goal.returns-in-Ok-clause-spelled
+returns-in-Ok-clause-spelled c =
+    let s = statement_of c.in-Ok.statement in
+    let parsed = rw (c.tokens-2.ensures.value, c.in-Ok.is) at c.in_ok-statement.ensures in
+    text_spells c.args.text.now s
+    (subst (λ (r : Result TokenList SyntaxError). AreTokensOf s r) (sym c.in_ok-tokens.ensures.tokens) (parsed.0, parsed.1, parsed.2))
+
+pub returns-clause-refused : goal.returns-clause-refused
+returns-clause-refused c =
+    let list = c.in_ok-tokens.tokens in
+    let found = is_found list.tokens c.in-Err.fault (rw (c.tokens-2.ensures.value, c.in-Err.is) at c.in_ok-statement.ensures) in
+    search rules
