@@ -20,7 +20,6 @@ The cases, at their whole size:
   item_words      870,012 words cut off a text by a pattern, and counted in the items of a table
   variable_words  the same over variables that `$` names
   items           100,000 items, the most that a job may have, of an integer each
-  colliding       the same, by keys that were chosen so that all have one hash
   lists           the case of decks.py: 20,000 commands, 2,018,000 access checks on lists of 100 named entries
   many_names      20,000 $CATALOG over 1,000 data sets of 100 named entries; a list is set anew now and then
   joined          1,000 statements of 996 joined names, read and refused at the END line, so that nothing runs
@@ -198,67 +197,6 @@ def items(size):
     ]
     return job("$JOB lisa ST=300000", program)
 
-MASK = 2**64 - 1
-FACTOR = 0x9E3779B97F4A7C15
-
-
-def folded(left, right):
-    product = left * right
-    return (product & MASK) ^ (product >> 64)
-
-
-def swap_of(state):
-    """What two halves of a block are joined with by xor, so that the block swapped gives the same hash; None where that is no text"""
-    swap = (state ^ FACTOR).to_bytes(8, "little")
-    return swap if all(byte < 128 for byte in swap) else None
-
-
-def half_block(lot, swap):
-    """Eight characters that are no quotes, and are none either where they are swapped"""
-    good = [byte for byte in range(33, 127) if byte not in b"\"'"]
-    return bytes(lot.choice([byte for byte in good if byte ^ other in good]) for other in swap)
-
-
-def colliding_blocks(count):
-    """A number of tables, and blocks of 16 characters by pairs: whichever of each pair is taken, the hash of the item is one"""
-    lot = random.Random(1)
-    for table in range(10_000):
-        state = folded(0x243F6A8885A308D3 ^ (table | table << 32), FACTOR ^ 8)
-        state = folded(state, FACTOR ^ 16)
-        state = folded(state ^ 16 * count, FACTOR ^ 16)
-        state = state + 16 * count & MASK
-        if swap_of(state):
-            break
-    pairs = []
-    for left in reversed(range(count)):
-        swap = swap_of(state)
-        while True:
-            first, second = half_block(lot, swap), half_block(lot, swap)
-            swapped = bytes(a ^ b for a, b in zip(second + first, swap + swap))
-            after = folded(int.from_bytes(first, "little") ^ state, int.from_bytes(second, "little") ^ FACTOR)
-            if swapped != first + second and (left == 0 or swap_of(after)):
-                break
-        pairs.append((first + second, swapped))
-        state = after
-    return table + 1, pairs
-
-
-def colliding(size):
-    tables, pairs = colliding_blocks(17)
-    program = [f"M T = TABLE(); C = LT(C,{tables - 1}) C + 1 :S(M)"]
-    for number, pair in enumerate(pairs, 1):
-        program += [f"  $('B0.{number}') = '{pair[0].decode()}'; $('B1.{number}') = '{pair[1].decode()}'"]
-    program += [
-        f"L N = LT(N,{int(100_000 * size)}) N + 1 :F(END)",
-        "  K = ''; I = 0; R = N",
-        f"B I = LT(I,{len(pairs)}) I + 1 :F(S)",
-        "  K = K $('B' (R - R / 2 * 2) '.' I); R = R / 2 :(B)",
-        "S T<K> = N :(L)",
-        "END",
-    ]
-    return job("$JOB lisa ST=10000000", program)
-
-
 def lists(size):
     return decks.drawn_lists(int(1_000 * size), 20_000)
 
@@ -328,7 +266,6 @@ CASES = {
         item_words,
         variable_words,
         items,
-        colliding,
         lists,
         many_names,
         joined,
