@@ -49,15 +49,15 @@ note_words Full exchange = codes "FULL" ++ exchange
 abbrev pub note_line : Note → List ℕ
 note_line note = note_words note.why (exchange_words note) ++ codes "\n"
 
-abbrev pub at_statement : ℕ → List ℕ
-at_statement n = codes " AT" ++ number n
+abbrev pub statement_words : ℕ → List ℕ
+statement_words n = codes " AT" ++ number n
 
 -- how a job ended
 abbrev pub ending_words : Ending → List ℕ
 ending_words ending.Normal = codes " NORMAL"
 ending_words ending.StatementLimit = codes " STATEMENT LIMIT"
-ending_words (ending.MatchLimit n) = codes " MATCH LIMIT" ++ at_statement n
-ending_words (ending.Fault fault n) = codes " FAULT" ++ word (fault_name fault) ++ at_statement n
+ending_words (ending.MatchLimit n) = codes " MATCH LIMIT" ++ statement_words n
+ending_words (ending.Fault fault n) = codes " FAULT" ++ word (fault_name fault) ++ statement_words n
 ending_words ending.Memory = codes " MEMORY"
 
 -- and after how many statements

@@ -2,7 +2,7 @@
 ghost use Rattle.std.specs.Prelude.{◌≡◌, ◌++◌, codes, OnOk, OnErr};
 ghost use Rattle.std.specs.List.{flat_map};
 ghost use Rattle.mon_command.specs.Printouts.{word, number, stored_line};
-ghost use Rattle.mon_job.specs.Printouts.{job_line, act_word, target_words, exchange_words, note_words, note_line, at_statement, ending_words, ending_line, printout};
+ghost use Rattle.mon_job.specs.Printouts.{job_line, act_word, target_words, exchange_words, note_words, note_line, statement_words, ending_words, ending_line, printout};
 
 use crate::job_end::JobEnd;
 use mon_command::printing::{put_number_word, put_stored, put_word};
@@ -151,7 +151,7 @@ fn put_ending_words(ending: Ending, out: &mut Vec<u8>) -> Result<(), AllocError>
 }
 
 fn put_at_statement(statement: u64, out: &mut Vec<u8>) -> Result<(), AllocError>
-    ensures { OnOk result (out.new.items ≡ out.old.items ++ at_statement statement) }
+    ensures { OnOk result (out.new.items ≡ out.old.items ++ statement_words statement) }
 {
     out.extend_from_slice(b" AT")?;
     put_number_word(statement, out)

@@ -9,14 +9,14 @@ use Rattle.mon_answer.specs.declared.answer.Answer.{Answer}
 use Rattle.sno_ask.specs.Asking.{Asking}
 use Rattle.sno_ask.specs.Counting.{Counted, plain}
 use Rattle.sno_ask.proofs.Counting.{plain_then, plain_ends}
-use Rattle.sno_expression.specs.Expressions.{Expression}
+use Rattle.sno_tree.specs.Expressions.{Expression}
 use Rattle.sno_store.specs.declared.store.Store.{Store as State}
-use Rattle.sno_code.specs.declared.got.Got.{Got}
-use Rattle.sno_code.specs.Evaluation.{evaluate, name_of}
-use Rattle.sno_code.specs.Execution.{Next, On, Over}
-use Rattle.sno_code.specs.Lines.{Line, Lines, Point, At, End, Return, FailureReturn}
-use Rattle.sno_code.specs.Running.{Turned, Goes, Ended, stands_at, executed, run as runs, settled, turn_begun, turn_line, turn}
-use Rattle.sno_code.proofs.Depth.{same_runs, executed_same}
+use Rattle.sno_meaning.specs.declared.got.Got.{Got}
+use Rattle.sno_meaning.specs.Evaluation.{evaluate, name_of}
+use Rattle.sno_meaning.specs.Execution.{Next, On, Over}
+use Rattle.sno_meaning.specs.Lines.{Line, Lines, Point, At, End, Return, FailureReturn}
+use Rattle.sno_meaning.specs.Running.{Turned, Goes, Ended, stands_at, executed, run as runs, settled, turn_begun, turn_line, turn}
+use Rattle.sno_meaning.proofs.Depth.{same_runs, executed_same}
 use Rattle.sno_keeping.specs.declared.limits.Limits.{Limits}
 use Rattle.sno_keeping.specs.State.{keeping, allowed}
 use Rattle.sno_keeping.proofs.Counting.{state_counts}

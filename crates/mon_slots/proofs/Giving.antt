@@ -8,7 +8,7 @@ use Rattle.mon_slots.specs.declared.turned.Turned.{Turned}
 use Rattle.mon_slots.specs.declared.turned.Turned.TheVariants.{Empty, Goes, Ended}
 use Rattle.mon_slots.specs.Floors.{SlotState, Floor, seated, seat_at, with_seat, job_in}
 use Rattle.mon_slots.specs.Turns.{after_turn, job_end, seat, told, ends_by, only}
-use Rattle.mon_slots.specs.Marks.{Mark, Marks, ran_as, turn_as_by, nothing, and_then, until, never}
+use Rattle.mon_slots.specs.Marks.{Mark, Marks, ran_as, turn_as_by, nothing, ends_then, until, never}
 use Rattle.mon_slots.specs.Turning.{TurnOr, UntilIs, MarkedIs}
 use Rattle.mon_slots.specs.inner.Rounding.{Ahead}
 use Rattle.mon_slots.proofs.Rounding.{passed, begin, ahead_more}
@@ -50,8 +50,8 @@ ended_by m s w w' (Some slot) e h =
 idle : (s n : ℕ) (rest : Marks) (w : Floor) → job_in s w ≡ None → until never (only s n) (replicate n None ++ rest) w ≡ nothing rest w
 idle s zero rest w h = refl
 idle s (suc n) rest w h =
-    ap (λ (o : Option SlotState). let t = turn_as_by None s o w in and_then (ends_by s t.0) (until never (only s n) (replicate n None ++ rest) t.1)) h
-    ∙ ap (and_then []) (idle s n rest w h)
+    ap (λ (o : Option SlotState). let t = turn_as_by None s o w in ends_then (ends_by s t.0) (until never (only s n) (replicate n None ++ rest) t.1)) h
+    ∙ ap (ends_then []) (idle s n rest w h)
 
 rest_idle : (E : List ℕ) (w : Floor) (ends : List JobEnd) (s n : ℕ) (now : Floor) → job_in s now ≡ None
     → Ahead never E w ends (only s n) now → UntilIs never E w ends now
@@ -59,7 +59,7 @@ rest_idle E w ends s n now none h = record {
   marks = h.marks ++ replicate n None;
   is = λ rest. passed h.numbered ends now rest (until never E ((h.marks ++ replicate n None) ++ rest) w) h.ended
       (ap (λ (m : Marks). until never E m w) (append_assoc h.marks (replicate n None) rest) ∙ h.is (replicate n None ++ rest)
-      ∙ ap (and_then h.numbered) (idle s n rest now none));
+      ∙ ap (ends_then h.numbered) (idle s n rest now none));
 }
 
 module _ (s count : ℕ) (w : Floor) where

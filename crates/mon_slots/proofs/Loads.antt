@@ -25,7 +25,7 @@ use Rattle.mon_job.specs.declared.refusal.LoadError.TheVariants.{NoSlot, Cards, 
 use Rattle.mon_slots.specs.declared.slot.Slot.{Slot}
 use Rattle.mon_slots.specs.Floors.{SlotState, with_seat, free_from, first_free}
 use Rattle.mon_slots.specs.Told.{slot_of, seat_of, seats_of}
-use Rattle.mon_slots.specs.Loads.{first_units, with_ties, ties_refusal, program_refusal, program_in, slot_refusal, account_refusal, deck_refusal, slot_by, slot_in, loaded_by, loaded}
+use Rattle.mon_slots.specs.Loads.{first_units, with_ties, ties_refusal, program_refusal, program_in, slot_refusal, missing_account, deck_refusal, slot_by, slot_in, loaded_by, job_loaded}
 use Rattle.mon_slots.specs.inner.Spelling.{IsSpelled}
 use Rattle.mon_slots.proofs.Seats.{map_set}
 
@@ -53,7 +53,7 @@ pub deck_refused_by : (accounts : List Account) (deck : JobDeck) (account : Acco
     → find_account accounts deck.account ≡ Some account → ties_refusal deck.ties (first_units deck.lines) ≡ None → program_refusal (statements_of deck.lines) ≡ said
     → deck_refusal accounts deck ≡ said
 deck_refused_by accounts deck account said f t p =
-    ap (λ o. option_or (account_refusal o) (option_or (option_map Cards (ties_refusal deck.ties (first_units deck.lines))) (program_refusal (statements_of deck.lines)))) f
+    ap (λ o. option_or (missing_account o) (option_or (option_map Cards (ties_refusal deck.ties (first_units deck.lines))) (program_refusal (statements_of deck.lines)))) f
     ∙ ap (λ (o : Option UnitError). option_or (option_map Cards o) (program_refusal (statements_of deck.lines))) t ∙ p
 
 pub stop_refused_by : (accounts : List Account) (deck : JobDeck) (account : Account) (stop : Stop LoadError)
@@ -84,18 +84,18 @@ within slots i e = (position-Some (λ seat. is_none seat) slots i None e).0
 
 -- LOADS
 
-pub no_slot : (accounts : List Account) (deck : JobDeck) (slots : List (Option SlotState)) → first_free slots ≡ None → loaded accounts deck slots ≡ (Err NoSlot, slots)
+pub no_slot : (accounts : List Account) (deck : JobDeck) (slots : List (Option SlotState)) → first_free slots ≡ None → job_loaded accounts deck slots ≡ (Err NoSlot, slots)
 no_slot accounts deck slots e = ap (λ o. loaded_by (option_or (slot_refusal o) (deck_refusal accounts deck)) o (slot_in accounts deck) slots) e
 
 pub deck_refused : (accounts : List Account) (deck : JobDeck) (slots : List (Option SlotState)) (n : ℕ) (refusal : LoadError)
-    → first_free slots ≡ Some n → deck_refusal accounts deck ≡ Some refusal → loaded accounts deck slots ≡ (Err refusal, slots)
+    → first_free slots ≡ Some n → deck_refusal accounts deck ≡ Some refusal → job_loaded accounts deck slots ≡ (Err refusal, slots)
 deck_refused accounts deck slots n refusal e d =
     ap (λ o. loaded_by (option_or (slot_refusal o) (deck_refusal accounts deck)) o (slot_in accounts deck) slots) e
     ∙ ap (λ o. loaded_by o (Some n) (slot_in accounts deck) slots) d
 
 pub deck_loaded : (accounts : List Account) (deck : JobDeck) (slots : List (Option SlotState)) (n : ℕ) (slot : SlotState)
     → first_free slots ≡ Some n → deck_refusal accounts deck ≡ None → slot_in accounts deck ≡ Some slot
-    → loaded accounts deck slots ≡ (Ok n, with_seat n (Some slot) slots)
+    → job_loaded accounts deck slots ≡ (Ok n, with_seat n (Some slot) slots)
 deck_loaded accounts deck slots n slot e d s =
     ap (λ o. loaded_by (option_or (slot_refusal o) (deck_refusal accounts deck)) o (slot_in accounts deck) slots) e
     ∙ ap (λ o. loaded_by o (Some n) (slot_in accounts deck) slots) d ∙ ap (λ o. loaded_by None (Some n) o slots) s
@@ -106,7 +106,7 @@ stopped_for r s t u is same h = cc
 
 pub stop_refused : (accounts : List Account) (deck : JobDeck) (slots : List (Option SlotState)) (n : ℕ) (stop : Stop LoadError)
     → first_free slots ≡ Some n → IfRefused (λ refusal. deck_refusal accounts deck ≡ Some refusal) stop
-    → IfRefused (λ refusal. loaded accounts deck slots ≡ (Err refusal, slots)) stop
+    → IfRefused (λ refusal. job_loaded accounts deck slots ≡ (Err refusal, slots)) stop
 stop_refused accounts deck slots n (Refused refusal) e d = deck_refused accounts deck slots n refusal e d
 stop_refused accounts deck slots n Memory e d = tt
 
@@ -116,7 +116,7 @@ answered n slots = (Ok n, slots)
 -- a job is loaded into the seat at an index
 pub loaded_at : (accounts : List Account) (deck : JobDeck) (items : List (Option Slot)) (i : ℕ) (slot : Slot)
     → position (λ seat. is_none seat) items ≡ Some i → deck_refusal accounts deck ≡ None → slot_in accounts deck ≡ Some (slot_of slot)
-    → loaded accounts deck (seats_of items) ≡ (Ok (suc i), seats_of (slice_set items i (Some slot)))
+    → job_loaded accounts deck (seats_of items) ≡ (Ok (suc i), seats_of (slice_set items i (Some slot)))
 loaded_at accounts deck items i slot e d s =
     deck_loaded accounts deck (seats_of items) (suc i) (slot_of slot) (free_is items ∙ ap (option_map suc) e) d s
     ∙ ap (answered (suc i)) (sym (map_set seat_of items i (Some slot)))

@@ -12,7 +12,7 @@ use Rattle.mon_slots.specs.declared.turned.Turned.{Turned}
 use Rattle.mon_slots.specs.declared.turned.Turned.TheVariants.{Ended}
 use Rattle.mon_slots.specs.Floors.{SlotState, Floor, seated, seat_at, with_seat, job_in, all_empty, first_free}
 use Rattle.mon_slots.specs.Turns.{reached, ran, after_turn, seat, turned, turn_by, turn, ends_by}
-use Rattle.mon_slots.specs.Marks.{Mark, Marks, mark_of, later, may_break, broken_by, ran_as, turn_as_by, turn_as, Past, nothing, and_then, until, marked, from, rounds, left, turns_left, is_done, has_room, drain, room}
+use Rattle.mon_slots.specs.Marks.{Mark, Marks, mark_of, later, may_break, broken_by, ran_as, turn_as_by, turn_as, Past, nothing, ends_then, until, marked, from, rounds, turns_ahead, turns_left, is_done, has_free_slot, drain, room}
 use Rattle.mon_slots.specs.Rounds.{Unmarked, NoneByMemory, TakesOneMark, AtLast, Enough}
 use Rattle.mon_slots.proofs.Begun.{Less, job_less}
 use Rattle.mon_slots.proofs.Seats.{seat_length, none_at}
@@ -29,20 +29,20 @@ slot_less : (m : Option Mark) (slot : SlotState) (sets : Sets) → Less slot.job
 slot_less None slot sets = job_less (serve slot.account) slot.job (reached sets slot)
 slot_less (Some m) slot sets = broken_less (may_break slot.job) m slot sets
 
-seat_less : (st : Step) (slot slot' : SlotState) → Less slot.job st slot'.job → suc (left (seat st slot')) ≤ left (Some slot)
+seat_less : (st : Step) (slot slot' : SlotState) → Less slot.job st slot'.job → suc (turns_ahead (seat st slot')) ≤ turns_ahead (Some slot)
 seat_less step.Goes slot slot' (inl h) = absurd (let k : step.Goes ≡ step.Ended h.0 = h.1 in cc (k))
 seat_less step.Goes slot slot' (inr h) = omega (arith, h)
 seat_less (step.Ended e) slot slot' h = omega arith
 
-set_less : (slots : List (Option SlotState)) (i : ℕ) (slot : SlotState) (o : Option SlotState) → seated (slice_get slots i) ≡ Some slot → suc (left o) ≤ left (Some slot)
+set_less : (slots : List (Option SlotState)) (i : ℕ) (slot : SlotState) (o : Option SlotState) → seated (slice_get slots i) ≡ Some slot → suc (turns_ahead o) ≤ turns_ahead (Some slot)
     → suc (turns_left (slice_set slots i o)) ≤ turns_left slots
 set_less [] i slot o h g = absurd cc
 set_less (x ∷ slots) zero slot o h g =
     let e : x ≡ Some slot = h in
-    subst (λ (y : Option SlotState). suc (left o + turns_left slots) ≤ left y + turns_left slots) (sym e) (omega (arith, g))
+    subst (λ (y : Option SlotState). suc (turns_ahead o + turns_left slots) ≤ turns_ahead y + turns_left slots) (sym e) (omega (arith, g))
 set_less (x ∷ slots) (suc i) slot o h g = omega (arith, (set_less slots i slot o h g))
 
-with_less : (s : ℕ) (slots : List (Option SlotState)) (slot : SlotState) (o : Option SlotState) → seat_at s slots ≡ Some slot → suc (left o) ≤ left (Some slot)
+with_less : (s : ℕ) (slots : List (Option SlotState)) (slot : SlotState) (o : Option SlotState) → seat_at s slots ≡ Some slot → suc (turns_ahead o) ≤ turns_ahead (Some slot)
     → suc (turns_left (with_seat s o slots)) ≤ turns_left slots
 with_less zero slots slot o h g = absurd cc
 with_less (suc i) slots slot o h g = set_less slots i slot o h g
@@ -71,28 +71,28 @@ module _ (stop : Floor → Bool) where
   pub until_stops : (E : List ℕ) (m : Marks) (w : Floor) → stop w ≡ true → until stop E m w ≡ nothing m w
   until_stops [] m w h = refl
   until_stops (s ∷ E) m w h = ap (λ (b : Bool). if b then nothing m w
-      else and_then (ends_by s (turn_as (mark_of m) s w).0) (until stop E (later m) (turn_as (mark_of m) s w).1)) h
+      else ends_then (ends_by s (turn_as (mark_of m) s w).0) (until stop E (later m) (turn_as (mark_of m) s w).1)) h
 
   pub until_goes : (s : ℕ) (E : List ℕ) (m : Marks) (w : Floor) → stop w ≡ false
-      → until stop (s ∷ E) m w ≡ and_then (ends_by s (turn_as (mark_of m) s w).0) (until stop E (later m) (turn_as (mark_of m) s w).1)
+      → until stop (s ∷ E) m w ≡ ends_then (ends_by s (turn_as (mark_of m) s w).0) (until stop E (later m) (turn_as (mark_of m) s w).1)
   until_goes s E m w h = ap (λ (b : Bool). if b then nothing m w
-      else and_then (ends_by s (turn_as (mark_of m) s w).0) (until stop E (later m) (turn_as (mark_of m) s w).1)) h
+      else ends_then (ends_by s (turn_as (mark_of m) s w).0) (until stop E (later m) (turn_as (mark_of m) s w).1)) h
 
   abbrev pub after_past : List ℕ → Past → Past
-  after_past F p = and_then p.ends (until stop F p.marks p.after)
+  after_past F p = ends_then p.ends (until stop F p.marks p.after)
 
   pub until_append : (E F : List ℕ) (m : Marks) (w : Floor) → until stop (E ++ F) m w ≡ after_past F (until stop E m w)
   until_append [] F m w = refl
   until_append (s ∷ E) F m w = elim (either_way (stop w)) [
     | inl h ↦
         until_stops (s ∷ E ++ F) m w h
-        ∙ sym (ap (after_past F) (until_stops (s ∷ E) m w h) ∙ ap (λ (p : Past). and_then [] p) (until_stops F m w h))
+        ∙ sym (ap (after_past F) (until_stops (s ∷ E) m w h) ∙ ap (λ (p : Past). ends_then [] p) (until_stops F m w h))
     | inr h ↦
         let t = turn_as (mark_of m) s w in
         let e = ends_by s t.0 in
         let p = until stop E (later m) t.1 in
         until_goes s (E ++ F) m w h
-        ∙ ap (and_then e) (until_append E F (later m) t.1)
+        ∙ ap (ends_then e) (until_append E F (later m) t.1)
         ∙ ap (λ (l : List (ℕ × JobEnd)). let q : Past = record { ends = l; after = (until stop F p.marks p.after).after; marks = (until stop F p.marks p.after).marks } in q)
         (sym (append_assoc e p.ends (until stop F p.marks p.after).ends))
         ∙ sym (ap (after_past F) (until_goes s E m w h))
@@ -186,7 +186,7 @@ module _ (stop : Floor → Bool) (size : ℕ) (at_last : (v : Floor) → length 
         let p = until stop (from 1 size) m w in
         let less = round_falls m w is e in
         until_append stop (from 1 size) (rounds n size) m w
-        ∙ ap (and_then p.ends) (rounds_same n k p.marks p.after (until_length stop (from 1 size) m w ∙ is) (omega (arith, h, less)) (omega (arith, g, less)))
+        ∙ ap (ends_then p.ends) (rounds_same n k p.marks p.after (until_length stop (from 1 size) m w ∙ is) (omega (arith, h, less)) (omega (arith, g, less)))
         ∙ sym (until_append stop (from 1 size) (rounds k size) m w)
   ]
 
@@ -204,11 +204,11 @@ first_is_free [] h g = absurd (h refl)
 first_is_free (None ∷ slots) h g = refl
 first_is_free (Some x ∷ slots) h g = absurd cc
 
-pub room_at_last : (size : ℕ) → size ≢ 0 → (v : Floor) → length v.slots ≡ size → is_done v ≡ true → has_room v ≡ true
+pub room_at_last : (size : ℕ) → size ≢ 0 → (v : Floor) → length v.slots ≡ size → is_done v ≡ true → has_free_slot v ≡ true
 room_at_last size some v is h = first_is_free v.slots (λ e. some (sym is ∙ e)) h
 
-pub room_is_made : (w : Floor) (m : Marks) → length w.slots ≢ 0 → has_room (room m w).after ≡ true
-room_is_made w m some = (enough has_room w (room_at_last (length w.slots) some) m).stops
+pub room_is_made : (w : Floor) (m : Marks) → length w.slots ≢ 0 → has_free_slot (room m w).after ≡ true
+room_is_made w m some = (enough has_free_slot w (room_at_last (length w.slots) some) m).stops
 
 -- without marks
 turn_unmarked_by : (s : ℕ) (o : Option SlotState) (w : Floor) → turn_as_by None s o w ≡ turn_by s o w

@@ -8,7 +8,7 @@ use Rattle.mon_slots.specs.declared.rounds.Goal.{Goal}
 use Rattle.mon_slots.specs.declared.rounds.Goal.TheVariants as goal
 use Rattle.mon_slots.specs.Floors.{Floor}
 use Rattle.mon_slots.specs.Turns.{ends_by}
-use Rattle.mon_slots.specs.Marks.{Marks, Past, nothing, and_then, until, from, rounds, turns_left, rounds_until, is_done}
+use Rattle.mon_slots.specs.Marks.{Marks, Past, nothing, ends_then, until, from, rounds, turns_left, rounds_until, is_done}
 use Rattle.mon_slots.specs.Turning.{TurnOr, Passed, UntilIs, RoundsAre, ended_in}
 use Rattle.mon_slots.specs.inner.Rounding.{Ahead, RoundTo, Going, Unless, stop_of}
 use Rattle.mon_slots.proofs.Past.{until_stops, until_goes, until_append, until_length, after_past, rounds_same, round_falls, room_at_last}
@@ -26,11 +26,11 @@ map_append : (xs ys : List (ℕ × JobEnd)) → map (λ e. e.1) (xs ++ ys) ≡ m
 map_append [] ys = refl
 map_append (y ∷ xs) ys = ap (λ (l : List JobEnd). y.1 ∷ l) (map_append xs ys)
 
-chained : (xs ys : List (ℕ × JobEnd)) (p : Past) → and_then xs (and_then ys p) ≡ and_then (xs ++ ys) p
+chained : (xs ys : List (ℕ × JobEnd)) (p : Past) → ends_then xs (ends_then ys p) ≡ ends_then (xs ++ ys) p
 chained xs ys p = ap (λ (l : List (ℕ × JobEnd)). let q : Past = record { ends = l; after = p.after; marks = p.marks } in q) (sym (append_assoc xs ys p.ends))
 
 pub passed : (numbered : List (ℕ × JobEnd)) (ends : List JobEnd) (now : Floor) (rest : Marks) (p : Past)
-    → map (λ e. e.1) numbered ≡ ends → p ≡ and_then numbered (nothing rest now) → Passed ends now rest p
+    → map (λ e. e.1) numbered ≡ ends → p ≡ ends_then numbered (nothing rest now) → Passed ends now rest p
 passed numbered ends now rest p is whole = record {
   ended = ap (λ (q : Past). map (λ e. e.1) q.ends) whole ∙ ap (λ (l : List (ℕ × JobEnd)). map (λ e. e.1) l) (append_empty numbered) ∙ is;
   after = ap (λ (q : Past). q.after) whole;
@@ -48,7 +48,7 @@ module _ (stop : Floor → Bool) where
     marks = h.marks;
     numbered = h.numbered;
     ended = h.ended;
-    is = λ rest. h.is rest ∙ ap (and_then h.numbered) (until_stops stop (s ∷ F) rest now d ∙ sym (until_stops stop F rest now d));
+    is = λ rest. h.is rest ∙ ap (ends_then h.numbered) (until_stops stop (s ∷ F) rest now d ∙ sym (until_stops stop F rest now d));
   }
 
   -- and elsewhere one
@@ -61,8 +61,8 @@ module _ (stop : Floor → Bool) where
     is = λ rest.
         ap (λ (m : Marks). until stop E m w) (append_assoc h.marks (one.mark ∷ []) rest)
         ∙ h.is (one.mark ∷ rest)
-        ∙ ap (and_then h.numbered) (until_goes stop s F (one.mark ∷ rest) now d
-        ∙ ap (λ (p : Turned × Floor). and_then (ends_by s p.0) (until stop F rest p.1)) one.is)
+        ∙ ap (ends_then h.numbered) (until_goes stop s F (one.mark ∷ rest) now d
+        ∙ ap (λ (p : Turned × Floor). ends_then (ends_by s p.0) (until stop F rest p.1)) one.is)
         ∙ chained h.numbered (ends_by s t) (until stop F rest now');
   }
 
@@ -71,7 +71,7 @@ module _ (stop : Floor → Bool) where
   ahead_done E w ends F now none h = record {
     marks = h.marks;
     is = λ rest. passed h.numbered ends now rest (until stop E (h.marks ++ rest) w) h.ended
-        (h.is rest ∙ ap (λ (l : List ℕ). and_then h.numbered (until stop l rest now)) none);
+        (h.is rest ∙ ap (λ (l : List ℕ). ends_then h.numbered (until stop l rest now)) none);
   }
 
   -- the loop over a round
@@ -125,7 +125,7 @@ module _ (stop : Floor → Bool) (size : ℕ) (at_last : (v : Floor) → length 
       subst (λ (p : Past). suc (turns_left p.after.slots) ≤ turns_left w.slots) (h.is []) (round_falls stop size at_last (h.marks ++ []) w is_size busy)
 
   -- is first, and then the rounds of what is left
-  pub round_then : stop w ≡ false → (rest : Marks) → rounds_until stop (h.marks ++ rest) w ≡ and_then h.numbered (rounds_until stop rest now)
+  pub round_then : stop w ≡ false → (rest : Marks) → rounds_until stop (h.marks ++ rest) w ≡ ends_then h.numbered (rounds_until stop rest now)
   round_then busy rest =
       let less = round_less busy in
       let n = turns_left w.slots in
@@ -134,7 +134,7 @@ module _ (stop : Floor → Bool) (size : ℕ) (at_last : (v : Floor) → length 
       ∙ until_append stop (from 1 size) (rounds n size) (h.marks ++ rest) w
       ∙ ap (after_past stop (rounds n size)) (h.is rest)
       ∙ ap (λ (l : List (ℕ × JobEnd)). let p = until stop (rounds n size) rest now in let q : Past = record { ends = l ++ p.ends; after = p.after; marks = p.marks } in q) (append_empty h.numbered)
-      ∙ ap (and_then h.numbered) (rounds_same stop size at_last n (turns_left now.slots) rest now round_length (omega (arith, less)) (omega arith)
+      ∙ ap (ends_then h.numbered) (rounds_same stop size at_last n (turns_left now.slots) rest now round_length (omega (arith, less)) (omega arith)
       ∙ ap (λ (k : ℕ). until stop (rounds (turns_left now.slots) k) rest now) (sym round_length))
 
 -- the loop over rounds
@@ -152,7 +152,7 @@ module _ (stop : Floor → Bool) where
     is = λ rest.
         ap (λ (m : Marks). rounds_until stop m w) (append_assoc h.marks one.marks rest)
         ∙ h.is (one.marks ++ rest)
-        ∙ ap (and_then h.numbered) (round_then stop (length now.slots) at_last now more now' refl one busy rest)
+        ∙ ap (ends_then h.numbered) (round_then stop (length now.slots) at_last now more now' refl one busy rest)
         ∙ chained h.numbered one.numbered (rounds_until stop rest now');
   }
 
@@ -160,7 +160,7 @@ module _ (stop : Floor → Bool) where
   going_done w ends now done h = record {
     marks = h.marks;
     is = λ rest. passed h.numbered ends now rest (rounds_until stop (h.marks ++ rest) w) h.ended
-        (h.is rest ∙ ap (and_then h.numbered) (until_stops stop (rounds (turns_left now.slots) (length now.slots)) rest now done));
+        (h.is rest ∙ ap (ends_then h.numbered) (until_stops stop (rounds (turns_left now.slots) (length now.slots)) rest now done));
   }
 
 -- both goals are met at the latest when all slots are empty

@@ -59,14 +59,14 @@ abbrev pub slot_refusal : Option ℕ → Option LoadError
 slot_refusal (Some n) = None
 slot_refusal None = Some NoSlot
 
-abbrev pub account_refusal : Option Account → Option LoadError
-account_refusal (Some account) = None
-account_refusal None = Some NoAccount
+abbrev pub missing_account : Option Account → Option LoadError
+missing_account (Some account) = None
+missing_account None = Some NoAccount
 
 -- why a job is not loaded where a slot is free: its account, its unit cards, its program
 abbrev pub deck_refusal : List Account → JobDeck → Option LoadError
 deck_refusal accounts deck =
-    option_or (account_refusal (find_account accounts deck.account))
+    option_or (missing_account (find_account accounts deck.account))
     (option_or (option_map Cards (ties_refusal deck.ties (first_units deck.lines))) (program_refusal (statements_of deck.lines)))
 
 -- why a job is not loaded
@@ -97,5 +97,5 @@ loaded_by None (Some n) slot slots = (Ok n, with_seat n slot slots)
 loaded_by None None slot slots = (Err NoSlot, slots)
 
 -- a job is loaded into the lowest free slot, which has this number; or it is refused, and nothing has changed
-abbrev pub loaded : List Account → JobDeck → List (Option SlotState) → Result ℕ LoadError × List (Option SlotState)
-loaded accounts deck slots = loaded_by (load_refusal accounts deck slots) (first_free slots) (slot_in accounts deck) slots
+abbrev pub job_loaded : List Account → JobDeck → List (Option SlotState) → Result ℕ LoadError × List (Option SlotState)
+job_loaded accounts deck slots = loaded_by (load_refusal accounts deck slots) (first_free slots) (slot_in accounts deck) slots

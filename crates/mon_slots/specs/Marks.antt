@@ -74,15 +74,15 @@ pub record Past : Type 0 where
 abbrev pub nothing : Marks → Floor → Past
 nothing m w = record { ends = []; after = w; marks = m }
 
-abbrev pub and_then : List (ℕ × JobEnd) → Past → Past
-and_then ends p = record { ends = ends ++ p.ends; after = p.after; marks = p.marks }
+abbrev pub ends_then : List (ℕ × JobEnd) → Past → Past
+ends_then ends p = record { ends = ends ++ p.ends; after = p.after; marks = p.marks }
 
 -- turns of the jobs in these slots, in this order, until a floor is one to stop at
 abbrev pub until : (Floor → Bool) → List ℕ → Marks → Floor → Past
 until stop [] m w = nothing m w
 until stop (s ∷ E) m w =
     if stop w then nothing m w
-    else and_then (ends_by s (turn_as (mark_of m) s w).0) (until stop E (later m) (turn_as (mark_of m) s w).1)
+    else ends_then (ends_by s (turn_as (mark_of m) s w).0) (until stop E (later m) (turn_as (mark_of m) s w).1)
 
 abbrev pub never : Floor → Bool
 never w = false
@@ -102,13 +102,13 @@ rounds zero n = []
 rounds (suc k) n = from 1 n ++ rounds k n
 
 -- how many turns a job can have, as each begins a statement or is its last
-abbrev pub left : Option SlotState → ℕ
-left None = 0
-left (Some slot) = suc (slot.job.limits.statements - statements_begun slot.job)
+abbrev pub turns_ahead : Option SlotState → ℕ
+turns_ahead None = 0
+turns_ahead (Some slot) = suc (slot.job.limits.statements - statements_begun slot.job)
 
 abbrev pub turns_left : List (Option SlotState) → ℕ
 turns_left [] = 0
-turns_left (seat ∷ seats) = left seat + turns_left seats
+turns_left (seat ∷ seats) = turns_ahead seat + turns_left seats
 
 -- round and round, until a floor is one to stop at: no more rounds than there are turns that the jobs can have
 abbrev pub rounds_until : (Floor → Bool) → Marks → Floor → Past
@@ -117,8 +117,8 @@ rounds_until stop m w = until stop (rounds (turns_left w.slots) (length w.slots)
 abbrev pub is_done : Floor → Bool
 is_done w = all_empty w.slots
 
-abbrev pub has_room : Floor → Bool
-has_room w = is_some (first_free w.slots)
+abbrev pub has_free_slot : Floor → Bool
+has_free_slot w = is_some (first_free w.slots)
 
 -- until all slots are empty
 abbrev pub drain : Marks → Floor → Past
@@ -126,4 +126,4 @@ drain m w = rounds_until is_done m w
 
 -- until a slot is free
 abbrev pub room : Marks → Floor → Past
-room m w = rounds_until has_room m w
+room m w = rounds_until has_free_slot m w

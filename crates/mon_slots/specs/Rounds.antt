@@ -5,7 +5,7 @@ use Rattle.sno_run.specs.declared.ending.Ending.TheVariants.{Memory}
 use Rattle.mon_job.specs.declared.job_end.JobEnd.{JobEnd}
 use Rattle.mon_slots.specs.Floors.{Floor, job_in}
 use Rattle.mon_slots.specs.Turns.{turns, ends_by}
-use Rattle.mon_slots.specs.Marks.{Mark, Marks, turn_as, until, marked, rounds, turns_left, rounds_until, is_done, has_room, drain, room}
+use Rattle.mon_slots.specs.Marks.{Mark, Marks, turn_as, until, marked, rounds, turns_left, rounds_until, is_done, has_free_slot, drain, room}
 
 -- without marks they are the turns of the definitions, and no mark is left
 pub record Unmarked (w : Floor) (E : List ℕ) : Type 0 where
@@ -45,4 +45,4 @@ abbrev pub DrainEmpties : Type 0
 DrainEmpties = (w : Floor) (m : Marks) (s : ℕ) → job_in s (drain m w).after ≡ None
 
 abbrev pub RoomIsMade : Type 0
-RoomIsMade = (w : Floor) (m : Marks) → length w.slots ≢ 0 → has_room (room m w).after ≡ true
+RoomIsMade = (w : Floor) (m : Marks) → length w.slots ≢ 0 → has_free_slot (room m w).after ≡ true

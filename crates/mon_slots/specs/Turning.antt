@@ -4,7 +4,7 @@ use Rattle.mon_job.specs.declared.job_end.JobEnd.{JobEnd}
 use Rattle.mon_slots.specs.declared.turned.Turned.{Turned}
 use Rattle.mon_slots.specs.declared.turned.Turned.TheVariants.{Empty, Goes, Ended}
 use Rattle.mon_slots.specs.Floors.{Floor}
-use Rattle.mon_slots.specs.Marks.{Mark, Marks, Past, turn_as, until, never, rounds, turns_left, is_done, has_room}
+use Rattle.mon_slots.specs.Marks.{Mark, Marks, Past, turn_as, until, never, rounds, turns_left, is_done, has_free_slot}
 
 -- one turn, perhaps broken off: it takes one mark, which is this
 pub record TurnOr (s : ℕ) (w : Floor) (t : Turned) (w' : Floor) : Type 0 where
@@ -44,4 +44,4 @@ abbrev pub DrainIs : Floor → List JobEnd → Floor → Type 0
 DrainIs w ends w' = RoundsAre is_done w ends w'
 
 abbrev pub RoomIs : Floor → List JobEnd → Floor → Type 0
-RoomIs w ends w' = RoundsAre has_room w ends w'
+RoomIs w ends w' = RoundsAre has_free_slot w ends w'

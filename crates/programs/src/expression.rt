@@ -1,14 +1,14 @@
 //! Expressions as text: each with its operands behind it, in parentheses.
 ghost use Rattle.std.specs.Prelude.{◌≡◌, ◌++◌, codes, OnOk};
-ghost use Rattle.sno_expression.specs.declared.tree.UnaryOperator.TheVariants.{Indirect};
-ghost use Rattle.sno_expression.specs.Expressions.{Unary};
-ghost use Rattle.sno_expression.specs.Told.{expression_of, arguments_of};
+ghost use Rattle.sno_tree.specs.declared.tree.UnaryOperator.TheVariants.{Indirect};
+ghost use Rattle.sno_tree.specs.Expressions.{Unary};
+ghost use Rattle.sno_tree.specs.Told.{expression_of, arguments_of};
 ghost use Rattle.programs.specs.inner.Trees.{expression_text, arguments_text, constant_text, unary_text, operator_text};
 
 use itoa::Buffer;
 use mon_text::Line;
-use sno_expression::{Arguments, BinaryOperator, Expression, UnaryOperator};
 use sno_token::Constant;
+use sno_tree::{Arguments, BinaryOperator, Expression, UnaryOperator};
 use std::alloc::AllocError;
 
 /// Appends a text.

@@ -1,10 +1,10 @@
 -- Code goes on with a value where there is more of it, and gives the value where there is none.
 use Rattle.std.proofs.Common.{◌≡◌, ℕ, zero, suc, ◌<◌, ◌≤◌, List, [], ◌∷◌, length, drop, refl, arith}
 use Rattle.sno_value.specs.declared.value.Value.{Value}
-use Rattle.sno_code.specs.declared.got.Got.TheVariants.{Gives}
+use Rattle.sno_meaning.specs.declared.got.Got.TheVariants.{Gives}
 use Rattle.sno_code.specs.declared.instr.Instr.{Instr}
-use Rattle.sno_code.specs.declared.stack.Item.{Item}
-use Rattle.sno_code.specs.declared.stack.Item.TheVariants.{Of}
+use Rattle.sno_stack.specs.declared.stack.Item.{Item}
+use Rattle.sno_stack.specs.declared.stack.Item.TheVariants.{Of}
 use Rattle.sno_code.specs.inner.Moves.{On, Out, onward}
 
 pub more_on : (E : List Instr) (i : ℕ) (v : Value) (s : List Item) → i < length E → On (drop i E) (Of v ∷ s) ≡ onward (Gives v) (drop i E) s

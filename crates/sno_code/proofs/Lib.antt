@@ -3,8 +3,3 @@ pub mod Performing
 pub mod Lined
 pub mod Falling
 pub mod Going
-pub mod Relating
-pub mod Depth
-pub mod Growing
-pub mod Examples
-pub mod Taking

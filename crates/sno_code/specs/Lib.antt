@@ -1,10 +1,2 @@
-pub mod Outcomes
-pub mod Operators
-pub mod Evaluation
-pub mod Keeping
-pub mod Lines
-pub mod Execution
-pub mod Running
-pub mod Limits
 pub mod Laws
 pub mod inner

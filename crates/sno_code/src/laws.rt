@@ -1,6 +1,5 @@
 //! Laws of code. Each is the contract of a function that does nothing.
 ghost use Rattle.sno_code.specs.Laws.{CodeAloneMeansTree, CodeMeansName, CodeRunsAlike};
-ghost use Rattle.sno_code.specs.Limits.{LimitIsExact};
 ghost use Rattle.sno_code.specs.inner.Laws.{CodeMeansAct, CodeMeansTree};
 
 /// The code of an expression does what the expression means, whatever variables, keywords and functions do.
@@ -27,10 +26,4 @@ pub fn code_means_act<Q, R, K>()
 /// A program in code does what its statements mean, with all calls of its functions, whatever keeps the state of a job.
 pub fn code_runs_alike<Q, R, K>()
     ensures { CodeRunsAlike Q R K }
-{}
-
-/// The limit of statements is exact: a number that lets as many begin as the state still allows ends no run early, and a
-/// larger one none later.
-pub fn limit_is_exact<Q, R, K>()
-    ensures { LimitIsExact Q R K }
 {}

@@ -4,7 +4,6 @@ pub mod Steps
 pub mod Lone
 pub mod Sound
 pub mod Spines
-pub mod Tested
 pub mod Grammar
 pub mod Loop
 mod Examples

@@ -1,7 +1,2 @@
-pub mod Marks
-pub mod Expressions
-pub mod Spelling
-pub mod Lacking
 pub mod Laws
-pub mod Told
 pub mod inner

@@ -1,6 +1,5 @@
 pub mod Walking
 pub mod Walks
-pub mod Variables
 pub mod Reading
 pub mod Spines
 pub mod Told

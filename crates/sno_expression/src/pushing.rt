@@ -1,14 +1,15 @@
 //! One more operand on an open spine: each operator is opened and closed once, whatever the depth.
 
 ghost use Rattle.std.specs.Prelude.{◌≡◌, true, IfOk};
-ghost use Rattle.sno_expression.specs.Expressions.{FitsLeft};
+ghost use Rattle.sno_tree.specs.Expressions.{FitsLeft};
 ghost use Rattle.sno_expression.specs.inner.Reading.{push};
 ghost use Rattle.sno_expression.specs.inner.Spines.{is_element, is_ordered};
-ghost use Rattle.sno_expression.specs.Told.{expression_of};
+ghost use Rattle.sno_tree.specs.Told.{expression_of};
 ghost use Rattle.sno_expression.specs.inner.Told.{spread, spine_tree};
 
+use crate::growing::join;
 use crate::spine::{Pending, Spine};
-use crate::tree::{BinaryOperator, Expression, binds_into_right, join};
+use sno_tree::{BinaryOperator, Expression, binds_into_right};
 use std::alloc::{AllocError, Global};
 
 // The innermost operators are closed that the new one may not stand under; what they make is its left operand.

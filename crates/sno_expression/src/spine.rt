@@ -3,7 +3,7 @@
 ghost use Rattle.std.specs.Prelude.{◌≡◌, true};
 ghost use Rattle.sno_expression.specs.inner.Spines.{is_element, is_ordered};
 
-use crate::tree::{BinaryOperator, Expression};
+use sno_tree::{BinaryOperator, Expression};
 
 /// The binary operators down the right spine, each with its left operand, the innermost first. Their right operands may
 /// still grow.

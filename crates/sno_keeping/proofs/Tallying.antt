@@ -8,7 +8,7 @@ use Rattle.mon_answer.specs.declared.answer.Answer.{Answer}
 use Rattle.mon_answer.specs.declared.answer.Answer.TheVariants.{Done}
 use Rattle.sno_ask.specs.Asking.{Asking}
 use Rattle.sno_ask.specs.Counting.{Moment, Beginning, Requesting, Counted, Passed, lifted, with_statement, statements_in, Tells}
-use Rattle.sno_code.specs.Keeping.{Entered, Enters}
+use Rattle.sno_meaning.specs.Keeping.{Entered, Enters}
 use Rattle.sno_store.specs.declared.store.Store.{Store as State}
 use Rattle.sno_store.specs.States.{may_begin, with_statement as with_statement_begun}
 use Rattle.sno_keeping.specs.declared.limits.Limits.{Limits}
@@ -18,7 +18,7 @@ use Rattle.sno_keeping.specs.Calling.{begun}
 use Rattle.sno_keeping.specs.Primitives.{primitive}
 use Rattle.sno_keeping.specs.State.{keeping}
 use Rattle.sno_keeping.proofs.Counting.{Inside, used_stays, assigned_stays, keyword_stays, item_stays, matched_stays, entered_stays, left_stays, primitive_stays}
-use Rattle.sno_code.proofs.Growing.{Grows}
+use Rattle.sno_meaning.proofs.Growing.{Grows}
 
 -- so many statements have begun: each that begins is one more, within the limit; and what it ends with tells how many
 abbrev pub Tallied : {A : Type 0} → ℕ → (A → ℕ) → ℕ → Counted A → Type 0

@@ -11,8 +11,8 @@ use Rattle.sno_ask.specs.declared.request.Request.{Request}
 use Rattle.mon_answer.specs.declared.answer.Answer.{Answer}
 use Rattle.mon_answer.specs.declared.answer.Answer.TheVariants as answer
 use Rattle.sno_value.specs.Values.{null}
-use Rattle.sno_code.specs.declared.got.Got.{Got}
-use Rattle.sno_code.specs.declared.got.Got.TheVariants.{Gives, Fails}
+use Rattle.sno_meaning.specs.declared.got.Got.{Got}
+use Rattle.sno_meaning.specs.declared.got.Got.TheVariants.{Gives, Fails}
 use Rattle.sno_prototype.specs.Formats.{RecordFormat, IsFormat, most_characters, laid_out, records}
 use Rattle.sno_prototype.specs.Laws.{RecordsFollow}
 use Rattle.sno_store.specs.declared.store.Store.{Store as State}

@@ -8,9 +8,9 @@ use Rattle.mon_answer.specs.declared.answer.Answer.{Answer}
 use Rattle.mon_answer.specs.declared.answer.Answer.TheVariants as answer
 use Rattle.sno_text.specs.declared.fault.Fault.{Fault as AFault}
 use Rattle.sno_value.specs.Values.{null}
-use Rattle.sno_code.specs.declared.got.Halt.TheVariants.{Fault}
-use Rattle.sno_code.specs.declared.got.Got.{Got}
-use Rattle.sno_code.specs.declared.got.Got.TheVariants.{Gives, Fails, Halts}
+use Rattle.sno_meaning.specs.declared.got.Halt.TheVariants.{Fault}
+use Rattle.sno_meaning.specs.declared.got.Got.{Got}
+use Rattle.sno_meaning.specs.declared.got.Got.TheVariants.{Gives, Fails, Halts}
 use Rattle.sno_store.specs.declared.store.Store.{Store as State}
 
 -- asked by the statement at hand

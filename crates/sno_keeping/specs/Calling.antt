@@ -3,7 +3,7 @@
 use Rattle.std.specs.Prelude.{ℕ, nat_lt, List, length, Option, Some, None, if◌then◌else◌}
 use Rattle.sno_text.specs.declared.fault.Fault.TheVariants.{Depth}
 use Rattle.sno_value.specs.declared.value.Value.{Value}
-use Rattle.sno_code.specs.Keeping.{Entered, Undefined, Enters, Refused}
+use Rattle.sno_meaning.specs.Keeping.{Entered, Undefined, Enters, Refused}
 use Rattle.sno_prototype.specs.declared.definition.Definition.{Definition}
 use Rattle.sno_store.specs.declared.store.Store.{Store as State}
 use Rattle.sno_store.specs.States.{function_of, may_begin, with_statement}
@@ -16,7 +16,7 @@ begun limit number s = if may_begin limit s then Some (with_statement number s) 
 -- at most 200 calls are in one another, which is tried before the label of the entry is sought
 abbrev pub entered_by : Option Definition → List Value → State → Entered State
 entered_by None vs s = Undefined
-entered_by (Some d) vs s = if nat_lt (length s.levels) 200 then Enters d.entry (calls.entered d vs s) else Refused Depth
+entered_by (Some d) vs s = if nat_lt (length s.levels) 200 then Enters d.entry (calls.call_entered d vs s) else Refused Depth
 
 -- the function of this name is called with these values
 abbrev pub entered : List ℕ → List Value → State → Entered State
@@ -24,4 +24,4 @@ entered f vs s = entered_by (function_of f s) vs s
 
 -- the innermost call is left, with its value
 abbrev pub left : State → Value × State
-left s = (calls.given_back s, calls.left s)
+left s = (calls.given_back s, calls.call_left s)

@@ -5,9 +5,9 @@ use Rattle.sno_value.specs.declared.value.Value.{Value}
 use Rattle.sno_value.specs.declared.value.Value.TheVariants.{Integer}
 use Rattle.sno_value.specs.declared.outcome.Outcome.{Outcome}
 use Rattle.sno_value.specs.declared.outcome.Outcome.TheVariants as outcome
-use Rattle.sno_code.specs.declared.got.Halt.TheVariants.{Fault}
-use Rattle.sno_code.specs.declared.got.Got.{Got}
-use Rattle.sno_code.specs.declared.got.Got.TheVariants.{Halts}
+use Rattle.sno_meaning.specs.declared.got.Halt.TheVariants.{Fault}
+use Rattle.sno_meaning.specs.declared.got.Got.{Got}
+use Rattle.sno_meaning.specs.declared.got.Got.TheVariants.{Halts}
 use Rattle.sno_store.specs.declared.keyword.Keyword.{Keyword}
 use Rattle.sno_store.specs.declared.store.Store.{Store as State}
 use Rattle.sno_store.specs.Keywords.{keyword_named}

@@ -1,5 +1,5 @@
 -- What holds of the state of a job.
-use Rattle.sno_code.specs.Limits.{Counts}
+use Rattle.sno_meaning.specs.Limits.{Counts}
 use Rattle.sno_keeping.specs.declared.limits.Limits.{Limits}
 use Rattle.sno_keeping.specs.State.{keeping, allowed}
 

@@ -10,23 +10,23 @@ use Rattle.sno_text.specs.declared.fault.Fault.TheVariants.{WrongType}
 use Rattle.sno_value.specs.declared.value.Value.{Value}
 use Rattle.sno_value.specs.declared.value.Value.TheVariants.{Text}
 use Rattle.sno_value.specs.Values.{null, text_of}
-use Rattle.sno_code.specs.declared.got.Halt.TheVariants.{Fault}
-use Rattle.sno_code.specs.declared.got.Got.{Got}
-use Rattle.sno_code.specs.declared.got.Got.TheVariants.{Gives, Fails, Halts}
+use Rattle.sno_meaning.specs.declared.got.Halt.TheVariants.{Fault}
+use Rattle.sno_meaning.specs.declared.got.Got.{Got}
+use Rattle.sno_meaning.specs.declared.got.Got.TheVariants.{Gives, Fails, Halts}
 use Rattle.sno_prototype.specs.Formats.{records}
 use Rattle.sno_prototype.specs.declared.association.Input.{Input}
 use Rattle.sno_prototype.specs.declared.association.Output.{Output}
 use Rattle.sno_store.specs.declared.store.Store.{Store as State}
 use Rattle.sno_variables.specs.Variables as variables
 use Rattle.sno_variables.specs.Variables.{Use, use_of, variable_of}
-use Rattle.sno_store.specs.States.{with_value, kept_of}
+use Rattle.sno_store.specs.States.{with_value_of, kept_of}
 use Rattle.sno_keeping.specs.Asking.{request, if_done}
 
 -- USED
 
 -- a value that is stored and given
 abbrev pub stored : List ℕ → Value → State → Got × State
-stored name v s = (Gives v, with_value name v s)
+stored name v s = (Gives v, with_value_of name v s)
 
 -- what is kept of a record is stored, and given; where none is read nothing is stored
 abbrev pub stored_of : List ℕ → Input → Answer → State → Got × State
@@ -65,4 +65,4 @@ written (Some output) v s = write_text output (text_of v) s
 
 -- a variable is assigned a value: it is stored, and then written where the variable is associated with a unit
 abbrev pub assigned : List ℕ → Value → State → Asking (Got × State)
-assigned name v s = written (variable_of name s.variables).output v (with_value name v s)
+assigned name v s = written (variable_of name s.variables).output v (with_value_of name v s)

@@ -2,7 +2,7 @@
 ghost use Rattle.std.specs.Prelude.{◌≡◌};
 ghost use Rattle.sno_keeping.specs.Keywords.{keyword, keyword_set};
 
-use sno_code::{Got, Halt};
+use sno_meaning::{Got, Halt};
 use sno_store::{KeywordName, Store};
 use sno_text::Fault;
 use sno_value::{Outcome, Value};

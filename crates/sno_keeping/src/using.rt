@@ -13,7 +13,7 @@ ghost use Rattle.sno_keeping.specs.Using.{stored, used_by, used, write_all, writ
 
 use mon_text::Line;
 use sno_ask::{Act, Answer, Request, Service};
-use sno_code::{Got, Halt};
+use sno_meaning::{Got, Halt};
 use sno_prototype::laws::records_follow;
 use sno_prototype::{Input, Output};
 use sno_store::{Found, Store};

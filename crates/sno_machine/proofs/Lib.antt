@@ -1,4 +1,3 @@
-pub mod Counted
 pub mod Naming
 pub mod Stepping
 pub mod Moved

@@ -1,3 +1,1 @@
-pub mod Resting
-pub mod Counting
 pub mod Doing

@@ -1,16 +1,17 @@
 //! Where statements go on.
 ghost use Rattle.std.specs.Prelude.{◌≡◌, ◌<◌, ◌+◌, ◌^◌, option_map, IfOk};
-ghost use Rattle.sno_code.specs.Lines.{At};
+ghost use Rattle.sno_meaning.specs.Lines.{At};
 ghost use Rattle.sno_value.specs.Values.{text_of};
-ghost use Rattle.sno_code.specs.Lines.{point_of};
-ghost use Rattle.sno_code.specs.Execution.{label_next, computed_next};
-ghost use Rattle.sno_code.specs.Execution.{On};
+ghost use Rattle.sno_meaning.specs.Lines.{point_of};
+ghost use Rattle.sno_meaning.specs.Execution.{label_next, computed_next};
+ghost use Rattle.sno_meaning.specs.Execution.{On};
 ghost use Rattle.sno_code.specs.inner.Seen.{point_seen, next_seen};
-ghost use Rattle.sno_machine.specs.inner.Counting.{Counts};
+ghost use Rattle.sno_loaded.specs.inner.Counting.{Counts};
 ghost use Rattle.sno_machine.specs.inner.Doing.{statement_in, next_by, returned_by};
 
-use sno_code::{Got, Halt, Next, Point, point_of};
+use sno_code::{Next, Point, point_of};
 use sno_keeping::Limits;
+use sno_meaning::{Got, Halt};
 use sno_store::{StatementNumber, Store};
 use sno_syntax::Labels;
 use sno_text::Fault;
@@ -98,7 +99,7 @@ pub(crate) fn number_of(index: usize) -> StatementNumber
 /// # Errors
 ///
 /// Where a growth was refused.
-#[tactic(auto, using(crate::proofs::Counted::counting, crate::proofs::Counted::counts_same), unfolding(crate::specs::inner::Resting::kept))]
+#[tactic(auto, using(sno_loaded::proofs::Counted::counting, sno_loaded::proofs::Counted::counts_same), unfolding(sno_loaded::specs::inner::Resting::kept))]
 pub(crate) fn returned(limits: Limits, got: Got, state: &mut Store) -> Result<Got, AllocError>
     ensures returned { IfOk result (λ after. (after, state.new) ≡ returned_by limits (got, state.old)) }
     ensures counted { Counts limits state.old state.new }

@@ -9,10 +9,10 @@ use Rattle.sno_token.specs.declared.Outcome.TheVariants.{Success, Failure}
 use Rattle.sno_token.specs.declared.Part.TheVariants.{Equals, Colon, On, Label}
 use Rattle.sno_token.specs.declared.Token.{Token}
 use Rattle.sno_token.specs.declared.TokenKind.TheVariants as token
-use Rattle.sno_expression.specs.Spelling.{spaced}
-use Rattle.sno_expression.specs.declared.tree.BinaryOperator.TheVariants as operator
-use Rattle.sno_expression.specs.declared.tree.UnaryOperator.TheVariants as unary
-use Rattle.sno_expression.specs.Expressions.{Expression, Identifier, Constant, Keyword, Group, Call, TableItem, Unary, Binary, NoArguments, Omitted, Argument}
+use Rattle.sno_tree.specs.Spelling.{spaced}
+use Rattle.sno_tree.specs.declared.tree.BinaryOperator.TheVariants as operator
+use Rattle.sno_tree.specs.declared.tree.UnaryOperator.TheVariants as unary
+use Rattle.sno_tree.specs.Expressions.{Expression, Identifier, Constant, Keyword, Group, Call, TableItem, Unary, Binary, NoArguments, Omitted, Argument}
 use Rattle.sno_statement.specs.declared.fault.Fault.{Fault}
 use Rattle.sno_statement.specs.declared.fault.FaultKind.TheVariants.{MissingBlank, Unfit, NoVariable}
 use Rattle.sno_statement.specs.Statements.{Target, To, Computed, NoGoto, Always, OnSuccess, OnFailure, OnBoth, NoObject, NullObject, ValueObject, NoBody, Does, Statement, Says}

@@ -4,7 +4,7 @@ use Rattle.std.specs.Prelude.{Bool, true, false, ◌||◌, get_or, nat_le, Optio
 use Rattle.std.proofs.lemmas.Bool.{leb-false, leb-true}
 use Rattle.sno_token.specs.declared.Token.{Token}
 use Rattle.sno_token.specs.declared.TokenKind.{TokenKind}
-use Rattle.sno_expression.specs.Spelling.{spaced}
+use Rattle.sno_tree.specs.Spelling.{spaced}
 use Rattle.sno_statement.specs.declared.fault.Fault.{Fault}
 use Rattle.sno_statement.specs.declared.fault.FaultKind.{FaultKind}
 use Rattle.sno_statement.specs.declared.fault.FaultKind.TheVariants.{MissingBlank, Unfit, NoVariable}
@@ -12,7 +12,7 @@ use Rattle.sno_statement.specs.declared.walking.SubjectKind.{SubjectKind}
 use Rattle.sno_statement.specs.inner.Walking.{Walk, take, begins, may_end}
 use Rattle.sno_statement.specs.inner.Faults.{FaultAt, is_taken, refused_as, then_on, refusal_from, refusal, subject_kind, least, noted_here, then_note, noted_from, noted, earlier, fault}
 use Rattle.sno_statement.specs.Lacking.{lacking_in}
-use Rattle.sno_statement.specs.Faults.{IsSpelled, IsFit, Begins, EndsBefore, GoesOnSpaced, Stops, Lacks, Blames, IsFault}
+use Rattle.sno_statement.specs.Faults.{IsSpelled, IsFit, Begins, EndsBefore, GoesOnSpaced, Stops, Lacks, Blames, IsLeftmostFault}
 use Rattle.sno_statement.specs.Laws.{FaultIsLeftmost}
 use Rattle.sno_statement.proofs.Grammar.{taken, notes_exactly, not_noted, not_refused}
 use Rattle.sno_statement.proofs.Prefixes.{then_walk, along, taken_on, goes_no_further, completion, completes, quiet_completion, quiet_first}
@@ -311,7 +311,7 @@ blamed ts left v f (Some i) e n d =
     let g : FaultAt i NoVariable ≡ f = cc in
     subst (λ (x : Fault). Blames x.kind x.at ts left) g (lacks_noted ts i n, none_before ts v i e n)
 
-pub found : (ts : List Token) (f : Fault) → fault ts ≡ Some f → IsFault ts f
+pub found : (ts : List Token) (f : Fault) → fault ts ≡ Some f → IsLeftmostFault ts f
 found ts f e =
     let s = split ts begins in (
       s.begun,
@@ -350,7 +350,7 @@ decided ts left v Unfit n (Some i) e d b = absurd (b.1 i (lacks_noted ts i d))
 decided ts left v MissingBlank n None e d b = stops_blamed ts left v MissingBlank n e b.0 b.2
 decided ts left v MissingBlank n (Some i) e d b = absurd (b.1 i (lacks_noted ts i d))
 
-pub is_found : (ts : List Token) (f : Fault) → IsFault ts f → fault ts ≡ Some f
+pub is_found : (ts : List Token) (f : Fault) → IsLeftmostFault ts f → fault ts ≡ Some f
 is_found ts f b =
     let w = begins_walk b.0 b.3 in
     ap fault b.2 ∙ (fault_split b.0 b.1 w.0 w.1 (stopped b.0 b.1 w.0 w.1 b.4) ∙ decided b.0 b.1 w.0 f.kind f.at (noted b.0) w.1 refl b.5)

@@ -8,9 +8,9 @@ use Rattle.sno_token.specs.declared.Part.TheVariants.{On, Label}
 use Rattle.sno_token.specs.declared.Token.{Token}
 use Rattle.sno_token.specs.declared.TokenKind.{TokenKind}
 use Rattle.sno_token.specs.declared.TokenKind.TheVariants as token
-use Rattle.sno_expression.specs.declared.tree.UnaryOperator.TheVariants.{Indirect}
-use Rattle.sno_expression.specs.Expressions.{Expression, Unary}
-use Rattle.sno_expression.specs.Spelling.{spaced}
+use Rattle.sno_tree.specs.declared.tree.UnaryOperator.TheVariants.{Indirect}
+use Rattle.sno_tree.specs.Expressions.{Expression, Unary}
+use Rattle.sno_tree.specs.Spelling.{spaced}
 use Rattle.sno_expression.specs.inner.Reading.{Reading, Read, reading}
 use Rattle.sno_statement.specs.declared.walking.Role.{Role}
 use Rattle.sno_statement.specs.declared.walking.Role.TheVariants.{Assigns, Goes, Follows, Touches}

@@ -8,9 +8,9 @@ use Rattle.sno_token.specs.declared.Part.TheVariants.{On}
 use Rattle.sno_token.specs.declared.Token.{Token}
 use Rattle.sno_token.specs.declared.TokenKind.{TokenKind}
 use Rattle.sno_token.specs.declared.TokenKind.TheVariants as token
-use Rattle.sno_expression.specs.declared.tree.UnaryOperator.TheVariants.{Indirect}
-use Rattle.sno_expression.specs.Expressions.{Expression, Unary}
-use Rattle.sno_expression.specs.Lacking.{lacking}
+use Rattle.sno_tree.specs.declared.tree.UnaryOperator.TheVariants.{Indirect}
+use Rattle.sno_tree.specs.Expressions.{Expression, Unary}
+use Rattle.sno_tree.specs.Lacking.{lacking}
 use Rattle.sno_statement.specs.Statements.{Target, To, Computed, Goto, NoGoto, Always, OnSuccess, OnFailure, OnBoth, Object, NoObject, NullObject, ValueObject, Body, NoBody, Does, Statement, Says, kind_of, can_be_set}
 use Rattle.std.specs.Option.{option_map_or}
 

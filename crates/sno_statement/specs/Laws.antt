@@ -4,7 +4,7 @@ use Rattle.sno_token.specs.declared.Token.{Token}
 use Rattle.sno_statement.specs.declared.fault.Fault.{Fault}
 use Rattle.sno_statement.specs.Statements.{Statement, StatementHasLevels}
 use Rattle.sno_statement.specs.Spelling.{Spells}
-use Rattle.sno_statement.specs.Faults.{IsFit, IsFault}
+use Rattle.sno_statement.specs.Faults.{IsFit, IsLeftmostFault}
 use Rattle.sno_statement.specs.inner.Faults.{fault}
 
 -- a list of tokens spells at most one statement
@@ -13,4 +13,4 @@ OneStatement = (s t : Statement) (ts : List Token) → StatementHasLevels s → 
 
 -- the fault that is found is the leftmost one, and none is found exactly where the tokens are a statement with its variables
 abbrev pub FaultIsLeftmost : Type 0
-FaultIsLeftmost = (ts : List Token) → ((f : Fault) → (fault ts ≡ Some f) ↔ IsFault ts f) × ((fault ts ≡ None) ↔ IsFit ts)
+FaultIsLeftmost = (ts : List Token) → ((f : Fault) → (fault ts ≡ Some f) ↔ IsLeftmostFault ts f) × ((fault ts ≡ None) ↔ IsFit ts)

@@ -1,7 +1,7 @@
 -- The program's values by the definitions.
 use Rattle.std.specs.Prelude.{◌≡◌, List, Option, Some, None, Result, Ok, Err}
 use Rattle.sno_token.specs.declared.Token.{Token}
-use Rattle.sno_expression.specs.Told.{expression_of, expressions_of}
+use Rattle.sno_tree.specs.Told.{expression_of, expressions_of}
 use Rattle.sno_statement.specs.declared.fault.Fault.{Fault}
 use Rattle.sno_statement.specs.declared.statement.Target.{Target as ATarget}
 use Rattle.sno_statement.specs.declared.statement.Target.TheVariants as target
@@ -14,7 +14,7 @@ use Rattle.sno_statement.specs.declared.statement.Statement.{Statement as AState
 use Rattle.sno_statement.specs.Statements.{Target, To, Computed, Goto, NoGoto, Always, OnSuccess, OnFailure, OnBoth, Object, NoObject, NullObject, ValueObject, Body, NoBody, Does, Statement, Says, StatementHasLevels}
 use Rattle.sno_statement.specs.Spelling.{Spells}
 use Rattle.sno_statement.specs.Lacking.{StatementHasVariables}
-use Rattle.sno_statement.specs.Faults.{IsFault}
+use Rattle.sno_statement.specs.Faults.{IsLeftmostFault}
 
 abbrev pub target_of : ATarget → Target
 target_of (target.Label l) = To l
@@ -45,4 +45,4 @@ abbrev pub Parsed : List Token → Result AStatement Fault → Type 0
 Parsed ts (Ok s) =
     StatementHasLevels (statement_of s) × StatementHasVariables ts (statement_of s) × Spells (statement_of s) ts
     × ((t : Statement) → StatementHasLevels t → Spells t ts → t ≡ statement_of s)
-Parsed ts (Err f) = IsFault ts f
+Parsed ts (Err f) = IsLeftmostFault ts f

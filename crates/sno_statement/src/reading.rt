@@ -1,7 +1,7 @@
 //! A statement read part by part, each part as far as it goes.
 
 ghost use Rattle.std.specs.Prelude.{◌≡◌, IfOk, Some, None, true, false, []};
-ghost use Rattle.sno_expression.specs.Told.{expression_of, expressions_of};
+ghost use Rattle.sno_tree.specs.Told.{expression_of, expressions_of};
 ghost use Rattle.sno_expression.specs.inner.Reading.{Read, reading};
 ghost use Rattle.sno_statement.specs.Statements as the;
 ghost use Rattle.sno_statement.specs.inner.Reading.{Aimed, closing, indirect, computed, inside, target_in, at_last, always, both, second, on_one, next, chosen, goto_in, going, ending, giving, object_in, pattern_then, matching, subject_then, acting, statement_in};
@@ -10,8 +10,9 @@ ghost use Rattle.sno_statement.specs.inner.Told.{gotos_of, statements_of, aim_of
 
 use crate::statement::{Body, Goto, Object, Statement, Target};
 use crate::walking::{Role, role_of};
-use sno_expression::{Expression, Found, UnaryOperator, read_expression};
+use sno_expression::{Found, read_expression};
 use sno_token::{Mark, Outcome, Part, Token, TokenKind, Word};
+use sno_tree::{Expression, UnaryOperator};
 use std::alloc::{AllocError, Global};
 
 /// What was read as an expression, and the tokens behind it.

@@ -24,8 +24,8 @@ abbrev pub level_of : Definition → State → Level
 level_of d s = level_with d s.keywords.statement s.variables
 
 -- a function is called
-abbrev pub entered : Definition → List Value → State → State
-entered d arguments s = record s { variables = assigned (bindings_of d.prototype arguments) s.variables; levels = level_of d s ∷ s.levels }
+abbrev pub call_entered : Definition → List Value → State → State
+call_entered d arguments s = record s { variables = assigned (bindings_of d.prototype arguments) s.variables; levels = level_of d s ∷ s.levels }
 
 -- back at the statement that called, with the values of before
 abbrev pub restored : Level → State → State
@@ -44,13 +44,13 @@ abbrev pub left_by : List Level → State → State
 left_by [] s = s
 left_by (level ∷ levels) s = record (restored level s) { levels = levels }
 
-abbrev pub left : State → State
-left s = left_by s.levels s
+abbrev pub call_left : State → State
+call_left s = left_by s.levels s
 
 -- what the function gives: the value of its name
-abbrev pub given_by : List Level → Variables → Value
-given_by [] vs = null
-given_by (level ∷ levels) vs = value_of level.name vs
+abbrev pub value_given : List Level → Variables → Value
+value_given [] vs = null
+value_given (level ∷ levels) vs = value_of level.name vs
 
 abbrev pub given_back : State → Value
-given_back s = given_by s.levels s.variables
+given_back s = value_given s.levels s.variables

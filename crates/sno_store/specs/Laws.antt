@@ -9,20 +9,20 @@ use Rattle.sno_prototype.specs.declared.definition.Definition.{Definition}
 use Rattle.sno_store.specs.declared.store.Store.{Store as State}
 use Rattle.sno_variables.specs.Variables.{value_of}
 use Rattle.sno_store.specs.declared.keyword.Keyword.{Keyword}
-use Rattle.sno_store.specs.States.{with_value, with_name, with_statement, with_input, with_output, without_associations, with_function, with_keyword_set}
-use Rattle.sno_store.specs.Calls.{level_of, entered, left}
+use Rattle.sno_store.specs.States.{with_value_of, with_name, with_statement, with_input, with_output, without_associations, with_function, with_keyword_set}
+use Rattle.sno_store.specs.Calls.{level_of, call_entered, call_left}
 
 -- a call restores the values of the function's name, parameters and locals, whatever was done between
 abbrev pub CallRestores : Type 0
 CallRestores =
-    (d : Definition) (arguments : List Value) (s t : State) (name : List ℕ) → t.levels ≡ (entered d arguments s).levels
-    → list_any (pointwise nat_eq name) (names_of d.prototype) ≡ true → value_of name (left t).variables ≡ value_of name s.variables
+    (d : Definition) (arguments : List Value) (s t : State) (name : List ℕ) → t.levels ≡ (call_entered d arguments s).levels
+    → list_any (pointwise nat_eq name) (names_of d.prototype) ≡ true → value_of name (call_left t).variables ≡ value_of name s.variables
 
 -- and leaves the others as they are then
 abbrev pub CallLeavesOthers : Type 0
 CallLeavesOthers =
-    (d : Definition) (arguments : List Value) (s t : State) (name : List ℕ) → t.levels ≡ (entered d arguments s).levels
-    → list_any (pointwise nat_eq name) (names_of d.prototype) ≡ false → value_of name (left t).variables ≡ value_of name t.variables
+    (d : Definition) (arguments : List Value) (s t : State) (name : List ℕ) → t.levels ≡ (call_entered d arguments s).levels
+    → list_any (pointwise nat_eq name) (names_of d.prototype) ≡ false → value_of name (call_left t).variables ≡ value_of name t.variables
 
 -- what is saved for the calls that are open is still the same, unless there is a fault
 abbrev pub KeepsLevels : State → Result State Fault → Type 0
@@ -33,7 +33,7 @@ KeepsLevels s (Err f) = Unit {0}
 abbrev pub LevelsStay : Type 0
 LevelsStay =
     (s : State)
-    → ((name : List ℕ) (v : Value) → (with_value name v s).levels ≡ s.levels)
+    → ((name : List ℕ) (v : Value) → (with_value_of name v s).levels ≡ s.levels)
     × ((name : List ℕ) → (with_name name s).levels ≡ s.levels)
     × ((statement : ℕ) → (with_statement statement s).levels ≡ s.levels)
     × ((name unit most : Value) → KeepsLevels s (with_input name unit most s))
@@ -45,5 +45,5 @@ LevelsStay =
 -- a call saves one level more, and its end takes that one away
 abbrev pub CallsNest : Type 0
 CallsNest =
-    ((d : Definition) (arguments : List Value) (s : State) → (entered d arguments s).levels ≡ level_of d s ∷ s.levels)
-    × ((s : State) → (left s).levels ≡ drop 1 s.levels)
+    ((d : Definition) (arguments : List Value) (s : State) → (call_entered d arguments s).levels ≡ level_of d s ∷ s.levels)
+    × ((s : State) → (call_left s).levels ≡ drop 1 s.levels)

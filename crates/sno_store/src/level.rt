@@ -2,7 +2,7 @@
 ghost use Rattle.std.specs.Prelude.{◌≡◌, ◌<◌, ◌^◌, ◌∷◌, ◌++◌, [], length, drop, slice_get, unwrap_or, option_map, vec_len, vec_capacity, IfOk, OnOk, OnErr};
 ghost use Rattle.sno_value.specs.Values.{null};
 ghost use Rattle.sno_variables.specs.Bindings.{assigned};
-ghost use Rattle.sno_store.specs.Calls.{bindings_of, given_by, level_with, saved_by, statement_of};
+ghost use Rattle.sno_store.specs.Calls.{bindings_of, value_given, level_with, saved_by, statement_of};
 ghost use Rattle.sno_store.specs.inner.Filling.{fitted, values_for};
 
 use crate::keyword::StatementNumber;
@@ -197,7 +197,7 @@ impl Levels {
         variables: &mut Variables,
     ) -> Result<Option<(StatementNumber, Value)>, AllocError>
         ensures statement { IfOk result (λ back. option_map (λ b. b.0) back ≡ statement_of self.old) }
-        ensures value { IfOk result (λ back. unwrap_or (option_map (λ b. b.1) back) null ≡ given_by self.old variables.old) }
+        ensures value { IfOk result (λ back. unwrap_or (option_map (λ b. b.1) back) null ≡ value_given self.old variables.old) }
         ensures ended { OnOk result (self.new ≡ drop 1 self.old) }
         ensures assigned { OnOk result (variables.new ≡ assigned (saved_by self.old) variables.old) }
         ensures unchanged { OnErr result ((self.new ≡ self.old) × (variables.new ≡ variables.old)) }

@@ -17,7 +17,7 @@ use Rattle.sno_syntax.specs.declared.start.Start.{Start}
 use Rattle.sno_syntax.specs.Labels.{LabelList, label_fault}
 use Rattle.sno_syntax.specs.Refusals.{label_of, tokens_of, with_label, labels_in, start_in, fault_refusal, with_place, HasTokens, stage_refusal, label_first, statement_refusal, statements_refusal}
 use Rattle.sno_syntax.specs.Programs.{Program, TextSpells, SpellFrom}
-use Rattle.sno_syntax.specs.Reading.{statement_on, before, all_statements, program_by}
+use Rattle.sno_syntax.specs.Reading.{statement_on, statement_before, all_statements, program_by}
 use Rattle.sno_syntax.specs.Laws.{ReadsPrograms, SpellsOne}
 use Rattle.sno_syntax.specs.inner.Tokens.{AreTokensOf}
 use Rattle.sno_syntax.proofs.Behind.{given, given_stands, tokens_spell}
@@ -33,8 +33,8 @@ statements_spelled labels i [] [] a = refl
 statements_spelled labels i [] (s ∷ ss) a = absurd a
 statements_spelled labels i (text ∷ texts) [] a = absurd a
 statements_spelled labels i (text ∷ texts) (s ∷ ss) a =
-    ap (λ o. before o (all_statements texts)) (statement_spelled s (tokens_of text) (tokens_spell text s a.0.1))
-    ∙ ap (λ o. before (Some s) o) (statements_spelled (with_label labels (label_of text) i) (i + 1) texts ss a.1)
+    ap (λ o. statement_before o (all_statements texts)) (statement_spelled s (tokens_of text) (tokens_spell text s a.0.1))
+    ∙ ap (λ o. statement_before (Some s) o) (statements_spelled (with_label labels (label_of text) i) (i + 1) texts ss a.1)
 
 pub reads_programs : ReadsPrograms
 reads_programs cards p a =

@@ -10,7 +10,7 @@ use Rattle.sno_cards.specs.declared.refusal.SyntaxCode.{SyntaxCode}
 use Rattle.sno_cards.specs.declared.refusal.SyntaxCode.TheVariants.{BadEnd}
 use Rattle.sno_cards.specs.Texts.{Placed}
 use Rattle.sno_syntax.specs.declared.start.Start.{Start}
-use Rattle.sno_syntax.specs.Places.{next_to, place_at, refused}
+use Rattle.sno_syntax.specs.Places.{next_to, place_at, refused_with}
 use Rattle.sno_syntax.specs.Refusals.{IsRefusedBehind, begin_of}
 
 -- the place after the last character that is no blank, where one more character stands at a place
@@ -21,7 +21,7 @@ abbrev pub end_from : Place → List Placed → Place
 end_from so_far text = fold (λ p c. if is_blank c.code then p else next_to c.place) so_far text
 
 abbrev pub IsRefusedBy : List Placed → Option SyntaxCode → SyntaxError → Type 0
-IsRefusedBy text code e = MatchOption code (IsRefusedBehind text e) (λ c. e ≡ refused c (place_at text 0))
+IsRefusedBy text code e = MatchOption code (IsRefusedBehind text e) (λ c. e ≡ refused_with c (place_at text 0))
 
 abbrev pub end_refusal : List Placed → Option Start → Option SyntaxError
-end_refusal rest start = then_some (is_none start) (refused BadEnd (begin_of rest))
+end_refusal rest start = then_some (is_none start) (refused_with BadEnd (begin_of rest))

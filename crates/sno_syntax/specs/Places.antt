@@ -23,5 +23,5 @@ next_to place = record place { column = min (place.column + 1) (2 ^ 64 - 1) }
 abbrev pub end_of : List Placed → Place
 end_of text = fold (λ so_far c. if is_blank c.code then so_far else next_to c.place) nowhere text
 
-abbrev pub refused : SyntaxCode → Place → SyntaxError
-refused code place = record { code = code; place = place }
+abbrev pub refused_with : SyntaxCode → Place → SyntaxError
+refused_with code place = record { code = code; place = place }

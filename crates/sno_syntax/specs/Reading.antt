@@ -16,14 +16,14 @@ abbrev pub statement_on : Result TokenList SyntaxError → Option Statement
 statement_on (Ok list) = statement_in list.tokens
 statement_on (Err refusal) = None
 
-abbrev pub before : Option Statement → Option (List Statement) → Option (List Statement)
-before (Some s) (Some ss) = Some (s ∷ ss)
-before (Some s) None = None
-before None ss = None
+abbrev pub statement_before : Option Statement → Option (List Statement) → Option (List Statement)
+statement_before (Some s) (Some ss) = Some (s ∷ ss)
+statement_before (Some s) None = None
+statement_before None ss = None
 
 abbrev pub all_statements : List (List Placed) → Option (List Statement)
 all_statements [] = Some []
-all_statements (text ∷ texts) = before (statement_on (tokens_of text)) (all_statements texts)
+all_statements (text ∷ texts) = statement_before (statement_on (tokens_of text)) (all_statements texts)
 
 abbrev pub program_by : Option (List Statement) → LabelList → Option Start → Option Program
 program_by (Some ss) labels (Some start) = Some (record { statements = ss; labels = labels; start = start })

@@ -21,11 +21,11 @@ use Rattle.sno_lexer.specs.Lexed.{lexed}
 use Rattle.sno_statement.specs.declared.fault.FaultKind.{FaultKind}
 use Rattle.sno_statement.specs.declared.fault.FaultKind.TheVariants.{MissingBlank, Unfit, NoVariable}
 use Rattle.sno_statement.specs.declared.fault.Fault.{Fault}
-use Rattle.sno_statement.specs.Faults.{IsFault}
+use Rattle.sno_statement.specs.Faults.{IsLeftmostFault}
 use Rattle.sno_statement.specs.inner.Faults.{fault}
 use Rattle.sno_syntax.specs.declared.start.Start.{Start}
 use Rattle.sno_syntax.specs.Labels.{LabelList, is_bad_label, label_fault}
-use Rattle.sno_syntax.specs.Places.{place_at, end_of, refused}
+use Rattle.sno_syntax.specs.Places.{place_at, end_of, refused_with}
 use Rattle.sno_syntax.specs.Starts.{start_of}
 use Rattle.std.specs.Bool.{then_some}
 
@@ -50,10 +50,10 @@ abbrev pub token_place : List Placed → List ℕ → ℕ → Place
 token_place text offsets i = if nat_lt i (length offsets) then place_at text (get_or offsets i 0) else end_of text
 
 abbrev pub lex_refusal : List Placed → LexFault → SyntaxError
-lex_refusal text f = refused (code_of_lex f.kind) (place_at text f.offset)
+lex_refusal text f = refused_with (code_of_lex f.kind) (place_at text f.offset)
 
 abbrev pub fault_refusal : List Placed → List ℕ → Fault → SyntaxError
-fault_refusal text offsets f = refused (code_of_fault f.kind) (token_place text offsets f.at)
+fault_refusal text offsets f = refused_with (code_of_fault f.kind) (token_place text offsets f.at)
 
 abbrev pub with_place : List Placed → Result TokenList LexFault → Result TokenList SyntaxError
 with_place text (Ok list) = Ok list
@@ -70,11 +70,11 @@ stage_refusal text (Ok list) = option_map (fault_refusal text list.offsets) (fau
 
 -- the tokens of a text, or its first refusal where neither the grammar is looked at nor which labels may stand there
 abbrev pub lexed_text : List Placed → Result TokenList SyntaxError
-lexed_text text = if is_bad_label (label_of text) then Err (refused Unexpected (place_at text 0)) else tokens_of text
+lexed_text text = if is_bad_label (label_of text) then Err (refused_with Unexpected (place_at text 0)) else tokens_of text
 
 -- of the label, else what comes later; a label is refused where it begins
 abbrev pub label_first : List Placed → Option SyntaxCode → Option SyntaxError → Option SyntaxError
-label_first text (Some code) later = Some (refused code (place_at text 0))
+label_first text (Some code) later = Some (refused_with code (place_at text 0))
 label_first text None later = later
 
 -- of a statement, where these labels are defined before it
@@ -89,11 +89,11 @@ HasTokens text r = IsLexed (text_of text) (length (label_of text)) r
 abbrev pub IsRefusedBehind : List Placed → SyntaxError → Type 0
 IsRefusedBehind text e =
     ((f : LexFault) × HasTokens text (Err f) × (e ≡ lex_refusal text f))
-    ⊎ ((list : TokenList) × (f : Fault) × HasTokens text (Ok list) × IsFault list.tokens f × (e ≡ fault_refusal text list.offsets f))
+    ⊎ ((list : TokenList) × (f : Fault) × HasTokens text (Ok list) × IsLeftmostFault list.tokens f × (e ≡ fault_refusal text list.offsets f))
 
 -- the refusal of a statement that stands behind these labels: its label's, at its beginning, or else of what stands behind it
 abbrev pub IsRefusalOf : LabelList → List Placed → SyntaxError → Type 0
-IsRefusalOf labels text e = MatchOption (label_fault labels (label_of text)) (IsRefusedBehind text e) (λ code. e ≡ refused code (place_at text 0))
+IsRefusalOf labels text e = MatchOption (label_fault labels (label_of text)) (IsRefusedBehind text e) (λ code. e ≡ refused_with code (place_at text 0))
 
 -- ALL STATEMENTS
 
@@ -128,4 +128,4 @@ start_in program = start_of (length program.statements) (labels_in program.state
 -- statement by statement, and then the END line
 abbrev pub syntax_refusal : ProgramText → Option SyntaxError
 syntax_refusal program = option_or (statements_refusal [] 0 program.statements)
-    (then_some (is_none (start_in program)) (refused BadEnd (begin_of program.end_rest)))
+    (then_some (is_none (start_in program)) (refused_with BadEnd (begin_of program.end_rest)))

@@ -4,7 +4,7 @@ ghost use Rattle.mon_text.specs.Characters.{is_blank};
 ghost use Rattle.sno_cards.specs.Answers.{IfRefused};
 ghost use Rattle.sno_cards.specs.declared.refusal.SyntaxCode.TheVariants.{BadEnd};
 ghost use Rattle.sno_statement.specs.Told.{statement_of};
-ghost use Rattle.sno_syntax.specs.Places.{refused};
+ghost use Rattle.sno_syntax.specs.Places.{refused_with};
 ghost use Rattle.sno_syntax.specs.Refusals.{code_of_fault, token_place, fault_refusal, label_of, tokens_of, stage_refusal, statement_refusal, with_label, labels_in, statements_refusal, begin_of, syntax_refusal};
 ghost use Rattle.sno_syntax.specs.Programs.{program_of, TextSpells, SpellsBehind, SpellFrom, IsProgram};
 ghost use Rattle.sno_syntax.specs.inner.Lasts.{SpellsLast};
@@ -154,7 +154,7 @@ fn begin_of(text: &StatementText) -> Place
 }
 
 fn end_refusal(rest: &StatementText) -> SyntaxError
-    ensures { result ≡ refused BadEnd (begin_of rest.now) }
+    ensures { result ≡ refused_with BadEnd (begin_of rest.now) }
 {
     SyntaxError {
         code: SyntaxCode::BadEnd,

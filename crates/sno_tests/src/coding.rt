@@ -1,7 +1,7 @@
 //! Code is made where memory is there: no clause can say that it is.
 use mon_text::{Line, read_line};
 use sno_code::{Instr, code_of, code_of_name};
-use sno_expression::{BinaryOperator, Expression, UnaryOperator};
+use sno_tree::{BinaryOperator, Expression, UnaryOperator};
 use std::alloc::Global;
 
 fn variable(alloc: Global) -> Option<Expression> {

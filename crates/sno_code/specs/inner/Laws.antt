@@ -1,15 +1,15 @@
 -- What code does, by what trees mean.
 use Rattle.std.specs.Prelude.{◌≡◌, ℕ, zero, List, ◌++◌}
 use Rattle.sno_talk.specs.Talks.{Talk, ◌>>=◌}
-use Rattle.sno_expression.specs.Expressions.{Expression}
-use Rattle.sno_code.specs.Evaluation.{evaluate, name_of}
+use Rattle.sno_tree.specs.Expressions.{Expression}
+use Rattle.sno_meaning.specs.Evaluation.{evaluate, name_of}
 use Rattle.sno_value.specs.declared.value.Value.{Value}
-use Rattle.sno_code.specs.declared.got.Got.{Got}
-use Rattle.sno_code.specs.Keeping.{Keeping, Setting, setting_of}
-use Rattle.sno_code.specs.Lines.{Act}
-use Rattle.sno_code.specs.Execution.{perform}
+use Rattle.sno_meaning.specs.declared.got.Got.{Got}
+use Rattle.sno_meaning.specs.Keeping.{Keeping, Setting, setting_of}
+use Rattle.sno_meaning.specs.Lines.{Act}
+use Rattle.sno_meaning.specs.Execution.{perform}
 use Rattle.sno_code.specs.declared.instr.Instr.{Instr}
-use Rattle.sno_code.specs.declared.stack.Item.{Item}
+use Rattle.sno_stack.specs.declared.stack.Item.{Item}
 use Rattle.sno_code.specs.inner.Code.{code_of}
 use Rattle.sno_code.specs.inner.Acts.{code_of_act}
 use Rattle.sno_code.specs.inner.Coding.{run_alone}

@@ -1,11 +1,11 @@
 -- What holds of an open spine, which is a list of operators, the innermost first.
 use Rattle.std.specs.Prelude.{Bool, true, false, ◌&&◌}
-use Rattle.sno_expression.specs.declared.tree.BinaryOperator.{BinaryOperator}
-use Rattle.sno_expression.specs.declared.tree.Expression.{Expression}
-use Rattle.sno_expression.specs.declared.tree.Expression.TheVariants as tree
+use Rattle.sno_tree.specs.declared.tree.BinaryOperator.{BinaryOperator}
+use Rattle.sno_tree.specs.declared.tree.Expression.{Expression}
+use Rattle.sno_tree.specs.declared.tree.Expression.TheVariants as tree
 use Rattle.sno_expression.specs.declared.spine.Pending.{Pending}
 use Rattle.sno_expression.specs.declared.spine.Pending.TheVariants as pending
-use Rattle.sno_expression.specs.Expressions.{binds_into_right}
+use Rattle.sno_tree.specs.Expressions.{binds_into_right}
 
 -- each operator may stand right under the one around it
 abbrev pub is_above : BinaryOperator → Pending → Bool

@@ -4,7 +4,7 @@ use Rattle.sno_token.specs.declared.Mark.TheVariants.{Dollar, Ampersand}
 use Rattle.sno_token.specs.declared.Token.{Token}
 use Rattle.sno_token.specs.declared.TokenKind.{TokenKind}
 use Rattle.sno_token.specs.declared.TokenKind.TheVariants as token
-use Rattle.sno_expression.specs.Spelling.{spaced}
+use Rattle.sno_tree.specs.Spelling.{spaced}
 use Rattle.sno_expression.specs.inner.Walking.{is_misfit, misfit_index}
 use Rattle.sno_statement.specs.declared.fault.FaultKind.{FaultKind}
 use Rattle.sno_statement.specs.declared.fault.FaultKind.TheVariants.{MissingBlank, Unfit, NoVariable}

@@ -11,7 +11,7 @@ use Rattle.sno_expression.specs.declared.walking.Paren.{Paren}
 use Rattle.sno_expression.specs.declared.walking.Position.TheVariants.{AtStart}
 use Rattle.sno_expression.specs.declared.walking.Move.{Move}
 use Rattle.sno_expression.specs.declared.walking.Move.TheVariants as move
-use Rattle.sno_expression.specs.Spelling.{spaced}
+use Rattle.sno_tree.specs.Spelling.{spaced}
 use Rattle.sno_expression.specs.inner.Walking.{step, ends, inner_of, outer_of}
 use Rattle.sno_statement.specs.declared.walking.Role.{Role}
 use Rattle.sno_statement.specs.declared.walking.Role.TheVariants.{Assigns, Goes, Follows, Touches}

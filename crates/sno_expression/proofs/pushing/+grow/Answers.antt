@@ -1,7 +1,7 @@
 use Rattle.std.proofs.Common.{◌≡◌, sym, ◌∙◌}
 use Rattle.std.specs.Prelude.{true}
 use Rattle.sno_expression.specs.inner.Spines.{is_above}
-use Rattle.sno_expression.specs.Told.{expression_of}
+use Rattle.sno_tree.specs.Told.{expression_of}
 use Rattle.sno_expression.proofs.Spines.{grown}
 use Rattle.sno_expression.proofs.pushing.+grow.Goals as goal
 

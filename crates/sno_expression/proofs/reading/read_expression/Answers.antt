@@ -1,6 +1,6 @@
 use Rattle.std.proofs.Common.{◌+◌, drop}
 use Rattle.sno_expression.specs.inner.Reading.{reading}
-use Rattle.sno_expression.specs.Told.{expressions_of}
+use Rattle.sno_tree.specs.Told.{expressions_of}
 use Rattle.sno_expression.specs.inner.Told.{state_of}
 use Rattle.sno_expression.proofs.Loop.{more, on_next, on_end}
 use Rattle.sno_expression.proofs.reading.read_expression.Goals as goal

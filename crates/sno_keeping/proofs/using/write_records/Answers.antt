@@ -1,5 +1,5 @@
 use Rattle.std.proofs.Common.{rules, arith, ◌-◌, ◌≤◌, ◌<◌, length}
-use Rattle.sno_code.specs.declared.got.Got.TheVariants.{Fails}
+use Rattle.sno_meaning.specs.declared.got.Got.TheVariants.{Fails}
 use Rattle.sno_prototype.specs.Formats.{IsFormat}
 use Rattle.sno_keeping.proofs.Writing.{is_format, fails_at, ends_at, goes_at, cuts_at}
 use Rattle.sno_keeping.proofs.using.write_records.Goals as goal

@@ -1,6 +1,6 @@
 use Rattle.std.proofs.Common.{◌-◌, ◌≤◌, length, drop}
 use Rattle.sno_ask.specs.Asking.{Held, Cut}
-use Rattle.sno_code.specs.declared.got.Got.{Got}
+use Rattle.sno_meaning.specs.declared.got.Got.{Got}
 use Rattle.sno_prototype.specs.Formats.{records}
 use Rattle.sno_keeping.specs.Using.{write_all}
 use Rattle.sno_keeping.proofs.using.write_records.Given as goal

@@ -2,7 +2,7 @@ use Rattle.std.proofs.Common.{sym}
 use Rattle.sno_ask.specs.Counting.{Cut}
 use Rattle.sno_code.specs.inner.Seen.{point_seen, next_seen}
 use Rattle.sno_run.specs.inner.Turning.{turned_of, HasLine, turn_coded}
-use Rattle.sno_machine.specs.inner.Counting.{beside}
+use Rattle.sno_loaded.specs.inner.Counting.{beside}
 use Rattle.sno_machine.proofs.Stepping.{at_err}
 use Rattle.sno_run.proofs.Standing.{has_line, turn_held, turn_cut, behind_held}
 use Rattle.sno_run.proofs.turning.turn_at.Goals as goal

@@ -1,0 +1,66 @@
+//! Trees that grow while they are read.
+ghost use Rattle.std.specs.Prelude.{◌≡◌, IfOk};
+ghost use Rattle.sno_tree.specs.Expressions as expressions;
+ghost use Rattle.sno_tree.specs.Told.{expression_of, arguments_of};
+ghost use Rattle.sno_expression.specs.inner.Reading.{with_prefix};
+
+use mon_text::Line;
+use sno_token::Constant;
+use sno_tree::{Arguments, BinaryOperator, Expression, IdentifierPrefix};
+use std::alloc::{AllocError, Global};
+
+// Two operands under their operator.
+pub(crate) fn join(
+    alloc: Global,
+    operator: BinaryOperator,
+    left: Box<Expression>,
+    right: Expression,
+) -> Result<Expression, AllocError>
+    ensures { IfOk result (λ t. expression_of t ≡ expressions.Binary operator (expression_of left.value) (expression_of right)) }
+{
+    let right = Box::new(alloc, right)?;
+    Ok(Expression::Binary(operator, left, right))
+}
+
+// The tree of `&` or `*` with its identifier.
+pub(crate) fn with_prefix(prefix: IdentifierPrefix, name: Line) -> Expression
+    ensures { expression_of result ≡ with_prefix prefix name }
+{
+    match prefix {
+        IdentifierPrefix::Keyword => Expression::Keyword(name),
+        IdentifierPrefix::Unevaluated => Expression::Unevaluated(name),
+    }
+}
+
+// One more argument.
+pub(crate) fn add_argument(
+    alloc: Global,
+    arguments: Arguments,
+    tree: Expression,
+) -> Result<Arguments, AllocError>
+    ensures { IfOk result (λ a. arguments_of a ≡ expressions.Argument (arguments_of arguments) (expression_of tree)) }
+{
+    let arguments = Box::new(alloc, arguments)?;
+    let tree = Box::new(alloc, tree)?;
+    Ok(Arguments::Argument(arguments, tree))
+}
+
+// One more argument, which is empty.
+pub(crate) fn omit_argument(alloc: Global, arguments: Arguments) -> Result<Arguments, AllocError>
+    ensures { IfOk result (λ a. arguments_of a ≡ expressions.Omitted (arguments_of arguments)) }
+{
+    let arguments = Box::new(alloc, arguments)?;
+    Ok(Arguments::Omitted(arguments))
+}
+
+pub(crate) fn copy_constant(alloc: Global, constant: &Constant) -> Result<Constant, AllocError>
+    ensures { IfOk result (λ c. c ≡ constant.now) }
+{
+    match constant {
+        Constant::Literal(text) => {
+            let text = text.copy(alloc)?;
+            Ok(Constant::Literal(text))
+        }
+        Constant::Integer(value) => Ok(Constant::Integer(*value)),
+    }
+}

@@ -1,0 +1,4 @@
+pub mod Relating
+pub mod Depth
+pub mod Growing
+pub mod Examples
