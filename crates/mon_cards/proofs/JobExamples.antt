@@ -8,11 +8,11 @@ use Rattle.mon_cards.specs.declared.job.OpenJob.{OpenJob}
 use Rattle.mon_cards.specs.Cards.{card_among}
 use Rattle.mon_cards.specs.Decks.{Enters, Drains, Stopped}
 use Rattle.mon_cards.specs.Jobs.{usual_limits, opened_job}
-use Rattle.mon_cards.specs.Requests.{card_refusal}
-use Rattle.mon_cards.specs.Sections.{Closed, InJob, refused, stream_section, refused_early, opening_section}
+use Rattle.mon_cards.specs.Requests.{stream_card_refusal}
+use Rattle.mon_cards.specs.Sections.{Closed, InJob, refused_on_line, stream_section, refused_early, opening_section}
 
 abbrev code_of : List ℕ → Option Code
-code_of card = card_refusal (card_among (words card)) (words card)
+code_of card = stream_card_refusal (card_among (words card)) (words card)
 
 option_before_name : code_of (codes "$JOB 9lisa TIME=1") ≡ Some BadCard
 option_before_name = refl
@@ -52,11 +52,11 @@ a_job : stream_section 1 Closed
 a_job = refl
 
 -- a blank line begins the program
-blank_line_first : stream_section 1 (InJob lisa) ([] ∷ codes "$UNIT 8 X" ∷ []) ≡ refused 2 OutOfPlace
+blank_line_first : stream_section 1 (InJob lisa) ([] ∷ codes "$UNIT 8 X" ∷ []) ≡ refused_on_line 2 OutOfPlace
 blank_line_first = refl
 
-unknown_before : stream_section 1 (InJob lisa) (codes "$EOJX" ∷ []) ≡ refused 1 UnknownCard
+unknown_before : stream_section 1 (InJob lisa) (codes "$EOJX" ∷ []) ≡ refused_on_line 1 UnknownCard
 unknown_before = refl
 
-unknown_behind : stream_section 1 (InJob lisa) (codes "END" ∷ codes "$EOJX" ∷ []) ≡ refused 2 OutOfPlace
+unknown_behind : stream_section 1 (InJob lisa) (codes "END" ∷ codes "$EOJX" ∷ []) ≡ refused_on_line 2 OutOfPlace
 unknown_behind = refl

@@ -15,7 +15,7 @@ use Rattle.mon_cards.specs.declared.job.OpenJob.{OpenJob}
 use Rattle.mon_cards.specs.Cards.{card_among, is_card, word_at}
 use Rattle.mon_cards.specs.Refusing.{unless, line_refusal, is_dollar_line}
 use Rattle.mon_cards.specs.CardLines.{IsLineWithin, IsCard}
-use Rattle.mon_cards.specs.Jobs.{is_job_card_line, program_text, has_begun, unit_refusal, unit_on, job_card_refusal, job_line_refusal, ends_job, with_unit, with_program_line, after_job_line}
+use Rattle.mon_cards.specs.Jobs.{is_job_card_line, program_text, has_begun, unit_card_refusal, unit_on, job_card_refusal, job_line_refusal, ends_job, with_unit, with_program_line, after_job_line}
 use Rattle.mon_cards.specs.JobSpelling.{SpellsUnit, SpellsText}
 use Rattle.mon_cards.proofs.Spelled.{both_hold, neither, passes, line_taken}
 use Rattle.std.specs.Option.{option_or}
@@ -139,8 +139,8 @@ module _ (job : OpenJob) (line : List ℕ) where
       record {
         good = card_refused (line_taken 200 line is.card_is.line_is) here
             ∙ ap (λ (o : Option Card). job_card_refusal o (has_begun job) (words line)) named_it
-            ∙ ap (λ (b : Bool). option_or (unless (not b) OutOfPlace) (unit_refusal (words line))) before
-            ∙ ap unit_refusal is.card_is.words_are
+            ∙ ap (λ (b : Bool). option_or (unless (not b) OutOfPlace) (unit_card_refusal (words line))) before
+            ∙ ap unit_card_refusal is.card_is.words_are
             ∙ ap (λ (b : Bool). option_or (unless b BadNumber) (unless (is_name tie.set) BadName)) is.count
             ∙ ap (λ (b : Bool). unless b BadName) is.set_is;
         stays_open = both_false (is_job_card_line line) (is_card card.EndJob (card_among (words line))) (ap (is_card card.EndJob) named_it);
@@ -164,11 +164,11 @@ module _ (job : OpenJob) (line : List ℕ) where
       )
 
 -- a good unit card is spelled
-pub unit_spelled : (line : List ℕ) → IsLineWithin 200 line → is_dollar_line line ≡ true → card_among (words line) ≡ Some card.Tie → unit_refusal (words line) ≡ None
+pub unit_spelled : (line : List ℕ) → IsLineWithin 200 line → is_dollar_line line ≡ true → card_among (words line) ≡ Some card.Tie → unit_card_refusal (words line) ≡ None
     → SpellsUnit line (unit_on (words line))
 unit_spelled line within at_once is fine = by (words line) refl is fine
   where
-    by : (ws : List (List ℕ)) → words line ≡ ws → card_among ws ≡ Some card.Tie → unit_refusal ws ≡ None → SpellsUnit line (unit_on (words line))
+    by : (ws : List (List ℕ)) → words line ≡ ws → card_among ws ≡ Some card.Tie → unit_card_refusal ws ≡ None → SpellsUnit line (unit_on (words line))
     by [] e is fine = cc
     by (word ∷ others) e is fine =
         let two = neither (unless (length (word ∷ others) == 3) BadCard) _ fine in

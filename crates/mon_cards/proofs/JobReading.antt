@@ -13,8 +13,8 @@ use Rattle.mon_cards.specs.Cards.{card_among, is_card}
 use Rattle.mon_cards.specs.Decks.{Cards, Enters}
 use Rattle.mon_cards.specs.Refusing.{unless, line_refusal, is_dollar_line}
 use Rattle.mon_cards.specs.CardLines.{IsLineWithin, IsCard}
-use Rattle.mon_cards.specs.Jobs.{is_job_card_line, program_text, has_begun, unit_refusal, unit_on, job_card_refusal, job_line_refusal, ends_job, with_unit, with_program_line, after_job_line}
-use Rattle.mon_cards.specs.Sections.{Closed, InJob, and_then, stream_section}
+use Rattle.mon_cards.specs.Jobs.{is_job_card_line, program_text, has_begun, unit_card_refusal, unit_on, job_card_refusal, job_line_refusal, ends_job, with_unit, with_program_line, after_job_line}
+use Rattle.mon_cards.specs.Sections.{Closed, InJob, asked_then, stream_section}
 use Rattle.mon_cards.specs.JobSpelling.{SpellsUnit, SpellsUnits, SpellsText, SpellsTexts}
 use Rattle.mon_cards.proofs.Spelled.{neither, passes, taken_line, alone}
 use Rattle.mon_cards.proofs.JobLines.{GoesOn, line_text, text_taken, unit_taken, end_taken, unit_spelled}
@@ -32,7 +32,7 @@ with_texts job texts = record job { lines = job.lines ++ texts }
 module _ (job : OpenJob) (line : List ℕ) (lines : List (List ℕ)) (n : ℕ) where
   -- what a good line leads to, whether it ends the job or not
   abbrev leads_to : Bool → OpenJob → Cards
-  leads_to ends after = if ends then and_then (Enters job) (stream_section (n + 1) Closed lines) else stream_section (n + 1) (InJob after) lines
+  leads_to ends after = if ends then asked_then (Enters job) (stream_section (n + 1) Closed lines) else stream_section (n + 1) (InJob after) lines
 
   goes : (after : OpenJob) → GoesOn job line after → stream_section n (InJob job) (line ∷ lines) ≡ stream_section (n + 1) (InJob after) lines
   goes after is =
@@ -40,7 +40,7 @@ module _ (job : OpenJob) (line : List ℕ) (lines : List (List ℕ)) (n : ℕ) w
       ∙ ap (λ (b : Bool). leads_to b (after_job_line job line)) is.stays_open
       ∙ ap (leads_to false) is.after_is
 
-  ends : IsCard 200 card.EndJob [] line → is_dollar_line line ≡ true → stream_section n (InJob job) (line ∷ lines) ≡ and_then (Enters job) (stream_section (n + 1) Closed lines)
+  ends : IsCard 200 card.EndJob [] line → is_dollar_line line ≡ true → stream_section n (InJob job) (line ∷ lines) ≡ asked_then (Enters job) (stream_section (n + 1) Closed lines)
   ends is at_once =
       let taken = end_taken job line is at_once in
       ap (λ r. goes_on r n (leads_to (ends_job line) (after_job_line job line))) taken.0
@@ -73,7 +73,7 @@ units_read (line ∷ lines) (tie ∷ ties) more job n before (is, are) =
 
 pub all_read : (unit_lines program rest : List (List ℕ)) (end_card : List ℕ) (ties : List UnitCard) (texts : List (List ℕ)) (job : OpenJob) (n : ℕ) → has_begun job ≡ false
     → SpellsUnits unit_lines ties → SpellsTexts program texts → IsCard 200 card.EndJob [] end_card → is_dollar_line end_card ≡ true
-    → (m : ℕ) × (stream_section n (InJob job) (unit_lines ++ (program ++ end_card ∷ rest)) ≡ and_then (Enters (with_texts (with_units job ties) texts)) (stream_section m Closed rest))
+    → (m : ℕ) × (stream_section n (InJob job) (unit_lines ++ (program ++ end_card ∷ rest)) ≡ asked_then (Enters (with_texts (with_units job ties) texts)) (stream_section m Closed rest))
 all_read unit_lines program rest end_card ties texts job n before units_are program_is end_is at_once =
     let first = units_read unit_lines ties (program ++ end_card ∷ rest) job n before units_are in
     let second = texts_read program texts (end_card ∷ rest) (with_units job ties) first.0 program_is in
@@ -121,7 +121,7 @@ took job line good =
         Ends (alone card.EndJob 200 line within e (passes (length (words line) == 1) BadCard fine)) (at_once here)
         (ap (λ (b : Bool). b && is_card card.EndJob (card_among (words line))) here ∙ ap (is_card card.EndJob) e)
     of_card (Some card.Tie) e here within fine =
-        let two = neither (unless (not (has_begun job)) OutOfPlace) (unit_refusal (words line)) fine in
+        let two = neither (unless (not (has_begun job)) OutOfPlace) (unit_card_refusal (words line)) fine in
         Ties (not_true (has_begun job) (passes (not (has_begun job)) OutOfPlace two.0)) (unit_spelled line within (at_once here) e two.1)
         (ap (λ (b : Bool). b && is_card card.EndJob (card_among (words line))) here ∙ ap (is_card card.EndJob) e)
         (ap (λ (b : Bool). if b then with_unit job (unit_on (words line)) else with_program_line job (program_text line)) here)

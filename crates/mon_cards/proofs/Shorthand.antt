@@ -4,11 +4,11 @@ use Rattle.std.specs.Option.{option_map_or}
 use Rattle.mon_access.specs.declared.account.Account.{Account}
 use Rattle.mon_cards.specs.declared.code.Code.{Code}
 use Rattle.mon_cards.specs.Decks.{Cards, Deck}
-use Rattle.mon_cards.specs.Sections.{refused, refused_early}
+use Rattle.mon_cards.specs.Sections.{refused_on_line, refused_early}
 
 -- the cards go on, unless line n is refused
 abbrev pub goes_on : Option Code → ℕ → Cards → Cards
-goes_on refusal n rest = option_map_or (refused n) refusal rest
+goes_on refusal n rest = option_map_or (refused_on_line n) refusal rest
 
 -- these accounts stand, and the deck goes on, unless its line n is refused
 abbrev pub deck_goes_on : Option Code → ℕ → List Account → Deck → Deck

@@ -102,8 +102,8 @@ abbrev pub has_begun : OpenJob → Bool
 has_begun job = not (length job.lines == 0)
 
 -- `$UNIT`: a unit, and a data set. Whether there is such a unit is tried where the job is loaded.
-abbrev pub unit_refusal : List (List ℕ) → Option Code
-unit_refusal ws =
+abbrev pub unit_card_refusal : List (List ℕ) → Option Code
+unit_card_refusal ws =
     option_or (unless (length ws == 3) BadCard)
     (option_or (unless (is_count (word_at 1 ws)) BadNumber) (unless (is_name (word_at 2 ws)) BadName))
 
@@ -113,7 +113,7 @@ unit_on ws = record { unit = value_of (word_at 1 ws); set = word_at 2 ws }
 -- a unit card stands before the program; behind its first line all but `$EOJ` are out of place, cards or not
 abbrev pub job_card_refusal : Option Card → Bool → List (List ℕ) → Option Code
 job_card_refusal (Some EndJob) begun ws = further_refusal ws
-job_card_refusal (Some Tie) begun ws = option_or (unless (not begun) OutOfPlace) (unit_refusal ws)
+job_card_refusal (Some Tie) begun ws = option_or (unless (not begun) OutOfPlace) (unit_card_refusal ws)
 job_card_refusal (Some _) begun ws = Some OutOfPlace
 job_card_refusal None begun ws = Some (if begun then OutOfPlace else UnknownCard)
 

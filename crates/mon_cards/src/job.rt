@@ -6,7 +6,7 @@ ghost use Rattle.mon_cards.specs.declared.code.Code.TheVariants.{BadNumber, BadC
 ghost use Rattle.mon_cards.specs.declared.card.Card.TheVariants as card;
 ghost use Rattle.mon_cards.specs.Cards.{card_among, is_card};
 ghost use Rattle.mon_cards.specs.Refusing.{unless, line_refusal};
-ghost use Rattle.mon_cards.specs.Jobs.{sets_statements, sets_steps, are_options, option_text, has_number, is_limit, with_option, limits_refusal, usual_limits, job_refusal, opened_job, job_on, is_job_card_line, program_text, has_begun, unit_refusal, unit_on, job_card_refusal, job_line_refusal, ends_job, with_unit, with_program_line, after_job_line, job_deck_of};
+ghost use Rattle.mon_cards.specs.Jobs.{sets_statements, sets_steps, are_options, option_text, has_number, is_limit, with_option, limits_refusal, usual_limits, job_refusal, opened_job, job_on, is_job_card_line, program_text, has_begun, unit_card_refusal, unit_on, job_card_refusal, job_line_refusal, ends_job, with_unit, with_program_line, after_job_line, job_deck_of};
 ghost use Rattle.mon_cards.specs.inner.Stops.{Answers};
 ghost use Rattle.std.specs.Option.{option_or};
 ghost use Rattle.std.specs.List.{fold};
@@ -127,7 +127,7 @@ pub(crate) fn read_job(alloc: Global, words: &Words<'_>) -> Result<OpenJob, Stop
 
 // The unit card of these words.
 fn read_unit(words: &Words<'_>) -> Result<UnitCard, Stop<Code>>
-    ensures answers { Answers (unit_refusal words.now) result }
+    ensures answers { Answers (unit_card_refusal words.now) result }
     ensures value { IfOk result (λ card. card ≡ unit_on words.now) }
 {
     if words.len() != 3 {
@@ -242,7 +242,7 @@ impl OpenJob {
 
     // A unit card.
     fn take_unit(&mut self, words: &Words<'_>) -> Result<(), Stop<Code>>
-        ensures answers { Answers (option_or (unless (not (has_begun self.old)) OutOfPlace) (unit_refusal words.now)) result }
+        ensures answers { Answers (option_or (unless (not (has_begun self.old)) OutOfPlace) (unit_card_refusal words.now)) result }
         ensures taken { OnOk result (self.new ≡ with_unit self.old (unit_on words.now)) }
         ensures unchanged { OnErr result (self.new ≡ self.old) }
     {

@@ -10,7 +10,7 @@ use Rattle.mon_job.specs.declared.job_end.JobEnd.{JobEnd}
 use Rattle.mon_job.specs.Printouts.{printout}
 use Rattle.mon_slots.specs.Floors.{Floor, job_in}
 use Rattle.mon_slots.specs.Turns.{ends_by, turns, only}
-use Rattle.mon_slots.specs.Marks.{Marks, mark_of, later, turn_as, Past, nothing, and_then, until, never, marked, rounds, turns_left, is_done, has_room}
+use Rattle.mon_slots.specs.Marks.{Marks, mark_of, later, turn_as, Past, nothing, ends_then, until, never, marked, rounds, turns_left, is_done, has_free_slot}
 use Rattle.mon_slots.proofs.Past.{either_way, until_stops, until_goes, until_append, unmarked}
 use Rattle.mon_monitor.specs.Worlds.{World, with_floor, first_world}
 use Rattle.mon_monitor.specs.Events.{Event, Serve, Load, Give, Drain}
@@ -43,7 +43,7 @@ some_turns stop w (s ∷ E) m = elim (either_way (stop w)) [
   | inr h ↦
       let t = turn_as (mark_of m) s w in
       let rest = some_turns stop t.1 E (later m) in
-      (s ∷ rest.0, until_goes stop s E m w h ∙ ap (and_then (ends_by s t.0)) rest.1)
+      (s ∷ rest.0, until_goes stop s E m w h ∙ ap (ends_then (ends_by s t.0)) rest.1)
 ]
 
 abbrev IsTurns : Event → Type 0
@@ -77,7 +77,7 @@ then_turns p next w first rest =
           ∙ ap (and_played (of_turns w one).papers) more.is
           ∙ sym (
           ap (of_turns w) (until_append never F more.order [] w.floor)
-          ∙ ap (λ (m : Marks). of_turns w (and_then one.ends (until never more.order m one.after))) none
+          ∙ ap (λ (m : Marks). of_turns w (ends_then one.ends (until never more.order m one.after))) none
           ∙ ap (λ (l : List Paper). let x : Played = record { papers = l; after = with_floor w two.after; marks = two.marks } in x) (papers_both one.ends two.ends)
           );
     }
@@ -129,11 +129,11 @@ until_none : (stop : Floor → Bool) (E : List ℕ) (w : Floor) → (until stop 
 until_none stop [] w = refl
 until_none stop (s ∷ E) w =
     let t = turn_as None s w in
-    none_of (stop w) (nothing [] w) (and_then (ends_by s t.0) (until stop E [] t.1)) refl (until_none stop E t.1)
+    none_of (stop w) (nothing [] w) (ends_then (ends_by s t.0) (until stop E [] t.1)) refl (until_none stop E t.1)
 
 event_none : (event : Event) (w : World) → (happened event [] w).marks ≡ []
 event_none (Serve command) w = refl
-event_none (Load deck) w = until_none has_room (rounds (turns_left w.floor.slots) (length w.floor.slots)) w.floor
+event_none (Load deck) w = until_none has_free_slot (rounds (turns_left w.floor.slots) (length w.floor.slots)) w.floor
 event_none (Give slot count) w = until_none never (only slot count) w.floor
 event_none Drain w = until_none is_done (rounds (turns_left w.floor.slots) (length w.floor.slots)) w.floor
 

@@ -15,9 +15,9 @@ use Rattle.mon_job.specs.declared.deck.UnitCard.{UnitCard}
 use Rattle.mon_job.specs.declared.deck.JobDeck.{JobDeck}
 use Rattle.mon_job.specs.declared.refusal.LoadError.{LoadError}
 use Rattle.mon_slots.specs.Floors.{SlotState, Floor, floor, seat_at, first_free, job_in}
-use Rattle.mon_slots.specs.Loads.{first_units, tied_by, with_ties, program_in, load_refusal, slot_by, slot_in, loaded_by, loaded}
+use Rattle.mon_slots.specs.Loads.{first_units, tied_by, with_ties, program_in, load_refusal, slot_by, slot_in, loaded_by, job_loaded}
 use Rattle.mon_slots.specs.Turns.{only}
-use Rattle.mon_slots.specs.Marks.{Marks, never, rounds, turns_left, is_done, has_room, room}
+use Rattle.mon_slots.specs.Marks.{Marks, never, rounds, turns_left, is_done, has_free_slot, room}
 use Rattle.mon_monitor.specs.Worlds.{World}
 use Rattle.mon_monitor.specs.Events.{Serve, Load, Give, Drain}
 use Rattle.mon_monitor.specs.Played.{happened, played}
@@ -132,7 +132,7 @@ module _ (accounts : List Account) (k : ℕ) (job : OpenJob) (asked : List Asked
   deck = job_deck_of k job
 
   abbrev after : Floor
-  after = floor w.sets (loaded accounts deck w.slots).1
+  after = floor w.sets (job_loaded accounts deck w.slots).1
 
   abbrev Seat : ℕ → SlotState → Type 0
   Seat s x = (job_in s w ≡ Some x) ⊎ ((first_free w.slots ≡ Some s) × (slot_in accounts deck ≡ Some x))
@@ -183,7 +183,7 @@ played_fits (Commands command ∷ asked) k m w apart fits =
 played_fits (Enters job ∷ asked) k m w apart fits =
     let p = happened (Load (job_deck_of k job)) m w in
     let made = (room m w.floor).after in
-    let fits' = still_fits (Enters job ∷ asked) made w.floor (until_follows has_room (rounds (turns_left w.floor.slots) (length w.floor.slots)) m w.floor) fits in
+    let fits' = still_fits (Enters job ∷ asked) made w.floor (until_follows has_free_slot (rounds (turns_left w.floor.slots) (length w.floor.slots)) m w.floor) fits in
     played_fits asked (suc k) p.marks p.after apart.1 (loaded_fits w.accounts k job asked made fits' apart.0)
 played_fits (Gives turn ∷ asked) k m w apart fits =
     let p = happened (Give turn.slot turn.count) m w in

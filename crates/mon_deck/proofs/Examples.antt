@@ -28,7 +28,7 @@ use Rattle.mon_cards.specs.declared.request.Request.TheVariants.{Asks, OpensList
 use Rattle.std.specs.Str.Lines.{lines}
 use Rattle.mon_feed.specs.declared.options.Options.{Options}
 use Rattle.mon_feed.specs.Scenes.{opening, events_in}
-use Rattle.mon_deck.specs.Runs.{ending_of, counts_of}
+use Rattle.mon_deck.specs.Runs.{deck_ending, counts_of}
 use Rattle.mon_deck.specs.Headline.{history_of}
 
 stop_card : card_of (codes "$STOP") ≡ Some card.Stop
@@ -64,16 +64,16 @@ an_account_twice = refl
 a_card_of_two_words : two_names_refusal (codes "$LIST" ∷ codes "lisa" ∷ []) ≡ Some BadCard
 a_card_of_two_words = refl
 
-the_empty_deck : ending_of [] ≡ Refused 1 Truncated
+the_empty_deck : deck_ending [] ≡ Refused 1 Truncated
 the_empty_deck = refl
 
-the_least_deck : ending_of (codes "$ACCOUNTS\n$CATALOGUE\n\r\n$STREAM\n$STOP") ≡ Stopped
+the_least_deck : deck_ending (codes "$ACCOUNTS\n$CATALOGUE\n\r\n$STREAM\n$STOP") ≡ Stopped
 the_least_deck = refl
 
-a_deck_without_stop : ending_of (codes "$ACCOUNTS\n$CATALOGUE\n$STREAM\n") ≡ Refused 4 Truncated
+a_deck_without_stop : deck_ending (codes "$ACCOUNTS\n$CATALOGUE\n$STREAM\n") ≡ Refused 4 Truncated
 a_deck_without_stop = refl
 
-a_card_out_of_place : ending_of (codes "$ACCOUNTS\n$STREAM\n") ≡ Refused 2 OutOfPlace
+a_card_out_of_place : deck_ending (codes "$ACCOUNTS\n$STREAM\n") ≡ Refused 2 OutOfPlace
 a_card_out_of_place = refl
 
 the_text_of_a_list : request_on (codes "$SETACL anna  X u::r, g::,o:: ") ≡ Asks (command.SetAcl (codes "anna") (codes "X") (Short (codes " u::r, g::,o:: ")))
@@ -85,10 +85,10 @@ the_lines_of_a_list_follow = refl
 a_list_in_lines : (let deck = deck_of (lines (codes "$ACCOUNTS\n$CATALOGUE\n$STREAM\n$SETACL anna X\n\tu::r\n\n$ENDACL\n$STOP")) in deck.cards.asked) ≡ Commands (command.SetAcl (codes "anna") (codes "X") (Long (codes "\tu::r\n\n"))) ∷ []
 a_list_in_lines = refl
 
-a_card_within_a_list : ending_of (codes "$ACCOUNTS\n$CATALOGUE\n$STREAM\n$SETACL anna X\n$LIST anna X\n") ≡ Refused 5 OutOfPlace
+a_card_within_a_list : deck_ending (codes "$ACCOUNTS\n$CATALOGUE\n$STREAM\n$SETACL anna X\n$LIST anna X\n") ≡ Refused 5 OutOfPlace
 a_card_within_a_list = refl
 
-a_job_that_is_left_open : ending_of (codes "$ACCOUNTS\n$CATALOGUE\n$STREAM\n$JOB anna\n OUTPUT = 'A'\nEND\n$STOP\n") ≡ Refused 7 OutOfPlace
+a_job_that_is_left_open : deck_ending (codes "$ACCOUNTS\n$CATALOGUE\n$STREAM\n$JOB anna\n OUTPUT = 'A'\nEND\n$STOP\n") ≡ Refused 7 OutOfPlace
 a_job_that_is_left_open = refl
 
 jobs_and_commands : counts_of (codes "$ACCOUNTS\n$CATALOGUE\n$STREAM\n$JOB anna\n OUTPUT = 'A'\nEND\n$EOJ\n$TURN 1 3\n$CATALOG anna\n$DRAIN\n$STOP\n") ≡ record { jobs = 1; commands = 1 }

@@ -18,7 +18,7 @@ use Rattle.mon_cards.specs.Laws.{ReadingSpells, GoodBeginnings}
 use Rattle.mon_cards.specs.Sections.{deck_of}
 use Rattle.mon_feed.specs.Scenes.{Scene, opening, events_of, at_end, events_in}
 use Rattle.mon_feed.specs.Printouts.{closing}
-use Rattle.mon_deck.specs.Runs.{ending_of, scene_of, catalogue_after}
+use Rattle.mon_deck.specs.Runs.{deck_ending, scene_of, catalogue_after}
 use Rattle.mon_deck.specs.Isolation.{IsOwnCard, EndAlike, DecksAlike, DecksIsolated}
 use Rattle.mon_deck.proofs.Ordered.{is_run}
 
@@ -117,6 +117,6 @@ decks_isolated spells begins isolated account options m bytes others run alike =
       here = is_run options m bytes run;
       there =
           is_run options m others run
-          ∙ ap (λ (papers : List Paper). papers_text papers ++ closing (catalogue_after options m others) (ending_of others)) (sym all.papers);
+          ∙ ap (λ (papers : List Paper). papers_text papers ++ closing (catalogue_after options m others) (deck_ending others)) (sym all.papers);
       after = all.sets;
     }

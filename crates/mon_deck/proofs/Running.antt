@@ -17,7 +17,7 @@ use Rattle.mon_feed.specs.Scenes.{Scene, sets_after, all_counted, nothing_counte
 use Rattle.mon_feed.specs.Printouts.{output_of, ReadsBack}
 use Rattle.mon_feed.specs.Feeds.{outcome_of, refused_at, is_reading, IsReadBack, concluded, sets_left, Outcome, Conclusion, Good, Bad, Begins}
 use Rattle.mon_feed.specs.Told.{told}
-use Rattle.mon_deck.specs.Runs.{ending_of, scene_of, counts_of, HoldsBeginning, HasWritten, HasRun, HasBegun}
+use Rattle.mon_deck.specs.Runs.{deck_ending, scene_of, counts_of, HoldsBeginning, HasWritten, HasRun, HasBegun}
 use Rattle.mon_deck.specs.inner.Writing.{Held, holds, Begun, Runs, Refuses, Starts, Stands, BrokeOff, Broke}
 use Rattle.mon_deck.proofs.Holdings.{nothing_held, held_begins, not_grown, has_grown, grown_further, grown_held, no_error, stands_at_start, stands_further, refuses_further, starts_further}
 
@@ -211,7 +211,7 @@ same_ending Stopped counts sets = refl
 same_ending (Refused n code) counts sets = refl
 
 pub record IsGood (options : Options) (held now : Option (List ℕ)) (counts : Counts) (bytes : List ℕ) : Type 0 where
-  pub stopped : ending_of bytes ≡ Stopped
+  pub stopped : deck_ending bytes ≡ Stopped
   pub counts_are : counts ≡ counts_of bytes
   pub output : HasRun options held now bytes
 
@@ -247,7 +247,7 @@ module _ (options : Options) (held now : Option (List ℕ)) (m : Marks) (bytes :
       }
 
   pub bad : (n : ℕ) (code : Code) → ◌≡◌ {A = Held} (record { bytes = holding now []; conclusion = Bad n code }) (holds held (outcome_of options.check 0 m scene))
-      → (ending_of bytes ≡ Refused n code) × HasWritten options held now bytes
+      → (deck_ending bytes ≡ Refused n code) × HasWritten options held now bytes
   bad n code e = (sym (ended_so _ (ap (λ (h : Held). h.conclusion) e)), (m, written_so _ e))
 
 pub if_some : (told : Option (List ℕ)) (P Q : List ℕ → Type 0) → ((bytes : List ℕ) → P bytes → Q bytes) → IfSome told P → IfSome told Q
@@ -274,12 +274,12 @@ module _ (options : Options) (given_by left held now now' : Option (List ℕ)) (
       good options held now' e.0 bytes counts sets e.1 (λ no. reads back (same ∙ no))) (from_start _ marks is)
 
   pub run_bad : (n : ℕ) (code : Code) (marks : Marks) → holds now' (refused_at n code) ≡ holds now (told marks [] f [])
-      → IfSome given_by (λ bytes. (ending_of bytes ≡ Refused n code) × HasWritten options held now' bytes)
+      → IfSome given_by (λ bytes. (deck_ending bytes ≡ Refused n code) × HasWritten options held now' bytes)
   run_bad n code marks is = if_some given_by _ _ (λ bytes (e : EndsSo options held (holds now' (refused_at n code)) bytes). bad options held now' e.0 bytes n code e.1) (from_start _ marks is)
 
 pub met_bad : (options : Options) (given_by held now' : Option (List ℕ)) (start : DeckFeed) → Opens options start
     → (n : ℕ) (code : Code) → IfSome given_by (λ bytes. (marks : Marks) × (holds now' (refused_at n code) ≡ holds held (told marks [] start bytes)))
-    → IfSome given_by (λ bytes. (ending_of bytes ≡ Refused n code) × HasWritten options held now' bytes)
+    → IfSome given_by (λ bytes. (deck_ending bytes ≡ Refused n code) × HasWritten options held now' bytes)
 met_bad options given_by held now' start begin n code met =
     if_some given_by _ _ (λ bytes (e : (marks : Marks) × (holds now' (refused_at n code) ≡ holds held (told marks [] start bytes))).
     bad options held now' e.0 bytes n code (e.1 ∙ ap (holds held) (begin e.0 bytes))) met

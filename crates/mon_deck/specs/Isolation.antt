@@ -13,7 +13,7 @@ use Rattle.mon_cards.specs.Decks.{Deck, Asked, Commands, Enters, Gives, Drains, 
 use Rattle.mon_cards.specs.Sections.{deck_of}
 use Rattle.mon_feed.specs.declared.options.Options.{Options}
 use Rattle.mon_feed.specs.Printouts.{closing, output_of}
-use Rattle.mon_deck.specs.Runs.{ending_of, catalogue_after}
+use Rattle.mon_deck.specs.Runs.{deck_ending, catalogue_after}
 
 -- a card of the account's own: its command, its job, or turns
 abbrev pub IsOwnCard : Account → Asked → Type 0
@@ -42,8 +42,8 @@ pub record DecksAlike (account : Account) (deck other : Deck) : Type 0 where
 -- The outputs are one text up to the catalogue, and the catalogues look alike to the account again.
 pub record PrintAlike (account : Account) (options : Options) (m : Marks) (bytes others : List ℕ) : Type 0 where
   pub printed : List ℕ
-  pub here : output_of options m bytes ≡ printed ++ closing (catalogue_after options m bytes) (ending_of bytes)
-  pub there : output_of options m others ≡ printed ++ closing (catalogue_after options m others) (ending_of others)
+  pub here : output_of options m bytes ≡ printed ++ closing (catalogue_after options m bytes) (deck_ending bytes)
+  pub there : output_of options m others ≡ printed ++ closing (catalogue_after options m others) (deck_ending others)
   pub after : Both (LooksAlike account) (catalogue_after options m bytes) (catalogue_after options m others)
 
 -- Decks that an account can't tell apart print the same before their catalogues, wherever memory breaks turns off.

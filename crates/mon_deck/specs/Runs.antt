@@ -16,8 +16,8 @@ use Rattle.mon_feed.specs.Scenes.{Scene, opening, sets_after, all_counted}
 use Rattle.mon_feed.specs.Printouts.{output_of, ReadsBack}
 
 -- how the deck of these bytes ends
-abbrev pub ending_of : List ℕ → Ending
-ending_of bytes = let deck = deck_of (lines bytes) in deck.cards.ending
+abbrev pub deck_ending : List ℕ → Ending
+deck_ending bytes = let deck = deck_of (lines bytes) in deck.cards.ending
 
 -- where the stream of these bytes begins
 abbrev pub scene_of : Options → List ℕ → Scene
@@ -61,7 +61,7 @@ whole_lines (c ∷ cs) = if has_no_end (c ∷ cs) then [] else c ∷ whole_lines
 -- them was refused; the deck only ends too early there, if it has not ended.
 pub record HasAnswered (options : Options) (held now : Option (List ℕ)) (front : List ℕ) : Type 0 where
   pub written : HasWritten options held now (whole_lines front)
-  pub unrefused : (n : ℕ) (code : Code) → ending_of (whole_lines front) ≡ Refused n code → code ≡ Truncated
+  pub unrefused : (n : ℕ) (code : Code) → deck_ending (whole_lines front) ≡ Refused n code → code ≡ Truncated
 
 -- What is due when a read fails: the output of the lines that were read whole, no less and no more. So no printout waits for
 -- a card that is still to come.
@@ -73,4 +73,4 @@ HasPrinted options told left held now = (given : List ℕ) × Gives told given l
 abbrev pub HasBrokenOff : Options → Option (List ℕ) → Option (List ℕ) → Option (List ℕ) → Option (List ℕ) → Type 0
 HasBrokenOff options told left held now =
     (given front back : List ℕ) × Gives told given left × (given ≡ front ++ back) × (length back ≤ READ_SIZE)
-    × HasAnswered options held now front × (ending_of (whole_lines front) ≡ Stopped → ⊥)
+    × HasAnswered options held now front × (deck_ending (whole_lines front) ≡ Stopped → ⊥)

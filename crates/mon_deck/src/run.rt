@@ -11,7 +11,7 @@ ghost use Rattle.mon_feed.specs.Told.{outcome_from};
 ghost use Rattle.mon_feed.specs.inner.Counting.{lines_ended};
 ghost use Rattle.mon_feed.specs.Printouts.{ReadsBack};
 ghost use Rattle.mon_deck.specs.inner.Writing.{holds, HasGrown, Serves, Refuses, Starts, Begun, Runs, Broke, Stands, BrokeOff};
-ghost use Rattle.mon_deck.specs.Runs.{ending_of, counts_of, HoldsBeginning, HasWritten, HasRun, HasBegun, HasPrinted, HasBrokenOff};
+ghost use Rattle.mon_deck.specs.Runs.{deck_ending, counts_of, HoldsBeginning, HasWritten, HasRun, HasBegun, HasPrinted, HasBrokenOff};
 ghost use Rattle.mon_deck.specs.Faults.{status_of, fault_line};
 
 use mon_device::{DeckDevices, Failed, MOST_READS, READ_SIZE, write_all};
@@ -45,7 +45,7 @@ pub fn run_deck<D: DeckDevices>(
 
     // A good deck was read to its end, and its output was written, whose catalogue can be read again.
     ensures at_end { OnOk result (IsAtEnd (D.remaining devices.new)) }
-    ensures stopped { OnOk result (IfSome (D.remaining devices.old) (λ bytes. ending_of bytes ≡ Stopped)) }
+    ensures stopped { OnOk result (IfSome (D.remaining devices.old) (λ bytes. deck_ending bytes ≡ Stopped)) }
     ensures output { OnOk result (IfSome (D.remaining devices.old) (λ bytes. HasRun options (D.written devices.old) (D.written devices.new) bytes)) }
     ensures counts { IfOk result (λ counts. IfSome (D.remaining devices.old) (λ bytes. counts ≡ counts_of bytes)) }
 

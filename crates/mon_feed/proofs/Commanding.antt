@@ -11,7 +11,7 @@ use Rattle.mon_monitor.specs.Papers.{Paper, paper_text, papers_text}
 use Rattle.mon_monitor.specs.Played.{Played, played, happened, and_played}
 use Rattle.mon_monitor.specs.Happening.{Happens}
 use Rattle.mon_cards.specs.Decks.{Asked, Commands, Enters, Gives, Drains, Cards, Ending, Stopped, Refused}
-use Rattle.mon_cards.specs.Sections.{and_then}
+use Rattle.mon_cards.specs.Sections.{asked_then}
 use Rattle.mon_cards.specs.Jobs.{job_deck_of}
 use Rattle.mon_feed.specs.declared.options.Counts.{Counts}
 use Rattle.mon_feed.specs.Scenes.{over, events_of, events_in, at_end, nothing_counted, both_counted, one_counted, all_counted}
@@ -88,14 +88,14 @@ module _ (jobs : ℕ) (one : Asked) (m rest : Marks) (w w' : World) (text : List
   abbrev then : Played
   then = played (events_in next (over w' others)) rest w'
 
-  first_played : played (events_in jobs (over w (and_then one others))) m w ≡ and_played (happened (event_of (suc jobs) one) m w).papers then
+  first_played : played (events_in jobs (over w (asked_then one others))) m w ≡ and_played (happened (event_of (suc jobs) one) m w).papers then
   first_played =
       let all = happened (event_of (suc jobs) one) m w in
       ap (λ (E : List Event). played (E ++ at_end others.ending) m w) (events_first jobs one others.asked)
       ∙ ap (λ (v : World). and_played all.papers (played (events_in next (over v others)) all.marks v)) left
       ∙ ap (λ k. and_played all.papers (played (events_in next (over w' others)) k w')) marks
 
-  pub first_served : outcome_of false jobs m (over w (and_then one others)) ≡ behind text (one_counted one) (outcome_of false next rest (over w' others))
+  pub first_served : outcome_of false jobs m (over w (asked_then one others)) ≡ behind text (one_counted one) (outcome_of false next rest (over w' others))
   first_served =
       let all = happened (event_of (suc jobs) one) m w in
       let sets = then.after.floor.sets in
@@ -108,7 +108,7 @@ module _ (jobs : ℕ) (one : Asked) (m rest : Marks) (w w' : World) (text : List
       (counted_first others.ending one others.asked sets)
 
 first_counted : (jobs next : ℕ) (m rest : Marks) (one : Asked) (w : World) (others : Cards)
-    → outcome_of true jobs m (over w (and_then one others)) ≡ behind [] (one_counted one) (outcome_of true next rest (over w others))
+    → outcome_of true jobs m (over w (asked_then one others)) ≡ behind [] (one_counted one) (outcome_of true next rest (over w others))
 first_counted jobs next m rest one w others =
     ap (λ (c : Conclusion). record { written = verdict others.ending; conclusion = c }) (counted_first others.ending one others.asked w.floor.sets)
 

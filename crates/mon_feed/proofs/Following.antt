@@ -14,7 +14,7 @@ use Rattle.mon_cards.specs.Refusing.{unless, line_refusal, is_dollar_line}
 use Rattle.mon_cards.specs.Requests.{end_refusal, list_text_refusal, list_line_refusal, is_list_character, stream_refusal, request_on, set_acl_of, with_line}
 use Rattle.mon_cards.specs.Jobs.{ends_job, after_job_line}
 use Rattle.mon_cards.specs.declared.request.Request.{Request}
-use Rattle.mon_cards.specs.Sections.{Closed, InList, InJob, refused_early, requested, and_then, stream_section}
+use Rattle.mon_cards.specs.Sections.{Closed, InList, InJob, refused_early, requested, asked_then, stream_section}
 use Rattle.mon_feed.specs.declared.options.Options.{Options}
 use Rattle.mon_feed.specs.declared.stage.Stage.{Stage}
 use Rattle.mon_feed.specs.declared.stage.Stage.TheVariants as stage
@@ -81,10 +81,10 @@ long_refused slots (stage.Catalogue accounts progress) n line ls long = stops_at
 long_refused slots (stage.Stream w) n line ls long =
     ap (λ r. over (world_of w) (goes_on (option_or r (stream_refusal line)) n (requested (request_on line) (λ pending. stream_section (n + 1) pending ls)))) (too_long 200 line (omega arith) long)
 long_refused slots (stage.List w list) n line ls long =
-    ap (λ r. over (world_of w) (goes_on r n (if is_dollar_line line then and_then (Commands (set_acl_of list)) (stream_section (n + 1) Closed ls) else stream_section (n + 1) (InList (with_line list line)) ls)))
+    ap (λ r. over (world_of w) (goes_on r n (if is_dollar_line line then asked_then (Commands (set_acl_of list)) (stream_section (n + 1) Closed ls) else stream_section (n + 1) (InList (with_line list line)) ls)))
     (list_too_long line long)
 long_refused slots (stage.Job w job) n line ls long =
-    ap (λ r. over (world_of w) (goes_on r n (if ends_job line then and_then (Enters job) (stream_section (n + 1) Closed ls) else stream_section (n + 1) (InJob (after_job_line job line)) ls)))
+    ap (λ r. over (world_of w) (goes_on r n (if ends_job line then asked_then (Enters job) (stream_section (n + 1) Closed ls) else stream_section (n + 1) (InJob (after_job_line job line)) ls)))
     (first_refused _ _ LineTooLong (too_long 200 line (omega arith) long))
 
 -- lines that are alike have one outcome

@@ -9,7 +9,7 @@ use Rattle.mon_cards.specs.Decks.{Asked, Deck}
 use Rattle.mon_cards.specs.declared.request.Request.{Request}
 use Rattle.mon_cards.specs.Refusing.{line_refusal}
 use Rattle.mon_cards.specs.Requests.{stream_refusal, request_on}
-use Rattle.mon_cards.specs.Sections.{Closed, and_then, stopped, requested, stream_section, catalogue_section, catalogue_refusal, ends_catalogue, sets_of}
+use Rattle.mon_cards.specs.Sections.{Closed, asked_then, stopped, requested, stream_section, catalogue_section, catalogue_refusal, ends_catalogue, sets_of}
 use Rattle.mon_feed.specs.declared.options.Counts.{Counts}
 use Rattle.mon_feed.specs.declared.options.Options.{Options}
 use Rattle.mon_feed.specs.declared.stage.Stage.{Stage}
@@ -51,7 +51,7 @@ catalogue_line slots n accounts p p' line ls false good is after goes =
 
 -- what a card asks for happened
 pub card_taken : (options : Options) (s : Stage) (w w' : Monitor) (line before after : List ℕ) (counts counts' : Counts) (one : Asked)
-    → ((n : ℕ) → (ls : List (List ℕ)) → scene_from options.slots.number s n (line ∷ ls) ≡ over (world_of w) (and_then one (stream_section (n + 1) Closed ls)))
+    → ((n : ℕ) → (ls : List (List ℕ)) → scene_from options.slots.number s n (line ∷ ls) ≡ over (world_of w) (asked_then one (stream_section (n + 1) Closed ls)))
     → Served options.check one (world_of w) before counts (world_of w') after counts'
     → TookLine options (state.Reading s) line before counts (state.Reading (stage.Stream w')) after counts'
 card_taken options s w w' line before after counts counts' one asks served = record {

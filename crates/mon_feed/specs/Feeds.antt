@@ -18,7 +18,7 @@ use Rattle.mon_feed.specs.declared.stage.Stage.TheVariants as stage
 use Rattle.mon_feed.specs.declared.stage.State.{State}
 use Rattle.mon_feed.specs.declared.stage.State.TheVariants as state
 use Rattle.mon_cards.specs.Decks.{Ending, Stopped, Refused}
-use Rattle.mon_cards.specs.Sections.{Closed, InList, InJob, opening_section, accounts_section, catalogue_section, stream_section, refused, refused_early}
+use Rattle.mon_cards.specs.Sections.{Closed, InList, InJob, opening_section, accounts_section, catalogue_section, stream_section, refused_on_line, refused_early}
 use Rattle.mon_feed.specs.Scenes.{Scene, over, opening, sets_after, nothing_counted, both_counted, all_counted}
 use Rattle.mon_feed.specs.Printouts.{answer_to, ReadsBack}
 
@@ -36,9 +36,9 @@ abbrev pub refused_from : ℕ → Stage → ℕ → Code → Scene
 refused_from slots stage.Opening n code = opening slots (refused_early n code [])
 refused_from slots (stage.Accounts accounts) n code = opening slots (refused_early n code accounts)
 refused_from slots (stage.Catalogue accounts progress) n code = opening slots (refused_early n code accounts)
-refused_from slots (stage.Stream w) n code = over (world_of w) (refused n code)
-refused_from slots (stage.List w list) n code = over (world_of w) (refused n code)
-refused_from slots (stage.Job w job) n code = over (world_of w) (refused n code)
+refused_from slots (stage.Stream w) n code = over (world_of w) (refused_on_line n code)
+refused_from slots (stage.List w list) n code = over (world_of w) (refused_on_line n code)
+refused_from slots (stage.Job w job) n code = over (world_of w) (refused_on_line n code)
 
 -- how a deck came out: so many jobs and commands and these data sets, or refused at a line
 pub data Conclusion : Type 0 where

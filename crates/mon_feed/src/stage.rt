@@ -8,9 +8,9 @@ ghost use Rattle.mon_feed.specs.inner.Lines.{TookLine};
 ghost use Rattle.mon_feed.specs.Feeds.{scene_from, refused_from, outcome, refused_at, lines_loaded, is_reading, error_at, IsReadBack};
 
 use crate::options::{Counts, Options};
-use crate::reading::{after_account, after_catalogue, after_opening};
-use crate::serving::{
-    after_card, after_job_line, after_list_line, take_card, take_job_line, take_list_line,
+use crate::reading::{
+    after_account, after_card, after_catalogue, after_job_line, after_list_line, after_opening,
+    take_card, take_job_line, take_list_line,
 };
 use mon_access::Accounts;
 use mon_cards::{Code, OpenJob, OpenList, put_catalogue_line};

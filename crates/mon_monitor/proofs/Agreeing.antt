@@ -7,7 +7,7 @@ use Rattle.mon_job.specs.declared.job_end.JobEnd.{JobEnd}
 use Rattle.mon_slots.specs.declared.turned.Turned.{Turned}
 use Rattle.mon_slots.specs.Floors.{SlotState, Floor, all_empty, first_free}
 use Rattle.mon_slots.specs.Turns.{ends_by, only}
-use Rattle.mon_slots.specs.Marks.{Marks, mark_of, later, turn_as, Past, nothing, and_then, until, never, marked, rounds, turns_left, rounds_until, is_done, has_room, drain, room}
+use Rattle.mon_slots.specs.Marks.{Marks, mark_of, later, turn_as, Past, nothing, ends_then, until, never, marked, rounds, turns_left, rounds_until, is_done, has_free_slot, drain, room}
 use Rattle.mon_slots.proofs.Past.{either_way, until_stops, until_goes}
 use Rattle.mon_monitor.specs.Worlds.{World, with_floor}
 use Rattle.mon_monitor.specs.Events.{Event, Serve, Load, Give, Drain}
@@ -44,7 +44,7 @@ module _ (account : Account) (stop : Floor → Bool) (same : (w v : Floor) → w
         let one = floor_turn account w v agree (mark_of m) s in
         let rest = until_agrees E (later m) t.1 u.1 one.after in
         subst (λ (p : Past). PastAlike account p (until stop (s ∷ E) m v)) (sym (until_goes stop s E m w h))
-        (subst (λ (p : Past). PastAlike account (and_then (ends_by s t.0) (until stop E (later m) t.1)) p) (sym (until_goes stop s E m v (sym (same w v agree.slots) ∙ h)))
+        (subst (λ (p : Past). PastAlike account (ends_then (ends_by s t.0) (until stop E (later m) t.1)) p) (sym (until_goes stop s E m v (sym (same w v agree.slots) ∙ h)))
         (record {
           ends = ap (λ (r : Turned). ends_by s r ++ (until stop E (later m) t.1).ends) one.answer ∙ ap (λ (l : List (ℕ × JobEnd)). ends_by s u.0 ++ l) rest.ends;
           marks = rest.marks;
@@ -87,7 +87,7 @@ event_agrees account w v agree Drain own m =
     turns_print account w v agree (drain m w.floor) (drain m v.floor) (rounds_agree account is_done (λ w v e. ap all_empty e) m w.floor v.floor agree.floor)
 event_agrees account w v agree (Load deck) own m =
     let made = turns_print account w v agree (room m w.floor) (room m v.floor)
-    (rounds_agree account has_room (λ w v e. ap (λ (l : List (Option SlotState)). is_some (first_free l)) e) m w.floor v.floor agree.floor) in
+    (rounds_agree account has_free_slot (λ w v e. ap (λ (l : List (Option SlotState)). is_some (first_free l)) e) m w.floor v.floor agree.floor) in
     then_alike account (of_loading deck) (of_turns w (room m w.floor)) (of_turns v (room m v.floor)) made (λ k.
     let one = loads_agree account (with_floor w (room m w.floor).after) (with_floor v (room m v.floor).after) made.after deck own in
     record { papers = ap (of_load deck) one.answer; marks = refl; after = one.after })

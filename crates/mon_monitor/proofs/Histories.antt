@@ -16,9 +16,9 @@ use Rattle.mon_job.specs.declared.refusal.LoadError.{LoadError}
 use Rattle.mon_job.specs.declared.refusal.LoadError.TheVariants.{NoSlot, NoAccount, Cards, Syntax}
 use Rattle.mon_slots.specs.Floors.{SlotState, Floor, first_free}
 use Rattle.mon_slots.specs.Turns.{only}
-use Rattle.mon_slots.specs.Marks.{Marks, Past, turn_as, until, never, rounds, turns_left, is_done, has_room, room}
+use Rattle.mon_slots.specs.Marks.{Marks, Past, turn_as, until, never, rounds, turns_left, is_done, has_free_slot, room}
 use Rattle.mon_slots.specs.Rounds.{NoneByMemory, MarksEndJobs, RoomIsMade}
-use Rattle.mon_slots.specs.Loads.{first_units, ties_refusal, slot_refusal, account_refusal, program_refusal, deck_refusal, loaded_by, slot_in}
+use Rattle.mon_slots.specs.Loads.{first_units, ties_refusal, slot_refusal, missing_account, program_refusal, deck_refusal, loaded_by, slot_in}
 use Rattle.mon_slots.proofs.Seats.{seat_length}
 use Rattle.mon_slots.proofs.Past.{either_way, until_stops, until_goes, until_length}
 use Rattle.mon_monitor.specs.Worlds.{World, with_floor}
@@ -63,7 +63,7 @@ until_none stop (s ∷ E) w = elim (either_way (stop w)) [
 
 happened_none : (e : Event) (w : World) → (happened e [] w).marks ≡ []
 happened_none (Serve command) w = refl
-happened_none (Load deck) w = until_none has_room (rounds (turns_left w.floor.slots) (length w.floor.slots)) w.floor
+happened_none (Load deck) w = until_none has_free_slot (rounds (turns_left w.floor.slots) (length w.floor.slots)) w.floor
 happened_none (Give s n) w = until_none never (only s n) w.floor
 happened_none Drain w = until_none is_done (rounds (turns_left w.floor.slots) (length w.floor.slots)) w.floor
 
@@ -80,7 +80,7 @@ module _ (law : MarksEndJobs) where
       let p = of_turns w (room m w.floor) in
       let q = of_turns w (room [] w.floor) in
       let parts = parted p.papers (of_load deck (loading deck p.after).0) none in
-      let a = turns_unmarked has_room (rounds (turns_left w.floor.slots) (length w.floor.slots)) m w parts.0 in
+      let a = turns_unmarked has_free_slot (rounds (turns_left w.floor.slots) (length w.floor.slots)) m w parts.0 in
       record {
         papers = ap (λ (l : List Paper). l ++ of_load deck (loading deck p.after).0) a.papers ∙ ap (λ (v : World). q.papers ++ of_load deck (loading deck v).0) a.after;
         after = ap (λ (v : World). (loading deck v).1) a.after;
@@ -121,7 +121,7 @@ program_not (Err e) h = let k : Some (Syntax e) ≡ Some NoSlot = h in cc (k)
 
 -- no deck is refused for want of a slot
 deck_not : (f : Option Account) (t : Option UnitError) (said : Result ProgramText SyntaxError)
-    → option_or (account_refusal f) (option_or (option_map Cards t) (program_refusal said)) ≢ Some NoSlot
+    → option_or (missing_account f) (option_or (option_map Cards t) (program_refusal said)) ≢ Some NoSlot
 deck_not None t said h = let k : Some NoAccount ≡ Some NoSlot = h in cc (k)
 deck_not (Some a) (Some u) said h = let k : Some (Cards u) ≡ Some NoSlot = h in cc (k)
 deck_not (Some a) None said h = program_not said h
@@ -159,7 +159,7 @@ loaded_length None None slot slots = refl
 event_slots : (e : Event) (m : Marks) (w : World) → length (happened e m w).after.floor.slots ≡ length w.floor.slots
 event_slots (Serve command) m w = refl
 event_slots (Load deck) m w =
-    loaded_length _ _ _ (room m w.floor).after.slots ∙ until_length has_room (rounds (turns_left w.floor.slots) (length w.floor.slots)) m w.floor
+    loaded_length _ _ _ (room m w.floor).after.slots ∙ until_length has_free_slot (rounds (turns_left w.floor.slots) (length w.floor.slots)) m w.floor
 event_slots (Give s n) m w = until_length never (only s n) m w.floor
 event_slots Drain m w = until_length is_done (rounds (turns_left w.floor.slots) (length w.floor.slots)) m w.floor
 

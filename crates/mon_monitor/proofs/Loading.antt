@@ -14,7 +14,7 @@ use Rattle.mon_job.specs.declared.deck.UnitCard.{UnitCard}
 use Rattle.mon_job.specs.declared.deck.JobDeck.{JobDeck}
 use Rattle.mon_job.specs.declared.refusal.LoadError.{LoadError}
 use Rattle.mon_slots.specs.Floors.{SlotState, seat_at, first_free, job_in}
-use Rattle.mon_slots.specs.Loads.{first_units, with_ties, tied_by, program_in, load_refusal, slot_by, slot_in, loaded_by, loaded}
+use Rattle.mon_slots.specs.Loads.{first_units, with_ties, tied_by, program_in, load_refusal, slot_by, slot_in, loaded_by, job_loaded}
 use Rattle.mon_monitor.specs.Isolation.{LoadsAgree}
 use Rattle.mon_monitor.proofs.Requests.{get_after_set}
 use Rattle.mon_monitor.proofs.Turning.{seat_after}
@@ -70,9 +70,9 @@ loaded_seats None None slot slots s x h = inl h
 pub loads_agree : LoadsAgree
 loads_agree account w v agree deck own =
     let known : find_account w.accounts deck.account ≡ Some account = ap (find_account w.accounts) own ∙ agree.known in
-    let same : loaded w.accounts deck w.floor.slots ≡ loaded v.accounts deck v.floor.slots =
-    ap (λ (l : List Account). loaded l deck w.floor.slots) agree.accounts ∙ ap (loaded v.accounts deck) agree.floor.slots in
-    let seats : (s : ℕ) (x : SlotState) → seat_at s (loaded w.accounts deck w.floor.slots).1 ≡ Some x → (job_in s w.floor ≡ Some x) ⊎ (slot_in w.accounts deck ≡ Some x) =
+    let same : job_loaded w.accounts deck w.floor.slots ≡ job_loaded v.accounts deck v.floor.slots =
+    ap (λ (l : List Account). job_loaded l deck w.floor.slots) agree.accounts ∙ ap (job_loaded v.accounts deck) agree.floor.slots in
+    let seats : (s : ℕ) (x : SlotState) → seat_at s (job_loaded w.accounts deck w.floor.slots).1 ≡ Some x → (job_in s w.floor ≡ Some x) ⊎ (slot_in w.accounts deck ≡ Some x) =
     loaded_seats (load_refusal w.accounts deck w.floor.slots) (first_free w.floor.slots) (slot_in w.accounts deck) w.floor.slots in
     record {
       answer = ap (λ (p : Result ℕ LoadError × List (Option SlotState)). p.0) same;

@@ -23,9 +23,9 @@ use Rattle.mon_job.specs.declared.deck.UnitCard.{UnitCard}
 use Rattle.mon_job.specs.declared.deck.JobDeck.{JobDeck}
 use Rattle.mon_job.specs.declared.refusal.LoadError.{LoadError}
 use Rattle.mon_slots.specs.Floors.{SlotState, Floor, floor, seat_at, with_seat, job_in, first_free}
-use Rattle.mon_slots.specs.Loads.{slot_refusal, account_refusal, first_units, tied_by, with_ties, program_refusal, program_in, deck_refusal, loaded_slot, slot_by, slot_in, loaded_by, loaded}
+use Rattle.mon_slots.specs.Loads.{slot_refusal, missing_account, first_units, tied_by, with_ties, program_refusal, program_in, deck_refusal, loaded_slot, slot_by, slot_in, loaded_by, job_loaded}
 use Rattle.mon_slots.specs.Turns.{reached, ran, ends_by, only}
-use Rattle.mon_slots.specs.Marks.{Mark, Marks, mark_of, later, passed_at, exchanges_at, may_break, broken_by, ran_as, turn_as_by, turn_as, Past, nothing, and_then, until, never, is_done, has_room, room}
+use Rattle.mon_slots.specs.Marks.{Mark, Marks, mark_of, later, passed_at, exchanges_at, may_break, broken_by, ran_as, turn_as_by, turn_as, Past, nothing, ends_then, until, never, is_done, has_free_slot, room}
 use Rattle.mon_monitor.specs.Worlds.{World, world}
 use Rattle.mon_monitor.specs.Events.{Event, Serve, Load, Give, Drain}
 use Rattle.mon_monitor.specs.Played.{happened, played}
@@ -146,7 +146,7 @@ module _ (accounts : List Account) (J : ℕ → Option JobDeck) (numbered : (n :
         let here = turn_entries (mark_of m) s w in
         let rest = entries_until stop S (later m) t.1 in
         let p = until stop S (later m) t.1 in
-        unless_far (stop w) H (here ++ rest) (nothing m w) (and_then (ends_by s t.0) p) far
+        unless_far (stop w) H (here ++ rest) (nothing m w) (ends_then (ends_by s t.0) p) far
         (subst (λ (l : List Entry). Far E l p.after.slots) (append_assoc H here rest)
         (until_far stop S (later m) t.1 (H ++ here) (step_by (mark_of m) s w H (job_in s w) refl far)))
 
@@ -308,7 +308,7 @@ module _ (accounts : List Account) (J : ℕ → Option JobDeck) (numbered : (n :
   ties_notes (card ∷ cards) units = ties_notes cards (tied_by card units)
 
   -- what is not refused has an account and a program
-  known_by : (o : Option Account) (rest : Option LoadError) → option_or (account_refusal o) rest ≡ None → (account : Account) × (o ≡ Some account) × (rest ≡ None)
+  known_by : (o : Option Account) (rest : Option LoadError) → option_or (missing_account o) rest ≡ None → (account : Account) × (o ≡ Some account) × (rest ≡ None)
   known_by None rest h = absurd cc
   known_by (Some account) rest h = (account, refl, h)
 
@@ -318,7 +318,7 @@ module _ (accounts : List Account) (J : ℕ → Option JobDeck) (numbered : (n :
 
   module _ (again : Again) (well : TurnsWell) (spell : Spell) where
     enters : (deck : JobDeck) (E : List Event) (H : List Entry) (slots : List (Option SlotState)) → Far (Load deck ∷ E) H slots → job_of deck.number E ≡ None
-        → (s : ℕ) → first_free slots ≡ Some s → Far E (H ++ load_entry deck (loaded accounts deck slots).0) (loaded accounts deck slots).1
+        → (s : ℕ) → first_free slots ≡ Some s → Far E (H ++ load_entry deck (job_loaded accounts deck slots).0) (job_loaded accounts deck slots).1
     enters deck E H slots far once s free =
         subst (λ (o : Option ℕ). (let l = loaded_by (option_or (slot_refusal o) (deck_refusal accounts deck)) o (slot_in accounts deck) slots in Far E (H ++ load_entry deck l.0) l.1)) (sym free)
         (by (deck_refusal accounts deck) refl)
@@ -345,7 +345,7 @@ module _ (accounts : List Account) (J : ℕ → Option JobDeck) (numbered : (n :
     ordered_by_none n H entry not =
         filter-append (is_of n) H (entry ∷ []) ∙ ap (λ (b : Bool). own n H ++ (if b then entry ∷ [] else [])) not ∙ append-nil (own n H)
 
-    module _ (made : (w : Floor) (m : Marks) → length w.slots ≢ 0 → has_room (room m w).after ≡ true)
+    module _ (made : (w : Floor) (m : Marks) → length w.slots ≢ 0 → has_free_slot (room m w).after ≡ true)
         (stays : (e : Event) (m : Marks) (w : World) → length (happened e m w).after.floor.slots ≡ length w.floor.slots) where
       abbrev Happens : Event → Marks → Floor → List Entry → List Event → Type 0
       Happens e m f H E = Far E (H ++ event_entries e m (world accounts f)) (happened e m (world accounts f)).after.floor.slots
@@ -356,10 +356,10 @@ module _ (accounts : List Account) (J : ℕ → Option JobDeck) (numbered : (n :
           as_far accounts J (Serve command ∷ E) E H (H ++ entry ∷ []) f.slots (λ n. refl) (λ n. ordered_by_none n H entry refl) far
       event_far (Load deck) E m f H differ some far =
           let g = (room m f).after in
-          let entries = entries_until has_room (in_rounds f) m f in
+          let entries = entries_until has_free_slot (in_rounds f) m f in
           let free = some_free (first_free g.slots) (made f m some) in
-          let turns = until_far again well (Load deck ∷ E) has_room (in_rounds f) m f H far in
-          subst (λ (l : List Entry). Far E l (loaded accounts deck g.slots).1) (append_assoc H entries (load_entry deck (loaded accounts deck g.slots).0))
+          let turns = until_far again well (Load deck ∷ E) has_free_slot (in_rounds f) m f H far in
+          subst (λ (l : List Entry). Far E l (job_loaded accounts deck g.slots).1) (append_assoc H entries (load_entry deck (job_loaded accounts deck g.slots).0))
           (enters deck E (H ++ entries) g.slots turns differ.0 free.0 free.1)
       event_far (Give slot count) E m f H differ some far =
           until_far again well E never (only slot count) m f H (as_far accounts J (Give slot count ∷ E) E H H f.slots (λ n. refl) (λ n. refl) far)
@@ -400,7 +400,7 @@ so_many : (n : ℕ) → length (no_jobs n) ≡ n
 so_many zero = refl
 so_many (suc n) = ap suc (so_many n)
 
-pub all_jobs : Again → TurnsWell → Spell → ((w : Floor) (m : Marks) → length w.slots ≢ 0 → has_room (room m w).after ≡ true)
+pub all_jobs : Again → TurnsWell → Spell → ((w : Floor) (m : Marks) → length w.slots ≢ 0 → has_free_slot (room m w).after ≡ true)
     → ((e : Event) (m : Marks) (w : World) → length (happened e m w).after.floor.slots ≡ length w.floor.slots)
     → (slots : ℕ) (accounts : List Account) (sets : Sets) (E : List Event) (m : Marks) → slots ≢ 0 → NumbersDiffer E
     → (let w = world accounts (floor sets (replicate slots None)) in

@@ -23,7 +23,7 @@ use Rattle.mon_slots.specs.declared.turned.Turned.{Turned}
 use Rattle.mon_slots.specs.declared.turned.Turned.TheVariants.{Empty, Goes, Ended}
 use Rattle.mon_slots.specs.Floors.{SlotState, Floor, seated, seat_at, with_seat, job_in}
 use Rattle.mon_slots.specs.Turns.{reached, ran, after_turn, job_end, seat, told, turn_by, turn, Course, ends_by, turns, only}
-use Rattle.mon_slots.specs.Marks.{Marks, mark_of, later, turn_as, Past, and_then, until, never, marked, rounds, turns_left, is_done, drain}
+use Rattle.mon_slots.specs.Marks.{Marks, mark_of, later, turn_as, Past, ends_then, until, never, marked, rounds, turns_left, is_done, drain}
 use Rattle.mon_slots.specs.Rounds.{NoneByMemory}
 use Rattle.mon_slots.specs.Turning.{UntilIs, MarkedIs, DrainIs}
 use Rattle.mon_slots.proofs.Past.{either_way, until_stops, until_goes, marks_end_jobs, unmarked, drain_empties}
@@ -439,7 +439,7 @@ some_turns stop w (s ∷ E) m = elim (either_way (stop w)) [
   | inr h ↦
       let t = turn_as (mark_of m) s w in
       let rest = some_turns stop t.1 E (later m) in
-      (s ∷ rest.0, until_goes stop s E m w h ∙ ap (and_then (ends_by s t.0)) rest.1)
+      (s ∷ rest.0, until_goes stop s E m w h ∙ ap (ends_then (ends_by s t.0)) rest.1)
 ]
 
 -- where no job ends for want of memory

@@ -14,7 +14,7 @@ use Rattle.mon_slots.specs.declared.turned.Turned.{Turned}
 use Rattle.mon_slots.specs.declared.slots.Slots.{Slots}
 use Rattle.mon_slots.specs.Told.{slots_in}
 use Rattle.mon_slots.specs.Floors.{SlotState, Floor, floor}
-use Rattle.mon_slots.specs.Loads.{loaded}
+use Rattle.mon_slots.specs.Loads.{job_loaded}
 use Rattle.mon_slots.specs.Turning.{TurnOr}
 use Rattle.mon_monitor.specs.Worlds.{World, world, with_floor, with_sets}
 use Rattle.mon_monitor.specs.Played.{loading}
@@ -62,7 +62,7 @@ load_isolated (Err e) deck w w' is = tt
 -- a refusal
 module _ (deck : JobDeck) (accounts : List Account) (sets : Sets) (old new : Slots) where
   abbrev Refuses : LoadError → Type 0
-  Refuses refusal = loaded accounts deck (slots_in old) ≡ (Err refusal, slots_in old)
+  Refuses refusal = job_loaded accounts deck (slots_in old) ≡ (Err refusal, slots_in old)
 
   abbrev Shows : LoadError → Type 0
   Shows refusal = LoadIsolated deck (world accounts (floor sets (slots_in old))) (Err refusal) (world accounts (floor sets (slots_in new)))

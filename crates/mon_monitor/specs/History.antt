@@ -21,7 +21,7 @@ use Rattle.mon_slots.specs.declared.turned.Turned.{Turned}
 use Rattle.mon_slots.specs.declared.turned.Turned.TheVariants as turn
 use Rattle.mon_slots.specs.Floors.{SlotState, Floor, job_in}
 use Rattle.mon_slots.specs.Turns.{reached, only}
-use Rattle.mon_slots.specs.Marks.{Mark, Marks, mark_of, later, exchanges_at, may_break, turn_as, never, rounds, turns_left, is_done, has_room, room}
+use Rattle.mon_slots.specs.Marks.{Mark, Marks, mark_of, later, exchanges_at, may_break, turn_as, never, rounds, turns_left, is_done, has_free_slot, room}
 use Rattle.mon_monitor.specs.Worlds.{World, with_floor}
 use Rattle.mon_monitor.specs.Events.{Event, Serve, Load, Give, Drain}
 use Rattle.mon_monitor.specs.Papers.{Paper, OfCommand, OfJob, OfRefused}
@@ -100,7 +100,7 @@ load_entry deck (Err refusal) = Refused deck refusal ∷ []
 abbrev pub event_entries : Event → Marks → World → List Entry
 event_entries (Serve command) m w = Ordered w.floor.sets command (answered w.accounts w.floor.sets command).answer ∷ []
 event_entries (Load deck) m w =
-    entries_of_rounds has_room m w.floor ++ load_entry deck (loading deck (with_floor w (room m w.floor).after)).0
+    entries_of_rounds has_free_slot m w.floor ++ load_entry deck (loading deck (with_floor w (room m w.floor).after)).0
 event_entries (Give slot count) m w = entries_until never (only slot count) m w.floor
 event_entries Drain m w = entries_of_rounds is_done m w.floor
 

@@ -6,7 +6,7 @@ use Rattle.mon_job.specs.declared.deck.JobDeck.{JobDeck}
 use Rattle.mon_job.specs.declared.refusal.LoadError.{LoadError}
 use Rattle.mon_slots.specs.Turns.{only}
 use Rattle.mon_slots.specs.Marks.{Marks, Past, marked, drain, room}
-use Rattle.mon_slots.specs.Loads.{loaded}
+use Rattle.mon_slots.specs.Loads.{job_loaded}
 use Rattle.mon_slots.specs.Floors.{floor}
 use Rattle.mon_monitor.specs.Worlds.{World, with_floor, with_sets}
 use Rattle.mon_monitor.specs.Events.{Event, Serve, Load, Give, Drain}
@@ -28,7 +28,7 @@ of_turns w p = record { papers = map OfJob (map (λ e. e.1) p.ends); after = wit
 -- a job is loaded into the lowest free slot, or refused
 abbrev pub loading : JobDeck → World → Result ℕ LoadError × World
 loading deck w =
-    let l = loaded w.accounts deck w.floor.slots in
+    let l = job_loaded w.accounts deck w.floor.slots in
     (l.0, with_floor w (floor w.floor.sets l.1))
 
 abbrev pub of_loading : JobDeck → Marks → World → Played

@@ -9,7 +9,7 @@ use Rattle.sno_cards.specs.Programs.{ProgramText}
 use Rattle.sno_cards.specs.Statements.{statements_of}
 use Rattle.sno_cards.specs.Texts.{Placed}
 use Rattle.sno_syntax.specs.Labels.{LabelList}
-use Rattle.sno_syntax.specs.Places.{refused}
+use Rattle.sno_syntax.specs.Places.{refused_with}
 use Rattle.sno_syntax.specs.Refusals.{label_of, with_label, labels_in, statement_refusal, statements_refusal, start_in, begin_of, syntax_refusal}
 use Rattle.mon_access.specs.declared.account.Account.{Account}
 use Rattle.mon_access.specs.Accounts.{find_account}
@@ -18,7 +18,7 @@ use Rattle.mon_job.specs.declared.deck.UnitCard.{UnitCard}
 use Rattle.mon_job.specs.declared.deck.JobDeck.{JobDeck}
 use Rattle.mon_job.specs.declared.refusal.LoadError.{LoadError}
 use Rattle.mon_job.specs.declared.refusal.LoadError.TheVariants.{Cards, Syntax}
-use Rattle.mon_slots.specs.Loads.{data_of, first_units, ties_refusal, program_refusal, account_refusal, deck_refusal}
+use Rattle.mon_slots.specs.Loads.{data_of, first_units, ties_refusal, program_refusal, missing_account, deck_refusal}
 use Rattle.mon_slots.specs.inner.Carding.{refused_by, cards_refused as first_tie_refused}
 use Rattle.mon_refusals.specs.Refused.{listed, first_of, tied_after, tie_listed, ties_refused, syntax_listed, statements_refused, end_refused, cards_refused, program_refused, account_refused, deck_refused}
 use Rattle.mon_refusals.proofs.Tying.{all_by}
@@ -72,7 +72,7 @@ syntax_or (Some refusal) later = refl
 of_cards : (cards : ProgramText) → first_of (cards_refused cards) ≡ option_map Syntax (syntax_refusal cards)
 of_cards cards =
     let statements = statements_refusal [] 0 cards.statements in
-    let end = then_some (is_none (start_in cards)) (refused BadEnd (begin_of cards.end_rest)) in
+    let end = then_some (is_none (start_in cards)) (refused_with BadEnd (begin_of cards.end_rest)) in
     of_both (statements_refused [] 0 cards.statements) (end_refused cards.end_rest (start_in cards))
     ∙ ap (λ o. option_or o (first_of (end_refused cards.end_rest (start_in cards)))) (of_statements [] 0 cards.statements)
     ∙ ap (λ o. option_or (option_map Syntax statements) o) (of_one (option_map Syntax end))
@@ -86,7 +86,7 @@ of_program (Err refusal) = refl
 
 pub first_refusal : (accounts : List Account) (deck : JobDeck) → first_of (deck_refused accounts deck) ≡ deck_refusal accounts deck
 first_refusal accounts deck =
-    let account = account_refusal (find_account accounts deck.account) in
+    let account = missing_account (find_account accounts deck.account) in
     let ties = ties_refused deck.ties (replicate 100 false) in
     let program = program_refused (statements_of deck.lines) in
     let all = all_by deck.ties (data_of deck.lines (statements_of deck.lines)) in

@@ -9,7 +9,7 @@ use Rattle.sno_cards.specs.Statements.{statements_of}
 use Rattle.sno_cards.specs.Texts.{Placed, text_of}
 use Rattle.sno_syntax.specs.declared.start.Start.{Start}
 use Rattle.sno_syntax.specs.Labels.{LabelList}
-use Rattle.sno_syntax.specs.Places.{refused}
+use Rattle.sno_syntax.specs.Places.{refused_with}
 use Rattle.sno_syntax.specs.Starts.{start_of}
 use Rattle.sno_syntax.specs.Refusals.{label_of, with_label, labels_in, statement_refusal, begin_of}
 use Rattle.mon_access.specs.declared.account.Account.{Account}
@@ -19,7 +19,7 @@ use Rattle.mon_job.specs.declared.deck.UnitCard.{UnitCard}
 use Rattle.mon_job.specs.declared.deck.JobDeck.{JobDeck}
 use Rattle.mon_job.specs.declared.refusal.LoadError.{LoadError}
 use Rattle.mon_job.specs.declared.refusal.LoadError.TheVariants.{Cards, Syntax}
-use Rattle.mon_slots.specs.Loads.{account_refusal}
+use Rattle.mon_slots.specs.Loads.{missing_account}
 use Rattle.mon_slots.specs.inner.Carding.{refused_by}
 
 -- what there is, as a list
@@ -61,7 +61,7 @@ statements_refused labels index (text ∷ texts) =
 
 -- the END line, where it does not say where a run begins
 abbrev pub end_refused : List Placed → Option Start → List LoadError
-end_refused rest start = syntax_listed (then_some (is_none start) (refused BadEnd (begin_of rest)))
+end_refused rest start = syntax_listed (then_some (is_none start) (refused_with BadEnd (begin_of rest)))
 
 abbrev pub end_start : ProgramText → LabelList → Option Start
 end_start program labels = start_of (length program.statements) labels (words (text_of program.end_rest))
@@ -78,7 +78,7 @@ program_refused (Err refusal) = Syntax refusal ∷ []
 -- THE JOB
 
 abbrev pub account_refused : Option Account → List LoadError
-account_refused account = listed (account_refusal account)
+account_refused account = listed (missing_account account)
 
 -- its account, its unit cards, its program
 abbrev pub deck_refused : List Account → JobDeck → List LoadError

@@ -3,7 +3,7 @@ ghost use Rattle.std.specs.Prelude.{◌≡◌, map, not, position, IfOk, ◌==�
 ghost use Rattle.mon_text.specs.Characters.{is_blank};
 ghost use Rattle.mon_text.specs.Lines.{words};
 ghost use Rattle.sno_cards.specs.declared.refusal.SyntaxCode.TheVariants.{BadEnd};
-ghost use Rattle.sno_syntax.specs.Places.{refused};
+ghost use Rattle.sno_syntax.specs.Places.{refused_with};
 ghost use Rattle.sno_syntax.specs.Refusals.{begin_of};
 ghost use Rattle.sno_syntax.specs.Starts.{start_named, start_of};
 ghost use Rattle.sno_syntax.specs.declared.start.Start.TheVariants.{End, Statement};
@@ -74,7 +74,7 @@ fn begin_of(text: &StatementText) -> Place
 
 /// The refusal of an END line that has something else after END than one label of the program.
 pub(crate) fn end_refusal(rest: &StatementText) -> SyntaxError
-    ensures { result ≡ refused BadEnd (begin_of rest.now) }
+    ensures { result ≡ refused_with BadEnd (begin_of rest.now) }
 {
     SyntaxError {
         code: SyntaxCode::BadEnd,

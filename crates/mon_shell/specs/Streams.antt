@@ -8,7 +8,7 @@ use Rattle.mon_feed.specs.declared.fault.RunError.{RunError}
 use Rattle.mon_feed.specs.declared.fault.RunError.TheVariants.{DeckRefused, ReadFault, Memory}
 use Rattle.mon_feed.specs.declared.options.Options.{Options}
 use Rattle.mon_feed.specs.declared.options.Counts.{Counts}
-use Rattle.mon_deck.specs.Runs.{ending_of, counts_of, HasWritten, HasRun, HasBegun, HasPrinted, HasBrokenOff}
+use Rattle.mon_deck.specs.Runs.{deck_ending, counts_of, HasWritten, HasRun, HasBegun, HasPrinted, HasBrokenOff}
 
 -- what a stream tells now that told this at first: nothing, where it told nothing
 abbrev pub told_since : Option (List ℕ) → Option (List ℕ) → Option (List ℕ)
@@ -18,10 +18,10 @@ told_since first now = where_told (is_some first) now
 -- says of its devices.
 pub record Comes (options : Options) (told left held now : Option (List ℕ)) (outcome : Result Counts RunError) : Type 0 where
   pub at_end : OnOk outcome (IsAtEnd left)
-  pub stopped : OnOk outcome (IfSome told (λ bytes. ending_of bytes ≡ Stopped))
+  pub stopped : OnOk outcome (IfSome told (λ bytes. deck_ending bytes ≡ Stopped))
   pub output : OnOk outcome (IfSome told (λ bytes. HasRun options held now bytes))
   pub counts : IfOk outcome (λ counts. IfSome told (λ bytes. counts ≡ counts_of bytes))
-  pub refused : (line : ℕ) (code : Code) → outcome ≡ Err (DeckRefused line code) → IfSome told (λ bytes. ending_of bytes ≡ Refused line code)
+  pub refused : (line : ℕ) (code : Code) → outcome ≡ Err (DeckRefused line code) → IfSome told (λ bytes. deck_ending bytes ≡ Refused line code)
   pub refused_output : (line : ℕ) (code : Code) → outcome ≡ Err (DeckRefused line code) → IfSome told (λ bytes. HasWritten options held now bytes)
   pub begun : HasBegun options told left held now
   pub due : outcome ≡ Err ReadFault → HasPrinted options told left held now

@@ -3,7 +3,7 @@ use Rattle.std.specs.Prelude.{◌≡◌, ℕ, ◌+◌, Bool, List, [], ◌∷◌
 use Rattle.mon_slots.specs.Marks.{Marks}
 use Rattle.mon_monitor.specs.Worlds.{World}
 use Rattle.mon_cards.specs.Decks.{Asked, Cards}
-use Rattle.mon_cards.specs.Sections.{and_then, stopped}
+use Rattle.mon_cards.specs.Sections.{asked_then, stopped}
 use Rattle.mon_feed.specs.declared.options.Counts.{Counts}
 use Rattle.mon_feed.specs.declared.options.Options.{Options}
 use Rattle.mon_feed.specs.declared.stage.State.{State}
@@ -21,7 +21,7 @@ pub record TookLine (options : Options) (s : State) (line before : List ℕ) (co
 pub record Served (check : Bool) (one : Asked) (w : World) (before : List ℕ) (counts : Counts) (w' : World) (after : List ℕ) (counts' : Counts) : Type 0 where
   pub marks : Marks
   pub is : (rest : Marks) → (others : Cards)
-      → behind after counts' (outcome_of check counts'.jobs rest (over w' others)) ≡ behind before counts (outcome_of check counts.jobs (marks ++ rest) (over w (and_then one others)))
+      → behind after counts' (outcome_of check counts'.jobs rest (over w' others)) ≡ behind before counts (outcome_of check counts.jobs (marks ++ rest) (over w (asked_then one others)))
 
 -- `$STOP` came, behind so many jobs
 pub record Stopping (check : Bool) (jobs : ℕ) (w : World) (before : List ℕ) (w' : World) (after : List ℕ) : Type 0 where

@@ -1,6 +1,6 @@
 use Rattle.std.proofs.Common.{rules, ◌≡◌, ◌∙◌, sym, subst, List, ℕ, Option}
 use Rattle.mon_cards.specs.Decks.{Stopped, Refused}
-use Rattle.mon_deck.specs.Runs.{ending_of, HasWritten, HasRun, HasBegun, HasBrokenOff}
+use Rattle.mon_deck.specs.Runs.{deck_ending, HasWritten, HasRun, HasBegun, HasBrokenOff}
 use Rattle.mon_feed.proofs.Telling.{refused_so}
 use Rattle.mon_deck.proofs.Running.{run_good, run_bad, met_bad, on_good, counts_good, if_some, IsGood, broken, finished, fault_so, memory_so, broke_behind}
 use Rattle.mon_deck.proofs.Due.{due, broken_off}
@@ -12,7 +12,7 @@ returns-in-Ok-clause-stopped g c =
     let held = g.D.DeckDevices.written c.args.devices.now in
     let now = g.D.DeckDevices.written c.finish.new.devices in
     let told = g.D.DeckDevices.remaining c.args.devices.now in
-    on_good told (IsGood c.args.options held now) (λ bytes. ending_of bytes ≡ Stopped) c.finish.result (λ counts bytes (good : IsGood c.args.options held now counts bytes). good.stopped)
+    on_good told (IsGood c.args.options held now) (λ bytes. deck_ending bytes ≡ Stopped) c.finish.result (λ counts bytes (good : IsGood c.args.options held now counts bytes). good.stopped)
     (run_good c.args.options told _ held _ now c.new-feed.result _ r.0 r.1 c.in-Ok.ensures.at_end c.new-feed.ensures.start (search rules) (search rules) c.finish.result c.finish.ensures.ended)
 
 pub returns-in-Ok-clause-output : goal.returns-in-Ok-clause-output
@@ -39,7 +39,7 @@ returns-in-Ok-clause-refused g c = λ n code same.
     let held = g.D.DeckDevices.written c.args.devices.now in
     let now = g.D.DeckDevices.written c.finish.new.devices in
     let end = c.finish.ensures.refused n code same in
-    if_some _ _ _ (λ bytes (x : (ending_of bytes ≡ Refused n code) × HasWritten c.args.options held now bytes). x.0)
+    if_some _ _ _ (λ bytes (x : (deck_ending bytes ≡ Refused n code) × HasWritten c.args.options held now bytes). x.0)
     (run_bad c.args.options (g.D.DeckDevices.remaining c.args.devices.now) _ held _ now c.new-feed.result _ r.0 r.1 c.in-Ok.ensures.at_end c.new-feed.ensures.start n code end.0 end.1)
 
 pub returns-in-Ok-clause-refused_output : goal.returns-in-Ok-clause-refused_output
@@ -48,14 +48,14 @@ returns-in-Ok-clause-refused_output g c = λ n code same.
     let held = g.D.DeckDevices.written c.args.devices.now in
     let now = g.D.DeckDevices.written c.finish.new.devices in
     let end = c.finish.ensures.refused n code same in
-    if_some _ _ _ (λ bytes (x : (ending_of bytes ≡ Refused n code) × HasWritten c.args.options held now bytes). x.1)
+    if_some _ _ _ (λ bytes (x : (deck_ending bytes ≡ Refused n code) × HasWritten c.args.options held now bytes). x.1)
     (run_bad c.args.options (g.D.DeckDevices.remaining c.args.devices.now) _ held _ now c.new-feed.result _ r.0 r.1 c.in-Ok.ensures.at_end c.new-feed.ensures.start n code end.0 end.1)
 
 pub returns-in-Err-clause-refused : goal.returns-in-Err-clause-refused
 returns-in-Err-clause-refused g c = λ n code same.
     let held = g.D.DeckDevices.written c.args.devices.now in
     let now = g.D.DeckDevices.written c.feed_all.new.devices in
-    if_some _ _ _ (λ bytes (x : (ending_of bytes ≡ Refused n code) × HasWritten c.args.options held now bytes). x.0)
+    if_some _ _ _ (λ bytes (x : (deck_ending bytes ≡ Refused n code) × HasWritten c.args.options held now bytes). x.0)
     (met_bad c.args.options (g.D.DeckDevices.remaining c.args.devices.now) held now c.new-feed.result c.new-feed.ensures.start n code
     (c.feed_all.ensures.refused n code (c.in-Err.is ∙ refused_so c.in-Err.error n code same)))
 
@@ -63,7 +63,7 @@ pub returns-in-Err-clause-refused_output : goal.returns-in-Err-clause-refused_ou
 returns-in-Err-clause-refused_output g c = λ n code same.
     let held = g.D.DeckDevices.written c.args.devices.now in
     let now = g.D.DeckDevices.written c.feed_all.new.devices in
-    if_some _ _ _ (λ bytes (x : (ending_of bytes ≡ Refused n code) × HasWritten c.args.options held now bytes). x.1)
+    if_some _ _ _ (λ bytes (x : (deck_ending bytes ≡ Refused n code) × HasWritten c.args.options held now bytes). x.1)
     (met_bad c.args.options (g.D.DeckDevices.remaining c.args.devices.now) held now c.new-feed.result c.new-feed.ensures.start n code
     (c.feed_all.ensures.refused n code (c.in-Err.is ∙ refused_so c.in-Err.error n code same)))
 

@@ -7,7 +7,7 @@ use Rattle.mon_cards.specs.Sections.{InList, stream_section}
 use Rattle.mon_feed.specs.declared.stage.Stage.TheVariants as stage
 use Rattle.mon_feed.specs.Scenes.{over}
 use Rattle.mon_feed.proofs.Taking.{unmoved, asks_over, card_taken, stop_taken}
-use Rattle.mon_feed.proofs.serving.after_card.Goals as goal
+use Rattle.mon_feed.proofs.reading.after_card.Goals as goal
 
 pub returns-in-Nothing-clause-goes_on : goal.returns-in-Nothing-clause-goes_on
 returns-in-Nothing-clause-goes_on c =
