@@ -51,7 +51,7 @@ pub fn run_deck<D: DeckDevices>(
 
     // A refused deck is refused at its first refusal, and what came before that was written.
     ensures refused { (line : ℕ) (code : Code) → result ≡ Err (RunError.DeckRefused line code) →
-        IfSome (D.remaining devices.old) (λ bytes. ending_of bytes ≡ Refused line code) }
+        IfSome (D.remaining devices.old) (λ bytes. deck_ending bytes ≡ Refused line code) }
     ensures refused_output { (line : ℕ) (code : Code) → result ≡ Err (RunError.DeckRefused line code) →
         IfSome (D.remaining devices.old) (λ bytes. HasWritten options (D.written devices.old) (D.written devices.new) bytes) }
 
