@@ -52,6 +52,7 @@ fn judged(index: usize, perms: Perms, request: Perms) -> Found
 }
 
 /// What the entry of a type for a name says.
+#[inline(always)]
 fn of_name(acl: &Acl, tag: Tag, name: &Name, request: Perms) -> Found
     requires { IsCanonical acl.now }
     ensures { result ≡ found (stands_at (rank tag ∷ name.now)) acl.now request }

@@ -1,5 +1,5 @@
 -- Entries of a permission list, which lists are valid, and in which order they stand (acl(5) "ACL ENTRIES", "VALID ACLs").
-use Rattle.std.specs.Prelude.{◌≡◌, ℕ, ◌<◌, ◌≤◌, ◌==◌, Bool, true, false, ◌&&◌, ◌||◌, List, [], ◌∷◌, length, count_by, All, HoldsAt, IsTrue, IsFalse, Option, MatchOption, Some, None, nat_eq}
+use Rattle.std.specs.Prelude.{◌≡◌, ℕ, ◌<◌, ◌≤◌, ◌==◌, Bool, false, ◌&&◌, ◌||◌, List, [], ◌∷◌, length, count_by, All, HoldsAt, IsTrue, IsFalse, Option, MatchOption, nat_eq}
 use Rattle.std.specs.List.{list_any}
 use Rattle.std.specs.List.Sorted.{IsStrictlySortedBy}
 use Rattle.std.specs.Cmp.Lexicographic.{pointwise, slice_cmp}

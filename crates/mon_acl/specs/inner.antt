@@ -1,3 +1,3 @@
 pub mod Building
-pub mod Summaries
+pub mod Keys
 pub mod Chains

@@ -6,12 +6,12 @@
 mod arranging;
 pub mod entries;
 mod fields;
+mod keys;
 pub mod laws;
 pub mod list;
 mod pieces;
 mod reading;
 pub mod refusals;
-mod summaries;
 pub mod text;
 
 pub use entries::{Entry, Perms, Tag};

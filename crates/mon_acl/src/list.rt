@@ -13,10 +13,10 @@ ghost use Rattle.mon_acl.specs.inner.Building.{pieces_in, piece_added, canonical
 
 use crate::arranging::{ENTRIES_INLINE, add, lacking};
 use crate::entries::{Entry, Perms, Tag};
+use crate::keys::{Chains, chains_of, index_of_name, index_of_type, keys_of};
 use crate::pieces::Form;
 use crate::reading::entry_of;
 use crate::refusals::AclError;
-use crate::summaries::{Chains, chains_of, index_of_name, index_of_type, perms_in, summaries_of};
 use mon_text::{Name, Stop};
 use smallvec::SmallVec;
 use std::alloc::{AllocError, Global};
@@ -29,7 +29,7 @@ use std::marker::Model;
 pub struct Acl {
     entries: SmallVec<Entry, ENTRIES_INLINE>,
     /// Those of the entries, at the same indexes.
-    summaries: SmallVec<u64, ENTRIES_INLINE>,
+    keys: SmallVec<u64, ENTRIES_INLINE>,
     chains: Chains,
 }
 
@@ -37,14 +37,14 @@ impl Model for Acl {
     ghost use Rattle.std.specs.Prelude.{◌≡◌, List, map, length};
     ghost use Rattle.mon_acl.specs.declared.entries.Entry.{Entry};
     ghost use Rattle.mon_acl.specs.Entries.{IsAcl};
-    ghost use Rattle.mon_acl.specs.inner.Summaries.{summary_of, buckets_of};
+    ghost use Rattle.mon_acl.specs.inner.Keys.{keys_of, bucket_of};
     ghost use Rattle.mon_acl.specs.inner.Chains.{IsChained};
 
     ghost Value = { List Entry };
 
     ghost view = { λ a. a.entries.items };
 
-    ghost invariant = { λ a. IsAcl a.entries.items × (a.summaries.items ≡ map summary_of a.entries.items) × IsChained (buckets_of a.entries.items) (length a.entries.items) a.chains.first a.chains.next };
+    ghost invariant = { λ a. IsAcl a.entries.items × (a.keys.items ≡ keys_of a.entries.items) × IsChained (map bucket_of a.keys.items) (length a.keys.items) a.chains.first a.chains.next };
 }
 
 impl Acl {
@@ -143,19 +143,21 @@ impl Acl {
     }
 
     /// The index of the entry of a type for a name, if there is one. It takes no memory.
+    #[inline(always)]
     pub fn index_of(&self, tag: Tag, name: &Name) -> Option<usize>
         ensures { IsIndexOf tag name.now self.now result }
     {
-        let summaries = self.summaries.as_slice();
-        index_of_name(&self.chains, summaries, self.entries(), tag, name)
+        let keys = self.keys.as_slice();
+        index_of_name(&self.chains, keys, self.entries(), tag, name)
     }
 
     /// The index of the entry of a type without names, if there is one. It takes no memory.
+    #[inline(always)]
     pub fn index_of_type(&self, tag: Tag) -> Option<usize>
         ensures { IsIndexOf tag [] self.now result }
     {
-        let summaries = self.summaries.as_slice();
-        index_of_type(&self.chains, summaries, self.entries(), tag)
+        let keys = self.keys.as_slice();
+        index_of_type(&self.chains, keys, self.entries(), tag)
     }
 
     /// The permissions of the entry at an index.
@@ -163,7 +165,7 @@ impl Acl {
         requires { index < length self.now }
         ensures { HoldsAt (λ e. e.perms ≡ result) self.now index }
     {
-        perms_in(self.summaries.as_slice()[index], &self.entries()[index])
+        self.entries()[index].perms
     }
 
     /// The same list once more.
@@ -179,10 +181,10 @@ impl Acl {
         for entry in self.entries() {
             entries.push(entry.copy())?;
         }
-        let summaries = SmallVec::from_slice(alloc, self.summaries.as_slice())?;
+        let keys = SmallVec::from_slice(alloc, self.keys.as_slice())?;
         Ok(Acl {
             entries,
-            summaries,
+            keys,
             chains: self.chains,
         })
     }
@@ -210,13 +212,15 @@ fn listed(
     ensures memory { IsErrOf result Stop.Memory → 5 ≤ length entries.items }
 {
     entries.shrink_to_fit();
-    let chains = chains_of(entries.as_slice());
-    match summaries_of(alloc, entries.as_slice()) {
-        Ok(summaries) => Ok(Acl {
-            entries,
-            summaries,
-            chains,
-        }),
+    match keys_of(alloc, entries.as_slice()) {
+        Ok(keys) => {
+            let chains = chains_of(keys.as_slice());
+            Ok(Acl {
+                entries,
+                keys,
+                chains,
+            })
+        }
         Err(_) => Err(Stop::Memory),
     }
 }

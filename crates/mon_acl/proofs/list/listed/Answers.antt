@@ -1,8 +1,15 @@
-use Rattle.std.proofs.Common.{List, ◌≤◌, ◌∙◌, length, sym, subst}
+use Rattle.std.proofs.Common.{List, ◌∙◌, ap, sym, subst}
+use Rattle.std.specs.Prelude.{All}
 use Rattle.mon_acl.specs.declared.entries.Entry.{Entry}
-use Rattle.mon_acl.proofs.Summed.{few}
+use Rattle.mon_acl.specs.Entries.{IsEntry}
+use Rattle.mon_acl.specs.inner.Keys.{keys_of}
+use Rattle.mon_acl.proofs.Keyed.{few_keys}
 use Rattle.mon_acl.proofs.list.listed.Goals as goal
+
+pub keys_of-requires : goal.keys_of-requires
+keys_of-requires c = subst (λ (es : List Entry). All IsEntry es) (sym (c.as_slice.ensures ∙ c.shrink_to_fit.ensures.items)) c.requires.valid.entries
 
 pub chains_of-chains-requires : goal.chains_of-chains-requires
 chains_of-chains-requires c =
-    subst (λ (es : List Entry). length es ≤ 104) (sym (c.as_slice.ensures ∙ c.shrink_to_fit.ensures.items)) (few c.args.entries.items c.requires.valid)
+    few_keys c.as_slice-in-Ok.result.now c.args.entries.items
+    (c.as_slice-in-Ok.ensures ∙ c.in-Ok.ensures.keys ∙ ap keys_of (c.as_slice.ensures ∙ c.shrink_to_fit.ensures.items)) c.requires.valid
