@@ -13,11 +13,12 @@ use std::alloc::{AllocError, Global};
 pub(crate) fn join(
     alloc: Global,
     operator: BinaryOperator,
-    left: Box<Expression>,
+    left: Expression,
     right: Expression,
 ) -> Result<Expression, AllocError>
-    ensures { IfOk result (λ t. expression_of t ≡ expressions.Binary operator (expression_of left.value) (expression_of right)) }
+    ensures { IfOk result (λ t. expression_of t ≡ expressions.Binary operator (expression_of left) (expression_of right)) }
 {
+    let left = Box::new(alloc, left)?;
     let right = Box::new(alloc, right)?;
     Ok(Expression::Binary(operator, left, right))
 }

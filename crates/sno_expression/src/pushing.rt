@@ -3,7 +3,7 @@
 ghost use Rattle.std.specs.Prelude.{◌≡◌, true, IfOk};
 ghost use Rattle.sno_tree.specs.Expressions.{FitsLeft};
 ghost use Rattle.sno_expression.specs.inner.Reading.{push};
-ghost use Rattle.sno_expression.specs.inner.Spines.{is_element, is_ordered};
+ghost use Rattle.sno_expression.specs.inner.Spines.{is_element, is_ordered, is_under_all};
 ghost use Rattle.sno_tree.specs.Told.{expression_of};
 ghost use Rattle.sno_expression.specs.inner.Told.{spread, spine_tree};
 
@@ -12,65 +12,82 @@ use crate::spine::{Pending, Spine};
 use sno_tree::{BinaryOperator, Expression, binds_into_right};
 use std::alloc::{AllocError, Global};
 
+// One more operator, the innermost, with its operands.
+#[tactic(auto, using(crate::proofs::Spines::ordered_pushed, crate::proofs::Spines::grown_pushed))]
+fn nest(
+    pending: Vec<Pending>,
+    left: Expression,
+    operator: BinaryOperator,
+    operand: Expression,
+) -> Result<Spine, AllocError>
+    requires ordered { is_ordered pending.items ≡ true }
+    requires under { is_under_all operator pending.items ≡ true }
+    requires fits { FitsLeft operator (expression_of left) }
+    requires element { is_element operand ≡ true }
+    ensures { IfOk result (λ s. spine_tree s ≡ push operator (expression_of operand) (spread pending.items (expression_of left))) }
+{
+    let mut pending = pending;
+    pending.push(Pending { left, operator })?;
+    Ok(Spine {
+        pending,
+        last: operand,
+    })
+}
+
 // The innermost operators are closed that the new one may not stand under; what they make is its left operand.
+#[tactic(auto, using(crate::proofs::Spines::under_popped, crate::proofs::Spines::ordered_popped, crate::proofs::Spines::spread_popped))]
 fn grow(
     alloc: Global,
     operator: BinaryOperator,
     operand: Expression,
-    pending: Pending,
+    pending: Vec<Pending>,
     last: Expression,
 ) -> Result<Spine, AllocError>
-    requires ordered { is_ordered pending ≡ true }
+    requires ordered { is_ordered pending.items ≡ true }
     requires fits { FitsLeft operator (expression_of last) }
     requires element { is_element operand ≡ true }
-    ensures { IfOk result (λ s. spine_tree s ≡ push operator (expression_of operand) (spread pending (expression_of last))) }
+    ensures { IfOk result (λ s. spine_tree s ≡ push operator (expression_of operand) (spread pending.items (expression_of last))) }
 {
-    match pending {
-        Pending::End => {
-            let last = Box::new(alloc, last)?;
-            let end = Box::new(alloc, Pending::End)?;
-            Ok(Spine {
-                pending: Pending::More(last, operator, end),
-                last: operand,
-            })
-        }
-        Pending::More(left, outer, rest) => {
-            if binds_into_right(operator, outer) {
-                let last = Box::new(alloc, last)?;
-                let around = Box::new(alloc, Pending::More(left, outer, rest))?;
-                Ok(Spine {
-                    pending: Pending::More(last, operator, around),
-                    last: operand,
-                })
+    let mut pending = pending;
+    match pending.pop() {
+        None => nest(pending, last, operator, operand),
+        Some(outer) => {
+            if binds_into_right(operator, outer.operator) {
+                pending.push(outer)?;
+                nest(pending, last, operator, operand)
             } else {
-                let last = join(alloc, outer, left, last)?;
-                grow(alloc, operator, operand, Box::into_inner(rest), last)
+                let last = join(alloc, outer.operator, outer.left, last)?;
+                grow(alloc, operator, operand, pending, last)
             }
         }
     }
 }
 
 // All operators closed, the innermost first.
-fn close_all(alloc: Global, pending: Pending, last: Expression) -> Result<Expression, AllocError>
-    ensures { IfOk result (λ t. expression_of t ≡ spread pending (expression_of last)) }
+#[tactic(auto, using(crate::proofs::Spines::spread_popped))]
+fn close_all(
+    alloc: Global,
+    pending: Vec<Pending>,
+    last: Expression,
+) -> Result<Expression, AllocError>
+    ensures { IfOk result (λ t. expression_of t ≡ spread pending.items (expression_of last)) }
 {
-    match pending {
-        Pending::End => Ok(last),
-        Pending::More(left, operator, rest) => {
-            let last = join(alloc, operator, left, last)?;
-            close_all(alloc, Box::into_inner(rest), last)
-        }
+    let mut pending = pending;
+    let mut last = last;
+    while let Some(outer) = pending.pop() {
+        last = join(alloc, outer.operator, outer.left, last)?;
     }
+    Ok(last)
 }
 
 /// The tree of one operand.
 #[inline(always)]
-pub(crate) fn alone(operand: Expression) -> Spine
+pub(crate) fn alone(alloc: Global, operand: Expression) -> Spine
     requires { is_element operand ≡ true }
     ensures { spine_tree result ≡ expression_of operand }
 {
     Spine {
-        pending: Pending::End,
+        pending: Vec::new(alloc),
         last: operand,
     }
 }

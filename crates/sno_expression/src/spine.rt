@@ -5,20 +5,20 @@ ghost use Rattle.sno_expression.specs.inner.Spines.{is_element, is_ordered};
 
 use sno_tree::{BinaryOperator, Expression};
 
-/// The binary operators down the right spine, each with its left operand, the innermost first. Their right operands may
-/// still grow.
+/// A binary operator down the right spine, with its left operand. Its right operand may still grow.
 #[derive(Drop)]
-pub(crate) enum Pending {
-    End,
-    More(Box<Expression>, BinaryOperator, Box<Pending>),
+pub(crate) struct Pending {
+    pub(crate) left: Expression,
+    pub(crate) operator: BinaryOperator,
 }
 
 /// A tree by its right spine.
 #[derive(Drop)]
 pub(crate) struct Spine {
-    pub(crate) pending: Pending,
+    /// The innermost last.
+    pub(crate) pending: Vec<Pending>,
     /// The operand at the right end.
     pub(crate) last: Expression,
-    ghost ordered: { is_ordered pending ≡ true },
+    ghost ordered: { is_ordered pending.items ≡ true },
     ghost element: { is_element last ≡ true },
 }

@@ -3,6 +3,7 @@ mod Loop
 mod Places
 mod Contexts
 mod Words
+mod Clean
 mod Faults
 mod Reading
 pub mod Telling

@@ -1,7 +1,8 @@
 -- Labels in a table whose keys are texts.
-use Rattle.std.proofs.Common.{◌≡◌, ℕ, Bool, true, false, List, [], ◌∷◌, Some, slice_get, map, if◌then◌else◌, zero, suc, refl, ap}
+use Rattle.std.proofs.Common.{◌≡◌, ℕ, Bool, true, false, List, [], ◌∷◌, Some, slice_get, map, if◌then◌else◌, zero, suc, refl, sym, ap, ◌∙◌}
 use Rattle.std.specs.Prelude.{Vec, bytes_eq, option_map}
 use Rattle.std.specs.Map.{lookup}
+use Rattle.std.specs.Cmp.Lexicographic.{bytes_decides}
 use Rattle.indexmap.specs.IndexMap.{insert_entry}
 use Rattle.sno_syntax.specs.Labels.{LabelList}
 
@@ -29,4 +30,11 @@ module _ {Z : Type 0} where
   entry_shown (e ∷ es) zero = refl
   entry_shown (e ∷ es) (suc i) = entry_shown es i
 
-pub ruleset tables = (lookup_shown, insert_shown, entry_shown)
+  -- what a label has that is equal to a key
+  pub found_shown : (es : List (Vec ℕ Z × ℕ)) (key : Vec ℕ Z) (label : List ℕ) (at : ℕ)
+      → lookup (λ v. bytes_eq key.items v.items) es ≡ Some at → bytes_eq key.items label ≡ true → Some at ≡ lookup (bytes_eq label) (shown es)
+  found_shown es key label at there same =
+      let one : key.items ≡ label = (bytes_decides key.items label).0 same in
+      sym (lookup_shown (bytes_eq label) es ∙ ap (λ text. lookup (λ v. bytes_eq text v.items) es) (sym one) ∙ there)
+
+pub ruleset tables = (lookup_shown, insert_shown, entry_shown, found_shown)

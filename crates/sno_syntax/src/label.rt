@@ -1,5 +1,5 @@
 //! Labels, and which statement each stands before.
-ghost use Rattle.std.specs.Prelude.{◌≡◌, ◌≤◌, [], bytes_eq, length, position, option_map, slice_get, OnOk};
+ghost use Rattle.std.specs.Prelude.{◌≡◌, ◌≤◌, ◌<◌, [], bytes_eq, length, position, option_map, slice_get, OnOk};
 ghost use Rattle.std.specs.List.{position_or_len, before_first};
 ghost use Rattle.std.specs.Map.{lookup};
 ghost use Rattle.indexmap.specs.IndexMap.{insert_entry};
@@ -9,15 +9,20 @@ ghost use Rattle.sno_syntax.specs.Labels.{is_bad_label, is_end, is_kept, label_f
 use indexmap::IndexMap;
 use sno_cards::SyntaxCode;
 use std::alloc::{AllocError, Global};
+use std::array;
+use std::cell::Cell;
 use std::marker::Model;
 
-/// The labels of a program, each with the index of its statement, found by hash.
+/// The labels of a program, each with the index of its statement, found by hash. Calls of functions look for few of them
+/// again and again, so the place of the last one is tried first.
 ///
 /// A contract sees them as the list of these pairs, in the order of the statements. No label is empty: a statement that
 /// begins with a blank has none.
 #[derive(Drop)]
 pub struct Labels {
     by_text: IndexMap<Vec<u8>, usize>,
+    // Where the label of each group was that was found last. A wrong place costs time and nothing else.
+    recent: [Cell<usize>; 16],
 }
 
 impl Model for Labels {
@@ -29,6 +34,16 @@ impl Model for Labels {
     ghost view = { λ l. map (λ e. (e.0.items, e.1)) l.by_text.entries };
 }
 
+/// The group of a label: by its length and its last character.
+fn group_of(label: &[u8]) -> usize
+    ensures { result < 16 }
+{
+    match label.last() {
+        Some(last) => (label.len() % 16 + 3 * usize::from(*last)) % 16,
+        None => 0,
+    }
+}
+
 #[tactic(auto, using(crate::proofs::Tables::tables))]
 impl Labels {
     /// No labels.
@@ -37,6 +52,21 @@ impl Labels {
     {
         Labels {
             by_text: IndexMap::new(alloc),
+            recent: array::from_fn(|_| Cell::new(0)),
+        }
+    }
+
+    /// The same by hash. The place is kept for labels like it.
+    #[inline(never)]
+    fn find_elsewhere(&self, label: &[u8]) -> Option<usize>
+        ensures { result ≡ lookup (bytes_eq label.now) self.now }
+    {
+        match self.by_text.get_full(label) {
+            Some((index, _, statement)) => {
+                self.recent[group_of(label)].set(index);
+                Some(*statement)
+            }
+            None => None,
         }
     }
 
@@ -44,7 +74,17 @@ impl Labels {
     pub fn find(&self, label: &[u8]) -> Option<usize>
         ensures { result ≡ lookup (bytes_eq label.now) self.now }
     {
-        self.by_text.get(label).copied()
+        let hint = self.recent[group_of(label)].get();
+        match self.by_text.get_index(hint) {
+            Some((found, statement)) => {
+                if found.as_slice() == label {
+                    Some(*statement)
+                } else {
+                    self.find_elsewhere(label)
+                }
+            }
+            None => self.find_elsewhere(label),
+        }
     }
 
     /// A label with the index of its statement, by its own index: the labels are counted from 0, in the order of the

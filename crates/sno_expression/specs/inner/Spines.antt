@@ -1,20 +1,24 @@
--- What holds of an open spine, which is a list of operators, the innermost first.
-use Rattle.std.specs.Prelude.{Bool, true, false, ◌&&◌}
+-- What holds of an open spine, which is a list of operators with their left operands, the innermost last.
+use Rattle.std.specs.Prelude.{Bool, true, false, List, [], ◌∷◌, ◌&&◌}
+use Rattle.std.specs.List.{list_all}
 use Rattle.sno_tree.specs.declared.tree.BinaryOperator.{BinaryOperator}
 use Rattle.sno_tree.specs.declared.tree.Expression.{Expression}
 use Rattle.sno_tree.specs.declared.tree.Expression.TheVariants as tree
 use Rattle.sno_expression.specs.declared.spine.Pending.{Pending}
-use Rattle.sno_expression.specs.declared.spine.Pending.TheVariants as pending
 use Rattle.sno_tree.specs.Expressions.{binds_into_right}
 
--- each operator may stand right under the one around it
-abbrev pub is_above : BinaryOperator → Pending → Bool
-is_above o pending.End = true
-is_above o (pending.More' l outer q rest) = binds_into_right o outer
+-- may the operator stand right under each of these
+abbrev pub is_under_all : BinaryOperator → List Pending → Bool
+is_under_all o js = list_all (λ j. binds_into_right o j.operator) js
 
-abbrev pub is_ordered : Pending → Bool
-is_ordered pending.End = true
-is_ordered (pending.More' l o q rest) = is_above o rest && is_ordered rest
+-- may each of these stand right under the one
+abbrev pub is_over_all : Pending → List Pending → Bool
+is_over_all j js = list_all (λ k. binds_into_right k.operator j.operator) js
+
+-- each may stand right under all around it
+abbrev pub is_ordered : List Pending → Bool
+is_ordered [] = true
+is_ordered (j ∷ js) = is_over_all j js && is_ordered js
 
 -- the last operand is one element
 abbrev pub is_element : Expression → Bool
