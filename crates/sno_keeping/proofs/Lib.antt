@@ -3,3 +3,4 @@ pub mod Tallying
 pub mod Ending
 pub mod Loans
 pub mod Writing
+pub mod Looking

@@ -7,6 +7,7 @@ use Rattle.sno_ask.specs.declared.request.Request.{Request}
 use Rattle.mon_answer.specs.declared.answer.Answer.{Answer}
 use Rattle.mon_answer.specs.declared.answer.Answer.TheVariants as answer
 use Rattle.sno_text.specs.declared.fault.Fault.{Fault as AFault}
+use Rattle.sno_value.specs.declared.value.Value.{Value}
 use Rattle.sno_value.specs.Values.{null}
 use Rattle.sno_meaning.specs.declared.got.Halt.TheVariants.{Fault}
 use Rattle.sno_meaning.specs.declared.got.Got.{Got}
@@ -20,10 +21,7 @@ request act s = record { statement = s.keywords.statement; act = act }
 -- goes on where it is done, and fails where it is not
 abbrev pub if_done : Answer → State → Asking (Got × State) → Asking (Got × State)
 if_done answer.Done s go = go
-if_done (answer.Got line) s go = Ends (Fails, s)
-if_done answer.EndOfFile s go = Ends (Fails, s)
-if_done (answer.Denied reason) s go = Ends (Fails, s)
-if_done answer.Full s go = Ends (Fails, s)
+if_done _ s go = Ends (Fails, s)
 
 -- an act that gives null where it is done
 abbrev pub asked : Act → State → Asking (Got × State)
@@ -31,7 +29,7 @@ asked act s = do
   answer ← ask (request act s)
   if_done answer s (Ends (Gives null, s))
 
--- null, in the state that there is then; or a fault, and nothing has changed
-abbrev pub changed_by : Result State AFault → State → Got × State
-changed_by (Ok after) s = (Gives null, after)
-changed_by (Err f) s = (Halts (Fault f), s)
+-- this value, in the state that there is then; or a fault, and nothing has changed
+abbrev pub changed_by : Value → Result State AFault → State → Got × State
+changed_by v (Ok after) s = (Gives v, after)
+changed_by v (Err f) s = (Halts (Fault f), s)

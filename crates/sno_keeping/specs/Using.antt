@@ -1,6 +1,7 @@
 -- A variable used, and assigned a value (the SNOBOL4 book, chapter 1, and what it says of input and output; what is kept of a
 -- record, and how records are cut, is own).
-use Rattle.std.specs.Prelude.{ℕ, List, [], ◌∷◌, Option, Some, None}
+use Rattle.std.specs.Prelude.{ℕ, List, [], ◌∷◌, Option}
+use Rattle.std.specs.Option.{option_map_or}
 use Rattle.sno_talk.specs.Talks.{Ends, ask, ◌>>=◌}
 use Rattle.sno_ask.specs.Asking.{Asking}
 use Rattle.sno_ask.specs.declared.request.Act.TheVariants.{Read, Write}
@@ -31,10 +32,7 @@ stored name v s = (Gives v, with_value_of name v s)
 -- what is kept of a record is stored, and given; where none is read nothing is stored
 abbrev pub stored_of : List ℕ → Input → Answer → State → Got × State
 stored_of name input (answer.Got line) s = stored name (Text (kept_of input s.keywords line)) s
-stored_of name input answer.Done s = (Fails, s)
-stored_of name input answer.EndOfFile s = (Fails, s)
-stored_of name input (answer.Denied reason) s = (Fails, s)
-stored_of name input answer.Full s = (Fails, s)
+stored_of name input _ s = (Fails, s)
 
 abbrev pub used_by : List ℕ → Use → State → Asking (Got × State)
 used_by name (variables.Gives v) s = Ends (Gives v, s)
@@ -56,12 +54,10 @@ write_all unit (line ∷ lines) s = do
   if_done answer s (write_all unit lines s)
 
 abbrev pub write_text : Output → Option (List ℕ) → State → Asking (Got × State)
-write_text output None s = Ends (Halts (Fault WrongType), s)
-write_text output (Some text) s = write_all output.unit (records output.format text) s
+write_text output text s = option_map_or (λ t. write_all output.unit (records output.format t) s) text (Ends (Halts (Fault WrongType), s))
 
 abbrev pub written : Option Output → Value → State → Asking (Got × State)
-written None v s = Ends (Gives null, s)
-written (Some output) v s = write_text output (text_of v) s
+written output v s = option_map_or (λ o. write_text o (text_of v) s) output (Ends (Gives null, s))
 
 -- a variable is assigned a value: it is stored, and then written where the variable is associated with a unit
 abbrev pub assigned : List ℕ → Value → State → Asking (Got × State)

@@ -1,7 +1,7 @@
 //! Statements that begin, and calls of functions that the program defined.
 ghost use Rattle.std.specs.Prelude.{◌≡◌, ◌+◌, Some, IfOk, OnErr, if◌then◌else◌};
 ghost use Rattle.sno_store.specs.States.{may_begin};
-ghost use Rattle.sno_keeping.specs.Calling.{begun, entered_by, entered};
+ghost use Rattle.sno_keeping.specs.Calling.{begun, called, entered};
 ghost use Rattle.sno_keeping.specs.inner.Answers.{Began, Comes};
 
 use sno_store::{Callee, Function, StatementNumber, Store};
@@ -39,7 +39,7 @@ fn enter_function(
     arguments: &[Value],
     state: &mut Store,
 ) -> Result<Entry, AllocError>
-    ensures entered { IfOk result (λ entry. Comes (entered_by (Some function.now) arguments.now state.old) entry state.old state.new) }
+    ensures entered { IfOk result (λ entry. Comes (called function.now arguments.now state.old) entry state.old state.new) }
     ensures unchanged { OnErr result (state.new ≡ state.old) }
     ensures counted { state.new.keywords.begun ≡ state.old.keywords.begun }
 {

@@ -107,6 +107,19 @@ fn take_first(values: &mut Vec<Value>) -> Value
     }
 }
 
+/// Lets values go. Numbers, which have nothing to be let go, are told first: there are the most of them.
+fn empty(values: &mut Vec<Value>)
+    ensures { values.new.items ≡ [] }
+{
+    while let Some(value) = values.pop() {
+        match value {
+            Value::Integer(_) | Value::Table(_) => {}
+            Value::Text(text) => drop(text),
+            other => drop(other),
+        }
+    }
+}
+
 impl Levels {
     /// No calls.
     pub fn new(alloc: Global) -> Levels
@@ -148,7 +161,7 @@ impl Levels {
     {
         let mut values = values;
         let first = take_first(&mut values);
-        values.clear();
+        empty(&mut values);
         let _kept = self.spares.push(values);
         first
     }

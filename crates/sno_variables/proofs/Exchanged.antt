@@ -1,111 +1,26 @@
--- Values that are exchanged with those of variables at their places.
-use Rattle.std.proofs.Common.{◌≡◌, ℕ, zero, suc, ◌+◌, ◌<◌, ◌≤◌, nat_eq, nat_lt, Bool, true, false, cond, not, ◌||◌, ◌&&◌, List, [], ◌∷◌, ◌++◌, map, length, take, drop, set, get_or, drop-cons, Option, None, Some, position, slice_get, refl, sym, ap, ap₂, ◌∙◌, true≢false, arith}
+-- Values that are exchanged with those of variables, one after the other.
+use Rattle.std.proofs.Common.{◌≡◌, ℕ, zero, suc, ◌+◌, ◌<◌, ◌≤◌, nat_eq, nat_lt, Bool, true, false, cond, not, ◌||◌, ◌&&◌, List, [], ◌∷◌, ◌++◌, length, take, drop, set, get_or, drop-cons, Option, None, Some, position, slice_get, refl, sym, ap, ap₂, ◌∙◌, true≢false, arith}
 use Rattle.std.proofs.Math.Seq.{take-suc, take-suc-set}
 use Rattle.std.proofs.lemmas.List.{append_assoc, append-nil, map-append, length-append, length-map, take-append-drop}
-use Rattle.std.specs.Prelude.{unwrap_or, is_some}
+use Rattle.std.specs.Prelude.{unwrap_or, is_some, if◌then◌else◌}
 use Rattle.std.specs.List.{list_any, position_or_len}
 use Rattle.std.specs.Map.{keys_of, values_of, lookup}
-use Rattle.std.specs.Cmp.Lexicographic.{pointwise}
+use Rattle.std.specs.Cmp.Lexicographic.{pointwise, nat_list_eq_equiv}
 use Rattle.std.proofs.lemmas.Bool.Decides.{nat_tests}
 use Rattle.sno_value.specs.declared.value.Value.{Value}
 use Rattle.sno_value.specs.Values.{null}
 use Rattle.sno_prototype.specs.declared.prototype.Prototype.{Prototype}
 use Rattle.sno_prototype.specs.Prototypes.{names_of, are_different}
 use Rattle.sno_variables.specs.declared.variable.Variable.{Variable}
-use Rattle.sno_variables.specs.Variables.{Variables, holding, value_of, given}
+use Rattle.sno_variables.specs.Variables.{Variables, holding, variable_of, is_named, value_of, put, given}
 use Rattle.sno_variables.specs.Bindings.{Bindings, paired, saved, assigned}
-use Rattle.sno_variables.specs.inner.Exchanging.{values_now, places_in, AreAt, with_value_in, with_value_at, value_in, value_at, written_at, taken_at}
-use Rattle.sno_variables.proofs.Looking.{same}
-use Rattle.sno_variables.proofs.Places.{keys_stay, value_there, place}
+use Rattle.sno_variables.specs.inner.Exchanging.{values_now, with_value_in, with_value_at, value_in, value_at, after, before, taken_by, undone}
+use Rattle.sno_variables.proofs.Looking.{same, found, put_is_found, given_found}
+use Rattle.sno_variables.proofs.Places.{value_there, none_there, place}
 use Rattle.sno_variables.proofs.Written.{written_there}
 use Rattle.sno_variables.proofs.Assigned.{other_given}
 
--- PLACES, ONE AFTER THE OTHER
-
-pub one_further : (names : List (List ℕ)) (at : ℕ) (vs : Variables) (before now after : List (Option ℕ)) (d : List ℕ) → at < length names
-    → now ≡ before ++ places_in vs (take at names) → after ≡ now ++ position (pointwise nat_eq (get_or names at d)) (keys_of vs) ∷ []
-    → after ≡ before ++ places_in vs (take (at + 1) names)
-one_further names at vs before now after d within is next =
-    let one : at + 1 ≡ suc at = omega arith in
-    let place_of : List ℕ → Option ℕ = λ name. position (pointwise nat_eq name) (keys_of vs) in
-    let more : places_in vs (take (suc at) names) ≡ places_in vs (take at names) ++ place_of (get_or names at d) ∷ [] =
-    ap (places_in vs) (take-suc names at d within) ∙ map-append place_of (take at names) (get_or names at d ∷ []) in
-    next ∙ ap (λ l. l ++ place_of (get_or names at d) ∷ []) is
-    ∙ append_assoc before (places_in vs (take at names)) (place_of (get_or names at d) ∷ [])
-    ∙ ap (λ l. before ++ l) (sym more) ∙ ap (λ n. before ++ places_in vs (take n names)) (sym one)
-
-pub no_further : (vs : Variables) (names : List (List ℕ)) (before : List (Option ℕ)) → before ≡ before ++ places_in vs (take 0 names)
-no_further vs names before = sym (append-nil before)
-
-take_all : {A : Type 0} (xs : List A) (n : ℕ) → length xs ≤ n → take n xs ≡ xs
-take_all [] zero h = refl
-take_all [] (suc n) h = refl
-take_all (x ∷ xs) zero h = absurd (omega arith)
-take_all (x ∷ xs) (suc n) h = ap (λ l. x ∷ l) (take_all xs n (omega arith))
-
-pub all_further : (names : List (List ℕ)) (at : ℕ) (vs : Variables) (before now : List (Option ℕ)) → length names ≤ at → now ≡ before ++ places_in vs (take at names) → now ≡ before ++ places_in vs names
-all_further names at vs before now past is = is ∙ ap (λ ns. before ++ places_in vs ns) (take_all names at past)
-
-pub all_at : (name : List ℕ) (ps ls : List (List ℕ)) (vs : Variables) (a b c : List (Option ℕ)) → a ≡ [] ++ position (pointwise nat_eq name) (keys_of vs) ∷ []
-    → b ≡ a ++ places_in vs ps → c ≡ b ++ places_in vs ls → c ≡ places_in vs (name ∷ (ps ++ ls))
-all_at name ps ls vs a b c p q r =
-    let place_of : List ℕ → Option ℕ = λ n. position (pointwise nat_eq n) (keys_of vs) in
-    r ∙ ap (λ l. l ++ places_in vs ls) (q ∙ ap (λ l. l ++ places_in vs ps) p)
-    ∙ ap (λ l. place_of name ∷ l) (sym (map-append place_of ps ls))
-
--- VALUES, ONE AFTER THE OTHER
-
-drop_set : {A : Type 0} (xs : List A) (i : ℕ) (y : A) → drop (suc i) (set xs i y) ≡ drop (suc i) xs
-drop_set [] i y = refl
-drop_set (x ∷ xs) zero y = refl
-drop_set (x ∷ xs) (suc i) y = drop_set xs i y
-
-module _ (ps : List ℕ) (ws : List Value) (vs : Variables) (i : ℕ) (d : ℕ) (e : Value) where
-  abbrev p : ℕ
-  p = get_or ps i d
-
-  abbrev w : Value
-  w = get_or ws i e
-
-  pub one_written : i < length ps → i < length ws → written_at (drop (i + 1) ps) (drop (i + 1) (set ws i (value_at p w vs))) (with_value_at p w vs) ≡ written_at (drop i ps) (drop i ws) vs
-  one_written h k =
-      let one : i + 1 ≡ suc i = omega arith in
-      ap (λ n. written_at (drop n ps) (drop n (set ws i (value_at p w vs))) (with_value_at p w vs)) one
-      ∙ ap (λ l. written_at (drop (suc i) ps) l (with_value_at p w vs)) (drop_set ws i (value_at p w vs))
-      ∙ sym (ap₂ (λ a b. written_at a b vs) (drop-cons ps i d h) (drop-cons ws i e k))
-
-  pub one_taken : i < length ps → i < length ws
-      → take (i + 1) (set ws i (value_at p w vs)) ++ taken_at (drop (i + 1) ps) (drop (i + 1) (set ws i (value_at p w vs))) (with_value_at p w vs)
-      ≡ take i ws ++ taken_at (drop i ps) (drop i ws) vs
-  one_taken h k =
-      let one : i + 1 ≡ suc i = omega arith in
-      ap (λ n. take n (set ws i (value_at p w vs)) ++ taken_at (drop n ps) (drop n (set ws i (value_at p w vs))) (with_value_at p w vs)) one
-      ∙ ap₂ (λ a b. a ++ taken_at (drop (suc i) ps) b (with_value_at p w vs)) (take-suc-set ws i (value_at p w vs) k) (drop_set ws i (value_at p w vs))
-      ∙ append_assoc (take i ws) (value_at p w vs ∷ []) (taken_at (drop (suc i) ps) (drop (suc i) ws) (with_value_at p w vs))
-      ∙ sym (ap (λ l. take i ws ++ l) (ap₂ (λ a b. taken_at a b vs) (drop-cons ps i d h) (drop-cons ws i e k)))
-
-drop_all : {A : Type 0} (xs : List A) (n : ℕ) → length xs ≤ n → drop n xs ≡ []
-drop_all [] zero h = refl
-drop_all [] (suc n) h = refl
-drop_all (x ∷ xs) zero h = absurd (omega arith)
-drop_all (x ∷ xs) (suc n) h = drop_all xs n (omega arith)
-
-pub all_written : (ps : List ℕ) (ws : List Value) (vs : Variables) (i : ℕ) → length ps ≤ i → written_at (drop i ps) (drop i ws) vs ≡ vs
-all_written ps ws vs i h = ap (λ l. written_at l (drop i ws) vs) (drop_all ps i h)
-
-pub all_taken : (ps : List ℕ) (ws : List Value) (vs : Variables) (i : ℕ) → length ps ≤ i → take i ws ++ taken_at (drop i ps) (drop i ws) vs ≡ ws
-all_taken ps ws vs i h = ap (λ l. take i ws ++ taken_at l (drop i ws) vs) (drop_all ps i h) ∙ take-append-drop i ws
-
-pub ruleset exchanging = (one_written, one_taken, all_written, all_taken)
-
--- WHAT THIS COMES TO
-
-keys_after : (place : ℕ) (w : Value) (vs : Variables) → keys_of (with_value_at place w vs) ≡ keys_of vs
-keys_after place w vs = by (slice_get (values_of vs) place)
-  where
-    by : (o : Option Variable) → keys_of (with_value_in o place w vs) ≡ keys_of vs
-    by None = refl
-    by (Some x) = keys_stay vs place (record x { value = w })
+-- ONE VALUE
 
 found_in : (name : List ℕ) (vs : Variables) → nat_lt (position_or_len (same name) (keys_of vs)) (length (keys_of vs)) ≡ true → is_some (lookup (same name) vs) ≡ true
 found_in name [] within = absurd (true≢false (sym within))
@@ -132,22 +47,212 @@ module _ (name : List ℕ) (vs : Variables) (i : ℕ) (w : Value) (at : Some i �
       let p = place name vs i (sym at) in
       one_there (slice_get (values_of vs) i) refl (ap (λ (o : Option Variable). is_some o) (value_there name vs i at) ∙ found_in name vs p.1)
 
-first_at : (name : List ℕ) (p : ℕ) (names : List (List ℕ)) (ps : List ℕ) (vs : Variables) → AreAt (name ∷ names) (p ∷ ps) vs → Some p ≡ position (pointwise nat_eq name) (keys_of vs)
-first_at name p names ps vs h = cc
+  pub named_there : true ≡ is_named name vs
+  named_there =
+      let p = place name vs i (sym at) in
+      sym (found_in name vs p.1)
 
-others_at : (name : List ℕ) (p : ℕ) (names : List (List ℕ)) (ps : List ℕ) (w : Value) (vs : Variables) → AreAt (name ∷ names) (p ∷ ps) vs → AreAt names ps (with_value_at p w vs)
-others_at name p names ps w vs h =
-    let rest : map Some ps ≡ places_in vs names = cc in
-    rest ∙ ap (λ (keys : List (List ℕ)). map (λ n. position (pointwise nat_eq n) keys) names) (sym (keys_after p w vs))
+  pub after_there : with_value_at i w vs ≡ after name w vs
+  after_there = there.0 ∙ ap (λ (b : Bool). if b then given name w vs else vs) named_there
 
-pub written_all : (names : List (List ℕ)) (ps : List ℕ) (ws : List Value) (vs : Variables) → AreAt names ps vs → length ws ≡ length names → written_at ps ws vs ≡ assigned (paired names ws) vs
-written_all [] [] ws vs at n = refl
-written_all [] (p ∷ ps) ws vs at n = cc
-written_all (name ∷ names) [] ws vs at n = cc
-written_all (name ∷ names) (p ∷ ps) [] vs at n = cc
-written_all (name ∷ names) (p ∷ ps) (w ∷ ws) vs at n =
-    written_all names ps ws (with_value_at p w vs) (others_at name p names ps w vs at) (omega (arith, n))
-    ∙ ap (assigned (paired names ws)) (there name vs p w (first_at name p names ps vs at)).0
+  pub before_there : value_at i w vs ≡ before name w vs
+  before_there = there.1 ∙ ap (λ (b : Bool). if b then value_of name vs else w) named_there
+
+module _ (name : List ℕ) (vs : Variables) (w : Value) (at : None ≡ position (pointwise nat_eq name) (keys_of vs)) where
+  pub never_named : false ≡ is_named name vs
+  never_named = ap (λ (o : Option Variable). is_some o) (none_there name vs at)
+
+  pub after_none : vs ≡ after name w vs
+  after_none = ap (λ (b : Bool). if b then given name w vs else vs) never_named
+
+  pub before_none : w ≡ before name w vs
+  before_none = ap (λ (b : Bool). if b then value_of name vs else w) never_named
+
+pub ruleset one_exchanged = (after_there, before_there, after_none, before_none)
+
+-- ONE VALUE, EXCHANGED AGAIN
+
+put_twice : (name : List ℕ) (x y : Variable) (vs : Variables) → put name x (put name y vs) ≡ put name x vs
+put_twice name x y [] = ap (λ (b : Bool). if b then (name, x) ∷ [] else (name, y) ∷ (name, x) ∷ []) (nat_list_eq_equiv.refl name)
+put_twice name x y (e ∷ es) = by (same name e.0) refl (put_twice name x y es)
+  where
+    by : (b : Bool) → same name e.0 ≡ b → put name x (put name y es) ≡ put name x es
+        → put name x (if b then (e.0, y) ∷ es else e ∷ put name y es) ≡ (if b then (e.0, x) ∷ es else e ∷ put name x es)
+    by true h rest = ap (λ (b : Bool). if b then (e.0, x) ∷ es else (e.0, y) ∷ put name x es) h
+    by false h rest = ap (λ (b : Bool). if b then (e.0, x) ∷ put name y es else e ∷ put name x (put name y es)) h ∙ ap (λ (l : Variables). e ∷ l) rest
+
+put_same : (name : List ℕ) (vs : Variables) → is_named name vs ≡ true → put name (variable_of name vs) vs ≡ vs
+put_same name [] named = absurd (true≢false (sym named))
+put_same name (e ∷ es) named = by (same name e.0) named (λ h. put_same name es h)
+  where
+    by : (b : Bool) → is_some (cond b (Some e.1) (lookup (same name) es)) ≡ true → (is_named name es ≡ true → put name (variable_of name es) es ≡ es)
+        → (if b then (e.0, unwrap_or (cond b (Some e.1) (lookup (same name) es)) (holding null)) ∷ es else e ∷ put name (unwrap_or (cond b (Some e.1) (lookup (same name) es)) (holding null)) es) ≡ e ∷ es
+    by true h rest = refl
+    by false h rest = ap (λ (l : Variables). e ∷ l) (rest h)
+
+module _ (name : List ℕ) (w : Value) (vs : Variables) where
+  abbrev new : Variable
+  new = record (variable_of name vs) { value = w }
+
+  still_named : is_named name (given name w vs) ≡ true
+  still_named = ap (λ (o : Option Variable). is_some o) (found name new vs)
+
+  given_again : is_named name vs ≡ true → given name (value_of name vs) (given name w vs) ≡ vs
+  given_again named =
+      ap (λ (x : Variable). put name (record x { value = value_of name vs }) (given name w vs)) (put_is_found name new vs)
+      ∙ put_twice name (variable_of name vs) new vs ∙ put_same name vs named
+
+  both_again : (before name (before name w vs) (after name w vs) ≡ w) × (after name (before name w vs) (after name w vs) ≡ vs)
+  both_again = by (is_named name vs) refl
+    where
+      by : (b : Bool) → is_named name vs ≡ b
+          → (before name (if b then value_of name vs else w) (if b then given name w vs else vs) ≡ w)
+          × (after name (if b then value_of name vs else w) (if b then given name w vs else vs) ≡ vs)
+      by true h = (
+        ap (λ (b : Bool). if b then value_of name (given name w vs) else value_of name vs) still_named ∙ given_found name w vs,
+        ap (λ (b : Bool). if b then given name (value_of name vs) (given name w vs) else given name w vs) still_named ∙ given_again h,
+      )
+      by false h = (
+        ap (λ (b : Bool). if b then value_of name vs else w) h,
+        ap (λ (b : Bool). if b then given name w vs else vs) h,
+      )
+
+-- VALUES, ONE AFTER THE OTHER
+
+set_same : {A : Type 0} (xs : List A) (i : ℕ) (d : A) → set xs i (get_or xs i d) ≡ xs
+set_same [] i d = refl
+set_same (x ∷ xs) zero d = refl
+set_same (x ∷ xs) (suc i) d = ap (λ l. x ∷ l) (set_same xs i d)
+
+set_twice : {A : Type 0} (xs : List A) (i : ℕ) (x y : A) → set (set xs i x) i y ≡ set xs i y
+set_twice [] i x y = refl
+set_twice (z ∷ xs) zero x y = refl
+set_twice (z ∷ xs) (suc i) x y = ap (λ l. z ∷ l) (set_twice xs i x y)
+
+get_set : {A : Type 0} (xs : List A) (i : ℕ) (x d : A) → i < length xs → get_or (set xs i x) i d ≡ x
+get_set [] i x d h = absurd (omega (arith, h))
+get_set (z ∷ xs) zero x d h = refl
+get_set (z ∷ xs) (suc i) x d h = get_set xs i x d (omega (arith, h))
+
+any_default : {A : Type 0} (xs : List A) (i : ℕ) (d e : A) → i < length xs → get_or xs i d ≡ get_or xs i e
+any_default [] i d e h = absurd (omega (arith, h))
+any_default (z ∷ xs) zero d e h = refl
+any_default (z ∷ xs) (suc i) d e h = any_default xs i d e (omega (arith, h))
+
+take_all : {A : Type 0} (xs : List A) (n : ℕ) → length xs ≤ n → take n xs ≡ xs
+take_all [] zero h = refl
+take_all [] (suc n) h = refl
+take_all (x ∷ xs) zero h = absurd (omega arith)
+take_all (x ∷ xs) (suc n) h = ap (λ l. x ∷ l) (take_all xs n (omega arith))
+
+drop_set : {A : Type 0} (xs : List A) (i : ℕ) (y : A) → drop (suc i) (set xs i y) ≡ drop (suc i) xs
+drop_set [] i y = refl
+drop_set (x ∷ xs) zero y = refl
+drop_set (x ∷ xs) (suc i) y = drop_set xs i y
+
+drop_all : {A : Type 0} (xs : List A) (n : ℕ) → length xs ≤ n → drop n xs ≡ []
+drop_all [] zero h = refl
+drop_all [] (suc n) h = refl
+drop_all (x ∷ xs) zero h = absurd (omega arith)
+drop_all (x ∷ xs) (suc n) h = drop_all xs n (omega arith)
+
+module _ (names : List (List ℕ)) (ws : List Value) (vs : Variables) (i : ℕ) (d : List ℕ) (e : Value) where
+  abbrev here : List ℕ
+  here = get_or names i d
+
+  abbrev w : Value
+  w = get_or ws i e
+
+  abbrev new_values : List Value
+  new_values = set ws i (before here w vs)
+
+  abbrev new_variables : Variables
+  new_variables = after here w vs
+
+  is_after : is_named here vs ≡ true → after here w vs ≡ given here w vs
+  is_after known = ap (λ (b : Bool). if b then given here w vs else vs) known
+
+  is_before : is_named here vs ≡ true → before here w vs ≡ value_of here vs
+  is_before known = ap (λ (b : Bool). if b then value_of here vs else w) known
+
+  pub one_assigned : is_named here vs ≡ true → i < length names → i < length ws
+      → assigned (paired (drop (i + 1) names) (drop (i + 1) new_values)) new_variables ≡ assigned (paired (drop i names) (drop i ws)) vs
+  one_assigned known h k =
+      let one : i + 1 ≡ suc i = omega arith in
+      ap (λ n. assigned (paired (drop n names) (drop n new_values)) new_variables) one
+      ∙ ap₂ (λ (l : List Value) (v : Variables). assigned (paired (drop (suc i) names) l) v) (drop_set ws i (before here w vs)) (is_after known)
+      ∙ sym (ap₂ (λ (a : List (List ℕ)) (b : List Value). assigned (paired a b) vs) (drop-cons names i d h) (drop-cons ws i e k))
+
+  pub one_taken : is_named here vs ≡ true → i < length names → i < length ws
+      → take (i + 1) new_values ++ taken_by (drop (i + 1) names) (drop (i + 1) new_values) new_variables ≡ take i ws ++ taken_by (drop i names) (drop i ws) vs
+  one_taken known h k =
+      let one : i + 1 ≡ suc i = omega arith in
+      ap (λ n. take n new_values ++ taken_by (drop n names) (drop n new_values) new_variables) one
+      ∙ ap₂ (λ a b. a ++ taken_by (drop (suc i) names) b new_variables) (take-suc-set ws i (before here w vs) k) (drop_set ws i (before here w vs))
+      ∙ append_assoc (take i ws) (before here w vs ∷ []) (taken_by (drop (suc i) names) (drop (suc i) ws) new_variables)
+      ∙ ap₂ (λ (v : Value) (l : Variables). take i ws ++ v ∷ taken_by (drop (suc i) names) (drop (suc i) ws) l) (is_before known) (is_after known)
+      ∙ sym (ap (λ l. take i ws ++ l) (ap₂ (λ (a : List (List ℕ)) (b : List Value). taken_by a b vs) (drop-cons names i d h) (drop-cons ws i e k)))
+
+  -- exchanged again at first where one more was exchanged
+  pub one_undone : i < length names → i < length ws → undone (i + 1) names new_values new_variables ≡ undone i names ws vs
+  one_undone h k =
+      let one : i + 1 ≡ suc i = omega arith in
+      let again = both_again here w vs in
+      let same_name : get_or names i [] ≡ here = any_default names i [] d h in
+      let there : get_or new_values i null ≡ before here w vs = get_set ws i (before here w vs) null k in
+      ap (λ n. undone n names new_values new_variables) one
+      ∙ ap₂ (λ (n : List ℕ) (v : Value). undone i names (set new_values i (before n v new_variables)) (after n v new_variables)) same_name there
+      ∙ ap₂ (λ (v : Value) (l : Variables). undone i names (set new_values i v) l) again.0 again.1
+      ∙ ap (λ (l : List Value). undone i names l vs) (set_twice ws i (before here w vs) w ∙ set_same ws i e)
+
+  -- nothing to undo where it was never named
+  pub none_undone : is_named here vs ≡ false → undone i names new_values new_variables ≡ undone i names ws vs
+  none_undone unknown =
+      ap (λ (b : Bool). undone i names (set ws i (if b then value_of here vs else w)) (if b then given here w vs else vs)) unknown
+      ∙ ap (λ (l : List Value). undone i names l vs) (set_same ws i e)
+
+  -- one further is exchanged again
+  pub one_back : i < length names → i < length ws → undone i names new_values new_variables ≡ undone (i + 1) names ws vs
+  one_back h k =
+      let one : i + 1 ≡ suc i = omega arith in
+      sym (ap (λ n. undone n names ws vs) one
+      ∙ ap₂ (λ (n : List ℕ) (v : Value). undone i names (set ws i (before n v vs)) (after n v vs)) (any_default names i [] d h) (any_default ws i null e k))
+
+set_length : {A : Type 0} (xs : List A) (i : ℕ) (x : A) → length (set xs i x) ≡ length xs
+set_length [] i x = refl
+set_length (z ∷ xs) zero x = refl
+set_length (z ∷ xs) (suc i) x = ap suc (set_length xs i x)
+
+pub still_as_many : (ws : List Value) (i : ℕ) (v : Value) → length (set ws i v) ≡ length ws
+still_as_many ws i v = set_length ws i v
+
+-- one more is exchanged, the value and the variables being as is said of them
+pub one_step : (names : List (List ℕ)) (ws : List Value) (vs us : Variables) (i : ℕ) (v : Value) → v ≡ before (get_or names i []) (get_or ws i null) vs
+    → us ≡ after (get_or names i []) (get_or ws i null) vs → is_named (get_or names i []) vs ≡ true → i < length names → i < length ws
+    → (undone (i + 1) names (set ws i v) us ≡ undone i names ws vs)
+    × (assigned (paired (drop (i + 1) names) (drop (i + 1) (set ws i v))) us ≡ assigned (paired (drop i names) (drop i ws)) vs)
+    × (take (i + 1) (set ws i v) ++ taken_by (drop (i + 1) names) (drop (i + 1) (set ws i v)) us ≡ take i ws ++ taken_by (drop i names) (drop i ws) vs)
+one_step names ws vs us i v taken written known h k = (
+  ap₂ (λ (x : Value) (l : Variables). undone (i + 1) names (set ws i x) l) taken written ∙ one_undone names ws vs i [] null h k,
+  ap₂ (λ (x : Value) (l : Variables). assigned (paired (drop (i + 1) names) (drop (i + 1) (set ws i x))) l) taken written ∙ one_assigned names ws vs i [] null known h k,
+  ap₂ (λ (x : Value) (l : Variables). take (i + 1) (set ws i x) ++ taken_by (drop (i + 1) names) (drop (i + 1) (set ws i x)) l) taken written ∙ one_taken names ws vs i [] null known h k,
+)
+
+-- and one is exchanged again
+pub one_step_back : (names : List (List ℕ)) (ws : List Value) (vs us : Variables) (i : ℕ) (v : Value) → v ≡ before (get_or names i []) (get_or ws i null) vs
+    → us ≡ after (get_or names i []) (get_or ws i null) vs → i < length names → i < length ws → undone i names (set ws i v) us ≡ undone (i + 1) names ws vs
+one_step_back names ws vs us i v taken written h k =
+    ap₂ (λ (x : Value) (l : Variables). undone i names (set ws i x) l) taken written ∙ one_back names ws vs i [] null h k
+
+pub all_assigned : (names : List (List ℕ)) (ws : List Value) (vs : Variables) (i : ℕ) → length names ≤ i → assigned (paired (drop i names) (drop i ws)) vs ≡ vs
+all_assigned names ws vs i h = ap (λ (l : List (List ℕ)). assigned (paired l (drop i ws)) vs) (drop_all names i h)
+
+pub all_taken : (names : List (List ℕ)) (ws : List Value) (vs : Variables) (i : ℕ) → length names ≤ i → take i ws ++ taken_by (drop i names) (drop i ws) vs ≡ ws
+all_taken names ws vs i h = ap (λ (l : List (List ℕ)). take i ws ++ taken_by l (drop i ws) vs) (drop_all names i h) ∙ take-append-drop i ws
+
+pub ruleset exchanging = (none_undone, all_assigned, all_taken)
+
+-- WHAT THIS COMES TO
 
 -- a value of another variable stays
 others_now : (name : List ℕ) (w : Value) (names : List (List ℕ)) (vs : Variables) → list_any (λ other. pointwise nat_eq other name) names ≡ false → values_now names (given name w vs) ≡ values_now names vs
@@ -165,28 +270,13 @@ both true b h = cc
 both false true h = (refl, refl)
 both false false h = cc
 
-pub taken_all : (names : List (List ℕ)) (ps : List ℕ) (ws : List Value) (vs : Variables) → AreAt names ps vs → length ws ≡ length names → are_different names ≡ true
-    → taken_at ps ws vs ≡ values_now names vs
-taken_all [] [] [] vs at n different = refl
-taken_all [] [] (w ∷ ws) vs at n different = cc
-taken_all [] (p ∷ ps) ws vs at n different = cc
-taken_all (name ∷ names) [] ws vs at n different = cc
-taken_all (name ∷ names) (p ∷ ps) [] vs at n different = cc
-taken_all (name ∷ names) (p ∷ ps) (w ∷ ws) vs at n different =
+pub taken_now : (names : List (List ℕ)) (ws : List Value) (vs : Variables) → length ws ≡ length names → are_different names ≡ true → taken_by names ws vs ≡ values_now names vs
+taken_now [] [] vs n different = refl
+taken_now [] (w ∷ ws) vs n different = cc
+taken_now (name ∷ names) [] vs n different = cc
+taken_now (name ∷ names) (w ∷ ws) vs n different =
     let apart = both (list_any (λ other. pointwise nat_eq other name) names) (are_different names) different in
-    let one = there name vs p w (first_at name p names ps vs at) in
-    ap₂ (λ (v : Value) (l : List Value). v ∷ l) one.1
-    (taken_all names ps ws (with_value_at p w vs) (others_at name p names ps w vs at) (omega (arith, n)) apart.1
-    ∙ ap (values_now names) one.0 ∙ others_now name w names vs apart.0)
-
--- as many places as names
-pub as_many : (names : List (List ℕ)) (ps : List ℕ) (vs : Variables) → AreAt names ps vs → length ps ≡ length names
-as_many names ps vs at = sym (length-map ps Some) ∙ ap (λ (l : List (Option ℕ)). length l) at ∙ length-map names (λ name. position (pointwise nat_eq name) (keys_of vs))
-
-pub as_many_values : (names : List (List ℕ)) (ps : List ℕ) (ws : List Value) (vs : Variables) → AreAt names ps vs → length ws ≡ length names → length ws ≡ length ps
-as_many_values names ps ws vs at n = n ∙ sym (as_many names ps vs at)
-
-pub ruleset all_exchanged = (written_all, taken_all, as_many_values)
+    ap (λ (l : List Value). value_of name vs ∷ l) (taken_now names ws (given name w vs) (omega (arith, n)) apart.1 ∙ others_now name w names vs apart.0)
 
 -- WHAT NAMES HAVE
 

@@ -3,14 +3,15 @@ use Rattle.std.proofs.Common.{◌≡◌, ℕ, Bool, true, false, cond, List, [],
 use Rattle.std.specs.Prelude.{unwrap_or, if◌then◌else◌}
 use Rattle.std.specs.Map.{lookup}
 use Rattle.std.specs.Cmp.Lexicographic.{pointwise, nat_list_eq_equiv}
+use Rattle.sno_value.specs.declared.value.Value.{Value}
 use Rattle.sno_value.specs.Values.{null}
 use Rattle.sno_variables.specs.declared.variable.Variable.{Variable}
-use Rattle.sno_variables.specs.Variables.{Variables, holding, variable_of, put, noted}
+use Rattle.sno_variables.specs.Variables.{Variables, holding, variable_of, value_of, put, given, noted}
 
 abbrev pub same : List ℕ → List ℕ → Bool
 same a b = pointwise nat_eq a b
 
-found : (name : List ℕ) (variable : Variable) (vs : Variables) → lookup (same name) (put name variable vs) ≡ Some variable
+pub found : (name : List ℕ) (variable : Variable) (vs : Variables) → lookup (same name) (put name variable vs) ≡ Some variable
 found name variable [] = ap (λ (b : Bool). cond b (Some variable) None) (nat_list_eq_equiv.refl name)
 found name variable (e ∷ es) = by (same name e.0) refl (found name variable es)
   where
@@ -40,6 +41,10 @@ alike a b h (e ∷ es) = ap₂ (λ (x : Bool) (o : Option Variable). cond x (Som
 
 pub put_is_found : (name : List ℕ) (variable : Variable) (vs : Variables) → variable_of name (put name variable vs) ≡ variable
 put_is_found name variable vs = ap (λ o. unwrap_or o (holding null)) (found name variable vs)
+
+-- a variable has the value that it was given
+pub given_found : (name : List ℕ) (v : Value) (vs : Variables) → value_of name (given name v vs) ≡ v
+given_found name v vs = ap (λ (x : Variable). x.value) (put_is_found name (record (variable_of name vs) { value = v }) vs)
 
 pub others_stay : (name other : List ℕ) (variable : Variable) (vs : Variables) → same other name ≡ false → variable_of other (put name variable vs) ≡ variable_of other vs
 others_stay name other variable vs differ = ap (λ o. unwrap_or o (holding null)) (stays name other variable vs differ)

@@ -14,13 +14,9 @@ paired [] vs = []
 paired (name ∷ names) [] = (name, null) ∷ paired names []
 paired (name ∷ names) (v ∷ vs) = (name, v) ∷ paired names vs
 
--- a name with its value
-abbrev pub value_now : Variables → List ℕ → List ℕ × Value
-value_now vs name = (name, value_of name vs)
-
 -- names, each with the value that it has now
 abbrev pub saved : List (List ℕ) → Variables → Bindings
-saved names vs = map (value_now vs) names
+saved names vs = map (λ name. (name, value_of name vs)) names
 
 -- each gets its value
 abbrev pub assigned : Bindings → Variables → Variables

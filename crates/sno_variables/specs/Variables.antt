@@ -1,6 +1,7 @@
 -- The variables of a job: their values, and the units that their reads and writes go to (the SNOBOL4 book, chapter 1, and what it says of input and output).
 -- A variable that was never named has the null string.
 use Rattle.std.specs.Prelude.{ℕ, nat_eq, Bool, List, Option, None, Some, is_some, unwrap_or}
+use Rattle.std.specs.Option.{option_map_or}
 use Rattle.std.specs.Map.{lookup}
 use Rattle.std.specs.Cmp.Lexicographic.{pointwise}
 use Rattle.indexmap.specs.IndexMap.{insert_entry}
@@ -55,12 +56,8 @@ pub data Use : Type 0 where
   Gives : (value : Value) → Use
   Reads : (input : Input) → Use
 
-abbrev pub use_by : Option Input → Value → Use
-use_by None v = Gives v
-use_by (Some input) v = Reads input
-
 abbrev pub use_of : Variable → Use
-use_of variable = use_by variable.input variable.value
+use_of variable = option_map_or Reads variable.input (Gives variable.value)
 
 abbrev pub seen : Found → Use
 seen found.Null = Gives null

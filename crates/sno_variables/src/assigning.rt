@@ -7,27 +7,55 @@ ghost use Rattle.sno_variables.specs.Variables.{given};
 ghost use Rattle.sno_variables.specs.Bindings.{assigned};
 ghost use Rattle.sno_variables.specs.inner.Places.{AreDistinct};
 
+use crate::recent::Recent;
 use crate::variable::Variable;
 use indexmap::IndexMap;
 use sno_prototype::Bindings;
 use sno_text::{Named, Text};
 use sno_value::Value;
 
-/// The place of a name, which is told it.
-fn place_named(variables: &IndexMap<Text, Variable>, name: &Named) -> Option<usize>
+/// The place of a name, which is told it, and so are names like it that will be formed.
+#[inline(never)]
+fn place_told(variables: &IndexMap<Text, Variable>, recent: &Recent, name: &Named) -> Option<usize>
     ensures { result ≡ position (pointwise nat_eq name.now) (keys_of variables.now.entries) }
 {
     match variables.get_index_of(name.text()) {
         Some(place) => {
             name.stands_at(place);
+            recent.found_at(name.text().as_bytes(), place);
             Some(place)
         }
         None => None,
     }
 }
 
+/// The place of a name, which is looked for where one like it was found last.
+#[inline(never)]
+fn place_named(variables: &IndexMap<Text, Variable>, recent: &Recent, name: &Named) -> Option<usize>
+    requires { AreDistinct variables.now.entries }
+    ensures { result ≡ position (pointwise nat_eq name.now) (keys_of variables.now.entries) }
+{
+    let hint = recent.place(name.text().as_bytes());
+    match variables.get_index(hint) {
+        Some((key, _)) => {
+            if name.text() == key {
+                name.stands_at(hint);
+                Some(hint)
+            } else {
+                place_told(variables, recent, name)
+            }
+        }
+        None => place_told(variables, recent, name),
+    }
+}
+
 /// The place of a name, which is looked for at its hint first.
-pub(crate) fn place_of(variables: &IndexMap<Text, Variable>, name: &Named) -> Option<usize>
+#[inline(always)]
+pub(crate) fn place_of(
+    variables: &IndexMap<Text, Variable>,
+    recent: &Recent,
+    name: &Named,
+) -> Option<usize>
     requires { AreDistinct variables.now.entries }
     ensures { result ≡ position (pointwise nat_eq name.now) (keys_of variables.now.entries) }
 {
@@ -37,23 +65,23 @@ pub(crate) fn place_of(variables: &IndexMap<Text, Variable>, name: &Named) -> Op
             if name.text() == key {
                 Some(hint)
             } else {
-                place_named(variables, name)
+                place_named(variables, recent, name)
             }
         }
-        None => place_named(variables, name),
+        None => place_named(variables, recent, name),
     }
 }
 
 /// Gives a variable a value, where there is room for one more.
 #[tactic(auto, using(crate::proofs::Written::assigning))]
-fn assign_one(variables: &mut IndexMap<Text, Variable>, name: Named, value: Value)
+fn assign_one(variables: &mut IndexMap<Text, Variable>, recent: &Recent, name: Named, value: Value)
     requires distinct { AreDistinct variables.old.entries }
     requires room { 0 < spare variables.old }
     ensures given { variables.new.entries ≡ given name value variables.old.entries }
     ensures distinct { AreDistinct variables.new.entries }
     ensures room { spare variables.old ≤ spare variables.new + 1 }
 {
-    match place_of(variables, &name) {
+    match place_of(variables, recent, &name) {
         Some(place) => {
             if let Some(variable) = variables.get_index_mut(place) {
                 variable.value = value;
@@ -66,7 +94,11 @@ fn assign_one(variables: &mut IndexMap<Text, Variable>, name: Named, value: Valu
 }
 
 /// Gives each variable its value, where there is room for as many.
-pub(crate) fn assign_all(variables: &mut IndexMap<Text, Variable>, bindings: Bindings)
+pub(crate) fn assign_all(
+    variables: &mut IndexMap<Text, Variable>,
+    recent: &Recent,
+    bindings: Bindings,
+)
     requires distinct { AreDistinct variables.old.entries }
     requires room { length bindings ≤ spare variables.old }
     ensures assigned { variables.new.entries ≡ assigned bindings variables.old.entries }
@@ -74,6 +106,6 @@ pub(crate) fn assign_all(variables: &mut IndexMap<Text, Variable>, bindings: Bin
 {
     let mut left = bindings;
     while let Some((name, value)) = left.pop() {
-        assign_one(variables, name, value);
+        assign_one(variables, recent, name, value);
     }
 }

@@ -1,81 +1,42 @@
 //! The values of a function's variables, exchanged for others where they stand.
-ghost use Rattle.std.specs.Prelude.{◌≡◌, ◌++◌, ◌∷◌, [], true, map, length, nat_eq, position, Some, IfOk};
-ghost use Rattle.std.specs.Map.{keys_of};
-ghost use Rattle.std.specs.Cmp.Lexicographic.{pointwise};
+ghost use Rattle.std.specs.Prelude.{◌≡◌, ◌<◌, ◌≤◌, [], length, slice_index_or};
 ghost use Rattle.sno_prototype.specs.Prototypes.{names_of};
+ghost use Rattle.sno_variables.specs.Variables.{is_named};
+ghost use Rattle.sno_variables.specs.Bindings.{paired, assigned};
 ghost use Rattle.sno_variables.specs.inner.Places.{AreDistinct};
-ghost use Rattle.sno_variables.specs.inner.Exchanging.{AreAt, places_in, with_value_at, value_at, written_at, taken_at};
+ghost use Rattle.sno_variables.specs.inner.Exchanging.{with_value_at, value_at, after, before, taken_by, undone};
 
 use crate::assigning::place_of;
+use crate::recent::Recent;
 use crate::variable::Variable;
 use indexmap::IndexMap;
 use sno_prototype::Prototype;
 use sno_text::{Named, Text};
 use sno_value::Value;
-use std::alloc::AllocError;
 use std::mem;
 
-/// Puts the place of a name behind others, if it has one, and tells whether it has.
-fn add_place(
-    variables: &IndexMap<Text, Variable>,
-    name: &Named,
-    places: &mut Vec<usize>,
-) -> Result<bool, AllocError>
-    requires { AreDistinct variables.now.entries }
-    ensures { IfOk result (λ known. known ≡ true → map Some places.new.items ≡ map Some places.old.items ++ position (pointwise nat_eq name.now) (keys_of variables.now.entries) ∷ []) }
+/// The name at a place among those of a function's variables.
+#[inline(always)]
+fn name_at(prototype: &Prototype, at: usize) -> &Named
+    requires { at < length (names_of prototype.now) }
+    ensures { result.now ≡ slice_index_or (names_of prototype.now) at [] }
 {
-    match place_of(variables, name) {
-        Some(place) => {
-            places.push(place)?;
-            Ok(true)
-        }
-        None => Ok(false),
+    if at == 0 {
+        return &prototype.name;
     }
-}
-
-/// Puts the places of names behind others, if each has one, and tells whether each has.
-#[tactic(auto, using(crate::proofs::Exchanged::one_further, crate::proofs::Exchanged::no_further, crate::proofs::Exchanged::all_further))]
-fn add_places(
-    variables: &IndexMap<Text, Variable>,
-    names: &[Named],
-    places: &mut Vec<usize>,
-) -> Result<bool, AllocError>
-    requires { AreDistinct variables.now.entries }
-    ensures { IfOk result (λ known. known ≡ true → map Some places.new.items ≡ map Some places.old.items ++ places_in variables.now.entries names.now) }
-{
-    let mut at = 0;
-    while at < names.len() {
-        if !add_place(variables, &names[at], places)? {
-            return Ok(false);
-        }
-        at += 1;
+    let parameters = prototype.parameters.as_slice();
+    let behind = at - 1;
+    if behind < parameters.len() {
+        &parameters[behind]
+    } else {
+        &prototype.locals.as_slice()[behind - parameters.len()]
     }
-    Ok(true)
-}
-
-/// Puts the places of a function's variables in a list, if each has one, and tells whether each has.
-#[tactic(auto, using(crate::proofs::Exchanged::all_at))]
-pub(crate) fn find_places(
-    variables: &IndexMap<Text, Variable>,
-    prototype: &Prototype,
-    places: &mut Vec<usize>,
-) -> Result<bool, AllocError>
-    requires { AreDistinct variables.now.entries }
-    ensures { IfOk result (λ known. known ≡ true → AreAt (names_of prototype.now) places.new.items variables.now.entries) }
-{
-    places.clear();
-    if !add_place(variables, &prototype.name, places)? {
-        return Ok(false);
-    }
-    if !add_places(variables, prototype.parameters.as_slice(), places)? {
-        return Ok(false);
-    }
-    add_places(variables, prototype.locals.as_slice(), places)
 }
 
 /// Exchanges the value of the variable at a place for another.
 #[tactic(auto, using(crate::proofs::Places::still_distinct))]
-fn exchange_one(variables: &mut IndexMap<Text, Variable>, place: usize, value: &mut Value)
+#[inline(always)]
+fn exchange_at(variables: &mut IndexMap<Text, Variable>, place: usize, value: &mut Value)
     requires { AreDistinct variables.old.entries }
     ensures written { variables.new.entries ≡ with_value_at place value.old variables.old.entries }
     ensures taken { value.new ≡ value_at place value.old variables.old.entries }
@@ -86,22 +47,79 @@ fn exchange_one(variables: &mut IndexMap<Text, Variable>, place: usize, value: &
     }
 }
 
-/// Exchanges the values of the variables at places for others, one after the other.
-#[tactic(auto, using(crate::proofs::Exchanged::exchanging))]
-pub(crate) fn exchange_all(
+/// Exchanges the value of a variable for another, if it was named before, and tells whether it was.
+#[tactic(auto, using(crate::proofs::Exchanged::one_exchanged))]
+#[inline(always)]
+fn exchange_one(
     variables: &mut IndexMap<Text, Variable>,
-    places: &[usize],
+    recent: &Recent,
+    name: &Named,
+    value: &mut Value,
+) -> bool
+    requires { AreDistinct variables.old.entries }
+    ensures named { result ≡ is_named name.now variables.old.entries }
+    ensures written { variables.new.entries ≡ after name.now value.old variables.old.entries }
+    ensures taken { value.new ≡ before name.now value.old variables.old.entries }
+    ensures distinct { AreDistinct variables.new.entries }
+{
+    match place_of(variables, recent, name) {
+        Some(place) => {
+            exchange_at(variables, place, value);
+            true
+        }
+        None => false,
+    }
+}
+
+/// Exchanges the values of a function's variables for others, up to the first that was never named, and tells how many.
+#[tactic(auto, using(crate::proofs::Exchanged::exchanging))]
+pub(crate) fn exchange_known(
+    variables: &mut IndexMap<Text, Variable>,
+    recent: &Recent,
+    prototype: &Prototype,
     values: &mut Vec<Value>,
-)
+) -> usize
     requires distinct { AreDistinct variables.old.entries }
-    requires as_many { length values.old.items ≡ length places.now }
-    ensures written { variables.new.entries ≡ written_at places.now values.old.items variables.old.entries }
-    ensures taken { values.new.items ≡ taken_at places.now values.old.items variables.old.entries }
+    requires as_many { length values.old.items ≡ length (names_of prototype.now) }
+    ensures within { result ≤ length values.new.items }
+    ensures as_many { length values.new.items ≡ length values.old.items }
+    ensures undone { undone result (names_of prototype.now) values.new.items variables.new.entries ≡ (values.old.items, variables.old.entries) }
+    ensures assigned { result ≡ length values.old.items → variables.new.entries ≡ assigned (paired (names_of prototype.now) values.old.items) variables.old.entries }
+    ensures taken { result ≡ length values.old.items → values.new.items ≡ taken_by (names_of prototype.now) values.old.items variables.old.entries }
     ensures distinct { AreDistinct variables.new.entries }
 {
     let mut at = 0;
-    while at < places.len() {
-        exchange_one(variables, places[at], &mut values[at]);
+    while at < values.len() {
+        if !exchange_one(variables, recent, name_at(prototype, at), &mut values[at]) {
+            return at;
+        }
         at += 1;
+    }
+    at
+}
+
+/// Exchanges so many of the values again, the last one first.
+pub(crate) fn take_back(
+    variables: &mut IndexMap<Text, Variable>,
+    recent: &Recent,
+    prototype: &Prototype,
+    values: &mut Vec<Value>,
+    count: usize,
+)
+    requires distinct { AreDistinct variables.old.entries }
+    requires as_many { length values.old.items ≡ length (names_of prototype.now) }
+    requires within { count ≤ length values.old.items }
+    ensures undone { (values.new.items, variables.new.entries) ≡ undone count (names_of prototype.now) values.old.items variables.old.entries }
+    ensures distinct { AreDistinct variables.new.entries }
+{
+    let mut left = count;
+    while left > 0 {
+        left -= 1;
+        let _known = exchange_one(
+            variables,
+            recent,
+            name_at(prototype, left),
+            &mut values[left],
+        );
     }
 }

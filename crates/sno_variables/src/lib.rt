@@ -7,6 +7,7 @@ mod assigning;
 mod exchanging;
 mod first;
 pub mod laws;
+mod recent;
 pub mod variable;
 pub mod variables;
 

@@ -14,7 +14,8 @@ ghost use Rattle.sno_variables.specs.Bindings.{assigned};
 ghost use Rattle.sno_variables.specs.inner.Exchanging.{values_now};
 
 use crate::assigning::{assign_all, place_of};
-use crate::exchanging::{exchange_all, find_places};
+use crate::exchanging::{exchange_known, take_back};
+use crate::recent::Recent;
 use crate::variable::{Found, Variable};
 use indexmap::IndexMap;
 use sno_prototype::{Bindings, Input, Output, Prototype};
@@ -27,8 +28,7 @@ use std::marker::Model;
 #[derive(Drop)]
 pub struct Variables {
     variables: IndexMap<Text, Variable>,
-    // Room for the places of a call's variables.
-    places: Vec<usize>,
+    recent: Recent,
 }
 
 impl Model for Variables {
@@ -54,20 +54,41 @@ impl Variables {
     {
         Variables {
             variables: IndexMap::new(alloc),
-            places: Vec::new(alloc),
+            recent: Recent::new(),
         }
     }
 
-    /// The variable of a name, which is told its place.
-    fn find_named(&self, name: &Named) -> Option<&Variable>
+    /// The variable of a name, which is told its place, and so are names like it that will be formed.
+    #[inline(never)]
+    fn find_told(&self, name: &Named) -> Option<&Variable>
         ensures { option_copied result ≡ lookup (pointwise nat_eq name.now) self.now }
     {
         match self.variables.get_full(name.text()) {
             Some((place, _, variable)) => {
                 name.stands_at(place);
+                self.recent.found_at(name.text().as_bytes(), place);
                 Some(variable)
             }
             None => None,
+        }
+    }
+
+    /// The variable of a name, which is looked for where one like it was found last.
+    #[inline(never)]
+    fn find_named(&self, name: &Named) -> Option<&Variable>
+        ensures { option_copied result ≡ lookup (pointwise nat_eq name.now) self.now }
+    {
+        let hint = self.recent.place(name.text().as_bytes());
+        match self.variables.get_index(hint) {
+            Some((key, variable)) => {
+                if key == name.text() {
+                    name.stands_at(hint);
+                    Some(variable)
+                } else {
+                    self.find_told(name)
+                }
+            }
+            None => self.find_told(name),
         }
     }
 
@@ -120,7 +141,7 @@ impl Variables {
         ensures* lends { sem 𝓛 (LendsVariable self.entry name.now result) }
         ensures found { option_copied_mut result ≡ lookup (pointwise nat_eq name.now) self.old }
     {
-        let place = place_of(&self.variables, name)?;
+        let place = place_of(&self.variables, &self.recent, name)?;
         self.variables.get_index_mut(place)
     }
 
@@ -295,7 +316,7 @@ impl Variables {
     {
         match self.variables.reserve(bindings.len()) {
             Ok(()) => {
-                assign_all(&mut self.variables, bindings);
+                assign_all(&mut self.variables, &self.recent, bindings);
                 Ok(())
             }
             Err(_) => Err(bindings),
@@ -303,27 +324,23 @@ impl Variables {
     }
 
     /// Exchanges the values of a function's variables for others, if all are named, and tells whether they are.
-    #[tactic(auto, using(crate::proofs::Exchanged::all_exchanged))]
-    fn exchange_named(
-        &mut self,
-        prototype: &Prototype,
-        values: &mut Vec<Value>,
-    ) -> Result<bool, AllocError>
+    #[tactic(auto, using(crate::proofs::Exchanged::taken_now))]
+    fn exchange_named(&mut self, prototype: &Prototype, values: &mut Vec<Value>) -> bool
         requires different { are_different (names_of prototype.now) ≡ true }
         requires as_many { length values.old.items ≡ length (names_of prototype.now) }
-        ensures assigned { IfOk result (λ are. self.new ≡ (if are then assigned (paired (names_of prototype.now) values.old.items) self.old else self.old)) }
-        ensures taken { IfOk result (λ are. values.new.items ≡ (if are then values_now (names_of prototype.now) self.old else values.old.items)) }
-        ensures unchanged { OnErr result ((self.new ≡ self.old) × (values.new.items ≡ values.old.items)) }
+        ensures assigned { self.new ≡ (if result then assigned (paired (names_of prototype.now) values.old.items) self.old else self.old) }
+        ensures taken { values.new.items ≡ (if result then values_now (names_of prototype.now) self.old else values.old.items) }
     {
-        if find_places(&self.variables, prototype, &mut self.places)? {
-            exchange_all(&mut self.variables, self.places.as_slice(), values);
-            Ok(true)
-        } else {
-            Ok(false)
+        let known = exchange_known(&mut self.variables, &self.recent, prototype, values);
+        if known == values.len() {
+            return true;
         }
+        take_back(&mut self.variables, &self.recent, prototype, values, known);
+        false
     }
 
     /// The same where one of them may not be named yet: names and values are copied.
+    #[inline(never)]
     fn exchange_any(
         &mut self,
         alloc: Global,
@@ -364,7 +381,7 @@ impl Variables {
         ensures taken { OnOk result (values.new.items ≡ values_now (names_of prototype.now) self.old) }
         ensures unchanged { OnErr result ((self.new ≡ self.old) × (values.new.items ≡ values.old.items)) }
     {
-        if self.exchange_named(prototype, values)? {
+        if self.exchange_named(prototype, values) {
             return Ok(());
         }
         self.exchange_any(alloc, prototype, values)

@@ -1,23 +1,15 @@
--- Values that are exchanged with those of variables, by places, one after the other.
-use Rattle.std.specs.Prelude.{◌≡◌, ℕ, nat_eq, List, [], ◌∷◌, map, Option, None, Some, position, slice_get}
-use Rattle.std.specs.Map.{keys_of, values_of}
-use Rattle.std.specs.Cmp.Lexicographic.{pointwise}
+-- Values that are exchanged with those of variables that were named before, one after the other.
+use Rattle.std.specs.Prelude.{ℕ, zero, suc, List, [], ◌∷◌, map, set, slice_index_or, Option, None, Some, slice_get, if◌then◌else◌}
+use Rattle.std.specs.Map.{values_of}
 use Rattle.indexmap.specs.IndexMap.{set_value_at}
 use Rattle.sno_value.specs.declared.value.Value.{Value}
+use Rattle.sno_value.specs.Values.{null}
 use Rattle.sno_variables.specs.declared.variable.Variable.{Variable}
-use Rattle.sno_variables.specs.Variables.{Variables, value_of}
+use Rattle.sno_variables.specs.Variables.{Variables, is_named, value_of, given}
 
 -- the values that names have
 abbrev pub values_now : List (List ℕ) → Variables → List Value
 values_now names vs = map (λ name. value_of name vs) names
-
--- where the variables of names stand
-abbrev pub places_in : Variables → List (List ℕ) → List (Option ℕ)
-places_in vs names = map (λ name. position (pointwise nat_eq name) (keys_of vs)) names
-
--- each name's variable stands at its place
-abbrev pub AreAt : List (List ℕ) → List ℕ → Variables → Type 0
-AreAt names places vs = map Some places ≡ places_in vs names
 
 -- the variables after a value was exchanged at a place, and the value that was there; nothing happens where no variable is
 abbrev pub with_value_in : Option Variable → ℕ → Value → Variables → Variables
@@ -34,13 +26,21 @@ value_in (Some x) w = x.value
 abbrev pub value_at : ℕ → Value → Variables → Value
 value_at place w vs = value_in (slice_get (values_of vs) place) w
 
--- the variables after all were exchanged, and the values that they had
-abbrev pub written_at : List ℕ → List Value → Variables → Variables
-written_at [] ws vs = vs
-written_at (p ∷ ps) [] vs = vs
-written_at (p ∷ ps) (w ∷ ws) vs = written_at ps ws (with_value_at p w vs)
+-- the same by a name; nothing happens where it was never named
+abbrev pub after : List ℕ → Value → Variables → Variables
+after name w vs = if is_named name vs then given name w vs else vs
 
-abbrev pub taken_at : List ℕ → List Value → Variables → List Value
-taken_at [] ws vs = ws
-taken_at (p ∷ ps) [] vs = []
-taken_at (p ∷ ps) (w ∷ ws) vs = value_at p w vs ∷ taken_at ps ws (with_value_at p w vs)
+abbrev pub before : List ℕ → Value → Variables → Value
+before name w vs = if is_named name vs then value_of name vs else w
+
+-- the values that names have, each before the next is exchanged
+abbrev pub taken_by : List (List ℕ) → List Value → Variables → List Value
+taken_by [] ws vs = ws
+taken_by (name ∷ names) [] vs = []
+taken_by (name ∷ names) (w ∷ ws) vs = value_of name vs ∷ taken_by names ws (given name w vs)
+
+-- values and variables once the first so many are exchanged again, the last of them first
+abbrev pub undone : ℕ → List (List ℕ) → List Value → Variables → List Value × Variables
+undone zero names ws vs = (ws, vs)
+undone (suc n) names ws vs =
+    undone n names (set ws n (before (slice_index_or names n []) (slice_index_or ws n null) vs)) (after (slice_index_or names n []) (slice_index_or ws n null) vs)
