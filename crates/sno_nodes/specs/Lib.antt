@@ -1,4 +1,5 @@
 pub mod Patterns
 pub mod Nodes
 pub mod Sets
+pub mod Balance
 pub mod inner

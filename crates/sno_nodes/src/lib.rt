@@ -1,10 +1,11 @@
-//! Patterns as values: their rows, and how deep they are.
+//! Patterns as values: their rows, how deep they are, and where those end that end in one place or nowhere.
 //!
 //! Parts are shared: a pattern that becomes part of another is not copied.
 #![tactic(auto)]
 
 mod node;
 mod pattern;
+pub mod reach;
 pub mod set;
 
 pub use node::Node;

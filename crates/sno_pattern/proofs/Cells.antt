@@ -7,7 +7,7 @@ use Rattle.sno_pattern.specs.declared.trail.Cell.{Cell}
 use Rattle.sno_pattern.specs.declared.trail.Open.{Open}
 use Rattle.sno_pattern.specs.declared.trail.Waiting.{Waiting}
 use Rattle.sno_pattern.specs.Steps.{Goal}
-use Rattle.sno_pattern.specs.inner.Stack.{goal_of, Choice, Ahead}
+use Rattle.sno_pattern.specs.inner.Stack.{goal_of, trial_of, Choice, Ahead}
 use Rattle.sno_pattern.specs.inner.Cells.{goals_at, choice_of, ahead_of, AreBehind, AreKept, IsTrail}
 
 -- the goal that stands last
@@ -28,8 +28,8 @@ older_goals (c ∷ cs) older k h =
 module _ (newer older : List Cell) (all waits : List Waiting) (same : (k : ℕ) → k ≤ length waits → take k all ≡ take k waits) where
   older_choice : (o : Open) → o.top ≤ length older → o.waits ≤ length waits → choice_of (newer ++ older) all o ≡ choice_of older waits o
   older_choice o h k =
-      ap (λ (g : List Goal). let x : Choice = record { kind = o.kind; goals = g; at = o.at; waits = take o.waits all } in x) (older_goals newer older o.top h)
-      ∙ ap (λ (w : List Waiting). let x : Choice = record { kind = o.kind; goals = goals_at older o.top; at = o.at; waits = w } in x) (same o.waits k)
+      ap (λ (g : List Goal). let x : Choice = record { trial = trial_of o.kind; goals = g; at = o.at; waits = take o.waits all } in x) (older_goals newer older o.top h)
+      ∙ ap (λ (w : List Waiting). let x : Choice = record { trial = trial_of o.kind; goals = goals_at older o.top; at = o.at; waits = w } in x) (same o.waits k)
 
   -- so are the choices that were left by then
   older_choices : (kept w : ℕ) (opens : List Open) → AreKept kept w opens → kept ≤ length older → w ≤ length waits
@@ -178,15 +178,15 @@ module _ (items : List Cell) (top kept : ℕ) (waits : List Waiting) (all opens 
       }
 
   pub last_open : map (choice_of (reverse items) waits) (reverse all)
-      ≡ record { kind = o.kind; goals = goals_at (reverse (take kept items)) o.top; at = o.at; waits = take o.waits waits }
+      ≡ record { trial = trial_of o.kind; goals = goals_at (reverse (take kept items)) o.top; at = o.at; waits = take o.waits waits }
       ∷ map (choice_of (reverse (take kept items)) (take o.waits waits)) (reverse opens)
   last_open =
       let n = needs in let t = n.0 in let u = n.1 in let m = so_many in let l = so_long in
       ap (map (choice_of (reverse items) waits)) last_first
       ∙ ap (λ cs. map (choice_of cs waits) (o ∷ reverse opens)) (cut kept items)
-      ∙ ap (λ (g : List Goal). (let x : Choice = record { kind = o.kind; goals = g; at = o.at; waits = take o.waits waits } in x)
+      ∙ ap (λ (g : List Goal). (let x : Choice = record { trial = trial_of o.kind; goals = g; at = o.at; waits = take o.waits waits } in x)
       ∷ map (choice_of (newer ++ older) waits) (reverse opens)) (older_goals newer older o.top (omega arith))
-      ∙ ap (λ xs. (let x : Choice = record { kind = o.kind; goals = goals_at older o.top; at = o.at; waits = take o.waits waits } in x) ∷ xs)
+      ∙ ap (λ xs. (let x : Choice = record { trial = trial_of o.kind; goals = goals_at older o.top; at = o.at; waits = take o.waits waits } in x) ∷ xs)
       (older_choices newer older waits (take o.waits waits)
       (λ k h. ap (take k) (sym (take-append-drop o.waits waits)) ∙ take-append-le k (take o.waits waits) (drop o.waits waits) h) o.kept o.waits
       (reverse opens) n.3 (omega arith) (omega arith))

@@ -2,18 +2,18 @@
 use Rattle.std.proofs.Common.{◌≡◌, ◌≢◌, ℕ, zero, suc, ◌-◌, ◌<◌, ◌≤◌, List, ◌∷◌, length, refl, sym, ap, ◌∙◌, arith}
 use Rattle.sno_nodes.specs.Patterns.{Pattern}
 use Rattle.sno_nodes.specs.Patterns as pattern
+use Rattle.sno_nodes.specs.declared.reach.Reach.TheVariants.{Here, Nowhere}
 use Rattle.sno_pattern.specs.declared.ending.Pending.{Pending}
 use Rattle.sno_pattern.specs.declared.trail.Waiting.{Waiting}
-use Rattle.sno_pattern.specs.declared.trail.Kind.TheVariants.{Second}
-use Rattle.sno_pattern.specs.declared.choices.Turn.TheVariants.{Go}
-use Rattle.sno_pattern.specs.declared.reach.Reach.TheVariants.{Here, Nowhere}
-use Rattle.sno_pattern.specs.Steps.{Goal, Meet, EndConditional, EndImmediate, Trying, on_failure, row, outcome}
-use Rattle.sno_pattern.specs.inner.Reaching.{reached, IsQuiet}
-use Rattle.sno_pattern.specs.inner.Stack.{Choice, waiting_of, resume, AllWithin, Led}
+use Rattle.sno_pattern.specs.declared.choices.Turn.TheVariants.{Stay}
+use Rattle.sno_pattern.specs.declared.choices.Ended.TheVariants as ended
+use Rattle.sno_nodes.specs.inner.Reaching.{reached}
+use Rattle.sno_pattern.specs.Steps.{Goal, Meet, EndConditional, EndImmediate, OutOfSteps, Trying, on_failure, row, outcome}
+use Rattle.sno_pattern.specs.inner.Stack.{Choice, Ahead, Second, waiting_of, resume, AllWithin, Entering, Led}
 use Rattle.sno_pattern.proofs.Table.{takes_off, no_step_left}
 use Rattle.sno_pattern.proofs.Reaches.{row_here}
 use Rattle.sno_pattern.proofs.Missing.{missed_now}
-use Rattle.sno_pattern.proofs.Pushing.{choice, ahead}
+use Rattle.sno_pattern.proofs.Pushing.{choice, resume_last, out_of_steps}
 
 module _ (text : List ℕ) (c : ℕ) (w : List Pending) where
   -- where a pattern is missed at once, what is behind it does not matter
@@ -52,7 +52,7 @@ module _ (text : List ℕ) (c : ℕ) (w : List Pending) where
     -- the second is left to be tried
     pub alt_leaves : (old : List Choice) (waits : List Waiting) (n : ℕ) → waiting_of text waits ≡ w
         → resume text old (row text (outcome text) (Meet (pattern.Alt a b)) r c w n)
-        ≡ resume text (choice Second (Meet b ∷ r) c waits ∷ old) (outcome text (Meet a ∷ r) c w n)
+        ≡ resume text (choice (Second b) r c waits ∷ old) (outcome text (Meet a ∷ r) c w n)
     alt_leaves old waits n e =
         ap (resume text old) (alt_on n ∙ ap (λ l. on_failure (outcome text (Meet a ∷ r) c w n) (λ n'. outcome text (Meet b ∷ r) c l n')) (sym e))
 
@@ -74,15 +74,6 @@ pub record Coming (text : List ℕ) (old : List Choice) (t : Trying) (n : ℕ) (
   pub all : AllWithin (length text) new
   pub here : c ≤ length text
 
--- whose step was taken
-pub record Entering (text : List ℕ) (old : List Choice) (t : Trying) (n : ℕ) (p : Pattern) (r : List Goal) (c : ℕ) (w : List Pending)
-    (new : List Choice) (m : ℕ) : Type 0 where
-  pub comes : resume text old t ≡ resume text new (row text (outcome text) (Meet p) r c w m)
-  pub fewer : m ≤ n
-  pub all : AllWithin (length text) new
-  pub here : c ≤ length text
-  pub quiet : IsQuiet p
-
 module _ (text : List ℕ) (old : List Choice) (t : Trying) (n : ℕ) where
   pub entered : (p q : Pattern) (r r' : List Goal) (c c' : ℕ) (w : List Pending) (new new' : List Choice) (m m' : ℕ)
       → Entering text old t n p r c w new m → resume text new (row text (outcome text) (Meet p) r c w m)
@@ -94,21 +85,30 @@ module _ (text : List ℕ) (old : List Choice) (t : Trying) (n : ℕ) where
     here = h;
   }
 
-  pub pays : (p : Pattern) (r : List Goal) (c : ℕ) (w : List Pending) (new : List Choice) (m : ℕ) → m ≢ 0 → IsQuiet p
+  pub pays : (p : Pattern) (r : List Goal) (c : ℕ) (w : List Pending) (new : List Choice) (m : ℕ) → 0 < m
       → Coming text old t n p r c w new m → Entering text old t n p r c w new (m - 1)
-  pays p r c w new m l q k =
+  pays p r c w new m l k =
       let one : m ≡ suc (m - 1) = omega arith in
       record {
         comes = k.comes ∙ ap (resume text new) (ap (outcome text (Meet p ∷ r) c w) one ∙ takes_off text (Meet p) r c w (m - 1));
         fewer = (let g = k.fewer in omega arith);
         all = k.all;
         here = k.here;
-        quiet = q;
       }
 
-  pub goes : (p : Pattern) (r : List Goal) (c : ℕ) (w : List Waiting) (new : List Choice) (m : ℕ)
-      → Coming text old t n p r c (waiting_of text w) new m → Led text old t n (Go c) (ahead (Meet p ∷ r) w new) m
-  goes p r c w new m k = record { comes = k.comes; fewer = k.fewer; all = k.all; here = k.here }
+  pub started : (p : Pattern) (r : List Goal) (c : ℕ) (w : List Pending) → t ≡ outcome text (Meet p ∷ r) c w n → AllWithin (length text) old → c ≤ length text
+      → Coming text old t n p r c w old n
+  started p r c w e all h = record { comes = ap (resume text old) e; fewer = omega arith; all = all; here = h }
+
+  -- no step is left for it
+  pub runs_out : (p : Pattern) (r : List Goal) (c : ℕ) (w : List Pending) (now : Ahead) (m : ℕ) → m ≡ 0
+      → Coming text old t n p r c w now.opens m → Led text old t n (Stay ended.OutOfSteps) now m
+  runs_out p r c w now m e k = record {
+    comes = k.comes ∙ ap (resume text now.opens) (out_of_steps text (Meet p) r c w m e);
+    fewer = k.fewer;
+    all = k.all;
+    here = λ j. resume_last text now.opens OutOfSteps j tt;
+  }
 
 -- what becomes of a pattern with parts, case by case
 module _ {text : List ℕ} {old : List Choice} {t : Trying} {n : ℕ} {p : Pattern} {r : List Goal} {c : ℕ} {w : List Pending} {new : List Choice} {m : ℕ} where
@@ -138,9 +138,9 @@ module _ {text : List ℕ} {old : List Choice} {t : Trying} {n : ℕ} {p : Patte
 
   -- the second is left to be tried
   pub alt_tries : Entering text old t n p r c w new m → (a b : Pattern) (waits : List Waiting) → p ≡ pattern.Alt a b → waiting_of text waits ≡ w
-      → Coming text old t n a r c w (choice Second (Meet b ∷ r) c waits ∷ new) m
+      → Coming text old t n a r c w (choice (Second b) r c waits ∷ new) m
   alt_tries i a b waits is e =
-      entered text old t n p a r r c c w new (choice Second (Meet b ∷ r) c waits ∷ new) m m i (rw is (alt_leaves text c w r a b new waits m e))
+      entered text old t n p a r r c c w new (choice (Second b) r c waits ∷ new) m m i (rw is (alt_leaves text c w r a b new waits m e))
       (omega arith) (i.here, i.all) i.here
 
   -- what is to be assigned waits for the end of the part

@@ -11,7 +11,8 @@ use Rattle.sno_nodes.specs.Patterns.{Pattern}
 use Rattle.sno_nodes.specs.Patterns as pattern
 use Rattle.sno_pattern.specs.declared.ending.Pending.{Pending}
 use Rattle.sno_nodes.specs.Sets.{is_one_of}
-use Rattle.sno_pattern.specs.Steps.{Goal, Meet, More, EndConditional, EndImmediate, End, Success, Failure, WholeFails, OutOfSteps, Fault, Trying, Way, ends, after_end, on_failure, at_each, part, in_pairs, balanced_ends, row, attempt, outcome}
+use Rattle.sno_nodes.specs.Balance.{part, in_pairs, balanced_ends}
+use Rattle.sno_pattern.specs.Steps.{Goal, Meet, More, EndConditional, EndImmediate, End, Success, Failure, WholeFails, OutOfSteps, Fault, Trying, Way, ends, after_end, on_failure, at_each, row, attempt, outcome}
 use Rattle.sno_pattern.specs.Places.{IsSimple, ends_of_turns, one_end, ends_of, Finds, Comes}
 use Rattle.mon_text.specs.Beginnings.{first_passes}
 

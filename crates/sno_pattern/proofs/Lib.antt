@@ -1,4 +1,3 @@
-pub mod Balance
 pub mod Cells
 pub mod Counted
 pub mod Entering
@@ -7,7 +6,6 @@ mod Examples
 pub mod Finding
 pub mod Firsts
 pub mod Missing
-pub mod Pairs
 pub mod Passing
 pub mod Pushing
 pub mod Reaches

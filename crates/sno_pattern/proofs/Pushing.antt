@@ -1,34 +1,41 @@
 -- How choices are left and taken, row by row of the table.
-use Rattle.std.proofs.Common.{◌≡◌, ◌≢◌, ℕ, suc, ◌+◌, ◌-◌, ◌<◌, ◌≤◌, List, [], ◌∷◌, ◌++◌, length, true, false, refl, sym, ap, ◌∙◌, subst, arith, inl, inr}
+use Rattle.std.proofs.Common.{◌≡◌, ◌≢◌, ℕ, suc, ◌+◌, ◌*◌, ◌-◌, ◌<◌, ◌≤◌, List, [], ◌∷◌, ◌++◌, length, true, false, refl, sym, ap, ◌∙◌, subst, arith, inl, inr}
 use Rattle.std.specs.List.{range_with_len}
-use Rattle.std.specs.Prelude.{nat_eq}
+use Rattle.std.specs.Prelude.{nat_eq, Result, Ok, Err, IfOk}
 use Rattle.std.proofs.lemmas.List.{map-append}
 use Rattle.sno_text.specs.declared.fault.Fault.{Fault as AFault}
 use Rattle.sno_talk.specs.Talks.{Asks}
 use Rattle.sno_talk.specs.Holding.{Held, Cut}
 use Rattle.sno_talk.proofs.Held.{cut_here}
+use Rattle.std.specs.declared.rc.Rc.{Rc}
+use Rattle.std.specs.declared.alloc.Global.{Global}
+use Rattle.sno_nodes.specs.declared.node.Node.{Node}
+use Rattle.sno_nodes.specs.Nodes.{pattern_of}
 use Rattle.sno_nodes.specs.Patterns.{Pattern}
 use Rattle.sno_nodes.specs.Patterns as pattern
+use Rattle.sno_nodes.specs.Balance.{part, balanced_ends}
+use Rattle.sno_nodes.specs.inner.Reaching.{reached}
+use Rattle.sno_nodes.specs.declared.reach.Reach.TheVariants.{Here, Nowhere}
 use Rattle.sno_pattern.specs.declared.ending.Pending.{Pending}
 use Rattle.sno_pattern.specs.Looks.{Look, Told, Fits}
-use Rattle.sno_pattern.specs.Steps.{Goal, Meet, More, EndConditional, End, Failure, WholeFails, Fault, Trying, ends, on_failure, at_each, balanced_ends, row, outcome}
+use Rattle.sno_pattern.specs.Steps.{Goal, Meet, More, EndConditional, EndImmediate, End, Failure, WholeFails, OutOfSteps, Fault, Trying, ends, on_failure, at_each, row, outcome}
 use Rattle.sno_pattern.specs.declared.trail.Waiting.{Waiting}
-use Rattle.sno_pattern.specs.declared.trail.Kind.{Kind}
-use Rattle.sno_pattern.specs.declared.trail.Kind.TheVariants.{Second, Each, Balanced, Whole}
+use Rattle.sno_pattern.specs.declared.host.Taken.TheVariants.{Part, Cursor}
 use Rattle.sno_pattern.specs.declared.choices.Turn.{Turn}
-use Rattle.sno_pattern.specs.declared.choices.Turn.TheVariants.{Go, Stay}
+use Rattle.sno_pattern.specs.declared.choices.Turn.TheVariants.{Go, Meet as MeetNow, Stay}
 use Rattle.sno_pattern.specs.declared.choices.Ended.TheVariants as ended
-use Rattle.sno_pattern.specs.inner.Reaching.{reached}
-use Rattle.sno_pattern.specs.inner.Stack.{Choice, Ahead, waiting_of, second, resume, AllWithin, Led, Moved}
-use Rattle.sno_pattern.specs.declared.reach.Reach.TheVariants.{Here, Nowhere}
+use Rattle.sno_pattern.specs.inner.Stack.{Choice, Trial, Second, Each, Balanced, Whole, Ahead, waiting_of, second, resume, rank, assigning, looking, AllWithin, Led, Moved}
 use Rattle.sno_pattern.proofs.Trying.{IsLast, last_stays, then_fails}
-use Rattle.sno_pattern.proofs.Table.{takes_off}
+use Rattle.sno_pattern.proofs.Table.{takes_off, no_step_left}
 use Rattle.sno_pattern.proofs.Reaches.{row_nowhere, row_here, missed}
 
 -- an end that is no failure takes no choice
 pub resume_last : (text : List ℕ) (xs : List Choice) (e : End) (n : ℕ) → IsLast e → resume text xs (ends e n) ≡ ends e n
 resume_last text [] e n h = refl
 resume_last text (x ∷ xs) e n h = ap (resume text xs) (last_stays e n (second text x) h) ∙ resume_last text xs e n h
+
+pub out_of_steps : (text : List ℕ) (g : Goal) (r : List Goal) (c : ℕ) (w : List Pending) (n : ℕ) → n ≡ 0 → outcome text (g ∷ r) c w n ≡ ends OutOfSteps n
+out_of_steps text g r c w n e = subst (λ (k : ℕ). outcome text (g ∷ r) c w k ≡ ends OutOfSteps k) (sym e) (no_step_left text g r c w)
 
 -- the question comes first, whatever choices are open
 pub resume_asks : (text : List ℕ) (xs : List Choice) (q : Look) (f : Told → Trying) → resume text xs (Asks q f) ≡ Asks q (λ r. resume text xs (f r))
@@ -47,8 +54,8 @@ skip_one text a c m r p l h e =
     ∙ ap (λ k. on_failure (outcome text (Meet a ∷ r) c p k) next) one
     ∙ ap (λ t. on_failure t next) (takes_off text (Meet a) r c p (m - 1) ∙ row_nowhere text (outcome text) r c p (m - 1) a (missed text a c e))
 
-abbrev pub choice : Kind → List Goal → ℕ → List Waiting → Choice
-choice kind gs c w = record { kind = kind; goals = gs; at = c; waits = w }
+abbrev pub choice : Trial → List Goal → ℕ → List Waiting → Choice
+choice trial gs c w = record { trial = trial; goals = gs; at = c; waits = w }
 
 abbrev pub ahead : List Goal → List Waiting → List Choice → Ahead
 ahead gs w opens = record { goals = gs; waits = w; opens = opens }
@@ -60,6 +67,12 @@ module _ (text : List ℕ) (old : List Choice) (t : Trying) (n : ℕ) where
       → AllWithin (length text) old → c ≤ length text → Led text old t n (Go c) (ahead gs w old) m
   goes_on gs c w m e f all h = record { comes = ap (resume text old) e; fewer = f; all = all; here = h }
 
+  -- with a pattern before them
+  pub hands_on : (gs : List Goal) (p : Rc Node Global) (c : ℕ) (w : List Waiting) (m : ℕ)
+      → t ≡ outcome text (Meet (pattern_of p.value) ∷ gs) c (waiting_of text w) m → m ≤ n
+      → AllWithin (length text) old → c ≤ length text → Led text old t n (MeetNow p c) (ahead gs w old) m
+  hands_on gs p c w m e f all h = record { comes = ap (resume text old) e; fewer = f; all = all; here = h }
+
   -- with one choice more
   pub leaves : (gs : List Goal) (c : ℕ) (w : List Waiting) (x : Choice) (m : ℕ)
       → t ≡ on_failure (outcome text gs c (waiting_of text w) m) (second text x) → m ≤ n → AllWithin (length text) old → c ≤ length text
@@ -69,13 +82,60 @@ module _ (text : List ℕ) (old : List Choice) (t : Trying) (n : ℕ) where
   pub same_as : {t' : Trying} {turn : Turn} {new : Ahead} {m : ℕ} → t ≡ t' → Led text old t' n turn new m → Led text old t n turn new m
   same_as step b = record { comes = ap (resume text old) step ∙ b.comes; fewer = b.fewer; all = b.all; here = b.here }
 
+-- a goal is met by its row, one step later, or by none where no step is left
+module _ (text : List ℕ) (g : Goal) (r : List Goal) (c : ℕ) (w : List Pending) (n : ℕ) where
+  pub one_step : n ≢ 0 → outcome text (g ∷ r) c w n ≡ row text (outcome text) g r c w (n - 1)
+  one_step h = let one : n ≡ suc (n - 1) = omega arith in ap (outcome text (g ∷ r) c w) one ∙ takes_off text g r c w (n - 1)
+
+  pub stepped : {old : List Choice} {turn : Turn} {new : Ahead} {m : ℕ} → n ≢ 0 → Led text old (row text (outcome text) g r c w (n - 1)) (n - 1) turn new m
+      → Led text old (outcome text (g ∷ r) c w n) n turn new m
+  stepped {old} h k = record {
+    comes = ap (resume text old) (one_step h) ∙ k.comes;
+    fewer = (let f = k.fewer in omega arith);
+    all = k.all;
+    here = k.here;
+  }
+
+  pub not_stepped : (now : Ahead) → n ≡ 0 → AllWithin (length text) now.opens → Led text now.opens (outcome text (g ∷ r) c w n) n (Stay ended.OutOfSteps) now n
+  not_stepped now e all = record {
+    comes = ap (resume text now.opens) (out_of_steps text g r c w n e);
+    fewer = omega arith;
+    all = all;
+    here = λ j. resume_last text now.opens OutOfSteps j tt;
+  }
+
+pub immediate_asks : (text v : List ℕ) (d : ℕ) (r : List Goal) (c : ℕ) (w : List Pending) (n : ℕ) → n ≢ 0
+    → outcome text (EndImmediate v d ∷ r) c w n ≡ assigning text v (Part (part text d c)) r c w (n - 1)
+unfolding row
+immediate_asks text v d r c w n h = one_step text (EndImmediate v d) r c w n h
+
+pub rank_most : (turn : Turn) (m : ℕ) → rank turn m ≤ 3 * m + 2
+rank_most (Go c) m = omega arith
+rank_most (MeetNow p c) m = omega arith
+rank_most (Stay e) m = omega arith
+
+pub led_falls : {E : Type 0} (text : List ℕ) (old : List Choice) (t : Trying) (r : Result Turn E) (n : ℕ) (new : Ahead) (m k : ℕ) → n < k
+    → IfOk r (λ turn. Led text old t n turn new m) → IfOk r (λ turn. rank turn m < 3 * k + 1)
+led_falls text old t (Ok turn) n new m k l b = let f = b.fewer in let most = rank_most turn m in omega arith
+led_falls text old t (Err e) n new m k l b = tt
+
+-- the rows that ask the host
+module _ (text : List ℕ) (p : Pattern) (v : List ℕ) (r : List Goal) (c : ℕ) (w : List Pending) (n : ℕ) where
+  pub defer_asks : p ≡ pattern.Defer v → row text (outcome text) (Meet p) r c w n ≡ looking text v r c w n
+  unfolding row
+  defer_asks e = rw e refl
+
+  pub cursor_asks : p ≡ pattern.Cursor v → row text (outcome text) (Meet p) r c w n ≡ assigning text v (Cursor c) r c w n
+  unfolding row
+  cursor_asks e = rw e refl
+
 -- the last choice is taken
 module _ (text : List ℕ) (old : List Choice) (n : ℕ) (within : AllWithin (length text) old) where
-  module _ (kind : Kind) (c : ℕ) (new : Ahead) (e : old ≡ choice kind new.goals c new.waits ∷ new.opens) where
-    pub parts : AllWithin (length text) (choice kind new.goals c new.waits ∷ new.opens)
+  module _ (trial : Trial) (c : ℕ) (new : Ahead) (e : old ≡ choice trial new.goals c new.waits ∷ new.opens) where
+    pub parts : AllWithin (length text) (choice trial new.goals c new.waits ∷ new.opens)
     parts = subst (AllWithin (length text)) e within
 
-    pub backed_to : {turn : Turn} {newest : Ahead} {m : ℕ} → Led text new.opens (second text (choice kind new.goals c new.waits) n) n turn newest m
+    pub backed_to : {turn : Turn} {newest : Ahead} {m : ℕ} → Led text new.opens (second text (choice trial new.goals c new.waits) n) n turn newest m
         → Led text old (ends Failure n) n turn newest m
     backed_to k = record { comes = ap (λ zs. resume text zs (ends Failure n)) e ∙ k.comes; fewer = k.fewer; all = k.all; here = k.here }
 
@@ -135,21 +195,21 @@ module _ (text : List ℕ) (r : List Goal) (c : ℕ) (w : List Waiting) (old : L
   unfolding row
   bal cs e b = same_as text old _ n (ap (λ es. at_each (outcome text) r es (waiting_of text w) n) e) b
 
-  -- it goes on, and where that fails as other goals
-  turns_back : (t : Trying) (gs : List Goal) → c ≤ length text
-      → t ≡ on_failure (outcome text r c (waiting_of text w) n) (λ n'. outcome text gs c (waiting_of text w) n')
-      → Led text old t n (Go c) (ahead r w (choice Second gs c w ∷ old)) n
-  turns_back t gs h e = leaves text old t n r c w (choice Second gs c w) n e (omega arith) all h h
+  -- it goes on, and where that fails with a pattern before other goals
+  turns_back : (t : Trying) (a : Pattern) (gs : List Goal) → c ≤ length text
+      → t ≡ on_failure (outcome text r c (waiting_of text w) n) (λ n'. outcome text (Meet a ∷ gs) c (waiting_of text w) n')
+      → Led text old t n (Go c) (ahead r w (choice (Second a) gs c w ∷ old)) n
+  turns_back t a gs h e = leaves text old t n r c w (choice (Second a) gs c w) n e (omega arith) all h h
 
   pub arbno : (a : Pattern) → c ≤ length text → Led text old (row text (outcome text) (Meet (pattern.Arbno a)) r c (waiting_of text w) n) n (Go c)
-      (ahead r w (choice Second (Meet a ∷ More a c ∷ r) c w ∷ old)) n
+      (ahead r w (choice (Second a) (More a c ∷ r) c w ∷ old)) n
   unfolding row
-  arbno a h = turns_back (row text (outcome text) (Meet (pattern.Arbno a)) r c (waiting_of text w) n) (Meet a ∷ More a c ∷ r) h refl
+  arbno a h = turns_back (row text (outcome text) (Meet (pattern.Arbno a)) r c (waiting_of text w) n) a (More a c ∷ r) h refl
 
   pub succeed : c ≤ length text → Led text old (row text (outcome text) (Meet pattern.Succeed) r c (waiting_of text w) n) n (Go c)
-      (ahead r w (choice Second (Meet pattern.Succeed ∷ r) c w ∷ old)) n
+      (ahead r w (choice (Second pattern.Succeed) r c w ∷ old)) n
   unfolding row
-  succeed h = turns_back (row text (outcome text) (Meet pattern.Succeed) r c (waiting_of text w) n) (Meet pattern.Succeed ∷ r) h refl
+  succeed h = turns_back (row text (outcome text) (Meet pattern.Succeed) r c (waiting_of text w) n) pattern.Succeed r h refl
 
   pub fence : c ≤ length text → Led text old (row text (outcome text) (Meet pattern.Fence) r c (waiting_of text w) n) n (Go c)
       (ahead r w (choice Whole r c w ∷ old)) n
@@ -218,3 +278,18 @@ module _ {S : Type 0} (tells : S → Look → Told → S → Type 0) (broken : S
     -- or broke off
     pub asked_broken : (u : S) → broken s q u → Cut tells Fits broken (resume text old t) s u
     asked_broken u h = subst (λ (z : Trying). Cut tells Fits broken z s u) (sym first) (inr (inl h))
+
+  -- what stands for it goes on as the host told
+  pub moved_as : (t' : Trying) (old' : List Choice) (k : ℕ) {u : S} {turn : Turn} {new : Ahead} {m : ℕ} → resume text old t ≡ resume text old' t' → k ≤ n
+      → Moved tells broken text s old' t' k u turn new m → Moved tells broken text s old t n u turn new m
+  moved_as t' old' k e l d = record {
+    held = λ b v h. subst (λ (z : Trying). Held tells Fits z s b v) (sym e) (d.held b v h);
+    cut = λ v h. subst (λ (z : Trying). Cut tells Fits broken z s v) (sym e) (d.cut v h);
+    fewer = (let f = d.fewer in omega arith);
+    all = d.all;
+    here = d.here;
+  }
+
+  pub cut_as : (t' : Trying) (old' : List Choice) (v : S) → resume text old t ≡ resume text old' t' → Cut tells Fits broken (resume text old' t') s v
+      → Cut tells Fits broken (resume text old t) s v
+  cut_as t' old' v e h = subst (λ (z : Trying). Cut tells Fits broken z s v) (sym e) h

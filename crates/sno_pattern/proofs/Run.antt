@@ -1,5 +1,5 @@
 -- A run on the stack, step by step, and a match, start by start.
-use Rattle.std.proofs.Common.{◌≡◌, ◌≢◌, ℕ, suc, ◌+◌, ◌-◌, ◌≤◌, List, [], ◌∷◌, length, refl, sym, ap, ◌∙◌, subst, arith}
+use Rattle.std.proofs.Common.{◌≡◌, ℕ, suc, ◌+◌, ◌-◌, List, [], ◌∷◌, length, refl, sym, ap, ◌∙◌, subst, arith}
 use Rattle.std.specs.Prelude.{Result, Ok, Err, OnErr, Bool, if◌then◌else◌}
 use Rattle.sno_talk.specs.Talks.{Talk, Ends, ◌>>=◌}
 use Rattle.sno_talk.specs.Holding.{Held, Cut}
@@ -10,12 +10,13 @@ use Rattle.sno_pattern.specs.declared.ending.Pending.{Pending}
 use Rattle.sno_pattern.specs.declared.ending.MatchEnd.{MatchEnd}
 use Rattle.sno_pattern.specs.declared.ending.MatchEnd.TheVariants as end
 use Rattle.sno_pattern.specs.Looks.{Look, Told, Fits}
-use Rattle.sno_pattern.specs.Steps.{Goal, Meet, End, Success, Failure, OutOfSteps, Outcome, Trying, row, outcome, Finish, settle, from_starts, match_of}
+use Rattle.sno_pattern.specs.Steps.{Meet, End, Success, Failure, Outcome, Trying, outcome, Finish, settle, from_starts, match_of}
+use Rattle.sno_pattern.specs.declared.choices.Turn.{Turn}
 use Rattle.sno_pattern.specs.declared.choices.Turn.TheVariants.{Go, Stay}
 use Rattle.sno_pattern.specs.declared.choices.Ended.{Ended}
 use Rattle.sno_pattern.specs.inner.Running.{finishing}
-use Rattle.sno_pattern.specs.inner.Stack.{Choice, Ahead, waiting_of, end_of, resume, AllWithin, Moved}
-use Rattle.sno_pattern.proofs.Table.{takes_off, none_left, no_step_left}
+use Rattle.sno_pattern.specs.inner.Stack.{Ahead, waiting_of, end_of, resume, turned, Moved}
+use Rattle.sno_pattern.proofs.Table.{none_left}
 use Rattle.sno_pattern.proofs.Pushing.{resume_last}
 
 -- what holds in any case holds on an error
@@ -23,58 +24,40 @@ pub err_holds : {T E P : Type 0} (r : Result T E) → P → OnErr r P
 err_holds (Ok x) p = tt
 err_holds (Err e) p = p
 
--- so far: whatever the goals that are there now come out as, with the choices that are open, the whole comes out as
-pub record On {S : Type 0} (tells : S → Look → Told → S → Type 0) (broken : S → Look → S → Type 0) (text : List ℕ) (s : S) (whole : Trying) (t : S)
-    (gs : List Goal) (c : ℕ) (p : List Pending) (choices : List Choice) (n : ℕ) : Type 0 where
-  pub held : (b : Outcome) (v : S) → Held tells Fits (resume text choices (outcome text gs c p n)) t b v → Held tells Fits whole s b v
-  pub cut : (v : S) → Cut tells Fits broken (resume text choices (outcome text gs c p n)) t v → Cut tells Fits broken whole s v
-  pub all : AllWithin (length text) choices
-  pub here : c ≤ length text
+-- so far: whatever the turn comes out as, with the choices that are open, the whole comes out as
+module _ {S : Type 0} (tells : S → Look → Told → S → Type 0) (broken : S → Look → S → Type 0) (text : List ℕ) (s : S) (whole : Trying) (limit : ℕ) where
+  abbrev pub On : S → Turn → Ahead → ℕ → Type 0
+  On t turn now n = Moved tells broken text s [] whole limit t turn now n
 
-module _ {S : Type 0} (tells : S → Look → Told → S → Type 0) (broken : S → Look → S → Type 0) (text : List ℕ) (s : S) (whole : Trying) where
-  pub on_cut : (t : S) {gs : List Goal} {c n : ℕ} {p : List Pending} {choices : List Choice} → On tells broken text s whole t gs c p choices n
-      → Cut tells Fits broken whole s t
-  on_cut t {gs} {c} {n} {p} {choices} k = k.cut t (cut_here tells Fits broken (resume text choices (outcome text gs c p n)) t)
-
-  module _ (t : S) (c : ℕ) (p : List Pending) (choices : List Choice) (n : ℕ) where
-    off : (g : Goal) (r : List Goal) → n ≢ 0 → resume text choices (outcome text (g ∷ r) c p n) ≡ resume text choices (row text (outcome text) g r c p (n - 1))
-    off g r h = let one : n ≡ suc (n - 1) = omega arith in ap (resume text choices) (ap (outcome text (g ∷ r) c p) one ∙ takes_off text g r c p (n - 1))
-
-    pub on_step : (g : Goal) (r : List Goal) {u : S} {c' : ℕ} {new : Ahead} {m : ℕ} → n ≢ 0 → On tells broken text s whole t (g ∷ r) c p choices n
-        → Moved tells broken text t choices (row text (outcome text) g r c p (n - 1)) (n - 1) u (Go c') new m
-        → On tells broken text s whole u new.goals c' (waiting_of text new.waits) new.opens m
-    on_step g r {u} {c'} {new} {m} h k d = record {
-      held = λ b v x. k.held b v (subst (λ (z : Trying). Held tells Fits z t b v) (sym (off g r h)) (d.held b v x));
-      cut = λ v x. k.cut v (subst (λ (z : Trying). Cut tells Fits broken z t v) (sym (off g r h)) (d.cut v x));
+  module _ (t : S) (turn : Turn) (now : Ahead) (n : ℕ) (k : On t turn now n) where
+    pub on_turn : (u : S) (next : Turn) (new : Ahead) (m : ℕ) → Moved tells broken text t now.opens (turned text now turn n) n u next new m → On u next new m
+    on_turn u next new m d = record {
+      held = λ b v x. k.held b v (d.held b v x);
+      cut = λ v x. k.cut v (d.cut v x);
+      fewer = (let f = d.fewer in let g = k.fewer in omega arith);
       all = d.all;
       here = d.here;
     }
 
-    pub on_stays : (g : Goal) (r : List Goal) {u : S} {e : Ended} {new : Ahead} {m : ℕ} → n ≢ 0
-        → On tells broken text s whole t (g ∷ r) c p choices n
-        → Moved tells broken text t choices (row text (outcome text) g r c p (n - 1)) (n - 1) u (Stay e) new m
-        → Held tells Fits whole s (record { end = end_of e; left = m }) u
-    on_stays g r {u} {e} {new} {m} h k d =
-        let o : Outcome = record { end = end_of e; left = m } in
-        k.held o u (subst (λ (z : Trying). Held tells Fits z t o u) (sym (off g r h))
-        (d.held o u (subst (λ (z : Trying). Held tells Fits z u o u) (sym (d.here m)) (refl, refl))))
+    pub on_breaks : (u : S) → Cut tells Fits broken (resume text now.opens (turned text now turn n)) t u → Cut tells Fits broken whole s u
+    on_breaks u d = k.cut u d
 
-    pub on_breaks : (g : Goal) (r : List Goal) (u : S) → n ≢ 0 → On tells broken text s whole t (g ∷ r) c p choices n
-        → Cut tells Fits broken (resume text choices (row text (outcome text) g r c p (n - 1))) t u → Cut tells Fits broken whole s u
-    on_breaks g r u h k d = k.cut u (subst (λ (z : Trying). Cut tells Fits broken z t u) (sym (off g r h)) d)
+    pub on_cut : Cut tells Fits broken whole s t
+    on_cut = k.cut t (cut_here tells Fits broken (resume text now.opens (turned text now turn n)) t)
 
-    pub on_success : On tells broken text s whole t [] c p choices n → Held tells Fits whole s (record { end = Success c p; left = n }) t
-    on_success k =
-        let o : Outcome = record { end = Success c p; left = n } in
-        k.held o t (subst (λ (z : Trying). Held tells Fits z t o t)
-        (sym (ap (resume text choices) (none_left text c p n) ∙ resume_last text choices (Success c p) n tt)) (refl, refl))
+  pub on_stays : (t : S) (e : Ended) (now : Ahead) (n : ℕ) → On t (Stay e) now n → Held tells Fits whole s (record { end = end_of e; left = n }) t
+  on_stays t e now n k =
+      let o : Outcome = record { end = end_of e; left = n } in
+      k.held o t (subst (λ (z : Trying). Held tells Fits z t o t) (sym (k.here n)) (refl, refl))
 
-  pub on_out : (t : S) (c : ℕ) (p : List Pending) (choices : List Choice) (g : Goal) (r : List Goal)
-      → On tells broken text s whole t (g ∷ r) c p choices 0 → Held tells Fits whole s (record { end = OutOfSteps; left = 0 }) t
-  on_out t c p choices g r k =
-      let o : Outcome = record { end = OutOfSteps; left = 0 } in
+  pub on_success : (t : S) (c : ℕ) (now : Ahead) (n : ℕ) → now.goals ≡ [] → On t (Go c) now n
+      → Held tells Fits whole s (record { end = Success c (waiting_of text now.waits); left = n }) t
+  on_success t c now n e k =
+      let p = waiting_of text now.waits in
+      let o : Outcome = record { end = Success c p; left = n } in
       k.held o t (subst (λ (z : Trying). Held tells Fits z t o t)
-      (sym (ap (resume text choices) (no_step_left text g r c p) ∙ resume_last text choices OutOfSteps 0 tt)) (refl, refl))
+      (sym (ap (λ gs. resume text now.opens (outcome text gs c p n)) e
+      ∙ ap (resume text now.opens) (none_left text c p n) ∙ resume_last text now.opens (Success c p) n tt)) (refl, refl))
 
 -- so far: whatever the starts that are left come to, the match comes to
 pub record Came {S : Type 0} (tells : S → Look → Told → S → Type 0) (broken : S → Look → S → Type 0) (text : List ℕ) (a : Pattern) (s : S)

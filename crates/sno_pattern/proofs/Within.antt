@@ -12,7 +12,8 @@ use Rattle.sno_nodes.specs.Patterns as pattern
 use Rattle.sno_pattern.specs.declared.ending.Pending.{Pending}
 use Rattle.sno_pattern.specs.Looks.{Look, Told, Found, Given, Refused, Faulty}
 use Rattle.sno_nodes.specs.Sets.{is_one_of}
-use Rattle.sno_pattern.specs.Steps.{Goal, Meet, More, EndConditional, EndImmediate, End, Success, Failure, WholeFails, OutOfSteps, Fault, Outcome, Trying, Way, ends, after_end, on_failure, at_each, part, balanced_ends, pattern_found, with_found, if_given, row, attempt, outcome, Finish, settle, from_starts}
+use Rattle.sno_nodes.specs.Balance.{part, balanced_ends}
+use Rattle.sno_pattern.specs.Steps.{Goal, Meet, More, EndConditional, EndImmediate, End, Success, Failure, WholeFails, OutOfSteps, Fault, Outcome, Trying, Way, ends, after_end, on_failure, at_each, pattern_found, with_found, if_given, row, attempt, outcome, Finish, settle, from_starts}
 use Rattle.sno_pattern.specs.Places.{one_end, MatchesWithin}
 use Rattle.sno_pattern.specs.Laws.{MatchIsWithin}
 use Rattle.sno_pattern.proofs.Finding.{Between, ends_between}

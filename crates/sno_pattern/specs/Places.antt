@@ -8,7 +8,8 @@ use Rattle.sno_nodes.specs.Patterns as pattern
 use Rattle.sno_pattern.specs.declared.ending.MatchEnd.{MatchEnd}
 use Rattle.sno_pattern.specs.declared.ending.MatchEnd.TheVariants as end
 use Rattle.sno_nodes.specs.Sets.{is_one_of}
-use Rattle.sno_pattern.specs.Steps.{End, Success, Failure, WholeFails, OutOfSteps, Fault, Trying, balanced_ends}
+use Rattle.sno_nodes.specs.Balance.{balanced_ends}
+use Rattle.sno_pattern.specs.Steps.{End, Success, Failure, WholeFails, OutOfSteps, Fault, Trying}
 use Rattle.mon_text.specs.Beginnings.{first_passes}
 
 -- no host is asked, and nothing cuts off what is still to be tried

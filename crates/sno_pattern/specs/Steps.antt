@@ -1,10 +1,11 @@
 -- The step table: what a match does goal by goal, and what it asks of its host (SNOBOL4 book, chapter 2 and chapter 8; the
--- number of steps, BAL and ARBNO are own).
-use Rattle.std.specs.Prelude.{ℕ, zero, suc, ◌+◌, ◌-◌, List, [], ◌∷◌, ◌++◌, length, take, drop, Bool, false, not, ◌&&◌, if◌then◌else◌, nat_eq, nat_le, nat_lt}
-use Rattle.std.specs.List.{range_with_len, starts_with, filter, list_all, prefix_len, position_or_len}
+-- number of steps and ARBNO are own).
+use Rattle.std.specs.Prelude.{ℕ, zero, suc, ◌+◌, ◌-◌, List, [], ◌∷◌, ◌++◌, length, drop, Bool, not, ◌&&◌, if◌then◌else◌, nat_eq, nat_le, nat_lt}
+use Rattle.std.specs.List.{range_with_len, starts_with, prefix_len, position_or_len}
 use Rattle.sno_talk.specs.Talks.{Talk, Ends, ask, ◌>>=◌}
 use Rattle.sno_text.specs.declared.fault.Fault.{Fault as AFault}
 use Rattle.sno_nodes.specs.Patterns.{Pattern}
+use Rattle.sno_nodes.specs.Balance.{part, balanced_ends}
 use Rattle.sno_nodes.specs.Sets.{is_one_of}
 use Rattle.sno_nodes.specs.Patterns as pattern
 use Rattle.sno_pattern.specs.declared.host.Looked.{Looked}
@@ -13,7 +14,7 @@ use Rattle.sno_pattern.specs.declared.host.Taken.TheVariants.{Part, Cursor}
 use Rattle.sno_pattern.specs.declared.ending.Pending.{Pending}
 use Rattle.sno_pattern.specs.declared.ending.MatchEnd.{MatchEnd}
 use Rattle.sno_pattern.specs.declared.ending.MatchEnd.TheVariants as end
-use Rattle.sno_pattern.specs.Looks.{Look, LookUp, Assign, Told, Found, Given, Refused, Faulty}
+use Rattle.sno_pattern.specs.Looks.{Look, LookUp, Assign, Told, Found, Given, Faulty}
 use Rattle.mon_text.specs.Beginnings.{first_passes}
 
 -- what is still to be met, each from the cursor where the one before it ends
@@ -62,23 +63,6 @@ on_failure first second = first >>= (λ o. after_end o.end o.left second)
 abbrev pub at_each : Way → List Goal → List ℕ → List Pending → ℕ → Trying
 at_each go rest [] pending n = ends Failure n
 at_each go rest (c ∷ cs) pending n = on_failure (go rest c pending n) (λ n'. at_each go rest cs pending n')
-
--- the text between two cursors
-abbrev pub part : List ℕ → ℕ → ℕ → List ℕ
-part text from to = take (to - from) (drop from text)
-
--- how often a character stands in a text
-abbrev pub times : ℕ → List ℕ → ℕ
-times c text = length (filter (λ x. nat_eq x c) text)
-
--- parentheses are in pairs where there are as many `)` as `(`, and no beginning of the text has more `)` than `(`
-abbrev pub in_pairs : List ℕ → Bool
-in_pairs text = nat_eq (times 41 text) (times 40 text) && list_all (λ n. nat_le (times 41 (take n text)) (times 40 (take n text)))
-    (range_with_len 0 (length text))
-
--- where a part that begins here, is not null and has its parentheses in pairs can end
-abbrev pub balanced_ends : List ℕ → ℕ → List ℕ
-balanced_ends text c = filter (λ e. in_pairs (part text c e)) (range_with_len (c + 1) (length text - c))
 
 -- the pattern that a variable stands for
 abbrev pub pattern_found : Looked → Pattern

@@ -1,4 +1,4 @@
-pub mod Reaching
+pub mod Meeting
 pub mod Stack
 pub mod Cells
 pub mod Running

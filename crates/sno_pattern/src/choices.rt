@@ -2,15 +2,17 @@
 ghost use Rattle.std.specs.Prelude.{◌≡◌, ◌≤◌, ◌+◌, ◌-◌, ◌∷◌, List, length, IfOk};
 ghost use Rattle.std.specs.List.{range_with_len};
 ghost use Rattle.sno_nodes.specs.Nodes.{pattern_of};
+ghost use Rattle.sno_nodes.specs.Balance.{balanced_ends};
 ghost use Rattle.sno_pattern.specs.declared.ending.Pending.{Pending as Waits};
-ghost use Rattle.sno_pattern.specs.Steps.{Goal as Aim, Meet, Failure, ends, at_each, balanced_ends, outcome};
+ghost use Rattle.sno_pattern.specs.Steps.{Goal as Aim, Meet, Failure, ends, at_each, outcome};
 ghost use Rattle.sno_pattern.specs.inner.Stack.{waiting_of, AllWithin, Led};
 
-use crate::reach::{misses, next_balanced};
-use crate::trail::{Goal, Kind, Trail};
+use crate::trail::{Kind, Role, Trail};
 use sno_nodes::Node;
+use sno_nodes::reach::{misses, next_balanced};
 use sno_text::Fault;
 use std::alloc::AllocError;
+use std::rc::Rc;
 
 /// How goals end where they don't come out.
 #[derive(Drop)]
@@ -21,10 +23,11 @@ pub(crate) enum Ended {
     Fault(Fault),
 }
 
-/// What comes after a goal was taken: the goals ahead from a cursor, or an end.
+/// What comes after a goal was taken: the goals ahead from a cursor, a pattern before them, or an end.
 #[derive(Drop)]
 pub(crate) enum Turn {
     Go(usize),
+    Meet(Rc<Node>, usize),
     Stay(Ended),
 }
 
@@ -53,12 +56,16 @@ fn skip(text: &[u8], trail: &Trail, from: usize, left: &mut u64) -> usize
     ensures same { (p : List Waits) → at_each (outcome text.now) trail.now.goals (range_with_len from (length text.now + 1 - from)) p left.old ≡ at_each (outcome text.now) trail.now.goals (range_with_len result (length text.now + 1 - result)) p left.new }
 {
     match trail.first() {
-        Some(Goal::Meet(node)) => skip_node(text, node, from, left),
-        _ => from,
+        Some(goal) => match goal.role {
+            Role::Meet => skip_node(text, &goal.node, from, left),
+            Role::More | Role::EndConditional | Role::EndImmediate => from,
+        },
+        None => from,
     }
 }
 
 /// The goals ahead from a cursor, and where they fail from each later one.
+#[inline(never)]
 pub(crate) fn each(
     text: &[u8],
     from: usize,
@@ -78,6 +85,7 @@ pub(crate) fn each(
 }
 
 /// The goals ahead from a cursor, and where they fail from each later one before which parentheses are in pairs.
+#[inline(never)]
 pub(crate) fn balanced(
     text: &[u8],
     at: usize,
@@ -98,15 +106,18 @@ pub(crate) fn balanced(
 }
 
 /// Goes on with the last choice.
+#[inline(always)]
 pub(crate) fn back(text: &[u8], trail: &mut Trail, left: &mut u64) -> Result<Turn, AllocError>
     requires { AllWithin (length text.now) trail.old.opens }
     ensures { IfOk result (λ turn. Led text.now trail.old.opens (ends Failure left.old) left.old turn trail.new left.new) }
 {
     match trail.back() {
         None => Ok(Turn::Stay(Ended::Failure)),
-        Some((Kind::Second, at)) => Ok(Turn::Go(at)),
-        Some((Kind::Each, at)) => each(text, at, trail, left),
-        Some((Kind::Balanced, at)) => balanced(text, at, trail, *left),
-        Some((Kind::Whole, _)) => Ok(Turn::Stay(Ended::WholeFails)),
+        Some((kind, at)) => match kind {
+            Kind::Second(node) => Ok(Turn::Meet(node, at)),
+            Kind::Each => each(text, at, trail, left),
+            Kind::Balanced => balanced(text, at, trail, *left),
+            Kind::Whole => Ok(Turn::Stay(Ended::WholeFails)),
+        },
     }
 }

@@ -7,7 +7,6 @@ pub mod host;
 pub mod laws;
 mod matching;
 mod meeting;
-mod reach;
 mod rows;
 mod running;
 mod starting;

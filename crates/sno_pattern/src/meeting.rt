@@ -1,45 +1,57 @@
 //! Patterns met: what a pattern is made of is met at once, without a goal of its own in memory, as far as that can be.
-ghost use Rattle.std.specs.Prelude.{◌≡◌, ◌≤◌, ◌∷◌, length, IfOk};
+ghost use Rattle.std.specs.Prelude.{◌≡◌, ◌<◌, ◌≤◌, ◌+◌, ◌*◌, ◌∷◌, length, IfOk, OnErr};
+ghost use Rattle.std.specs.Option.{MatchOption};
+ghost use Rattle.sno_talk.specs.Holding.{Cut};
 ghost use Rattle.sno_nodes.specs.Nodes.{pattern_of};
-ghost use Rattle.sno_pattern.specs.Steps.{Meet, row, outcome};
-ghost use Rattle.sno_pattern.specs.inner.Reaching.{IsQuiet};
-ghost use Rattle.sno_pattern.specs.declared.trail.Kind.TheVariants as kind;
-ghost use Rattle.sno_pattern.specs.inner.Stack.{waiting_of, AllWithin, Led};
+ghost use Rattle.sno_pattern.specs.declared.choices.Ended.TheVariants.{OutOfSteps};
+ghost use Rattle.sno_pattern.specs.declared.choices.Turn.TheVariants.{Stay};
+ghost use Rattle.sno_pattern.specs.Looks.{Fits};
+ghost use Rattle.sno_pattern.specs.Steps.{Meet, outcome};
+ghost use Rattle.sno_pattern.specs.inner.Meeting.{IsEntered};
+ghost use Rattle.sno_pattern.specs.inner.Stack.{Second, goal_as, waiting_of, AllWithin, Entering, Led, Moved, resume, rank};
 
-use crate::choices::Turn;
-use crate::reach::{Reach, is_quiet, misses, reached};
+use crate::choices::{Ended, Turn};
+use crate::host::{MatchHost, Taken};
 use crate::rows::plain;
-use crate::trail::{Goal, Kind, Trail};
+use crate::taking::{assigned, looked};
+use crate::trail::{Goal, Kind, Role, Trail};
 use sno_nodes::Node;
-use std::alloc::AllocError;
+use sno_nodes::reach::{Reach, misses, reached};
+use std::alloc::{AllocError, Global};
 use std::rc::Rc;
+
+/// Puts a goal before the others.
+fn put(role: Role, pattern: &Rc<Node>, from: usize, trail: &mut Trail) -> Result<(), AllocError>
+    ensures { IfOk result (λ u. trail.new ≡ record { goals = goal_as role (pattern_of pattern.now.value) from ∷ trail.old.goals; waits = trail.old.waits; opens = trail.old.opens }) }
+{
+    let node = pattern.clone()?;
+    Ok(trail.push(Goal { role, node, from })?)
+}
 
 /// Leaves a pattern to be tried where the one before it fails.
 fn leave(other: &Rc<Node>, at: usize, trail: &mut Trail) -> Result<(), AllocError>
-    ensures { IfOk result (λ u. trail.new ≡ record { goals = trail.old.goals; waits = trail.old.waits; opens = record { kind = kind.Second; goals = Meet (pattern_of other.now.value) ∷ trail.old.goals; at = at; waits = trail.old.waits } ∷ trail.old.opens }) }
+    ensures { IfOk result (λ u. trail.new ≡ record { goals = trail.old.goals; waits = trail.old.waits; opens = record { trial = Second (pattern_of other.now.value); goals = trail.old.goals; at = at; waits = trail.old.waits } ∷ trail.old.opens }) }
 {
-    trail.push(Goal::Meet(other.clone()?))?;
-    trail.leave(Kind::Second, at)?;
-    trail.pass();
-    Ok(())
+    let node = other.clone()?;
+    Ok(trail.leave(Kind::Second(node), at)?)
 }
 
-/// Meets a pattern that asks the host nothing when it is taken.
-pub(crate) fn meet(
+/// Goes down to the part of a pattern that is met first and has no parts, and takes the steps on the way; not where they end.
+fn descend<'a>(
     text: &[u8],
-    pattern: &Rc<Node>,
+    pattern: &'a Rc<Node>,
     from: usize,
     trail: &mut Trail,
     left: &mut u64,
-) -> Result<Turn, AllocError>
+) -> Result<Option<(&'a Rc<Node>, usize)>, AllocError>
     requires cursor { from ≤ length text.now }
     requires all { AllWithin (length text.now) trail.old.opens }
-    requires quiet { IsQuiet (pattern_of pattern.now.value) }
-    ensures { IfOk result (λ turn. Led text.now trail.old.opens (row text.now (outcome text.now) (Meet (pattern_of pattern.now.value)) trail.old.goals from (waiting_of text.now trail.old.waits) left.old) left.old turn trail.new left.new) }
+    ensures { IfOk result (λ found. MatchOption found (Led text.now trail.old.opens (outcome text.now (Meet (pattern_of pattern.now.value) ∷ trail.old.goals) from (waiting_of text.now trail.old.waits) left.old) left.old (Stay OutOfSteps) trail.new left.new) (λ part. Entering text.now trail.old.opens (outcome text.now (Meet (pattern_of pattern.now.value) ∷ trail.old.goals) from (waiting_of text.now trail.old.waits) left.old) left.old (pattern_of part.0.now.value) trail.new.goals part.1 (waiting_of text.now trail.new.waits) trail.new.opens left.new × (IsEntered (pattern_of part.0.now.value) → ⊥))) }
 {
     let mut node = pattern;
     let mut at = from;
-    loop {
+    while *left > 0 {
+        *left -= 1;
         let top: &Node = node;
         match top {
             // A first part that ends in one place is passed at once, and what is behind one that fails is not kept.
@@ -51,7 +63,7 @@ pub(crate) fn meet(
                 }
                 Reach::Nowhere => node = a,
                 _ => {
-                    trail.push(Goal::Meet(b.clone()?))?;
+                    put(Role::Meet, b, at, trail)?;
                     node = a;
                 }
             },
@@ -65,21 +77,57 @@ pub(crate) fn meet(
                     node = a;
                 }
             }
-            Node::Conditional(_, p, variable) => {
-                trail.push(Goal::EndConditional(variable.copy()?, at))?;
+            Node::Conditional(_, p, _) => {
+                put(Role::EndConditional, node, at, trail)?;
                 node = p;
             }
-            Node::Immediate(_, p, variable) => {
-                trail.push(Goal::EndImmediate(variable.copy()?, at))?;
+            Node::Immediate(_, p, _) => {
+                put(Role::EndImmediate, node, at, trail)?;
                 node = p;
             }
-            _ => return plain(text, node, at, trail, left),
+            _ => return Ok(Some((node, at))),
         }
-        // Its step can't be taken here: it waits as a goal.
-        if *left == 0 || !is_quiet(node) {
-            trail.push(Goal::Meet(node.clone()?))?;
-            return Ok(Turn::Go(at));
+    }
+    Ok(None)
+}
+
+/// Meets a pattern, with the goals ahead behind it.
+pub(crate) fn meet<H: MatchHost>(
+    alloc: Global,
+    text: &[u8],
+    pattern: &Rc<Node>,
+    from: usize,
+    trail: &mut Trail,
+    left: &mut u64,
+    host: &mut H,
+) -> Result<Turn, AllocError>
+    requires ready { H.ready host.old }
+    requires cursor { from ≤ length text.now }
+    requires all { AllWithin (length text.now) trail.old.opens }
+    ensures moved { IfOk result (λ turn. Moved H.tells H.broken text.now host.old trail.old.opens (outcome text.now (Meet (pattern_of pattern.now.value) ∷ trail.old.goals) from (waiting_of text.now trail.old.waits) left.old) left.old host.new turn trail.new left.new) }
+    ensures falls { IfOk result (λ turn. rank turn left.new < 3 * left.old + 1) }
+    ensures cut { OnErr result (Cut H.tells Fits H.broken (resume text.now trail.old.opens (outcome text.now (Meet (pattern_of pattern.now.value) ∷ trail.old.goals) from (waiting_of text.now trail.old.waits) left.old)) host.old host.new) }
+    ensures ready { H.ready host.new }
+{
+    let Some((node, at)) = descend(text, pattern, from, trail, left)? else {
+        return Ok(Turn::Stay(Ended::OutOfSteps));
+    };
+    let top: &Node = node;
+    match top {
+        Node::Defer(variable) => match looked(alloc, text, variable, at, trail, left, host) {
+            Ok(turn) => Ok(turn),
+            Err(e) => Err(e),
+        },
+        Node::Cursor(variable) => {
+            let taken = Taken::Cursor(at as u64);
+            match assigned(text, variable, taken, at, trail, left, host) {
+                Ok(turn) => Ok(turn),
+                Err(e) => Err(e),
+            }
         }
-        *left -= 1;
+        _ => match plain(text, node, at, trail, left) {
+            Ok(turn) => Ok(turn),
+            Err(e) => Err(e),
+        },
     }
 }

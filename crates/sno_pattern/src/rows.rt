@@ -3,13 +3,13 @@ ghost use Rattle.std.specs.Prelude.{◌≡◌, ◌≤◌, length, IfOk};
 ghost use Rattle.sno_nodes.specs.Nodes.{pattern_of};
 ghost use Rattle.sno_nodes.specs.Patterns as rows;
 ghost use Rattle.sno_pattern.specs.Steps.{Meet, row, outcome};
-ghost use Rattle.sno_pattern.specs.inner.Reaching.{IsQuiet, IsEntered, IsParted};
+ghost use Rattle.sno_pattern.specs.inner.Meeting.{IsQuiet, IsEntered, IsParted};
 ghost use Rattle.sno_pattern.specs.inner.Stack.{waiting_of, AllWithin, Led};
 
 use crate::choices::{Ended, Turn, back, balanced, each};
-use crate::reach::{Reach, next_balanced, reached};
-use crate::trail::{Goal, Kind, Trail};
+use crate::trail::{Goal, Kind, Role, Trail};
 use sno_nodes::Node;
+use sno_nodes::reach::{Reach, next_balanced, reached};
 use std::alloc::AllocError;
 use std::rc::Rc;
 
@@ -25,10 +25,12 @@ pub(crate) fn one_more(
     requires all { AllWithin (length text.now) trail.old.opens }
     ensures { IfOk result (λ turn. Led text.now trail.old.opens (row text.now (outcome text.now) (Meet (rows.Arbno (pattern_of pattern.now.value))) trail.old.goals at (waiting_of text.now trail.old.waits) left) left turn trail.new left) }
 {
-    trail.push(Goal::More(pattern.clone()?, at))?;
-    trail.push(Goal::Meet(pattern.clone()?))?;
-    trail.leave(Kind::Second, at)?;
-    trail.pass();
+    trail.push(Goal {
+        role: Role::More,
+        node: pattern.clone()?,
+        from: at,
+    })?;
+    trail.leave(Kind::Second(pattern.clone()?), at)?;
     trail.pass();
     Ok(Turn::Go(at))
 }
@@ -46,13 +48,12 @@ fn succeed(
     requires succeeds { pattern_of node.now.value ≡ rows.Succeed }
     ensures { IfOk result (λ turn. Led text.now trail.old.opens (row text.now (outcome text.now) (Meet rows.Succeed) trail.old.goals at (waiting_of text.now trail.old.waits) left) left turn trail.new left) }
 {
-    trail.push(Goal::Meet(node.clone()?))?;
-    trail.leave(Kind::Second, at)?;
-    trail.pass();
+    trail.leave(Kind::Second(node.clone()?), at)?;
     Ok(Turn::Go(at))
 }
 
 /// Takes a pattern that has several ends.
+#[inline(never)]
 fn parted(
     text: &[u8],
     node: &Rc<Node>,

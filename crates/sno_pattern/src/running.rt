@@ -9,8 +9,9 @@ ghost use Rattle.sno_pattern.specs.inner.Running.{outcome_of};
 
 use crate::choices::{Ended, Turn};
 use crate::host::MatchHost;
+use crate::meeting::meet;
 use crate::taking::take;
-use crate::trail::{Goal, Trail};
+use crate::trail::Trail;
 use sno_nodes::Node;
 use std::alloc::{AllocError, Global};
 use std::rc::Rc;
@@ -40,31 +41,20 @@ pub(crate) fn run<H: MatchHost>(
     ensures ready { H.ready host.new }
 {
     trail.clear();
-    trail.push(Goal::Meet(pattern.clone()?))?;
-    let mut at = start;
+    let mut turn = Turn::Meet(pattern.clone()?, start);
     let mut left = limit;
     loop {
-        match trail.next()? {
-            None => {
-                return Ok(Attempt { out: Ok(at), left });
+        match turn {
+            Turn::Meet(node, at) => {
+                turn = meet(alloc, text, &node, at, trail, &mut left, host)?;
             }
-            Some(goal) => {
-                if left == 0 {
-                    return Ok(Attempt {
-                        out: Err(Ended::OutOfSteps),
-                        left,
-                    });
-                }
-                left -= 1;
-                match take(alloc, text, goal, at, trail, &mut left, host)? {
-                    Turn::Go(then) => at = then,
-                    Turn::Stay(ended) => {
-                        return Ok(Attempt {
-                            out: Err(ended),
-                            left,
-                        });
-                    }
-                }
+            Turn::Go(at) => match trail.next()? {
+                None => return Ok(Attempt { out: Ok(at), left }),
+                Some(goal) => turn = take(alloc, text, goal, at, trail, &mut left, host)?,
+            },
+            Turn::Stay(ended) => {
+                let out = Err(ended);
+                return Ok(Attempt { out, left });
             }
         }
     }

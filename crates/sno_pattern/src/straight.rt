@@ -2,12 +2,13 @@
 ghost use Rattle.std.specs.Prelude.{◌≡◌, ◌≤◌, ◌<◌, [], ◌∷◌, ◌++◌, List, length, IfOk, IfSome};
 ghost use Rattle.mon_text.specs.Lines.{IsLine};
 ghost use Rattle.sno_nodes.specs.Nodes.{pattern_of};
-ghost use Rattle.sno_pattern.specs.Steps.{Goal as Aim, Meet, Success, ends, part, outcome};
+ghost use Rattle.sno_nodes.specs.Balance.{part};
+ghost use Rattle.sno_pattern.specs.Steps.{Goal as Aim, Meet, Success, ends, outcome};
 
 use crate::ending::Pending;
-use crate::reach::{Reach, reached};
 use crate::taking::part_of;
 use sno_nodes::Node;
+use sno_nodes::reach::{Reach, reached};
 use sno_text::Text;
 use std::alloc::{AllocError, Global};
 

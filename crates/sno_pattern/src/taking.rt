@@ -1,17 +1,17 @@
 //! Goals taken off, one a step, with what they ask of the host.
-ghost use Rattle.std.specs.Prelude.{◌≡◌, ◌≤◌, length, IfOk, OnErr};
+ghost use Rattle.std.specs.Prelude.{◌≡◌, ◌<◌, ◌≤◌, ◌+◌, ◌*◌, ◌∷◌, length, IfOk, OnErr};
 ghost use Rattle.mon_text.specs.Lines.{IsLine};
 ghost use Rattle.sno_talk.specs.Holding.{Cut};
 ghost use Rattle.sno_nodes.specs.Nodes.{pattern_of};
+ghost use Rattle.sno_nodes.specs.Balance.{part};
 ghost use Rattle.sno_pattern.specs.Looks.{Fits};
-ghost use Rattle.sno_pattern.specs.Steps.{part, pattern_found, row, outcome};
-ghost use Rattle.sno_pattern.specs.inner.Stack.{goal_of, waiting_of, AllWithin, Moved, resume, assigning, looking};
+ghost use Rattle.sno_pattern.specs.Steps.{More, EndConditional, EndImmediate, pattern_found, outcome};
+ghost use Rattle.sno_pattern.specs.inner.Stack.{goal_of, variable_in, waiting_of, AllWithin, Led, Moved, resume, rank, assigning, looking};
 
 use crate::choices::{Ended, Turn, back};
 use crate::host::{Looked, MatchHost, Stop, Taken};
-use crate::meeting::meet;
 use crate::rows::one_more;
-use crate::trail::{Goal, Trail, Waiting};
+use crate::trail::{Goal, Role, Trail, Waiting};
 use sno_nodes::Node;
 use sno_text::Text;
 use std::alloc::{AllocError, Global};
@@ -48,7 +48,8 @@ fn node_found(alloc: Global, looked: Looked) -> Result<Rc<Node>, AllocError>
 }
 
 /// Asks for an assignment, and goes on once it is made.
-fn assigned<H: MatchHost>(
+#[inline(never)]
+pub(crate) fn assigned<H: MatchHost>(
     text: &[u8],
     variable: &Text,
     taken: Taken,
@@ -73,7 +74,7 @@ fn assigned<H: MatchHost>(
 }
 
 /// Asks what a variable stands for, and goes on with that.
-fn looked<H: MatchHost>(
+pub(crate) fn looked<H: MatchHost>(
     alloc: Global,
     text: &[u8],
     variable: &Text,
@@ -92,8 +93,7 @@ fn looked<H: MatchHost>(
     match host.look_up(variable) {
         Ok(found) => {
             let node = node_found(alloc, found)?;
-            trail.push(Goal::Meet(node))?;
-            Ok(Turn::Go(at))
+            Ok(Turn::Meet(node, at))
         }
         Err(Stop::Fail) => Ok(back(text, trail, left)?),
         Err(Stop::Fault(fault)) => Ok(Turn::Stay(Ended::Fault(fault))),
@@ -101,7 +101,100 @@ fn looked<H: MatchHost>(
     }
 }
 
-/// Meets a goal that was taken off.
+/// Another turn of ARBNO, if the last one moved on.
+fn more(
+    text: &[u8],
+    pattern: &Rc<Node>,
+    from: usize,
+    at: usize,
+    trail: &mut Trail,
+    left: &mut u64,
+) -> Result<Turn, AllocError>
+    requires cursor { at ≤ length text.now }
+    requires all { AllWithin (length text.now) trail.old.opens }
+    ensures led { IfOk result (λ turn. Led text.now trail.old.opens (outcome text.now (More (pattern_of pattern.now.value) from ∷ trail.old.goals) at (waiting_of text.now trail.old.waits) left.old) left.old turn trail.new left.new) }
+    ensures falls { IfOk result (λ turn. rank turn left.new < 3 * left.old + 1) }
+{
+    if *left == 0 {
+        return Ok(Turn::Stay(Ended::OutOfSteps));
+    }
+    *left -= 1;
+    if at == from {
+        back(text, trail, left)
+    } else {
+        one_more(text, pattern, at, trail, *left)
+    }
+}
+
+/// The variable to which what a pattern matches is assigned.
+fn variable_in(node: &Node) -> Result<Text, AllocError>
+    ensures { IfOk result (λ variable. variable ≡ variable_in (pattern_of node.now)) }
+{
+    match node {
+        Node::Conditional(_, _, variable) => variable.copy(),
+        Node::Immediate(_, _, variable) => variable.copy(),
+        _ => Ok(Text::null()),
+    }
+}
+
+/// From now on what a pattern matched waits to be assigned.
+fn put_by(
+    text: &[u8],
+    node: &Node,
+    from: usize,
+    at: usize,
+    trail: &mut Trail,
+    left: &mut u64,
+) -> Result<Turn, AllocError>
+    requires cursor { at ≤ length text.now }
+    requires all { AllWithin (length text.now) trail.old.opens }
+    ensures led { IfOk result (λ turn. Led text.now trail.old.opens (outcome text.now (EndConditional (variable_in (pattern_of node.now)) from ∷ trail.old.goals) at (waiting_of text.now trail.old.waits) left.old) left.old turn trail.new left.new) }
+    ensures falls { IfOk result (λ turn. rank turn left.new < 3 * left.old + 1) }
+{
+    if *left == 0 {
+        return Ok(Turn::Stay(Ended::OutOfSteps));
+    }
+    *left -= 1;
+    let variable = variable_in(node)?;
+    let to = at;
+    trail.wait(Waiting { variable, from, to })?;
+    Ok(Turn::Go(at))
+}
+
+/// Asks for the assignment of what a pattern matched.
+#[inline(never)]
+fn assign_part<H: MatchHost>(
+    alloc: Global,
+    text: &[u8],
+    node: &Node,
+    from: usize,
+    at: usize,
+    trail: &mut Trail,
+    left: &mut u64,
+    host: &mut H,
+) -> Result<Turn, AllocError>
+    requires ready { H.ready host.old }
+    requires printable { IsLine text.now }
+    requires cursor { at ≤ length text.now }
+    requires all { AllWithin (length text.now) trail.old.opens }
+    ensures moved { IfOk result (λ turn. Moved H.tells H.broken text.now host.old trail.old.opens (outcome text.now (EndImmediate (variable_in (pattern_of node.now)) from ∷ trail.old.goals) at (waiting_of text.now trail.old.waits) left.old) left.old host.new turn trail.new left.new) }
+    ensures falls { IfOk result (λ turn. rank turn left.new < 3 * left.old + 1) }
+    ensures cut { OnErr result (Cut H.tells Fits H.broken (resume text.now trail.old.opens (outcome text.now (EndImmediate (variable_in (pattern_of node.now)) from ∷ trail.old.goals) at (waiting_of text.now trail.old.waits) left.old)) host.old host.new) }
+    ensures ready { H.ready host.new }
+{
+    if *left == 0 {
+        return Ok(Turn::Stay(Ended::OutOfSteps));
+    }
+    *left -= 1;
+    let variable = variable_in(node)?;
+    let taken = Taken::Part(part_of(alloc, text, from, at)?);
+    match assigned(text, &variable, taken, at, trail, left, host) {
+        Ok(turn) => Ok(turn),
+        Err(e) => Err(e),
+    }
+}
+
+/// Meets a goal that was taken off; a pattern is handed on.
 pub(crate) fn take<H: MatchHost>(
     alloc: Global,
     text: &[u8],
@@ -115,58 +208,26 @@ pub(crate) fn take<H: MatchHost>(
     requires printable { IsLine text.now }
     requires cursor { at ≤ length text.now }
     requires all { AllWithin (length text.now) trail.old.opens }
-    ensures moved { IfOk result (λ turn. Moved H.tells H.broken text.now host.old trail.old.opens (row text.now (outcome text.now) (goal_of goal) trail.old.goals at (waiting_of text.now trail.old.waits) left.old) left.old host.new turn trail.new left.new) }
-    ensures cut { OnErr result (Cut H.tells Fits H.broken (resume text.now trail.old.opens (row text.now (outcome text.now) (goal_of goal) trail.old.goals at (waiting_of text.now trail.old.waits) left.old)) host.old host.new) }
+    ensures moved { IfOk result (λ turn. Moved H.tells H.broken text.now host.old trail.old.opens (outcome text.now (goal_of goal ∷ trail.old.goals) at (waiting_of text.now trail.old.waits) left.old) left.old host.new turn trail.new left.new) }
+    ensures falls { IfOk result (λ turn. rank turn left.new < 3 * left.old + 2) }
+    ensures cut { OnErr result (Cut H.tells Fits H.broken (resume text.now trail.old.opens (outcome text.now (goal_of goal ∷ trail.old.goals) at (waiting_of text.now trail.old.waits) left.old)) host.old host.new) }
     ensures ready { H.ready host.new }
 {
-    match goal {
-        Goal::Meet(shared) => {
-            let node: &Node = &shared;
-            match node {
-                Node::Defer(variable) => match looked(
-                    alloc, text, variable, at, trail, left, host,
-                ) {
-                    Ok(turn) => Ok(turn),
-                    Err(e) => Err(e),
-                },
-                Node::Cursor(variable) => match assigned(
-                    text,
-                    variable,
-                    Taken::Cursor(at as u64),
-                    at,
-                    trail,
-                    left,
-                    host,
-                ) {
-                    Ok(turn) => Ok(turn),
-                    Err(e) => Err(e),
-                },
-                _ => match meet(text, &shared, at, trail, left) {
-                    Ok(turn) => Ok(turn),
-                    Err(e) => Err(e),
-                },
-            }
-        }
-        Goal::More(shared, from) => {
-            if at == from {
-                return Ok(back(text, trail, left)?);
-            }
-            Ok(one_more(text, &shared, at, trail, *left)?)
-        }
-        Goal::EndConditional(variable, from) => {
-            trail.wait(Waiting {
-                variable,
-                from,
-                to: at,
-            })?;
-            Ok(Turn::Go(at))
-        }
-        Goal::EndImmediate(variable, from) => {
-            let taken = part_of(alloc, text, from, at)?;
-            match assigned(text, &variable, Taken::Part(taken), at, trail, left, host) {
-                Ok(turn) => Ok(turn),
-                Err(e) => Err(e),
-            }
-        }
+    match goal.role {
+        Role::Meet => Ok(Turn::Meet(goal.node, at)),
+        Role::More => match more(text, &goal.node, goal.from, at, trail, left) {
+            Ok(turn) => Ok(turn),
+            Err(e) => Err(e),
+        },
+        Role::EndConditional => match put_by(text, &goal.node, goal.from, at, trail, left) {
+            Ok(turn) => Ok(turn),
+            Err(e) => Err(e),
+        },
+        Role::EndImmediate => match assign_part(
+            alloc, text, &goal.node, goal.from, at, trail, left, host,
+        ) {
+            Ok(turn) => Ok(turn),
+            Err(e) => Err(e),
+        },
     }
 }

@@ -4,7 +4,7 @@
 //! own, and where a choice is taken all that came after it is cut off.
 ghost use Rattle.std.specs.Prelude.{◌≡◌, [], ◌∷◌, ◌++◌, drop, IfOk, IfSome};
 ghost use Rattle.std.specs.Option.{MatchOption};
-ghost use Rattle.sno_pattern.specs.inner.Stack.{goal_of, nothing_ahead};
+ghost use Rattle.sno_pattern.specs.inner.Stack.{goal_of, trial_of, nothing_ahead};
 
 use sno_nodes::Node;
 use sno_text::Text;
@@ -12,16 +12,25 @@ use std::alloc::{AllocError, Global};
 use std::marker::Model;
 use std::rc::Rc;
 
-/// What is still to be met.
+/// What is to be done about a pattern.
+#[derive(Clone, Copy)]
+pub(crate) enum Role {
+    /// It is met.
+    Meet,
+    /// Another turn of it in ARBNO, if the last one moved on.
+    More,
+    /// What its part matched waits to be assigned to its variable.
+    EndConditional,
+    /// What its part matched is assigned to its variable now.
+    EndImmediate,
+}
+
+/// What is still to be met: a pattern, what is to be done about it, and from which cursor its part or its last turn began.
 #[derive(Drop)]
-pub(crate) enum Goal {
-    Meet(Rc<Node>),
-    /// Another turn of ARBNO, if the last one, from here, moved on.
-    More(Rc<Node>, usize),
-    /// The part from here on waits to be assigned.
-    EndConditional(Text, usize),
-    /// The part from here on is assigned now.
-    EndImmediate(Text, usize),
+pub(crate) struct Goal {
+    pub(crate) role: Role,
+    pub(crate) node: Rc<Node>,
+    pub(crate) from: usize,
 }
 
 /// An assignment that waits: a variable, and the two cursors between which its text stands.
@@ -33,10 +42,10 @@ pub(crate) struct Waiting {
 }
 
 /// How goals are tried where all that comes before them fails.
-#[derive(Clone, Copy)]
+#[derive(Drop)]
 pub(crate) enum Kind {
-    /// From a cursor.
-    Second,
+    /// From a cursor, with a pattern before them.
+    Second(Rc<Node>),
     /// From a cursor, and then from each later one.
     Each,
     /// From a cursor, and then from each later one before which parentheses are in pairs.
@@ -53,7 +62,7 @@ pub(crate) struct Cell {
 }
 
 /// An open choice: how its goals are tried and from which cursor, their place, and how much was kept and waited before it.
-#[derive(Clone, Copy)]
+#[derive(Drop)]
 pub(crate) struct Open {
     kind: Kind,
     at: usize,
@@ -95,14 +104,12 @@ impl Goal {
     fn copy(&self) -> Result<Goal, AllocError>
         ensures { IfOk result (λ g. goal_of g ≡ goal_of self.now) }
     {
-        match self {
-            Goal::Meet(node) => Ok(Goal::Meet(node.clone()?)),
-            Goal::More(node, from) => Ok(Goal::More(node.clone()?, *from)),
-            Goal::EndConditional(variable, from) => {
-                Ok(Goal::EndConditional(variable.copy()?, *from))
-            }
-            Goal::EndImmediate(variable, from) => Ok(Goal::EndImmediate(variable.copy()?, *from)),
-        }
+        let node = self.node.clone()?;
+        Ok(Goal {
+            role: self.role,
+            node,
+            from: self.from,
+        })
     }
 }
 
@@ -136,6 +143,7 @@ impl Trail {
     /// # Errors
     ///
     /// Where a growth was refused; so it is for each call here.
+    #[inline(always)]
     pub(crate) fn push(&mut self, goal: Goal) -> Result<(), AllocError>
         ensures { IfOk result (λ u. self.new ≡ record { goals = goal_of goal ∷ self.old.goals; waits = self.old.waits; opens = self.old.opens }) }
     {
@@ -202,8 +210,9 @@ impl Trail {
     }
 
     /// Leaves the goals ahead to be tried so, from a cursor, where all that comes before fails.
+    #[inline(always)]
     pub(crate) fn leave(&mut self, kind: Kind, at: usize) -> Result<(), AllocError>
-        ensures { IfOk result (λ u. self.new ≡ record { goals = self.old.goals; waits = self.old.waits; opens = record { kind = kind; goals = self.old.goals; at = at; waits = self.old.waits } ∷ self.old.opens }) }
+        ensures { IfOk result (λ u. self.new ≡ record { goals = self.old.goals; waits = self.old.waits; opens = record { trial = trial_of kind; goals = self.old.goals; at = at; waits = self.old.waits } ∷ self.old.opens }) }
     {
         let open = Open {
             kind,
@@ -219,7 +228,7 @@ impl Trail {
 
     /// Goes back to the last choice, if one is open, and takes it off. It tells how its goals are tried, and from which cursor.
     pub(crate) fn back(&mut self) -> Option<(Kind, usize)>
-        ensures { MatchOption result ((self.old.opens ≡ []) × (self.new.opens ≡ [])) (λ left. self.old.opens ≡ record { kind = left.0; goals = self.new.goals; at = left.1; waits = self.new.waits } ∷ self.new.opens) }
+        ensures { MatchOption result ((self.old.opens ≡ []) × (self.new.opens ≡ [])) (λ left. self.old.opens ≡ record { trial = trial_of left.0; goals = self.new.goals; at = left.1; waits = self.new.waits } ∷ self.new.opens) }
     {
         match self.opens.pop() {
             None => None,

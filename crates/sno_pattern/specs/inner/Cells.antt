@@ -4,7 +4,7 @@ use Rattle.sno_pattern.specs.declared.trail.Cell.{Cell}
 use Rattle.sno_pattern.specs.declared.trail.Open.{Open}
 use Rattle.sno_pattern.specs.declared.trail.Waiting.{Waiting}
 use Rattle.sno_pattern.specs.Steps.{Goal}
-use Rattle.sno_pattern.specs.inner.Stack.{goal_of, Choice, Ahead}
+use Rattle.sno_pattern.specs.inner.Stack.{goal_of, trial_of, Choice, Ahead}
 
 -- the goals from a place on
 abbrev pub goals_at : List Cell → ℕ → List Goal
@@ -12,7 +12,7 @@ goals_at [] k = []
 goals_at (c ∷ older) k = if nat_eq k (length (c ∷ older)) then goal_of c.goal ∷ goals_at older c.rest else goals_at older k
 
 abbrev pub choice_of : List Cell → List Waiting → Open → Choice
-choice_of cells waits o = record { kind = o.kind; goals = goals_at cells o.top; at = o.at; waits = take o.waits waits }
+choice_of cells waits o = record { trial = trial_of o.kind; goals = goals_at cells o.top; at = o.at; waits = take o.waits waits }
 
 abbrev pub ahead_of : List Cell → ℕ → List Waiting → List Open → Ahead
 ahead_of cells top waits opens = record { goals = goals_at cells top; waits = waits; opens = map (choice_of cells waits) opens }

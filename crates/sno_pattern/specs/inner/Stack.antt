@@ -1,32 +1,58 @@
 -- Goals, choices and turns of the program, by the definitions.
-use Rattle.std.specs.Prelude.{◌≡◌, ℕ, ◌+◌, ◌-◌, ◌≤◌, List, [], ◌∷◌, length, map}
+use Rattle.std.specs.Prelude.{◌≡◌, ℕ, ◌+◌, ◌-◌, ◌*◌, ◌<◌, ◌≤◌, List, [], ◌∷◌, length, map}
 use Rattle.std.specs.List.{range_with_len}
 use Rattle.sno_talk.specs.Talks.{Asks}
 use Rattle.sno_talk.specs.Holding.{Held, Cut}
 use Rattle.sno_nodes.specs.Nodes.{pattern_of}
+use Rattle.sno_nodes.specs.Patterns.{Pattern}
+use Rattle.sno_nodes.specs.Patterns as pattern
+use Rattle.sno_nodes.specs.Balance.{part, balanced_ends}
 use Rattle.sno_pattern.specs.declared.trail.Goal.{Goal as AGoal}
-use Rattle.sno_pattern.specs.declared.trail.Goal.TheVariants as goal
+use Rattle.sno_pattern.specs.declared.trail.Role.{Role}
+use Rattle.sno_pattern.specs.declared.trail.Role.TheVariants as role
 use Rattle.sno_pattern.specs.declared.trail.Waiting.{Waiting}
 use Rattle.sno_pattern.specs.declared.trail.Kind.{Kind}
 use Rattle.sno_pattern.specs.declared.trail.Kind.TheVariants as kind
 use Rattle.sno_pattern.specs.declared.choices.Turn.{Turn}
-use Rattle.sno_pattern.specs.declared.choices.Turn.TheVariants.{Go, Stay}
+use Rattle.sno_pattern.specs.declared.choices.Turn.TheVariants as turn
 use Rattle.sno_pattern.specs.declared.choices.Ended.{Ended}
 use Rattle.sno_pattern.specs.declared.choices.Ended.TheVariants as ended
 use Rattle.sno_pattern.specs.declared.ending.Pending.{Pending}
 use Rattle.sno_pattern.specs.declared.host.Taken.{Taken}
 use Rattle.sno_pattern.specs.Looks.{Look, LookUp, Assign, Told, Fits}
-use Rattle.sno_pattern.specs.Steps.{Goal, Meet, More, EndConditional, EndImmediate, End, Failure, WholeFails, OutOfSteps, Fault, Outcome, Trying, ends, on_failure, at_each, part, balanced_ends, with_found, if_given, outcome}
+use Rattle.sno_pattern.specs.Steps.{Goal, Meet, More, EndConditional, EndImmediate, End, Failure, WholeFails, OutOfSteps, Fault, Outcome, Trying, ends, on_failure, at_each, with_found, if_given, row, outcome}
+
+-- the variable to which what a pattern matches is assigned, if there is one
+abbrev pub variable_in : Pattern → List ℕ
+variable_in (pattern.Conditional a v) = v
+variable_in (pattern.Immediate a v) = v
+variable_in _ = []
+
+abbrev pub goal_as : Role → Pattern → ℕ → Goal
+goal_as role.Meet p c = Meet p
+goal_as role.More p c = More p c
+goal_as role.EndConditional p c = EndConditional (variable_in p) c
+goal_as role.EndImmediate p c = EndImmediate (variable_in p) c
 
 abbrev pub goal_of : AGoal → Goal
-goal_of (goal.Meet p) = Meet (pattern_of p.value)
-goal_of (goal.More p c) = More (pattern_of p.value) c
-goal_of (goal.EndConditional v c) = EndConditional v c
-goal_of (goal.EndImmediate v c) = EndImmediate v c
+goal_of g = goal_as g.role (pattern_of g.node.value) g.from
+
+-- how goals are tried that a choice leaves: with a pattern before them, at one cursor after another, or not at all
+pub data Trial : Type 0 where
+  Second : (p : Pattern) → Trial
+  Each : Trial
+  Balanced : Trial
+  Whole : Trial
+
+abbrev pub trial_of : Kind → Trial
+trial_of (kind.Second p) = Second (pattern_of p.value)
+trial_of kind.Each = Each
+trial_of kind.Balanced = Balanced
+trial_of kind.Whole = Whole
 
 -- goals that are left to be tried from a cursor
 pub record Choice : Type 0 where
-  pub kind : Kind
+  pub trial : Trial
   pub goals : List Goal
   pub at : ℕ
   pub waits : List Waiting
@@ -52,15 +78,15 @@ end_of ended.OutOfSteps = OutOfSteps
 end_of (ended.Fault f) = Fault f
 
 -- what goals come to that are tried so from a cursor
-abbrev pub tried : List ℕ → Kind → List Goal → ℕ → List Pending → ℕ → Trying
-tried text kind.Second gs c p n = outcome text gs c p n
-tried text kind.Each gs c p n = at_each (outcome text) gs (range_with_len c (length text + 1 - c)) p n
-tried text kind.Balanced gs c p n = at_each (outcome text) gs (c ∷ balanced_ends text c) p n
-tried text kind.Whole gs c p n = ends WholeFails n
+abbrev pub tried : List ℕ → Trial → List Goal → ℕ → List Pending → ℕ → Trying
+tried text (Second a) gs c p n = outcome text (Meet a ∷ gs) c p n
+tried text Each gs c p n = at_each (outcome text) gs (range_with_len c (length text + 1 - c)) p n
+tried text Balanced gs c p n = at_each (outcome text) gs (c ∷ balanced_ends text c) p n
+tried text Whole gs c p n = ends WholeFails n
 
 -- what a choice tries
 abbrev pub second : List ℕ → Choice → ℕ → Trying
-second text x n = tried text x.kind x.goals x.at (waiting_of text x.waits) n
+second text x n = tried text x.trial x.goals x.at (waiting_of text x.waits) n
 
 -- an attempt with choices still open, of which the last is tried first
 abbrev pub resume : List ℕ → List Choice → Trying → Trying
@@ -69,8 +95,15 @@ resume text (x ∷ xs) t = resume text xs (on_failure t (second text x))
 
 -- how it goes on from a turn
 abbrev pub turned : List ℕ → Ahead → Turn → ℕ → Trying
-turned text new (Go c) n = outcome text new.goals c (waiting_of text new.waits) n
-turned text new (Stay e) n = ends (end_of e) n
+turned text new (turn.Go c) n = outcome text new.goals c (waiting_of text new.waits) n
+turned text new (turn.Meet p c) n = outcome text (Meet (pattern_of p.value) ∷ new.goals) c (waiting_of text new.waits) n
+turned text new (turn.Stay e) n = ends (end_of e) n
+
+-- how much more is to be done at most: with a turn, and the steps that are left
+abbrev pub rank : Turn → ℕ → ℕ
+rank (turn.Go c) m = 3 * m + 2
+rank (turn.Meet p c) m = 3 * m + 1
+rank (turn.Stay e) m = 3 * m
 
 abbrev pub AllWithin : ℕ → List Choice → Type 0
 AllWithin l [] = Unit {0}
@@ -78,8 +111,9 @@ AllWithin l (x ∷ xs) = (x.at ≤ l) × AllWithin l xs
 
 -- a turn goes on within the text, or ends whatever choices are open
 abbrev pub TurnWithin : List ℕ → Ahead → Turn → Type 0
-TurnWithin text new (Go c) = c ≤ length text
-TurnWithin text new (Stay e) = (n : ℕ) → resume text new.opens (ends (end_of e) n) ≡ ends (end_of e) n
+TurnWithin text new (turn.Go c) = c ≤ length text
+TurnWithin text new (turn.Meet p c) = c ≤ length text
+TurnWithin text new (turn.Stay e) = (n : ℕ) → resume text new.opens (ends (end_of e) n) ≡ ends (end_of e) n
 
 -- with no word to the host: an attempt with the choices so far is the turn with what is ahead after it
 pub record Led (text : List ℕ) (old : List Choice) (t : Trying) (n : ℕ) (turn : Turn) (new : Ahead) (m : ℕ) : Type 0 where
@@ -97,6 +131,14 @@ pub record Moved {S : Type 0} (tells : S → Look → Told → S → Type 0) (br
   pub fewer : m ≤ n
   pub all : AllWithin (length text) new.opens
   pub here : TurnWithin text new turn
+
+-- with no word to the host: an attempt with the choices so far is a pattern met, with those after it, whose step was taken
+pub record Entering (text : List ℕ) (old : List Choice) (t : Trying) (n : ℕ) (p : Pattern) (r : List Goal) (c : ℕ) (w : List Pending)
+    (new : List Choice) (m : ℕ) : Type 0 where
+  pub comes : resume text old t ≡ resume text new (row text (outcome text) (Meet p) r c w m)
+  pub fewer : m < n
+  pub all : AllWithin (length text) new
+  pub here : c ≤ length text
 
 -- the attempts that ask
 abbrev pub assigning : List ℕ → List ℕ → Taken → List Goal → ℕ → List Pending → ℕ → Trying

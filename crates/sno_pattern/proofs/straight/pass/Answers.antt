@@ -1,7 +1,7 @@
 use Rattle.std.proofs.Common.{◌≡◌, sym, arith}
 use Rattle.sno_nodes.specs.Nodes.{pattern_of}
-use Rattle.sno_pattern.specs.declared.reach.Reach.TheVariants.{Here}
-use Rattle.sno_pattern.specs.inner.Reaching.{reached}
+use Rattle.sno_nodes.specs.declared.reach.Reach.TheVariants.{Here}
+use Rattle.sno_nodes.specs.inner.Reaching.{reached}
 use Rattle.sno_pattern.proofs.Passing.{passes, passes_by}
 use Rattle.sno_pattern.proofs.straight.pass.Goals as goal
 

@@ -1,16 +1,18 @@
-//! Rows that end in one place or nowhere.
+//! Where patterns end that end in one place or nowhere, and where the next part with its parentheses in pairs does.
 ghost use Rattle.std.specs.Prelude.{◌≡◌, ◌≤◌, ◌<◌, ◌^◌, length, true, IfSome};
 ghost use Rattle.sno_nodes.specs.Patterns as pattern;
 ghost use Rattle.sno_nodes.specs.Nodes.{pattern_of};
-ghost use Rattle.sno_pattern.specs.Steps.{balanced_ends};
-ghost use Rattle.sno_pattern.specs.inner.Reaching.{reached, IsWithin, is_nowhere, IsQuiet, open_after, next_and_on};
+ghost use Rattle.sno_nodes.specs.Balance.{balanced_ends};
+ghost use Rattle.sno_nodes.specs.inner.Reaching.{reached, IsWithin, is_nowhere, open_after, next_and_on};
 
-use sno_nodes::Node;
-use sno_nodes::set::{begins_with_another, begins_with_one_of, gap_before, run_of, stands_first};
+use crate::node::Node;
+use crate::set::{begins_with_another, begins_with_one_of, gap_before, run_of, stands_first};
+use sno_text::Text;
 
 /// Where a pattern ends from a cursor on.
 #[derive(Clone, Copy)]
-pub(crate) enum Reach {
+pub enum Reach {
+    /// At this place alone.
     Here(usize),
     Nowhere,
     /// That depends: it has parts, several ends, or words for the host.
@@ -30,21 +32,30 @@ fn ahead(text: &[u8], at: usize, count: u64) -> Reach
     }
 }
 
-/// Where a pattern ends from a cursor on.
-pub(crate) fn reached(text: &[u8], node: &Node, at: usize) -> Reach
+/// Where a text ends, if it stands at the cursor.
+#[inline(always)]
+fn text_reached(text: &[u8], part: &Text, at: usize) -> Reach
+    requires { at ≤ length text.now }
+    ensures value { result ≡ reached text.now (pattern.Text part.now) at }
+    ensures within { IsWithin (length text.now) result }
+{
+    let part = part.as_bytes();
+    if stands_first(&text[at..], part) {
+        Reach::Here(at + part.len())
+    } else {
+        Reach::Nowhere
+    }
+}
+
+/// Where a pattern ends from a cursor on, one by one.
+#[inline(never)]
+fn reached_alone(text: &[u8], node: &Node, at: usize) -> Reach
     requires { at ≤ length text.now }
     ensures value { result ≡ reached text.now (pattern_of node.now) at }
     ensures within { IsWithin (length text.now) result }
 {
     match node {
-        Node::Text(s) => {
-            let s = s.as_bytes();
-            if stands_first(&text[at..], s) {
-                Reach::Here(at + s.len())
-            } else {
-                Reach::Nowhere
-            }
-        }
+        Node::Text(part) => text_reached(text, part, at),
         Node::Len(n) => ahead(text, at, *n),
         Node::Pos(n) => {
             if at as u64 == *n {
@@ -111,27 +122,34 @@ pub(crate) fn reached(text: &[u8], node: &Node, at: usize) -> Reach
     }
 }
 
-/// Whether a pattern ends nowhere from a cursor on.
-pub(crate) fn misses(text: &[u8], node: &Node, at: usize) -> bool
+/// Where a pattern ends from a cursor on. A text, and one with parts, is told apart without a call.
+#[inline(always)]
+pub fn reached(text: &[u8], node: &Node, at: usize) -> Reach
     requires { at ≤ length text.now }
-    ensures { result ≡ is_nowhere (reached text.now (pattern_of node.now) at) }
+    ensures value { result ≡ reached text.now (pattern_of node.now) at }
+    ensures within { IsWithin (length text.now) result }
 {
     match node {
-        Node::Text(part) => !stands_first(&text[at..], part.as_bytes()),
-        _ => match reached(text, node, at) {
-            Reach::Nowhere => true,
-            Reach::Here(_) | Reach::Depends => false,
-        },
+        Node::Text(part) => text_reached(text, part, at),
+        Node::Cat(_, _, _)
+        | Node::Alt(_, _, _)
+        | Node::Arbno(_, _)
+        | Node::Conditional(_, _, _)
+        | Node::Immediate(_, _, _)
+        | Node::Cursor(_)
+        | Node::Defer(_) => Reach::Depends,
+        _ => reached_alone(text, node, at),
     }
 }
 
-/// Whether a pattern has no word for the host when it is taken.
-pub(crate) fn is_quiet(node: &Node) -> bool
-    ensures { result ≡ true → IsQuiet (pattern_of node.now) }
+/// Whether a pattern ends nowhere from a cursor on.
+pub fn misses(text: &[u8], node: &Node, at: usize) -> bool
+    requires { at ≤ length text.now }
+    ensures { result ≡ is_nowhere (reached text.now (pattern_of node.now) at) }
 {
-    match node {
-        Node::Cursor(_) | Node::Defer(_) => false,
-        _ => true,
+    match reached(text, node, at) {
+        Reach::Nowhere => true,
+        Reach::Here(_) | Reach::Depends => false,
     }
 }
 
@@ -148,7 +166,7 @@ fn open_after(opened: usize, character: u8) -> Option<usize>
 }
 
 /// The first place where a part that begins here, is not null and has its parentheses in pairs ends.
-pub(crate) fn next_balanced(text: &[u8], from: usize) -> Option<usize>
+pub fn next_balanced(text: &[u8], from: usize) -> Option<usize>
     requires { from ≤ length text.now }
     ensures next { balanced_ends text.now from ≡ next_and_on text.now result }
     ensures within { IfSome result (λ e. e ≤ length text.now) }

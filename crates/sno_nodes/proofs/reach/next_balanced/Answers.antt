@@ -1,6 +1,6 @@
 use Rattle.std.proofs.Common.{get_or, sym, arith}
-use Rattle.sno_pattern.proofs.Balance.{balanced_is, onward, found, not_yet, few_more}
-use Rattle.sno_pattern.proofs.reach.next_balanced.Goals as goal
+use Rattle.sno_nodes.proofs.Balance.{balanced_is, onward, found, not_yet, few_more}
+use Rattle.sno_nodes.proofs.reach.next_balanced.Goals as goal
 
 pub loop-at-init : goal.loop-at-init
 loop-at-init c = record { within = c.requires; few = omega arith; same = balanced_is c.args.text.now c.args.from }

@@ -1,9 +1,9 @@
 use Rattle.std.proofs.Common.{length, ◌-◌, ◌≡◌, ◌≤◌}
 use Rattle.std.specs.Prelude.{drop}
-use Rattle.sno_pattern.specs.Steps.{balanced_ends}
-use Rattle.sno_pattern.specs.inner.Reaching.{closes}
-use Rattle.sno_pattern.proofs.Balance.{ends_where}
-use Rattle.sno_pattern.proofs.reach.next_balanced.Given as goal
+use Rattle.sno_nodes.specs.Balance.{balanced_ends}
+use Rattle.sno_nodes.specs.inner.Reaching.{closes}
+use Rattle.sno_nodes.proofs.Balance.{ends_where}
+use Rattle.sno_nodes.proofs.reach.next_balanced.Given as goal
 
 abbrev pub invariant-loop-at : goal.invariant-loop-at
 invariant-loop-at l = record {

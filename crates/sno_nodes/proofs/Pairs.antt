@@ -4,8 +4,8 @@ use Rattle.std.specs.Prelude.{Bool, true, false, ◌&&◌, take, nat_eq, nat_le,
 use Rattle.std.specs.List.{filter, list_all, range_with_len}
 use Rattle.std.proofs.lemmas.Bool.{eqb-true}
 use Rattle.std.proofs.lemmas.Bool.Decides.{nat_tests}
-use Rattle.sno_pattern.specs.Steps.{times, in_pairs}
-use Rattle.sno_pattern.specs.inner.Reaching.{closes}
+use Rattle.sno_nodes.specs.Balance.{times, in_pairs}
+use Rattle.sno_nodes.specs.inner.Reaching.{closes}
 
 -- so many `(` more than `)`, of which the text opens all but k, and no beginning of it has k more `)` than `(`
 abbrev InPairs : ℕ → List ℕ → Type 0

@@ -3,10 +3,10 @@ use Rattle.std.specs.Prelude.{ℕ, zero, suc, ◌+◌, ◌-◌, ◌≤◌, List,
 use Rattle.std.specs.List.{starts_with, prefix_len, position_or_len}
 use Rattle.sno_nodes.specs.Patterns.{Pattern}
 use Rattle.sno_nodes.specs.Patterns as pattern
-use Rattle.sno_pattern.specs.declared.reach.Reach.{Reach}
-use Rattle.sno_pattern.specs.declared.reach.Reach.TheVariants.{Here, Nowhere, Depends}
+use Rattle.sno_nodes.specs.declared.reach.Reach.{Reach}
+use Rattle.sno_nodes.specs.declared.reach.Reach.TheVariants.{Here, Nowhere, Depends}
 use Rattle.sno_nodes.specs.Sets.{is_one_of}
-use Rattle.sno_pattern.specs.Steps.{balanced_ends}
+use Rattle.sno_nodes.specs.Balance.{balanced_ends}
 use Rattle.mon_text.specs.Beginnings.{first_passes}
 
 abbrev pub here_if : Bool → ℕ → Reach
@@ -46,30 +46,6 @@ abbrev pub next_and_on : List ℕ → Option ℕ → List ℕ
 next_and_on text None = []
 next_and_on text (Some e) = e ∷ balanced_ends text e
 
--- a pattern that asks the host nothing when it is taken
-abbrev pub IsQuiet : Pattern → Type 0
-IsQuiet (pattern.Cursor v) = ⊥
-IsQuiet (pattern.Defer v) = ⊥
-IsQuiet _ = Unit {0}
-
--- one whose first part is met at once
-abbrev pub IsEntered : Pattern → Type 0
-IsEntered (pattern.Cat a b) = Unit {0}
-IsEntered (pattern.Alt a b) = Unit {0}
-IsEntered (pattern.Conditional p v) = Unit {0}
-IsEntered (pattern.Immediate p v) = Unit {0}
-IsEntered _ = ⊥
-
--- one of the others that ask nothing and yet are not met at one place alone
-abbrev pub IsParted : Pattern → Type 0
-IsParted pattern.Arb = Unit {0}
-IsParted pattern.Bal = Unit {0}
-IsParted (pattern.Arbno p) = Unit {0}
-IsParted pattern.Abort = Unit {0}
-IsParted pattern.Fence = Unit {0}
-IsParted pattern.Succeed = Unit {0}
-IsParted _ = ⊥
-
 abbrev pub is_nowhere : Reach → Bool
 is_nowhere Nowhere = true
 is_nowhere (Here c) = false
@@ -79,10 +55,3 @@ abbrev pub IsWithin : ℕ → Reach → Type 0
 IsWithin l (Here c) = c ≤ l
 IsWithin l Nowhere = Unit {0}
 IsWithin l Depends = Unit {0}
-
--- the part of a pattern that is met right after it, at the same cursor, where there is one such part
-abbrev pub first_part : Pattern → Option Pattern
-first_part (pattern.Cat a b) = Some a
-first_part (pattern.Conditional a v) = Some a
-first_part (pattern.Immediate a v) = Some a
-first_part _ = None
