@@ -6,20 +6,14 @@ use Rattle.mon_cards.specs.declared.card.Card.{Card}
 use Rattle.mon_cards.specs.declared.card.Card.TheVariants.{Accounts, Catalogue, Set, Stream, Create, Delete, SetAcl, EndAcl, ShowAcl, List as Listing, Catalog, Job, Tie, EndJob, Turn, Drain, Stop}
 use Rattle.std.specs.Option.{option_eq}
 
--- the card of a job, or one that gives turns
-abbrev pub job_card_of : List ℕ → Option Card
-job_card_of word =
-    if bytes_eq word (codes "$JOB") then Some Job
-    else if bytes_eq word (codes "$UNIT") then Some Tie
-    else if bytes_eq word (codes "$EOJ") then Some EndJob
-    else if bytes_eq word (codes "$TURN") then Some Turn
-    else if bytes_eq word (codes "$DRAIN") then Some Drain
-    else None
-
--- the card of the stream that a word names
-abbrev pub stream_card_of : List ℕ → Option Card
-stream_card_of word =
-    if bytes_eq word (codes "$CREATE") then Some Create
+-- the card that a word names: one of the sections, of the stream, or of jobs and of turns
+abbrev pub card_of : List ℕ → Option Card
+card_of word =
+    if bytes_eq word (codes "$ACCOUNTS") then Some Accounts
+    else if bytes_eq word (codes "$CATALOGUE") then Some Catalogue
+    else if bytes_eq word (codes "$SET") then Some Set
+    else if bytes_eq word (codes "$STREAM") then Some Stream
+    else if bytes_eq word (codes "$CREATE") then Some Create
     else if bytes_eq word (codes "$DELETE") then Some Delete
     else if bytes_eq word (codes "$SETACL") then Some SetAcl
     else if bytes_eq word (codes "$ENDACL") then Some EndAcl
@@ -27,16 +21,12 @@ stream_card_of word =
     else if bytes_eq word (codes "$LIST") then Some Listing
     else if bytes_eq word (codes "$CATALOG") then Some Catalog
     else if bytes_eq word (codes "$STOP") then Some Stop
-    else job_card_of word
-
--- the card that a word names
-abbrev pub card_of : List ℕ → Option Card
-card_of word =
-    if bytes_eq word (codes "$ACCOUNTS") then Some Accounts
-    else if bytes_eq word (codes "$CATALOGUE") then Some Catalogue
-    else if bytes_eq word (codes "$SET") then Some Set
-    else if bytes_eq word (codes "$STREAM") then Some Stream
-    else stream_card_of word
+    else if bytes_eq word (codes "$JOB") then Some Job
+    else if bytes_eq word (codes "$UNIT") then Some Tie
+    else if bytes_eq word (codes "$EOJ") then Some EndJob
+    else if bytes_eq word (codes "$TURN") then Some Turn
+    else if bytes_eq word (codes "$DRAIN") then Some Drain
+    else None
 
 -- the card that was found is this one (derived `==`)
 abbrev pub is_card : Card → Option Card → Bool

@@ -1,6 +1,6 @@
 //! The cards of a deck, by their first words.
 ghost use Rattle.std.specs.Prelude.{◌≡◌};
-ghost use Rattle.mon_cards.specs.Cards.{card_of, stream_card_of, job_card_of};
+ghost use Rattle.mon_cards.specs.Cards.{card_of};
 
 /// A card that is known.
 #[derive(Clone, Copy, Debug, PartialEq, Eq)]
@@ -53,16 +53,7 @@ pub fn card_of(word: &[u8]) -> Option<Card>
         Some(Card::Set)
     } else if word == b"$STREAM".as_slice() {
         Some(Card::Stream)
-    } else {
-        stream_card(word)
-    }
-}
-
-// The cards that stand in the stream.
-fn stream_card(word: &[u8]) -> Option<Card>
-    ensures { result ≡ stream_card_of word.now }
-{
-    if word == b"$CREATE".as_slice() {
+    } else if word == b"$CREATE".as_slice() {
         Some(Card::Create)
     } else if word == b"$DELETE".as_slice() {
         Some(Card::Delete)
@@ -78,16 +69,7 @@ fn stream_card(word: &[u8]) -> Option<Card>
         Some(Card::Catalog)
     } else if word == b"$STOP".as_slice() {
         Some(Card::Stop)
-    } else {
-        job_card(word)
-    }
-}
-
-// The cards of jobs and of turns.
-fn job_card(word: &[u8]) -> Option<Card>
-    ensures { result ≡ job_card_of word.now }
-{
-    if word == b"$JOB".as_slice() {
+    } else if word == b"$JOB".as_slice() {
         Some(Card::Job)
     } else if word == b"$UNIT".as_slice() {
         Some(Card::Tie)

@@ -4,13 +4,14 @@ use Rattle.std.specs.List.{AllByRecursion}
 use Rattle.std.specs.Str.Lines.{lines}
 use Rattle.std.proofs.lemmas.List.Concat.{flat_map-append}
 use Rattle.std.proofs.lemmas.List.Sorted.{IsPermutation-map}
+use Rattle.std.specs.Prelude.{drop, replicate}
 use Rattle.mon_catalogue.specs.Sets.{Sets, NamesDiffer}
 use Rattle.mon_access.specs.declared.account.Account.{Account}
 use Rattle.mon_job.specs.declared.job_end.JobEnd.{JobEnd}
 use Rattle.mon_job.specs.Printouts.{printout}
 use Rattle.mon_slots.specs.Floors.{Floor, job_in}
-use Rattle.mon_slots.specs.Turns.{ends_by, turns, only}
-use Rattle.mon_slots.specs.Marks.{Marks, mark_of, later, turn_as, Past, nothing, ends_then, until, never, marked, rounds, turns_left, is_done, has_free_slot}
+use Rattle.mon_slots.specs.Turns.{ends_by, turns}
+use Rattle.mon_slots.specs.Marks.{Marks, mark_of, turn_as, Past, nothing, ends_then, until, never, marked, rounds, turns_left, is_done, has_free_slot}
 use Rattle.mon_slots.proofs.Past.{either_way, until_stops, until_goes, until_append, unmarked}
 use Rattle.mon_monitor.specs.Worlds.{World, with_floor, first_world}
 use Rattle.mon_monitor.specs.Events.{Event, Serve, Load, Give, Drain}
@@ -42,7 +43,7 @@ some_turns stop w (s ∷ E) m = elim (either_way (stop w)) [
   | inl h ↦ ([], until_stops stop (s ∷ E) m w h)
   | inr h ↦
       let t = turn_as (mark_of m) s w in
-      let rest = some_turns stop t.1 E (later m) in
+      let rest = some_turns stop t.1 E (drop 1 m) in
       (s ∷ rest.0, until_goes stop s E m w h ∙ ap (ends_then (ends_by s t.0)) rest.1)
 ]
 
@@ -85,7 +86,7 @@ then_turns p next w first rest =
 one_event : (event : Event) (w : World) → IsTurns event → AsTurns (happened event [] w) w
 one_event (Serve command) w own = absurd own
 one_event (Load deck) w own = absurd own
-one_event (Give slot count) w own = record { order = only slot count; is = refl }
+one_event (Give slot count) w own = record { order = replicate count slot; is = refl }
 one_event Drain w own =
     let some = some_turns is_done w.floor (rounds (turns_left w.floor.slots) (length w.floor.slots)) [] in
     record { order = some.0; is = ap (of_turns w) some.1 }
@@ -134,7 +135,7 @@ until_none stop (s ∷ E) w =
 event_none : (event : Event) (w : World) → (happened event [] w).marks ≡ []
 event_none (Serve command) w = refl
 event_none (Load deck) w = until_none has_free_slot (rounds (turns_left w.floor.slots) (length w.floor.slots)) w.floor
-event_none (Give slot count) w = until_none never (only slot count) w.floor
+event_none (Give slot count) w = until_none never (replicate count slot) w.floor
 event_none Drain w = until_none is_done (rounds (turns_left w.floor.slots) (length w.floor.slots)) w.floor
 
 played_none : (E : List Event) (w : World) → (played E [] w).marks ≡ []

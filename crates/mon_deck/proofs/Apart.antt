@@ -1,6 +1,7 @@
 -- Jobs that name no data set in common are tied to none in common.
 use Rattle.std.proofs.Common.{◌≡◌, ◌==◌, ℕ, zero, suc, Bool, true, false, List, [], ◌∷◌, length, map, Option, Some, None, ◌⊎◌, inl, inr, sym, ap, subst, ◌∙◌, slice_get, slice_set, if◌then◌else◌}
 use Rattle.std.specs.List.{AllByRecursion, range_with_len}
+use Rattle.std.specs.Prelude.{replicate}
 use Rattle.sno_cards.specs.Statements.{statements_of}
 use Rattle.sno_syntax.specs.Programs.{Program}
 use Rattle.mon_access.specs.declared.account.Account.{Account}
@@ -16,7 +17,6 @@ use Rattle.mon_job.specs.declared.deck.JobDeck.{JobDeck}
 use Rattle.mon_job.specs.declared.refusal.LoadError.{LoadError}
 use Rattle.mon_slots.specs.Floors.{SlotState, Floor, floor, seat_at, first_free, job_in}
 use Rattle.mon_slots.specs.Loads.{first_units, tied_by, with_ties, program_in, load_refusal, slot_by, slot_in, loaded_by, job_loaded}
-use Rattle.mon_slots.specs.Turns.{only}
 use Rattle.mon_slots.specs.Marks.{Marks, never, rounds, turns_left, is_done, has_free_slot, room}
 use Rattle.mon_monitor.specs.Worlds.{World}
 use Rattle.mon_monitor.specs.Events.{Serve, Load, Give, Drain}
@@ -188,7 +188,7 @@ played_fits (Enters job ∷ asked) k m w apart fits =
 played_fits (Gives turn ∷ asked) k m w apart fits =
     let p = happened (Give turn.slot turn.count) m w in
     played_fits asked k p.marks p.after apart
-    (still_fits asked p.after.floor w.floor (until_follows never (only turn.slot turn.count) m w.floor) (others_fit (Gives turn) asked w.floor fits))
+    (still_fits asked p.after.floor w.floor (until_follows never (replicate turn.count turn.slot) m w.floor) (others_fit (Gives turn) asked w.floor fits))
 played_fits (Drains ∷ asked) k m w apart fits =
     let p = happened Drain m w in
     played_fits asked k p.marks p.after apart

@@ -1,10 +1,11 @@
 -- Decks that an account can't tell apart.
 use Rattle.std.proofs.Common.{◌≡◌, ℕ, zero, suc, true, replicate, List, [], ◌∷◌, ◌++◌, Some, None, ◌⊎◌, inl, inr, refl, sym, ap, subst, ◌∙◌}
-use Rattle.std.specs.List.{AllByRecursion}
+use Rattle.std.specs.List.{AllByRecursion, list_all}
 use Rattle.std.specs.Str.Lines.{lines}
+use Rattle.std.specs.Prelude.{is_none}
 use Rattle.mon_access.specs.declared.account.Account.{Account}
 use Rattle.mon_catalogue.specs.Sets.{NamesDiffer}
-use Rattle.mon_slots.specs.Floors.{SlotState, seat_at, all_empty}
+use Rattle.mon_slots.specs.Floors.{SlotState, seat_at}
 use Rattle.mon_slots.specs.Marks.{Marks}
 use Rattle.mon_slots.proofs.Seats.{none_at}
 use Rattle.mon_monitor.specs.Worlds.{World}
@@ -23,7 +24,7 @@ use Rattle.mon_deck.specs.Isolation.{IsOwnCard, EndAlike, DecksAlike, DecksIsola
 use Rattle.mon_deck.proofs.Ordered.{is_run}
 
 -- no job sits in a slot at first
-empty_at_first : (n : ℕ) → all_empty (replicate n None) ≡ true
+empty_at_first : (n : ℕ) → list_all is_none (replicate n None) ≡ true
 empty_at_first zero = refl
 empty_at_first (suc n) = empty_at_first n
 

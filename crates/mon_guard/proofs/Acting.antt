@@ -13,13 +13,14 @@ use Rattle.mon_answer.specs.declared.answer.Answer.{Answer}
 use Rattle.mon_answer.specs.declared.answer.Answer.TheVariants as answer
 use Rattle.mon_guard.specs.Deciding.{decision_on, by_decision}
 use Rattle.mon_guard.specs.Reasons.{reason_of}
-use Rattle.mon_guard.specs.Acting.{Act, Read, Write, End, Acted, asks, done, or_denied, acted_on, acted, only_answered, read_at, made, ended, left, changed}
+use Rattle.mon_guard.specs.Acting.{Act, Read, Write, End, Acted, asks, done, or_denied, acted_on, acted, only_answered, read_at, ended, left, changed}
 use Rattle.mon_guard.specs.Laws.{IsThere, IsGranted, IsFor, WhyNotAct, ActsWhereGranted}
 use Rattle.std.specs.Cmp.Lexicographic.{pointwise}
 use Rattle.mon_catalogue.specs.declared.data_set.DataSet.{DataSet}
 use Rattle.mon_catalogue.specs.Sets.{Sets, find_set}
 use Rattle.mon_catalogue.specs.Changes.{with_changed}
 use Rattle.mon_catalogue.proofs.Changing.{changed_there}
+use Rattle.mon_guard.proofs.Shorthand.{made}
 
 -- a set that is lent and left so
 pub left_so : (name : List ℕ) (change : Option Change) (sets : Sets) (set : DataSet) → Some set ≡ find_set name sets

@@ -15,12 +15,12 @@ use Rattle.mon_answer.specs.declared.answer.Reason.{Reason}
 use Rattle.mon_answer.specs.declared.answer.Reason.TheVariants.{NoSet, NotOwner}
 use Rattle.mon_guard.specs.Deciding.{to_read, to_execute, decision_on, by_decision, where_granted, is_granted, may_be_shown}
 use Rattle.mon_guard.specs.Reasons.{reason_of}
-use Rattle.mon_guard.specs.Lending.{AclPart, acl_part, acl_of, name_part, names_shown}
+use Rattle.mon_guard.specs.Lending.{AclPart, acl_part, name_part, names_shown}
 use Rattle.mon_guard.specs.Owning.{owner_denial}
 use Rattle.mon_guard.specs.Laws.{IsThere, MaySeeList, MaySeeName, AreForReading, IsForSeeing, DecidedBy, WhyNotRead, WhyNotSeeList, WhyNotOwner, LendsWhereGranted, HiddenSetsLeaveNoTrace, DenialsSayWhy}
 use Rattle.mon_guard.proofs.Kept.{keeps, kept_only}
 use Rattle.mon_guard.proofs.Owners.{is_owner_true, is_owner_false, owns_from, owns_not}
-use Rattle.mon_guard.proofs.Shorthand.{owner_denial_of, records_of}
+use Rattle.mon_guard.proofs.Shorthand.{owner_denial_of, records_of, acl_of}
 
 -- what the access check lets through, and what it denies
 granted_by : {A : Type 0} (acl : List Entry) (d : Decision) (granted other : A) → by_decision acl d granted ≡ Ok other → (d ≡ Granted) × (other ≡ granted)

@@ -10,7 +10,12 @@ use Rattle.mon_catalogue.specs.Sets.{Sets}
 use Rattle.mon_catalogue.specs.Changes.{without_set}
 use Rattle.mon_answer.specs.declared.answer.Reason.{Reason}
 use Rattle.mon_answer.specs.declared.answer.Reason.TheVariants.{NoSet, NotOwner}
-use Rattle.mon_guard.specs.Deciding.{to_read, where_granted}
+use Rattle.mon_catalogue.specs.declared.data_set.SetFull.{SetFull}
+use Rattle.mon_catalogue.specs.Writing.{Change}
+use Rattle.mon_answer.specs.declared.answer.Answer.TheVariants.{Done, Full}
+use Rattle.mon_guard.specs.Deciding.{to_read, to_execute, where_granted}
+use Rattle.mon_guard.specs.Lending.{AclPart, acl_part}
+use Rattle.mon_guard.specs.Acting.{Acted, only_answered, position_after}
 use Rattle.mon_guard.specs.Owning.{new_set}
 
 abbrev pub owner_denial_of : Account → Option DataSet → Option Reason
@@ -25,3 +30,11 @@ created_unless refusal account sets name mode =
 
 abbrev pub records_of : Account → Option DataSet → Result (List (List ℕ)) Reason
 records_of account set = option_map_or (λ d. where_granted account to_read d d.records) set (Err NoSet)
+
+abbrev pub acl_of : Account → Option DataSet → Result AclPart Reason
+acl_of account set =
+    option_map_or (λ d. if is_owner account d.owner then Ok (acl_part d) else where_granted account to_execute d (acl_part d)) set (Err NoSet)
+
+abbrev pub made : Change → List (List ℕ) → Option SetFull → Acted
+made change records full =
+    option_map_or (λ _. only_answered Full) full (record { answer = Done; position = position_after change records; change = Some change })

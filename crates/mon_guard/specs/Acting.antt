@@ -2,6 +2,7 @@
 -- Reading asks r; writing and ending ask w. Positions are counted from 0. A set of mode SEQ is written at the position; one of
 -- mode APPEND is written at its end, and can't be ended.
 use Rattle.std.specs.Prelude.{ℕ, ◌+◌, List, length, Option, None, Some, Result, Ok, Err, slice_get}
+use Rattle.std.specs.Option.{option_map_or}
 use Rattle.mon_acl.specs.declared.entries.Perms.{Perms}
 use Rattle.mon_access.specs.declared.account.Account.{Account}
 use Rattle.mon_catalogue.specs.declared.mode.Mode.{Mode}
@@ -43,13 +44,11 @@ abbrev pub position_after : Change → List (List ℕ) → Option ℕ
 position_after (Add line) records = None
 position_after change records = Some (length (records_after change records))
 
-abbrev pub made : Change → List (List ℕ) → Option SetFull → Acted
-made change records (Some full) = only_answered Full
-made change records None = record { answer = Done; position = position_after change records; change = Some change }
-
 -- a change of these records, where there is room for it
 abbrev pub changing : Change → List (List ℕ) → Acted
-changing change records = made change records (change_refusal change records)
+changing change records =
+    option_map_or (λ _. only_answered Full) (change_refusal change records)
+    (record { answer = Done; position = position_after change records; change = Some change })
 
 -- the end of a set: the records before the position stay; of a set that is only added to all stay
 abbrev pub ended : Mode → ℕ → List (List ℕ) → Acted
@@ -72,8 +71,7 @@ or_denied (Err why) = only_answered (Denied why)
 
 -- an act on a set: done where the access check grants it on the list as it stands, and else denied
 abbrev pub acted_on : Account → Act → Option DataSet → Acted
-acted_on account act None = only_answered (Denied reason.NoSet)
-acted_on account act (Some set) = or_denied (where_granted account (asks act) set (done act set))
+acted_on account act found = option_map_or (λ set. or_denied (where_granted account (asks act) set (done act set))) found (only_answered (Denied reason.NoSet))
 
 -- on the set of this name
 abbrev pub acted : Account → Act → Sets → List ℕ → Acted
@@ -86,8 +84,7 @@ left (Some change) set = recorded change set
 
 -- the sets as the act leaves them: no other set than that of the name changes
 abbrev pub changed : List ℕ → Option Change → Sets → Sets
-changed name None sets = sets
-changed name (Some change) sets = with_changed name (recorded change) sets
+changed name change sets = option_map_or (λ c. with_changed name (recorded c) sets) change sets
 
 abbrev pub moved : ℕ → Option ℕ → ℕ
 moved position None = position

@@ -24,15 +24,11 @@ pub record AclPart : Type 0 where
 abbrev pub acl_part : DataSet → AclPart
 acl_part set = record { owner = set.owner; group = set.group; acl = set.acl }
 
--- the owner, the group and the list: to the owner, and where x is granted
-abbrev pub acl_of : Account → Option DataSet → Result AclPart Reason
-acl_of account None = Err NoSet
-acl_of account (Some set) =
-    if is_owner account set.owner then Ok (acl_part set) else where_granted account to_execute set (acl_part set)
-
--- those of the set of this name
+-- those of the set of this name: to the owner, and where x is granted
 abbrev pub acl_lent : Account → Sets → List ℕ → Result AclPart Reason
-acl_lent account sets name = acl_of account (find_set name sets)
+acl_lent account sets name =
+    option_map_or (λ set. if is_owner account set.owner then Ok (acl_part set) else where_granted account to_execute set (acl_part set)) (find_set name sets)
+    (Err NoSet)
 
 -- the name of a data set, who owns it, its group, and how many records it has
 pub record NamePart : Type 0 where

@@ -59,9 +59,9 @@ pub(crate) struct Judged {
 
 /// What a row says, and where it stands.
 #[derive(Clone, Copy)]
-struct Found {
+struct Found<'a> {
     place: usize,
-    ready: Ready,
+    ready: &'a Ready,
 }
 
 impl AtHand {
@@ -98,12 +98,12 @@ impl Rows {
 
     // What the row at a place says, where it is of the account and of the set of a name.
     #[inline(always)]
-    fn at(&self, place: usize, account: &Account, name: &Name) -> Option<Found>
-        ensures { IfSome result (λ found. Says self.now account.now name.now found.ready) }
+    fn at(&self, place: usize, account: &Account, name: &Name) -> Option<Found<'_>>
+        ensures { IfSome result (λ found. Says self.now account.now name.now found.ready.now) }
     {
         let (_, row) = self.by_names.get_index(place)?;
         if row.set == *name && row.account.is(account) {
-            let ready = row.ready;
+            let ready = &row.ready;
             Some(Found { place, ready })
         } else {
             None
@@ -111,8 +111,8 @@ impl Rows {
     }
 
     // What is kept of the account on the set of a name. A row of an account of this name with other groups is passed over.
-    fn find(&self, account: &Account, name: &Name) -> Option<Found>
-        ensures { IfSome result (λ found. Says self.now account.now name.now found.ready) }
+    fn find(&self, account: &Account, name: &Name) -> Option<Found<'_>>
+        ensures { IfSome result (λ found. Says self.now account.now name.now found.ready.now) }
     {
         match self.find_at_hand(account, name) {
             Some(found) => Some(found),
@@ -121,8 +121,8 @@ impl Rows {
     }
 
     // The same, where it is one of the two rows used last.
-    fn find_at_hand(&self, account: &Account, name: &Name) -> Option<Found>
-        ensures { IfSome result (λ found. Says self.now account.now name.now found.ready) }
+    fn find_at_hand(&self, account: &Account, name: &Name) -> Option<Found<'_>>
+        ensures { IfSome result (λ found. Says self.now account.now name.now found.ready.now) }
     {
         match self.at(self.at_hand.last, account, name) {
             Some(found) => Some(found),
@@ -131,8 +131,8 @@ impl Rows {
     }
 
     // The same, wherever it stands.
-    fn find_by_hash(&self, account: &Account, name: &Name) -> Option<Found>
-        ensures { IfSome result (λ found. Says self.now account.now name.now found.ready) }
+    fn find_by_hash(&self, account: &Account, name: &Name) -> Option<Found<'_>>
+        ensures { IfSome result (λ found. Says self.now account.now name.now found.ready.now) }
     {
         let key = (account.name.copy(), name.copy());
         let place = self.by_names.get_index_of(&key)?;

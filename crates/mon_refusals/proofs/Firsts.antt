@@ -17,8 +17,9 @@ use Rattle.mon_unit.specs.declared.units.UnitError.{UnitError}
 use Rattle.mon_job.specs.declared.deck.UnitCard.{UnitCard}
 use Rattle.mon_job.specs.declared.deck.JobDeck.{JobDeck}
 use Rattle.mon_job.specs.declared.refusal.LoadError.{LoadError}
-use Rattle.mon_job.specs.declared.refusal.LoadError.TheVariants.{Cards, Syntax}
-use Rattle.mon_slots.specs.Loads.{data_of, first_units, ties_refusal, program_refusal, missing_account, deck_refusal}
+use Rattle.mon_job.specs.declared.refusal.LoadError.TheVariants.{NoAccount, Cards, Syntax}
+use Rattle.mon_slots.specs.Loads.{first_units, ties_refusal, program_refusal, missing, deck_refusal}
+use Rattle.mon_slots.proofs.Shorthand.{data_of}
 use Rattle.mon_slots.specs.inner.Carding.{refused_by, cards_refused as first_tie_refused}
 use Rattle.mon_refusals.specs.Refused.{listed, first_of, tied_after, tie_listed, ties_refused, syntax_listed, statements_refused, end_refused, cards_refused, program_refused, account_refused, deck_refused}
 use Rattle.mon_refusals.proofs.Tying.{all_by}
@@ -86,7 +87,7 @@ of_program (Err refusal) = refl
 
 pub first_refusal : (accounts : List Account) (deck : JobDeck) → first_of (deck_refused accounts deck) ≡ deck_refusal accounts deck
 first_refusal accounts deck =
-    let account = missing_account (find_account accounts deck.account) in
+    let account = missing NoAccount (find_account accounts deck.account) in
     let ties = ties_refused deck.ties (replicate 100 false) in
     let program = program_refused (statements_of deck.lines) in
     let all = all_by deck.ties (data_of deck.lines (statements_of deck.lines)) in

@@ -18,8 +18,8 @@ use Rattle.mon_unit.specs.declared.units.UnitError.{UnitError}
 use Rattle.mon_job.specs.declared.deck.UnitCard.{UnitCard}
 use Rattle.mon_job.specs.declared.deck.JobDeck.{JobDeck}
 use Rattle.mon_job.specs.declared.refusal.LoadError.{LoadError}
-use Rattle.mon_job.specs.declared.refusal.LoadError.TheVariants.{Cards, Syntax}
-use Rattle.mon_slots.specs.Loads.{missing_account}
+use Rattle.mon_job.specs.declared.refusal.LoadError.TheVariants.{NoAccount, Cards, Syntax}
+use Rattle.mon_slots.specs.Loads.{missing}
 use Rattle.mon_slots.specs.inner.Carding.{refused_by}
 
 -- what there is, as a list
@@ -78,7 +78,7 @@ program_refused (Err refusal) = Syntax refusal ∷ []
 -- THE JOB
 
 abbrev pub account_refused : Option Account → List LoadError
-account_refused account = listed (missing_account account)
+account_refused account = listed (missing NoAccount account)
 
 -- its account, its unit cards, its program
 abbrev pub deck_refused : List Account → JobDeck → List LoadError

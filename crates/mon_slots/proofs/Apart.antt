@@ -3,10 +3,11 @@ use Rattle.std.proofs.Common.{◌≡◌, ◌≢◌, ℕ, zero, suc, ◌<◌, Boo
 use Rattle.std.specs.Prelude.{◌⊎◌, ◌↔◌, not, ◌&&◌, slice_get, nat_lt}
 use Rattle.std.specs.List.{list_any}
 use Rattle.std.proofs.lemmas.Map.Keys.{any_passes_from_place}
+use Rattle.std.specs.Option.{option_flatten}
 use Rattle.mon_catalogue.specs.Sets.{Sets}
 use Rattle.mon_unit.specs.Laws.{TiedTo}
 use Rattle.mon_slots.specs.declared.slot.Slot.{Slot}
-use Rattle.mon_slots.specs.Floors.{SlotState, floor, seated, seat_at}
+use Rattle.mon_slots.specs.Floors.{SlotState, floor, seat_at}
 use Rattle.mon_slots.specs.Told.{slot_of, seat_of, seats_of}
 use Rattle.mon_slots.specs.Ties.{Independent}
 use Rattle.mon_slots.specs.inner.Sharing.{seats_share, are_apart}
@@ -72,16 +73,16 @@ record Holds (slots : List (Option Slot)) (s : ℕ) (x : SlotState) : Type 0 whe
   pub is : slice_get slots s ≡ Some (Some slot)
   pub seen : slot_of slot ≡ x
 
-holds : (slots : List (Option Slot)) (s : ℕ) (x : SlotState) → seated (slice_get (seats_of slots) s) ≡ Some x → Holds slots s x
-holds slots s x h = by (slice_get slots s) refl (ap seated (sym (map_get seat_of slots s)) ∙ h)
+holds : (slots : List (Option Slot)) (s : ℕ) (x : SlotState) → option_flatten (slice_get (seats_of slots) s) ≡ Some x → Holds slots s x
+holds slots s x h = by (slice_get slots s) refl (ap option_flatten (sym (map_get seat_of slots s)) ∙ h)
   where
-    by : (o : Option (Option Slot)) → slice_get slots s ≡ o → seated (option_map seat_of o) ≡ Some x → Holds slots s x
+    by : (o : Option (Option Slot)) → slice_get slots s ≡ o → option_flatten (option_map seat_of o) ≡ Some x → Holds slots s x
     by None e q = absurd cc
     by (Some None) e q = absurd cc
     by (Some (Some slot)) e q = record { slot = slot; is = e; seen = cc (q) }
 
-held : (slots : List (Option Slot)) (s : ℕ) (slot : Slot) → slice_get slots s ≡ Some (Some slot) → seated (slice_get (seats_of slots) s) ≡ Some (slot_of slot)
-held slots s slot h = ap seated (map_get seat_of slots s ∙ ap (option_map seat_of) h)
+held : (slots : List (Option Slot)) (s : ℕ) (slot : Slot) → slice_get slots s ≡ Some (Some slot) → option_flatten (slice_get (seats_of slots) s) ≡ Some (slot_of slot)
+held slots s slot h = ap option_flatten (map_get seat_of slots s ∙ ap (option_map seat_of) h)
 
 pub apart_is : (slots : List (Option Slot)) (sets : Sets) → (are_apart slots ≡ true) ↔ Independent (floor sets (seats_of slots))
 apart_is slots sets = (

@@ -2,6 +2,7 @@
 use Rattle.std.proofs.Common.{◌≡◌, ℕ, zero, suc, ◌+◌, ◌<◌, ◌≤◌, Bool, true, List, [], ◌∷◌, length, Option, Some, None, refl, ap, sym, ◌∙◌, subst, inl, inr, arith}
 use Rattle.std.specs.Prelude.{◌⊎◌, ◌&&◌, option_map, is_some, is_none, IsSome, IfSome, slice_get, slice_set, slice_index_or}
 use Rattle.std.proofs.lemmas.Option.{slice_get_read}
+use Rattle.std.specs.Option.{option_flatten}
 use Rattle.sno_talk.specs.Exchanges.{Answered}
 use Rattle.sno_ask.specs.Asking.{Exchange}
 use Rattle.sno_ask.specs.Counting.{Passed, requests_in, statements_in}
@@ -25,12 +26,13 @@ use Rattle.mon_slots.specs.declared.slot.Slot.{Slot}
 use Rattle.mon_slots.specs.declared.turned.Turned.{Turned}
 use Rattle.mon_slots.specs.declared.turned.Turned.TheVariants.{Empty, Goes, Ended}
 use Rattle.mon_slots.specs.Told.{seat_of, seats_of}
-use Rattle.mon_slots.specs.Floors.{SlotState, Floor, floor, seated, seat_at, with_seat, job_in}
+use Rattle.mon_slots.specs.Floors.{SlotState, Floor, floor, seat_at, with_seat, job_in}
 use Rattle.mon_slots.specs.Turns.{reached, after_turn, job_end, seat, told, turned}
-use Rattle.mon_slots.specs.Marks.{Mark, passed_at, counted, may_break, broken_by, ran_as, turn_as_by, turn_as}
+use Rattle.mon_slots.specs.Marks.{Mark, passed_at, counted, may_break, ran_as, turn_as}
 use Rattle.mon_slots.specs.Turning.{TurnOr, ended_in}
 use Rattle.mon_slots.specs.inner.Stepping.{BrokenOff, Stepped, SeatStep, Leaving, StepOr, one_in, jobs_in}
 use Rattle.mon_slots.proofs.Seats.{set_get, get_set, set_set, map_get, map_set}
+use Rattle.mon_slots.proofs.Shorthand.{turn_as_by, broken_by}
 
 -- a statement may begin where a turn is broken off
 pub may_break_is : (job : Job) → job.ended ≡ None → MayBegin job → may_break job ≡ true
@@ -117,12 +119,12 @@ empty_turn s w none = record { mark = None; is = ap (λ (o : Option SlotState). 
 -- a job that had a turn in its place
 in_place : (i : ℕ) (sets sets' : Sets) (slots : List (Option SlotState)) (slot slot' : SlotState) → slice_get slots i ≡ Some (Some slot) → (st : Step)
     → Stepped slot sets st slot' sets' → StepOr (suc i) (floor sets slots) (Some st) (floor sets' (slice_set slots i (Some slot')))
-in_place i sets sets' slots slot slot' is step.Goes h = stepped_turn (suc i) sets sets' slots slot slot' (ap seated is) step.Goes h
+in_place i sets sets' slots slot slot' is step.Goes h = stepped_turn (suc i) sets sets' slots slot slot' (ap option_flatten is) step.Goes h
 in_place i sets sets' slots slot slot' is (step.Ended e) h = record {
   slot = slot';
-  there = ap seated (get_set slots i (Some slot) (Some slot') is);
+  there = ap option_flatten (get_set slots i (Some slot) (Some slot') is);
   turn = subst (λ (l : List (Option SlotState)). TurnOr (suc i) (floor sets slots) (Ended (job_end slot' e)) (floor sets' l)) (sym (set_set slots i (Some slot') None))
-      (stepped_turn (suc i) sets sets' slots slot slot' (ap seated is) (step.Ended e) h);
+      (stepped_turn (suc i) sets sets' slots slot slot' (ap option_flatten is) (step.Ended e) h);
 }
 
 -- a turn of the seat in its place
@@ -130,7 +132,7 @@ step_by : (i : ℕ) (sets sets' : Sets) (slots : List (Option SlotState)) (o sea
     → SeatStep o sets r seat' sets' → StepOr (suc i) (floor sets slots) r (floor sets' (slice_set slots i seat'))
 step_by i sets sets' slots None seat' r is h =
     let same : slice_set slots i seat' ≡ slots = ap (slice_set slots i) h.1 ∙ set_get slots i None is in
-    let one = empty_turn (suc i) (floor sets slots) (ap seated is) in
+    let one = empty_turn (suc i) (floor sets slots) (ap option_flatten is) in
     subst (λ (u : Option Step). StepOr (suc i) (floor sets slots) u (floor sets' (slice_set slots i seat'))) (sym h.0)
     (subst (λ (l : List (Option SlotState)). TurnOr (suc i) (floor sets slots) Empty (floor sets' l)) (sym same)
     (subst (λ (v : Sets). TurnOr (suc i) (floor sets slots) Empty (floor v slots)) (sym h.2) one))
@@ -145,7 +147,7 @@ seat_step i s sets sets' slots o seat' r e is h =
     subst (λ (n : ℕ). StepOr n (floor sets slots) r (floor sets' (slice_set slots i seat'))) (sym e) (step_by i sets sets' slots o seat' r is h)
 
 -- how many jobs there are
-set_jobs : (slots : List (Option SlotState)) (i : ℕ) (slot : SlotState) (o : Option SlotState) → seated (slice_get slots i) ≡ Some slot
+set_jobs : (slots : List (Option SlotState)) (i : ℕ) (slot : SlotState) (o : Option SlotState) → option_flatten (slice_get slots i) ≡ Some slot
     → suc (jobs_in (slice_set slots i o)) ≡ one_in o + jobs_in slots
 set_jobs [] i slot o h = absurd cc
 set_jobs (x ∷ slots) zero slot o h =
@@ -212,7 +214,7 @@ some_in None h = absurd cc
 some_in (Some x) h = refl
 
 pub seat_is : (i s : ℕ) (slots : List (Option Slot)) (o : Option Slot) → s ≡ suc i → slice_get slots i ≡ Some o → seat_at s (seats_of slots) ≡ seat_of o
-seat_is i s slots o e is = ap (λ (n : ℕ). seat_at n (seats_of slots)) e ∙ ap seated (map_get seat_of slots i ∙ ap (option_map seat_of) is)
+seat_is i s slots o e is = ap (λ (n : ℕ). seat_at n (seats_of slots)) e ∙ ap option_flatten (map_get seat_of slots i ∙ ap (option_map seat_of) is)
 
 pub seat_emptied : (i s : ℕ) (slots : List (Option Slot)) (o : Option Slot) → s ≡ suc i → seat_of o ≡ None → seats_of (slice_set slots i o) ≡ with_seat s None (seats_of slots)
 seat_emptied i s slots o e none =

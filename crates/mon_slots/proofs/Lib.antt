@@ -1,3 +1,4 @@
+pub mod Shorthand
 pub mod Seats
 pub mod Seating
 pub mod Begun

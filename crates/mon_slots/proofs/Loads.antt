@@ -21,11 +21,11 @@ use Rattle.mon_unit.specs.declared.units.UnitError.{UnitError}
 use Rattle.mon_unit.specs.State.{UnitState}
 use Rattle.mon_job.specs.declared.deck.JobDeck.{JobDeck}
 use Rattle.mon_job.specs.declared.refusal.LoadError.{LoadError}
-use Rattle.mon_job.specs.declared.refusal.LoadError.TheVariants.{NoSlot, Cards, Syntax}
+use Rattle.mon_job.specs.declared.refusal.LoadError.TheVariants.{NoSlot, NoAccount, Cards, Syntax}
 use Rattle.mon_slots.specs.declared.slot.Slot.{Slot}
-use Rattle.mon_slots.specs.Floors.{SlotState, with_seat, free_from, first_free}
+use Rattle.mon_slots.specs.Floors.{SlotState, with_seat, first_free}
 use Rattle.mon_slots.specs.Told.{slot_of, seat_of, seats_of}
-use Rattle.mon_slots.specs.Loads.{first_units, with_ties, ties_refusal, program_refusal, program_in, slot_refusal, missing_account, deck_refusal, slot_by, slot_in, loaded_by, job_loaded}
+use Rattle.mon_slots.specs.Loads.{first_units, with_ties, ties_refusal, program_refusal, program_in, missing, deck_refusal, slot_by, slot_in, loaded_by, job_loaded}
 use Rattle.mon_slots.specs.inner.Spelling.{IsSpelled}
 use Rattle.mon_slots.proofs.Seats.{map_set}
 
@@ -53,7 +53,7 @@ pub deck_refused_by : (accounts : List Account) (deck : JobDeck) (account : Acco
     → find_account accounts deck.account ≡ Some account → ties_refusal deck.ties (first_units deck.lines) ≡ None → program_refusal (statements_of deck.lines) ≡ said
     → deck_refusal accounts deck ≡ said
 deck_refused_by accounts deck account said f t p =
-    ap (λ o. option_or (missing_account o) (option_or (option_map Cards (ties_refusal deck.ties (first_units deck.lines))) (program_refusal (statements_of deck.lines)))) f
+    ap (λ o. option_or (missing NoAccount o) (option_or (option_map Cards (ties_refusal deck.ties (first_units deck.lines))) (program_refusal (statements_of deck.lines)))) f
     ∙ ap (λ (o : Option UnitError). option_or (option_map Cards o) (program_refusal (statements_of deck.lines))) t ∙ p
 
 pub stop_refused_by : (accounts : List Account) (deck : JobDeck) (account : Account) (stop : Stop LoadError)
@@ -64,12 +64,12 @@ stop_refused_by accounts deck account Memory f t p = tt
 
 -- SEATS
 
-free_at : (n : ℕ) (slots : List (Option Slot)) → free_from (suc n) (seats_of slots) ≡ option_map suc (position_from (λ seat. is_none seat) n slots)
+free_at : (n : ℕ) (slots : List (Option Slot)) → position_from is_none (suc n) (seats_of slots) ≡ option_map suc (position_from (λ seat. is_none seat) n slots)
 free_at n [] = refl
 free_at n (None ∷ slots) = refl
 free_at n (Some x ∷ slots) =
-    let e : suc n ≡ n + 1 = omega (arith) in
-    subst (λ (m : ℕ). free_from (suc (suc n)) (seats_of slots) ≡ option_map suc (position_from (λ seat. is_none seat) m slots)) e (free_at (suc n) slots)
+    let e : suc (n + 1) ≡ suc n + 1 = omega arith in
+    subst (λ (m : ℕ). position_from is_none m (seats_of slots) ≡ option_map suc (position_from (λ seat. is_none seat) (n + 1) slots)) e (free_at (n + 1) slots)
 
 -- the lowest free slot is the first empty one
 pub free_is : (slots : List (Option Slot)) → first_free (seats_of slots) ≡ option_map suc (position (λ seat. is_none seat) slots)
@@ -85,19 +85,19 @@ within slots i e = (position-Some (λ seat. is_none seat) slots i None e).0
 -- LOADS
 
 pub no_slot : (accounts : List Account) (deck : JobDeck) (slots : List (Option SlotState)) → first_free slots ≡ None → job_loaded accounts deck slots ≡ (Err NoSlot, slots)
-no_slot accounts deck slots e = ap (λ o. loaded_by (option_or (slot_refusal o) (deck_refusal accounts deck)) o (slot_in accounts deck) slots) e
+no_slot accounts deck slots e = ap (λ o. loaded_by (option_or (missing NoSlot o) (deck_refusal accounts deck)) o (slot_in accounts deck) slots) e
 
 pub deck_refused : (accounts : List Account) (deck : JobDeck) (slots : List (Option SlotState)) (n : ℕ) (refusal : LoadError)
     → first_free slots ≡ Some n → deck_refusal accounts deck ≡ Some refusal → job_loaded accounts deck slots ≡ (Err refusal, slots)
 deck_refused accounts deck slots n refusal e d =
-    ap (λ o. loaded_by (option_or (slot_refusal o) (deck_refusal accounts deck)) o (slot_in accounts deck) slots) e
+    ap (λ o. loaded_by (option_or (missing NoSlot o) (deck_refusal accounts deck)) o (slot_in accounts deck) slots) e
     ∙ ap (λ o. loaded_by o (Some n) (slot_in accounts deck) slots) d
 
 pub deck_loaded : (accounts : List Account) (deck : JobDeck) (slots : List (Option SlotState)) (n : ℕ) (slot : SlotState)
     → first_free slots ≡ Some n → deck_refusal accounts deck ≡ None → slot_in accounts deck ≡ Some slot
     → job_loaded accounts deck slots ≡ (Ok n, with_seat n (Some slot) slots)
 deck_loaded accounts deck slots n slot e d s =
-    ap (λ o. loaded_by (option_or (slot_refusal o) (deck_refusal accounts deck)) o (slot_in accounts deck) slots) e
+    ap (λ o. loaded_by (option_or (missing NoSlot o) (deck_refusal accounts deck)) o (slot_in accounts deck) slots) e
     ∙ ap (λ o. loaded_by o (Some n) (slot_in accounts deck) slots) d ∙ ap (λ o. loaded_by None (Some n) o slots) s
 
 -- what `?` hands on is the stop that was there

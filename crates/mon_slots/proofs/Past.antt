@@ -1,7 +1,8 @@
 -- Turns until a floor is one to stop at, and rounds of them.
 use Rattle.std.proofs.Common.{◌≡◌, ◌≢◌, ℕ, zero, suc, ◌+◌, ◌≤◌, Bool, true, false, List, [], ◌∷◌, ◌++◌, length, Option, Some, None, refl, ap, sym, ◌∙◌, subst, inl, inr, arith, append_assoc, append-nil}
-use Rattle.std.specs.Prelude.{◌⊎◌, if◌then◌else◌, slice_get, slice_set, is_some}
-use Rattle.std.specs.List.{AllByRecursion}
+use Rattle.std.specs.Prelude.{◌⊎◌, if◌then◌else◌, slice_get, slice_set, is_some, is_none, drop}
+use Rattle.std.specs.List.{AllByRecursion, list_all, range_with_len}
+use Rattle.std.specs.Option.{option_flatten}
 use Rattle.mon_catalogue.specs.Sets.{Sets}
 use Rattle.sno_run.specs.declared.ending.Ending.TheVariants.{Memory}
 use Rattle.sno_run.specs.declared.ending.Step.{Step}
@@ -10,12 +11,13 @@ use Rattle.mon_unit.specs.Serving.{serve}
 use Rattle.mon_job.specs.declared.job_end.JobEnd.{JobEnd}
 use Rattle.mon_slots.specs.declared.turned.Turned.{Turned}
 use Rattle.mon_slots.specs.declared.turned.Turned.TheVariants.{Ended}
-use Rattle.mon_slots.specs.Floors.{SlotState, Floor, seated, seat_at, with_seat, job_in, all_empty, first_free}
+use Rattle.mon_slots.specs.Floors.{SlotState, Floor, seat_at, with_seat, job_in, first_free}
 use Rattle.mon_slots.specs.Turns.{reached, ran, after_turn, seat, turned, turn_by, turn, ends_by}
-use Rattle.mon_slots.specs.Marks.{Mark, Marks, mark_of, later, may_break, broken_by, ran_as, turn_as_by, turn_as, Past, nothing, ends_then, until, marked, from, rounds, turns_ahead, turns_left, is_done, has_free_slot, drain, room}
+use Rattle.mon_slots.specs.Marks.{Mark, Marks, mark_of, may_break, ran_as, turn_as, Past, nothing, ends_then, until, marked, rounds, turns_left, is_done, has_free_slot, drain, room}
 use Rattle.mon_slots.specs.Rounds.{Unmarked, NoneByMemory, TakesOneMark, AtLast, Enough}
 use Rattle.mon_slots.proofs.Begun.{Less, job_less}
 use Rattle.mon_slots.proofs.Seats.{seat_length, none_at}
+use Rattle.mon_slots.proofs.Shorthand.{turns_ahead, turn_as_by, broken_by}
 
 pub either_way : (b : Bool) → (b ≡ true) ⊎ (b ≡ false)
 either_way true = inl refl
@@ -34,7 +36,7 @@ seat_less step.Goes slot slot' (inl h) = absurd (let k : step.Goes ≡ step.Ende
 seat_less step.Goes slot slot' (inr h) = omega (arith, h)
 seat_less (step.Ended e) slot slot' h = omega arith
 
-set_less : (slots : List (Option SlotState)) (i : ℕ) (slot : SlotState) (o : Option SlotState) → seated (slice_get slots i) ≡ Some slot → suc (turns_ahead o) ≤ turns_ahead (Some slot)
+set_less : (slots : List (Option SlotState)) (i : ℕ) (slot : SlotState) (o : Option SlotState) → option_flatten (slice_get slots i) ≡ Some slot → suc (turns_ahead o) ≤ turns_ahead (Some slot)
     → suc (turns_left (slice_set slots i o)) ≤ turns_left slots
 set_less [] i slot o h g = absurd cc
 set_less (x ∷ slots) zero slot o h g =
@@ -71,12 +73,12 @@ module _ (stop : Floor → Bool) where
   pub until_stops : (E : List ℕ) (m : Marks) (w : Floor) → stop w ≡ true → until stop E m w ≡ nothing m w
   until_stops [] m w h = refl
   until_stops (s ∷ E) m w h = ap (λ (b : Bool). if b then nothing m w
-      else ends_then (ends_by s (turn_as (mark_of m) s w).0) (until stop E (later m) (turn_as (mark_of m) s w).1)) h
+      else ends_then (ends_by s (turn_as (mark_of m) s w).0) (until stop E (drop 1 m) (turn_as (mark_of m) s w).1)) h
 
   pub until_goes : (s : ℕ) (E : List ℕ) (m : Marks) (w : Floor) → stop w ≡ false
-      → until stop (s ∷ E) m w ≡ ends_then (ends_by s (turn_as (mark_of m) s w).0) (until stop E (later m) (turn_as (mark_of m) s w).1)
+      → until stop (s ∷ E) m w ≡ ends_then (ends_by s (turn_as (mark_of m) s w).0) (until stop E (drop 1 m) (turn_as (mark_of m) s w).1)
   until_goes s E m w h = ap (λ (b : Bool). if b then nothing m w
-      else ends_then (ends_by s (turn_as (mark_of m) s w).0) (until stop E (later m) (turn_as (mark_of m) s w).1)) h
+      else ends_then (ends_by s (turn_as (mark_of m) s w).0) (until stop E (drop 1 m) (turn_as (mark_of m) s w).1)) h
 
   abbrev pub after_past : List ℕ → Past → Past
   after_past F p = ends_then p.ends (until stop F p.marks p.after)
@@ -90,9 +92,9 @@ module _ (stop : Floor → Bool) where
     | inr h ↦
         let t = turn_as (mark_of m) s w in
         let e = ends_by s t.0 in
-        let p = until stop E (later m) t.1 in
+        let p = until stop E (drop 1 m) t.1 in
         until_goes s (E ++ F) m w h
-        ∙ ap (ends_then e) (until_append E F (later m) t.1)
+        ∙ ap (ends_then e) (until_append E F (drop 1 m) t.1)
         ∙ ap (λ (l : List (ℕ × JobEnd)). let q : Past = record { ends = l; after = (until stop F p.marks p.after).after; marks = (until stop F p.marks p.after).marks } in q)
         (sym (append_assoc e p.ends (until stop F p.marks p.after).ends))
         ∙ sym (ap (after_past F) (until_goes s E m w h))
@@ -103,7 +105,7 @@ module _ (stop : Floor → Bool) where
   until_length (s ∷ E) m w = elim (either_way (stop w)) [
     | inl h ↦ ap (λ (p : Past). length p.after.slots) (until_stops (s ∷ E) m w h)
     | inr h ↦
-        ap (λ (p : Past). length p.after.slots) (until_goes s E m w h) ∙ until_length E (later m) (turn_as (mark_of m) s w).1
+        ap (λ (p : Past). length p.after.slots) (until_goes s E m w h) ∙ until_length E (drop 1 m) (turn_as (mark_of m) s w).1
         ∙ turn_length (mark_of m) s w
   ]
 
@@ -117,7 +119,7 @@ module _ (stop : Floor → Bool) where
     | inl h ↦ inr (ap (λ (p : Past). p.after) (until_stops (s ∷ E) m w h), inl h)
     | inr h ↦
         subst (λ (p : Past). Went (s ∷ E) w p.after) (sym (until_goes s E m w h))
-        (more (turn_as (mark_of m) s w).1 (until stop E (later m) (turn_as (mark_of m) s w).1).after (falls (mark_of m) s w) (went E (later m) (turn_as (mark_of m) s w).1))
+        (more (turn_as (mark_of m) s w).1 (until stop E (drop 1 m) (turn_as (mark_of m) s w).1).after (falls (mark_of m) s w) (went E (drop 1 m) (turn_as (mark_of m) s w).1))
   ]
     where
       empty_too : (v : Floor) → v ≡ w → job_in s w ≡ None → (stop v ≡ true) ⊎ AllByRecursion (λ t. job_in t v ≡ None) E → (stop w ≡ true) ⊎ AllByRecursion (λ t. job_in t w ≡ None) (s ∷ E)
@@ -131,45 +133,47 @@ module _ (stop : Floor → Bool) where
       more v w' (inr f) (inr h) = inl (subst (λ (x : Floor). suc (turns_left x.slots) ≤ turns_left w.slots) (sym h.0) f)
 
 -- slots that are all empty
-shift : (P : ℕ → Type 0) (i n : ℕ) → AllByRecursion P (from (suc i) n) → AllByRecursion (λ k. P (suc k)) (from i n)
+shift : (P : ℕ → Type 0) (i n : ℕ) → AllByRecursion P (range_with_len (suc i) n) → AllByRecursion (λ k. P (suc k)) (range_with_len i n)
 shift P i zero h = tt
-shift P i (suc n) h = (h.0, shift P (suc i) n h.1)
+shift P i (suc n) h =
+    let e : suc i + 1 ≡ suc (i + 1) = omega arith in
+    (h.0, shift P (i + 1) n (subst (λ (k : ℕ). AllByRecursion P (range_with_len k n)) e h.1))
 
-empties : (slots : List (Option SlotState)) → AllByRecursion (λ i. seated (slice_get slots i) ≡ None) (from 0 (length slots)) → all_empty slots ≡ true
+empties : (slots : List (Option SlotState)) → AllByRecursion (λ i. option_flatten (slice_get slots i) ≡ None) (range_with_len 0 (length slots)) → list_all is_none slots ≡ true
 empties [] h = refl
-empties (None ∷ slots) h = empties slots (shift (λ i. seated (slice_get (None ∷ slots) i) ≡ None) 0 (length slots) h.1)
+empties (None ∷ slots) h = empties slots (shift (λ i. option_flatten (slice_get (None ∷ slots) i) ≡ None) 0 (length slots) h.1)
 empties (Some x ∷ slots) h = absurd (let k : Some x ≡ None = h.0 in cc (k))
 
-all_in : (slots : List (Option SlotState)) → AllByRecursion (λ s. seat_at s slots ≡ None) (from 1 (length slots)) → all_empty slots ≡ true
+all_in : (slots : List (Option SlotState)) → AllByRecursion (λ s. seat_at s slots ≡ None) (range_with_len 1 (length slots)) → list_all is_none slots ≡ true
 all_in slots h = empties slots (shift (λ s. seat_at s slots ≡ None) 0 (length slots) h)
 
-pub none_left : (slots : List (Option SlotState)) → turns_left slots ≤ 0 → all_empty slots ≡ true
+pub none_left : (slots : List (Option SlotState)) → turns_left slots ≤ 0 → list_all is_none slots ≡ true
 none_left [] h = refl
 none_left (None ∷ slots) h = none_left slots (omega (arith, h))
 none_left (Some x ∷ slots) h = absurd (omega (arith, h))
 
 module _ (stop : Floor → Bool) (size : ℕ) (at_last : (v : Floor) → length v.slots ≡ size → is_done v ≡ true → stop v ≡ true) where
   -- a round leaves fewer turns
-  pub round_falls : (m : Marks) (w : Floor) → length w.slots ≡ size → stop w ≡ false → suc (turns_left (until stop (from 1 size) m w).after.slots) ≤ turns_left w.slots
-  round_falls m w is busy = by (went stop (from 1 size) m w)
+  pub round_falls : (m : Marks) (w : Floor) → length w.slots ≡ size → stop w ≡ false → suc (turns_left (until stop (range_with_len 1 size) m w).after.slots) ≤ turns_left w.slots
+  round_falls m w is busy = by (went stop (range_with_len 1 size) m w)
     where
       not_stopped : {A : Type 0} → stop w ≡ true → A
       not_stopped h = absurd (let k : true ≡ false = sym h ∙ busy in cc (k))
 
-      by : Went stop (from 1 size) w (until stop (from 1 size) m w).after → suc (turns_left (until stop (from 1 size) m w).after.slots) ≤ turns_left w.slots
+      by : Went stop (range_with_len 1 size) w (until stop (range_with_len 1 size) m w).after → suc (turns_left (until stop (range_with_len 1 size) m w).after.slots) ≤ turns_left w.slots
       by (inl h) = h
       by (inr (e, inl h)) = not_stopped h
-      by (inr (e, inr h)) = not_stopped (at_last w is (all_in w.slots (subst (λ (n : ℕ). AllByRecursion (λ s. job_in s w ≡ None) (from 1 n)) (sym is) h)))
+      by (inr (e, inr h)) = not_stopped (at_last w is (all_in w.slots (subst (λ (n : ℕ). AllByRecursion (λ s. job_in s w ≡ None) (range_with_len 1 n)) (sym is) h)))
 
   pub rounds_stop : (n : ℕ) (m : Marks) (w : Floor) → length w.slots ≡ size → turns_left w.slots ≤ n → stop (until stop (rounds n size) m w).after ≡ true
   rounds_stop zero m w is h = at_last w is (none_left w.slots h)
   rounds_stop (suc n) m w is h = elim (either_way (stop w)) [
     | inl k ↦ ap (λ (q : Past). stop q.after) (until_stops stop (rounds (suc n) size) m w k) ∙ k
     | inr k ↦
-        let p = until stop (from 1 size) m w in
+        let p = until stop (range_with_len 1 size) m w in
         let less = round_falls m w is k in
-        ap (λ (q : Past). stop q.after) (until_append stop (from 1 size) (rounds n size) m w)
-        ∙ rounds_stop n p.marks p.after (until_length stop (from 1 size) m w ∙ is) (omega (arith, h, less))
+        ap (λ (q : Past). stop q.after) (until_append stop (range_with_len 1 size) (rounds n size) m w)
+        ∙ rounds_stop n p.marks p.after (until_length stop (range_with_len 1 size) m w ∙ is) (omega (arith, h, less))
   ]
 
   pub rounds_same : (n k : ℕ) (m : Marks) (w : Floor) → length w.slots ≡ size → turns_left w.slots ≤ n → turns_left w.slots ≤ k
@@ -183,11 +187,11 @@ module _ (stop : Floor → Bool) (size : ℕ) (at_last : (v : Floor) → length 
   rounds_same (suc n) (suc k) m w is h g = elim (either_way (stop w)) [
     | inl e ↦ until_stops stop (rounds (suc n) size) m w e ∙ sym (until_stops stop (rounds (suc k) size) m w e)
     | inr e ↦
-        let p = until stop (from 1 size) m w in
+        let p = until stop (range_with_len 1 size) m w in
         let less = round_falls m w is e in
-        until_append stop (from 1 size) (rounds n size) m w
-        ∙ ap (ends_then p.ends) (rounds_same n k p.marks p.after (until_length stop (from 1 size) m w ∙ is) (omega (arith, h, less)) (omega (arith, g, less)))
-        ∙ sym (until_append stop (from 1 size) (rounds k size) m w)
+        until_append stop (range_with_len 1 size) (rounds n size) m w
+        ∙ ap (ends_then p.ends) (rounds_same n k p.marks p.after (until_length stop (range_with_len 1 size) m w ∙ is) (omega (arith, h, less)) (omega (arith, g, less)))
+        ∙ sym (until_append stop (range_with_len 1 size) (rounds k size) m w)
   ]
 
 pub enough : (stop : Floor → Bool) (w : Floor) → AtLast stop w → (m : Marks) → Enough stop w m
@@ -199,7 +203,7 @@ enough stop w at_last m = record {
 pub drain_empties : (w : Floor) (m : Marks) (s : ℕ) → job_in s (drain m w).after ≡ None
 drain_empties w m s = none_at (drain m w).after.slots (enough is_done w (λ v is h. h) m).stops s
 
-pub first_is_free : (slots : List (Option SlotState)) → length slots ≢ 0 → all_empty slots ≡ true → is_some (first_free slots) ≡ true
+pub first_is_free : (slots : List (Option SlotState)) → length slots ≢ 0 → list_all is_none slots ≡ true → is_some (first_free slots) ≡ true
 first_is_free [] h g = absurd (h refl)
 first_is_free (None ∷ slots) h g = refl
 first_is_free (Some x ∷ slots) h g = absurd cc
@@ -258,11 +262,11 @@ marks_end_jobs stop w (s ∷ E) m none = elim (either_way (stop w)) [
       let t = turn_as (mark_of m) s w in
       let e = until_goes stop s E m w h in
       let f = until_goes stop s E [] w h in
-      let parts = parted (ends_by s t.0) (until stop E (later m) t.1).ends (subst (λ (p : Past). NoneByMemory p.ends) e none) in
+      let parts = parted (ends_by s t.0) (until stop E (drop 1 m) t.1).ends (subst (λ (p : Past). NoneByMemory p.ends) e none) in
       elim (mark_ends_by (mark_of m) s (job_in s w) w) [
         | inl k ↦
             let one : t ≡ turn_as None s w = k in
-            let rest = marks_end_jobs stop t.1 E (later m) parts.1 in (
+            let rest = marks_end_jobs stop t.1 E (drop 1 m) parts.1 in (
               ap (λ (p : Past). p.ends) e ∙ ap (λ (l : List (ℕ × JobEnd)). ends_by s t.0 ++ l) rest.0
                   ∙ ap (λ (u : Turned × Floor). ends_by s u.0 ++ (until stop E [] u.1).ends) one ∙ sym (ap (λ (p : Past). p.ends) f),
               ap (λ (p : Past). p.after) e ∙ rest.1

@@ -1,6 +1,7 @@
 -- What the loops over turns and rounds come to.
 use Rattle.std.proofs.Common.{◌≡◌, ◌≢◌, ℕ, suc, ◌+◌, ◌-◌, ◌<◌, ◌≤◌, Bool, true, false, List, [], ◌∷◌, ◌++◌, length, refl, ap, sym, ◌∙◌, subst, inl, inr, arith, append_assoc}
 use Rattle.std.specs.Prelude.{map}
+use Rattle.std.specs.List.{range_with_len}
 use Rattle.mon_job.specs.declared.job_end.JobEnd.{JobEnd}
 use Rattle.mon_slots.specs.declared.turned.Turned.{Turned}
 use Rattle.mon_slots.specs.declared.turned.Turned.TheVariants.{Empty, Goes, Ended}
@@ -8,7 +9,7 @@ use Rattle.mon_slots.specs.declared.rounds.Goal.{Goal}
 use Rattle.mon_slots.specs.declared.rounds.Goal.TheVariants as goal
 use Rattle.mon_slots.specs.Floors.{Floor}
 use Rattle.mon_slots.specs.Turns.{ends_by}
-use Rattle.mon_slots.specs.Marks.{Marks, Past, nothing, ends_then, until, from, rounds, turns_left, rounds_until, is_done}
+use Rattle.mon_slots.specs.Marks.{Marks, Past, nothing, ends_then, until, rounds, turns_left, rounds_until, is_done}
 use Rattle.mon_slots.specs.Turning.{TurnOr, Passed, UntilIs, RoundsAre, ended_in}
 use Rattle.mon_slots.specs.inner.Rounding.{Ahead, RoundTo, Going, Unless, stop_of}
 use Rattle.mon_slots.proofs.Past.{until_stops, until_goes, until_append, until_length, after_past, rounds_same, round_falls, room_at_last}
@@ -75,50 +76,49 @@ module _ (stop : Floor → Bool) where
   }
 
   -- the loop over a round
-  pub round_begins : (w : Floor) (before : List JobEnd) → RoundTo stop w before before (from (0 + 1) (length w.slots - 0)) w
+  pub round_begins : (w : Floor) (before : List JobEnd) → RoundTo stop w before before (range_with_len (0 + 1) (length w.slots - 0)) w
   round_begins w before =
       let e : length w.slots ≡ length w.slots - 0 = omega arith in
-      subst (λ (n : ℕ). RoundTo stop w before before (from 1 n) w) e (record { more = []; grown = sym (append_empty before); is = begin (from 1 (length w.slots)) w })
+      subst (λ (n : ℕ). RoundTo stop w before before (range_with_len 1 n) w) e (record { more = []; grown = sym (append_empty before); is = begin (range_with_len 1 (length w.slots)) w })
 
-  from_step : (s n : ℕ) → s < n → from (s + 1) (n - s) ≡ (s + 1) ∷ from (s + 1 + 1) (n - (s + 1))
+  from_step : (s n : ℕ) → s < n → range_with_len (s + 1) (n - s) ≡ (s + 1) ∷ range_with_len (s + 1 + 1) (n - (s + 1))
   from_step s n h =
       let e : n - s ≡ suc (n - (s + 1)) = omega (arith, h) in
-      let f : suc (s + 1) ≡ s + 1 + 1 = omega arith in
-      ap (from (s + 1)) e ∙ ap (λ (k : ℕ). (s + 1) ∷ from k (n - (s + 1))) f
+      ap (range_with_len (s + 1)) e
 
   pub round_skip : (w : Floor) (before ends : List JobEnd) (s n : ℕ) (now : Floor) → s < n → stop now ≡ true
-      → RoundTo stop w before ends (from (s + 1) (n - s)) now → RoundTo stop w before ends (from (s + 1 + 1) (n - (s + 1))) now
+      → RoundTo stop w before ends (range_with_len (s + 1) (n - s)) now → RoundTo stop w before ends (range_with_len (s + 1 + 1) (n - (s + 1))) now
   round_skip w before ends s n now below d r = record {
     more = r.more;
     grown = r.grown;
-    is = ahead_skip (from 1 (length w.slots)) w r.more (s + 1) (from (s + 1 + 1) (n - (s + 1))) now d
-        (subst (λ (F : List ℕ). Ahead stop (from 1 (length w.slots)) w r.more F now) (from_step s n below) r.is);
+    is = ahead_skip (range_with_len 1 (length w.slots)) w r.more (s + 1) (range_with_len (s + 1 + 1) (n - (s + 1))) now d
+        (subst (λ (F : List ℕ). Ahead stop (range_with_len 1 (length w.slots)) w r.more F now) (from_step s n below) r.is);
   }
 
   pub round_turn : (w : Floor) (before ends ends' : List JobEnd) (s n : ℕ) (now now' : Floor) (t : Turned) → s < n → stop now ≡ false
-      → RoundTo stop w before ends (from (s + 1) (n - s)) now → TurnOr (s + 1) now t now' → ends' ≡ ends ++ ended_in t
-      → RoundTo stop w before ends' (from (s + 1 + 1) (n - (s + 1))) now'
+      → RoundTo stop w before ends (range_with_len (s + 1) (n - s)) now → TurnOr (s + 1) now t now' → ends' ≡ ends ++ ended_in t
+      → RoundTo stop w before ends' (range_with_len (s + 1 + 1) (n - (s + 1))) now'
   round_turn w before ends ends' s n now now' t below d r one is = record {
     more = r.more ++ ended_in t;
     grown = is ∙ ap (λ (l : List JobEnd). l ++ ended_in t) r.grown ∙ append_assoc before r.more (ended_in t);
-    is = ahead_more (from 1 (length w.slots)) w r.more (r.more ++ ended_in t) (s + 1) (from (s + 1 + 1) (n - (s + 1))) now now' t d
-        (subst (λ (F : List ℕ). Ahead stop (from 1 (length w.slots)) w r.more F now) (from_step s n below) r.is) one refl;
+    is = ahead_more (range_with_len 1 (length w.slots)) w r.more (r.more ++ ended_in t) (s + 1) (range_with_len (s + 1 + 1) (n - (s + 1))) now now' t d
+        (subst (λ (F : List ℕ). Ahead stop (range_with_len 1 (length w.slots)) w r.more F now) (from_step s n below) r.is) one refl;
   }
 
   pub round_step : (w : Floor) (before ends ends' : List JobEnd) (s n : ℕ) (now now' : Floor) → s < n
-      → RoundTo stop w before ends (from (s + 1) (n - s)) now → Unless stop (s + 1) now ends ends' now'
-      → RoundTo stop w before ends' (from (s + 1 + 1) (n - (s + 1))) now'
+      → RoundTo stop w before ends (range_with_len (s + 1) (n - s)) now → Unless stop (s + 1) now ends ends' now'
+      → RoundTo stop w before ends' (range_with_len (s + 1 + 1) (n - (s + 1))) now'
   round_step w before ends ends' s n now now' below r (inl u) =
       let same = round_skip w before ends s n now below u.0 r in
-      subst (λ (l : List JobEnd). RoundTo stop w before l (from (s + 1 + 1) (n - (s + 1))) now') (sym u.1)
-      (subst (λ (v : Floor). RoundTo stop w before ends (from (s + 1 + 1) (n - (s + 1))) v) (sym u.2) same)
+      subst (λ (l : List JobEnd). RoundTo stop w before l (range_with_len (s + 1 + 1) (n - (s + 1))) now') (sym u.1)
+      (subst (λ (v : Floor). RoundTo stop w before ends (range_with_len (s + 1 + 1) (n - (s + 1))) v) (sym u.2) same)
   round_step w before ends ends' s n now now' below r (inr u) = round_turn w before ends ends' s n now now' u.1.told below u.0 r u.1.is u.1.kept
 
 -- a whole round
 module _ (stop : Floor → Bool) (size : ℕ) (at_last : (v : Floor) → length v.slots ≡ size → is_done v ≡ true → stop v ≡ true)
-    (w : Floor) (ends : List JobEnd) (now : Floor) (is_size : length w.slots ≡ size) (h : Ahead stop (from 1 size) w ends [] now) where
+    (w : Floor) (ends : List JobEnd) (now : Floor) (is_size : length w.slots ≡ size) (h : Ahead stop (range_with_len 1 size) w ends [] now) where
   pub round_length : length now.slots ≡ size
-  round_length = sym (ap (λ (p : Past). length p.after.slots) (h.is [])) ∙ until_length stop (from 1 size) (h.marks ++ []) w ∙ is_size
+  round_length = sym (ap (λ (p : Past). length p.after.slots) (h.is [])) ∙ until_length stop (range_with_len 1 size) (h.marks ++ []) w ∙ is_size
 
   pub round_less : stop w ≡ false → suc (turns_left now.slots) ≤ turns_left w.slots
   round_less busy =
@@ -131,7 +131,7 @@ module _ (stop : Floor → Bool) (size : ℕ) (at_last : (v : Floor) → length 
       let n = turns_left w.slots in
       ap (λ (k : ℕ). until stop (rounds n k) (h.marks ++ rest) w) is_size
       ∙ rounds_same stop size at_last n (suc n) (h.marks ++ rest) w is_size (omega arith) (omega arith)
-      ∙ until_append stop (from 1 size) (rounds n size) (h.marks ++ rest) w
+      ∙ until_append stop (range_with_len 1 size) (rounds n size) (h.marks ++ rest) w
       ∙ ap (after_past stop (rounds n size)) (h.is rest)
       ∙ ap (λ (l : List (ℕ × JobEnd)). let p = until stop (rounds n size) rest now in let q : Past = record { ends = l ++ p.ends; after = p.after; marks = p.marks } in q) (append_empty h.numbered)
       ∙ ap (ends_then h.numbered) (rounds_same stop size at_last n (turns_left now.slots) rest now round_length (omega (arith, less)) (omega arith)
@@ -144,7 +144,7 @@ going_begins stop w = record { marks = []; numbered = []; ended = refl; is = λ 
 module _ (stop : Floor → Bool) where
   pub going_more : (w : Floor) (ends : List JobEnd) (now now' : Floor) (more : List JobEnd)
       → ((v : Floor) → length v.slots ≡ length now.slots → is_done v ≡ true → stop v ≡ true) → stop now ≡ false
-      → Going stop w ends now → Ahead stop (from 1 (length now.slots)) now more [] now' → Going stop w (ends ++ more) now'
+      → Going stop w ends now → Ahead stop (range_with_len 1 (length now.slots)) now more [] now' → Going stop w (ends ++ more) now'
   going_more w ends now now' more at_last busy h one = record {
     marks = h.marks ++ one.marks;
     numbered = h.numbered ++ one.numbered;

@@ -1,9 +1,10 @@
 -- Seats that are looked at after one was changed.
-use Rattle.std.proofs.Common.{◌≡◌, ℕ, zero, suc, Bool, true, false, List, [], ◌∷◌, length, Option, Some, None, refl, ap}
+use Rattle.std.proofs.Common.{◌≡◌, ℕ, zero, suc, ◌+◌, Bool, true, false, List, [], ◌∷◌, length, Option, Some, None, refl, ap}
 use Rattle.std.specs.Prelude.{replicate, map, option_map, slice_get, slice_set, is_some, is_none, IsSome}
-use Rattle.std.specs.List.{list_any, list_all}
+use Rattle.std.specs.List.{list_any, list_all, position_from}
+use Rattle.std.specs.Option.{option_flatten}
 use Rattle.mon_slots.specs.declared.slot.Slot.{Slot}
-use Rattle.mon_slots.specs.Floors.{SlotState, seated, seat_at, with_seat, all_empty, free_from, first_free}
+use Rattle.mon_slots.specs.Floors.{SlotState, seat_at, with_seat, first_free}
 use Rattle.mon_slots.specs.Told.{seats_of}
 
 pub set_length : {A : Type 0} (xs : List A) (i : ℕ) (v : A) → length (slice_set xs i v) ≡ length xs
@@ -45,32 +46,32 @@ seat_length zero o slots = refl
 seat_length (suc i) o slots = set_length slots i o
 
 -- where all are empty, each is
-none_seated : (slots : List (Option SlotState)) → all_empty slots ≡ true → (i : ℕ) → seated (slice_get slots i) ≡ None
+none_seated : (slots : List (Option SlotState)) → list_all is_none slots ≡ true → (i : ℕ) → option_flatten (slice_get slots i) ≡ None
 none_seated [] h i = refl
 none_seated (None ∷ slots) h zero = refl
 none_seated (None ∷ slots) h (suc i) = none_seated slots h i
 none_seated (Some x ∷ slots) h i = absurd cc
 
-pub none_at : (slots : List (Option SlotState)) → all_empty slots ≡ true → (s : ℕ) → seat_at s slots ≡ None
+pub none_at : (slots : List (Option SlotState)) → list_all is_none slots ≡ true → (s : ℕ) → seat_at s slots ≡ None
 none_at slots h zero = refl
 none_at slots h (suc i) = none_seated slots h i
 
-pub seated_not_done : (s : ℕ) (slots : List (Option SlotState)) → IsSome (seat_at s slots) → all_empty slots ≡ false
-seated_not_done s slots h = by (all_empty slots) refl
+pub seated_not_done : (s : ℕ) (slots : List (Option SlotState)) → IsSome (seat_at s slots) → list_all is_none slots ≡ false
+seated_not_done s slots h = by (list_all is_none slots) refl
   where
-    by : (b : Bool) → all_empty slots ≡ b → b ≡ false
+    by : (b : Bool) → list_all is_none slots ≡ b → b ≡ false
     by false e = refl
     by true e = absurd (let none = none_at slots e s in cc (h, none))
 
-pub none_of : (slots : List (Option Slot)) → list_all (λ seat. is_none seat) slots ≡ all_empty (seats_of slots)
+pub none_of : (slots : List (Option Slot)) → list_all (λ seat. is_none seat) slots ≡ list_all is_none (seats_of slots)
 none_of [] = refl
 none_of (None ∷ slots) = none_of slots
 none_of (Some x ∷ slots) = refl
 
-some_from : (n : ℕ) (slots : List (Option Slot)) → list_any (λ seat. is_none seat) slots ≡ is_some (free_from n (seats_of slots))
+some_from : (n : ℕ) (slots : List (Option Slot)) → list_any (λ seat. is_none seat) slots ≡ is_some (position_from is_none n (seats_of slots))
 some_from n [] = refl
 some_from n (None ∷ slots) = refl
-some_from n (Some x ∷ slots) = some_from (suc n) slots
+some_from n (Some x ∷ slots) = some_from (n + 1) slots
 
 pub some_free : (slots : List (Option Slot)) → list_any (λ seat. is_none seat) slots ≡ is_some (first_free (seats_of slots))
 some_free slots = some_from 1 slots

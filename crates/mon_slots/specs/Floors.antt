@@ -1,5 +1,7 @@
 -- What turns change (own): the data sets, and the slots with their jobs.
-use Rattle.std.specs.Prelude.{ℕ, zero, suc, Bool, true, ◌&&◌, List, [], ◌∷◌, Option, Some, None, is_none, slice_get, slice_set}
+use Rattle.std.specs.Prelude.{ℕ, zero, suc, List, Option, None, is_none, slice_get, slice_set}
+use Rattle.std.specs.Option.{option_flatten}
+use Rattle.std.specs.List.{position_from}
 use Rattle.mon_access.specs.declared.account.Account.{Account}
 use Rattle.mon_catalogue.specs.Sets.{Sets}
 use Rattle.sno_run.specs.Jobs.{Job}
@@ -20,14 +22,10 @@ pub record Floor : Type 0 where
 abbrev pub floor : Sets → List (Option SlotState) → Floor
 floor sets slots = record { sets = sets; slots = slots }
 
-abbrev pub seated : Option (Option SlotState) → Option SlotState
-seated None = None
-seated (Some seat) = seat
-
 -- the seat of this number; one that there isn't is empty
 abbrev pub seat_at : ℕ → List (Option SlotState) → Option SlotState
 seat_at zero slots = None
-seat_at (suc i) slots = seated (slice_get slots i)
+seat_at (suc i) slots = option_flatten (slice_get slots i)
 
 abbrev pub with_seat : ℕ → Option SlotState → List (Option SlotState) → List (Option SlotState)
 with_seat zero seat slots = slots
@@ -37,16 +35,6 @@ with_seat (suc i) seat slots = slice_set slots i seat
 abbrev pub job_in : ℕ → Floor → Option SlotState
 job_in s w = seat_at s w.slots
 
-abbrev pub all_empty : List (Option SlotState) → Bool
-all_empty [] = true
-all_empty (seat ∷ seats) = is_none seat && all_empty seats
-
--- the number of the first empty seat, if the first of these has this number
-abbrev pub free_from : ℕ → List (Option SlotState) → Option ℕ
-free_from n [] = None
-free_from n (None ∷ seats) = Some n
-free_from n (Some slot ∷ seats) = free_from (suc n) seats
-
--- the lowest free slot
+-- the lowest free slot: the number of the first empty seat
 abbrev pub first_free : List (Option SlotState) → Option ℕ
-first_free slots = free_from 1 slots
+first_free slots = position_from is_none 1 slots

@@ -1,6 +1,8 @@
 -- What loading a job does (own).
-use Rattle.std.specs.Prelude.{ℕ, List, [], ◌∷◌, drop, Option, Some, None, option_map, Result, Ok, Err}
-use Rattle.std.specs.Option.{option_or}
+use Rattle.std.specs.Prelude.{ℕ, List, [], ◌∷◌, drop, Option, Some, None, option_map, Result, Ok, Err, option_and_then}
+use Rattle.std.specs.Option.{option_or, option_map_or}
+use Rattle.std.specs.List.{fold}
+use Rattle.std.specs.Result.{result_ok}
 use Rattle.sno_cards.specs.declared.refusal.SyntaxError.{SyntaxError}
 use Rattle.sno_cards.specs.Programs.{ProgramText}
 use Rattle.sno_cards.specs.Statements.{statements_of}
@@ -23,20 +25,15 @@ use Rattle.mon_slots.specs.Floors.{SlotState, with_seat, first_free}
 -- THE UNITS
 
 -- a job's data are the lines behind its program; there are none where its cards are refused
-abbrev pub data_of : List (List ℕ) → Result ProgramText SyntaxError → List (List ℕ)
-data_of lines (Ok cards) = drop cards.data_from lines
-data_of lines (Err refusal) = []
-
 abbrev pub first_units : List (List ℕ) → UnitState
-first_units lines = new_units (data_of lines (statements_of lines))
+first_units lines = new_units (option_map_or (λ good. drop good.data_from lines) (result_ok (statements_of lines)) [])
 
 abbrev pub tied_by : UnitCard → UnitState → UnitState
 tied_by card units = with_tie card.unit (tied_to (Set card.set)) units
 
 -- card by card
 abbrev pub with_ties : List UnitCard → UnitState → UnitState
-with_ties [] units = units
-with_ties (card ∷ cards) units = with_ties cards (tied_by card units)
+with_ties cards units = fold (λ tied card. tied_by card tied) units cards
 
 abbrev pub ties_refusal : List UnitCard → UnitState → Option UnitError
 ties_refusal [] units = None
@@ -50,28 +47,24 @@ program_refusal (Err refusal) = Some (Syntax refusal)
 
 -- the program that cards spell, where they spell one
 abbrev pub program_in : Result ProgramText SyntaxError → Option Program
-program_in (Ok cards) = program_on cards
-program_in (Err refusal) = None
+program_in cards = option_and_then program_on (result_ok cards)
 
 -- THE JOB
 
-abbrev pub slot_refusal : Option ℕ → Option LoadError
-slot_refusal (Some n) = None
-slot_refusal None = Some NoSlot
-
-abbrev pub missing_account : Option Account → Option LoadError
-missing_account (Some account) = None
-missing_account None = Some NoAccount
+-- refused where it is missing
+abbrev pub missing : {A : Type 0} → LoadError → Option A → Option LoadError
+missing refusal (Some it) = None
+missing refusal None = Some refusal
 
 -- why a job is not loaded where a slot is free: its account, its unit cards, its program
 abbrev pub deck_refusal : List Account → JobDeck → Option LoadError
 deck_refusal accounts deck =
-    option_or (missing_account (find_account accounts deck.account))
+    option_or (missing NoAccount (find_account accounts deck.account))
     (option_or (option_map Cards (ties_refusal deck.ties (first_units deck.lines))) (program_refusal (statements_of deck.lines)))
 
 -- why a job is not loaded
 abbrev pub load_refusal : List Account → JobDeck → List (Option SlotState) → Option LoadError
-load_refusal accounts deck slots = option_or (slot_refusal (first_free slots)) (deck_refusal accounts deck)
+load_refusal accounts deck slots = option_or (missing NoSlot (first_free slots)) (deck_refusal accounts deck)
 
 -- what a slot holds when the job has been loaded
 abbrev pub loaded_slot : Account → JobDeck → Program → SlotState
@@ -83,9 +76,7 @@ loaded_slot account deck p = record {
 }
 
 abbrev pub slot_by : JobDeck → Option Account → Option Program → Option SlotState
-slot_by deck (Some account) (Some p) = Some (loaded_slot account deck p)
-slot_by deck (Some account) None = None
-slot_by deck None p = None
+slot_by deck account program = option_and_then (λ a. option_map (loaded_slot a deck) program) account
 
 -- the job of a deck that is not refused
 abbrev pub slot_in : List Account → JobDeck → Option SlotState

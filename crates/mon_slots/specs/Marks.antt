@@ -1,5 +1,7 @@
 -- What turns do where memory may break some off, and rounds of turns (own).
-use Rattle.std.specs.Prelude.{ℕ, zero, suc, ◌-◌, ◌+◌, Bool, true, false, List, [], ◌∷◌, ◌++◌, length, ◌&&◌, if◌then◌else◌, Option, Some, None, is_some, is_none}
+use Rattle.std.specs.Prelude.{ℕ, zero, suc, ◌-◌, ◌+◌, Bool, false, List, [], ◌∷◌, ◌++◌, length, ◌&&◌, if◌then◌else◌, Option, is_some, is_none, slice_get, drop}
+use Rattle.std.specs.Option.{option_map_or, option_flatten}
+use Rattle.std.specs.List.{list_all, range_with_len}
 use Rattle.mon_catalogue.specs.Sets.{Sets}
 use Rattle.sno_run.specs.declared.ending.Step.{Step}
 use Rattle.sno_run.specs.declared.ending.Step.TheVariants as step
@@ -12,7 +14,7 @@ use Rattle.mon_unit.specs.Serving.{Reach, serve}
 use Rattle.mon_job.specs.declared.job_end.JobEnd.{JobEnd}
 use Rattle.mon_slots.specs.declared.turned.Turned.{Turned}
 use Rattle.mon_slots.specs.declared.turned.Turned.TheVariants.{Empty}
-use Rattle.mon_slots.specs.Floors.{SlotState, Floor, job_in, all_empty, first_free}
+use Rattle.mon_slots.specs.Floors.{SlotState, Floor, job_in, first_free}
 use Rattle.mon_slots.specs.Turns.{reached, ran, turned, ends_by}
 
 -- where memory breaks a turn off: behind its first moment, in which its own statement begins, and so many more
@@ -24,12 +26,7 @@ abbrev pub Marks : Type 0
 Marks = List (Option Mark)
 
 abbrev pub mark_of : Marks → Option Mark
-mark_of [] = None
-mark_of (m ∷ marks) = m
-
-abbrev pub later : Marks → Marks
-later [] = []
-later (m ∷ marks) = marks
+mark_of marks = option_flatten (slice_get marks 0)
 
 -- what has passed of a turn there: the statements that have begun, and what was asked
 abbrev pub passed_at : Mark → SlotState → Sets → List Passed
@@ -47,23 +44,17 @@ counted n job = record job { state = record (job.state) { keywords = record (job
 abbrev pub may_break : Job → Bool
 may_break job = is_none job.ended && (is_some (statement_at job.point job.program.lines) && may_begin job.limits.statements job.state)
 
-abbrev pub broken_by : Bool → Mark → SlotState → Sets → (Step × Job) × Reach
-broken_by false m slot sets = ran slot sets
-broken_by true m slot sets =
+abbrev pub broken_at : Mark → SlotState → Sets → (Step × Job) × Reach
+broken_at m slot sets =
     ((step.Ended Memory, counted (statements_in (passed_at m slot sets)) slot.job), run_cut (serve slot.account) (exchanges_at m slot sets) (turn_of slot.job) (reached sets slot))
 
 -- one turn of a job; where it is broken off, what has passed stands and the job has ended
 abbrev pub ran_as : Option Mark → SlotState → Sets → (Step × Job) × Reach
-ran_as None slot sets = ran slot sets
-ran_as (Some m) slot sets = broken_by (may_break slot.job) m slot sets
-
-abbrev pub turn_as_by : Option Mark → ℕ → Option SlotState → Floor → Turned × Floor
-turn_as_by m s None w = (Empty, w)
-turn_as_by m s (Some slot) w = turned s (ran_as m slot w.sets) slot w
+ran_as m slot sets = option_map_or (λ mark. if may_break slot.job then broken_at mark slot sets else ran slot sets) m (ran slot sets)
 
 -- one turn of the job in a slot, if there is one
 abbrev pub turn_as : Option Mark → ℕ → Floor → Turned × Floor
-turn_as m s w = turn_as_by m s (job_in s w) w
+turn_as m s w = option_map_or (λ slot. turned s (ran_as m slot w.sets) slot w) (job_in s w) (Empty, w)
 
 -- the jobs that ended, in order, each with its slot; what is left; and the marks that no turn took
 pub record Past : Type 0 where
@@ -82,7 +73,7 @@ abbrev pub until : (Floor → Bool) → List ℕ → Marks → Floor → Past
 until stop [] m w = nothing m w
 until stop (s ∷ E) m w =
     if stop w then nothing m w
-    else ends_then (ends_by s (turn_as (mark_of m) s w).0) (until stop E (later m) (turn_as (mark_of m) s w).1)
+    else ends_then (ends_by s (turn_as (mark_of m) s w).0) (until stop E (drop 1 m) (turn_as (mark_of m) s w).1)
 
 abbrev pub never : Floor → Bool
 never w = false
@@ -91,31 +82,22 @@ never w = false
 abbrev pub marked : List ℕ → Marks → Floor → Past
 marked E m w = until never E m w
 
--- the slots from i on, n of them
-abbrev pub from : ℕ → ℕ → List ℕ
-from i zero = []
-from i (suc n) = i ∷ from (suc i) n
-
 -- k rounds of one turn for each of n slots, from the first upward
 abbrev pub rounds : ℕ → ℕ → List ℕ
 rounds zero n = []
-rounds (suc k) n = from 1 n ++ rounds k n
+rounds (suc k) n = range_with_len 1 n ++ rounds k n
 
--- how many turns a job can have, as each begins a statement or is its last
-abbrev pub turns_ahead : Option SlotState → ℕ
-turns_ahead None = 0
-turns_ahead (Some slot) = suc (slot.job.limits.statements - statements_begun slot.job)
-
+-- how many turns the jobs can have, as each turn begins a statement or is a job's last
 abbrev pub turns_left : List (Option SlotState) → ℕ
 turns_left [] = 0
-turns_left (seat ∷ seats) = turns_ahead seat + turns_left seats
+turns_left (seat ∷ seats) = option_map_or (λ slot. suc (slot.job.limits.statements - statements_begun slot.job)) seat 0 + turns_left seats
 
 -- round and round, until a floor is one to stop at: no more rounds than there are turns that the jobs can have
 abbrev pub rounds_until : (Floor → Bool) → Marks → Floor → Past
 rounds_until stop m w = until stop (rounds (turns_left w.slots) (length w.slots)) m w
 
 abbrev pub is_done : Floor → Bool
-is_done w = all_empty w.slots
+is_done w = list_all is_none w.slots
 
 abbrev pub has_free_slot : Floor → Bool
 has_free_slot w = is_some (first_free w.slots)

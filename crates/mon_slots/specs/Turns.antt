@@ -1,5 +1,5 @@
 -- What turns do, where memory is not short (own): functions of the data sets and of the jobs in the slots.
-use Rattle.std.specs.Prelude.{ℕ, zero, suc, List, [], ◌∷◌, ◌++◌, Option, Some, None}
+use Rattle.std.specs.Prelude.{ℕ, List, [], ◌∷◌, ◌++◌, Option, Some, None}
 use Rattle.mon_catalogue.specs.Sets.{Sets}
 use Rattle.sno_run.specs.declared.ending.Step.{Step}
 use Rattle.sno_run.specs.declared.ending.Step.TheVariants as step
@@ -59,16 +59,10 @@ pub record Course : Type 0 where
   pub after : Floor
 
 abbrev pub ends_by : ℕ → Turned → List (ℕ × JobEnd)
-ends_by s Empty = []
-ends_by s Goes = []
 ends_by s (Ended e) = (s, e) ∷ []
+ends_by s _ = []
 
 -- turns of the jobs in these slots, in this order
 abbrev pub turns : List ℕ → Floor → Course
 turns [] w = record { ends = []; after = w }
 turns (s ∷ E) w = record { ends = ends_by s (turn s w).0 ++ (turns E (turn s w).1).ends; after = (turns E (turn s w).1).after }
-
--- so many turns of one slot
-abbrev pub only : ℕ → ℕ → List ℕ
-only s zero = []
-only s (suc n) = s ∷ only s n

@@ -13,7 +13,7 @@ use Rattle.mon_answer.specs.declared.answer.Reason.TheVariants.{NoSet, NoUnit, I
 use Rattle.mon_guard.specs.Deciding.{decision_on, by_decision}
 use Rattle.mon_guard.specs.Reasons.{reason_of}
 use Rattle.mon_guard.specs.Acting as acting
-use Rattle.mon_guard.specs.Acting.{Acted, only_answered, read_at, position_after, made, changing, ended, asks, done, or_denied, acted_on}
+use Rattle.mon_guard.specs.Acting.{Acted, only_answered, read_at, position_after, changing, ended, asks, done, or_denied, acted_on}
 use Rattle.sno_ask.specs.declared.request.Act.{Act}
 use Rattle.sno_ask.specs.declared.request.Act.TheVariants.{Read, Write, Endfile, Rewind}
 use Rattle.mon_answer.specs.declared.answer.Answer.TheVariants as answer
@@ -24,6 +24,7 @@ use Rattle.mon_unit.specs.Tying.{tie_at}
 use Rattle.mon_unit.specs.Serving.{acted_at, moved}
 use Rattle.mon_unit.specs.inner.Settling.{placed_by}
 use Rattle.mon_unit.proofs.Ties.{still_placed}
+use Rattle.mon_guard.proofs.Shorthand.{made}
 
 -- it is denied, or what is granted is done
 pub acted_cases : (P : Acted → Type 0) (account : Account) (act : acting.Act)

@@ -13,7 +13,7 @@ use Rattle.mon_answer.specs.declared.answer.Reason.{Reason}
 use Rattle.mon_answer.specs.declared.answer.Reason.TheVariants.{NoUnit, InStream, SpoolUnit}
 use Rattle.mon_guard.specs.Deciding.{decision_on, by_decision, to_write}
 use Rattle.mon_guard.specs.Acting as acting
-use Rattle.mon_guard.specs.Acting.{Acted, only_answered, read_at, position_after, made, changing, ended, or_denied, acted_on, acted, changed}
+use Rattle.mon_guard.specs.Acting.{Acted, only_answered, read_at, position_after, changing, ended, or_denied, acted_on, acted, changed}
 use Rattle.mon_guard.specs.Laws.{IsThere, IsGranted, IsFor, WhyNotAct}
 use Rattle.mon_guard.proofs.Acting.{acts_where_granted}
 use Rattle.sno_ask.specs.declared.request.Act.{Act}
@@ -26,6 +26,7 @@ use Rattle.mon_unit.specs.Serving.{acted_at, set_at, changed_at}
 use Rattle.mon_unit.specs.Laws.{AsksChange, AsksGuard, IsOfData, IsOfSpool, ChangedWhereGranted, DenialsSayWhy, target_of, position_of}
 use Rattle.mon_unit.proofs.Acting.{acted_cases, is_plain}
 use Rattle.mon_unit.proofs.Shorthand.{looked}
+use Rattle.mon_guard.proofs.Shorthand.{made}
 
 module _ (account : Account) (units : UnitState) (sets : Sets) (p : ℕ) where
   -- what an act comes to at a unit that is tied so

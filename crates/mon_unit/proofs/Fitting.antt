@@ -18,13 +18,14 @@ use Rattle.mon_catalogue.specs.declared.data_set.SetFull.{SetFull}
 use Rattle.mon_catalogue.specs.Writing.{Change, writing, change_refusal}
 use Rattle.mon_guard.specs.Deciding.{decision_on, by_decision, to_read, to_write}
 use Rattle.mon_guard.specs.Acting as acting
-use Rattle.mon_guard.specs.Acting.{Acted, read_at, made, ended, or_denied}
+use Rattle.mon_guard.specs.Acting.{Acted, read_at, ended, or_denied}
 use Rattle.mon_unit.specs.declared.tie.Target.{Target}
 use Rattle.mon_unit.specs.declared.tie.Target.TheVariants.{Untied, Data, Spool, Set}
 use Rattle.mon_unit.specs.State.{UnitState}
 use Rattle.mon_unit.specs.Serving.{Reach, serve, acted_at, on_data, on_set, set_of}
 use Rattle.mon_unit.specs.Laws.{target_of, position_of}
 use Rattle.mon_unit.proofs.Shorthand.{looked}
+use Rattle.mon_guard.proofs.Shorthand.{made}
 
 denied_fits : (act : Act) (reason : Reason) → IsTrue (fits act (Denied reason))
 denied_fits (Read u) reason = refl

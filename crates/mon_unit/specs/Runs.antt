@@ -14,9 +14,8 @@ run reply (Asks q f) s = run reply (f (reply s q).0) (reply s q).1
 
 -- where it leaves the other if it is broken off after so many replies
 abbrev pub run_cut : {S Q R A : Type 0} → (S → Q → R × S) → ℕ → Talk Q R A → S → S
-run_cut reply zero t s = s
-run_cut reply (suc k) (Ends a) s = s
 run_cut reply (suc k) (Asks q f) s = run_cut reply k (f (reply s q).0) (reply s q).1
+run_cut reply _ _ s = s
 
 -- what was asked and replied
 abbrev pub exchanges : {S Q R A : Type 0} → (S → Q → R × S) → Talk Q R A → S → List (Exchange Q R)
@@ -25,7 +24,6 @@ exchanges reply (Asks q f) s = record { asked = q; reply = (reply s q).0 } ∷ e
 
 -- the first moments of a program, at most so many: what it asks is replied to
 abbrev pub passed : {S A : Type 0} → (S → Request → Answer × S) → ℕ → Counted A → S → List Passed
-passed reply zero t s = []
-passed reply (suc k) (Ends a) s = []
 passed reply (suc k) (Asks Beginning f) s = record { asked = Beginning; reply = Done } ∷ passed reply k (f Done) s
 passed reply (suc k) (Asks (Requesting q) f) s = record { asked = Requesting q; reply = (reply s q).0 } ∷ passed reply k (f (reply s q).0) (reply s q).1
+passed reply _ _ s = []

@@ -1,11 +1,12 @@
 -- Turns on the way to a goal.
 use Rattle.std.specs.Prelude.{◌≡◌, ◌⊎◌, ◌++◌, Bool, true, false, ℕ, List, map, length}
+use Rattle.std.specs.List.{range_with_len}
 use Rattle.mon_job.specs.declared.job_end.JobEnd.{JobEnd}
 use Rattle.mon_slots.specs.declared.rounds.Goal.{Goal}
 use Rattle.mon_slots.specs.declared.rounds.Goal.TheVariants as goal
 use Rattle.mon_slots.specs.declared.turned.Turned.{Turned}
 use Rattle.mon_slots.specs.Floors.{Floor}
-use Rattle.mon_slots.specs.Marks.{Marks, until, ends_then, from, rounds_until, is_done, has_free_slot}
+use Rattle.mon_slots.specs.Marks.{Marks, until, ends_then, rounds_until, is_done, has_free_slot}
 use Rattle.mon_slots.specs.Turning.{TurnOr, ended_in}
 
 -- where turns stop that go to a goal
@@ -24,7 +25,7 @@ pub record Ahead (stop : Floor → Bool) (E : List ℕ) (w : Floor) (ends : List
 pub record RoundTo (stop : Floor → Bool) (w : Floor) (before ends : List JobEnd) (F : List ℕ) (now : Floor) : Type 0 where
   pub more : List JobEnd
   pub grown : ends ≡ before ++ more
-  pub is : Ahead stop (from 1 (length w.slots)) w more F now
+  pub is : Ahead stop (range_with_len 1 (length w.slots)) w more F now
 
 -- some rounds
 pub record Going (stop : Floor → Bool) (w : Floor) (ends : List JobEnd) (now : Floor) : Type 0 where

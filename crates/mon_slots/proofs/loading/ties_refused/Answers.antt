@@ -1,7 +1,7 @@
 use Rattle.std.proofs.Common.{sym, ◌∙◌}
 use Rattle.sno_cards.specs.Statements.{statements_of}
-use Rattle.mon_slots.specs.Loads.{data_of}
 use Rattle.mon_slots.proofs.Carding.{stops_at, none_stops}
+use Rattle.mon_slots.proofs.Shorthand.{data_of}
 use Rattle.mon_slots.proofs.loading.ties_refused.Goals as goal
 
 pub returns-in-Some : goal.returns-in-Some
