@@ -1,6 +1,6 @@
 -- What a command is answered, and what the data sets are after it (own).
 -- It is refused where its account is unknown. Else the guard does what is granted, or says why not.
-use Rattle.std.specs.Prelude.{ℕ, List, ◌++◌, Option, Some, None, Result, Ok, Err}
+use Rattle.std.specs.Prelude.{ℕ, List, ◌++◌, Result, Ok, Err}
 use Rattle.mon_access.specs.declared.account.Account.{Account}
 use Rattle.mon_access.specs.Accounts.{find_account}
 use Rattle.mon_catalogue.specs.declared.catalogue.CreateError.{CreateError}
@@ -59,22 +59,20 @@ abbrev pub shown_as : {A : Type 0} → (A → Answer) → Result A Reason → An
 shown_as show (Ok lent) = show lent
 shown_as show (Err reason) = Told (Denied reason)
 
-abbrev pub only_shown : Answer → Sets → Served
-only_shown answer sets = record { answer = answer; sets = sets }
-
 -- what a known account is answered
 abbrev pub served : Account → Command → Sets → Served
 served account (Create _ name mode) sets = told_by creation_reply (created account sets name mode)
 served account (Delete _ name) sets = told_by removal_reply (removed account sets name)
 served account (SetAcl _ name text) sets = told_by acl_reply (acl_set account sets name text)
-served account (ShowAcl _ name) sets = only_shown (shown_as Shown (acl_lent account sets name)) sets
-served account (Listing _ name) sets = only_shown (shown_as Records (records_lent account sets name)) sets
-served account (Catalog _) sets = only_shown (Names (names_lent account sets)) sets
+served account (ShowAcl _ name) sets = record { answer = shown_as Shown (acl_lent account sets name); sets = sets }
+served account (Listing _ name) sets = record { answer = shown_as Records (records_lent account sets name); sets = sets }
+served account (Catalog _) sets = record { answer = Names (names_lent account sets); sets = sets }
 
 -- what a command is answered, and the data sets after it
 abbrev pub answered : List Account → Sets → Command → Served
 answered accounts sets command =
-    option_map_or (λ account. served account command sets) (find_account accounts (account_of command)) (only_shown (Told NoAccount) sets)
+    option_map_or (λ account. served account command sets) (find_account accounts (account_of command))
+    (record { answer = Told NoAccount; sets = sets })
 
 -- what is printed below the command's own line
 abbrev pub answer_text : Answer → List ℕ

@@ -2,11 +2,9 @@
 use Rattle.std.specs.Prelude.{ℕ, List, [], ◌++◌, length, codes, decimal, Option}
 use Rattle.std.specs.List.{flat_map}
 use Rattle.mon_acl.specs.declared.entries.Tag.{Tag}
-use Rattle.mon_acl.specs.declared.entries.Entry.{Entry}
 use Rattle.mon_acl.specs.declared.refusals.AclError.{AclError}
 use Rattle.mon_acl.specs.declared.refusals.AclError.TheVariants.{BadTag, BadQualifier, BadPerms, Missing, Twice, NoMask, TooMany}
 use Rattle.mon_acl.specs.Texts.{tag_word}
-use Rattle.mon_acl.specs.declared.entries.Perms.{Perms}
 use Rattle.mon_acl.specs.Printing.{mask_of, long_line}
 use Rattle.mon_guard.specs.Lending.{AclPart, NamePart}
 use Rattle.std.specs.Option.{unwrap_or}
@@ -30,15 +28,12 @@ count_line what n = what ++ number n ++ codes "\n"
 abbrev pub records_text : List (List ℕ) → List ℕ
 records_text records = flat_map stored_line records ++ count_line (codes "RECORDS") (length records)
 
--- the line of an entry of a permission list, with what this mask leaves of it
-abbrev pub acl_line : Option Perms → Entry → List ℕ
-acl_line mask entry = word (long_line mask entry)
-
--- a data set's owner, its group and its permission list, and how many entries that has
+-- a data set's owner, its group and its permission list, each entry with what the mask leaves of it, and how many entries
+-- that has
 abbrev pub acl_text : AclPart → List ℕ
 acl_text list =
     codes "OWNER" ++ word list.owner ++ codes " GROUP" ++ word list.group ++ codes "\n"
-    ++ flat_map (acl_line (mask_of list.acl)) list.acl ++ count_line (codes "ENTRIES") (length list.acl)
+    ++ flat_map (λ entry. word (long_line (mask_of list.acl) entry)) list.acl ++ count_line (codes "ENTRIES") (length list.acl)
 
 -- a data set's name, its owner, its group and the number of its records
 abbrev pub name_line : NamePart → List ℕ

@@ -13,4 +13,4 @@ pub mod serving;
 pub use command::Command;
 pub use printout::Printout;
 pub use reply::Reply;
-pub use serving::serve;
+pub use serving::{put_served, serve};

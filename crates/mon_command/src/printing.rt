@@ -1,25 +1,43 @@
 //! The words and lines of printouts.
-ghost use Rattle.std.specs.Prelude.{◌≡◌, ◌++◌, None, OnOk};
+ghost use Rattle.std.specs.Prelude.{◌≡◌, ◌++◌, ◌+◌, ◌≤◌, None, OnOk, OnErr, length, take, vec_len, vec_capacity};
 ghost use Rattle.std.specs.List.{flat_map};
+ghost use Rattle.mon_acl.specs.Printing.{long_line};
 ghost use Rattle.mon_command.specs.Commands.{card_line};
-ghost use Rattle.mon_command.specs.Printouts.{word, number, stored_line, count_line, records_text, name_line, acl_text, acl_line, entry_words, list_refusal};
+ghost use Rattle.mon_command.specs.Commanded.{Records as Listed, printed};
+ghost use Rattle.mon_command.specs.declared.command.Command.TheVariants as command;
+ghost use Rattle.mon_command.specs.Printouts.{word, number, stored_line, count_line, records_text, name_line, acl_text, entry_words, list_refusal};
 
+use itoa::Buffer;
 use mon_acl::{AclError, Entry, Perms, Tag};
 use mon_catalogue::Records;
 use mon_guard::{ShownAcl, ShownName};
-use mon_text::{Name, put_number};
+use mon_text::Name;
 use std::alloc::AllocError;
 
 /// Appends a word behind another.
 ///
 /// # Errors
 ///
-/// Where a growth was refused; `out` may then hold a part of the text.
+/// Where a growth was refused; nothing was appended then.
 pub fn put_word(text: &[u8], out: &mut Vec<u8>) -> Result<(), AllocError>
-    ensures { OnOk result (out.new.items ≡ out.old.items ++ word text.now) }
+    ensures appended { OnOk result (out.new.items ≡ out.old.items ++ word text.now) }
+    ensures unchanged { OnErr result (out.new.items ≡ out.old.items) }
 {
-    out.push(b' ')?;
-    out.extend_from_slice(text)
+    out.reserve(text.len() + 1)?;
+    put_word_in_room(text, out);
+    Ok(())
+}
+
+// Appends a word behind another, for which there is room.
+#[inline(always)]
+fn put_word_in_room(text: &[u8], out: &mut Vec<u8>)
+    requires { vec_len out.old + (length text.now + 1) ≤ vec_capacity out.old }
+    ensures value { out.new.items ≡ out.old.items ++ word text.now }
+    ensures len { vec_len out.new ≡ vec_len out.old + (length text.now + 1) }
+    ensures room { vec_capacity out.old ≤ vec_capacity out.new }
+{
+    out.push_reserved(b' ');
+    out.extend_from_slice(text).unwrap();
 }
 
 /// Appends a number behind a word.
@@ -30,41 +48,68 @@ pub fn put_word(text: &[u8], out: &mut Vec<u8>) -> Result<(), AllocError>
 pub fn put_number_word(value: u64, out: &mut Vec<u8>) -> Result<(), AllocError>
     ensures { OnOk result (out.new.items ≡ out.old.items ++ number value) }
 {
-    out.push(b' ')?;
-    put_number(value, out)
+    put_word(Buffer::new().format(value).as_bytes(), out)
 }
 
 /// Appends a line that shows stored text.
 ///
 /// # Errors
 ///
-/// Where a growth was refused; `out` may then hold a part of the line.
+/// Where a growth was refused; nothing was appended then.
 pub fn put_stored(text: &[u8], out: &mut Vec<u8>) -> Result<(), AllocError>
-    ensures { OnOk result (out.new.items ≡ out.old.items ++ stored_line text.now) }
+    ensures appended { OnOk result (out.new.items ≡ out.old.items ++ stored_line text.now) }
+    ensures unchanged { OnErr result (out.new.items ≡ out.old.items) }
 {
-    put_word(text, out)?;
-    out.push(b'\n')?;
+    out.reserve(text.len() + 2)?;
+    put_word_in_room(text, out);
+    out.push_reserved(b'\n');
     Ok(())
 }
 
 // Appends how many there were.
 pub(crate) fn put_count(what: &[u8], value: u64, out: &mut Vec<u8>) -> Result<(), AllocError>
-    ensures { OnOk result (out.new.items ≡ out.old.items ++ count_line what.now value) }
+    ensures appended { OnOk result (out.new.items ≡ out.old.items ++ count_line what.now value) }
+    ensures unchanged { OnErr result (out.new.items ≡ out.old.items) }
 {
-    out.extend_from_slice(what)?;
-    put_number_word(value, out)?;
-    out.push(b'\n')?;
+    let mut digits = Buffer::new();
+    let number = digits.format(value).as_bytes();
+    out.reserve(what.len() + number.len() + 2)?;
+    out.extend_from_slice(what).unwrap();
+    put_word_in_room(number, out);
+    out.push_reserved(b'\n');
     Ok(())
 }
 
 // Appends records, and how many they are.
 pub(crate) fn put_records(records: &Records, out: &mut Vec<u8>) -> Result<(), AllocError>
-    ensures { OnOk result (out.new.items ≡ out.old.items ++ records_text records.now) }
+    ensures appended { OnOk result (out.new.items ≡ out.old.items ++ records_text records.now) }
+    ensures begun { OnErr result (take (length out.old.items) out.new.items ≡ out.old.items) }
 {
     for record in records.as_slice() {
         put_stored(record.as_bytes(), out)?;
     }
     put_count(b"RECORDS", records.len(), out)
+}
+
+// Appends the printout of a command that lists these records, or nothing.
+pub(crate) fn put_listing(
+    account: &Name,
+    name: &Name,
+    records: &Records,
+    out: &mut Vec<u8>,
+) -> Result<(), AllocError>
+    ensures printed { OnOk result (out.new.items ≡ out.old.items ++ printed (command.List account.now name.now) (Listed records.now)) }
+    ensures nothing { OnErr result (out.new.items ≡ out.old.items) }
+{
+    let before = out.len();
+    put_card(b"LIST", account, name, out)?;
+    match put_records(records, out) {
+        Ok(()) => Ok(()),
+        Err(error) => {
+            out.truncate(before);
+            Err(error)
+        }
+    }
 }
 
 // Appends a data set's owner, its group and its permission list, and how many entries that has.
@@ -82,7 +127,7 @@ pub(crate) fn put_acl(shown: &ShownAcl, out: &mut Vec<u8>) -> Result<(), AllocEr
 
 // Appends the lines of entries under a mask.
 fn put_entries(entries: &[Entry], mask: Option<Perms>, out: &mut Vec<u8>) -> Result<(), AllocError>
-    ensures { OnOk result (out.new.items ≡ out.old.items ++ flat_map (acl_line mask) entries.now) }
+    ensures { OnOk result (out.new.items ≡ out.old.items ++ flat_map (λ entry. word (long_line mask entry)) entries.now) }
 {
     for entry in entries {
         put_acl_line(entry, mask, out)?;
@@ -92,7 +137,7 @@ fn put_entries(entries: &[Entry], mask: Option<Perms>, out: &mut Vec<u8>) -> Res
 
 // Appends the line of an entry under a mask.
 fn put_acl_line(entry: &Entry, mask: Option<Perms>, out: &mut Vec<u8>) -> Result<(), AllocError>
-    ensures { OnOk result (out.new.items ≡ out.old.items ++ acl_line mask entry.now) }
+    ensures { OnOk result (out.new.items ≡ out.old.items ++ word (long_line mask entry.now)) }
 {
     out.push(b' ')?;
     entry.put_line(mask, out)
@@ -117,12 +162,15 @@ pub(crate) fn put_card(
     name: &Name,
     out: &mut Vec<u8>,
 ) -> Result<(), AllocError>
-    ensures { OnOk result (out.new.items ≡ out.old.items ++ card_line card.now account.now name.now) }
+    ensures appended { OnOk result (out.new.items ≡ out.old.items ++ card_line card.now account.now name.now) }
+    ensures unchanged { OnErr result (out.new.items ≡ out.old.items) }
 {
-    out.extend_from_slice(card)?;
-    put_word(account.as_bytes(), out)?;
-    put_word(name.as_bytes(), out)?;
-    out.push(b'\n')?;
+    let (account, name) = (account.as_bytes(), name.as_bytes());
+    out.reserve(card.len() + account.len() + name.len() + 3)?;
+    out.extend_from_slice(card).unwrap();
+    put_word_in_room(account, out);
+    put_word_in_room(name, out);
+    out.push_reserved(b'\n');
     Ok(())
 }
 

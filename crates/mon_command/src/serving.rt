@@ -11,9 +11,10 @@ ghost use Rattle.mon_command.specs.Commanded.{Names, Records as Listed, Shown, t
 ghost use Rattle.mon_command.specs.Printouts.{name_line, names_text};
 ghost use Rattle.mon_command.specs.inner.Names.{shown_at};
 ghost use Rattle.mon_command.specs.inner.Serving.{Serves};
+ghost use Rattle.mon_command.specs.declared.command.Command.TheVariants as commands;
 
 use crate::command::Command;
-use crate::printing::{put_acl, put_count, put_name, put_records};
+use crate::printing::{put_acl, put_count, put_listing, put_name, put_records};
 use crate::printout::{Printout, USUAL_BYTES, told};
 use crate::reply::Reply;
 use mon_access::{Account, Accounts};
@@ -48,6 +49,59 @@ pub fn serve(
         Some(account) => serve_known(alloc, account, guard, catalogue, &command),
         None => told(alloc, &command, Reply::NoAccount),
     }
+}
+
+/// Serves a command as `serve` does, and appends its printout. A listing is printed where it is to stand.
+///
+/// # Errors
+///
+/// Where a growth was refused; nothing was appended then, but the data sets may have changed.
+pub fn put_served(
+    alloc: Global,
+    accounts: &Accounts,
+    guard: &mut Guard,
+    catalogue: &mut Catalogue,
+    command: Command,
+    out: &mut Vec<u8>,
+) -> Result<(), AllocError>
+    ensures printed { OnOk result (out.new.items ≡ out.old.items ++ (commanded accounts.now catalogue.old command).printout) }
+    ensures sets { OnOk result (catalogue.new ≡ (commanded accounts.now catalogue.old command).sets) }
+    ensures nothing { OnErr result (out.new.items ≡ out.old.items) }
+    ensures fit { RowsFit guard.old catalogue.old → RowsFit guard.new catalogue.new }
+{
+    if let Command::List { account, name } = &command {
+        return put_list(alloc, accounts, guard, catalogue, account, name, out);
+    }
+    let printout = serve(alloc, accounts, guard, catalogue, command)?;
+    out.extend_from_slice(printout.as_slice())
+}
+
+// Serves a listing, and appends its printout.
+fn put_list(
+    alloc: Global,
+    accounts: &Accounts,
+    guard: &Guard,
+    catalogue: &Catalogue,
+    account: &Name,
+    name: &Name,
+    out: &mut Vec<u8>,
+) -> Result<(), AllocError>
+    ensures printed { OnOk result (out.new.items ≡ out.old.items ++ (commanded accounts.now catalogue.now (commands.List account.now name.now)).printout) }
+    ensures nothing { OnErr result (out.new.items ≡ out.old.items) }
+{
+    let reply = match accounts.find(account) {
+        Some(known) => match guard.records(known, catalogue, name) {
+            Ok(records) => return put_listing(account, name, records, out),
+            Err(reason) => Reply::Denied(reason),
+        },
+        None => Reply::NoAccount,
+    };
+    let command = Command::List {
+        account: account.copy(),
+        name: name.copy(),
+    };
+    let printout = told(alloc, &command, reply)?;
+    out.extend_from_slice(printout.as_slice())
 }
 
 // Serves a command of this account.

@@ -1,13 +1,13 @@
 -- Events of one account's own, in worlds that agree for it.
 use Rattle.std.proofs.Common.{◌≡◌, ℕ, Bool, List, [], ◌∷◌, ◌++◌, length, Option, refl, ap, sym, ◌∙◌, subst, inl, inr}
-use Rattle.std.specs.Prelude.{map, is_some}
-use Rattle.std.specs.List.{AllByRecursion}
+use Rattle.std.specs.Prelude.{map, is_some, is_none, drop, replicate}
+use Rattle.std.specs.List.{AllByRecursion, list_all}
 use Rattle.mon_access.specs.declared.account.Account.{Account}
 use Rattle.mon_job.specs.declared.job_end.JobEnd.{JobEnd}
 use Rattle.mon_slots.specs.declared.turned.Turned.{Turned}
-use Rattle.mon_slots.specs.Floors.{SlotState, Floor, all_empty, first_free}
-use Rattle.mon_slots.specs.Turns.{ends_by, only}
-use Rattle.mon_slots.specs.Marks.{Marks, mark_of, later, turn_as, Past, nothing, ends_then, until, never, marked, rounds, turns_left, rounds_until, is_done, has_free_slot, drain, room}
+use Rattle.mon_slots.specs.Floors.{SlotState, Floor, first_free}
+use Rattle.mon_slots.specs.Turns.{ends_by}
+use Rattle.mon_slots.specs.Marks.{Marks, mark_of, turn_as, Past, nothing, ends_then, until, never, marked, rounds, turns_left, rounds_until, is_done, has_free_slot, drain, room}
 use Rattle.mon_slots.proofs.Past.{either_way, until_stops, until_goes}
 use Rattle.mon_monitor.specs.Worlds.{World, with_floor}
 use Rattle.mon_monitor.specs.Events.{Event, Serve, Load, Give, Drain}
@@ -42,11 +42,11 @@ module _ (account : Account) (stop : Floor → Bool) (same : (w v : Floor) → w
         let t = turn_as (mark_of m) s w in
         let u = turn_as (mark_of m) s v in
         let one = floor_turn account w v agree (mark_of m) s in
-        let rest = until_agrees E (later m) t.1 u.1 one.after in
+        let rest = until_agrees E (drop 1 m) t.1 u.1 one.after in
         subst (λ (p : Past). PastAlike account p (until stop (s ∷ E) m v)) (sym (until_goes stop s E m w h))
-        (subst (λ (p : Past). PastAlike account (ends_then (ends_by s t.0) (until stop E (later m) t.1)) p) (sym (until_goes stop s E m v (sym (same w v agree.slots) ∙ h)))
+        (subst (λ (p : Past). PastAlike account (ends_then (ends_by s t.0) (until stop E (drop 1 m) t.1)) p) (sym (until_goes stop s E m v (sym (same w v agree.slots) ∙ h)))
         (record {
-          ends = ap (λ (r : Turned). ends_by s r ++ (until stop E (later m) t.1).ends) one.answer ∙ ap (λ (l : List (ℕ × JobEnd)). ends_by s u.0 ++ l) rest.ends;
+          ends = ap (λ (r : Turned). ends_by s r ++ (until stop E (drop 1 m) t.1).ends) one.answer ∙ ap (λ (l : List (ℕ × JobEnd)). ends_by s u.0 ++ l) rest.ends;
           marks = rest.marks;
           after = rest.after;
         }))
@@ -81,10 +81,10 @@ event_agrees account w v agree (Serve command) own m =
     let one = commands_agree account w v agree command own in
     record { papers = ap (λ (text : List ℕ). OfCommand text ∷ []) one.printout; marks = refl; after = one.after }
 event_agrees account w v agree (Give slot count) own m =
-    turns_print account w v agree (marked (only slot count) m w.floor) (marked (only slot count) m v.floor)
-    (until_agrees account never (λ w v e. refl) (only slot count) m w.floor v.floor agree.floor)
+    turns_print account w v agree (marked (replicate count slot) m w.floor) (marked (replicate count slot) m v.floor)
+    (until_agrees account never (λ w v e. refl) (replicate count slot) m w.floor v.floor agree.floor)
 event_agrees account w v agree Drain own m =
-    turns_print account w v agree (drain m w.floor) (drain m v.floor) (rounds_agree account is_done (λ w v e. ap all_empty e) m w.floor v.floor agree.floor)
+    turns_print account w v agree (drain m w.floor) (drain m v.floor) (rounds_agree account is_done (λ w v e. ap (list_all is_none) e) m w.floor v.floor agree.floor)
 event_agrees account w v agree (Load deck) own m =
     let made = turns_print account w v agree (room m w.floor) (room m v.floor)
     (rounds_agree account has_free_slot (λ w v e. ap (λ (l : List (Option SlotState)). is_some (first_free l)) e) m w.floor v.floor agree.floor) in

@@ -1,13 +1,14 @@
 -- Before the first event all slots are empty, so catalogues that look alike are all that is asked.
 use Rattle.std.proofs.Common.{◌≡◌, ℕ, zero, suc, Some, None, refl, ap}
 use Rattle.std.specs.Prelude.{replicate, slice_get}
-use Rattle.mon_slots.specs.Floors.{SlotState, seated, seat_at}
+use Rattle.std.specs.Option.{option_flatten}
+use Rattle.mon_slots.specs.Floors.{SlotState, seat_at}
 use Rattle.mon_monitor.specs.Worlds.{first_world}
 use Rattle.mon_monitor.specs.Papers.{papers_text}
 use Rattle.mon_monitor.specs.Beginnings.{FromTheBeginning}
 use Rattle.mon_monitor.proofs.Agreeing.{isolated}
 
-no_job : (n i : ℕ) (slot : SlotState) → seated (slice_get (replicate n None) i) ≡ Some slot → ⊥
+no_job : (n i : ℕ) (slot : SlotState) → option_flatten (slice_get (replicate n None) i) ≡ Some slot → ⊥
 no_job zero i slot h = cc
 no_job (suc n) zero slot h = cc
 no_job (suc n) (suc i) slot h = no_job n i slot h

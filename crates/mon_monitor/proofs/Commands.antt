@@ -25,7 +25,7 @@ use Rattle.mon_catalogue.proofs.Changed.{other_sets_stay, named_set_changes, ord
 use Rattle.mon_answer.specs.declared.answer.Reason.{Reason}
 use Rattle.mon_answer.specs.declared.answer.Reason.TheVariants.{NoSet, NotOwner}
 use Rattle.mon_guard.specs.Deciding.{to_read, to_execute, decision_on, is_granted, by_decision, where_granted, may_be_shown}
-use Rattle.mon_guard.specs.Lending.{AclPart, NamePart, acl_part, name_part, acl_of, names_shown, names_lent}
+use Rattle.mon_guard.specs.Lending.{AclPart, NamePart, acl_part, name_part, names_shown, names_lent}
 use Rattle.mon_guard.specs.Owning.{given, new_set, acl_set_unless}
 use Rattle.mon_command.specs.declared.command.Command.{Command}
 use Rattle.mon_command.specs.declared.command.Command.TheVariants.{Create, Delete, SetAcl, ShowAcl, List as Listing, Catalog}
@@ -37,7 +37,7 @@ use Rattle.mon_monitor.specs.Isolation.{CommandsAgree}
 use Rattle.mon_monitor.proofs.Finding.{BothFound, found_both, both_changed, both_length, both_append, both_without, both_keys}
 use Rattle.mon_monitor.proofs.Requests.{like_itself, decided_alike, ties_stay}
 use Rattle.mon_catalogue.proofs.Shorthand.{listed}
-use Rattle.mon_guard.proofs.Shorthand.{owner_denial_of, removed_unless, created_unless, records_of}
+use Rattle.mon_guard.proofs.Shorthand.{owner_denial_of, removed_unless, created_unless, records_of, acl_of}
 use Rattle.mon_command.proofs.Shorthand.{served_if_known}
 
 -- what a command is answered, and what it leaves

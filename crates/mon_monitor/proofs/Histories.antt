@@ -1,6 +1,6 @@
 -- Events one after the other, and what marks have to do with them.
 use Rattle.std.proofs.Common.{◌≡◌, ◌≢◌, ℕ, Bool, true, List, [], ◌∷◌, ◌++◌, length, Option, Some, None, Result, Ok, Err, refl, ap, sym, ◌∙◌, inl, inr, append_assoc}
-use Rattle.std.specs.Prelude.{map, option_map, is_some}
+use Rattle.std.specs.Prelude.{map, option_map, is_some, replicate}
 use Rattle.std.specs.List.{AllByRecursion}
 use Rattle.std.specs.Option.{option_or}
 use Rattle.sno_cards.specs.declared.refusal.SyntaxError.{SyntaxError}
@@ -15,10 +15,9 @@ use Rattle.mon_job.specs.declared.job_end.JobEnd.{JobEnd}
 use Rattle.mon_job.specs.declared.refusal.LoadError.{LoadError}
 use Rattle.mon_job.specs.declared.refusal.LoadError.TheVariants.{NoSlot, NoAccount, Cards, Syntax}
 use Rattle.mon_slots.specs.Floors.{SlotState, Floor, first_free}
-use Rattle.mon_slots.specs.Turns.{only}
 use Rattle.mon_slots.specs.Marks.{Marks, Past, turn_as, until, never, rounds, turns_left, is_done, has_free_slot, room}
 use Rattle.mon_slots.specs.Rounds.{NoneByMemory, MarksEndJobs, RoomIsMade}
-use Rattle.mon_slots.specs.Loads.{first_units, ties_refusal, slot_refusal, missing_account, program_refusal, deck_refusal, loaded_by, slot_in}
+use Rattle.mon_slots.specs.Loads.{first_units, ties_refusal, missing, program_refusal, deck_refusal, loaded_by, slot_in}
 use Rattle.mon_slots.proofs.Seats.{seat_length}
 use Rattle.mon_slots.proofs.Past.{either_way, until_stops, until_goes, until_length}
 use Rattle.mon_monitor.specs.Worlds.{World, with_floor}
@@ -64,7 +63,7 @@ until_none stop (s ∷ E) w = elim (either_way (stop w)) [
 happened_none : (e : Event) (w : World) → (happened e [] w).marks ≡ []
 happened_none (Serve command) w = refl
 happened_none (Load deck) w = until_none has_free_slot (rounds (turns_left w.floor.slots) (length w.floor.slots)) w.floor
-happened_none (Give s n) w = until_none never (only s n) w.floor
+happened_none (Give s n) w = until_none never (replicate n s) w.floor
 happened_none Drain w = until_none is_done (rounds (turns_left w.floor.slots) (length w.floor.slots)) w.floor
 
 module _ (law : MarksEndJobs) where
@@ -89,7 +88,7 @@ module _ (law : MarksEndJobs) where
   happened_unmarked : (e : Event) (m : Marks) (w : World) → AllByRecursion NotByMemory (happened e m w).papers → AsUnmarked (happened e m w) (happened e [] w)
   happened_unmarked (Serve command) m w none = record { papers = refl; after = refl }
   happened_unmarked (Load deck) m w none = entered_unmarked deck m w none
-  happened_unmarked (Give s n) m w none = turns_unmarked never (only s n) m w none
+  happened_unmarked (Give s n) m w none = turns_unmarked never (replicate n s) m w none
   happened_unmarked Drain m w none = turns_unmarked is_done (rounds (turns_left w.floor.slots) (length w.floor.slots)) m w none
 
   pub played_unmarked : PlayedUnmarked
@@ -121,13 +120,13 @@ program_not (Err e) h = let k : Some (Syntax e) ≡ Some NoSlot = h in cc (k)
 
 -- no deck is refused for want of a slot
 deck_not : (f : Option Account) (t : Option UnitError) (said : Result ProgramText SyntaxError)
-    → option_or (missing_account f) (option_or (option_map Cards t) (program_refusal said)) ≢ Some NoSlot
+    → option_or (missing NoAccount f) (option_or (option_map Cards t) (program_refusal said)) ≢ Some NoSlot
 deck_not None t said h = let k : Some NoAccount ≡ Some NoSlot = h in cc (k)
 deck_not (Some a) (Some u) said h = let k : Some (Cards u) ≡ Some NoSlot = h in cc (k)
 deck_not (Some a) None said h = program_not said h
 
 answer_not : (o : Option ℕ) (d : Option LoadError) (slot : Option SlotState) (slots : List (Option SlotState)) → is_some o ≡ true → d ≢ Some NoSlot
-    → (loaded_by (option_or (slot_refusal o) d) o slot slots).0 ≢ Err NoSlot
+    → (loaded_by (option_or (missing NoSlot o) d) o slot slots).0 ≢ Err NoSlot
 answer_not None d slot slots h g e = absurd cc
 answer_not (Some n) None slot slots h g e = let k : Ok n ≡ Err NoSlot = e in cc (k)
 answer_not (Some n) (Some r) slot slots h g e = g (let k : Err r ≡ Err NoSlot = e in cc (k))
@@ -160,7 +159,7 @@ event_slots : (e : Event) (m : Marks) (w : World) → length (happened e m w).af
 event_slots (Serve command) m w = refl
 event_slots (Load deck) m w =
     loaded_length _ _ _ (room m w.floor).after.slots ∙ until_length has_free_slot (rounds (turns_left w.floor.slots) (length w.floor.slots)) m w.floor
-event_slots (Give s n) m w = until_length never (only s n) m w.floor
+event_slots (Give s n) m w = until_length never (replicate n s) m w.floor
 event_slots Drain m w = until_length is_done (rounds (turns_left w.floor.slots) (length w.floor.slots)) m w.floor
 
 pub slots_stay : SlotsStay

@@ -1,6 +1,6 @@
 -- What the calls do is what the definitions say.
 use Rattle.std.proofs.Common.{◌≡◌, ℕ, List, [], ◌∷◌, ◌++◌, Result, Ok, Err, refl, ap, sym, ◌∙◌, subst, append_assoc, append-nil}
-use Rattle.std.specs.Prelude.{OnOk, is_ok, if◌then◌else◌}
+use Rattle.std.specs.Prelude.{OnOk, is_ok, if◌then◌else◌, replicate}
 use Rattle.std.specs.List.{flat_map}
 use Rattle.std.proofs.lemmas.List.Concat.{flat_map-append}
 use Rattle.mon_text.specs.declared.stop.Stop.{Stop}
@@ -14,15 +14,15 @@ use Rattle.mon_job.specs.declared.job_end.JobEnd.{JobEnd}
 use Rattle.mon_job.specs.declared.refusal.LoadError.{LoadError}
 use Rattle.mon_job.specs.Printouts.{printout, refusal_text}
 use Rattle.mon_slots.specs.Floors.{Floor}
-use Rattle.mon_slots.specs.Turns.{only}
 use Rattle.mon_slots.specs.Marks.{Marks, Past, marked, drain, room}
 use Rattle.mon_slots.specs.Turning.{Passed, MarkedIs, DrainIs, RoomIs}
-use Rattle.mon_monitor.specs.Worlds.{World, world, with_floor, with_sets}
+use Rattle.mon_monitor.specs.Worlds.{World, with_floor, with_sets}
 use Rattle.mon_monitor.specs.Events.{Serve, Load, Give, Drain}
 use Rattle.mon_monitor.specs.Papers.{Paper, OfCommand, OfRefused, papers_text, paper_text, of_load}
 use Rattle.mon_monitor.specs.Played.{Played, loading, of_turns, of_loading, and_played, then_played}
 use Rattle.mon_monitor.specs.Happening.{Does, Happens, HappensUnmarked}
 use Rattle.mon_monitor.proofs.Shorthand.{of_ends}
+use Rattle.mon_monitor.specs.Told.{world}
 
 pub papers_append : (xs ys : List Paper) → papers_text (xs ++ ys) ≡ papers_text xs ++ papers_text ys
 papers_append xs ys = flat_map-append paper_text xs ys
@@ -77,13 +77,13 @@ drained w w' before after ends accounts is printed =
     record { marks = d.marks; papers = d.papers; is = d.is; printed = d.printed }
 
 -- turns of one slot
-pub given : (s n : ℕ) (w w' : World) (before after : List ℕ) (ends : List JobEnd) → w'.accounts ≡ w.accounts → MarkedIs (only s n) w.floor ends w'.floor
+pub given : (s n : ℕ) (w w' : World) (before after : List ℕ) (ends : List JobEnd) → w'.accounts ≡ w.accounts → MarkedIs (replicate n s) w.floor ends w'.floor
     → after ≡ before ++ flat_map printout ends → Happens (Give s n) w before w' after
 given s n w w' before after ends accounts is printed =
-    let d = turns_happen (λ m f. marked (only s n) m f) w w' ends accounts before after is.marks is.is printed in
+    let d = turns_happen (λ m f. marked (replicate n s) m f) w w' ends accounts before after is.marks is.is printed in
     record { marks = d.marks; papers = d.papers; is = d.is; printed = d.printed }
 
-pub given_end : (s n : ℕ) (w w' : World) (before after : List ℕ) (end : JobEnd) → w'.accounts ≡ w.accounts → MarkedIs (only s n) w.floor (end ∷ []) w'.floor
+pub given_end : (s n : ℕ) (w w' : World) (before after : List ℕ) (end : JobEnd) → w'.accounts ≡ w.accounts → MarkedIs (replicate n s) w.floor (end ∷ []) w'.floor
     → after ≡ before ++ printout end → Happens (Give s n) w before w' after
 given_end s n w w' before after end accounts is printed =
     given s n w w' before after (end ∷ []) accounts is (printed ∙ ap (λ (t : List ℕ). before ++ t) (sym (append-nil (printout end))))

@@ -1,6 +1,6 @@
 -- What the history tells of each job, event by event.
 use Rattle.std.proofs.Common.{◌≡◌, ◌≢◌, ◌⊎◌, ◌==◌, ℕ, zero, suc, ◌-◌, ◌≤◌, Bool, true, false, List, [], ◌∷◌, ◌++◌, length, map, replicate, Option, Some, None, refl, ap, sym, ◌∙◌, subst, inl, inr, arith, append_assoc, append-nil}
-use Rattle.std.specs.Prelude.{if◌then◌else◌, is_some}
+use Rattle.std.specs.Prelude.{if◌then◌else◌, is_some, drop}
 use Rattle.std.proofs.lemmas.List.Elements.{filter-append}
 use Rattle.std.proofs.lemmas.Bool.{eq-eqb, eqb-true}
 use Rattle.std.specs.Option.{option_or}
@@ -22,11 +22,12 @@ use Rattle.mon_command.specs.Commanded.{answered}
 use Rattle.mon_job.specs.declared.deck.UnitCard.{UnitCard}
 use Rattle.mon_job.specs.declared.deck.JobDeck.{JobDeck}
 use Rattle.mon_job.specs.declared.refusal.LoadError.{LoadError}
+use Rattle.mon_job.specs.declared.refusal.LoadError.TheVariants.{NoSlot, NoAccount}
 use Rattle.mon_slots.specs.Floors.{SlotState, Floor, floor, seat_at, with_seat, job_in, first_free}
-use Rattle.mon_slots.specs.Loads.{slot_refusal, missing_account, first_units, tied_by, with_ties, program_refusal, program_in, deck_refusal, loaded_slot, slot_by, slot_in, loaded_by, job_loaded}
-use Rattle.mon_slots.specs.Turns.{reached, ran, ends_by, only}
-use Rattle.mon_slots.specs.Marks.{Mark, Marks, mark_of, later, passed_at, exchanges_at, may_break, broken_by, ran_as, turn_as_by, turn_as, Past, nothing, ends_then, until, never, is_done, has_free_slot, room}
-use Rattle.mon_monitor.specs.Worlds.{World, world}
+use Rattle.mon_slots.specs.Loads.{missing, first_units, tied_by, with_ties, program_refusal, program_in, deck_refusal, loaded_slot, slot_by, slot_in, loaded_by, job_loaded}
+use Rattle.mon_slots.specs.Turns.{reached, ran, ends_by}
+use Rattle.mon_slots.specs.Marks.{Mark, Marks, mark_of, passed_at, exchanges_at, may_break, ran_as, turn_as, Past, nothing, ends_then, until, never, is_done, has_free_slot, room}
+use Rattle.mon_monitor.specs.Worlds.{World}
 use Rattle.mon_monitor.specs.Events.{Event, Serve, Load, Give, Drain}
 use Rattle.mon_monitor.specs.Played.{happened, played}
 use Rattle.mon_monitor.specs.History.{Entry, Entered, Refused, Asked, Ordered, whole_turn, broken_turn, asked_in, end_entry, turn_entries, entries_until, load_entry, event_entries, history, is_of, own}
@@ -38,6 +39,8 @@ use Rattle.mon_monitor.proofs.Exchanging.{whole_told, cut_told, all_passed, all_
 use Rattle.sno_run.proofs.Tallying.{turn_counts}
 use Rattle.mon_slots.proofs.Seating.{IsSeat, seat_changed, free_seat}
 use Rattle.mon_monitor.proofs.Telling.{same_or_not, not_same, AreOf, none_of, more_of, number_is, number_not, own_more, own_same, Sitting, goes_on, Turn, Again, IsToCome, SoFar, still_job, turn_far}
+use Rattle.mon_slots.proofs.Shorthand.{turn_as_by, broken_by}
+use Rattle.mon_monitor.specs.Told.{world}
 
 -- A turn of a job leaves its limits; where the job goes on, fewer statements may begin than before, and where it ends, it has
 -- ended so.
@@ -144,11 +147,11 @@ module _ (accounts : List Account) (J : ℕ → Option JobDeck) (numbered : (n :
     until_far stop (s ∷ S) m w H far =
         let t = turn_as (mark_of m) s w in
         let here = turn_entries (mark_of m) s w in
-        let rest = entries_until stop S (later m) t.1 in
-        let p = until stop S (later m) t.1 in
+        let rest = entries_until stop S (drop 1 m) t.1 in
+        let p = until stop S (drop 1 m) t.1 in
         unless_far (stop w) H (here ++ rest) (nothing m w) (ends_then (ends_by s t.0) p) far
         (subst (λ (l : List Entry). Far E l p.after.slots) (append_assoc H here rest)
-        (until_far stop S (later m) t.1 (H ++ here) (step_by (mark_of m) s w H (job_in s w) refl far)))
+        (until_far stop S (drop 1 m) t.1 (H ++ here) (step_by (mark_of m) s w H (job_in s w) refl far)))
 
   -- A JOB THAT ENTERS
   module _ (spell : Spell) (deck : JobDeck) (E : List Event) (H : List Entry) (slots : List (Option SlotState)) (far : Far (Load deck ∷ E) H slots)
@@ -308,7 +311,7 @@ module _ (accounts : List Account) (J : ℕ → Option JobDeck) (numbered : (n :
   ties_notes (card ∷ cards) units = ties_notes cards (tied_by card units)
 
   -- what is not refused has an account and a program
-  known_by : (o : Option Account) (rest : Option LoadError) → option_or (missing_account o) rest ≡ None → (account : Account) × (o ≡ Some account) × (rest ≡ None)
+  known_by : (o : Option Account) (rest : Option LoadError) → option_or (missing NoAccount o) rest ≡ None → (account : Account) × (o ≡ Some account) × (rest ≡ None)
   known_by None rest h = absurd cc
   known_by (Some account) rest h = (account, refl, h)
 
@@ -320,7 +323,7 @@ module _ (accounts : List Account) (J : ℕ → Option JobDeck) (numbered : (n :
     enters : (deck : JobDeck) (E : List Event) (H : List Entry) (slots : List (Option SlotState)) → Far (Load deck ∷ E) H slots → job_of deck.number E ≡ None
         → (s : ℕ) → first_free slots ≡ Some s → Far E (H ++ load_entry deck (job_loaded accounts deck slots).0) (job_loaded accounts deck slots).1
     enters deck E H slots far once s free =
-        subst (λ (o : Option ℕ). (let l = loaded_by (option_or (slot_refusal o) (deck_refusal accounts deck)) o (slot_in accounts deck) slots in Far E (H ++ load_entry deck l.0) l.1)) (sym free)
+        subst (λ (o : Option ℕ). (let l = loaded_by (option_or (missing NoSlot o) (deck_refusal accounts deck)) o (slot_in accounts deck) slots in Far E (H ++ load_entry deck l.0) l.1)) (sym free)
         (by (deck_refusal accounts deck) refl)
       where
         by : (refusal : Option LoadError) → deck_refusal accounts deck ≡ refusal
@@ -362,7 +365,7 @@ module _ (accounts : List Account) (J : ℕ → Option JobDeck) (numbered : (n :
           subst (λ (l : List Entry). Far E l (job_loaded accounts deck g.slots).1) (append_assoc H entries (load_entry deck (job_loaded accounts deck g.slots).0))
           (enters deck E (H ++ entries) g.slots turns differ.0 free.0 free.1)
       event_far (Give slot count) E m f H differ some far =
-          until_far again well E never (only slot count) m f H (as_far accounts J (Give slot count ∷ E) E H H f.slots (λ n. refl) (λ n. refl) far)
+          until_far again well E never (replicate count slot) m f H (as_far accounts J (Give slot count ∷ E) E H H f.slots (λ n. refl) (λ n. refl) far)
       event_far Drain E m f H differ some far =
           until_far again well E is_done (in_rounds f) m f H (as_far accounts J (Drain ∷ E) E H H f.slots (λ n. refl) (λ n. refl) far)
 

@@ -18,7 +18,7 @@ use Rattle.mon_answer.specs.declared.answer.Reason.TheVariants.{Mode as WrongMod
 use Rattle.mon_answer.specs.declared.answer.Answer.TheVariants.{Denied, Full}
 use Rattle.mon_guard.specs.Reasons.{reason_of}
 use Rattle.mon_guard.specs.Deciding.{to_read, to_write, decision_on, is_granted, by_decision}
-use Rattle.mon_guard.specs.Acting.{Acted, only_answered, read_at, made, changing, ended, or_denied, left, changed}
+use Rattle.mon_guard.specs.Acting.{Acted, only_answered, read_at, changing, ended, or_denied, left, changed}
 use Rattle.sno_ask.specs.declared.request.Act.{Act}
 use Rattle.sno_ask.specs.declared.request.Act.TheVariants.{Read, Write, Endfile, Rewind}
 use Rattle.sno_ask.specs.declared.request.Request.{Request}
@@ -38,6 +38,7 @@ use Rattle.mon_monitor.specs.Agreeing.{LooksAlike, Both, TiesFit}
 use Rattle.mon_monitor.specs.Isolation.{RequestAgrees, RequestsAgree}
 use Rattle.mon_monitor.proofs.Finding.{BothFound, found_both, both_changed}
 use Rattle.mon_unit.proofs.Shorthand.{or_untied, looked}
+use Rattle.mon_guard.proofs.Shorthand.{made}
 
 abbrev with_records : List (List ℕ) → DataSet → DataSet
 with_records records set = record set { records = records }

@@ -1,10 +1,11 @@
 -- A job on data sets of its own does what it does alone.
 use Rattle.std.proofs.Common.{◌≡◌, ◌≢◌, ℕ, zero, suc, ◌≤◌, nat_le, Bool, true, false, List, [], ◌∷◌, ◌++◌, length, eq-eqb, Option, Some, None, Result, Ok, Err, refl, ap, sym, ◌∙◌, subst, inl, inr, arith}
-use Rattle.std.specs.Prelude.{◌⊎◌, ◌==◌, nat_eq, if◌then◌else◌, map, slice_get, slice_set, Vec, IfOk}
+use Rattle.std.specs.Prelude.{◌⊎◌, ◌==◌, nat_eq, if◌then◌else◌, map, slice_get, slice_set, Vec, IfOk, drop, replicate}
 use Rattle.std.proofs.lemmas.Bool.Decides.{nat_tests, eqb_tells}
 use Rattle.std.specs.Cmp.Lexicographic.{pointwise}
 use Rattle.std.specs.Map.{keys_of}
 use Rattle.std.specs.List.{IsDistinct, AllByRecursion}
+use Rattle.std.specs.Option.{option_flatten}
 use Rattle.mon_catalogue.specs.Sets.{Sets, find_set, NamesDiffer}
 use Rattle.sno_ask.specs.declared.request.Request.{Request}
 use Rattle.sno_run.specs.declared.ending.Ending.TheVariants.{Memory}
@@ -21,9 +22,9 @@ use Rattle.mon_unit.proofs.Looks.{one_look, looks_at_tied, targets_stay, run_kee
 use Rattle.mon_job.specs.declared.job_end.JobEnd.{JobEnd}
 use Rattle.mon_slots.specs.declared.turned.Turned.{Turned}
 use Rattle.mon_slots.specs.declared.turned.Turned.TheVariants.{Empty, Goes, Ended}
-use Rattle.mon_slots.specs.Floors.{SlotState, Floor, seated, seat_at, with_seat, job_in}
-use Rattle.mon_slots.specs.Turns.{reached, ran, after_turn, job_end, seat, told, turn_by, turn, Course, ends_by, turns, only}
-use Rattle.mon_slots.specs.Marks.{Marks, mark_of, later, turn_as, Past, ends_then, until, never, marked, rounds, turns_left, is_done, drain}
+use Rattle.mon_slots.specs.Floors.{SlotState, Floor, seat_at, with_seat, job_in}
+use Rattle.mon_slots.specs.Turns.{reached, ran, after_turn, job_end, seat, told, turn_by, turn, Course, ends_by, turns}
+use Rattle.mon_slots.specs.Marks.{Marks, mark_of, turn_as, Past, ends_then, until, never, marked, rounds, turns_left, is_done, drain}
 use Rattle.mon_slots.specs.Rounds.{NoneByMemory}
 use Rattle.mon_slots.specs.Turning.{UntilIs, MarkedIs, DrainIs}
 use Rattle.mon_slots.proofs.Past.{either_way, until_stops, until_goes, marks_end_jobs, unmarked, drain_empties}
@@ -38,7 +39,7 @@ seat_same : (s : ℕ) (o : Option SlotState) (slots : List (Option SlotState)) (
 seat_same zero o slots slot h = absurd cc
 seat_same (suc i) o slots slot h = at slots i h
   where
-    at : (l : List (Option SlotState)) (i : ℕ) → seated (slice_get l i) ≡ Some slot → seated (slice_get (slice_set l i o) i) ≡ o
+    at : (l : List (Option SlotState)) (i : ℕ) → option_flatten (slice_get l i) ≡ Some slot → option_flatten (slice_get (slice_set l i o) i) ≡ o
     at [] i h = absurd cc
     at (x ∷ l) zero h = refl
     at (x ∷ l) (suc i) h = at l i h
@@ -48,7 +49,7 @@ seat_other zero t o slots h = refl
 seat_other (suc i) zero o slots h = refl
 seat_other (suc i) (suc j) o slots h = at slots i j (λ e. h (ap suc e))
   where
-    at : (l : List (Option SlotState)) (i j : ℕ) → j ≢ i → seated (slice_get (slice_set l i o) j) ≡ seated (slice_get l j)
+    at : (l : List (Option SlotState)) (i j : ℕ) → j ≢ i → option_flatten (slice_get (slice_set l i o) j) ≡ option_flatten (slice_get l j)
     at [] i j h = refl
     at (x ∷ l) zero zero h = absurd (h refl)
     at (x ∷ l) zero (suc j) h = refl
@@ -183,16 +184,16 @@ given_other s t E ne = grind (arith, nat_tests)
 
 -- the turns of slot s among others are its turns alone
 project : (s : ℕ) (T : List ℕ → Type 0) (E : List ℕ) (w v : Floor) → Like s T w v
-    → (of_slot s (turns E w).ends ≡ (turns (only s (turns_given s E)) v).ends)
-    × Like s T (turns E w).after (turns (only s (turns_given s E)) v).after
+    → (of_slot s (turns E w).ends ≡ (turns (replicate (turns_given s E) s) v).ends)
+    × Like s T (turns E w).after (turns (replicate (turns_given s E) s) v).after
 project s T [] w v like = (refl, like)
 project s T (t ∷ E) w v like = elim (eqb_tells t s) [
   | inl q ↦
       let one = own_turn s T w v like in
       let rest = project s T E (turn s w).1 (turn s v).1 one.1 in
-      subst (λ (k : ℕ). (of_slot s (turns (k ∷ E) w).ends ≡ (turns (only s (turns_given s (k ∷ E))) v).ends)
-      × Like s T (turns (k ∷ E) w).after (turns (only s (turns_given s (k ∷ E))) v).after) (sym q.1)
-      (subst (λ (n : ℕ). (of_slot s (turns (s ∷ E) w).ends ≡ (turns (only s n) v).ends) × Like s T (turns (s ∷ E) w).after (turns (only s n) v).after) (sym (given_same s E)) (
+      subst (λ (k : ℕ). (of_slot s (turns (k ∷ E) w).ends ≡ (turns (replicate (turns_given s (k ∷ E)) s) v).ends)
+      × Like s T (turns (k ∷ E) w).after (turns (replicate (turns_given s (k ∷ E)) s) v).after) (sym q.1)
+      (subst (λ (n : ℕ). (of_slot s (turns (s ∷ E) w).ends ≡ (turns (replicate n s) v).ends) × Like s T (turns (s ∷ E) w).after (turns (replicate n s) v).after) (sym (given_same s E)) (
         of_slot_own s (turn s w).0 (turns E (turn s w).1).ends
             ∙ ap (λ (r : Turned). ends_by s r ++ of_slot s (turns E (turn s w).1).ends) one.0
             ∙ ap (λ (l : List (ℕ × JobEnd)). ends_by s (turn s v).0 ++ l) rest.0,
@@ -200,7 +201,7 @@ project s T (t ∷ E) w v like = elim (eqb_tells t s) [
       ))
   | inr q ↦
       let rest = project s T E (turn t w).1 v (other_turn s T w v like t q.1) in
-      subst (λ (n : ℕ). (of_slot s (turns (t ∷ E) w).ends ≡ (turns (only s n) v).ends) × Like s T (turns (t ∷ E) w).after (turns (only s n) v).after) (sym (given_other s t E q.1))
+      subst (λ (n : ℕ). (of_slot s (turns (t ∷ E) w).ends ≡ (turns (replicate n s) v).ends) × Like s T (turns (t ∷ E) w).after (turns (replicate n s) v).after) (sym (given_other s t E q.1))
       (of_slot_other s t (turn t w).0 (turns E (turn t w).1).ends q.1 ∙ rest.0, rest.1)
 ]
 
@@ -226,22 +227,22 @@ each_as_alone w apart E s =
     }
 
 -- an empty slot stays empty
-no_turns : (s k : ℕ) (v : Floor) → job_in s v ≡ None → turns (only s k) v ≡ (let r : Course = record { ends = []; after = v } in r)
+no_turns : (s k : ℕ) (v : Floor) → job_in s v ≡ None → turns (replicate k s) v ≡ (let r : Course = record { ends = []; after = v } in r)
 no_turns s zero v h = refl
 no_turns s (suc k) v h =
     let one : turn s v ≡ (Empty, v) = ap (λ (o : Option SlotState). turn_by s o v) h in
-    ap (λ (p : Turned × Floor). let r : Course = record { ends = ends_by s p.0 ++ (turns (only s k) p.1).ends; after = (turns (only s k) p.1).after } in r) one
+    ap (λ (p : Turned × Floor). let r : Course = record { ends = ends_by s p.0 ++ (turns (replicate k s) p.1).ends; after = (turns (replicate k s) p.1).after } in r) one
     ∙ no_turns s k v h
 
 -- more turns change nothing once the job has ended
-settled : (s n m : ℕ) (v : Floor) → n ≤ m → job_in s (turns (only s n) v).after ≡ None → turns (only s m) v ≡ turns (only s n) v
+settled : (s n m : ℕ) (v : Floor) → n ≤ m → job_in s (turns (replicate n s) v).after ≡ None → turns (replicate m s) v ≡ turns (replicate n s) v
 settled s zero m v le h = no_turns s m v h
 settled s (suc n) zero v le h = absurd (omega (arith, le))
 settled s (suc n) (suc m) v le h =
     ap (λ (x : Course). let r : Course = record { ends = ends_by s (turn s v).0 ++ x.ends; after = x.after } in r) (settled s n m (turn s v).1 (omega (arith, le)) h)
 
-either_more : (s n m : ℕ) (v : Floor) → job_in s (turns (only s n) v).after ≡ None → job_in s (turns (only s m) v).after ≡ None
-    → turns (only s n) v ≡ turns (only s m) v
+either_more : (s n m : ℕ) (v : Floor) → job_in s (turns (replicate n s) v).after ≡ None → job_in s (turns (replicate m s) v).after ≡ None
+    → turns (replicate n s) v ≡ turns (replicate m s) v
 either_more s n m v h g = elim (le_or n m) [
   | inl le ↦ sym (settled s n m v le h)
   | inr le ↦ settled s m n v le g
@@ -279,16 +280,16 @@ tied_target n (x ∷ l) = elim (here x) [
     by h g (suc u) = g u
 
 tied_in : (n : List ℕ) (slots : List (Option SlotState))
-    → ((s : ℕ) × (slot : SlotState) × (seated (slice_get slots s) ≡ Some slot) × TiedTo slot.units n)
-    ⊎ ((s : ℕ) (slot : SlotState) → seated (slice_get slots s) ≡ Some slot → ¬ TiedTo slot.units n)
+    → ((s : ℕ) × (slot : SlotState) × (option_flatten (slice_get slots s) ≡ Some slot) × TiedTo slot.units n)
+    ⊎ ((s : ℕ) (slot : SlotState) → option_flatten (slice_get slots s) ≡ Some slot → ¬ TiedTo slot.units n)
 tied_in n [] = inr (λ s slot h. absurd cc)
 tied_in n (None ∷ slots) = elim (tied_in n slots) [
   | inl h ↦ inl (suc h.0, h.1, h.2, h.3)
   | inr h ↦ inr (by h)
 ]
   where
-    by : ((s : ℕ) (slot : SlotState) → seated (slice_get slots s) ≡ Some slot → ¬ TiedTo slot.units n)
-        → (s : ℕ) (slot : SlotState) → seated (slice_get (None ∷ slots) s) ≡ Some slot → ¬ TiedTo slot.units n
+    by : ((s : ℕ) (slot : SlotState) → option_flatten (slice_get slots s) ≡ Some slot → ¬ TiedTo slot.units n)
+        → (s : ℕ) (slot : SlotState) → option_flatten (slice_get (None ∷ slots) s) ≡ Some slot → ¬ TiedTo slot.units n
     by h zero slot e = absurd cc
     by h (suc s) slot e = h s slot e
 tied_in n (Some x ∷ slots) = elim (tied_target n (targets x.units)) [
@@ -299,8 +300,8 @@ tied_in n (Some x ∷ slots) = elim (tied_target n (targets x.units)) [
   ]
 ]
   where
-    by : ((u : ℕ) → ¬ (slice_get (targets x.units) u ≡ Some (Set n))) → ((s : ℕ) (slot : SlotState) → seated (slice_get slots s) ≡ Some slot → ¬ TiedTo slot.units n)
-        → (s : ℕ) (slot : SlotState) → seated (slice_get (Some x ∷ slots) s) ≡ Some slot → ¬ TiedTo slot.units n
+    by : ((u : ℕ) → ¬ (slice_get (targets x.units) u ≡ Some (Set n))) → ((s : ℕ) (slot : SlotState) → option_flatten (slice_get slots s) ≡ Some slot → ¬ TiedTo slot.units n)
+        → (s : ℕ) (slot : SlotState) → option_flatten (slice_get (Some x ∷ slots) s) ≡ Some slot → ¬ TiedTo slot.units n
     by t h zero slot e = λ k. t k.0 (ap (λ (y : SlotState). slice_get (targets y.units) k.0) (let same : x ≡ slot = cc (e) in same) ∙ k.1)
     by t h (suc s) slot e = h s slot e
 
@@ -314,7 +315,7 @@ tied_or_not n w = elim (tied_in n w.slots) [
   | inr h ↦ inr (record { none = by h })
 ]
   where
-    by : ((s : ℕ) (slot : SlotState) → seated (slice_get w.slots s) ≡ Some slot → ¬ TiedTo slot.units n)
+    by : ((s : ℕ) (slot : SlotState) → option_flatten (slice_get w.slots s) ≡ Some slot → ¬ TiedTo slot.units n)
         → (s : ℕ) (slot : SlotState) → seat_at s w.slots ≡ Some slot → ¬ TiedTo slot.units n
     by h zero slot e = absurd cc
     by h (suc i) slot e = h i slot e
@@ -348,7 +349,7 @@ turns_keys (s ∷ E) w = turns_keys E (turn s w).1 ∙ turn_keys s (job_in s w) 
 
 module _ (w : Floor) (apart : Independent w) (differ : NamesDiffer w.sets) (E F : List ℕ)
     (done : (s : ℕ) → job_in s (turns E w).after ≡ None) (done_too : (s : ℕ) → job_in s (turns F w).after ≡ None) where
-  same_alone : (s : ℕ) → turns (only s (turns_given s E)) w ≡ turns (only s (turns_given s F)) w
+  same_alone : (s : ℕ) → turns (replicate (turns_given s E) s) w ≡ turns (replicate (turns_given s F) s) w
   same_alone s =
       let a = each_as_alone w apart E s in
       let b = each_as_alone w apart F s in
@@ -374,28 +375,28 @@ module _ (w : Floor) (apart : Independent w) (differ : NamesDiffer w.sets) (E F 
 record Once (s : ℕ) (ends : List (ℕ × JobEnd)) : Type 0 where
   pub is : (ends ≡ []) ⊎ ((e : JobEnd) × (ends ≡ (s, e) ∷ []))
 
-once : (s n : ℕ) (v : Floor) → Once s (turns (only s n) v).ends
+once : (s n : ℕ) (v : Floor) → Once s (turns (replicate n s) v).ends
 once s zero v = record { is = inl refl }
 once s (suc n) v = by (job_in s v) refl (λ u. once s n u)
   where
-    by : (o : Option SlotState) → job_in s v ≡ o → ((u : Floor) → Once s (turns (only s n) u).ends)
-        → Once s (ends_by s (turn_by s o v).0 ++ (turns (only s n) (turn_by s o v).1).ends)
+    by : (o : Option SlotState) → job_in s v ≡ o → ((u : Floor) → Once s (turns (replicate n s) u).ends)
+        → Once s (ends_by s (turn_by s o v).0 ++ (turns (replicate n s) (turn_by s o v).1).ends)
     by None e rest = rest v
     by (Some slot) e rest = step_by ((ran slot v.sets).0.0) refl
       where
-        step_by : (st : Step) → (ran slot v.sets).0.0 ≡ st → Once s (ends_by s (turn_by s (Some slot) v).0 ++ (turns (only s n) (turn_by s (Some slot) v).1).ends)
+        step_by : (st : Step) → (ran slot v.sets).0.0 ≡ st → Once s (ends_by s (turn_by s (Some slot) v).0 ++ (turns (replicate n s) (turn_by s (Some slot) v).1).ends)
         step_by step.Goes is =
-            subst (λ (k : Step). Once s (ends_by s (told k (after_turn slot (ran slot v.sets))) ++ (turns (only s n) (turn_by s (Some slot) v).1).ends)) (sym is)
+            subst (λ (k : Step). Once s (ends_by s (told k (after_turn slot (ran slot v.sets))) ++ (turns (replicate n s) (turn_by s (Some slot) v).1).ends)) (sym is)
             (rest (turn_by s (Some slot) v).1)
         step_by (step.Ended ending) is =
             let x = after_turn slot (ran slot v.sets) in
             let empty : job_in s (turn_by s (Some slot) v).1 ≡ None =
             seat_same s (seat (ran slot v.sets).0.0 x) v.slots slot e ∙ ap (λ (k : Step). seat k x) is in
-            let none : (turns (only s n) (turn_by s (Some slot) v).1).ends ≡ [] = ap (λ (r : Course). r.ends) (no_turns s n (turn_by s (Some slot) v).1 empty) in
+            let none : (turns (replicate n s) (turn_by s (Some slot) v).1).ends ≡ [] = ap (λ (r : Course). r.ends) (no_turns s n (turn_by s (Some slot) v).1 empty) in
             record {
               is = inr (
                 job_end x ending,
-                ap (λ (k : Step). ends_by s (told k x) ++ (turns (only s n) (turn_by s (Some slot) v).1).ends) is
+                ap (λ (k : Step). ends_by s (told k x) ++ (turns (replicate n s) (turn_by s (Some slot) v).1).ends) is
                     ∙ ap (λ (l : List (ℕ × JobEnd)). (s, job_end x ending) ∷ l) none,
               );
             }
@@ -428,7 +429,7 @@ pub rearranged : (w : Floor) → Independent w → (E F : List ℕ) → ((s : �
     → ((s : ℕ) → job_in s (turns E w).after ≡ None) → (s : ℕ) → job_in s (turns F w).after ≡ None
 rearranged w apart E F counts done s =
     (each_as_alone w apart F s).job
-    ∙ ap (λ (n : ℕ). job_in s (turns (only s n) w).after) (counts s)
+    ∙ ap (λ (n : ℕ). job_in s (turns (replicate n s) w).after) (counts s)
     ∙ sym (each_as_alone w apart E s).job ∙ done s
 
 -- turns until a floor to stop at are those of some list
@@ -438,7 +439,7 @@ some_turns stop w (s ∷ E) m = elim (either_way (stop w)) [
   | inl h ↦ ([], until_stops stop (s ∷ E) m w h)
   | inr h ↦
       let t = turn_as (mark_of m) s w in
-      let rest = some_turns stop t.1 E (later m) in
+      let rest = some_turns stop t.1 E (drop 1 m) in
       (s ∷ rest.0, until_goes stop s E m w h ∙ ap (ends_then (ends_by s t.0)) rest.1)
 ]
 

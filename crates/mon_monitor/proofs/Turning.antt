@@ -4,6 +4,7 @@ use Rattle.std.specs.Prelude.{◌⊎◌, slice_get, slice_set}
 use Rattle.std.specs.List.{IsDistinct}
 use Rattle.std.specs.Map.{keys_of}
 use Rattle.std.specs.Cmp.Lexicographic.{pointwise}
+use Rattle.std.specs.Option.{option_flatten}
 use Rattle.mon_access.specs.declared.account.Account.{Account}
 use Rattle.mon_catalogue.specs.Sets.{Sets}
 use Rattle.sno_ask.specs.declared.request.Request.{Request}
@@ -19,16 +20,17 @@ use Rattle.mon_unit.specs.Runs.{run_cut}
 use Rattle.mon_unit.proofs.Runs.{run_alike, run_cut_alike, passed_alike}
 use Rattle.mon_unit.proofs.Looks.{run_keeps_to_ties, cut_keeps_to_ties}
 use Rattle.mon_slots.specs.declared.turned.Turned.{Turned}
-use Rattle.mon_slots.specs.Floors.{SlotState, Floor, seated, seat_at, with_seat, job_in}
+use Rattle.mon_slots.specs.Floors.{SlotState, Floor, seat_at, with_seat, job_in}
 use Rattle.mon_slots.specs.Turns.{reached, ran, after_turn, seat, told}
-use Rattle.mon_slots.specs.Marks.{Mark, passed_at, exchanges_at, counted, may_break, broken_by, ran_as, turn_as_by, turn_as}
+use Rattle.mon_slots.specs.Marks.{Mark, passed_at, exchanges_at, counted, may_break, ran_as, turn_as}
 use Rattle.mon_monitor.specs.Agreeing.{LooksAlike, Both, TiesFit, ReachesAgree, FloorsAgree}
 use Rattle.mon_monitor.specs.Isolation.{TurnsAgree}
 use Rattle.mon_monitor.proofs.Requests.{requests_agree, ties_stay}
+use Rattle.mon_slots.proofs.Shorthand.{turn_as_by, broken_by}
 
 -- who is in a seat after one was changed
 seated_after : (slots : List (Option SlotState)) (i j : ℕ) (o : Option SlotState) (x : SlotState)
-    → seated (slice_get (slice_set slots i o) j) ≡ Some x → (seated (slice_get slots j) ≡ Some x) ⊎ (o ≡ Some x)
+    → option_flatten (slice_get (slice_set slots i o) j) ≡ Some x → (option_flatten (slice_get slots j) ≡ Some x) ⊎ (o ≡ Some x)
 seated_after [] i j o x h = inl h
 seated_after (z ∷ slots) zero zero o x h = inr h
 seated_after (z ∷ slots) zero (suc j) o x h = inl h

@@ -16,13 +16,14 @@ use Rattle.mon_slots.specs.Told.{slots_in}
 use Rattle.mon_slots.specs.Floors.{SlotState, Floor, floor}
 use Rattle.mon_slots.specs.Loads.{job_loaded}
 use Rattle.mon_slots.specs.Turning.{TurnOr}
-use Rattle.mon_monitor.specs.Worlds.{World, world, with_floor, with_sets}
+use Rattle.mon_monitor.specs.Worlds.{World, with_floor, with_sets}
 use Rattle.mon_monitor.specs.Played.{loading}
 use Rattle.mon_monitor.specs.Agreeing.{Agree}
 use Rattle.mon_monitor.specs.Unseen.{turning, CommandIsolated, LoadIsolated, TurnIsolated}
 use Rattle.mon_monitor.proofs.Turning.{turns_agree}
 use Rattle.mon_monitor.proofs.Commands.{commands_agree}
 use Rattle.mon_monitor.proofs.Loading.{loads_agree}
+use Rattle.mon_monitor.specs.Told.{world}
 
 -- a command
 command_shows_none : (command : Command) (w w' : World) (told : List ℕ) → told ≡ (commanded w.accounts w.floor.sets command).printout

@@ -1,7 +1,7 @@
 -- The history (own): the one list of all that jobs ask and commands order, each over the data sets as they stand then, with
 -- what was answered; and of the jobs that enter and end. It goes as `played` does: event by event, turn by turn, and all that a
 -- turn asks stands together.
-use Rattle.std.specs.Prelude.{ℕ, ◌==◌, Bool, true, false, List, [], ◌∷◌, ◌++◌, length, map, filter, take, Option, Some, None, Result, Ok, Err, if◌then◌else◌}
+use Rattle.std.specs.Prelude.{ℕ, ◌==◌, Bool, true, false, List, [], ◌∷◌, ◌++◌, length, map, filter, take, Option, Some, None, Result, Ok, Err, if◌then◌else◌, drop, replicate}
 use Rattle.std.specs.List.{flat_map}
 use Rattle.sno_talk.specs.Talks.{Ends, Asks}
 use Rattle.sno_ask.specs.Asking.{Asking}
@@ -20,8 +20,8 @@ use Rattle.mon_job.specs.declared.refusal.LoadError.{LoadError}
 use Rattle.mon_slots.specs.declared.turned.Turned.{Turned}
 use Rattle.mon_slots.specs.declared.turned.Turned.TheVariants as turn
 use Rattle.mon_slots.specs.Floors.{SlotState, Floor, job_in}
-use Rattle.mon_slots.specs.Turns.{reached, only}
-use Rattle.mon_slots.specs.Marks.{Mark, Marks, mark_of, later, exchanges_at, may_break, turn_as, never, rounds, turns_left, is_done, has_free_slot, room}
+use Rattle.mon_slots.specs.Turns.{reached}
+use Rattle.mon_slots.specs.Marks.{Mark, Marks, mark_of, exchanges_at, may_break, turn_as, never, rounds, turns_left, is_done, has_free_slot, room}
 use Rattle.mon_monitor.specs.Worlds.{World, with_floor}
 use Rattle.mon_monitor.specs.Events.{Event, Serve, Load, Give, Drain}
 use Rattle.mon_monitor.specs.Papers.{Paper, OfCommand, OfJob, OfRefused}
@@ -85,7 +85,7 @@ abbrev pub entries_until : (Floor → Bool) → List ℕ → Marks → Floor →
 entries_until stop [] m w = []
 entries_until stop (s ∷ E) m w =
     if stop w then []
-    else turn_entries (mark_of m) s w ++ entries_until stop E (later m) (turn_as (mark_of m) s w).1
+    else turn_entries (mark_of m) s w ++ entries_until stop E (drop 1 m) (turn_as (mark_of m) s w).1
 
 -- rounds of turns, until the floor is one to stop at
 abbrev pub entries_of_rounds : (Floor → Bool) → Marks → Floor → List Entry
@@ -101,7 +101,7 @@ abbrev pub event_entries : Event → Marks → World → List Entry
 event_entries (Serve command) m w = Ordered w.floor.sets command (answered w.accounts w.floor.sets command).answer ∷ []
 event_entries (Load deck) m w =
     entries_of_rounds has_free_slot m w.floor ++ load_entry deck (loading deck (with_floor w (room m w.floor).after)).0
-event_entries (Give slot count) m w = entries_until never (only slot count) m w.floor
+event_entries (Give slot count) m w = entries_until never (replicate count slot) m w.floor
 event_entries Drain m w = entries_of_rounds is_done m w.floor
 
 -- all of these events

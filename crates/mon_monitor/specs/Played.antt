@@ -1,10 +1,9 @@
 -- What events do (own): each prints papers and leaves a world. Memory may break turns off, as the marks say.
-use Rattle.std.specs.Prelude.{ℕ, List, [], ◌∷◌, ◌++◌, Result, map}
+use Rattle.std.specs.Prelude.{ℕ, List, [], ◌∷◌, ◌++◌, Result, map, replicate}
 use Rattle.mon_command.specs.declared.command.Command.{Command}
 use Rattle.mon_command.specs.Commanded.{commanded}
 use Rattle.mon_job.specs.declared.deck.JobDeck.{JobDeck}
 use Rattle.mon_job.specs.declared.refusal.LoadError.{LoadError}
-use Rattle.mon_slots.specs.Turns.{only}
 use Rattle.mon_slots.specs.Marks.{Marks, Past, marked, drain, room}
 use Rattle.mon_slots.specs.Loads.{job_loaded}
 use Rattle.mon_slots.specs.Floors.{floor}
@@ -49,7 +48,7 @@ then_played p next = and_played p.papers (next p.marks p.after)
 abbrev pub happened : Event → Marks → World → Played
 happened (Serve command) m w = of_command command m w
 happened (Load deck) m w = then_played (of_turns w (room m w.floor)) (of_loading deck)
-happened (Give slot count) m w = of_turns w (marked (only slot count) m w.floor)
+happened (Give slot count) m w = of_turns w (marked (replicate count slot) m w.floor)
 happened Drain m w = of_turns w (drain m w.floor)
 
 -- events in order

@@ -1,6 +1,6 @@
 -- Jobs on data sets of their own do the same under every schedule (own). Nothing is claimed of the order of ending, or where a
 -- command or a load comes between. Each law is the contract of a function in `isolation`.
-use Rattle.std.specs.Prelude.{◌≡◌, ◌≢◌, ◌==◌, ℕ, suc, List, [], ◌∷◌, filter, map, if◌then◌else◌, Some, None}
+use Rattle.std.specs.Prelude.{◌≡◌, ◌≢◌, ◌==◌, ℕ, suc, List, [], ◌∷◌, filter, map, if◌then◌else◌, Some, None, replicate}
 use Rattle.std.specs.List.{AllByRecursion}
 use Rattle.sno_run.specs.declared.ending.Ending.TheVariants.{Memory}
 use Rattle.mon_catalogue.specs.Sets.{NamesDiffer}
@@ -8,7 +8,7 @@ use Rattle.mon_unit.specs.Laws.{Same, TiedTo}
 use Rattle.mon_job.specs.declared.job_end.JobEnd.{JobEnd}
 use Rattle.mon_slots.specs.Floors.{SlotState, Floor, job_in}
 use Rattle.mon_slots.specs.Ties.{Independent}
-use Rattle.mon_slots.specs.Turns.{turns, only}
+use Rattle.mon_slots.specs.Turns.{turns}
 use Rattle.mon_slots.specs.Marks.{Marks, drain}
 use Rattle.mon_slots.specs.Rounds.{NoneByMemory}
 
@@ -23,17 +23,17 @@ of_slot s ends = filter (λ e. e.0 == s) ends
 
 -- A job does what it does where its slot alone is given its turns: it ends so, or goes on so, and leaves the same in its sets.
 pub record AsAlone (w : Floor) (E : List ℕ) (s : ℕ) : Type 0 where
-  pub ends : of_slot s (turns E w).ends ≡ (turns (only s (turns_given s E)) w).ends
-  pub job : job_in s (turns E w).after ≡ job_in s (turns (only s (turns_given s E)) w).after
+  pub ends : of_slot s (turns E w).ends ≡ (turns (replicate (turns_given s E) s) w).ends
+  pub job : job_in s (turns E w).after ≡ job_in s (turns (replicate (turns_given s E) s) w).after
   pub sets : (slot : SlotState) → job_in s w ≡ Some slot → (name : List ℕ) → TiedTo slot.units name
-      → Same name (turns E w).after.sets (turns (only s (turns_given s E)) w).after.sets
+      → Same name (turns E w).after.sets (turns (replicate (turns_given s E) s) w).after.sets
 
 abbrev pub EachAsAlone : Type 0
 EachAsAlone = (w : Floor) → Independent w → (E : List ℕ) (s : ℕ) → AsAlone w E s
 
 -- the job of some slot ends so when that slot alone is given turns
 abbrev pub EndsAlone : Floor → JobEnd → Type 0
-EndsAlone w e = (s n : ℕ) × ((turns (only s n) w).ends ≡ (s, e) ∷ [])
+EndsAlone w e = (s n : ℕ) × ((turns (replicate n s) w).ends ≡ (s, e) ∷ [])
 
 -- each that ends, ends as it does alone
 abbrev pub EndsAsAlone : Type 0

@@ -9,12 +9,9 @@ pub record World : Type 0 where
   pub accounts : List Account
   pub floor : Floor
 
-abbrev pub world : List Account → Floor → World
-world accounts floor = record { accounts = accounts; floor = floor }
-
 -- before the first event all slots are empty
 abbrev pub first_world : ℕ → List Account → Sets → World
-first_world slots accounts sets = world accounts (floor sets (replicate slots None))
+first_world slots accounts sets = record { accounts = accounts; floor = floor sets (replicate slots None) }
 
 abbrev pub with_floor : World → Floor → World
 with_floor w floor = record w { floor = floor }

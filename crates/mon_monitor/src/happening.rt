@@ -29,8 +29,8 @@ impl Monitor {
         ensures happens { OnOk result (HappensUnmarked (Serve command) (world_of self.old) out.old.items (world_of self.new) out.new.items) }
         ensures nothing { OnErr result (out.new.items ≡ out.old.items) }
     {
-        let printout = self.command(alloc, command)?;
-        out.extend_from_slice(printout.as_slice())
+        self.put_command(alloc, command, out)?;
+        Ok(())
     }
 
     /// A job enters: where no slot is free, turns are given in rounds until one is; then it is loaded, or it is refused.
