@@ -1,13 +1,15 @@
 //! The work of `snomon` in plain Rust, for comparison: std alone, no contract and no proof.
 //!
-//! Written for speed: names are numbers, an account's groups are a set of bits, and what a check reads of a list's entries
-//! lies in eight bytes of each. A user is found by halving, and no group of a list is looked at twice.
+//! Written for speed: names are numbers, and are hashed eight bytes at a time; line ends are looked for as many at a time, and a
+//! line is tested without a way out. An account's groups are a set of bits, and what a check reads of a list's entries lies in
+//! eight bytes of each. A user is found by halving, and no group of a list is looked at twice. Numbers are written by hand.
 //!
 //! Reads a whole deck from standard input, writes the printouts and the catalogue, and tells of the first refusal as
 //! `snomon` does; it takes no options. `docs/REFERENCE.md` has the rules that both follow.
 
 use std::collections::HashMap;
 use std::fmt;
+use std::hash::{BuildHasherDefault, Hasher};
 use std::io::{self, BufWriter, Read, Write};
 use std::process::ExitCode;
 
@@ -98,7 +100,7 @@ impl<'a> Lines<'a> {
         if self.rest.is_empty() {
             return Err(Code::Truncated);
         }
-        let line = match self.rest.iter().position(|&byte| byte == b'\n') {
+        let line = match line_end(self.rest) {
             Some(end) => {
                 let line = &self.rest[..end];
                 self.rest = &self.rest[end + 1..];
@@ -110,7 +112,9 @@ impl<'a> Lines<'a> {
             return Err(Code::LineTooLong);
         }
         let is_printable = |byte: &u8| (b' '..=b'~').contains(byte);
-        if line.iter().all(is_printable)
+        if line
+            .iter()
+            .fold(true, |good, byte| good & is_printable(byte))
             || has_tabs(line) && line.iter().all(|byte| *byte == b'\t' || is_printable(byte))
         {
             Ok(line)
@@ -127,6 +131,61 @@ impl<'a> Lines<'a> {
                 return Ok(line);
             }
         }
+    }
+}
+
+/// Where the first LF stands, by words of eight bytes.
+fn line_end(text: &[u8]) -> Option<usize> {
+    const ONES: u64 = u64::from_ne_bytes([1; 8]);
+    let words = text.chunks_exact(8);
+    let rest = words.remainder();
+    for (i, word) in words.enumerate() {
+        let differences = word_of(word) ^ (ONES * u64::from(b'\n'));
+        let zeros = differences.wrapping_sub(ONES) & !differences & (ONES << 7);
+        if zeros != 0 {
+            return Some(8 * i + zeros.trailing_zeros() as usize / 8);
+        }
+    }
+    let end = rest.iter().position(|&byte| byte == b'\n')?;
+    Some(text.len() - rest.len() + end)
+}
+
+/// Eight bytes as a number, the first the lowest.
+fn word_of(bytes: &[u8]) -> u64 {
+    u64::from_le_bytes(bytes.try_into().expect("they are eight"))
+}
+
+/// A map by names, which are short: std's own hash is made for keys that an enemy may choose, and is slow.
+type Names<'a, T> = HashMap<&'a [u8], T, BuildHasherDefault<NameHasher>>;
+
+#[derive(Default)]
+struct NameHasher(u64);
+
+impl NameHasher {
+    fn mix(&mut self, word: u64) {
+        self.0 = (self.0.rotate_left(5) ^ word).wrapping_mul(0x517c_c1b7_2722_0a95);
+    }
+}
+
+impl Hasher for NameHasher {
+    fn write(&mut self, bytes: &[u8]) {
+        let mut words = bytes.chunks_exact(8);
+        for word in &mut words {
+            self.mix(word_of(word));
+        }
+        let last = words
+            .remainder()
+            .iter()
+            .fold(0, |last, byte| last << 8 | u64::from(*byte));
+        self.mix(last);
+    }
+
+    fn write_usize(&mut self, length: usize) {
+        self.mix(length as u64);
+    }
+
+    fn finish(&self) -> u64 {
+        self.0.rotate_left(26)
     }
 }
 
@@ -151,7 +210,7 @@ fn name(word: &[u8]) -> Result<&[u8], Code> {
 /// A number for each name, so that two are compared at once.
 #[derive(Default)]
 struct Numbers<'a> {
-    by_name: HashMap<&'a [u8], u32>,
+    by_name: Names<'a, u32>,
 }
 
 impl<'a> Numbers<'a> {
@@ -349,7 +408,7 @@ impl<'a> Acl<'a> {
         pieces: impl Iterator<Item = &'a [u8]>,
         numbers: &mut Numbers<'a>,
     ) -> Result<Acl<'a>, ListFault> {
-        let mut given = Vec::new();
+        let mut given = Vec::with_capacity(NAMED_ENTRIES + 4);
         for piece in pieces {
             match Entry::parse(piece, given.len() + 1) {
                 Ok(entry) => given.push(entry),
@@ -561,7 +620,7 @@ impl DataSet<'_> {
 #[derive(Default)]
 struct Catalogue<'a> {
     sets: Vec<DataSet<'a>>,
-    places: HashMap<&'a [u8], usize>,
+    places: Names<'a, usize>,
 }
 
 impl<'a> Catalogue<'a> {
@@ -650,7 +709,7 @@ impl Account<'_> {
 #[derive(Default)]
 struct Deck<'a> {
     numbers: Numbers<'a>,
-    accounts: HashMap<&'a [u8], Account<'a>>,
+    accounts: Names<'a, Account<'a>>,
     catalogue: Catalogue<'a>,
     commands: Vec<Command<'a>>,
 }
@@ -863,26 +922,28 @@ impl<'a> Catalogue<'a> {
                         acl,
                         records: Vec::new(),
                     });
-                    writeln!(out, "DONE")
+                    out.write_all(b"DONE\n")
                 }
             },
             Request::Of(act, name) => {
                 let Some(set) = self.find(name) else {
-                    return writeln!(out, "DENIED NO DATA SET");
+                    return out.write_all(b"DENIED NO DATA SET\n");
                 };
                 let is_owner = account.number == set.owner_number;
                 match act {
                     Act::Create(_) => unreachable!("it is served above"),
-                    Act::Delete | Act::SetAcl(_) if !is_owner => writeln!(out, "DENIED NOT OWNER"),
+                    Act::Delete | Act::SetAcl(_) if !is_owner => {
+                        out.write_all(b"DENIED NOT OWNER\n")
+                    }
                     Act::Delete => {
                         self.remove(name);
-                        writeln!(out, "DONE")
+                        out.write_all(b"DONE\n")
                     }
                     Act::SetAcl(text) => match text.parse(numbers) {
                         Err(fault) => writeln!(out, "REFUSED {fault}"),
                         Ok(acl) => {
                             set.acl = acl;
-                            writeln!(out, "DONE")
+                            out.write_all(b"DONE\n")
                         }
                     },
                     Act::ShowAcl if is_owner => write_list(set, out),
@@ -908,7 +969,8 @@ impl<'a> Catalogue<'a> {
                 names += 1;
             }
         }
-        writeln!(out, "NAMES {names}")
+        out.write_all(b"NAMES ")?;
+        write_count(names, out)
     }
 }
 
@@ -930,7 +992,7 @@ fn write_count(count: usize, out: &mut impl Write) -> io::Result<()> {
 fn write_denial(entry: &Entry<'_>, out: &mut impl Write) -> io::Result<()> {
     out.write_all(b"DENIED BY ")?;
     entry.write_head(out)?;
-    writeln!(out)
+    out.write_all(b"\n")
 }
 
 fn write_list(set: &DataSet<'_>, out: &mut impl Write) -> io::Result<()> {
@@ -938,7 +1000,8 @@ fn write_list(set: &DataSet<'_>, out: &mut impl Write) -> io::Result<()> {
         out.write_all(part)?;
     }
     set.acl.write_long(out)?;
-    writeln!(out, "ENTRIES {}", set.acl.entries.len())
+    out.write_all(b"ENTRIES ")?;
+    write_count(set.acl.entries.len(), out)
 }
 
 fn write_records(set: &DataSet<'_>, out: &mut impl Write) -> io::Result<()> {
@@ -947,7 +1010,8 @@ fn write_records(set: &DataSet<'_>, out: &mut impl Write) -> io::Result<()> {
         out.write_all(record)?;
         out.write_all(b"\n")?;
     }
-    writeln!(out, "RECORDS {}", set.records.len())
+    out.write_all(b"RECORDS ")?;
+    write_count(set.records.len(), out)
 }
 
 /// Writes the first line of a command's printout.
