@@ -24,7 +24,7 @@ use Rattle.mon_deck.specs.Isolation.{IsOwnCard, EndAlike, DecksAlike, DecksIsola
 use Rattle.mon_deck.proofs.Ordered.{is_run}
 
 -- no job sits in a slot at first
-empty_at_first : (n : ℕ) → list_all is_none (replicate n None) ≡ true
+empty_at_first : (n : ℕ) → list_all (is_none {T = SlotState}) (replicate n None) ≡ true
 empty_at_first zero = refl
 empty_at_first (suc n) = empty_at_first n
 
