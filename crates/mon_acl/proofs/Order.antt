@@ -1,5 +1,5 @@
 -- The canonical order of entries, and the place of one more.
-use Rattle.std.proofs.Common.{◌≡◌, ◌∙◌, ap, sym, subst, refl, ℕ, ◌+◌, ◌<◌, Bool, true, false, cond, List, [], ◌∷◌, ◌++◌, length, take, drop, get_or, arith, length-take, length-drop}
+use Rattle.std.proofs.Common.{◌≡◌, ◌∙◌, ap, sym, subst, refl, ℕ, ◌+◌, ◌-◌, ◌<◌, ◌≤◌, ◌⊎◌, inl, inr, Bool, true, false, cond, List, [], ◌∷◌, ◌++◌, length, take, drop, get_or, arith, length-take, length-drop}
 use Rattle.std.specs.Prelude.{All, HoldsAt, insert, count_by, IsPermutation, ◌||◌}
 use Rattle.std.specs.List.{list_any, AllWithin, AllByRecursion}
 use Rattle.std.specs.List.Sorted.{IsNonDecreasingBy, IsStrictlySortedBy}
@@ -8,8 +8,9 @@ use Rattle.std.specs.Cmp.Lexicographic.{texts_ties, nat_list_cmp_total}
 use Rattle.std.specs.Ordering.{is_lt, is_eq, ordering_index, ordering_reverse}
 use Rattle.std.specs.declared.cmp.Ordering.{Ordering}
 use Rattle.std.specs.declared.cmp.Ordering.TheVariants.{Less, Equal, Greater}
+use Rattle.std.proofs.lemmas.Bool.{cases_lt}
 use Rattle.std.proofs.lemmas.Cmp.{on_total}
-use Rattle.std.proofs.lemmas.List.{get_or-take, get_or-drop, take-append-drop}
+use Rattle.std.proofs.lemmas.List.{get_or_default, get_or-take, get_or-drop, take-append-drop}
 use Rattle.std.proofs.lemmas.List.Elements.{All-head, All-tail, All-append}
 use Rattle.std.proofs.lemmas.List.Folds.{list_any_at, list_any_none}
 use Rattle.std.proofs.lemmas.List.Sorted.{searchable_from_sorted, IsPermutation-refl, IsPermutation-trans, IsPermutation-middle, IsPermutation-cons, list_any-IsPermutation, sum_by-IsPermutation}
@@ -73,6 +74,32 @@ goes_there es e i w =
     let less = front (λ y. compared y e ≡ Less) es i w.0 in
     let more = back (λ y. compared y e ≡ Greater) es i w.1 in
     ap (put_in e) (sym (take-append-drop i es)) ∙ put_between e (take i es) (drop i es) less more
+
+first_of_three : (o : Ordering) → ordering_index o ≡ 0 → o ≡ Less
+first_of_three Less h = refl
+first_of_three Equal h = absurd (omega (arith, h))
+first_of_three Greater h = absurd (omega (arith, h))
+
+-- what the entry before a place is, by its value
+pub stands_at : (es : List Entry) (e : Entry) (i : ℕ) (x : Entry) (o : Ordering) → 0 < i → i ≤ length es → x ≡ get_or es (i - 1) x → compared x e ≡ o →
+    HoldsAt (λ y. compared y e ≡ o) es (i - 1)
+stands_at es e i x o more l is h = λ d. ap (λ (y : Entry). compared y e) (get_or_default es (i - 1) d x (omega (arith, more, l)) ∙ sym is) ∙ h
+
+-- where one stands before an entry, so do all before it
+pub less_before : (es : List Entry) (e : Entry) (i : ℕ) → IsCanonical es → 0 < i → i ≤ length es → HoldsAt (λ y. compared y e ≡ Less) es (i - 1) →
+    AllWithin (λ y. compared y e ≡ Less) es 0 i
+less_before es e i s more l h = λ k d _ b.
+    let up = rises es e s k (i - 1) d (omega (arith, b)) (omega (arith, more, l)) in
+    first_of_three (compared (get_or es k d) e) (omega (arith, up, ap ordering_index (h d)))
+
+-- one more entry that stands behind another
+pub more_behind : (es : List Entry) (e : Entry) (i : ℕ) → 0 < i → HoldsAt (λ y. compared y e ≡ Greater) es (i - 1) → AllWithin (λ y. compared y e ≡ Greater) es i (length es) →
+    AllWithin (λ y. compared y e ≡ Greater) es (i - 1) (length es)
+more_behind es e i more h w = λ k d a b. at k d a b (cases_lt k i)
+  where
+    at : (k : ℕ) (d : Entry) → i - 1 ≤ k → k < length es → (k < i) ⊎ (i ≤ k) → compared (get_or es k d) e ≡ Greater
+    at k d a b (inl before) = let same : i - 1 ≡ k = omega (arith, more, a, before) in subst (λ (j : ℕ). compared (get_or es j d) e ≡ Greater) same (h d)
+    at k d a b (inr behind) = w k d behind b
 
 -- one more entry only moves the others
 pub put_moves : (e : Entry) (es : List Entry) → IsPermutation (e ∷ es) (put_in e es)

@@ -12,12 +12,16 @@ use crate::entries::{Entry, Tag};
 use crate::refusals::AclError;
 use mon_text::Stop;
 use smallvec::SmallVec;
+use std::cmp::Ordering;
 
 /// How many entries for a name a list has at the most.
 const MOST_NAMED_ENTRIES: usize = 100;
 
 /// How many entries lie in the list itself: as many as a list without named entries has.
 pub(crate) const ENTRIES_INLINE: usize = 4;
+
+/// How many entries are looked at from the end before a place is sought by halves: those without names, and one more.
+const FEW_BEHIND: usize = 4;
 
 /// Puts an entry, the `n`-th of its text, at its place among the others.
 pub(crate) fn add(
@@ -42,8 +46,29 @@ pub(crate) fn add(
     }
 }
 
-/// Where an entry is to stand among the others; none where one of its type and qualifier is there.
+/// Where an entry is to stand among the others; none where one of its type and qualifier is there. It is sought from their end
+/// first, since most texts have the entries of a type in order, and few others are behind them.
 fn free_place(entries: &[Entry], entry: &Entry) -> Option<usize>
+    requires { IsCanonical entries.now }
+    ensures taken { MatchOption result (list_any (is_for entry.now.tag (qualifier entry.now)) entries.now ≡ true) (λ _. list_any (is_for entry.now.tag (qualifier entry.now)) entries.now ≡ false) }
+    ensures within { IfSome result (λ i. i ≤ length entries.now) }
+    ensures place { IfSome result (λ i. put_in entry.now entries.now ≡ insert entries.now i entry.now) }
+{
+    let mut place = entries.len();
+    let lowest = entries.len().saturating_sub(FEW_BEHIND);
+    while place > lowest {
+        match entries[place - 1].compare(entry) {
+            Ordering::Less => return Some(place),
+            Ordering::Equal => return None,
+            Ordering::Greater => place -= 1,
+        }
+    }
+    searched_place(entries, entry)
+}
+
+/// The same, by halves. It stays a call, since it is seldom reached.
+#[inline(never)]
+fn searched_place(entries: &[Entry], entry: &Entry) -> Option<usize>
     requires { IsCanonical entries.now }
     ensures taken { MatchOption result (list_any (is_for entry.now.tag (qualifier entry.now)) entries.now ≡ true) (λ _. list_any (is_for entry.now.tag (qualifier entry.now)) entries.now ≡ false) }
     ensures within { IfSome result (λ i. i ≤ length entries.now) }

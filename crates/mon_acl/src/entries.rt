@@ -1,9 +1,9 @@
 //! The entries of a permission list: a type, a qualifier and permissions.
-ghost use Rattle.std.specs.Prelude.{◌≡◌, ◌∷◌, ◌++◌, OnOk};
+ghost use Rattle.std.specs.Prelude.{◌≡◌, ◌++◌, OnOk};
 ghost use Rattle.std.specs.Ordering.{nat_cmp};
 ghost use Rattle.std.specs.Cmp.Lexicographic.{slice_cmp};
 ghost use Rattle.mon_acl.specs.Permissions.{holds, common, is_one};
-ghost use Rattle.mon_acl.specs.Entries.{rank, qualifier, sort_key, compared, is_named};
+ghost use Rattle.mon_acl.specs.Entries.{rank, qualifier, compared, is_named};
 ghost use Rattle.mon_acl.specs.Texts.{tag_word};
 ghost use Rattle.mon_acl.specs.Printing.{entry_head, entry_text, letter, perms_text, is_masked, effective, effective_text, long_line};
 
@@ -219,18 +219,26 @@ impl Entry {
     }
 
     /// Which of the two stands first in canonical order.
+    #[inline(always)]
     pub(crate) fn compare(&self, other: &Entry) -> Ordering
         ensures { result ≡ compared self.now other.now }
     {
-        self.compare_with(other.tag, other.qualifier())
+        match self.tag.rank().cmp(&other.tag.rank()) {
+            Ordering::Less => Ordering::Less,
+            Ordering::Equal => self.compare_qualifier(other),
+            Ordering::Greater => Ordering::Greater,
+        }
     }
 
-    /// Whether the entry stands before, at or behind the place of that of a type and a qualifier, in canonical order.
-    pub(crate) fn compare_with(&self, tag: Tag, qualifier: &[u8]) -> Ordering
-        ensures { result ≡ slice_cmp nat_cmp (sort_key self.now) (rank tag ∷ qualifier.now) }
+    /// Which of the two has the qualifier that stands first. Names are compared as words of the machine.
+    #[inline(always)]
+    fn compare_qualifier(&self, other: &Entry) -> Ordering
+        ensures { result ≡ slice_cmp nat_cmp (qualifier self.now) (qualifier other.now) }
     {
-        let by_type = self.tag.rank().cmp(&tag.rank());
-        by_type.then(self.qualifier().cmp(qualifier))
+        match (&self.name, &other.name) {
+            (Some(own), Some(its)) => own.cmp(its),
+            _ => self.qualifier().cmp(other.qualifier()),
+        }
     }
 }
 

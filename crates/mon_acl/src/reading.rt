@@ -1,5 +1,5 @@
 //! Reading one entry of a text.
-ghost use Rattle.std.specs.Prelude.{◌≡◌, map, option_map, option_copied};
+ghost use Rattle.std.specs.Prelude.{◌≡◌, ◌==◌, ◌||◌, map, option_map, option_copied};
 ghost use Rattle.std.specs.List.{list_all};
 ghost use Rattle.mon_acl.specs.Texts.{is_permission, times, trimmed, is_colon};
 ghost use Rattle.mon_acl.specs.inner.Building.{parts_behind};
@@ -107,6 +107,27 @@ fn is_perms(field: &[u8]) -> bool
 
 /// The permissions that a field spells.
 fn perms_of(field: &[u8]) -> Option<Perms>
+    ensures { result ≡ perms_of field.now }
+{
+    match field {
+        [read, write, execute]
+            if is_place(*read, b'r') && is_place(*write, b'w') && is_place(*execute, b'x') => {
+            Some(Perms::new(*read == b'r', *write == b'w', *execute == b'x'))
+        }
+        _ => perms_in_any_order(field),
+    }
+}
+
+/// Whether a byte is the letter of a permission, or `-`.
+fn is_place(byte: u8, letter: u8) -> bool
+    ensures { result ≡ (byte == letter || byte == 45) }
+{
+    byte == letter || byte == b'-'
+}
+
+/// The same, also where they do not stand in their places. It stays a call, since most do.
+#[inline(never)]
+fn perms_in_any_order(field: &[u8]) -> Option<Perms>
     ensures { result ≡ perms_of field.now }
 {
     if is_perms(field) {

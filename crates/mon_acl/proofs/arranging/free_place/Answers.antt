@@ -1,20 +1,27 @@
-use Rattle.std.proofs.Common.{rules}
-use Rattle.std.proofs.lemmas.Fn.{always_returns_same}
-use Rattle.mon_acl.specs.Entries.{compared}
-use Rattle.mon_acl.proofs.Order.{rises, there, not_there, goes_there}
+use Rattle.std.proofs.Common.{◌∙◌, ◌-◌, sym, arith}
+use Rattle.std.specs.declared.cmp.Ordering.TheVariants.{Less, Equal, Greater}
+use Rattle.mon_acl.proofs.Order.{there, not_there, goes_there, less_before, more_behind, stands_at}
 use Rattle.mon_acl.proofs.arranging.free_place.Goals as goal
 
-pub returns-in-Ok-clause-taken : goal.returns-in-Ok-clause-taken
-returns-in-Ok-clause-taken c =
-    let at = c.in-Ok.ensures.position (λ y. compared y c.args.entry.now) (always_returns_same _ _ _ (λ a r q k. search rules)) in
-    there c.args.entries.now c.args.entry.now c.in-Ok.field-0 c.in-Ok.ensures.bound at
+pub returns-in-Less-clause-taken : goal.returns-in-Less-clause-taken
+returns-in-Less-clause-taken c =
+    let at = stands_at c.args.entries.now c.args.entry.now c.loop-place.place c.index-entries-place.result Less (omega (arith, c.loop-place-test.true)) c.loop-place.invariant.within c.index-entries-place.is (sym c.compare.ensures ∙ c.in-Less.is) in
+    not_there c.args.entries.now c.args.entry.now c.loop-place.place (less_before c.args.entries.now c.args.entry.now c.loop-place.place c.requires (omega (arith, c.loop-place-test.true)) c.loop-place.invariant.within at, c.loop-place.invariant.behind)
 
-pub returns-in-Err-clause-taken : goal.returns-in-Err-clause-taken
-returns-in-Err-clause-taken c =
-    let at = c.in-Err.ensures.position (λ y. compared y c.args.entry.now) (always_returns_same _ _ _ (λ a r q k. search rules)) in
-    not_there c.args.entries.now c.args.entry.now c.in-Err.place (at (rises c.args.entries.now c.args.entry.now c.requires))
+pub returns-in-Less-clause-place : goal.returns-in-Less-clause-place
+returns-in-Less-clause-place c =
+    let at = stands_at c.args.entries.now c.args.entry.now c.loop-place.place c.index-entries-place.result Less (omega (arith, c.loop-place-test.true)) c.loop-place.invariant.within c.index-entries-place.is (sym c.compare.ensures ∙ c.in-Less.is) in
+    goes_there c.args.entries.now c.args.entry.now c.loop-place.place (less_before c.args.entries.now c.args.entry.now c.loop-place.place c.requires (omega (arith, c.loop-place-test.true)) c.loop-place.invariant.within at, c.loop-place.invariant.behind)
 
-pub returns-in-Err-clause-place : goal.returns-in-Err-clause-place
-returns-in-Err-clause-place c =
-    let at = c.in-Err.ensures.position (λ y. compared y c.args.entry.now) (always_returns_same _ _ _ (λ a r q k. search rules)) in
-    goes_there c.args.entries.now c.args.entry.now c.in-Err.place (at (rises c.args.entries.now c.args.entry.now c.requires))
+pub returns-in-Equal-clause-taken : goal.returns-in-Equal-clause-taken
+returns-in-Equal-clause-taken c =
+    there c.args.entries.now c.args.entry.now (c.loop-place.place - 1) (omega (arith, c.loop-place-test.true, c.loop-place.invariant.within))
+    (stands_at c.args.entries.now c.args.entry.now c.loop-place.place c.index-entries-place.result Equal (omega (arith, c.loop-place-test.true)) c.loop-place.invariant.within c.index-entries-place.is (sym c.compare.ensures ∙ c.in-Equal.is))
+
+pub loop-place-preserved : goal.loop-place-preserved
+loop-place-preserved c = record {
+  within = omega (arith, c.loop-place.invariant.within);
+  behind = more_behind c.args.entries.now c.args.entry.now c.loop-place.place (omega (arith, c.loop-place-test.true))
+      (stands_at c.args.entries.now c.args.entry.now c.loop-place.place c.index-entries-place.result Greater (omega (arith, c.loop-place-test.true)) c.loop-place.invariant.within c.index-entries-place.is (sym c.compare.ensures ∙ c.in-Greater.is))
+      c.loop-place.invariant.behind;
+}
