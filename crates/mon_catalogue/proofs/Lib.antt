@@ -7,6 +7,7 @@ pub mod Readings
 pub mod Acls
 pub mod Blanks
 pub mod Names
+pub mod Places
 pub mod Changing
 pub mod Written
 pub mod Changed

@@ -1,15 +1,17 @@
 //! The catalogue: data sets in the order of their creation, found by name.
-ghost use Rattle.std.specs.Prelude.{◌≡◌, ◌==◌, ◌<◌, ◌↔◌, [], ◌∷◌, ◌++◌, length, slice_get, Ok, OnOk, OnErr, IsOk, IsSome, None};
+ghost use Rattle.std.specs.Prelude.{◌≡◌, ◌==◌, ◌<◌, ◌↔◌, [], ◌∷◌, ◌++◌, length, nat_eq, position, slice_get, Ok, OnOk, OnErr, IfSome, IsOk, is_some, IsSome, None};
 ghost use Rattle.std.specs.Borrow.{sem};
 ghost use Rattle.std.specs.Option.{option_copied, option_copied_mut, option_map};
 ghost use Rattle.std.specs.Result.{result_ok};
+ghost use Rattle.std.specs.Map.{keys_of, values_of};
 ghost use Rattle.std.specs.Map.Iter.{deref_pair};
+ghost use Rattle.std.specs.Cmp.Lexicographic.{pointwise};
 ghost use Rattle.std.specs.Str.Lines.{lines};
 ghost use Rattle.mon_text.specs.Stops.{refused_as};
 ghost use Rattle.mon_catalogue.specs.declared.version.Version.TheVariants.{Two};
 ghost use Rattle.mon_catalogue.specs.Reading.{catalogue_of};
 ghost use Rattle.mon_catalogue.specs.Stored.{IsStored, ArePrintable};
-ghost use Rattle.mon_catalogue.specs.Sets.{find_set, empty_set, create_refusal, IsCatalogue};
+ghost use Rattle.mon_catalogue.specs.Sets.{find_set, empty_set, create_refusal, NamesDiffer, IsCatalogue};
 ghost use Rattle.mon_catalogue.specs.Changes.{without_set, with_acl};
 ghost use Rattle.mon_catalogue.specs.Lending.{LendsSet};
 ghost use Rattle.mon_catalogue.specs.Text.{catalogue_text, catalogue_lines};
@@ -102,6 +104,30 @@ impl Catalogue {
         self.sets.get(name)
     }
 
+    /// Where the set of a name stands in the order of creation, from 0. It takes no memory.
+    pub fn place_of(&self, name: &Name) -> Option<usize>
+        ensures { result ≡ position (pointwise nat_eq name.now) (keys_of self.now) }
+    {
+        self.sets.get_index_of(name)
+    }
+
+    /// The set of a name, which is looked for at a place first: where it stands there, no name is hashed. It takes no memory.
+    #[inline(always)]
+    pub fn find_near(&self, place: usize, name: &Name) -> Option<&DataSet>
+        ensures { option_copied result ≡ find_set name.now self.now }
+    {
+        match self.sets.get_index(place) {
+            Some((key, set)) => {
+                if key == name {
+                    Some(set)
+                } else {
+                    self.find(name)
+                }
+            }
+            None => self.find(name),
+        }
+    }
+
     /// Creates a set with no records, and puts it last.
     ///
     /// # Errors
@@ -148,6 +174,17 @@ impl Catalogue {
         ensures found { option_copied_mut result ≡ find_set name.now self.old }
     {
         let place = self.sets.get_index_of(name)?;
+        self.sets.get_index_mut(place)
+    }
+
+    /// The same, where it is looked for at a place first.
+    #[inline(always)]
+    #[tactic(auto, using(crate::proofs::Changing::with_value_there))]
+    pub fn find_mut_near(&mut self, place: usize, name: &Name) -> Option<&mut DataSet>
+        ensures* lends { sem 𝓛 (LendsSet self.entry name.now result) }
+        ensures found { option_copied_mut result ≡ find_set name.now self.old }
+    {
+        let place = place_near(&self.sets, place, name)?;
         self.sets.get_index_mut(place)
     }
 
@@ -220,5 +257,25 @@ impl Catalogue {
 
     pub(crate) fn allocator(&self) -> Global {
         *self.sets.allocator()
+    }
+}
+
+// Where the set of a name stands, which is looked for at a place first.
+#[inline(always)]
+fn place_near(sets: &IndexMap<Name, DataSet>, place: usize, name: &Name) -> Option<usize>
+    requires { NamesDiffer sets.now.entries }
+    ensures place { result ≡ position (pointwise nat_eq name.now) (keys_of sets.now.entries) }
+    ensures found { is_some result ≡ is_some (find_set name.now sets.now.entries) }
+    ensures value { IfSome result (λ i. slice_get (values_of sets.now.entries) i ≡ find_set name.now sets.now.entries) }
+{
+    match sets.get_index(place) {
+        Some((key, _)) => {
+            if name == key {
+                Some(place)
+            } else {
+                sets.get_index_of(name)
+            }
+        }
+        None => sets.get_index_of(name),
     }
 }

@@ -1,5 +1,5 @@
 //! The guard: what an account asks, done exactly where it is granted.
-ghost use Rattle.std.specs.Prelude.{◌≡◌, ◌≤◌, ◌↔◌, [], take, length, slice_get, Some, Ok, IfOk, OnOk, OnErr, is_some, IsSome, IsErrOf, IsOkAnd};
+ghost use Rattle.std.specs.Prelude.{◌≡◌, ◌≤◌, ◌<◌, ◌-◌, ◌^◌, ◌↔◌, [], take, length, slice_get, Some, Ok, IfOk, IfSome, OnOk, OnErr, is_some, IsSome, IsErrOf, IsOkAnd};
 ghost use Rattle.std.specs.Result.{result_map_both};
 ghost use Rattle.mon_text.specs.Stops.{Gives, refused_as};
 ghost use Rattle.mon_acl.specs.Forms.{MayTakeMemory};
@@ -90,7 +90,8 @@ impl Guard {
     {
         match catalogue.find(name) {
             Some(set) if request.is_one() => {
-                Decided::of(self.rows.judge(account, name, set, request).decision)
+                let near = self.rows.near(account, catalogue, name);
+                Decided::of(self.rows.judge(near, account, name, set, request).decision)
             }
             Some(set) => Decided::of(decision_on(account, set, request)),
             None => Decided::NoSet,
@@ -315,13 +316,41 @@ impl Guard {
         ensures rows { Begins self.old self.new }
         ensures rows_stay { OnErr result (self.new ≡ self.old) }
     {
-        let Some(set) = catalogue.find(name) else {
+        let near = self.rows.near(account, catalogue, name);
+        let Some(set) = catalogue.find_near(near.set, name) else {
             return Ok(Answered::denied(Reason::NoSet, position));
         };
-        let judged = self.rows.judge(account, name, set, to_read());
+        let judged = self.rows.judge(near, account, name, set, to_read());
         let answered = read_by(alloc, judged.decision, set, position)?;
-        self.rows.remember(judged.row, account, name, set);
+        self.rows.remember(judged.next, account, name, set);
         Ok(answered)
+    }
+
+    /// The record that `read` would read, where the two decisions used last grant it. Else there is none, which says nothing. It
+    /// takes no memory, and changes no row.
+    #[inline(always)]
+    #[tactic(auto, using(crate::proofs::Fitting::fitting))]
+    pub fn record_at_hand<'a>(
+        &self,
+        account: &Account,
+        catalogue: &'a Catalogue,
+        name: &Name,
+        position: u64,
+    ) -> Option<&'a Line>
+        requires fit { RowsFit self.now catalogue.now }
+        ensures record { IfSome result (λ line. acted account.now (Read position) catalogue.now name.now ≡ read_at position (Some line.now)) }
+        ensures within { IfSome result (λ line. position < 2 ^ 64 - 1) }
+    {
+        let near = self.rows.at_hand(account, name)?;
+        let set = catalogue.find_near(near.set, name)?;
+        match self
+            .rows
+            .judge(near, account, name, set, to_read())
+            .decision
+        {
+            Decision::Granted => set.records.as_slice().get(position as usize),
+            Decision::Denied(_) => None,
+        }
     }
 
     /// Writes a record of at most 1,024 characters to the set of a name, where w is granted on it. On a set of mode SEQ it is
@@ -351,12 +380,13 @@ impl Guard {
         ensures rows_stay { OnErr result (self.new ≡ self.old) }
         ensures memory { OnErr result ((acted account.now (Write position line) catalogue.old name.now).answer ≡ Answer.Done) }
     {
-        let Some(set) = catalogue.find_mut(name) else {
+        let near = self.rows.near(account, catalogue, name);
+        let Some(set) = catalogue.find_mut_near(near.set, name) else {
             return Ok(Answered::denied(Reason::NoSet, position));
         };
-        let judged = self.rows.judge(account, name, set, to_write());
+        let judged = self.rows.judge(near, account, name, set, to_write());
         let answered = write_by(judged.decision, set, position, line)?;
-        self.rows.remember(judged.row, account, name, set);
+        self.rows.remember(judged.next, account, name, set);
         Ok(answered)
     }
 
@@ -376,12 +406,13 @@ impl Guard {
         ensures fit { RowsFit self.new catalogue.new }
         ensures rows { Begins self.old self.new }
     {
-        let Some(set) = catalogue.find_mut(name) else {
+        let near = self.rows.near(account, catalogue, name);
+        let Some(set) = catalogue.find_mut_near(near.set, name) else {
             return Answered::denied(Reason::NoSet, position);
         };
-        let judged = self.rows.judge(account, name, set, to_write());
+        let judged = self.rows.judge(near, account, name, set, to_write());
         let answered = end_by(judged.decision, set, position);
-        self.rows.remember(judged.row, account, name, set);
+        self.rows.remember(judged.next, account, name, set);
         answered
     }
 

@@ -6,7 +6,7 @@ ghost use Rattle.mon_guard.specs.Deciding.{decision_on};
 use indexmap::IndexMap;
 use mon_access::{Account, Decision, Ready, check, compile};
 use mon_acl::Perms;
-use mon_catalogue::DataSet;
+use mon_catalogue::{Catalogue, DataSet};
 use mon_text::Name;
 use std::alloc::Global;
 use std::marker::Model;
@@ -30,12 +30,19 @@ pub struct Rows {
     at_hand: AtHand,
 }
 
-/// Where the two rows stand that were used last, so that a job that copies from set to set hashes no names. No contract sees
-/// this: what stands there is compared before it is used.
+/// Where a row stands that was used, and where its set stood in the catalogue. No contract sees this: what stands there is
+/// compared before it is used.
+#[derive(Clone, Copy)]
+pub(crate) struct Used {
+    pub row: usize,
+    pub set: usize,
+}
+
+/// The two rows that were used last, so that a job that copies from set to set hashes no names.
 #[derive(Clone, Copy)]
 struct AtHand {
-    last: usize,
-    before: usize,
+    last: Used,
+    before: Used,
 }
 
 impl Model for Rows {
@@ -50,27 +57,35 @@ impl Model for Rows {
     ghost invariant = { λ r. length (values_of r.by_names.entries) ≤ 1000 };
 }
 
-/// What was decided of a request, and where the row stands that told it, if one did.
+/// What was decided of a request, and whether a row is to be used or kept for the next one like it.
 #[derive(Clone, Copy)]
 pub(crate) struct Judged {
     pub decision: Decision,
-    pub row: Option<usize>,
+    pub next: Next,
 }
 
-/// What a row says, and where it stands.
+/// What makes the next request quick: nothing, where the row is one of the two used last; else that this one is used; else that
+/// one is kept, of the set that stands there.
 #[derive(Clone, Copy)]
-struct Found<'a> {
-    place: usize,
-    ready: &'a Ready,
+pub(crate) enum Next {
+    AtHand,
+    Use(Used),
+    Keep(usize),
+}
+
+/// What a row says, if there is one, and where its set stood.
+#[derive(Clone, Copy)]
+pub(crate) struct Near<'a> {
+    pub ready: Option<&'a Ready>,
+    pub set: usize,
+    pub next: Next,
 }
 
 impl AtHand {
-    // The row at a place was used. Where it is one of the two already nothing moves, since a job that copies asks by turns.
-    fn put(&mut self, place: usize) {
-        if place != self.last && place != self.before {
-            self.before = self.last;
-            self.last = place;
-        }
+    // A row was used that was none of the two.
+    fn put(&mut self, used: Used) {
+        self.before = self.last;
+        self.last = used;
     }
 }
 
@@ -84,7 +99,10 @@ impl Rows {
     {
         Rows {
             by_names: IndexMap::new(alloc),
-            at_hand: AtHand { last: 0, before: 0 },
+            at_hand: AtHand {
+                last: Used { row: 0, set: 0 },
+                before: Used { row: 0, set: 0 },
+            },
         }
     }
 
@@ -98,92 +116,114 @@ impl Rows {
 
     // What the row at a place says, where it is of the account and of the set of a name.
     #[inline(always)]
-    fn at(&self, place: usize, account: &Account, name: &Name) -> Option<Found<'_>>
-        ensures { IfSome result (λ found. Says self.now account.now name.now found.ready.now) }
+    fn at(&self, place: usize, account: &Account, name: &Name) -> Option<&Ready>
+        ensures { IfSome result (λ ready. Says self.now account.now name.now ready.now) }
     {
         let (_, row) = self.by_names.get_index(place)?;
         if row.set == *name && row.account.is(account) {
-            let ready = &row.ready;
-            Some(Found { place, ready })
+            Some(&row.ready)
         } else {
             None
         }
     }
 
-    // What is kept of the account on the set of a name. A row of an account of this name with other groups is passed over.
-    fn find(&self, account: &Account, name: &Name) -> Option<Found<'_>>
-        ensures { IfSome result (λ found. Says self.now account.now name.now found.ready.now) }
+    // What is kept of the account on the set of a name, where it is one of the two rows used last.
+    #[inline(always)]
+    pub(crate) fn at_hand(&self, account: &Account, name: &Name) -> Option<Near<'_>>
+        ensures { IfSome result (λ near. IfSome near.ready (λ ready. Says self.now account.now name.now ready.now)) }
     {
-        match self.find_at_hand(account, name) {
-            Some(found) => Some(found),
-            None => self.find_by_hash(account, name),
+        let AtHand { last, before } = self.at_hand;
+        if let Some(ready) = self.at(last.row, account, name) {
+            return Some(Near {
+                ready: Some(ready),
+                set: last.set,
+                next: Next::AtHand,
+            });
+        }
+        match self.at(before.row, account, name) {
+            Some(ready) => Some(Near {
+                ready: Some(ready),
+                set: before.set,
+                next: Next::AtHand,
+            }),
+            None => None,
         }
     }
 
-    // The same, where it is one of the two rows used last.
-    fn find_at_hand(&self, account: &Account, name: &Name) -> Option<Found<'_>>
-        ensures { IfSome result (λ found. Says self.now account.now name.now found.ready.now) }
-    {
-        match self.at(self.at_hand.last, account, name) {
-            Some(found) => Some(found),
-            None => self.at(self.at_hand.before, account, name),
-        }
-    }
-
-    // The same, wherever it stands.
-    fn find_by_hash(&self, account: &Account, name: &Name) -> Option<Found<'_>>
-        ensures { IfSome result (λ found. Says self.now account.now name.now found.ready.now) }
-    {
-        let key = (account.name.copy(), name.copy());
-        let place = self.by_names.get_index_of(&key)?;
-        self.at(place, account, name)
-    }
-
-    // The access check on the set of a name, for a request of exactly one permission: as it is kept, or else made now. It stays
-    // a call, since each act on a set makes it.
+    // What is kept of the account on the set of a name, wherever it stands. A row of an account of this name with other groups is
+    // passed over.
     #[inline(never)]
+    fn found(&self, account: &Account, catalogue: &Catalogue, name: &Name) -> Near<'_>
+        ensures { IfSome result.ready (λ ready. Says self.now account.now name.now ready.now) }
+    {
+        let set = catalogue.place_of(name).unwrap_or(0);
+        let key = (account.name.copy(), name.copy());
+        match self.by_names.get_index_of(&key) {
+            Some(row) => Near {
+                ready: self.at(row, account, name),
+                set,
+                next: Next::Use(Used { row, set }),
+            },
+            None => Near {
+                ready: None,
+                set,
+                next: Next::Keep(set),
+            },
+        }
+    }
+
+    // The same, where the two rows used last are looked at first.
+    #[inline(always)]
+    pub(crate) fn near(&self, account: &Account, catalogue: &Catalogue, name: &Name) -> Near<'_>
+        ensures { IfSome result.ready (λ ready. Says self.now account.now name.now ready.now) }
+    {
+        match self.at_hand(account, name) {
+            Some(near) => near,
+            None => self.found(account, catalogue, name),
+        }
+    }
+
+    // The access check on the set of a name, for a request of exactly one permission: as a row says, or else made now.
+    #[inline(always)]
     pub(crate) fn judge(
         &self,
+        near: Near<'_>,
         account: &Account,
         name: &Name,
         set: &DataSet,
         request: Perms,
     ) -> Judged
+        requires near { IfSome near.ready (λ ready. Says self.now account.now name.now ready.now) }
         requires one { IsTrue (is_one request) }
         requires fit { FitOn name.now set.now self.now }
         ensures { result.decision ≡ decision_on account.now set.now request }
     {
-        match self.find(account, name) {
-            Some(found) => Judged {
-                decision: found.ready.decide(request),
-                row: Some(found.place),
-            },
-            None => Judged {
-                decision: check(account, &set.owner, &set.group, &set.acl, request),
-                row: None,
-            },
+        let decision = match near.ready {
+            Some(ready) => ready.decide(request),
+            None => check(account, &set.owner, &set.group, &set.acl, request),
+        };
+        Judged {
+            decision,
+            next: near.next,
         }
     }
 
     // Makes the next request like this one quick: the row that told it is one of the two used last. Where there was none, one
     // is kept.
-    pub(crate) fn remember(
-        &mut self,
-        row: Option<usize>,
-        account: &Account,
-        name: &Name,
-        set: &DataSet,
-    )
+    #[inline(always)]
+    pub(crate) fn remember(&mut self, next: Next, account: &Account, name: &Name, set: &DataSet)
         ensures { MayKeep account.now name.now set.now self.old self.new }
     {
-        match row {
-            Some(place) => self.at_hand.put(place),
-            None => self.keep(account, name, set),
+        match next {
+            Next::AtHand => {}
+            Next::Use(used) => self.at_hand.put(used),
+            Next::Keep(place) => self.keep(account, name, set, place),
         }
     }
 
     // Keeps a row more, where there is room and memory for it.
-    fn keep(&mut self, account: &Account, name: &Name, set: &DataSet)
+    #[inline(never)]
+    fn keep(&mut self, account: &Account, name: &Name, set: &DataSet, place: usize)
         ensures { MayKeep account.now name.now set.now self.old self.new }
     {
         let key = (account.name.copy(), name.copy());
@@ -198,7 +238,10 @@ impl Rows {
                 set,
                 ready,
             };
-            self.at_hand.put(self.by_names.len());
+            self.at_hand.put(Used {
+                row: self.by_names.len(),
+                set: place,
+            });
             // A refused growth keeps no row. Dropped by name, the answer leaves one way on, and not one for each of its cases.
             let added = self.by_names.insert(key, row);
             drop(added);

@@ -4,16 +4,16 @@ ghost use Rattle.mon_guard.specs.Acting.{read_at};
 ghost use Rattle.mon_guard.specs.Rows.{RowsFit};
 ghost use Rattle.mon_unit.specs.Serving.{serve, moved};
 ghost use Rattle.mon_unit.specs.Memory.{MayGrow};
-ghost use Rattle.mon_unit.specs.inner.Settling.{reach, asked, settled, IsNoted};
+ghost use Rattle.mon_unit.specs.inner.Settling.{reach, asked, settled, target_of, IsNoted};
 
-use crate::note::{NoteAct, NoteTarget};
-use crate::tie::{Target, Tie};
+use crate::note::NoteAct;
+use crate::tie::Target;
 use crate::units::Units;
 use mon_access::Account;
 use mon_answer::Reason;
 use mon_catalogue::{Catalogue, MOST_RECORD_CHARACTERS};
 use mon_guard::{Answered, Guard};
-use mon_text::{Line, Name};
+use mon_text::Line;
 use sno_ask::{Act, Answer, Request, Service};
 use std::alloc::{AllocError, Global};
 
@@ -119,15 +119,23 @@ fn read(
     ensures memory { OnErr result (MayGrow account.now (reach catalogue.now units.old) (asked origin.statement (Act.Read origin.unit))) }
 {
     let Origin { statement, unit } = origin;
-    let Tie { target, position } = units.tie_at(unit);
-    match target {
+    let Some(tie) = units.tie_at(unit) else {
+        return units.denied(statement, NoteAct::Read, unit, Reason::NoUnit);
+    };
+    let position = tie.position;
+    match &tie.target {
         Target::Untied => units.denied(statement, NoteAct::Read, unit, Reason::NoUnit),
         Target::Data => read_deck(alloc, units, unit, position),
         Target::Spool => units.denied(statement, NoteAct::Read, unit, Reason::SpoolUnit),
         Target::Set(name) => {
+            if let Some(line) = guard.record_at_hand(account, catalogue, name, position) {
+                let line = line.copy(alloc)?;
+                units.place(unit, position + 1);
+                return Ok(Answer::Got(line));
+            }
             let rows = guard.rows();
-            let told = guard.read(alloc, account, catalogue, &name, position)?;
-            settle(guard, rows, units, origin, NoteAct::Read, name, told)
+            let told = guard.read(alloc, account, catalogue, name, position)?;
+            settle(guard, rows, units, origin, NoteAct::Read, told)
         }
     }
 }
@@ -151,8 +159,11 @@ fn write(
     ensures memory { OnErr result (MayGrow account.now (reach catalogue.old units.old) (asked origin.statement (Act.Write origin.unit line.now))) }
 {
     let Origin { statement, unit } = origin;
-    let Tie { target, position } = units.tie_at(unit);
-    match target {
+    let Some(tie) = units.tie_at(unit) else {
+        return units.denied(statement, NoteAct::Write, unit, Reason::NoUnit);
+    };
+    let position = tie.position;
+    match &tie.target {
         Target::Untied => units.denied(statement, NoteAct::Write, unit, Reason::NoUnit),
         Target::Data => units.denied(statement, NoteAct::Write, unit, Reason::InStream),
         Target::Spool => {
@@ -162,8 +173,8 @@ fn write(
         Target::Set(name) => {
             let line = line.copy(alloc)?;
             let rows = guard.rows();
-            let told = guard.write(account, catalogue, &name, position, line)?;
-            settle(guard, rows, units, origin, NoteAct::Write, name, told)
+            let told = guard.write(account, catalogue, name, position, line)?;
+            settle(guard, rows, units, origin, NoteAct::Write, told)
         }
     }
 }
@@ -184,15 +195,18 @@ fn end(
     ensures memory { OnErr result (MayGrow account.now (reach catalogue.old units.old) (asked origin.statement (Act.Endfile origin.unit))) }
 {
     let Origin { statement, unit } = origin;
-    let Tie { target, position } = units.tie_at(unit);
-    match target {
+    let Some(tie) = units.tie_at(unit) else {
+        return units.denied(statement, NoteAct::Endfile, unit, Reason::NoUnit);
+    };
+    let position = tie.position;
+    match &tie.target {
         Target::Untied => units.denied(statement, NoteAct::Endfile, unit, Reason::NoUnit),
         Target::Data => units.denied(statement, NoteAct::Endfile, unit, Reason::InStream),
         Target::Spool => units.denied(statement, NoteAct::Endfile, unit, Reason::SpoolUnit),
         Target::Set(name) => {
             let rows = guard.rows();
-            let told = guard.end(account, catalogue, &name, position);
-            settle(guard, rows, units, origin, NoteAct::Endfile, name, told)
+            let told = guard.end(account, catalogue, name, position);
+            settle(guard, rows, units, origin, NoteAct::Endfile, told)
         }
     }
 }
@@ -208,8 +222,10 @@ fn rewind(
     ensures memory { OnErr result (MayGrow account.now (reach catalogue.now units.old) (asked origin.statement (Act.Rewind origin.unit))) }
 {
     let Origin { statement, unit } = origin;
-    let Tie { target, position } = units.tie_at(unit);
-    match target {
+    let Some(tie) = units.tie_at(unit) else {
+        return units.denied(statement, NoteAct::Rewind, unit, Reason::NoUnit);
+    };
+    match &tie.target {
         Target::Untied => units.denied(statement, NoteAct::Rewind, unit, Reason::NoUnit),
         Target::Spool => Ok(Answer::Done),
         Target::Data | Target::Set(_) => {
@@ -240,26 +256,65 @@ fn read_deck(
     }
 }
 
-// Answers what the guard told of a data set, noted where it is to be. Where the growth for the note is refused, the guard is
-// left with the rows that it had before, so that the whole request leaves nothing behind.
+// Answers what the guard told of a data set. What was done is answered here, and all else by a call, since few requests are noted.
+#[inline(always)]
 fn settle(
     guard: &mut Guard,
     rows: u64,
     units: &mut Units,
     origin: Origin,
     act: NoteAct,
-    name: Name,
     told: Answered,
 ) -> Result<Answer, AllocError>
     ensures answer { IfOk result (λ answer. answer ≡ told.answer) }
-    ensures settled { OnOk result (units.new ≡ settled origin.statement act (NoteTarget.Set name) origin.unit told units.old) }
+    ensures settled { OnOk result (units.new ≡ settled origin.statement act (target_of origin.unit units.old) origin.unit told units.old) }
+    ensures unchanged { OnErr result (units.new ≡ units.old) }
+    ensures memory { OnErr result (IsNoted told.answer) }
+    ensures kept { OnOk result (guard.new ≡ guard.old) }
+    ensures rows { OnErr result (guard.new ≡ take rows guard.old) }
+{
+    let Answered { answer, position } = told;
+    match answer {
+        Answer::Done => {
+            units.place(origin.unit, position);
+            Ok(Answer::Done)
+        }
+        Answer::Got(line) => {
+            units.place(origin.unit, position);
+            Ok(Answer::Got(line))
+        }
+        answer => settle_noted(
+            guard,
+            rows,
+            units,
+            origin,
+            act,
+            Answered { answer, position },
+        ),
+    }
+}
+
+// The same, noted where it is to be. Where the growth for the note is refused, the guard is left with the rows that it had
+// before, so that the whole request leaves nothing behind.
+#[inline(never)]
+fn settle_noted(
+    guard: &mut Guard,
+    rows: u64,
+    units: &mut Units,
+    origin: Origin,
+    act: NoteAct,
+    told: Answered,
+) -> Result<Answer, AllocError>
+    ensures answer { IfOk result (λ answer. answer ≡ told.answer) }
+    ensures settled { OnOk result (units.new ≡ settled origin.statement act (target_of origin.unit units.old) origin.unit told units.old) }
     ensures unchanged { OnErr result (units.new ≡ units.old) }
     ensures memory { OnErr result (IsNoted told.answer) }
     ensures kept { OnOk result (guard.new ≡ guard.old) }
     ensures rows { OnErr result (guard.new ≡ take rows guard.old) }
 {
     let Origin { statement, unit } = origin;
-    match units.settle(statement, act, NoteTarget::Set(name), unit, told) {
+    let target = units.note_target(unit);
+    match units.settle(statement, act, target, unit, told) {
         Ok(answer) => Ok(answer),
         Err(AllocError) => {
             guard.keep_first(rows);

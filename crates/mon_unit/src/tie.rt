@@ -1,5 +1,4 @@
 //! What a unit is tied to.
-ghost use Rattle.std.specs.Prelude.{◌≡◌};
 
 use mon_text::Name;
 
@@ -21,30 +20,4 @@ pub enum Target {
 pub struct Tie {
     pub target: Target,
     pub position: u64,
-}
-
-impl Target {
-    /// The same target once more.
-    pub fn copy(&self) -> Target
-        ensures { result ≡ self.now }
-    {
-        match self {
-            Target::Untied => Target::Untied,
-            Target::Data => Target::Data,
-            Target::Spool => Target::Spool,
-            Target::Set(name) => Target::Set(name.copy()),
-        }
-    }
-}
-
-impl Tie {
-    /// The same tie once more.
-    pub fn copy(&self) -> Tie
-        ensures { result ≡ self.now }
-    {
-        Tie {
-            target: self.target.copy(),
-            position: self.position,
-        }
-    }
 }

@@ -1,10 +1,11 @@
 //! A job's units.
 ghost use Rattle.std.specs.Prelude.{◌≡◌, ◌<◌, ◌-◌, ◌^◌, [], ◌∷◌, ◌++◌, OnOk, OnErr, OnSome, IfOk, IsSome, slice_get};
 ghost use Rattle.std.specs.List.{list_any};
+ghost use Rattle.std.specs.Option.{option_copied};
 ghost use Rattle.std.specs.Result.{result_err};
 ghost use Rattle.mon_unit.specs.Tying.{new_units, tie_refusal, tie_at, tied_to, first_target, with_tie, is_a_set, share, meets, is_set};
 ghost use Rattle.mon_unit.specs.Serving.{noted, with_note};
-ghost use Rattle.mon_unit.specs.inner.Settling.{placed, settled, IsNoted};
+ghost use Rattle.mon_unit.specs.inner.Settling.{placed, settled, target_of, IsNoted};
 
 use crate::lists::{Lines, Notes};
 use crate::note::{Note, NoteAct, NoteTarget, Why};
@@ -127,17 +128,11 @@ impl Units {
         shares_in(&self.ties, &other.ties)
     }
 
-    // The tie of a unit.
-    pub(crate) fn tie_at(&self, unit: u64) -> Tie
-        ensures { result ≡ tie_at self.now unit }
+    // The tie of a unit. Where there is no such unit there is none, which is as if it were tied to nothing.
+    pub(crate) fn tie_at(&self, unit: u64) -> Option<&Tie>
+        ensures { option_copied result ≡ slice_get self.now.ties unit }
     {
-        match self.ties.get(unit as usize) {
-            Some(tie) => tie.copy(),
-            None => Tie {
-                target: Target::Untied,
-                position: 0,
-            },
-        }
+        self.ties.get(unit as usize)
     }
 
     // The line at a position of the deck's data, where there is one: then the next position is a number, too.
@@ -209,6 +204,21 @@ impl Units {
         let why = Why::Denied(reason.copy());
         self.note(statement, act, NoteTarget::Unit(unit), why)?;
         Ok(Answer::Denied(reason))
+    }
+
+    // What a note of a unit names: its data set, or else the unit.
+    pub(crate) fn note_target(&self, unit: u64) -> NoteTarget
+        ensures { result ≡ target_of unit self.now }
+    {
+        match self.tie_at(unit) {
+            Some(
+                Tie {
+                    target: Target::Set(name),
+                    ..
+                },
+            ) => NoteTarget::Set(name.copy()),
+            _ => NoteTarget::Unit(unit),
+        }
     }
 
     // What the guard told: it is noted where it was not done, and else the position is kept.

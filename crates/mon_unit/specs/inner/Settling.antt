@@ -10,7 +10,7 @@ use Rattle.mon_unit.specs.declared.note.NoteAct.{NoteAct}
 use Rattle.mon_unit.specs.declared.note.NoteTarget.{NoteTarget}
 use Rattle.mon_unit.specs.State.{UnitState}
 use Rattle.mon_unit.specs.Tying.{tie_at, with_tie}
-use Rattle.mon_unit.specs.Serving.{Reach, noted}
+use Rattle.mon_unit.specs.Serving.{Reach, note_target, noted}
 
 abbrev pub reach : Sets → UnitState → Reach
 reach sets units = record { sets = sets; units = units }
@@ -31,6 +31,10 @@ placed_by Full u position units = units
 
 abbrev pub settled : ℕ → NoteAct → NoteTarget → ℕ → Answered → UnitState → UnitState
 settled statement act target u told units = noted statement act target told.answer (placed_by told.answer u told.position units)
+
+-- what a note of a unit names
+abbrev pub target_of : ℕ → UnitState → NoteTarget
+target_of u units = note_target u (tie_at units u).target
 
 -- what is noted takes memory
 abbrev pub IsNoted : Answer → Type 0
