@@ -198,7 +198,8 @@ fn push_record(
     }
 }
 
-// Goes on to what is due after one more line.
+// Goes on to what is due after one more line. It stays a call, so that a record is put without its room.
+#[inline(never)]
 fn turn(
     version: Version,
     catalogue: &mut Catalogue,

@@ -68,18 +68,20 @@ impl Service for UnitService<'_> {
                     unit: *unit,
                 },
             ),
-            Act::Write(unit, line) => write(
-                self.alloc,
-                self.account,
-                self.guard,
-                self.catalogue,
-                self.units,
-                Origin {
-                    statement,
-                    unit: *unit,
-                },
-                line,
-            ),
+            Act::Write(unit, line) => {
+                let line = line.copy(self.alloc)?;
+                write(
+                    self.account,
+                    self.guard,
+                    self.catalogue,
+                    self.units,
+                    Origin {
+                        statement,
+                        unit: *unit,
+                    },
+                    line,
+                )
+            }
             Act::Endfile(unit) => end(
                 self.account,
                 self.guard,
@@ -99,6 +101,29 @@ impl Service for UnitService<'_> {
                     unit: *unit,
                 },
             ),
+        }
+    }
+
+    fn ask_once(&mut self, request: Request) -> Result<Answer, AllocError>
+        requires ready { RowsFit self.old.guard.now self.old.catalogue.now }
+        requires short { IsShort request.act }
+        ensures answered { IfOk result (λ answer. UnitAnswers self.old request answer self.new) }
+        ensures fits { IfOk result (λ answer. Fits request answer) }
+        ensures unchanged { OnErr result (self.new ≡ self.old) }
+        ensures ready { RowsFit self.new.guard.now self.new.catalogue.now }
+        ensures memory { OnErr result (MayGrow self.old.account.now (reach_of self.old) request) }
+    {
+        let Request { statement, act } = request;
+        match act {
+            Act::Write(unit, line) => write(
+                self.account,
+                self.guard,
+                self.catalogue,
+                self.units,
+                Origin { statement, unit },
+                line,
+            ),
+            act => self.ask(&Request { statement, act }),
         }
     }
 }
@@ -141,22 +166,21 @@ fn read(
 }
 
 fn write(
-    alloc: Global,
     account: &Account,
     guard: &mut Guard,
     catalogue: &mut Catalogue,
     units: &mut Units,
     origin: Origin,
-    line: &Line,
+    line: Line,
 ) -> Result<Answer, AllocError>
-    requires short { length line.now ≤ MOST_RECORD_CHARACTERS }
+    requires short { length line ≤ MOST_RECORD_CHARACTERS }
     requires fit { RowsFit guard.old catalogue.old }
-    ensures served { IfOk result (λ answer. serve account.now (reach catalogue.old units.old) (asked origin.statement (Act.Write origin.unit line.now)) ≡ (answer, reach catalogue.new units.new)) }
+    ensures served { IfOk result (λ answer. serve account.now (reach catalogue.old units.old) (asked origin.statement (Act.Write origin.unit line)) ≡ (answer, reach catalogue.new units.new)) }
     ensures sets { OnErr result (catalogue.new ≡ catalogue.old) }
     ensures unchanged { OnErr result (units.new ≡ units.old) }
     ensures guard { OnErr result (guard.new ≡ guard.old) }
     ensures fit { RowsFit guard.new catalogue.new }
-    ensures memory { OnErr result (MayGrow account.now (reach catalogue.old units.old) (asked origin.statement (Act.Write origin.unit line.now))) }
+    ensures memory { OnErr result (MayGrow account.now (reach catalogue.old units.old) (asked origin.statement (Act.Write origin.unit line))) }
 {
     let Origin { statement, unit } = origin;
     let Some(tie) = units.tie_at(unit) else {
@@ -166,12 +190,8 @@ fn write(
     match &tie.target {
         Target::Untied => units.denied(statement, NoteAct::Write, unit, Reason::NoUnit),
         Target::Data => units.denied(statement, NoteAct::Write, unit, Reason::InStream),
-        Target::Spool => {
-            let line = line.copy(alloc)?;
-            units.put_spool(line)
-        }
+        Target::Spool => units.put_spool(line),
         Target::Set(name) => {
-            let line = line.copy(alloc)?;
             let rows = guard.rows();
             let told = guard.write(account, catalogue, name, position, line)?;
             settle(guard, rows, units, origin, NoteAct::Write, told)

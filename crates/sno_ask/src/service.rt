@@ -29,4 +29,20 @@ pub trait Service {
         ensures fits { IfOk result (λ answer. Fits request.now answer) }
         ensures unchanged { OnErr result (self.new ≡ self.old) }
         ensures ready { ready self.new };
+
+    /// Answers a request that is not needed again, so that its line may become the record.
+    ///
+    /// # Errors
+    ///
+    /// Where a growth was refused. Nothing has changed then.
+    fn ask_once(&mut self, request: Request) -> Result<Answer, AllocError>
+        requires ready { ready self.old }
+        requires short { IsShort request.act }
+        ensures answered { IfOk result (λ answer. answers self.old request answer self.new) }
+        ensures fits { IfOk result (λ answer. Fits request answer) }
+        ensures unchanged { OnErr result (self.new ≡ self.old) }
+        ensures ready { ready self.new }
+    {
+        self.ask(&request)
+    }
 }

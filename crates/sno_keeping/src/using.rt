@@ -107,7 +107,7 @@ fn write<S: Service>(
         statement: state.statement(),
         act: Act::Write(unit, line),
     };
-    match service.ask(&request) {
+    match service.ask_once(request) {
         Ok(answer) => Ok(answer),
         Err(e) => Err(e),
     }
