@@ -1,7 +1,7 @@
 //! A variable used, and assigned a value.
-ghost use Rattle.std.specs.Prelude.{◌≡◌, ◌≤◌, length, IfOk, OnErr};
-ghost use Rattle.sno_talk.specs.Talks.{ask};
-ghost use Rattle.sno_value.specs.Values.{text_of};
+ghost use Rattle.std.specs.Prelude.{◌≡◌, ◌≤◌, true, false, length, IfOk, OnErr};
+ghost use Rattle.sno_talk.specs.Talks.{Ends, ask};
+ghost use Rattle.sno_value.specs.Values.{null, text_of};
 ghost use Rattle.sno_value.specs.declared.value.Value.TheVariants as value;
 ghost use Rattle.sno_ask.specs.Asking.{Held, Runs};
 ghost use Rattle.sno_ask.specs.declared.request.Act.TheVariants.{Write as Writing};
@@ -162,6 +162,17 @@ fn write_value<S: Service>(
         },
         None => Ok(Got::Halts(Halt::Fault(Fault::WrongType))),
     }
+}
+
+/// Assigns a value to a variable where nothing is written, and tells whether so it is; what the variable had takes the value's
+/// place. Otherwise nothing has changed. It takes no memory.
+#[inline(always)]
+pub fn replaced(name: &Named, value: &mut Value, state: &mut Store) -> bool
+    ensures assigned { result ≡ true → assigned name.now value.old state.old ≡ Ends (Got.Gives null, state.new) }
+    ensures unchanged { result ≡ false → (state.new ≡ state.old) × (value.new ≡ value.old) }
+    ensures counted { state.new.keywords.begun ≡ state.old.keywords.begun }
+{
+    state.replace(name, value)
 }
 
 /// Assigns a value to a variable: it is stored, and its records are written where the variable is associated with a unit.

@@ -63,6 +63,7 @@ impl Model for Levels {
 
 // So many values behind others: those that are missing are null, and further ones are left out.
 #[tactic(auto, using(crate::proofs::Calling::fitting))]
+#[inline(always)]
 fn fit(values: &mut Vec<Value>, arguments: &[Value], count: usize) -> Result<(), AllocError>
     ensures { OnOk result (values.new.items ≡ values.old.items ++ fitted count arguments.now) }
 {

@@ -71,6 +71,11 @@ put_same name (e ∷ es) x h = by (same name e.0) h (λ k. put_same name es x k)
     by true g rest = let is : e.1 ≡ x = cc in ap (λ (y : Variable). (e.0, y) ∷ es) (sym is)
     by false g rest = ap (λ l. e ∷ l) (rest g)
 
+-- a variable that is lent and left as it was
+pub put_back : (name : List ℕ) (vs : Variables) (x : Variable) → Some x ≡ lookup (pointwise nat_eq name) vs
+    → put name (record { value = x.value; input = x.input; output = x.output }) vs ≡ vs
+put_back name vs x at = put_same name vs x (sym at)
+
 -- a name that is there is put as it was
 pub noted_known : (name : List ℕ) (vs : Variables) → is_named name vs ≡ true → vs ≡ noted name vs
 noted_known name vs h = by (lookup (same name) vs) refl h

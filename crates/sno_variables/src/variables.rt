@@ -1,5 +1,5 @@
 //! The variables of a job by their names.
-ghost use Rattle.std.specs.Prelude.{◌≡◌, ◌∷◌, ◌++◌, ◌≤◌, [], true, false, length, drop, if◌then◌else◌, position, slice_get, unwrap_or, OnOk, OnErr, IfOk, IfErr};
+ghost use Rattle.std.specs.Prelude.{◌≡◌, ◌∷◌, ◌++◌, ◌≤◌, [], true, false, length, drop, if◌then◌else◌, None, position, slice_get, unwrap_or, OnOk, OnErr, IfOk, IfErr};
 ghost use Rattle.std.specs.Borrow.{sem};
 ghost use Rattle.std.specs.Option.{option_copied, option_copied_mut};
 ghost use Rattle.std.specs.Map.{lookup, keys_of};
@@ -23,6 +23,7 @@ use sno_text::{Named, Text};
 use sno_value::Value;
 use std::alloc::{AllocError, Global};
 use std::marker::Model;
+use std::mem;
 
 /// Variables in the order in which they were first named, no two of one name. None is ever taken out, so that a place stays.
 #[derive(Drop)]
@@ -184,6 +185,27 @@ impl Variables {
         }
         self.put(name.text(), Variable::holding(value))?;
         Ok(None)
+    }
+
+    /// Exchanges the value of a variable for another, where it was named before and is not to be written, and tells whether so
+    /// it is. Otherwise nothing has changed. It takes no memory.
+    #[tactic(auto, using(crate::proofs::Changing::giving, crate::proofs::Changing::put_back))]
+    pub fn replace(&mut self, name: &Named, value: &mut Value) -> bool
+        ensures given { result ≡ true → self.new ≡ given name.now value.old self.old }
+        ensures output { result ≡ true → (variable_of name.now self.old).output ≡ None }
+        ensures unchanged { result ≡ false → (self.new ≡ self.old) × (value.new ≡ value.old) }
+    {
+        match self.find_mut(name) {
+            Some(variable) => {
+                if variable.output.is_none() {
+                    mem::swap(&mut variable.value, value);
+                    true
+                } else {
+                    false
+                }
+            }
+            None => false,
+        }
     }
 
     /// Associates a variable with the records of a unit that its uses read. One that was named before takes no memory.
