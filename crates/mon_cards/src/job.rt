@@ -14,7 +14,9 @@ ghost use Rattle.std.specs.List.{fold};
 use crate::card::Card;
 use crate::code::Code;
 use crate::job_options::{option_number, sets_statements, sets_steps, with_option};
-use crate::words::{MOST_LINE_CHARACTERS, Words, begins_with_dollar, line_of, name_of, number_of};
+use crate::words::{
+    MOST_LINE_CHARACTERS, Words, begins_with_dollar, check_line, line_of, name_of, number_of,
+};
 use mon_job::{JobDeck, JobLimits, UnitCard, UnitCards};
 use mon_text::{Line, Name, Stop};
 use mon_unit::Lines;
@@ -216,8 +218,8 @@ impl OpenJob {
         ensures unchanged { OnErr result (self.new ≡ self.old) }
         ensures memory { IsErrOf result Stop.Memory → line_refusal 200 text.now ≡ None }
     {
-        let line = line_of(alloc, text, MOST_LINE_CHARACTERS)?;
-        let words = Words::of(alloc, &line)?;
+        check_line(text, MOST_LINE_CHARACTERS)?;
+        let words = Words::of(text);
         self.take_words(&words)
     }
 

@@ -1,8 +1,11 @@
 //! Lines, their words, and what a word names.
-ghost use Rattle.std.specs.Prelude.{◌≡◌, ◌<◌, length, slice_get, None, Some, IfOk, IsErrOf};
+ghost use Rattle.std.specs.Prelude.{◌≡◌, ◌<◌, ◌≤◌, ◌+◌, ◌∷◌, length, filter, slice_get, None, Some, IfOk, IsErrOf, not};
+ghost use Rattle.std.specs.List.{slice_split};
 ghost use Rattle.mon_text.specs.Names.{is_name};
 ghost use Rattle.mon_text.specs.Counts.{is_count, value_of};
-ghost use Rattle.mon_text.specs.Lines.{words};
+ghost use Rattle.mon_text.specs.Beginnings.{without_leading};
+ghost use Rattle.mon_text.specs.Characters.{is_blank};
+ghost use Rattle.mon_text.specs.Lines.{is_line, is_blank_line, is_nonempty, words};
 ghost use Rattle.mon_cards.specs.declared.code.Code.TheVariants.{BadName, BadNumber};
 ghost use Rattle.mon_cards.specs.Cards.{card_among};
 ghost use Rattle.mon_cards.specs.Refusing.{unless, line_refusal, is_dollar_line};
@@ -10,8 +13,8 @@ ghost use Rattle.mon_cards.specs.inner.Stops.{Answers};
 
 use crate::card::{Card, card_of};
 use crate::code::{Code, stop_of_line};
-use mon_text::{Line, Name, Stop, read_count, read_line, read_name, split_words};
-use std::alloc::{AllocError, Global};
+use mon_text::{Line, Name, Stop, read_count, read_line, read_name};
+use std::alloc::Global;
 use std::marker::Model;
 
 /// How many characters a line has at the most outside the catalogue.
@@ -31,6 +34,41 @@ pub(crate) fn line_of(alloc: Global, text: &[u8], limit: usize) -> Result<Line, 
         Ok(line) => Ok(line),
         Err(error) => Err(stop_of_line(error)),
     }
+}
+
+/// Tests a line with at most `limit` characters.
+///
+/// # Errors
+///
+/// The line's refusal.
+pub(crate) fn check_line(text: &[u8], limit: usize) -> Result<(), Stop<Code>>
+    ensures answers { Answers (line_refusal limit text.now) result }
+    ensures memory { IsErrOf result Stop.Memory → line_refusal limit text.now ≡ None }
+{
+    if text.len() > limit {
+        return Err(Stop::Refused(Code::LineTooLong));
+    }
+    if !is_line(text) {
+        return Err(Stop::Refused(Code::BadCharacter));
+    }
+    Ok(())
+}
+
+fn is_line(text: &[u8]) -> bool
+    ensures { result ≡ is_line text.now }
+{
+    let mut printable = true;
+    for byte in text {
+        printable &= (b' '..=b'~').contains(byte);
+    }
+    printable
+}
+
+// Whether a line has no character but blanks.
+pub(crate) fn is_blank(text: &[u8]) -> bool
+    ensures { result ≡ is_blank_line text.now }
+{
+    text.iter().all(|byte| *byte == b' ')
 }
 
 // Whether a line begins with a dollar sign.
@@ -62,34 +100,57 @@ pub(crate) fn number_of(word: &[u8]) -> Result<u64, Stop<Code>>
     }
 }
 
-/// The words of a line. A contract sees them as the list of their bytes.
+/// The words of a line, where they stand in it. A contract sees them as the list of their bytes. The first three are found at
+/// once, since few cards have more; those behind them are sought each time.
 #[derive(Drop)]
 pub(crate) struct Words<'a> {
-    words: Vec<&'a [u8]>,
+    first: &'a [u8],
+    second: &'a [u8],
+    third: &'a [u8],
+    /// What stands behind the third.
+    others: &'a [u8],
 }
 
 impl<'a> Model for Words<'a> {
-    ghost use Rattle.std.specs.Prelude.{ℕ, List, map};
+    ghost use Rattle.std.specs.Prelude.{ℕ, List};
+    ghost use Rattle.mon_cards.specs.inner.Found.{found, AreInOrder};
 
     ghost Value = { List (List ℕ) };
 
-    ghost view = { λ w. map (λ word. word.now) w.words.items };
+    ghost view = { λ w. found w.first.now w.second.now w.third.now w.others.now };
+
+    ghost invariant = { λ w. AreInOrder w.first.now w.second.now w.third.now w.others.now };
 }
 
 impl<'a> Words<'a> {
     /// The words of this line.
-    pub(crate) fn of(alloc: Global, line: &'a Line) -> Result<Words<'a>, AllocError>
-        ensures { IfOk result (λ found. found ≡ words line.now) }
+    #[inline(always)]
+    pub(crate) fn of(line: &'a [u8]) -> Words<'a>
+        ensures { result ≡ words line.now }
     {
-        Ok(Words {
-            words: split_words(alloc, line)?,
-        })
+        let (first, behind_first) = next_word(line);
+        let (second, behind_second) = next_word(behind_first);
+        let (third, others) = next_word(behind_second);
+        Words {
+            first,
+            second,
+            third,
+            others,
+        }
     }
 
     pub(crate) fn len(&self) -> usize
         ensures { result ≡ length self.now }
     {
-        self.words.len()
+        if self.first.is_empty() {
+            0
+        } else if self.second.is_empty() {
+            1
+        } else if self.third.is_empty() {
+            2
+        } else {
+            3 + number_of_words(self.others)
+        }
     }
 
     /// The word at a place, counted from 0.
@@ -97,16 +158,89 @@ impl<'a> Words<'a> {
         requires { place < length self.now }
         ensures { slice_get self.now place ≡ Some result.now }
     {
-        self.words[place]
+        match place {
+            0 => self.first,
+            1 => self.second,
+            2 => self.third,
+            _ => word_at(self.others, place - 3),
+        }
     }
 
     /// The card that the first word names.
     pub(crate) fn card(&self) -> Option<Card>
         ensures { result ≡ card_among self.now }
     {
-        if self.words.is_empty() {
-            return None;
+        card_of(self.first)
+    }
+}
+
+/// What stands from the first word on.
+pub(crate) fn from_word(text: &[u8]) -> &[u8]
+    ensures { result.now ≡ without_leading is_blank text.now }
+{
+    let mut rest = text;
+    'blanks: while let [b' ', others @ ..] = rest {
+        rest = others;
+    }
+    rest
+}
+
+/// What stands from the first blank on.
+pub(crate) fn from_blank(text: &[u8]) -> &[u8]
+    ensures { result.now ≡ without_leading (λ c. not (is_blank c)) text.now }
+{
+    let mut rest = text;
+    'letters: while let [first, others @ ..] = rest {
+        if *first == b' ' {
+            break;
         }
-        card_of(self.at(0))
+        rest = others;
+    }
+    rest
+}
+
+/// The first word of a text, which is empty where it has none, and what stands behind it.
+#[inline(always)]
+fn next_word(text: &[u8]) -> (&[u8], &[u8])
+    ensures words { words text.now ≡ filter is_nonempty (result.0.now ∷ slice_split is_blank result.1.now) }
+    ensures none { length result.0.now ≡ 0 → length result.1.now ≡ 0 }
+    ensures within { length result.0.now + length result.1.now ≤ length text.now }
+{
+    let from = from_word(text);
+    let behind = from_blank(from);
+    (&from[..from.len() - behind.len()], behind)
+}
+
+/// How many words a text has.
+fn number_of_words(text: &[u8]) -> usize
+    ensures value { result ≡ length (words text.now) }
+    ensures within { result ≤ length text.now }
+{
+    let mut count = 0;
+    let mut rest = text;
+    loop {
+        let (word, behind) = next_word(rest);
+        if word.is_empty() {
+            return count;
+        }
+        count += 1;
+        rest = behind;
+    }
+}
+
+/// The word at a place of a text, counted from 0.
+fn word_at(text: &[u8], place: usize) -> &[u8]
+    requires { place < length (words text.now) }
+    ensures { slice_get (words text.now) place ≡ Some result.now }
+{
+    let mut left = place;
+    let mut rest = text;
+    loop {
+        let (word, behind) = next_word(rest);
+        if left == 0 {
+            return word;
+        }
+        left -= 1;
+        rest = behind;
     }
 }

@@ -1,6 +1,6 @@
 -- What is left has the same first blank; each turn takes a character.
 use Rattle.std.proofs.Common.{◌≡◌, length, not}
-use Rattle.mon_cards.proofs.request.from_blank.Given as goal
+use Rattle.mon_cards.proofs.words.from_blank.Given as goal
 use Rattle.mon_text.specs.Beginnings.{without_leading}
 use Rattle.mon_text.specs.Characters.{is_blank}
 

@@ -1,6 +1,6 @@
 -- What is left has the same first word; each turn takes a blank.
 use Rattle.std.proofs.Common.{◌≡◌, length}
-use Rattle.mon_cards.proofs.request.from_word.Given as goal
+use Rattle.mon_cards.proofs.words.from_word.Given as goal
 use Rattle.mon_text.specs.Beginnings.{without_leading}
 use Rattle.mon_text.specs.Characters.{is_blank}
 
