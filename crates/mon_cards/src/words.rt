@@ -20,11 +20,7 @@ use std::marker::Model;
 /// How many characters a line has at the most outside the catalogue.
 pub const MOST_LINE_CHARACTERS: usize = 200;
 
-/// A line, read with at most `limit` characters.
-///
-/// # Errors
-///
-/// The line's refusal; memory, where it has none.
+// A line, read with at most `limit` characters. Memory is told only where it has no refusal.
 pub(crate) fn line_of(alloc: Global, text: &[u8], limit: usize) -> Result<Line, Stop<Code>>
     ensures answers { Answers (line_refusal limit text.now) result }
     ensures memory { IsErrOf result Stop.Memory → line_refusal limit text.now ≡ None }
@@ -36,11 +32,7 @@ pub(crate) fn line_of(alloc: Global, text: &[u8], limit: usize) -> Result<Line, 
     }
 }
 
-/// Tests a line with at most `limit` characters.
-///
-/// # Errors
-///
-/// The line's refusal.
+// Tests a line with at most `limit` characters.
 pub(crate) fn check_line(text: &[u8], limit: usize) -> Result<(), Stop<Code>>
     ensures answers { Answers (line_refusal limit text.now) result }
     ensures memory { IsErrOf result Stop.Memory → line_refusal limit text.now ≡ None }
