@@ -1,11 +1,11 @@
 //! Lines, their words, and what a word names.
-ghost use Rattle.std.specs.Prelude.{◌≡◌, ◌<◌, ◌≤◌, ◌+◌, ◌∷◌, length, filter, slice_get, None, Some, IfOk, IsErrOf, not};
+ghost use Rattle.std.specs.Prelude.{◌≡◌, ◌<◌, ◌≤◌, ◌+◌, ◌∷◌, length, filter, slice_get, None, Some, IfOk, OnOk, IsErrOf, not};
 ghost use Rattle.std.specs.List.{slice_split};
 ghost use Rattle.mon_text.specs.Names.{is_name};
 ghost use Rattle.mon_text.specs.Counts.{is_count, value_of};
 ghost use Rattle.mon_text.specs.Beginnings.{without_leading};
 ghost use Rattle.mon_text.specs.Characters.{is_blank};
-ghost use Rattle.mon_text.specs.Lines.{is_line, is_blank_line, is_nonempty, words};
+ghost use Rattle.mon_text.specs.Lines.{IsLine, is_line, is_blank_line, is_nonempty, words};
 ghost use Rattle.mon_cards.specs.declared.code.Code.TheVariants.{BadName, BadNumber};
 ghost use Rattle.mon_cards.specs.Cards.{card_among};
 ghost use Rattle.mon_cards.specs.Refusing.{unless, line_refusal, is_dollar_line};
@@ -35,6 +35,7 @@ pub(crate) fn line_of(alloc: Global, text: &[u8], limit: usize) -> Result<Line, 
 // Tests a line with at most `limit` characters.
 pub(crate) fn check_line(text: &[u8], limit: usize) -> Result<(), Stop<Code>>
     ensures answers { Answers (line_refusal limit text.now) result }
+    ensures printable { OnOk result (IsLine text.now) }
     ensures memory { IsErrOf result Stop.Memory → line_refusal limit text.now ≡ None }
 {
     if text.len() > limit {

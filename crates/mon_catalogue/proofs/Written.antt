@@ -1,9 +1,11 @@
 -- What is left of records, and what is written behind it, are records.
-use Rattle.std.proofs.Common.{◌≡◌, ℕ, ◌+◌, ◌<◌, ◌≤◌, Bool, true, false, ◌&&◌, List, [], ◌∷◌, ◌++◌, length, refl, sym, ap, subst, ◌∙◌, arith}
+use Rattle.std.proofs.Common.{◌≡◌, ℕ, ◌-◌, ◌^◌, ◌<◌, ◌≤◌, Option, None, Some, Bool, true, false, ◌&&◌, List, [], ◌∷◌, ◌++◌, length, refl, sym, ap, ◌∙◌, arith}
 use Rattle.std.specs.Prelude.{IsTrue, take, drop}
 use Rattle.std.specs.List.{list_all}
-use Rattle.std.specs.Prelude.{slice_set}
-use Rattle.std.proofs.lemmas.List.{take-append-drop, length-take, length-append, take_more_set}
+use Rattle.std.specs.Prelude.{IfSome, slice_get}
+use Rattle.std.specs.Option.{option_map}
+use Rattle.std.proofs.lemmas.Option.{slice_get_within}
+use Rattle.std.proofs.lemmas.List.{take-append-drop, length-take, length-append}
 use Rattle.std.proofs.lemmas.Bool.{le-leb}
 use Rattle.std.proofs.lemmas.List.Folds.{list_all-append}
 use Rattle.mon_catalogue.specs.Records.{is_record, AreRecords}
@@ -31,7 +33,12 @@ all_put line records short all =
 
 -- a line in the place of what stood at a position and behind it
 pub still_records_put : (p : ℕ) (line : List ℕ) (records : List (List ℕ)) → p < length records → length line ≤ 1024 → AreRecords records
-    → AreRecords (take (p + 1) (slice_set records p line))
+    → AreRecords (take p records ++ line ∷ [])
 still_records_put p line records within short are =
-    subst AreRecords (sym (take_more_set records p line within))
     (omega (arith, length-take p records, are.0, within, length-append (take p records) (line ∷ [])), all_put line (take p records) short (all_taken p records are.1))
+
+-- a record that was found stands below the most that there may be
+pub found_within : {X : Type 0} (seen : X → List ℕ) (records : List (List ℕ)) (index : ℕ) (found : Option X) → option_map seen found ≡ slice_get records index → AreRecords records
+    → IfSome found (λ _. index < 2 ^ 64 - 1)
+found_within seen records index None is are = tt
+found_within seen records index (Some x) is are = omega (arith, slice_get_within records index (seen x) (sym is), are.0)

@@ -1,6 +1,7 @@
 //! A data set and its records.
-ghost use Rattle.std.specs.Prelude.{◌≡◌, ◌==◌, ◌<◌, ◌≤◌, [], ◌∷◌, ◌++◌, length, slice_get, OnOk, OnErr, IsErrOf};
-ghost use Rattle.std.specs.Option.{option_copied};
+ghost use Rattle.std.specs.Prelude.{◌≡◌, ◌==◌, ◌<◌, ◌≤◌, ◌-◌, ◌^◌, [], ◌∷◌, ◌++◌, length, slice_get, slice_index_or, IfSome, OnOk, OnErr, IsErrOf};
+ghost use Rattle.std.specs.Option.{option_map};
+ghost use Rattle.mon_text.specs.Lines.{IsLine};
 ghost use Rattle.mon_text.specs.Stops.{refused_as};
 ghost use Rattle.mon_text.specs.declared.stop.Stop.{Stop};
 ghost use Rattle.mon_catalogue.specs.Records.{AreRecords};
@@ -8,6 +9,7 @@ ghost use Rattle.mon_catalogue.specs.Writing.{Put, Cut, Add, recorded, records_a
 
 use crate::mode::Mode;
 use mon_acl::Acl;
+use mon_lines::PackedLines;
 use mon_text::{Line, Name, Stop};
 use std::alloc::{AllocError, Global};
 use std::marker::Model;
@@ -24,7 +26,7 @@ pub const MOST_RECORD_CHARACTERS: usize = 1_024;
 /// A contract sees them as a list. A record may be empty.
 #[derive(Drop)]
 pub struct Records {
-    lines: Vec<Line>,
+    lines: PackedLines,
 }
 
 impl Model for Records {
@@ -33,9 +35,9 @@ impl Model for Records {
 
     ghost Value = { List (List ℕ) };
 
-    ghost view = { λ r. r.lines.items };
+    ghost view = { λ r. r.lines };
 
-    ghost invariant = { λ r. AreRecords r.lines.items };
+    ghost invariant = { λ r. AreRecords r.lines };
 }
 
 /// A data set: who owns it, its group, how it may be written, its permission list and its records.
@@ -61,7 +63,7 @@ impl Records {
         ensures { result ≡ [] }
     {
         Records {
-            lines: Vec::new(alloc),
+            lines: PackedLines::new(alloc),
         }
     }
 
@@ -80,11 +82,22 @@ impl Records {
         self.lines.is_empty()
     }
 
-    /// The records, in order.
-    pub fn as_slice(&self) -> &[Line]
-        ensures { result.now ≡ self.now }
+    /// The record at an index, from 0, where there is one.
+    pub fn get(&self, index: u64) -> Option<&[u8]>
+        ensures value { option_map (λ line. line.now) result ≡ slice_get self.now index }
+        ensures within { IfSome result (λ line. index < 2 ^ 64 - 1) }
+        ensures printable { IfSome result (λ line. IsLine line.now) }
     {
-        &self.lines
+        self.lines.get(index as usize)
+    }
+
+    /// The record at an index, which there must be.
+    pub fn at(&self, index: u64) -> &[u8]
+        requires { index < length self.now }
+        ensures value { result.now ≡ slice_index_or self.now index [] }
+        ensures printable { IsLine result.now }
+    {
+        self.lines.at(index as usize)
     }
 
     /// Adds a record at the end, for which there must be room.
@@ -92,10 +105,11 @@ impl Records {
     /// # Errors
     ///
     /// Where a growth was refused; the records are then unchanged.
-    pub(crate) fn push(&mut self, line: Line) -> Result<(), AllocError>
-        requires short { length line ≤ MOST_RECORD_CHARACTERS }
+    pub(crate) fn push(&mut self, line: &[u8]) -> Result<(), AllocError>
+        requires short { length line.now ≤ MOST_RECORD_CHARACTERS }
         requires room { length self.old < MOST_RECORDS }
-        ensures added { OnOk result (self.new ≡ self.old ++ line ∷ []) }
+        requires printable { IsLine line.now }
+        ensures added { OnOk result (self.new ≡ self.old ++ line.now ∷ []) }
         ensures unchanged { OnErr result (self.new ≡ self.old) }
     {
         self.lines.push(line)?;
@@ -103,7 +117,6 @@ impl Records {
     }
 
     // Puts a line at a position, and cuts off what stands behind it.
-    #[tactic(auto, using(crate::proofs::Written::still_records_put))]
     fn put_at(&mut self, position: u64, line: Line) -> Result<(), Stop<SetFull>>
         requires short { length line ≤ MOST_RECORD_CHARACTERS }
         ensures put { OnOk result (self.new ≡ records_after (Put position line) self.old) }
@@ -112,14 +125,13 @@ impl Records {
         ensures memory { IsErrOf result Stop.Memory → length self.old ≤ position }
     {
         if position < self.len() {
-            self.lines[position as usize] = line;
-            self.lines.truncate(position as usize + 1);
+            self.lines.put_at(position as usize, line.as_bytes());
             return Ok(());
         }
         if self.len() >= MOST_RECORDS {
             return Err(Stop::Refused(SetFull));
         }
-        self.push(line)?;
+        self.push(line.as_bytes())?;
         Ok(())
     }
 
@@ -133,12 +145,11 @@ impl Records {
         if self.len() >= MOST_RECORDS {
             return Err(Stop::Refused(SetFull));
         }
-        self.push(line)?;
+        self.push(line.as_bytes())?;
         Ok(())
     }
 
     // Cuts off what stands at a position and behind it.
-    #[tactic(auto, using(crate::proofs::Written::still_records))]
     fn cut_at(&mut self, position: u64)
         ensures { self.new ≡ records_after (Cut position) self.old }
     {
@@ -150,10 +161,11 @@ impl Records {
 
 impl DataSet {
     /// The record at an index, from 0, where there is one.
-    pub fn record_at(&self, index: u64) -> Option<&Line>
-        ensures { option_copied result ≡ slice_get self.now.records index }
+    pub fn record_at(&self, index: u64) -> Option<&[u8]>
+        ensures value { option_map (λ line. line.now) result ≡ slice_get self.now.records index }
+        ensures printable { IfSome result (λ line. IsLine line.now) }
     {
-        self.records.lines.get(index as usize)
+        self.records.get(index)
     }
 
     /// Puts a record of at most 1,024 characters at a position, counted from 0, or at the end where fewer stand before it.

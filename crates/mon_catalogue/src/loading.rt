@@ -1,6 +1,6 @@
 //! Reading a catalogue's text.
 ghost use Rattle.std.specs.Prelude.{◌≡◌, ℕ, ◌<◌, ◌≤◌, ◌+◌, ◌-◌, ◌^◌, List, [], length, true, false, Some, Ok, Err, IfOk, OnOk, IsErrOf, IsTrue};
-ghost use Rattle.mon_text.specs.Lines.{is_blank_line};
+ghost use Rattle.mon_text.specs.Lines.{IsLine, is_blank_line};
 ghost use Rattle.mon_text.specs.declared.stop.Stop.{Stop};
 ghost use Rattle.mon_acl.specs.Reading.{read_short};
 ghost use Rattle.mon_catalogue.specs.declared.loading.CatalogueError.{CatalogueError};
@@ -108,6 +108,22 @@ impl Loading {
         ensures memory { IsErrOf result Stop.Memory → MayGrow self.old line }
         ensures counted { lines_taken self.new ≤ lines_taken self.old + 1 }
     {
+        self.take(line.as_bytes())
+    }
+
+    /// Takes the next line, given as its characters.
+    ///
+    /// # Errors
+    ///
+    /// As `line`.
+    pub fn take(&mut self, line: &[u8]) -> Result<(), Stop<CatalogueError>>
+        requires few { lines_taken self.old < 2 ^ 63 }
+        requires printable { IsLine line.now }
+        ensures step { Answers result self.new (step self.old line.now) }
+        ensures again { (stop : Stop CatalogueError) → stopped self.old ≡ Some stop → (result ≡ Err stop) × (self.new ≡ self.old) }
+        ensures memory { IsErrOf result Stop.Memory → MayGrow self.old line.now }
+        ensures counted { lines_taken self.new ≤ lines_taken self.old + 1 }
+    {
         if let Stage::Stopped(stop) = &self.stage {
             return Err(*stop);
         }
@@ -152,13 +168,14 @@ fn advance(
     catalogue: &mut Catalogue,
     stage: &mut Stage,
     lines_taken: u64,
-    line: Line,
+    line: &[u8],
 ) -> Result<(), Stop<CatalogueError>>
     requires few { lines_taken < 2 ^ 63 }
     requires sound { IsSound catalogue.old stage.old }
-    ensures step { Answers result (progress_of version (lines_taken + 1) catalogue.new stage.new) (step (progress_of version lines_taken catalogue.old stage.old) line) }
+    requires printable { IsLine line.now }
+    ensures step { Answers result (progress_of version (lines_taken + 1) catalogue.new stage.new) (step (progress_of version lines_taken catalogue.old stage.old) line.now) }
     ensures sound { IsSound catalogue.new stage.new }
-    ensures memory { IsErrOf result Stop.Memory → MayGrow (progress_of version lines_taken catalogue.old stage.old) line }
+    ensures memory { IsErrOf result Stop.Memory → MayGrow (progress_of version lines_taken catalogue.old stage.old) line.now }
 {
     let answer = match stage {
         Stage::RecordsDue(_, set, left) if *left > 1 => push_record(
@@ -180,11 +197,12 @@ fn push_record(
     set: &mut DataSet,
     left: &mut u64,
     number: u64,
-    line: Line,
+    line: &[u8],
 ) -> Result<(), Stop<CatalogueError>>
     requires more { 1 < left.old }
     requires room { length set.old.records + left.old ≤ MOST_RECORDS }
-    ensures pushed { Pushes number set.old left.old line set.new left.new result }
+    requires printable { IsLine line.now }
+    ensures pushed { Pushes number set.old left.old line.now set.new left.new result }
 {
     if line.len() > MOST_RECORD_CHARACTERS {
         return Err(Stop::Refused(CatalogueError::BadText(number)));
@@ -205,11 +223,12 @@ fn turn(
     catalogue: &mut Catalogue,
     stage: &mut Stage,
     lines_taken: u64,
-    line: Line,
+    line: &[u8],
 ) -> Result<(), Stop<CatalogueError>>
     requires few { lines_taken < 2 ^ 63 }
     requires sound { IsSound catalogue.old stage.old }
-    ensures step { Arrives version (lines_taken + 1) catalogue.new stage.new (MayGrow (progress_of version lines_taken catalogue.old stage.old) line) result (step (progress_of version lines_taken catalogue.old stage.old) line) }
+    requires printable { IsLine line.now }
+    ensures step { Arrives version (lines_taken + 1) catalogue.new stage.new (MayGrow (progress_of version lines_taken catalogue.old stage.old) line.now) result (step (progress_of version lines_taken catalogue.old stage.old) line.now) }
     ensures sound { OnOk result (IsSound catalogue.new stage.new) }
 {
     let due = mem::replace(stage, Stage::SetDue);
@@ -223,17 +242,18 @@ fn after(
     catalogue: &mut Catalogue,
     lines_taken: u64,
     stage: Stage,
-    line: Line,
+    line: &[u8],
 ) -> Result<Stage, Stop<CatalogueError>>
     requires few { lines_taken < 2 ^ 63 }
     requires sound { IsSound catalogue.old stage }
-    ensures step { Reaches version (lines_taken + 1) catalogue.new (MayGrow (progress_of version lines_taken catalogue.old stage) line) result (step (progress_of version lines_taken catalogue.old stage) line) }
+    requires printable { IsLine line.now }
+    ensures step { Reaches version (lines_taken + 1) catalogue.new (MayGrow (progress_of version lines_taken catalogue.old stage) line.now) result (step (progress_of version lines_taken catalogue.old stage) line.now) }
     ensures sound { IfOk result (IsSound catalogue.new) }
 {
     let number = lines_taken + 1;
     match stage {
-        Stage::SetDue => after_set_due(version, catalogue, number, &line),
-        Stage::ListDue(head) => after_list(version, catalogue, number, head, &line),
+        Stage::SetDue => after_set_due(version, catalogue, number, line),
+        Stage::ListDue(head) => after_list(version, catalogue, number, head, line),
         Stage::RecordsDue(name, set, left) => after_record(
             version, catalogue, number, name, set, left, line,
         ),
@@ -241,16 +261,23 @@ fn after(
     }
 }
 
+fn is_blank(text: &[u8]) -> bool
+    ensures { result ≡ is_blank_line text.now }
+{
+    text.iter().all(|byte| *byte == b' ')
+}
+
 fn after_set_due(
     version: Version,
     catalogue: &Catalogue,
     number: u64,
-    line: &Line,
+    line: &[u8],
 ) -> Result<Stage, Stop<CatalogueError>>
+    requires { IsLine line.now }
     ensures step { Reaches version number catalogue.now (is_blank_line line.now ≡ false) result (after_set_due version number catalogue.now line.now) }
     ensures sound { IfOk result (IsSound catalogue.now) }
 {
-    if line.is_blank() {
+    if is_blank(line) {
         return Ok(Stage::SetDue);
     }
     match read_head(catalogue.allocator(), version, line) {
@@ -286,13 +313,13 @@ fn after_list(
     catalogue: &mut Catalogue,
     number: u64,
     head: Head,
-    line: &Line,
+    line: &[u8],
 ) -> Result<Stage, Stop<CatalogueError>>
     requires sound { IsAwaited catalogue.old head.name head.count }
     ensures step { Reaches version number catalogue.new (ListGrows head line.now) result (after_acl version number catalogue.old head (read_short line.now)) }
     ensures sound { IfOk result (IsSound catalogue.new) }
 {
-    match Acl::parse_short(catalogue.allocator(), line.as_bytes()) {
+    match Acl::parse_short(catalogue.allocator(), line) {
         Ok(acl) => {
             let records = Records::new(catalogue.allocator());
             let set = DataSet {
@@ -316,10 +343,11 @@ fn after_record(
     name: Name,
     mut set: DataSet,
     left: u64,
-    line: Line,
+    line: &[u8],
 ) -> Result<Stage, Stop<CatalogueError>>
     requires sound { IsSound catalogue.old (Stage.RecordsDue name set left) }
-    ensures step { Reaches version number catalogue.new (IsTrue (is_record line)) result (after_record version number catalogue.old name set left line) }
+    requires printable { IsLine line.now }
+    ensures step { Reaches version number catalogue.new (IsTrue (is_record line.now)) result (after_record version number catalogue.old name set left line.now) }
     ensures sound { IfOk result (IsSound catalogue.new) }
 {
     if line.len() > MOST_RECORD_CHARACTERS {

@@ -85,8 +85,8 @@ pub(crate) fn put_records(records: &Records, out: &mut Vec<u8>) -> Result<(), Al
     ensures appended { OnOk result (out.new.items ≡ out.old.items ++ records_text records.now) }
     ensures begun { OnErr result (take (length out.old.items) out.new.items ≡ out.old.items) }
 {
-    for record in records.as_slice() {
-        put_stored(record.as_bytes(), out)?;
+    for index in 0..records.len() {
+        put_stored(records.at(index), out)?;
     }
     put_count(b"RECORDS", records.len(), out)
 }

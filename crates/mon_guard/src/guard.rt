@@ -1,6 +1,7 @@
 //! The guard: what an account asks, done exactly where it is granted.
 ghost use Rattle.std.specs.Prelude.{◌≡◌, ◌≤◌, ◌<◌, ◌-◌, ◌^◌, ◌↔◌, [], take, length, slice_get, Some, Ok, IfOk, IfSome, OnOk, OnErr, is_some, IsSome, IsErrOf, IsOkAnd};
 ghost use Rattle.std.specs.Result.{result_map_both};
+ghost use Rattle.mon_text.specs.Lines.{IsLine};
 ghost use Rattle.mon_text.specs.Stops.{Gives, refused_as};
 ghost use Rattle.mon_acl.specs.Forms.{MayTakeMemory};
 ghost use Rattle.mon_access.specs.Matches.{is_owner};
@@ -336,10 +337,11 @@ impl Guard {
         catalogue: &'a Catalogue,
         name: &Name,
         position: u64,
-    ) -> Option<&'a Line>
+    ) -> Option<&'a [u8]>
         requires fit { RowsFit self.now catalogue.now }
         ensures record { IfSome result (λ line. acted account.now (Read position) catalogue.now name.now ≡ read_at position (Some line.now)) }
         ensures within { IfSome result (λ line. position < 2 ^ 64 - 1) }
+        ensures printable { IfSome result (λ line. IsLine line.now) }
     {
         let near = self.rows.at_hand(account, name)?;
         let set = catalogue.find_near(near.set, name)?;
@@ -348,7 +350,7 @@ impl Guard {
             .judge(near, account, name, set, to_read())
             .decision
         {
-            Decision::Granted => set.records.as_slice().get(position as usize),
+            Decision::Granted => set.records.get(position),
             Decision::Denied(_) => None,
         }
     }
@@ -499,9 +501,9 @@ fn read_at(alloc: Global, records: &Records, position: u64) -> Result<Answered, 
     ensures answer { IfOk result (λ answered. answered ≡ told position (read_at position (slice_get records.now position))) }
     ensures memory { OnErr result (IsSome (read_at position (slice_get records.now position)).position) }
 {
-    match records.as_slice().get(position as usize) {
-        Some(line) => {
-            let line = line.copy(alloc)?;
+    match records.get(position) {
+        Some(text) => {
+            let line = Line::in_room(Vec::with_capacity(alloc, text.len())?, text);
             Ok(Answered {
                 answer: Answer::Got(line),
                 position: position + 1,

@@ -1,7 +1,8 @@
 //! A job that has ended.
 
+use mon_lines::PackedLines;
 use mon_text::Name;
-use mon_unit::{Lines, Notes};
+use mon_unit::Notes;
 use sno_run::Ending;
 
 /// A job that has ended: its number and the name of its account, what it spooled, its notes, how it ended, and how many of
@@ -10,7 +11,7 @@ use sno_run::Ending;
 pub struct JobEnd {
     pub number: u64,
     pub account: Name,
-    pub spool: Lines,
+    pub spool: PackedLines,
     pub notes: Notes,
     pub ending: Ending,
     pub statements: u64,

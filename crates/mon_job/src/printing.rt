@@ -7,7 +7,8 @@ ghost use Rattle.mon_job.specs.Printouts.{job_line, act_word, target_words, exch
 use crate::job_end::JobEnd;
 use mon_command::printing::{put_number_word, put_stored, put_word};
 use mon_command::reply::put_reason;
-use mon_text::{Line, Name};
+use mon_lines::PackedLines;
+use mon_text::Name;
 use mon_unit::{Note, NoteAct, NoteTarget, Why};
 use sno_run::Ending;
 use std::alloc::AllocError;
@@ -30,7 +31,7 @@ fn put_text(end: &JobEnd, out: &mut Vec<u8>) -> Result<(), AllocError>
     ensures { OnOk result (out.new.items ≡ out.old.items ++ printout end.now) }
 {
     put_job_line(end.number, &end.account, out)?;
-    put_spool(end.spool.as_slice(), out)?;
+    put_spool(&end.spool, out)?;
     put_notes(end.notes.as_slice(), out)?;
     put_ending(end.ending, end.statements, out)
 }
@@ -44,11 +45,11 @@ pub(crate) fn put_job_line(number: u64, account: &Name, out: &mut Vec<u8>) -> Re
     put_stored(account.as_bytes(), out)
 }
 
-fn put_spool(lines: &[Line], out: &mut Vec<u8>) -> Result<(), AllocError>
+fn put_spool(lines: &PackedLines, out: &mut Vec<u8>) -> Result<(), AllocError>
     ensures { OnOk result (out.new.items ≡ out.old.items ++ flat_map stored_line lines.now) }
 {
-    for line in lines {
-        put_stored(line.as_bytes(), out)?;
+    for index in 0..lines.len() {
+        put_stored(lines.at(index), out)?;
     }
     Ok(())
 }

@@ -153,8 +153,8 @@ fn read(
         Target::Data => read_deck(alloc, units, unit, position),
         Target::Spool => units.denied(statement, NoteAct::Read, unit, Reason::SpoolUnit),
         Target::Set(name) => {
-            if let Some(line) = guard.record_at_hand(account, catalogue, name, position) {
-                let line = line.copy(alloc)?;
+            if let Some(text) = guard.record_at_hand(account, catalogue, name, position) {
+                let line = Line::in_room(Vec::with_capacity(alloc, text.len())?, text);
                 units.place(unit, position + 1);
                 return Ok(Answer::Got(line));
             }

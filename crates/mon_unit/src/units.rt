@@ -12,6 +12,7 @@ use crate::note::{Note, NoteAct, NoteTarget, Why};
 use crate::tie::{Target, Tie};
 use mon_answer::{Answer, Reason};
 use mon_guard::Answered;
+use mon_lines::PackedLines;
 use mon_text::{Line, Name};
 use std::alloc::{AllocError, Global};
 use std::marker::Model;
@@ -25,7 +26,7 @@ const TIES: u64 = 100;
 pub struct Units {
     ties: Vec<Tie>,
     deck: Lines,
-    spool: Lines,
+    spool: PackedLines,
     notes: Notes,
 }
 
@@ -71,7 +72,7 @@ impl Units {
         Ok(Units {
             ties,
             deck,
-            spool: Lines::new(alloc),
+            spool: PackedLines::new(alloc),
             notes: Notes::new(alloc),
         })
     }
@@ -101,10 +102,10 @@ impl Units {
     }
 
     /// What was spooled, in order.
-    pub fn spool(&self) -> &[Line]
+    pub fn spool(&self) -> &PackedLines
         ensures { result.now ≡ self.now.spool }
     {
-        self.spool.as_slice()
+        &self.spool
     }
 
     /// What was noted, in order.
@@ -115,7 +116,7 @@ impl Units {
     }
 
     /// What was spooled, and what was noted.
-    pub fn into_parts(self) -> (Lines, Notes)
+    pub fn into_parts(self) -> (PackedLines, Notes)
         ensures { result ≡ (self.spool, self.notes) }
     {
         (self.spool, self.notes)
@@ -165,7 +166,7 @@ impl Units {
         ensures spooled { OnOk result (self.new ≡ record self.old { spool = self.old.spool ++ line ∷ [] }) }
         ensures unchanged { OnErr result (self.new ≡ self.old) }
     {
-        self.spool.push(line)?;
+        self.spool.push(line.as_bytes())?;
         Ok(Answer::Done)
     }
 

@@ -3,7 +3,6 @@ use Rattle.std.proofs.Common.{rules, ◌≡◌, true, nat_eq, Some, option_map, 
 use Rattle.std.specs.Cmp.Lexicographic.{pointwise}
 use Rattle.std.specs.Map.{values_of}
 use Rattle.std.proofs.lemmas.Option.{slice_get-map}
-use Rattle.mon_catalogue.specs.declared.data_set.DataSet.{DataSet}
 use Rattle.mon_catalogue.proofs.Places.{place_hinted}
 use Rattle.mon_catalogue.proofs.catalogue.place_near.Goals as goal
 

@@ -5,8 +5,8 @@ use Rattle.mon_text.specs.Lines.{IsLine}
 use Rattle.mon_catalogue.specs.Text.{text_of}
 use Rattle.mon_catalogue.proofs.text.put_records.Given as goal
 
-abbrev pub invariant-loop-line : goal.invariant-loop-line
-invariant-loop-line l = record {
-  written : l.out.items ≡ l.fn.out.items ++ text_of (take l.line-index l.line-items);
-  printable : AllByRecursion IsLine (drop l.line-index l.line-items) → AllByRecursion IsLine l.line-items;
+abbrev pub invariant-loop-index : goal.invariant-loop-index
+invariant-loop-index l = record {
+  written : l.out.items ≡ l.fn.out.items ++ text_of (take l.index l.fn.records);
+  printable : AllByRecursion IsLine (drop l.index l.fn.records) → AllByRecursion IsLine l.fn.records;
 }

@@ -4,5 +4,5 @@ use Rattle.std.specs.List.{flat_map}
 use Rattle.mon_command.specs.Printouts.{stored_line}
 use Rattle.mon_command.proofs.printing.put_records.Given as goal
 
-abbrev pub invariant-loop-record : goal.invariant-loop-record
-invariant-loop-record l = l.out.items ≡ l.fn.out.items ++ flat_map stored_line (take l.record-index l.records)
+abbrev pub invariant-loop-index : goal.invariant-loop-index
+invariant-loop-index l = l.out.items ≡ l.fn.out.items ++ flat_map stored_line (take l.index l.fn.records)

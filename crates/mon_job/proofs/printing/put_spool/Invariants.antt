@@ -4,5 +4,5 @@ use Rattle.std.specs.List.{flat_map}
 use Rattle.mon_command.specs.Printouts.{stored_line}
 use Rattle.mon_job.proofs.printing.put_spool.Given as goal
 
-abbrev pub invariant-loop-line : goal.invariant-loop-line
-invariant-loop-line l = l.out.items ≡ l.fn.out.items ++ flat_map stored_line (take l.line-index l.lines)
+abbrev pub invariant-loop-index : goal.invariant-loop-index
+invariant-loop-index l = l.out.items ≡ l.fn.out.items ++ flat_map stored_line (take l.index l.fn.lines)
