@@ -9,7 +9,7 @@ ghost use Rattle.mon_access.specs.inner.Deciding.{decision_beside_owner, decisio
 
 use crate::account::Account;
 use crate::finding::{Found, of_groups, of_type, of_user, type_holds};
-use mon_acl::{Acl, Perms, Tag};
+use mon_acl::{Acl, AclIndex, Perms, Tag};
 use mon_text::Name;
 
 /// What the access check answers.
@@ -47,7 +47,7 @@ fn decided(granted: bool, decider: Decider) -> Decision
 }
 
 /// Whether groups are granted what some one of their entries holds, or what none does.
-fn is_granted_to_groups(acl: &Acl, held: bool, request: Perms) -> bool
+fn is_granted_to_groups(acl: &AclIndex, held: bool, request: Perms) -> bool
     requires { IsAcl acl.now }
     ensures { result ≡ (if list_any (has_tag tag.Mask) acl.now then some_holds (has_tag tag.Mask) acl.now request && held
         else some_holds (has_tag tag.GroupObj) acl.now request) }
@@ -60,7 +60,7 @@ fn is_granted_to_groups(acl: &Acl, held: bool, request: Perms) -> bool
 }
 
 /// What is decided of an account that is not the owner.
-fn decision_of_others(account: &Account, group: &Name, acl: &Acl, request: Perms) -> Decision
+fn decision_of_others(account: &Account, group: &Name, acl: &AclIndex, request: Perms) -> Decision
     requires { IsAcl acl.now }
     ensures { result ≡ decision_beside_owner account.now group.now acl.now request }
 {
@@ -72,7 +72,7 @@ fn decision_of_others(account: &Account, group: &Name, acl: &Acl, request: Perms
 }
 
 /// What is decided of an account that no entry names.
-fn decision_by_groups(account: &Account, group: &Name, acl: &Acl, request: Perms) -> Decision
+fn decision_by_groups(account: &Account, group: &Name, acl: &AclIndex, request: Perms) -> Decision
     requires { IsAcl acl.now }
     ensures { result ≡ decision_beside_users account.now group.now acl.now request }
 {
@@ -95,7 +95,7 @@ fn decision_by_groups(account: &Account, group: &Name, acl: &Acl, request: Perms
 pub fn check(account: &Account, owner: &Name, group: &Name, acl: &Acl, request: Perms) -> Decision
     ensures { result ≡ decision account.now owner.now group.now acl.now request }
 {
-    let _entries = acl.len();
+    let acl = &acl.index();
     if account.name == *owner {
         decided(type_holds(acl, Tag::UserObj, request), Decider::UserObj)
     } else {

@@ -6,7 +6,7 @@ ghost use Rattle.mon_access.specs.Matches.{is_in_group, is_for_user, is_for_owni
 ghost use Rattle.mon_access.specs.inner.Kinds.{found, judged, joined, is_holding, stands_at};
 
 use crate::account::Account;
-use mon_acl::{Acl, Perms, Tag};
+use mon_acl::{AclIndex, Perms, Tag};
 use mon_text::Name;
 
 /// What the entries of one kind say of a request.
@@ -33,8 +33,10 @@ impl Found {
         ensures { result ≡ joined self other }
     {
         match (self, other) {
+            // Most names have no entry.
+            (found, Found::Nobody) => found,
             (Found::Holding, _) | (_, Found::Holding) => Found::Holding,
-            (Found::Nobody, found) | (found, Found::Nobody) => found,
+            (Found::Nobody, found) => found,
             (Found::Lacking(i), Found::Lacking(j)) => Found::Lacking(i.min(j)),
         }
     }
@@ -53,7 +55,7 @@ fn judged(index: usize, perms: Perms, request: Perms) -> Found
 
 /// What the entry of a type for a name says.
 #[inline(always)]
-fn of_name(acl: &Acl, tag: Tag, name: &Name, request: Perms) -> Found
+fn of_name(acl: &AclIndex, tag: Tag, name: &Name, request: Perms) -> Found
     requires { IsCanonical acl.now }
     ensures { result ≡ found (stands_at (rank tag ∷ name.now)) acl.now request }
 {
@@ -64,7 +66,7 @@ fn of_name(acl: &Acl, tag: Tag, name: &Name, request: Perms) -> Found
 }
 
 /// What the entry of a type without names says.
-pub(crate) fn of_type(acl: &Acl, tag: Tag, request: Perms) -> Found
+pub(crate) fn of_type(acl: &AclIndex, tag: Tag, request: Perms) -> Found
     requires list { IsAcl acl.now }
     requires lone { is_qualified tag None ≡ true }
     ensures { result ≡ found (has_tag tag) acl.now request }
@@ -76,7 +78,7 @@ pub(crate) fn of_type(acl: &Acl, tag: Tag, request: Perms) -> Found
 }
 
 /// Whether the entry of a type without names holds the request.
-pub(crate) fn type_holds(acl: &Acl, tag: Tag, request: Perms) -> bool
+pub(crate) fn type_holds(acl: &AclIndex, tag: Tag, request: Perms) -> bool
     requires list { IsAcl acl.now }
     requires lone { is_qualified tag None ≡ true }
     ensures { result ≡ some_holds (has_tag tag) acl.now request }
@@ -85,7 +87,7 @@ pub(crate) fn type_holds(acl: &Acl, tag: Tag, request: Perms) -> bool
 }
 
 /// What the named user's entry says.
-pub(crate) fn of_user(acl: &Acl, account: &Account, request: Perms) -> Found
+pub(crate) fn of_user(acl: &AclIndex, account: &Account, request: Perms) -> Found
     requires { IsAcl acl.now }
     ensures { result ≡ found (is_for_user account.now) acl.now request }
 {
@@ -99,7 +101,7 @@ fn is_in_group(account: &Account, group: &Name) -> bool
 }
 
 /// What the owning group's entry says to an account.
-fn of_owning_group_to(acl: &Acl, account: &Account, group: &Name, request: Perms) -> Found
+fn of_owning_group_to(acl: &AclIndex, account: &Account, group: &Name, request: Perms) -> Found
     requires { IsAcl acl.now }
     ensures { result ≡ found (is_for_owning_group account.now group.now) acl.now request }
 {
@@ -111,7 +113,7 @@ fn of_owning_group_to(acl: &Acl, account: &Account, group: &Name, request: Perms
 }
 
 /// What the entries of the account's groups say.
-pub(crate) fn of_groups(acl: &Acl, account: &Account, group: &Name, request: Perms) -> Found
+pub(crate) fn of_groups(acl: &AclIndex, account: &Account, group: &Name, request: Perms) -> Found
     requires { IsAcl acl.now }
     ensures { result ≡ found (is_for_group account.now group.now) acl.now request }
 {

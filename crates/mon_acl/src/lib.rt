@@ -15,6 +15,6 @@ pub mod refusals;
 pub mod text;
 
 pub use entries::{Entry, Perms, Tag};
-pub use list::Acl;
+pub use list::{Acl, AclIndex};
 pub use refusals::AclError;
 pub use text::{AclText, Bytes};

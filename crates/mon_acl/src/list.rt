@@ -142,30 +142,17 @@ impl Acl {
         self.entries().get(i)
     }
 
-    /// The index of the entry of a type for a name, if there is one. It takes no memory.
+    /// The list for searches.
     #[inline(always)]
-    pub fn index_of(&self, tag: Tag, name: &Name) -> Option<usize>
-        ensures { IsIndexOf tag name.now self.now result }
+    pub fn index(&self) -> AclIndex<'_>
+        ensures value { result ≡ self.now }
+        ensures valid { IsAcl self.now }
     {
-        let keys = self.keys.as_slice();
-        index_of_name(&self.chains, keys, self.entries(), tag, name)
-    }
-
-    /// The index of the entry of a type without names, if there is one. It takes no memory.
-    #[inline(always)]
-    pub fn index_of_type(&self, tag: Tag) -> Option<usize>
-        ensures { IsIndexOf tag [] self.now result }
-    {
-        let keys = self.keys.as_slice();
-        index_of_type(&self.chains, keys, self.entries(), tag)
-    }
-
-    /// The permissions of the entry at an index.
-    pub fn perms_at(&self, index: usize) -> Perms
-        requires { index < length self.now }
-        ensures { HoldsAt (λ e. e.perms ≡ result) self.now index }
-    {
-        self.entries()[index].perms
+        AclIndex {
+            entries: self.entries.as_slice(),
+            keys: self.keys.as_slice(),
+            chains: &self.chains,
+        }
     }
 
     /// The same list once more.
@@ -187,6 +174,61 @@ impl Acl {
             keys,
             chains: self.chains,
         })
+    }
+}
+
+/// A permission list as searches read it: where its entries and their keys stand is looked at once for all of them.
+#[derive(Drop)]
+pub struct AclIndex<'a> {
+    entries: &'a [Entry],
+    keys: &'a [u64],
+    chains: &'a Chains,
+}
+
+impl<'a> Model for AclIndex<'a> {
+    ghost use Rattle.std.specs.Prelude.{◌≡◌, List, map, length};
+    ghost use Rattle.mon_acl.specs.declared.entries.Entry.{Entry};
+    ghost use Rattle.mon_acl.specs.Entries.{IsAcl};
+    ghost use Rattle.mon_acl.specs.inner.Keys.{keys_of, bucket_of};
+    ghost use Rattle.mon_acl.specs.inner.Chains.{IsChained};
+
+    ghost Value = { List Entry };
+
+    ghost view = { λ a. a.entries.now };
+
+    ghost invariant = { λ a. IsAcl a.entries.now × (a.keys.now ≡ keys_of a.entries.now) × IsChained (map bucket_of a.keys.now) (length a.keys.now) a.chains.now.first a.chains.now.next };
+}
+
+impl AclIndex<'_> {
+    // The entries in canonical order.
+    fn entries(&self) -> &[Entry]
+        ensures { result.now ≡ self.now }
+    {
+        self.entries
+    }
+
+    /// The index of the entry of a type for a name, if there is one. It takes no memory.
+    #[inline(always)]
+    pub fn index_of(&self, tag: Tag, name: &Name) -> Option<usize>
+        ensures { IsIndexOf tag name.now self.now result }
+    {
+        index_of_name(self.chains, self.keys, self.entries, tag, name)
+    }
+
+    /// The index of the entry of a type without names, if there is one. It takes no memory.
+    #[inline(always)]
+    pub fn index_of_type(&self, tag: Tag) -> Option<usize>
+        ensures { IsIndexOf tag [] self.now result }
+    {
+        index_of_type(self.chains, self.keys, self.entries, tag)
+    }
+
+    /// The permissions of the entry at an index.
+    pub fn perms_at(&self, index: usize) -> Perms
+        requires { index < length self.now }
+        ensures { HoldsAt (λ e. e.perms ≡ result) self.now index }
+    {
+        self.entries()[index].perms
     }
 }
 

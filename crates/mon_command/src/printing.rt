@@ -144,14 +144,23 @@ fn put_acl_line(entry: &Entry, mask: Option<Perms>, out: &mut Vec<u8>) -> Result
 }
 
 // Appends a data set's name, its owner, its group and the number of its records.
+#[inline(never)]
 pub(crate) fn put_name(shown: &ShownName, out: &mut Vec<u8>) -> Result<(), AllocError>
     ensures { OnOk result (out.new.items ≡ out.old.items ++ name_line shown.now) }
 {
-    put_word(shown.name.as_bytes(), out)?;
-    put_word(shown.owner.as_bytes(), out)?;
-    put_word(shown.group.as_bytes(), out)?;
-    put_number_word(shown.records, out)?;
-    out.push(b'\n')?;
+    let (name, owner, group) = (
+        shown.name.as_bytes(),
+        shown.owner.as_bytes(),
+        shown.group.as_bytes(),
+    );
+    let mut digits = Buffer::new();
+    let records = digits.format(shown.records).as_bytes();
+    out.reserve(name.len() + owner.len() + group.len() + records.len() + 5)?;
+    put_word_in_room(name, out);
+    put_word_in_room(owner, out);
+    put_word_in_room(group, out);
+    put_word_in_room(records, out);
+    out.push_reserved(b'\n');
     Ok(())
 }
 

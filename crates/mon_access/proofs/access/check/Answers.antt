@@ -9,10 +9,10 @@ pub returns-then-eq : goal.returns-then-eq
 unfolding decision
 returns-then-eq c =
     let own : is_owner c.args.account.now c.args.owner.now ≡ true = search rules in
-    rw own (c.decided.ensures ∙ ap (λ (b : Bool). if b then Granted else Denied ByUserObj) c.type_holds.ensures)
+    rw (← c.index.ensures.value, own) (c.decided.ensures ∙ ap (λ (b : Bool). if b then Granted else Denied ByUserObj) c.type_holds.ensures)
 
 pub returns-else-eq : goal.returns-else-eq
 unfolding decision
 returns-else-eq c =
     let other : is_owner c.args.account.now c.args.owner.now ≡ false = search rules in
-    rw other c.decision_of_others.ensures
+    rw (← c.index.ensures.value, other) c.decision_of_others.ensures
