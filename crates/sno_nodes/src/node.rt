@@ -1,6 +1,6 @@
 //! The nodes of patterns.
 
-use sno_text::Text;
+use sno_text::{Named, Text};
 use std::rc::Rc;
 
 /// A node of a pattern, with the parts below it. One that has parts knows how many nodes stand on the longest way down.
@@ -29,7 +29,7 @@ pub enum Node {
     /// `@` and the name of its variable.
     Cursor(Text),
     /// `*` and the name of its variable.
-    Defer(Text),
+    Defer(Named),
     Fail,
     Abort,
     Fence,

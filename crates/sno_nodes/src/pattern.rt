@@ -8,7 +8,7 @@ ghost use Rattle.sno_nodes.specs.inner.Codes.{told_depth};
 
 use crate::node::Node;
 use mon_text::Stop;
-use sno_text::{Fault, Text};
+use sno_text::{Fault, Named, Text};
 use std::alloc::{AllocError, Global};
 use std::marker::Model;
 use std::rc::Rc;
@@ -249,7 +249,7 @@ impl Pat {
     pub fn defer(alloc: Global, variable: Text) -> Result<Pat, AllocError>
         ensures { IfOk result (λ p. p ≡ pattern.Defer variable) }
     {
-        share(alloc, Node::Defer(variable))
+        share(alloc, Node::Defer(Named::new(variable, 0)))
     }
 
     /// `FAIL`.
@@ -297,6 +297,13 @@ impl Pat {
     {
         let node = self.node.clone()?;
         Ok(Pat { node })
+    }
+
+    /// The node at the top, of which this is no sharer any more.
+    pub fn into_node(self) -> Rc<Node>
+        ensures { pattern_of result.value ≡ self }
+    {
+        self.node
     }
 
     /// The node at the top.

@@ -9,8 +9,9 @@ ghost use Rattle.mon_text.specs.Beginnings.{first_passes};
 pub fn stands_first(rest: &[u8], part: &[u8]) -> bool
     ensures { result ≡ starts_with nat_eq rest.now part.now }
 {
-    match (rest.first(), part.first()) {
-        (Some(one), Some(other)) if *one != *other => false,
+    match (rest.first(), part) {
+        (Some(one), [only]) => *one == *only,
+        (Some(one), [other, ..]) if *one != *other => false,
         _ => rest.starts_with(part),
     }
 }

@@ -5,6 +5,7 @@ pub mod Exact
 mod Examples
 pub mod Finding
 pub mod Firsts
+pub mod Jumping
 pub mod Missing
 pub mod Passing
 pub mod Pushing

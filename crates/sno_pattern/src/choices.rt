@@ -1,13 +1,16 @@
 //! What comes after a goal: how goals are tried at several cursors, and how the last choice is taken.
-ghost use Rattle.std.specs.Prelude.{◌≡◌, ◌≤◌, ◌+◌, ◌-◌, ◌∷◌, List, length, IfOk};
+ghost use Rattle.std.specs.Prelude.{◌≡◌, ◌≢◌, ◌<◌, ◌≤◌, ◌+◌, ◌-◌, ◌∷◌, ℕ, List, length, slice_index, IfOk};
 ghost use Rattle.std.specs.List.{range_with_len};
 ghost use Rattle.sno_nodes.specs.Nodes.{pattern_of};
 ghost use Rattle.sno_nodes.specs.Balance.{balanced_ends};
+ghost use Rattle.sno_nodes.specs.inner.Reaching.{reached};
+ghost use Rattle.sno_nodes.specs.declared.reach.Reach.TheVariants.{Nowhere};
 ghost use Rattle.sno_pattern.specs.declared.ending.Pending.{Pending as Waits};
 ghost use Rattle.sno_pattern.specs.Steps.{Goal as Aim, Meet, Failure, ends, at_each, outcome};
 ghost use Rattle.sno_pattern.specs.inner.Stack.{waiting_of, AllWithin, Led};
 
 use crate::trail::{Kind, Role, Trail};
+use memchr::memchr;
 use sno_nodes::Node;
 use sno_nodes::reach::{misses, next_balanced};
 use sno_text::Fault;
@@ -31,6 +34,32 @@ pub(crate) enum Turn {
     Stay(Ended),
 }
 
+/// How many characters come before the first one like this.
+fn count_before(rest: &[u8], character: u8) -> usize
+    ensures within { result ≤ length rest.now }
+    ensures none { (k : ℕ) → k < result → slice_index rest.now k ≢ character }
+{
+    match memchr(character, rest) {
+        Some(place) => place,
+        None => rest.len(),
+    }
+}
+
+/// How many cursors from here on a pattern is missed at for sure, since the first character of its text stands at none of them.
+fn missed_ahead(text: &[u8], node: &Node, from: usize) -> usize
+    requires { from ≤ length text.now }
+    ensures within { from + result ≤ length text.now }
+    ensures missed { (k : ℕ) → from ≤ k → k < from + result → reached text.now (pattern_of node.now) k ≡ Nowhere }
+{
+    match node {
+        Node::Text(part) => match part.as_bytes().first() {
+            Some(first) => count_before(&text[from..], *first),
+            None => 0,
+        },
+        _ => 0,
+    }
+}
+
 /// The first cursor from here on where this pattern is not missed at once, or the last one, or where no step is left.
 fn skip_node(text: &[u8], node: &Node, from: usize, left: &mut u64) -> usize
     requires { from ≤ length text.now }
@@ -43,6 +72,9 @@ fn skip_node(text: &[u8], node: &Node, from: usize, left: &mut u64) -> usize
     while at < text.len() && steps > 0 && misses(text, node, at) {
         at += 1;
         steps -= 1;
+        let count = steps.min(missed_ahead(text, node, at) as u64);
+        at += count as usize;
+        steps -= count;
     }
     *left = steps;
     at
@@ -58,7 +90,7 @@ fn skip(text: &[u8], trail: &Trail, from: usize, left: &mut u64) -> usize
     match trail.first() {
         Some(goal) => match goal.role {
             Role::Meet => skip_node(text, &goal.node, from, left),
-            Role::More | Role::EndConditional | Role::EndImmediate => from,
+            Role::More(_) | Role::EndConditional(_) | Role::EndImmediate(_) => from,
         },
         None => from,
     }

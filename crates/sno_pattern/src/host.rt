@@ -4,7 +4,7 @@ ghost use Rattle.sno_pattern.specs.Looks.{Look, Told, LookUp, Assign};
 ghost use Rattle.sno_pattern.specs.Hosts.{WasFound, WasGiven};
 
 use sno_nodes::Pat;
-use sno_text::{Fault, Text};
+use sno_text::{Fault, Named, Text};
 
 /// What a variable stands for in a pattern.
 #[derive(Drop)]
@@ -46,7 +46,7 @@ pub trait MatchHost {
     ghost broken: { Self → Look → Self → Type 0 };
 
     /// What a variable stands for in a pattern now.
-    fn look_up(&mut self, variable: &Text) -> Result<Looked, Stop>
+    fn look_up(&mut self, variable: &Named) -> Result<Looked, Stop>
         requires { ready self.old }
         ensures told { WasFound tells broken self.old (LookUp variable.now) result self.new }
         ensures ready { ready self.new };

@@ -21,14 +21,16 @@ use std::alloc::{AllocError, Global};
 use std::rc::Rc;
 
 /// Puts a goal before the others.
-fn put(role: Role, pattern: &Rc<Node>, from: usize, trail: &mut Trail) -> Result<(), AllocError>
-    ensures { IfOk result (λ u. trail.new ≡ record { goals = goal_as role (pattern_of pattern.now.value) from ∷ trail.old.goals; waits = trail.old.waits; opens = trail.old.opens }) }
+#[inline(always)]
+fn put(role: Role, pattern: &Rc<Node>, trail: &mut Trail) -> Result<(), AllocError>
+    ensures { IfOk result (λ u. trail.new ≡ record { goals = goal_as role (pattern_of pattern.now.value) ∷ trail.old.goals; waits = trail.old.waits; opens = trail.old.opens }) }
 {
     let node = pattern.clone()?;
-    Ok(trail.push(Goal { role, node, from })?)
+    Ok(trail.push(Goal { role, node })?)
 }
 
 /// Leaves a pattern to be tried where the one before it fails.
+#[inline(always)]
 fn leave(other: &Rc<Node>, at: usize, trail: &mut Trail) -> Result<(), AllocError>
     ensures { IfOk result (λ u. trail.new ≡ record { goals = trail.old.goals; waits = trail.old.waits; opens = record { trial = Second (pattern_of other.now.value); goals = trail.old.goals; at = at; waits = trail.old.waits } ∷ trail.old.opens }) }
 {
@@ -63,7 +65,7 @@ fn descend<'a>(
                 }
                 Reach::Nowhere => node = a,
                 _ => {
-                    put(Role::Meet, b, at, trail)?;
+                    put(Role::Meet, b, trail)?;
                     node = a;
                 }
             },
@@ -78,11 +80,11 @@ fn descend<'a>(
                 }
             }
             Node::Conditional(_, p, _) => {
-                put(Role::EndConditional, node, at, trail)?;
+                put(Role::EndConditional(at), node, trail)?;
                 node = p;
             }
             Node::Immediate(_, p, _) => {
-                put(Role::EndImmediate, node, at, trail)?;
+                put(Role::EndImmediate(at), node, trail)?;
                 node = p;
             }
             _ => return Ok(Some((node, at))),

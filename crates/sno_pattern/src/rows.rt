@@ -14,6 +14,7 @@ use std::alloc::AllocError;
 use std::rc::Rc;
 
 /// The rest of the goals, and where they fail one more turn of a pattern.
+#[inline(always)]
 pub(crate) fn one_more(
     text: &[u8],
     pattern: &Rc<Node>,
@@ -26,9 +27,8 @@ pub(crate) fn one_more(
     ensures { IfOk result (λ turn. Led text.now trail.old.opens (row text.now (outcome text.now) (Meet (rows.Arbno (pattern_of pattern.now.value))) trail.old.goals at (waiting_of text.now trail.old.waits) left) left turn trail.new left) }
 {
     trail.push(Goal {
-        role: Role::More,
+        role: Role::More(at),
         node: pattern.clone()?,
-        from: at,
     })?;
     trail.leave(Kind::Second(pattern.clone()?), at)?;
     trail.pass();

@@ -13,7 +13,7 @@ use crate::host::{Looked, MatchHost, Stop, Taken};
 use crate::rows::one_more;
 use crate::trail::{Goal, Role, Trail, Waiting};
 use sno_nodes::Node;
-use sno_text::Text;
+use sno_text::{Named, Text};
 use std::alloc::{AllocError, Global};
 use std::rc::Rc;
 
@@ -41,9 +41,9 @@ fn node_found(alloc: Global, looked: Looked) -> Result<Rc<Node>, AllocError>
     ensures { IfOk result (λ node. pattern_of node.value ≡ pattern_found looked) }
 {
     match looked {
-        Looked::Pattern(pattern) => Ok(pattern.node().clone()?),
+        Looked::Pattern(pattern) => Ok(pattern.into_node()),
         Looked::Text(text) => Ok(Rc::new(alloc, Node::Text(text))?),
-        Looked::Defer(variable) => Ok(Rc::new(alloc, Node::Defer(variable))?),
+        Looked::Defer(variable) => Ok(Rc::new(alloc, Node::Defer(Named::new(variable, 0)))?),
     }
 }
 
@@ -77,7 +77,7 @@ pub(crate) fn assigned<H: MatchHost>(
 pub(crate) fn looked<H: MatchHost>(
     alloc: Global,
     text: &[u8],
-    variable: &Text,
+    variable: &Named,
     at: usize,
     trail: &mut Trail,
     left: &mut u64,
@@ -215,19 +215,19 @@ pub(crate) fn take<H: MatchHost>(
 {
     match goal.role {
         Role::Meet => Ok(Turn::Meet(goal.node, at)),
-        Role::More => match more(text, &goal.node, goal.from, at, trail, left) {
+        Role::More(from) => match more(text, &goal.node, from, at, trail, left) {
             Ok(turn) => Ok(turn),
             Err(e) => Err(e),
         },
-        Role::EndConditional => match put_by(text, &goal.node, goal.from, at, trail, left) {
+        Role::EndConditional(from) => match put_by(text, &goal.node, from, at, trail, left) {
             Ok(turn) => Ok(turn),
             Err(e) => Err(e),
         },
-        Role::EndImmediate => match assign_part(
-            alloc, text, &goal.node, goal.from, at, trail, left, host,
-        ) {
-            Ok(turn) => Ok(turn),
-            Err(e) => Err(e),
-        },
+        Role::EndImmediate(from) => {
+            match assign_part(alloc, text, &goal.node, from, at, trail, left, host) {
+                Ok(turn) => Ok(turn),
+                Err(e) => Err(e),
+            }
+        }
     }
 }

@@ -17,20 +17,19 @@ use std::rc::Rc;
 pub(crate) enum Role {
     /// It is met.
     Meet,
-    /// Another turn of it in ARBNO, if the last one moved on.
-    More,
-    /// What its part matched waits to be assigned to its variable.
-    EndConditional,
-    /// What its part matched is assigned to its variable now.
-    EndImmediate,
+    /// Another turn of it in ARBNO, if the last one, from this cursor on, moved on.
+    More(usize),
+    /// What its part matched from this cursor on waits to be assigned to its variable.
+    EndConditional(usize),
+    /// What its part matched from this cursor on is assigned to its variable now.
+    EndImmediate(usize),
 }
 
-/// What is still to be met: a pattern, what is to be done about it, and from which cursor its part or its last turn began.
+/// What is still to be met: a pattern, and what is to be done about it.
 #[derive(Drop)]
 pub(crate) struct Goal {
     pub(crate) role: Role,
     pub(crate) node: Rc<Node>,
-    pub(crate) from: usize,
 }
 
 /// An assignment that waits: a variable, and the two cursors between which its text stands.
@@ -105,11 +104,8 @@ impl Goal {
         ensures { IfOk result (λ g. goal_of g ≡ goal_of self.now) }
     {
         let node = self.node.clone()?;
-        Ok(Goal {
-            role: self.role,
-            node,
-            from: self.from,
-        })
+        let role = self.role;
+        Ok(Goal { role, node })
     }
 }
 
@@ -227,6 +223,7 @@ impl Trail {
     }
 
     /// Goes back to the last choice, if one is open, and takes it off. It tells how its goals are tried, and from which cursor.
+    #[inline(always)]
     pub(crate) fn back(&mut self) -> Option<(Kind, usize)>
         ensures { MatchOption result ((self.old.opens ≡ []) × (self.new.opens ≡ [])) (λ left. self.old.opens ≡ record { trial = trial_of left.0; goals = self.new.goals; at = left.1; waits = self.new.waits } ∷ self.new.opens) }
     {

@@ -6,7 +6,7 @@
 //! two cursors with the assignments that are left to be made, `none` or `fault`.
 use mon_text::read_line;
 use sno_pattern::{Looked, MatchEnd, MatchHost, Pat, Stop, Taken, matches};
-use sno_text::{Fault, Text};
+use sno_text::{Fault, Named, Text};
 use std::alloc::Global;
 
 /// A pattern, a text, how many steps the match takes, and what is told.
@@ -305,11 +305,11 @@ impl MatchHost for Script {
 
     ghost broken = { λ s q t. Unit {0} };
 
-    fn look_up(&mut self, variable: &Text) -> Result<Looked, Stop> {
+    fn look_up(&mut self, variable: &Named) -> Result<Looked, Stop> {
         self.takes(b"?".as_slice());
-        self.takes(variable.as_bytes());
+        self.takes(variable.text().as_bytes());
         self.takes(b" ".as_slice());
-        match variable.as_bytes().first() {
+        match variable.text().as_bytes().first() {
             Some(b'P') => text_found(&self.letter),
             Some(b'Q') => name_found(&self.name),
             Some(b'L') => pattern_found(&self.list),

@@ -28,14 +28,14 @@ variable_in (pattern.Conditional a v) = v
 variable_in (pattern.Immediate a v) = v
 variable_in _ = []
 
-abbrev pub goal_as : Role → Pattern → ℕ → Goal
-goal_as role.Meet p c = Meet p
-goal_as role.More p c = More p c
-goal_as role.EndConditional p c = EndConditional (variable_in p) c
-goal_as role.EndImmediate p c = EndImmediate (variable_in p) c
+abbrev pub goal_as : Role → Pattern → Goal
+goal_as role.Meet p = Meet p
+goal_as (role.More c) p = More p c
+goal_as (role.EndConditional c) p = EndConditional (variable_in p) c
+goal_as (role.EndImmediate c) p = EndImmediate (variable_in p) c
 
 abbrev pub goal_of : AGoal → Goal
-goal_of g = goal_as g.role (pattern_of g.node.value) g.from
+goal_of g = goal_as g.role (pattern_of g.node.value)
 
 -- how goals are tried that a choice leaves: with a pattern before them, at one cursor after another, or not at all
 pub data Trial : Type 0 where

@@ -1,7 +1,7 @@
 use Rattle.sno_pattern.specs.Looks.{LookUp}
 use Rattle.sno_keeping.specs.Matching.{looked_at}
 use Rattle.sno_keeping.proofs.Looking.{value_is, found_at_once}
-use Rattle.sno_keeping.proofs.host.look_up_named.Goals as goal
+use Rattle.sno_keeping.proofs.host.look_up.Goals as goal
 
 pub returns-in-Plain-clause-told : goal.returns-in-Plain-clause-told
 returns-in-Plain-clause-told g c =
