@@ -8,14 +8,14 @@ ghost use Rattle.indexmap.specs.IndexMap.{insert_entry};
 use crate::callee::{Callee, is_built_in};
 use indexmap::IndexMap;
 use sno_prototype::Function;
-use sno_text::{Named, Text};
+use sno_text::{Name, Named};
 use std::alloc::{AllocError, Global};
 use std::marker::Model;
 
 /// The functions of a job by their names.
 #[derive(Drop)]
 pub struct Functions {
-    functions: IndexMap<Text, Function>,
+    functions: IndexMap<Name, Function>,
     // Whether one of them has a name that no program has to define.
     overrides: bool,
 }
@@ -50,7 +50,7 @@ impl Functions {
     fn get_named(&self, name: &Named) -> Option<&Function>
         ensures { option_copied result ≡ lookup (pointwise nat_eq name.now) self.now }
     {
-        match self.functions.get_full(name.text()) {
+        match self.functions.get_full(name.name()) {
             Some((place, _, function)) => {
                 name.stands_at(place);
                 Some(function)
@@ -65,7 +65,7 @@ impl Functions {
     {
         match self.functions.get_index(name.place()) {
             Some((key, function)) => {
-                if key == name.text() {
+                if key == name.name() {
                     Some(function)
                 } else {
                     self.get_named(name)
@@ -92,11 +92,11 @@ impl Functions {
     ///
     /// Where a growth was refused; nothing has changed then.
     #[tactic(auto, using(crate::proofs::Defining::defining))]
-    pub fn define(&mut self, name: Text, function: Function) -> Result<(), AllocError>
+    pub fn define(&mut self, name: Name, function: Function) -> Result<(), AllocError>
         ensures defined { OnOk result (self.new ≡ insert_entry (pointwise nat_eq) self.old name function) }
         ensures unchanged { OnErr result (self.new ≡ self.old) }
     {
-        let overrides = self.overrides | is_built_in(name.as_bytes());
+        let overrides = self.overrides | is_built_in(name.text().as_bytes());
         match self.functions.insert(name, function) {
             Ok(_) => {
                 self.overrides = overrides;

@@ -1,3 +1,4 @@
 pub mod Printable
 pub mod Repeating
 mod Trimming
+pub mod Words

@@ -1,5 +1,5 @@
 -- What is made of texts. A text is seen as the list of its characters.
-use Rattle.std.specs.Prelude.{ℕ, zero, suc, List, [], ◌∷◌, ◌++◌, if◌then◌else◌}
+use Rattle.std.specs.Prelude.{ℕ, List, [], ◌∷◌, if◌then◌else◌}
 use Rattle.mon_text.specs.Characters.{is_blank}
 
 -- a character before a text that has no blanks at its end

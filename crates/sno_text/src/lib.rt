@@ -6,5 +6,5 @@ pub mod named;
 pub mod text;
 
 pub use fault::Fault;
-pub use named::Named;
+pub use named::{Name, Named};
 pub use text::{Text, without_trailing_blanks};

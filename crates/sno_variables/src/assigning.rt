@@ -11,15 +11,15 @@ use crate::recent::Recent;
 use crate::variable::Variable;
 use indexmap::IndexMap;
 use sno_prototype::Bindings;
-use sno_text::{Named, Text};
+use sno_text::{Name, Named, Text};
 use sno_value::Value;
 
 /// The place of a name, which is told it, and so are names like it that will be formed.
 #[inline(never)]
-fn place_told(variables: &IndexMap<Text, Variable>, recent: &Recent, name: &Named) -> Option<usize>
+fn place_told(variables: &IndexMap<Name, Variable>, recent: &Recent, name: &Named) -> Option<usize>
     ensures { result ≡ position (pointwise nat_eq name.now) (keys_of variables.now.entries) }
 {
-    match variables.get_index_of(name.text()) {
+    match variables.get_index_of(name.name()) {
         Some(place) => {
             name.stands_at(place);
             recent.found_at(name.text().as_bytes(), place);
@@ -31,14 +31,14 @@ fn place_told(variables: &IndexMap<Text, Variable>, recent: &Recent, name: &Name
 
 /// The place of a name, which is looked for where one like it was found last.
 #[inline(never)]
-fn place_named(variables: &IndexMap<Text, Variable>, recent: &Recent, name: &Named) -> Option<usize>
+fn place_named(variables: &IndexMap<Name, Variable>, recent: &Recent, name: &Named) -> Option<usize>
     requires { AreDistinct variables.now.entries }
     ensures { result ≡ position (pointwise nat_eq name.now) (keys_of variables.now.entries) }
 {
     let hint = recent.place(name.text().as_bytes());
     match variables.get_index(hint) {
         Some((key, _)) => {
-            if name.text() == key {
+            if name.name() == key {
                 name.stands_at(hint);
                 Some(hint)
             } else {
@@ -52,7 +52,7 @@ fn place_named(variables: &IndexMap<Text, Variable>, recent: &Recent, name: &Nam
 /// The place of a name, which is looked for at its hint first.
 #[inline(always)]
 pub(crate) fn place_of(
-    variables: &IndexMap<Text, Variable>,
+    variables: &IndexMap<Name, Variable>,
     recent: &Recent,
     name: &Named,
 ) -> Option<usize>
@@ -62,7 +62,7 @@ pub(crate) fn place_of(
     let hint = name.place();
     match variables.get_index(hint) {
         Some((key, _)) => {
-            if name.text() == key {
+            if name.name() == key {
                 Some(hint)
             } else {
                 place_named(variables, recent, name)
@@ -72,9 +72,27 @@ pub(crate) fn place_of(
     }
 }
 
+/// The place of a text, where no further name can share it: each name is compared with it.
+#[inline(never)]
+fn place_among(variables: &IndexMap<Name, Variable>, name: &Text) -> Option<usize>
+    ensures { result ≡ position (pointwise nat_eq name.now) (keys_of variables.now.entries) }
+{
+    variables.keys().position(|key| name == key.text())
+}
+
+/// The place of a text. It takes no memory.
+pub(crate) fn place_of_text(variables: &IndexMap<Name, Variable>, name: &Text) -> Option<usize>
+    ensures { result ≡ position (pointwise nat_eq name.now) (keys_of variables.now.entries) }
+{
+    match name.copy() {
+        Ok(text) => variables.get_index_of(&Name::new(text)),
+        Err(_) => place_among(variables, name),
+    }
+}
+
 /// Gives a variable a value, where there is room for one more.
 #[tactic(auto, using(crate::proofs::Written::assigning))]
-fn assign_one(variables: &mut IndexMap<Text, Variable>, recent: &Recent, name: Named, value: Value)
+fn assign_one(variables: &mut IndexMap<Name, Variable>, recent: &Recent, name: Named, value: Value)
     requires distinct { AreDistinct variables.old.entries }
     requires room { 0 < spare variables.old }
     ensures given { variables.new.entries ≡ given name value variables.old.entries }
@@ -88,14 +106,14 @@ fn assign_one(variables: &mut IndexMap<Text, Variable>, recent: &Recent, name: N
             }
         }
         None => {
-            let _inserted = variables.insert(name.into_text(), Variable::holding(value));
+            let _inserted = variables.insert(name.into_name(), Variable::holding(value));
         }
     }
 }
 
 /// Gives each variable its value, where there is room for as many.
 pub(crate) fn assign_all(
-    variables: &mut IndexMap<Text, Variable>,
+    variables: &mut IndexMap<Name, Variable>,
     recent: &Recent,
     bindings: Bindings,
 )

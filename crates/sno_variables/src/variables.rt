@@ -13,13 +13,13 @@ ghost use Rattle.sno_variables.specs.Bindings.{paired};
 ghost use Rattle.sno_variables.specs.Bindings.{assigned};
 ghost use Rattle.sno_variables.specs.inner.Exchanging.{values_now};
 
-use crate::assigning::{assign_all, place_of};
+use crate::assigning::{assign_all, place_of, place_of_text};
 use crate::exchanging::{exchange_known, take_back};
 use crate::recent::Recent;
 use crate::variable::{Found, Variable};
 use indexmap::IndexMap;
 use sno_prototype::{Bindings, Input, Output, Prototype};
-use sno_text::{Named, Text};
+use sno_text::{Name, Named, Text};
 use sno_value::Value;
 use std::alloc::{AllocError, Global};
 use std::marker::Model;
@@ -28,7 +28,7 @@ use std::mem;
 /// Variables in the order in which they were first named, no two of one name. None is ever taken out, so that a place stays.
 #[derive(Drop)]
 pub struct Variables {
-    variables: IndexMap<Text, Variable>,
+    variables: IndexMap<Name, Variable>,
     recent: Recent,
 }
 
@@ -64,7 +64,7 @@ impl Variables {
     fn find_told(&self, name: &Named) -> Option<&Variable>
         ensures { option_copied result ≡ lookup (pointwise nat_eq name.now) self.now }
     {
-        match self.variables.get_full(name.text()) {
+        match self.variables.get_full(name.name()) {
             Some((place, _, variable)) => {
                 name.stands_at(place);
                 self.recent.found_at(name.text().as_bytes(), place);
@@ -82,7 +82,7 @@ impl Variables {
         let hint = self.recent.place(name.text().as_bytes());
         match self.variables.get_index(hint) {
             Some((key, variable)) => {
-                if key == name.text() {
+                if key == name.name() {
                     name.stands_at(hint);
                     Some(variable)
                 } else {
@@ -99,7 +99,7 @@ impl Variables {
     {
         match self.variables.get_index(name.place()) {
             Some((key, variable)) => {
-                if key == name.text() {
+                if key == name.name() {
                     Some(variable)
                 } else {
                     self.find_named(name)
@@ -152,7 +152,7 @@ impl Variables {
         ensures* lends { sem 𝓛 (LendsVariable self.entry name.now result) }
         ensures found { option_copied_mut result ≡ lookup (pointwise nat_eq name.now) self.old }
     {
-        let place = self.variables.get_index_of(name)?;
+        let place = place_of_text(&self.variables, name)?;
         self.variables.get_index_mut(place)
     }
 
@@ -160,8 +160,8 @@ impl Variables {
         ensures put { OnOk result (self.new ≡ put name.now variable self.old) }
         ensures unchanged { OnErr result (self.new ≡ self.old) }
     {
-        let name = name.copy()?;
-        match self.variables.insert(name, variable) {
+        let text = name.copy()?;
+        match self.variables.insert(Name::new(text), variable) {
             Ok(_) => Ok(()),
             Err(_) => Err(AllocError),
         }
@@ -285,10 +285,11 @@ impl Variables {
         ensures unchanged { OnErr result (self.new ≡ self.old) }
         ensures memory { OnErr result (is_named name self.old ≡ false) }
     {
-        if let Some(place) = self.variables.get_index_of(&name) {
-            return Ok(Named::new(name, place));
-        }
         let named = Named::new(name, self.variables.len());
+        if let Some(place) = self.variables.get_index_of(named.name()) {
+            named.stands_at(place);
+            return Ok(named);
+        }
         self.put(named.text(), Variable::holding(Value::null()))?;
         Ok(named)
     }
