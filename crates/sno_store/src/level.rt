@@ -148,7 +148,9 @@ impl Levels {
         match self.spares.pop() {
             Some(values) => {
                 let mut values = values;
-                values.clear();
+                if !values.is_empty() {
+                    values.clear();
+                }
                 values
             }
             None => Vec::new(alloc),

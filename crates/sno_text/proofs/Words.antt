@@ -61,3 +61,7 @@ told_more (c ∷ cs) zero (suc (suc next)) e h = absurd (omega arith)
 pub told_none : (text : List ℕ) → told (drop (length text) text) ≡ 1
 told_none [] = refl
 told_none (c ∷ cs) = told_none cs
+
+-- one word tells one text
+pub told_same : (cs ds : List ℕ) (v w : ℕ) → IsLine cs → IsLine ds → Tells v cs → Tells w ds → v ≡ w → v ≢ 0 → true ≡ pointwise nat_eq cs ds
+told_same cs ds v w h k tells told_too one some = sym (equals v w one) ∙ told_alike cs ds v w h k tells told_too some (λ none. some (one ∙ none))

@@ -108,13 +108,19 @@ impl PartialEq for Name {
 
     #[inline(always)]
     fn eq(&self, other: &Self) -> bool {
+        if self.word == other.word {
+            if self.word == 0 {
+                return same_text(&self.text, &other.text);
+            }
+            return true;
+        }
         if self.word == 0 {
             return same_text(&self.text, &other.text);
         }
         if other.word == 0 {
             return same_text(&self.text, &other.text);
         }
-        self.word == other.word
+        false
     }
 }
 

@@ -94,6 +94,7 @@ impl Variables {
     }
 
     /// The variable of a name, which is looked for at its place first.
+    #[inline(always)]
     fn find(&self, name: &Named) -> Option<&Variable>
         ensures { option_copied result ≡ lookup (pointwise nat_eq name.now) self.now }
     {
@@ -110,6 +111,7 @@ impl Variables {
     }
 
     /// What using a variable meets.
+    #[inline(always)]
     pub fn found(&self, name: &Named) -> Found<'_>
         ensures { seen result ≡ use_of (variable_of name.now self.now) }
     {
@@ -137,6 +139,7 @@ impl Variables {
     }
 
     /// A variable that was named before, to be changed. It takes no memory.
+    #[inline(always)]
     #[tactic(auto, using(crate::proofs::Places::lending))]
     fn find_mut(&mut self, name: &Named) -> Option<&mut Variable>
         ensures* lends { sem 𝓛 (LendsVariable self.entry name.now result) }
@@ -189,6 +192,7 @@ impl Variables {
 
     /// Exchanges the value of a variable for another, where it was named before and is not to be written, and tells whether so
     /// it is. Otherwise nothing has changed. It takes no memory.
+    #[inline(never)]
     #[tactic(auto, using(crate::proofs::Changing::giving, crate::proofs::Changing::put_back))]
     pub fn replace(&mut self, name: &Named, value: &mut Value) -> bool
         ensures given { result ≡ true → self.new ≡ given name.now value.old self.old }
