@@ -56,6 +56,7 @@ pub fn put_number_word(value: u64, out: &mut Vec<u8>) -> Result<(), AllocError>
 /// # Errors
 ///
 /// Where a growth was refused; nothing was appended then.
+#[inline(always)]
 pub fn put_stored(text: &[u8], out: &mut Vec<u8>) -> Result<(), AllocError>
     ensures appended { OnOk result (out.new.items ≡ out.old.items ++ stored_line text.now) }
     ensures unchanged { OnErr result (out.new.items ≡ out.old.items) }
@@ -67,6 +68,7 @@ pub fn put_stored(text: &[u8], out: &mut Vec<u8>) -> Result<(), AllocError>
 }
 
 // Appends how many there were.
+#[inline(always)]
 pub(crate) fn put_count(what: &[u8], value: u64, out: &mut Vec<u8>) -> Result<(), AllocError>
     ensures appended { OnOk result (out.new.items ≡ out.old.items ++ count_line what.now value) }
     ensures unchanged { OnErr result (out.new.items ≡ out.old.items) }
@@ -81,6 +83,7 @@ pub(crate) fn put_count(what: &[u8], value: u64, out: &mut Vec<u8>) -> Result<()
 }
 
 // Appends records, and how many they are.
+#[inline(always)]
 pub(crate) fn put_records(records: &Records, out: &mut Vec<u8>) -> Result<(), AllocError>
     ensures appended { OnOk result (out.new.items ≡ out.old.items ++ records_text records.now) }
     ensures begun { OnErr result (take (length out.old.items) out.new.items ≡ out.old.items) }
@@ -165,6 +168,7 @@ pub(crate) fn put_name(shown: &ShownName, out: &mut Vec<u8>) -> Result<(), Alloc
 }
 
 // Appends a command's own line: the card's word, an account and a data set.
+#[inline(always)]
 pub(crate) fn put_card(
     card: &[u8],
     account: &Name,
