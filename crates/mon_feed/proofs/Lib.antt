@@ -5,3 +5,4 @@ pub mod Telling
 pub mod Beginnings
 pub mod Parts
 pub mod Pieces
+pub mod CardWords

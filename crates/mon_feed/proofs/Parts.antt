@@ -1,10 +1,10 @@
 -- A part of a piece, up to its first line end.
-use Rattle.std.proofs.Common.{◌≡◌, ℕ, suc, ◌+◌, ◌<◌, ◌≤◌, ◌==◌, ◌&&◌, ◌||◌, Bool, true, false, cond, not, inl, inr, List, [], ◌∷◌, ◌++◌, length, take, drop, Some, None, position, nat_lt, refl, sym, ap, subst, ◌∙◌, arith, append_assoc, length-append}
+use Rattle.std.proofs.Common.{◌≡◌, ℕ, suc, ◌+◌, ◌<◌, ◌≤◌, ◌==◌, ◌&&◌, ◌||◌, Bool, true, false, cond, not, inl, inr, List, [], ◌∷◌, ◌++◌, length, take, drop, Some, None, refl, sym, ap, subst, ◌∙◌, arith, append_assoc, length-append, length-take, Result, Ok, Err, IfOk}
 use borrow.Author.Tests.{ne_eqb}
 use Rattle.std.specs.List.{position_or_len, list_any}
 use Rattle.std.specs.Str.Lines.{lines, strip_carriage_return}
 use Rattle.std.proofs.lemmas.Bool.Decides.{nat_tests}
-use Rattle.std.proofs.lemmas.List.{drop_all, take-append-drop}
+use Rattle.std.proofs.lemmas.List.{drop_all, take_all, take-append-drop}
 use Rattle.std.proofs.lemmas.List.Folds.{list_all-append}
 use Rattle.mon_text.specs.Feeding.{has_no_end, taken_of, Alike, Takes}
 use Rattle.mon_text.proofs.Cutting.{line_ends, last_line}
@@ -36,24 +36,6 @@ taken_here x xs e = let place = here x xs e in grind (arith, nat_tests, place)
 is_ten : (x : ℕ) → not (is_line_feed x) ≡ false → x ≡ 10
 is_ten x e = grind (arith, nat_tests, e)
 
--- what a search for the first LF found
-pub taken_found : (piece : List ℕ) (end : ℕ) → position is_line_feed piece ≡ Some end → end + 1 ≡ taken_of piece
-taken_found piece end found = by (nat_lt (position_or_len is_line_feed piece) (length piece)) refl
-  where
-    by : (b : Bool) → nat_lt (position_or_len is_line_feed piece) (length piece) ≡ b → end + 1 ≡ taken_of piece
-    by true below =
-        let same : Some (position_or_len is_line_feed piece) ≡ Some end = sym (ap (λ b. cond b (Some (position_or_len is_line_feed piece)) None) below) ∙ found in
-        let place : position_or_len is_line_feed piece ≡ end = cc in
-        grind (arith, nat_tests, place, below)
-    by false past = let none : None ≡ Some end = sym (ap (λ b. cond b (Some (position_or_len is_line_feed piece)) None) past) ∙ found in cc
-
-pub taken_all : (piece : List ℕ) → position is_line_feed piece ≡ None → length piece ≡ taken_of piece
-taken_all piece none = by (nat_lt (position_or_len is_line_feed piece) (length piece)) refl
-  where
-    by : (b : Bool) → nat_lt (position_or_len is_line_feed piece) (length piece) ≡ b → length piece ≡ taken_of piece
-    by true below = let some : Some (position_or_len is_line_feed piece) ≡ None = sym (ap (λ b. cond b (Some (position_or_len is_line_feed piece)) None) below) ∙ none in cc
-    by false past = grind (arith, nat_tests, past)
-
 -- the part has no line end, or one where it ends
 pub data Part (part : List ℕ) : Type 0 where
   Open : has_no_end part ≡ true → Part part
@@ -70,23 +52,6 @@ parted (x ∷ xs) = by (not (is_line_feed x)) refl (parted xs)
     by : (b : Bool) → not (is_line_feed x) ≡ b → Part (take (taken_of xs) xs) → Part (take (taken_of (x ∷ xs)) (x ∷ xs))
     by true e rest = subst (λ (k : ℕ). Part (take k (x ∷ xs))) (sym (taken_on x xs e)) (more e (take (taken_of xs) xs) rest)
     by false e rest = subst (λ (k : ℕ). Part (take k (x ∷ xs))) (sym (taken_here x xs e)) (Ended [] (ap (λ c. c ∷ []) (is_ten x e)) refl)
-
--- all of it is taken
-pub taken_whole : (piece : List ℕ) → taken_of (take (taken_of piece) piece) ≡ length (take (taken_of piece) piece)
-taken_whole [] = refl
-taken_whole (x ∷ xs) = by (not (is_line_feed x)) refl (taken_whole xs)
-  where
-    by : (b : Bool) → not (is_line_feed x) ≡ b → taken_of (take (taken_of xs) xs) ≡ length (take (taken_of xs) xs)
-        → taken_of (take (taken_of (x ∷ xs)) (x ∷ xs)) ≡ length (take (taken_of (x ∷ xs)) (x ∷ xs))
-    by true e rest = subst (λ (k : ℕ). taken_of (take k (x ∷ xs)) ≡ length (take k (x ∷ xs))) (sym (taken_on x xs e)) (taken_on x (take (taken_of xs) xs) e ∙ ap suc rest)
-    by false e rest = subst (λ (k : ℕ). taken_of (take k (x ∷ xs)) ≡ length (take k (x ∷ xs))) (sym (taken_here x xs e)) (taken_here x [] e)
-
--- nothing is left of a part behind what is taken of it
-pub nothing_left : (piece : List ℕ) (u k : ℕ) → u ≡ taken_of piece → k ≡ taken_of (take u piece) → drop k (take u piece) ≡ []
-nothing_left piece u k is taken =
-    let part = take u piece in
-    let all : taken_of part ≡ length part = subst (λ (v : ℕ). taken_of (take v piece) ≡ length (take v piece)) (sym is) (taken_whole piece) in
-    drop_all k part (omega (arith, taken, all))
 
 -- a part, and what follows it
 pub rejoined : (u : ℕ) (piece bytes : List ℕ) → take u piece ++ (drop u piece ++ bytes) ≡ piece ++ bytes
@@ -144,6 +109,81 @@ none_at_all part open_part taken after same = omega (arith, none_ended part open
 
 open_both : (u v : List ℕ) → has_no_end u ≡ true → has_no_end v ≡ true → has_no_end (u ++ v) ≡ true
 open_both u v a b = list_all-append (λ b. not (is_line_feed b)) u v ∙ ap (λ x. x && has_no_end v) a ∙ b
+
+-- where no line ends in it, the part is all of the piece
+open_all : (piece : List ℕ) → has_no_end (take (taken_of piece) piece) ≡ true → take (taken_of piece) piece ≡ piece
+open_all [] e = refl
+open_all (x ∷ xs) e = by (not (is_line_feed x)) refl (open_all xs)
+  where
+    by : (b : Bool) → not (is_line_feed x) ≡ b → (has_no_end (take (taken_of xs) xs) ≡ true → take (taken_of xs) xs ≡ xs) → take (taken_of (x ∷ xs)) (x ∷ xs) ≡ x ∷ xs
+    by true is rest =
+        let more : has_no_end (x ∷ take (taken_of xs) xs) ≡ true = ap (λ (k : ℕ). has_no_end (take k (x ∷ xs))) (sym (taken_on x xs is)) ∙ e in
+        let left : has_no_end (take (taken_of xs) xs) ≡ true = ap (λ b. b && has_no_end (take (taken_of xs) xs)) (sym is) ∙ more in
+        ap (λ (k : ℕ). take k (x ∷ xs)) (taken_on x xs is) ∙ ap (λ (v : List ℕ). x ∷ v) (rest left)
+    by false is rest =
+        let more : has_no_end (x ∷ []) ≡ true = ap (λ (k : ℕ). has_no_end (take k (x ∷ xs))) (sym (taken_here x xs is)) ∙ e in
+        let no : false ≡ true = ap (λ b. b && true) (sym is) ∙ more in
+        cc
+
+-- what was taken of a piece is what is taken of its part up to the line end
+pub takes_part : (old piece line new : List ℕ) (used : ℕ) → has_no_end old ≡ true → used ≡ taken_of piece → Takes old piece used (Some line) new → Takes old (take used piece) used (Some line) new
+takes_part old piece line new used open_old is taken = by (parted_at piece used is)
+  where
+    rest : List ℕ
+    rest = drop used piece ++ []
+
+    all : length (take used piece) ≡ used
+    all = let within = taken.1 in omega (arith, within, length-take used piece)
+
+    first : (front : List ℕ) → take used piece ≡ front ++ 10 ∷ [] → has_no_end front ≡ true → (bytes : List ℕ) → lines (old ++ (take used piece ++ bytes)) ≡ strip_carriage_return (old ++ front) ∷ lines bytes
+    first front are open_front bytes =
+        ap (λ v. lines (old ++ (v ++ bytes))) are
+        ∙ ap (λ v. lines (old ++ v)) (append_assoc front (10 ∷ []) bytes)
+        ∙ ap lines (sym (append_assoc old front (10 ∷ bytes)))
+        ∙ line_ends (old ++ front) bytes (list_all-append (λ b. not (is_line_feed b)) old front ∙ ap (λ x. x && has_no_end front) open_old ∙ open_front)
+
+    told : (front : List ℕ) → take used piece ≡ front ++ 10 ∷ [] → has_no_end front ≡ true → Alike (line ∷ lines rest) (strip_carriage_return (old ++ front) ∷ lines rest)
+    told front are open_front =
+        subst (λ (ls : List (List ℕ)). Alike (line ∷ lines rest) ls)
+        (ap (λ v. lines (old ++ v)) (sym (rejoined used piece [])) ∙ first front are open_front rest)
+        (taken.3 [])
+
+    same : (front : List ℕ) → Alike (line ∷ lines rest) (strip_carriage_return (old ++ front) ∷ lines rest) → (more : List ℕ) → Alike (line ∷ lines more) (strip_carriage_return (old ++ front) ∷ lines more)
+    same front (inl e) more = let one : line ≡ strip_carriage_return (old ++ front) = cc in inl (ap (λ v. v ∷ lines more) one)
+    same front (inr long) more = inr long
+
+    none : drop used (take used piece) ≡ []
+    none = drop_all used (take used piece) (omega (arith, all))
+
+    by : Part (take used piece) → Takes old (take used piece) used (Some line) new
+    by (Open open_part) =
+        subst (λ (v : List ℕ). Takes old v used (Some line) new)
+        (sym (ap (λ (k : ℕ). take k piece) is ∙ open_all piece (ap (λ (k : ℕ). has_no_end (take k piece)) (sym is) ∙ open_part))) taken
+    by (Ended front are open_front) = (
+      taken.0,
+      omega (arith, all),
+      taken.2,
+      λ more.
+          subst (λ (v : List ℕ). Alike (line ∷ lines (v ++ more)) (lines (old ++ (take used piece ++ more)))) (sym none)
+          (subst (λ (ls : List (List ℕ)). Alike (line ∷ lines more) ls) (sym (first front are open_front more))
+          (same front (told front are open_front) more)),
+    )
+
+pub all_taken : (piece : List ℕ) (used : ℕ) → used ≡ length piece → take used piece ≡ piece
+all_taken piece used is = take_all used piece (omega (arith, is))
+
+-- nothing is left of a part behind what was taken of it
+pub nothing_behind : (piece : List ℕ) (used : ℕ) → used ≤ length piece → drop used (take used piece) ≡ []
+nothing_behind piece used within = drop_all used (take used piece) (omega (arith, within, length-take used piece))
+
+-- how many bytes are taken of a piece that has some
+pub some_used : (piece : List ℕ) (used : ℕ) → 0 < length piece → used ≡ taken_of piece → (0 < used) × (used ≤ length piece)
+some_used piece used full is = (grind (arith, nat_tests, full, is), grind (arith, nat_tests, full, is))
+
+pub some_taken : {A E : Type 0} (result : Result (ℕ × A) E) (piece : List ℕ) → 0 < length piece → IfOk result (λ taken. taken.0 ≡ taken_of piece)
+    → IfOk result (λ taken. (0 < taken.0) × (taken.0 ≤ length piece))
+some_taken (Ok taken) piece full is = some_used piece taken.0 full is
+some_taken (Err e) piece full is = tt
 
 -- a line has ended, and what was taken told none: then it is longer than any may be
 module _ (options : Options) (jobs : ℕ) (m : Marks) (stage : Stage) (n : ℕ) (old front new : List ℕ) (used : ℕ)

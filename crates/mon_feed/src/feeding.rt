@@ -3,7 +3,8 @@ ghost use Rattle.std.specs.Prelude.{◌≡◌, ℕ, List, ◌+◌, ◌-◌, ◌<
 ghost use Rattle.std.specs.Str.Lines.{lines};
 ghost use Rattle.mon_catalogue.specs.Sets.{Sets};
 ghost use Rattle.mon_slots.specs.Marks.{Marks};
-ghost use Rattle.mon_text.specs.Feeding.{taken_of};
+ghost use Rattle.std.specs.Option.{option_map};
+ghost use Rattle.mon_text.specs.Feeding.{taken_of, has_no_end, text_of, Takes};
 ghost use Rattle.mon_cards.specs.declared.code.Code.{Code as AnyCode};
 ghost use Rattle.mon_cards.specs.Sections.{deck_of};
 ghost use Rattle.mon_feed.specs.declared.options.Options.{Options as AnyOptions};
@@ -20,8 +21,8 @@ use crate::feed::DeckFeed;
 use crate::options::{Counts, Options};
 use crate::stage::{Stage, State};
 use mon_cards::Code;
-use mon_text::{LineFeed, Stop, first_line_end};
-use std::alloc::Global;
+use mon_text::{EndedLine, LineFeed, Stop};
+use std::alloc::{AllocError, Global};
 
 impl DeckFeed {
     /// The start of a deck.
@@ -149,11 +150,9 @@ impl DeckFeed {
             }
             State::Reading(_) => {}
         }
-        let used = to_line_end(piece);
-        let part = &piece[..used];
-        match self.line.take(part) {
+        match take_part(&mut self.line, piece) {
             Err(_) => Err(self.run_short()),
-            Ok((_, Some(line))) => {
+            Ok((used, Some(line))) => {
                 self.fed += used as u64;
                 match self.take_line(alloc, line.text(), out) {
                     Ok(()) => {
@@ -163,10 +162,10 @@ impl DeckFeed {
                     Err(error) => Err(error),
                 }
             }
-            Ok((_, None)) => {
+            Ok((used, None)) => {
                 self.fed += used as u64;
                 // A line that is longer than any may be need not be told by itself.
-                if part.contains(&b'\n') {
+                if piece.contains(&b'\n') {
                     self.lines_taken += 1;
                     return Err(self.refuse(Code::LineTooLong));
                 }
@@ -260,16 +259,20 @@ impl DeckFeed {
     }
 }
 
-// How many bytes there are up to the first line end, and with it; all, where no line ends.
-fn to_line_end(piece: &[u8]) -> usize
+// Takes bytes up to the first line end in a piece, or all of them, as `LineFeed::take`: so many, which is at least one.
+#[inline(always)]
+fn take_part<'a>(
+    line: &mut LineFeed,
+    piece: &'a [u8],
+) -> Result<(usize, Option<EndedLine<'a>>), AllocError>
     requires { 0 < length piece.now }
-    ensures taken { result ≡ taken_of piece.now }
-    ensures some { (0 < result) × (result ≤ length piece.now) }
+    ensures taken { IfOk result (λ taken. Takes line.old piece.now taken.0 (option_map text_of taken.1) line.new) }
+    ensures used { IfOk result (λ taken. taken.0 ≡ taken_of piece.now) }
+    ensures some { IfOk result (λ taken. (0 < taken.0) × (taken.0 ≤ length piece.now)) }
+    ensures unended { IsTrue (has_no_end line.new) }
+    ensures unchanged { OnErr result (line.new ≡ line.old) }
 {
-    match first_line_end(piece) {
-        Some(end) => end + 1,
-        None => piece.len(),
-    }
+    line.take(piece)
 }
 
 // The end of a deck: a last line without LF is taken too, and then `$STOP` has come, or never comes.

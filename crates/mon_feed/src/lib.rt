@@ -4,6 +4,7 @@
 pub mod fault;
 pub mod feed;
 mod feeding;
+mod listing;
 pub mod options;
 mod reading;
 mod serving;

@@ -2,7 +2,7 @@ use Rattle.mon_cards.specs.declared.request.Request.TheVariants as request
 use Rattle.mon_cards.specs.Decks.{Gives, Drains}
 use Rattle.mon_feed.specs.declared.stage.Stage.TheVariants as stage
 use Rattle.mon_feed.proofs.Taking.{asks_over, card_taken}
-use Rattle.mon_feed.proofs.reading.take_card.Goals as goal
+use Rattle.mon_feed.proofs.reading.take_other_card.Goals as goal
 
 pub returns-in-Turns-clause-taken : goal.returns-in-Turns-clause-taken
 returns-in-Turns-clause-taken c = λ _.
