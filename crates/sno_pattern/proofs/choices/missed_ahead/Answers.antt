@@ -12,6 +12,6 @@ returns-in-Some-clause-missed c k low high =
     let room : k < length text = (let none = c.requires in omega (arith, within)) in
     let place : from + (k - from) ≡ k = omega arith in
     rw c.in-Text.is (rw (← c.as_bytes.ensures.value) (missed_by_first text c.as_bytes.result.now k room item.3.0
-        (λ same. c.count_before.ensures.none (k - from) (omega arith)
-            (get_or-take (length text - from) (drop from text) (k - from) 0 (omega arith) ∙ get_or-drop from text (k - from) 0
-            ∙ ap (λ j. get_or text j 0) place ∙ same ∙ sym (item.3.1 0)))))
+    (λ same. c.count_before.ensures.none (k - from) (omega arith)
+    (get_or-take (length text - from) (drop from text) (k - from) 0 (omega arith) ∙ get_or-drop from text (k - from) 0
+    ∙ ap (λ j. get_or text j 0) place ∙ same ∙ sym (item.3.1 0)))))

@@ -16,7 +16,7 @@ loop-at-preserved c =
       fewer = (let k = i.fewer in omega arith);
       same = λ r p. i.same r p
           ∙ skip_one text (pattern_of c.args.node.now) c.loop-at.at c.loop-at.steps r p c.loop-at-test.true
-              (let u = c.if-steps-gt0.true in omega arith) (nowhere_of _ (sym c.if-misses.ensures))
+          (let u = c.if-steps-gt0.true in omega arith) (nowhere_of _ (sym c.if-misses.ensures))
           ∙ skip_many text (pattern_of c.args.node.now) r p c.min-count.result _ _ (omega arith) (omega arith)
-              (λ k low high. c.missed_ahead.ensures.missed k low (omega arith));
+          (λ k low high. c.missed_ahead.ensures.missed k low (omega arith));
     }

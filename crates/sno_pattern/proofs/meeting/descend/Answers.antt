@@ -39,7 +39,9 @@ loop-left-preserved-in_default-reached c =
     let k = c.loop-left in
     let i = pays text c.args.trail.now.opens t0 c.args.left.now (pattern_of k.node.now.value) k.trail.goals k.at
     (waiting_of text k.trail.waits) k.trail.opens k.left c.loop-left-test.true k.invariant in
-    rw c.in_ok-put-in_default-reached.ensures (cat_waits i (pattern_of c.in-Cat.a.value) (pattern_of c.in-Cat.b.value) (ap pattern_of (sym c.deref-top.ensures ∙ c.in-Cat.is)))
+    rw c.in_ok-put-in_default-reached.ensures
+    (cat_waits i (pattern_of c.in-Cat.a.value) (pattern_of c.in-Cat.b.value)
+    (ap pattern_of (sym c.deref-top.ensures ∙ c.in-Cat.is)))
 
 pub loop-left-preserved-then-misses : goal.loop-left-preserved-then-misses
 loop-left-preserved-then-misses c =
@@ -62,7 +64,9 @@ loop-left-preserved-else-left-gt0-2 c =
     let k = c.loop-left in
     let i = pays text c.args.trail.now.opens t0 c.args.left.now (pattern_of k.node.now.value) k.trail.goals k.at
     (waiting_of text k.trail.waits) k.trail.opens k.left c.loop-left-test.true k.invariant in
-    rw c.in_ok-leave-in-Alt.ensures (alt_tries i (pattern_of c.in-Alt.a.value) (pattern_of c.in-Alt.b.value) k.trail.waits (ap pattern_of (sym c.deref-top.ensures ∙ c.in-Alt.is)) refl)
+    rw c.in_ok-leave-in-Alt.ensures
+    (alt_tries i (pattern_of c.in-Alt.a.value) (pattern_of c.in-Alt.b.value) k.trail.waits
+    (ap pattern_of (sym c.deref-top.ensures ∙ c.in-Alt.is)) refl)
 
 pub loop-left-preserved-in-Conditional : goal.loop-left-preserved-in-Conditional
 loop-left-preserved-in-Conditional c =

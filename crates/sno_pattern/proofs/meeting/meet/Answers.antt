@@ -35,7 +35,10 @@ returns-in-Ok-clause-moved g c =
     let p = pattern_of c.in-Some.node.now.value in
     moved_as g.H.MatchHost.tells g.H.MatchHost.broken c.args.text.now c.args.host.now c.args.trail.now.opens _ c.args.left.now
     (looking c.args.text.now c.in-Defer.variable now.goals c.in-Some.at w m) now.opens m
-    (e.comes ∙ ap (resume c.args.text.now now.opens) (defer_asks c.args.text.now p c.in-Defer.variable now.goals c.in-Some.at w m (ap pattern_of (sym c.deref-top.ensures ∙ c.in-Defer.is)))) (omega arith) c.in-Ok.ensures.moved
+    (e.comes ∙ ap (resume c.args.text.now now.opens)
+    (defer_asks c.args.text.now p c.in-Defer.variable now.goals c.in-Some.at w m
+    (ap pattern_of (sym c.deref-top.ensures ∙ c.in-Defer.is))))
+    (omega arith) c.in-Ok.ensures.moved
 
 pub returns-in-Err-clause-cut : goal.returns-in-Err-clause-cut
 returns-in-Err-clause-cut g c =
@@ -47,7 +50,10 @@ returns-in-Err-clause-cut g c =
     let p = pattern_of c.in-Some.node.now.value in
     cut_as g.H.MatchHost.tells g.H.MatchHost.broken c.args.text.now c.args.host.now c.args.trail.now.opens _ c.args.left.now
     (looking c.args.text.now c.in-Defer.variable now.goals c.in-Some.at w m) now.opens _
-    (e.comes ∙ ap (resume c.args.text.now now.opens) (defer_asks c.args.text.now p c.in-Defer.variable now.goals c.in-Some.at w m (ap pattern_of (sym c.deref-top.ensures ∙ c.in-Defer.is)))) c.in-Err.ensures.cut
+    (e.comes ∙ ap (resume c.args.text.now now.opens)
+    (defer_asks c.args.text.now p c.in-Defer.variable now.goals c.in-Some.at w m
+    (ap pattern_of (sym c.deref-top.ensures ∙ c.in-Defer.is))))
+    c.in-Err.ensures.cut
 
 pub returns-in-Ok-assigned-clause-moved : goal.returns-in-Ok-assigned-clause-moved
 returns-in-Ok-assigned-clause-moved g c =
@@ -59,7 +65,10 @@ returns-in-Ok-assigned-clause-moved g c =
     let p = pattern_of c.in-Some.node.now.value in
     moved_as g.H.MatchHost.tells g.H.MatchHost.broken c.args.text.now c.args.host.now c.args.trail.now.opens _ c.args.left.now
     (assigning c.args.text.now c.in-Cursor.variable (Cursor c.in-Some.at) now.goals c.in-Some.at w m) now.opens m
-    (e.comes ∙ ap (resume c.args.text.now now.opens) (cursor_asks c.args.text.now p c.in-Cursor.variable now.goals c.in-Some.at w m (ap pattern_of (sym c.deref-top.ensures ∙ c.in-Cursor.is)))) (omega arith) c.in-Ok-assigned.ensures.moved
+    (e.comes ∙ ap (resume c.args.text.now now.opens)
+    (cursor_asks c.args.text.now p c.in-Cursor.variable now.goals c.in-Some.at w m
+    (ap pattern_of (sym c.deref-top.ensures ∙ c.in-Cursor.is))))
+    (omega arith) c.in-Ok-assigned.ensures.moved
 
 pub returns-in-Err-assigned-clause-cut : goal.returns-in-Err-assigned-clause-cut
 returns-in-Err-assigned-clause-cut g c =
@@ -71,4 +80,7 @@ returns-in-Err-assigned-clause-cut g c =
     let p = pattern_of c.in-Some.node.now.value in
     cut_as g.H.MatchHost.tells g.H.MatchHost.broken c.args.text.now c.args.host.now c.args.trail.now.opens _ c.args.left.now
     (assigning c.args.text.now c.in-Cursor.variable (Cursor c.in-Some.at) now.goals c.in-Some.at w m) now.opens _
-    (e.comes ∙ ap (resume c.args.text.now now.opens) (cursor_asks c.args.text.now p c.in-Cursor.variable now.goals c.in-Some.at w m (ap pattern_of (sym c.deref-top.ensures ∙ c.in-Cursor.is)))) c.in-Err-assigned.ensures.cut
+    (e.comes ∙ ap (resume c.args.text.now now.opens)
+    (cursor_asks c.args.text.now p c.in-Cursor.variable now.goals c.in-Some.at w m
+    (ap pattern_of (sym c.deref-top.ensures ∙ c.in-Cursor.is))))
+    c.in-Err-assigned.ensures.cut
