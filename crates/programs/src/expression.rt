@@ -3,12 +3,13 @@ ghost use Rattle.std.specs.Prelude.{◌≡◌, ◌++◌, codes, OnOk};
 ghost use Rattle.sno_tree.specs.declared.tree.UnaryOperator.TheVariants.{Indirect};
 ghost use Rattle.sno_tree.specs.Expressions.{Unary};
 ghost use Rattle.sno_tree.specs.Told.{expression_of, arguments_of};
-ghost use Rattle.programs.specs.inner.Trees.{expression_text, arguments_text, constant_text, unary_text, operator_text};
+ghost use Rattle.sno_tree.specs.inner.Runs.{right_of};
+ghost use Rattle.programs.specs.inner.Trees.{expression_text, arguments_text, unary_text, operator_text};
+ghost use Rattle.programs.specs.inner.Runs.{left_text, lefts_text, ends_text};
 
 use itoa::Buffer;
-use mon_text::Line;
-use sno_token::Constant;
-use sno_tree::{Arguments, BinaryOperator, Expression, UnaryOperator};
+use sno_token::Characters;
+use sno_tree::{Arguments, BinaryOperator, Expression, Operands, Pending, UnaryOperator};
 use std::alloc::AllocError;
 
 /// Appends a text.
@@ -20,12 +21,14 @@ pub fn put(text: &[u8], out: &mut Vec<u8>) -> Result<(), AllocError>
 
 /// Appends an expression.
 #[cycle(printing)]
+#[tactic(auto, using(sno_tree::proofs::Runs::binary_is, sno_tree::proofs::Runs::left_is))]
 pub fn put_expression(expression: &Expression, out: &mut Vec<u8>) -> Result<(), AllocError>
     ensures { OnOk result (out.new.items ≡ out.old.items ++ expression_text (expression_of expression.now)) }
 {
     match expression {
         Expression::Identifier(name) => put(name.as_bytes(), out),
-        Expression::Constant(constant) => put_constant(constant, out),
+        Expression::Literal(text) => put_literal(text, out),
+        Expression::Integer(number) => put(Buffer::new().format(*number).as_bytes(), out),
         Expression::Keyword(name) => put_word(b"&", name, out),
         Expression::Unevaluated(name) => put_word(b"*", name, out),
         Expression::Group(inner) => {
@@ -33,14 +36,14 @@ pub fn put_expression(expression: &Expression, out: &mut Vec<u8>) -> Result<(), 
             put_expression(inner, out)?;
             put(b")", out)
         }
-        Expression::Call(name, arguments) => {
-            put_word(b"(call ", name, out)?;
-            put_arguments(arguments, out)?;
+        Expression::Call(call) => {
+            put_word(b"(call ", &call.name, out)?;
+            put_arguments(&call.arguments, out)?;
             put(b")", out)
         }
-        Expression::TableItem(name, key) => {
-            put_item(name, out)?;
-            put_expression(key, out)?;
+        Expression::TableItem(item) => {
+            put_item(&item.name, out)?;
+            put_expression(&item.key, out)?;
             put(b")", out)
         }
         Expression::Unary(operator, operand) => {
@@ -48,14 +51,57 @@ pub fn put_expression(expression: &Expression, out: &mut Vec<u8>) -> Result<(), 
             put_expression(operand, out)?;
             put(b")", out)
         }
-        Expression::Binary(operator, left, right) => {
+        Expression::Binary(operator, operands) => {
             put_head(operator_text(*operator), out)?;
-            put_expression(left, out)?;
+            put_expression(&operands.left, out)?;
             put(b" ", out)?;
-            put_expression(right, out)?;
+            put_run(operands, out)?;
             put(b")", out)
         }
     }
+}
+
+// Appends what stands on the right of an operator.
+#[cycle(printing)]
+fn put_run(operands: &Operands, out: &mut Vec<u8>) -> Result<(), AllocError>
+    ensures { OnOk result (out.new.items ≡ out.old.items ++ expression_text (right_of operands.now)) }
+{
+    let run = operands.run.as_slice();
+    put_lefts(run, out)?;
+    put_expression(&operands.last, out)?;
+    put_ends(run, out)
+}
+
+// Appends the operators of a run, each with its left operand.
+#[cycle(printing)]
+fn put_lefts(run: &[Pending], out: &mut Vec<u8>) -> Result<(), AllocError>
+    ensures { OnOk result (out.new.items ≡ out.old.items ++ lefts_text run.now) }
+{
+    for i in 0..run.len() {
+        put_left(&run[i], out)?;
+    }
+    Ok(())
+}
+
+#[cycle(printing)]
+fn put_left(pending: &Pending, out: &mut Vec<u8>) -> Result<(), AllocError>
+    ensures { OnOk result (out.new.items ≡ out.old.items ++ left_text pending.now) }
+{
+    put_head(operator_text(pending.operator), out)?;
+    put_expression(&pending.left, out)?;
+    put(b" ", out)
+}
+
+// Appends the end of each.
+fn put_ends(run: &[Pending], out: &mut Vec<u8>) -> Result<(), AllocError>
+    ensures { OnOk result (out.new.items ≡ out.old.items ++ ends_text run.now) }
+{
+    let mut left = run.len();
+    while left > 0 {
+        left -= 1;
+        put(b")", out)?;
+    }
+    Ok(())
 }
 
 /// Appends the indirect reference by an element.
@@ -87,7 +133,7 @@ fn put_arguments(arguments: &Arguments, out: &mut Vec<u8>) -> Result<(), AllocEr
 }
 
 // What an item of a table begins with.
-fn put_item(name: &Line, out: &mut Vec<u8>) -> Result<(), AllocError>
+fn put_item(name: &Characters, out: &mut Vec<u8>) -> Result<(), AllocError>
     ensures { OnOk result (out.new.items ≡ out.old.items ++ codes "(item " ++ name.now ++ codes " ") }
 {
     put_word(b"(item ", name, out)?;
@@ -103,23 +149,18 @@ fn put_head(operator: &[u8], out: &mut Vec<u8>) -> Result<(), AllocError>
     put(b" ", out)
 }
 
-fn put_word(before: &[u8], name: &Line, out: &mut Vec<u8>) -> Result<(), AllocError>
+fn put_word(before: &[u8], name: &Characters, out: &mut Vec<u8>) -> Result<(), AllocError>
     ensures { OnOk result (out.new.items ≡ out.old.items ++ before.now ++ name.now) }
 {
     put(before, out)?;
     put(name.as_bytes(), out)
 }
 
-fn put_constant(constant: &Constant, out: &mut Vec<u8>) -> Result<(), AllocError>
-    ensures { OnOk result (out.new.items ≡ out.old.items ++ constant_text constant.now) }
+fn put_literal(text: &Characters, out: &mut Vec<u8>) -> Result<(), AllocError>
+    ensures { OnOk result (out.new.items ≡ out.old.items ++ codes "'" ++ text.now ++ codes "'") }
 {
-    match constant {
-        Constant::Literal(text) => {
-            put_word(b"'", text, out)?;
-            put(b"'", out)
-        }
-        Constant::Integer(number) => put(Buffer::new().format(*number).as_bytes(), out),
-    }
+    put_word(b"'", text, out)?;
+    put(b"'", out)
 }
 
 fn unary_text(operator: UnaryOperator) -> &'static [u8]

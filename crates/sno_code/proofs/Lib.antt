@@ -3,3 +3,4 @@ pub mod Performing
 pub mod Lined
 pub mod Falling
 pub mod Going
+pub mod Runs

@@ -1,4 +1,5 @@
 pub mod Code
+pub mod Runs
 pub mod Acts
 pub mod Machine
 pub mod Moves

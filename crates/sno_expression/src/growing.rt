@@ -4,9 +4,8 @@ ghost use Rattle.sno_tree.specs.Expressions as expressions;
 ghost use Rattle.sno_tree.specs.Told.{expression_of, arguments_of};
 ghost use Rattle.sno_expression.specs.inner.Reading.{with_prefix};
 
-use mon_text::Line;
-use sno_token::Constant;
-use sno_tree::{Arguments, BinaryOperator, Expression, IdentifierPrefix};
+use sno_token::{Characters, Constant};
+use sno_tree::{Arguments, BinaryOperator, Expression, IdentifierPrefix, Operands};
 use std::alloc::{AllocError, Global};
 
 // Two operands under their operator.
@@ -18,13 +17,17 @@ pub(crate) fn join(
 ) -> Result<Expression, AllocError>
     ensures { IfOk result (λ t. expression_of t ≡ expressions.Binary operator (expression_of left) (expression_of right)) }
 {
-    let left = Box::new(alloc, left)?;
-    let right = Box::new(alloc, right)?;
-    Ok(Expression::Binary(operator, left, right))
+    let operands = Operands {
+        left,
+        run: Vec::new(alloc),
+        last: right,
+    };
+    let operands = Box::new(alloc, operands)?;
+    Ok(Expression::Binary(operator, operands))
 }
 
 // The tree of `&` or `*` with its identifier.
-pub(crate) fn with_prefix(prefix: IdentifierPrefix, name: Line) -> Expression
+pub(crate) fn with_prefix(prefix: IdentifierPrefix, name: Characters) -> Expression
     ensures { expression_of result ≡ with_prefix prefix name }
 {
     match prefix {
@@ -54,14 +57,15 @@ pub(crate) fn omit_argument(alloc: Global, arguments: Arguments) -> Result<Argum
     Ok(Arguments::Omitted(arguments))
 }
 
-pub(crate) fn copy_constant(alloc: Global, constant: &Constant) -> Result<Constant, AllocError>
-    ensures { IfOk result (λ c. c ≡ constant.now) }
+// The tree of a constant.
+pub(crate) fn tree_of(alloc: Global, constant: &Constant) -> Result<Expression, AllocError>
+    ensures { IfOk result (λ t. expression_of t ≡ expressions.Constant constant.now) }
 {
     match constant {
         Constant::Literal(text) => {
-            let text = text.copy(alloc)?;
-            Ok(Constant::Literal(text))
+            let text = Characters::of_slice(alloc, text.as_bytes())?;
+            Ok(Expression::Literal(text))
         }
-        Constant::Integer(value) => Ok(Constant::Integer(*value)),
+        Constant::Integer(value) => Ok(Expression::Integer(*value)),
     }
 }

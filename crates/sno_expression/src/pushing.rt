@@ -1,15 +1,16 @@
 //! One more operand on an open spine: each operator is opened and closed once, whatever the depth.
 
 ghost use Rattle.std.specs.Prelude.{◌≡◌, true, IfOk};
-ghost use Rattle.sno_tree.specs.Expressions.{FitsLeft};
+ghost use Rattle.sno_tree.specs.inner.Levels.{FitsLeft};
 ghost use Rattle.sno_expression.specs.inner.Reading.{push};
 ghost use Rattle.sno_expression.specs.inner.Spines.{is_element, is_ordered, is_under_all};
 ghost use Rattle.sno_tree.specs.Told.{expression_of};
-ghost use Rattle.sno_expression.specs.inner.Told.{spread, spine_tree};
+ghost use Rattle.sno_tree.specs.inner.Runs.{spread_all};
+ghost use Rattle.sno_expression.specs.inner.Told.{spine_tree};
 
 use crate::growing::join;
-use crate::spine::{Pending, Spine};
-use sno_tree::{BinaryOperator, Expression, binds_into_right};
+use crate::spine::Spine;
+use sno_tree::{BinaryOperator, Expression, Operands, Pending, binds_into_right};
 use std::alloc::{AllocError, Global};
 
 // One more operator, the innermost, with its operands.
@@ -24,7 +25,7 @@ fn nest(
     requires under { is_under_all operator pending.items ≡ true }
     requires fits { FitsLeft operator (expression_of left) }
     requires element { is_element operand ≡ true }
-    ensures { IfOk result (λ s. spine_tree s ≡ push operator (expression_of operand) (spread pending.items (expression_of left))) }
+    ensures { IfOk result (λ s. spine_tree s ≡ push operator (expression_of operand) (spread_all pending.items (expression_of left))) }
 {
     let mut pending = pending;
     pending.push(Pending { left, operator })?;
@@ -34,8 +35,21 @@ fn nest(
     })
 }
 
+// Whether the operator may stand under all that are open, as it may where it may stand under the innermost.
+#[inline(always)]
+#[tactic(auto, using(crate::proofs::Spines::under_last))]
+fn goes_under(operator: BinaryOperator, pending: &[Pending]) -> bool
+    requires { is_ordered pending.now ≡ true }
+    ensures { result ≡ is_under_all operator pending.now }
+{
+    match pending.split_last() {
+        None => true,
+        Some((outer, _)) => binds_into_right(operator, outer.operator),
+    }
+}
+
 // The innermost operators are closed that the new one may not stand under; what they make is its left operand.
-#[tactic(auto, using(crate::proofs::Spines::under_popped, crate::proofs::Spines::ordered_popped, crate::proofs::Spines::spread_popped))]
+#[tactic(auto, using(crate::proofs::Spines::ordered_popped, crate::proofs::Spines::spread_popped))]
 fn grow(
     alloc: Global,
     operator: BinaryOperator,
@@ -46,38 +60,37 @@ fn grow(
     requires ordered { is_ordered pending.items ≡ true }
     requires fits { FitsLeft operator (expression_of last) }
     requires element { is_element operand ≡ true }
-    ensures { IfOk result (λ s. spine_tree s ≡ push operator (expression_of operand) (spread pending.items (expression_of last))) }
+    ensures { IfOk result (λ s. spine_tree s ≡ push operator (expression_of operand) (spread_all pending.items (expression_of last))) }
 {
     let mut pending = pending;
+    if goes_under(operator, pending.as_slice()) {
+        return nest(pending, last, operator, operand);
+    }
     match pending.pop() {
         None => nest(pending, last, operator, operand),
         Some(outer) => {
-            if binds_into_right(operator, outer.operator) {
-                pending.push(outer)?;
-                nest(pending, last, operator, operand)
-            } else {
-                let last = join(alloc, outer.operator, outer.left, last)?;
-                grow(alloc, operator, operand, pending, last)
-            }
+            let last = join(alloc, outer.operator, outer.left, last)?;
+            grow(alloc, operator, operand, pending, last)
         }
     }
 }
 
-// All operators closed, the innermost first.
-#[tactic(auto, using(crate::proofs::Spines::spread_popped))]
+// All operators closed: they lie side by side behind the outermost.
 fn close_all(
     alloc: Global,
     pending: Vec<Pending>,
     last: Expression,
 ) -> Result<Expression, AllocError>
-    ensures { IfOk result (λ t. expression_of t ≡ spread pending.items (expression_of last)) }
+    ensures { IfOk result (λ t. expression_of t ≡ spread_all pending.items (expression_of last)) }
 {
-    let mut pending = pending;
-    let mut last = last;
-    while let Some(outer) = pending.pop() {
-        last = join(alloc, outer.operator, outer.left, last)?;
+    if pending.is_empty() {
+        return Ok(last);
     }
-    Ok(last)
+    let mut run = pending;
+    let Pending { left, operator } = run.remove(0);
+    run.shrink_to_fit();
+    let operands = Box::new(alloc, Operands { left, run, last })?;
+    Ok(Expression::Binary(operator, operands))
 }
 
 /// The tree of one operand.

@@ -3,14 +3,7 @@
 ghost use Rattle.std.specs.Prelude.{◌≡◌, true};
 ghost use Rattle.sno_expression.specs.inner.Spines.{is_element, is_ordered};
 
-use sno_tree::{BinaryOperator, Expression};
-
-/// A binary operator down the right spine, with its left operand. Its right operand may still grow.
-#[derive(Drop)]
-pub(crate) struct Pending {
-    pub(crate) left: Expression,
-    pub(crate) operator: BinaryOperator,
-}
+use sno_tree::{Expression, Pending};
 
 /// A tree by its right spine.
 #[derive(Drop)]

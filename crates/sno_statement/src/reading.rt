@@ -73,6 +73,7 @@ fn label_ends<'a, 't>(
     Ok(closing(Target::Label(label), tokens))
 }
 
+#[tactic(auto, using(sno_tree::proofs::Runs::binary_is))]
 fn indirect<'a, 't>(tree: Expression, tokens: &'a [Token<'t>]) -> Aim<'a, 't>
     ensures { aim_of result ≡ indirect (Some (expression_of tree)) tokens.now }
 {

@@ -1,19 +1,21 @@
 //! Code is made where memory is there: no clause can say that it is.
-use mon_text::{Line, read_line};
 use sno_code::{Instr, code_of, code_of_name};
-use sno_tree::{BinaryOperator, Expression, UnaryOperator};
+use sno_token::Characters;
+use sno_tree::{BinaryOperator, Expression, Operands, UnaryOperator};
 use std::alloc::Global;
 
 fn variable(alloc: Global) -> Option<Expression> {
-    let name: Line = read_line(alloc, b"X", 10).ok()?;
+    let name = Characters::of_slice(alloc, b"X").ok()?;
     Some(Expression::Identifier(name))
 }
 
 // `X + X`
 fn sum(alloc: Global) -> Option<Expression> {
-    let left = Box::new(alloc, variable(alloc)?).ok()?;
-    let right = Box::new(alloc, variable(alloc)?).ok()?;
-    Some(Expression::Binary(BinaryOperator::Plus, left, right))
+    let left = variable(alloc)?;
+    let last = variable(alloc)?;
+    let run = Vec::new(alloc);
+    let operands = Box::new(alloc, Operands { left, run, last }).ok()?;
+    Some(Expression::Binary(BinaryOperator::Plus, operands))
 }
 
 // `$(X + X)`

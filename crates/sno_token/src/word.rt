@@ -2,6 +2,7 @@
 ghost use Rattle.std.specs.Prelude.{◌≡◌, IfOk};
 ghost use Rattle.mon_text.specs.Lines.{IsLine};
 
+use crate::characters::Characters;
 use mon_text::Line;
 use std::alloc::{AllocError, Global};
 use std::marker::Model;
@@ -44,5 +45,17 @@ impl<'a> Word<'a> {
     {
         let room = Vec::with_capacity(alloc, self.text.len())?;
         Ok(Line::in_room(room, self.text))
+    }
+
+    /// These characters by themselves.
+    ///
+    /// # Errors
+    ///
+    /// Where a growth was refused.
+    #[inline(always)]
+    pub fn characters(&self, alloc: Global) -> Result<Characters, AllocError>
+        ensures { IfOk result (λ c. c ≡ self.now) }
+    {
+        Characters::of_slice(alloc, self.text)
     }
 }

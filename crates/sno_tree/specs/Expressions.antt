@@ -50,13 +50,10 @@ binds_into_left inner outer = nat_lt (precedence outer) (precedence inner) || (n
 abbrev pub binds_into_right : BinaryOperator → BinaryOperator → Bool
 binds_into_right inner outer = nat_lt (precedence outer) (precedence inner) || (nat_eq (precedence inner) (precedence outer) && is_right_associative outer)
 
-abbrev pub FitsLeft : BinaryOperator → Expression → Type 0
-FitsLeft outer (Binary inner l r) = binds_into_left inner outer ≡ true
-FitsLeft outer _ = Unit {0}
-
-abbrev pub FitsRight : BinaryOperator → Expression → Type 0
-FitsRight outer (Binary inner l r) = binds_into_right inner outer ≡ true
-FitsRight outer _ = Unit {0}
+-- where it is the child on a side, which this is the rule of
+abbrev pub Fits : (BinaryOperator → BinaryOperator → Bool) → BinaryOperator → Expression → Type 0
+Fits binds outer (Binary inner l r) = binds inner outer ≡ true
+Fits binds outer _ = Unit {0}
 
 -- an element: anything but a binary operator's node
 abbrev pub IsOperand : Expression → Type 0
@@ -74,7 +71,7 @@ abbrev mutual
   HasLevels (Call f args) = AreSome args × HaveLevels args
   HasLevels (TableItem n t) = HasLevels t
   HasLevels (Unary s t) = IsOperand t × HasLevels t
-  HasLevels (Binary o l r) = FitsLeft o l × FitsRight o r × HasLevels l × HasLevels r
+  HasLevels (Binary o l r) = Fits binds_into_left o l × Fits binds_into_right o r × HasLevels l × HasLevels r
   HasLevels _ = Unit {0}
 
   pub HaveLevels : Arguments → Type 0

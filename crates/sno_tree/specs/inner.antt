@@ -1,1 +1,3 @@
 pub mod Variables
+pub mod Runs
+pub mod Levels

@@ -6,6 +6,7 @@ pub mod tree;
 
 pub use fitting::lacks;
 pub use tree::{
-    Arguments, BinaryOperator, Expression, IdentifierPrefix, Prefix, UnaryOperator,
-    binds_into_right, needs_variable, operand_is_variable, operator_of, prefix_of,
+    Arguments, BinaryOperator, Call, Expression, IdentifierPrefix, Operands, Pending, Prefix,
+    TableItem, UnaryOperator, binds_into_right, needs_variable, operand_is_variable, operator_of,
+    prefix_of,
 };

@@ -3,8 +3,7 @@ ghost use Rattle.std.specs.Prelude.{◌≡◌};
 ghost use Rattle.sno_tree.specs.Marks.{operator_of, prefix_of, needs_variable, operand_is_variable};
 ghost use Rattle.sno_tree.specs.Expressions.{precedence, is_right_associative, binds_into_right};
 
-use mon_text::Line;
-use sno_token::{Constant, Mark};
+use sno_token::{Characters, Mark};
 
 /// What joins two operands.
 #[derive(Clone, Copy)]
@@ -68,19 +67,57 @@ pub enum Prefix {
 #[derive(Drop)]
 #[cycle(tree)]
 pub enum Expression {
-    Identifier(Line),
-    Constant(Constant),
+    Identifier(Characters),
+    /// What stands between quotes.
+    Literal(Characters),
+    Integer(i64),
     /// `&` and its identifier.
-    Keyword(Line),
+    Keyword(Characters),
     /// `*` and its identifier.
-    Unevaluated(Line),
+    Unevaluated(Characters),
     /// What stands in parentheses.
     Group(Box<Expression>),
-    Call(Line, Box<Arguments>),
-    /// An identifier, and what stands in angular brackets behind it.
-    TableItem(Line, Box<Expression>),
+    Call(Box<Call>),
+    TableItem(Box<TableItem>),
     Unary(UnaryOperator, Box<Expression>),
-    Binary(BinaryOperator, Box<Expression>, Box<Expression>),
+    /// A binary operator, its left operand, and what stands on its right.
+    Binary(BinaryOperator, Box<Operands>),
+}
+
+/// A function's name, and its arguments.
+#[derive(Drop)]
+#[cycle(tree)]
+pub struct Call {
+    pub name: Characters,
+    pub arguments: Arguments,
+}
+
+/// An identifier, and what stands in angular brackets behind it.
+#[derive(Drop)]
+#[cycle(tree)]
+pub struct TableItem {
+    pub name: Characters,
+    pub key: Expression,
+}
+
+/// What an operator joins. On its right a whole run of operators may stand, each in the right operand of the one before:
+/// these lie side by side.
+#[derive(Drop)]
+#[cycle(tree)]
+pub struct Operands {
+    pub left: Expression,
+    /// The operators of the run, the innermost last.
+    pub run: Vec<Pending>,
+    /// The right operand of the innermost.
+    pub last: Expression,
+}
+
+/// A binary operator with its left operand.
+#[derive(Drop)]
+#[cycle(tree)]
+pub struct Pending {
+    pub left: Expression,
+    pub operator: BinaryOperator,
 }
 
 /// The arguments of a call from the left, some of them empty.

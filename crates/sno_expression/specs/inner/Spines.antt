@@ -4,7 +4,7 @@ use Rattle.std.specs.List.{list_all}
 use Rattle.sno_tree.specs.declared.tree.BinaryOperator.{BinaryOperator}
 use Rattle.sno_tree.specs.declared.tree.Expression.{Expression}
 use Rattle.sno_tree.specs.declared.tree.Expression.TheVariants as tree
-use Rattle.sno_expression.specs.declared.spine.Pending.{Pending}
+use Rattle.sno_tree.specs.declared.tree.Pending.{Pending}
 use Rattle.sno_tree.specs.Expressions.{binds_into_right}
 
 -- may the operator stand right under each of these
@@ -22,5 +22,5 @@ is_ordered (j ∷ js) = is_over_all j js && is_ordered js
 
 -- the last operand is one element
 abbrev pub is_element : Expression → Bool
-is_element (tree.Binary' o p l q r) = false
+is_element (tree.Binary' o p all) = false
 is_element _ = true

@@ -1,0 +1,14 @@
+-- A run of none.
+use Rattle.std.proofs.Common.{◌∙◌, ap, List}
+use Rattle.sno_tree.specs.declared.tree.Pending.{Pending}
+use Rattle.sno_tree.specs.Expressions.{Binary}
+use Rattle.sno_tree.specs.Told.{expression_of}
+use Rattle.sno_tree.specs.inner.Runs.{spread_all}
+use Rattle.sno_tree.proofs.Runs.{binary_is, made}
+use Rattle.sno_expression.proofs.growing.join.Goals as goal
+
+pub returns : goal.returns
+returns c =
+    binary_is c.args.operator c.in_ok-operands.operands
+    ∙ (made c.args.operator c.in_ok-operands.operands.value c.args.left c.args.right c.new.result c.in_ok-operands.ensures.ok
+    ∙ ap (λ (js : List Pending). Binary c.args.operator (expression_of c.args.left) (spread_all js (expression_of c.args.right))) c.new.ensures.items)
