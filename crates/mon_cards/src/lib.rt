@@ -18,3 +18,4 @@ pub use list::OpenList;
 pub use reading::{finish_catalogue, opens_accounts, put_account_line, put_catalogue_line};
 pub use request::{Request, ends_list, read_request};
 pub use turn::Turn;
+pub use words::from_blank;

@@ -179,7 +179,8 @@ pub(crate) fn from_word(text: &[u8]) -> &[u8]
 }
 
 /// What stands from the first blank on.
-pub(crate) fn from_blank(text: &[u8]) -> &[u8]
+#[inline(always)]
+pub fn from_blank(text: &[u8]) -> &[u8]
     ensures { result.now ≡ without_leading (λ c. not (is_blank c)) text.now }
 {
     let mut rest = text;

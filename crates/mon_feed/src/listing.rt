@@ -1,14 +1,13 @@
 //! Cards that list records, which are most of a stream: such a card is read in one pass.
-ghost use Rattle.std.specs.Prelude.{◌≡◌, ◌∷◌, ◌++◌, codes, not, true, IfSome, None};
+ghost use Rattle.std.specs.Prelude.{◌≡◌, ◌∷◌, ◌++◌, codes, true, IfSome, None};
 ghost use Rattle.std.specs.Option.{option_or};
-ghost use Rattle.mon_text.specs.Beginnings.{without_leading};
-ghost use Rattle.mon_text.specs.Characters.{is_blank};
 ghost use Rattle.mon_text.specs.Names.{is_name};
 ghost use Rattle.mon_cards.specs.declared.request.Request.TheVariants as request;
 ghost use Rattle.mon_cards.specs.Refusing.{line_refusal};
 ghost use Rattle.mon_cards.specs.Requests.{request_on, stream_refusal};
 ghost use Rattle.mon_feed.specs.inner.Listed.{Lists};
 
+use mon_cards::from_blank;
 use mon_command::Command;
 use mon_text::{Name, read_name};
 
@@ -66,19 +65,4 @@ fn behind_list(text: &[u8]) -> Option<&[u8]>
                 && *blank == b' ' => { Some(words) }
         _ => None,
     }
-}
-
-// What stands from the first blank on.
-#[inline(always)]
-fn from_blank(text: &[u8]) -> &[u8]
-    ensures { result.now ≡ without_leading (λ c. not (is_blank c)) text.now }
-{
-    let mut rest = text;
-    'letters: while let [first, others @ ..] = rest {
-        if *first == b' ' {
-            break;
-        }
-        rest = others;
-    }
-    rest
 }

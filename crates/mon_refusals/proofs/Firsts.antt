@@ -1,16 +1,13 @@
 -- The first reason of all is the one for which a load refuses a job.
 use Rattle.std.proofs.Common.{◌≡◌, ℕ, ◌+◌, Bool, true, false, List, [], ◌∷◌, ◌++◌, Option, Some, None, Result, Ok, Err, refl, sym, ap, ◌∙◌, append_assoc}
-use Rattle.std.specs.Prelude.{option_map, replicate, slice_set, is_none}
-use Rattle.std.specs.Bool.{then_some}
+use Rattle.std.specs.Prelude.{option_map, replicate, slice_set}
 use Rattle.std.specs.Option.{option_or}
 use Rattle.sno_cards.specs.declared.refusal.SyntaxError.{SyntaxError}
-use Rattle.sno_cards.specs.declared.refusal.SyntaxCode.TheVariants.{BadEnd}
 use Rattle.sno_cards.specs.Programs.{ProgramText}
 use Rattle.sno_cards.specs.Statements.{statements_of}
 use Rattle.sno_cards.specs.Texts.{Placed}
 use Rattle.sno_syntax.specs.Labels.{LabelList}
-use Rattle.sno_syntax.specs.Places.{refused_with}
-use Rattle.sno_syntax.specs.Refusals.{label_of, with_label, labels_in, statement_refusal, statements_refusal, start_in, begin_of, syntax_refusal}
+use Rattle.sno_syntax.specs.Refusals.{label_of, with_label, statement_refusal, statements_refusal, start_in, end_refusal, syntax_refusal}
 use Rattle.mon_access.specs.declared.account.Account.{Account}
 use Rattle.mon_access.specs.Accounts.{find_account}
 use Rattle.mon_unit.specs.declared.units.UnitError.{UnitError}
@@ -21,7 +18,7 @@ use Rattle.mon_job.specs.declared.refusal.LoadError.TheVariants.{NoAccount, Card
 use Rattle.mon_slots.specs.Loads.{first_units, ties_refusal, program_refusal, missing, deck_refusal}
 use Rattle.mon_slots.proofs.Shorthand.{data_of}
 use Rattle.mon_slots.specs.inner.Carding.{refused_by, cards_refused as first_tie_refused}
-use Rattle.mon_refusals.specs.Refused.{listed, first_of, tied_after, tie_listed, ties_refused, syntax_listed, statements_refused, end_refused, cards_refused, program_refused, account_refused, deck_refused}
+use Rattle.mon_refusals.specs.Refused.{listed, first_of, tied_after, tie_listed, ties_refused, syntax_listed, statements_refused, end_refused, cards_refused, program_refused, deck_refused}
 use Rattle.mon_refusals.proofs.Tying.{all_by}
 
 -- LISTS
@@ -73,7 +70,7 @@ syntax_or (Some refusal) later = refl
 of_cards : (cards : ProgramText) → first_of (cards_refused cards) ≡ option_map Syntax (syntax_refusal cards)
 of_cards cards =
     let statements = statements_refusal [] 0 cards.statements in
-    let end = then_some (is_none (start_in cards)) (refused_with BadEnd (begin_of cards.end_rest)) in
+    let end = end_refusal cards.end_rest (start_in cards) in
     of_both (statements_refused [] 0 cards.statements) (end_refused cards.end_rest (start_in cards))
     ∙ ap (λ o. option_or o (first_of (end_refused cards.end_rest (start_in cards)))) (of_statements [] 0 cards.statements)
     ∙ ap (λ o. option_or (option_map Syntax statements) o) (of_one (option_map Syntax end))

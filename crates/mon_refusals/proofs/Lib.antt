@@ -1,4 +1,3 @@
-pub mod Tables
 mod Firsts
 mod Gathering
 mod Tying

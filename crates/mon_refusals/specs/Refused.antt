@@ -1,17 +1,14 @@
 -- Why a job is not loaded (own): each reason, and not only the first, in the order in which a load looks for them.
-use Rattle.std.specs.Prelude.{ℕ, ◌+◌, Bool, true, false, List, [], ◌∷◌, ◌++◌, length, replicate, slice_set, Option, Some, None, option_map, is_none, Result, Ok, Err}
-use Rattle.std.specs.Bool.{then_some}
+use Rattle.std.specs.Prelude.{ℕ, ◌+◌, Bool, true, false, List, [], ◌∷◌, ◌++◌, length, replicate, slice_set, Option, Some, None, option_map, Result, Ok, Err}
 use Rattle.mon_text.specs.Lines.{words}
 use Rattle.sno_cards.specs.declared.refusal.SyntaxError.{SyntaxError}
-use Rattle.sno_cards.specs.declared.refusal.SyntaxCode.TheVariants.{BadEnd}
 use Rattle.sno_cards.specs.Programs.{ProgramText}
 use Rattle.sno_cards.specs.Statements.{statements_of}
 use Rattle.sno_cards.specs.Texts.{Placed, text_of}
 use Rattle.sno_syntax.specs.declared.start.Start.{Start}
 use Rattle.sno_syntax.specs.Labels.{LabelList}
-use Rattle.sno_syntax.specs.Places.{refused_with}
 use Rattle.sno_syntax.specs.Starts.{start_of}
-use Rattle.sno_syntax.specs.Refusals.{label_of, with_label, labels_in, statement_refusal, begin_of}
+use Rattle.sno_syntax.specs.Refusals.{label_of, with_label, labels_in, statement_refusal, end_refusal}
 use Rattle.mon_access.specs.declared.account.Account.{Account}
 use Rattle.mon_access.specs.Accounts.{find_account}
 use Rattle.mon_unit.specs.declared.units.UnitError.{UnitError}
@@ -61,7 +58,7 @@ statements_refused labels index (text ∷ texts) =
 
 -- the END line, where it does not say where a run begins
 abbrev pub end_refused : List Placed → Option Start → List LoadError
-end_refused rest start = syntax_listed (then_some (is_none start) (refused_with BadEnd (begin_of rest)))
+end_refused rest start = syntax_listed (end_refusal rest start)
 
 abbrev pub end_start : ProgramText → LabelList → Option Start
 end_start program labels = start_of (length program.statements) labels (words (text_of program.end_rest))

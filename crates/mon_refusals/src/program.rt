@@ -4,12 +4,12 @@ ghost use Rattle.sno_cards.specs.Statements.{statements_of};
 ghost use Rattle.sno_syntax.specs.Refusals.{label_of, with_label, labels_in, statement_refusal};
 ghost use Rattle.mon_refusals.specs.Refused.{syntax_listed, statements_refused, end_refused, end_start, cards_refused, program_refused};
 
-use crate::label::SeenLabels;
-use crate::start::{end_refusal, start_of};
-use crate::statement::{note_label, refusal_of};
 use mon_job::LoadError;
 use mon_text::{Line, Stop};
-use sno_syntax::{ProgramCards, StatementText, SyntaxError, statements};
+use sno_syntax::{
+    Labels, ProgramCards, StatementText, SyntaxError, end_refusal, note_label, statement_refusal,
+    statements,
+};
 use std::alloc::{AllocError, Global};
 
 // Puts a refusal last, if it is one.
@@ -28,7 +28,7 @@ fn put_refusal(refusal: Option<SyntaxError>, found: &mut Vec<LoadError>) -> Resu
 // One statement more.
 fn put_statement(
     alloc: Global,
-    labels: &mut SeenLabels,
+    labels: &mut Labels,
     text: &StatementText,
     index: usize,
     found: &mut Vec<LoadError>,
@@ -36,7 +36,7 @@ fn put_statement(
     ensures found { OnOk result (found.new.items ≡ found.old.items ++ syntax_listed (statement_refusal labels.old text.now)) }
     ensures labels { OnOk result (labels.new ≡ with_label labels.old (label_of text.now) index) }
 {
-    let refusal = refusal_of(alloc, labels, text)?;
+    let refusal = statement_refusal(alloc, labels, text)?;
     put_refusal(refusal, found)?;
     note_label(alloc, labels, text, index)
 }
@@ -46,11 +46,11 @@ fn put_statements(
     alloc: Global,
     texts: &[StatementText],
     found: &mut Vec<LoadError>,
-) -> Result<SeenLabels, AllocError>
+) -> Result<Labels, AllocError>
     ensures found { OnOk result (found.new.items ≡ found.old.items ++ statements_refused [] 0 texts.now) }
     ensures labels { IfOk result (λ labels. labels ≡ labels_in texts.now) }
 {
-    let mut labels = SeenLabels::new(alloc);
+    let mut labels = Labels::new(alloc);
     for (index, text) in texts.iter().enumerate() {
         put_statement(alloc, &mut labels, text, index, found)?;
     }
@@ -61,20 +61,14 @@ fn put_statements(
 fn put_end(
     alloc: Global,
     cards: &ProgramCards,
-    labels: &SeenLabels,
+    labels: &Labels,
     found: &mut Vec<LoadError>,
 ) -> Result<(), AllocError>
     ensures { OnOk result (found.new.items ≡ found.old.items ++ end_refused cards.now.end_rest (end_start cards.now labels.now)) }
 {
     let count = cards.statements().len();
-    let rest = cards.end_rest();
-    match start_of(alloc, count, labels, rest.as_bytes())? {
-        Some(_) => Ok(()),
-        None => {
-            found.push(LoadError::Syntax(end_refusal(rest)))?;
-            Ok(())
-        }
-    }
+    let refusal = end_refusal(alloc, count, labels, cards.end_rest())?;
+    put_refusal(refusal, found)
 }
 
 /// Puts why the cards of a program are refused last: of each statement, and of the END line.

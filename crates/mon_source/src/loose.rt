@@ -3,9 +3,8 @@
 
 use crate::calls::{defined_by, is_built_in, is_called};
 use crate::starts::place_at;
-use mon_refusals::{SeenLabels, label_in};
 use mon_text::{Line, Stop};
-use sno_syntax::{Place, ProgramCards, StatementText, lex};
+use sno_syntax::{Labels, Place, ProgramCards, StatementText, label_in, lex};
 use sno_token::{Part, Token, TokenKind, Word};
 use std::alloc::{AllocError, Global};
 
@@ -29,8 +28,8 @@ pub struct LooseName {
 // The names that a program gives a meaning.
 #[derive(Drop)]
 struct Known {
-    labels: SeenLabels,
-    functions: SeenLabels,
+    labels: Labels,
+    functions: Labels,
 }
 
 /// The names in a program's statements that lead nowhere, in their order. A statement whose tokens can't be read has none.
@@ -49,8 +48,8 @@ pub fn loose_names(alloc: Global, cards: &ProgramCards) -> Result<Vec<LooseName>
 
 fn known_names(alloc: Global, cards: &ProgramCards) -> Result<Known, AllocError> {
     let mut known = Known {
-        labels: SeenLabels::new(alloc),
-        functions: SeenLabels::new(alloc),
+        labels: Labels::new(alloc),
+        functions: Labels::new(alloc),
     };
     for (index, text) in cards.statements().iter().enumerate() {
         put_label(alloc, &mut known.labels, text, index)?;
@@ -61,7 +60,7 @@ fn known_names(alloc: Global, cards: &ProgramCards) -> Result<Known, AllocError>
 
 fn put_label(
     alloc: Global,
-    labels: &mut SeenLabels,
+    labels: &mut Labels,
     text: &StatementText,
     index: usize,
 ) -> Result<(), AllocError> {
@@ -71,7 +70,7 @@ fn put_label(
 // Notes the functions that a statement gives to DEFINE as literals.
 fn put_definitions(
     alloc: Global,
-    functions: &mut SeenLabels,
+    functions: &mut Labels,
     text: &StatementText,
     index: usize,
 ) -> Result<(), AllocError> {
@@ -84,7 +83,7 @@ fn put_definitions(
 
 fn put_defined(
     alloc: Global,
-    functions: &mut SeenLabels,
+    functions: &mut Labels,
     tokens: &[Token],
     index: usize,
 ) -> Result<(), AllocError> {
@@ -113,7 +112,7 @@ fn is_call_of_define(
 
 fn put_defined_at(
     alloc: Global,
-    functions: &mut SeenLabels,
+    functions: &mut Labels,
     tokens: &[Token],
     at: usize,
     index: usize,

@@ -1,17 +1,13 @@
 -- Parts of the definitions by names of their own.
 use Rattle.std.specs.Prelude.{◌≡◌, ℕ, List, Option, MatchOption, if◌then◌else◌}
-use Rattle.std.specs.Bool.{then_some}
 use Rattle.std.specs.List.{fold}
-use Rattle.std.specs.Option.{is_none}
 use Rattle.mon_text.specs.Characters.{is_blank}
 use Rattle.sno_cards.specs.declared.refusal.Place.{Place}
 use Rattle.sno_cards.specs.declared.refusal.SyntaxError.{SyntaxError}
 use Rattle.sno_cards.specs.declared.refusal.SyntaxCode.{SyntaxCode}
-use Rattle.sno_cards.specs.declared.refusal.SyntaxCode.TheVariants.{BadEnd}
 use Rattle.sno_cards.specs.Texts.{Placed}
-use Rattle.sno_syntax.specs.declared.start.Start.{Start}
 use Rattle.sno_syntax.specs.Places.{next_to, place_at, refused_with}
-use Rattle.sno_syntax.specs.Refusals.{IsRefusedBehind, begin_of}
+use Rattle.sno_syntax.specs.Refusals.{IsRefusedBehind}
 
 -- the place after the last character that is no blank, where one more character stands at a place
 abbrev pub end_after : Place → ℕ → Place → Place
@@ -22,6 +18,3 @@ end_from so_far text = fold (λ p c. if is_blank c.code then p else next_to c.pl
 
 abbrev pub IsRefusedBy : List Placed → Option SyntaxCode → SyntaxError → Type 0
 IsRefusedBy text code e = MatchOption code (IsRefusedBehind text e) (λ c. e ≡ refused_with c (place_at text 0))
-
-abbrev pub end_refusal : List Placed → Option Start → Option SyntaxError
-end_refusal rest start = then_some (is_none start) (refused_with BadEnd (begin_of rest))

@@ -125,7 +125,10 @@ begin_of text = place_at text (position_or_len (λ c. not (is_blank c)) (text_of
 abbrev pub start_in : ProgramText → Option Start
 start_in program = start_of (length program.statements) (labels_in program.statements) (words (text_of program.end_rest))
 
+-- of the END line, where what stands behind END does not say where the run begins
+abbrev pub end_refusal : List Placed → Option Start → Option SyntaxError
+end_refusal rest start = then_some (is_none start) (refused_with BadEnd (begin_of rest))
+
 -- statement by statement, and then the END line
 abbrev pub syntax_refusal : ProgramText → Option SyntaxError
-syntax_refusal program = option_or (statements_refusal [] 0 program.statements)
-    (then_some (is_none (start_in program)) (refused_with BadEnd (begin_of program.end_rest)))
+syntax_refusal program = option_or (statements_refusal [] 0 program.statements) (end_refusal program.end_rest (start_in program))

@@ -98,8 +98,12 @@ impl Labels {
         }
     }
 
-    // Puts a label before a statement.
-    pub(crate) fn insert(
+    /// Puts a label before a statement.
+    ///
+    /// # Errors
+    ///
+    /// Where a growth was refused.
+    pub fn insert(
         &mut self,
         alloc: Global,
         label: &[u8],
@@ -114,7 +118,7 @@ impl Labels {
 }
 
 /// The label of a statement's text, which is empty where column 1 holds a blank.
-pub(crate) fn label_in(text: &[u8]) -> &[u8]
+pub fn label_in(text: &[u8]) -> &[u8]
     ensures { result.now ≡ before_first is_blank text.now }
 {
     &text[..label_length(text)]

@@ -1,6 +1,7 @@
 //! Programs: from cards to trees, or the first refusal.
 //!
 //! `statements` makes the texts of the statements from cards, `lex` the tokens of one of them, and `parse` the program.
+//! `statement_refusal` and `end_refusal` say what is refused by itself, for whoever asks for more than the first refusal.
 #![tactic(auto)]
 
 pub mod label;
@@ -10,11 +11,13 @@ pub mod place;
 pub mod program;
 pub mod reading;
 pub mod start;
+pub mod statement;
 
-pub use label::Labels;
+pub use label::{Labels, label_in};
 pub use lexing::lex;
 pub use program::Program;
 pub use reading::parse;
 pub use sno_cards::{Place, ProgramCards, StatementText, SyntaxCode, SyntaxError, statements};
 pub use sno_lexer::Tokens;
-pub use start::Start;
+pub use start::{Start, end_refusal};
+pub use statement::{note_label, statement_refusal};

@@ -1,97 +1,19 @@
 //! From the texts of statements to a program.
-ghost use Rattle.std.specs.Prelude.{◌≡◌, [], ◌∷◌, ◌++◌, map, not, position, Some, None, IfOk, IfErr, OnOk};
-ghost use Rattle.mon_text.specs.Characters.{is_blank};
+ghost use Rattle.std.specs.Prelude.{◌≡◌, [], ◌∷◌, ◌++◌, map, Some, None, IfOk, IfErr, OnOk};
 ghost use Rattle.sno_cards.specs.Answers.{IfRefused};
-ghost use Rattle.sno_cards.specs.declared.refusal.SyntaxCode.TheVariants.{BadEnd};
 ghost use Rattle.sno_statement.specs.Told.{statement_of};
-ghost use Rattle.sno_syntax.specs.Places.{refused_with};
-ghost use Rattle.sno_syntax.specs.Refusals.{code_of_fault, token_place, fault_refusal, label_of, tokens_of, stage_refusal, statement_refusal, with_label, labels_in, statements_refusal, begin_of, syntax_refusal};
-ghost use Rattle.sno_syntax.specs.Programs.{program_of, TextSpells, SpellsBehind, SpellFrom, IsProgram};
+ghost use Rattle.sno_syntax.specs.Refusals.{label_of, statement_refusal, with_label, labels_in, statements_refusal, syntax_refusal};
+ghost use Rattle.sno_syntax.specs.Programs.{program_of, SpellFrom, IsProgram};
 ghost use Rattle.sno_syntax.specs.inner.Lasts.{SpellsLast};
 
-use crate::label::{Labels, label_fault, label_in};
-use crate::lexing::tokens_of;
-use crate::place::{end_of, place_at};
+use crate::label::Labels;
 use crate::program::Program;
-use crate::start::start_of;
+use crate::start::{bad_end, start_of};
+use crate::statement::{note_label, read_statement};
 use mon_text::Stop;
-use sno_cards::{Place, ProgramCards, StatementText, SyntaxCode, SyntaxError};
-use sno_statement::{Fault, FaultKind, Statement, parse_statement};
+use sno_cards::{ProgramCards, StatementText, SyntaxError};
+use sno_statement::Statement;
 use std::alloc::{AllocError, Global};
-
-fn code_of_fault(kind: FaultKind) -> SyntaxCode
-    ensures { result ≡ code_of_fault kind }
-{
-    match kind {
-        FaultKind::MissingBlank => SyntaxCode::BlankMissing,
-        FaultKind::Unfit => SyntaxCode::Unexpected,
-        FaultKind::NoVariable => SyntaxCode::VariableNeeded,
-    }
-}
-
-// Where a token stands, or the end where there is none.
-fn token_place(text: &StatementText, offsets: &[usize], index: usize) -> Place
-    ensures { result ≡ token_place text.now offsets.now index }
-{
-    if index < offsets.len() {
-        place_at(text, offsets[index])
-    } else {
-        end_of(text)
-    }
-}
-
-fn fault_refusal(text: &StatementText, offsets: &[usize], fault: Fault) -> SyntaxError
-    ensures { result ≡ fault_refusal text.now offsets.now fault }
-{
-    SyntaxError {
-        code: code_of_fault(fault.kind),
-        place: token_place(text, offsets, fault.at),
-    }
-}
-
-// What a statement says behind its label.
-fn read_body(alloc: Global, text: &StatementText) -> Result<Statement, Stop<SyntaxError>>
-    ensures spelled { IfOk result (λ s. TextSpells text.now (statement_of s)) }
-    ensures refused { IfErr result (IfRefused (λ refusal. stage_refusal text.now (tokens_of text.now) ≡ Some refusal)) }
-{
-    let tokens = tokens_of(alloc, text)?;
-    match parse_statement(alloc, tokens.tokens())? {
-        Ok(statement) => Ok(statement),
-        Err(fault) => Err(Stop::Refused(fault_refusal(text, tokens.offsets(), fault))),
-    }
-}
-
-// A statement, where these labels are defined before it.
-fn read_statement(
-    alloc: Global,
-    labels: &Labels,
-    text: &StatementText,
-) -> Result<Statement, Stop<SyntaxError>>
-    ensures spelled { IfOk result (λ s. SpellsBehind labels.now text.now (statement_of s)) }
-    ensures refused { IfErr result (IfRefused (λ refusal. statement_refusal labels.now text.now ≡ Some refusal)) }
-{
-    if let Some(code) = label_fault(labels, label_in(text.as_bytes())) {
-        let place = place_at(text, 0);
-        return Err(Stop::Refused(SyntaxError { code, place }));
-    }
-    read_body(alloc, text)
-}
-
-// Notes where the label of a statement stands.
-fn note_label(
-    alloc: Global,
-    labels: &mut Labels,
-    text: &StatementText,
-    index: usize,
-) -> Result<(), AllocError>
-    ensures { OnOk result (labels.new ≡ with_label labels.old (label_of text.now) index) }
-{
-    let label = label_in(text.as_bytes());
-    if label.is_empty() {
-        return Ok(());
-    }
-    labels.insert(alloc, label, index)
-}
 
 // All statements, and where their labels stand.
 #[derive(Drop)]
@@ -140,28 +62,6 @@ fn read_statements(alloc: Global, texts: &[StatementText]) -> Result<Body, Stop<
     Ok(body)
 }
 
-fn ink_in(text: &[u8]) -> Option<usize>
-    ensures { result ≡ position (λ c. not (is_blank c)) text.now }
-{
-    text.iter().position(|byte| *byte != b' ')
-}
-
-// Where a text begins that isn't blank.
-fn begin_of(text: &StatementText) -> Place
-    ensures { result ≡ begin_of text.now }
-{
-    place_at(text, ink_in(text.as_bytes()).unwrap_or(text.len()))
-}
-
-fn end_refusal(rest: &StatementText) -> SyntaxError
-    ensures { result ≡ refused_with BadEnd (begin_of rest.now) }
-{
-    SyntaxError {
-        code: SyntaxCode::BadEnd,
-        place: begin_of(rest),
-    }
-}
-
 /// Reads a program from its cards: its statements, their labels, and where a run begins.
 ///
 /// A label begins in column 1 and runs to a blank. What follows it is the statement, by the grammar of the language: see
@@ -183,7 +83,7 @@ pub fn parse(alloc: Global, cards: &ProgramCards) -> Result<Program, Stop<Syntax
     let count = cards.statements().len();
     let rest = cards.end_rest();
     match start_of(alloc, count, &body.labels, rest.as_bytes())? {
-        None => Err(Stop::Refused(end_refusal(rest))),
+        None => Err(Stop::Refused(bad_end(rest))),
         Some(start) => Ok(Program {
             statements: body.statements,
             labels: body.labels,

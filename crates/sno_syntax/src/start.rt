@@ -1,10 +1,17 @@
-//! Where a run of a program begins.
-ghost use Rattle.std.specs.Prelude.{◌≡◌, map, IfOk, ◌==◌, if◌then◌else◌};
+//! Where a run of a program begins, as its END line says it.
+ghost use Rattle.std.specs.Prelude.{◌≡◌, map, not, position, IfOk, ◌==◌, if◌then◌else◌};
+ghost use Rattle.mon_text.specs.Characters.{is_blank};
 ghost use Rattle.mon_text.specs.Lines.{words};
+ghost use Rattle.sno_cards.specs.declared.refusal.SyntaxCode.TheVariants.{BadEnd};
+ghost use Rattle.sno_cards.specs.Texts.{text_of};
+ghost use Rattle.sno_syntax.specs.Places.{refused_with};
+ghost use Rattle.sno_syntax.specs.Refusals.{begin_of, end_refusal};
 ghost use Rattle.sno_syntax.specs.Starts.{start_named, start_of};
 ghost use Rattle.sno_syntax.specs.declared.start.Start.TheVariants.{End, Statement};
 
 use crate::label::{Labels, is_end};
+use crate::place::place_at;
+use sno_cards::{Place, StatementText, SyntaxCode, SyntaxError};
 use std::alloc::{AllocError, Global};
 
 /// Where a run begins.
@@ -59,5 +66,48 @@ pub(crate) fn start_of(
         [] => Ok(Some(first_start(count))),
         [word] => Ok(start_named(labels, word)),
         _ => Ok(None),
+    }
+}
+
+fn ink_in(text: &[u8]) -> Option<usize>
+    ensures { result ≡ position (λ c. not (is_blank c)) text.now }
+{
+    text.iter().position(|byte| *byte != b' ')
+}
+
+// Where a text begins that isn't blank.
+fn begin_of(text: &StatementText) -> Place
+    ensures { result ≡ begin_of text.now }
+{
+    place_at(text, ink_in(text.as_bytes()).unwrap_or(text.len()))
+}
+
+/// The refusal of an END line that has something else after END than one label of the program.
+pub(crate) fn bad_end(rest: &StatementText) -> SyntaxError
+    ensures { result ≡ refused_with BadEnd (begin_of rest.now) }
+{
+    SyntaxError {
+        code: SyntaxCode::BadEnd,
+        place: begin_of(rest),
+    }
+}
+
+/// Why the END line is refused, if it is, where there are so many statements with these labels and this stands behind END:
+/// `BadEnd`, where it is neither blank nor one of the labels.
+///
+/// # Errors
+///
+/// Where a growth was refused.
+pub fn end_refusal(
+    alloc: Global,
+    count: usize,
+    labels: &Labels,
+    rest: &StatementText,
+) -> Result<Option<SyntaxError>, AllocError>
+    ensures { IfOk result (λ refusal. refusal ≡ end_refusal rest.now (start_of count labels.now (words (text_of rest.now)))) }
+{
+    match start_of(alloc, count, labels, rest.as_bytes())? {
+        Some(_) => Ok(None),
+        None => Ok(Some(bad_end(rest))),
     }
 }

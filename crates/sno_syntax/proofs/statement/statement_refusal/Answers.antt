@@ -1,7 +1,7 @@
 use Rattle.std.proofs.Common.{sym}
 use Rattle.sno_statement.specs.Told.{statement_of}
 use Rattle.sno_syntax.proofs.Spelled.{no_refusal}
-use Rattle.mon_refusals.proofs.statement.refusal_of.Goals as goal
+use Rattle.sno_syntax.proofs.statement.statement_refusal.Goals as goal
 
 pub returns-in-Ok : goal.returns-in-Ok
 returns-in-Ok c = sym (no_refusal c.args.labels.now c.args.text.now (statement_of c.before.before.in-Ok._statement) c.in-Ok.ensures.spelled)

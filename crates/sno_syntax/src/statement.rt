@@ -1,48 +1,17 @@
-//! Why a statement is refused, if it is.
-ghost use Rattle.std.specs.Prelude.{◌≡◌, Ok, Err, Some, IfOk, IfErr, OnOk};
+//! A statement's text, to the statement or its refusal.
+ghost use Rattle.std.specs.Prelude.{◌≡◌, Some, Ok, Err, IfOk, IfErr, OnOk};
 ghost use Rattle.sno_cards.specs.Answers.{IfRefused};
 ghost use Rattle.sno_statement.specs.Told.{statement_of};
-ghost use Rattle.sno_syntax.specs.Refusals.{code_of_lex, lex_refusal, code_of_fault, token_place, fault_refusal, label_of, tokens_of, stage_refusal, statement_refusal, with_label};
+ghost use Rattle.sno_syntax.specs.Refusals.{code_of_fault, token_place, fault_refusal, label_of, tokens_of, stage_refusal, statement_refusal, with_label};
 ghost use Rattle.sno_syntax.specs.Programs.{TextSpells, SpellsBehind};
 
-use crate::label::{SeenLabels, label_fault, label_in, label_length};
+use crate::label::{Labels, label_fault, label_in};
+use crate::lexing::tokens_of;
 use crate::place::{end_of, place_at};
 use mon_text::Stop;
-use sno_lexer::{FaultKind as LexKind, LexFault};
+use sno_cards::{Place, StatementText, SyntaxCode, SyntaxError};
 use sno_statement::{Fault, FaultKind, Statement, parse_statement};
-use sno_syntax::{Place, StatementText, SyntaxCode, SyntaxError, Tokens};
 use std::alloc::{AllocError, Global};
-
-fn code_of_lex(kind: LexKind) -> SyntaxCode
-    ensures { result ≡ code_of_lex kind }
-{
-    match kind {
-        LexKind::BadConstant => SyntaxCode::BadConstant,
-        LexKind::Foreign => SyntaxCode::Unexpected,
-        LexKind::TooMany => SyntaxCode::StatementTooLarge,
-    }
-}
-
-fn lex_refusal(text: &StatementText, fault: LexFault) -> SyntaxError
-    ensures { result ≡ lex_refusal text.now fault }
-{
-    SyntaxError {
-        code: code_of_lex(fault.kind),
-        place: place_at(text, fault.offset),
-    }
-}
-
-// The tokens behind the label of a statement, or the first fault of theirs.
-fn tokens_of(alloc: Global, text: &StatementText) -> Result<Tokens<'_>, Stop<SyntaxError>>
-    ensures tokens { IfOk result (λ tokens. tokens_of text.now ≡ Ok tokens) }
-    ensures refused { IfErr result (IfRefused (λ refusal. tokens_of text.now ≡ Err refusal)) }
-{
-    let bytes = text.as_bytes();
-    match sno_lexer::lex(alloc, bytes, label_length(bytes))? {
-        Ok(tokens) => Ok(tokens),
-        Err(fault) => Err(Stop::Refused(lex_refusal(text, fault))),
-    }
-}
 
 fn code_of_fault(kind: FaultKind) -> SyntaxCode
     ensures { result ≡ code_of_fault kind }
@@ -86,10 +55,14 @@ fn read_body(alloc: Global, text: &StatementText) -> Result<Statement, Stop<Synt
     }
 }
 
-// A statement, where these labels are defined before it.
-fn read_statement(
+/// A statement, where these labels are defined before it; or why it is refused.
+///
+/// # Errors
+///
+/// Its refusal, and `Memory` where a growth was refused.
+pub(crate) fn read_statement(
     alloc: Global,
-    labels: &SeenLabels,
+    labels: &Labels,
     text: &StatementText,
 ) -> Result<Statement, Stop<SyntaxError>>
     ensures spelled { IfOk result (λ s. SpellsBehind labels.now text.now (statement_of s)) }
@@ -102,14 +75,15 @@ fn read_statement(
     read_body(alloc, text)
 }
 
-/// Why a statement is refused, if it is, where these labels are defined before it.
+/// Why a statement is refused, if it is, where these labels are defined before it: its label, else its first fault, as
+/// `parse` has them.
 ///
 /// # Errors
 ///
 /// Where a growth was refused.
-pub(crate) fn refusal_of(
+pub fn statement_refusal(
     alloc: Global,
-    labels: &SeenLabels,
+    labels: &Labels,
     text: &StatementText,
 ) -> Result<Option<SyntaxError>, AllocError>
     ensures { IfOk result (λ refusal. refusal ≡ statement_refusal labels.now text.now) }
@@ -121,14 +95,14 @@ pub(crate) fn refusal_of(
     }
 }
 
-/// Notes where the label of a statement stands.
+/// Notes where the label of a statement stands, if it has one.
 ///
 /// # Errors
 ///
 /// Where a growth was refused.
-pub(crate) fn note_label(
+pub fn note_label(
     alloc: Global,
-    labels: &mut SeenLabels,
+    labels: &mut Labels,
     text: &StatementText,
     index: usize,
 ) -> Result<(), AllocError>

@@ -5,7 +5,7 @@ use Rattle.sno_statement.specs.Told.{statement_of}
 use Rattle.sno_statement.proofs.Leftmost.{is_found}
 use Rattle.sno_syntax.specs.inner.Tokens.{AreTokensOf}
 use Rattle.sno_syntax.proofs.Behind.{text_spells}
-use Rattle.mon_refusals.proofs.statement.read_body.Goals as goal
+use Rattle.sno_syntax.proofs.statement.read_body.Goals as goal
 
 pub returns-in-Ok-clause-spelled : goal.returns-in-Ok-clause-spelled
 returns-in-Ok-clause-spelled c =

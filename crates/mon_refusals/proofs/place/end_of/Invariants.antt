@@ -1,9 +1,0 @@
-use Rattle.std.proofs.Common.{◌≡◌, drop}
-use Rattle.sno_syntax.specs.Places.{end_of}
-use Rattle.sno_syntax.specs.inner.Ends.{place_after}
-use Rattle.mon_refusals.proofs.place.end_of.Given as goal
-use Rattle.sno_syntax.proofs.Shorthand.{end_from}
-
--- what is left of the text leads to its end
-abbrev pub invariant-loop-index : goal.invariant-loop-index
-invariant-loop-index l = end_from (place_after l.text l.last) (drop l.index l.text) ≡ end_of l.text
