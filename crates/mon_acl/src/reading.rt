@@ -3,34 +3,23 @@ ghost use Rattle.std.specs.Prelude.{◌≡◌, ◌==◌, ◌||◌, map, option_m
 ghost use Rattle.std.specs.List.{list_all};
 ghost use Rattle.mon_acl.specs.Texts.{is_permission, times, trimmed, is_colon};
 ghost use Rattle.mon_acl.specs.inner.Building.{parts_behind};
-ghost use Rattle.mon_acl.specs.Refusals.{is_either, type_of, named_type, qualified, parts_of, is_perms, perms_of, entry_of};
+ghost use Rattle.mon_acl.specs.Refusals.{type_of, named_type, qualified, parts_of, is_perms, perms_of, entry_of};
 
 use crate::entries::{Entry, Perms, Tag};
 use crate::fields::{cut, trimmed};
 use crate::refusals::AclError;
 use mon_text::{Name, read_name};
 
-/// Whether a word is the long or the short of two.
-fn is_either(word: &[u8], long: &[u8], short: &[u8]) -> bool
-    ensures { result ≡ is_either word.now long.now short.now }
-{
-    word == long || word == short
-}
-
 /// The type of an entry that begins with this word and has no qualifier.
 fn type_of(word: &[u8]) -> Option<Tag>
     ensures { result ≡ type_of word.now }
 {
-    if is_either(word, b"user", b"u") {
-        Some(Tag::UserObj)
-    } else if is_either(word, b"group", b"g") {
-        Some(Tag::GroupObj)
-    } else if is_either(word, b"mask", b"m") {
-        Some(Tag::Mask)
-    } else if is_either(word, b"other", b"o") {
-        Some(Tag::Other)
-    } else {
-        None
+    match word {
+        b"user" | b"u" => Some(Tag::UserObj),
+        b"group" | b"g" => Some(Tag::GroupObj),
+        b"mask" | b"m" => Some(Tag::Mask),
+        b"other" | b"o" => Some(Tag::Other),
+        _ => None,
     }
 }
 

@@ -198,10 +198,7 @@ fn put_goto(
 
 // Whether a statement has this label, or it means something by itself.
 fn is_label(known: &Known, name: &[u8]) -> bool {
-    known.labels.find(name).is_some()
-        || name == b"END".as_slice()
-        || name == b"RETURN".as_slice()
-        || name == b"FRETURN".as_slice()
+    matches!(name, b"END" | b"RETURN" | b"FRETURN") || known.labels.find(name).is_some()
 }
 
 fn put_call(
