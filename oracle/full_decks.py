@@ -47,7 +47,7 @@ def each_set_for_itself():
 
 def a_log_that_is_full():
     """A set of mode APPEND takes its last record and no further, wherever a unit stands: at its beginning, or behind a read."""
-    log = records(FULL - 1)
+    log = records(FULL - 1)    # its list, and then its records
     deck = ['$ACCOUNTS', 'anna admin', '$CATALOGUE 2', '$SET LOG anna admin APPEND %d' % (FULL - 1)] + log + [
         '$STREAM', '$JOB anna', '$UNIT 8 LOG',
         "  OUTPUT('W',8); INPUT('R',8)",    # statements 1 and 2
@@ -56,7 +56,7 @@ def a_log_that_is_full():
         '  OUTPUT = R',                     # 5, which reads the first record
         "  W = 'MORE'",                     # 6, which finds it full behind the read, too
         'END', '$EOJ', '$STOP']
-    return deck, ['JOB 1 anna', ' R1', 'FULL STATEMENT 4 WRITE LOG', 'FULL STATEMENT 6 WRITE LOG', 'END NORMAL AFTER 6',
+    return deck, ['JOB 1 anna', ' ' + log[1], 'FULL STATEMENT 4 WRITE LOG', 'FULL STATEMENT 6 WRITE LOG', 'END NORMAL AFTER 6',
                   '$CATALOGUE 2', '$SET LOG anna admin APPEND %d' % FULL] + log + ['LAST']
 
 
