@@ -1,4 +1,4 @@
-"""What is installed, the man pages, and the examples of a round."""
+"""The man pages, and the examples of a round."""
 import os
 import re
 import shutil
@@ -8,31 +8,7 @@ from test_2_split import HEAD, job, sets
 SPOILED = b"$JOB hugo\n  X = 1 +\nEND\n$EOJ\n$JOB lisa ST=1\nL  :(L)\nEND\n$EOJ\n"
 
 
-class Installed(Trying):
-    def test_what_is_installed_runs(self):
-        environment = {**os.environ, **({'SNOMON': SNOMON} if 'SNOMON' in os.environ else {})}  # else it is built
-        done = run([os.path.join(TOP, 'install'), self.path('there')], env=environment)
-        self.assertEqual((done.status, done.err), (0, ''))
-        for name in done.out.decode().split():
-            self.assertTrue(os.path.isfile(name), name)
-        self.assertEqual(sorted(os.listdir(self.path('there'))), ['bin', 'lib', 'share'])
-        self.assertLessEqual({'deck', 'snomon'}, set(os.listdir(self.path('there/bin'))))
-        pages = [name for _, _, names in os.walk(self.path('there/share/man')) for name in names]
-        self.assertEqual(sorted(pages), sorted(os.listdir(os.path.join(TOP, 'docs', 'man'))))
-        self.assertFalse([name for _, _, names in os.walk(self.path('there')) for name in names if name.startswith('.')])
-        self.write('output', BOTH[2])
-        done = run([self.path('there/bin/deck'), 'printouts', self.path('output')])
-        self.assertEqual((done.status, done.out, done.err), (0, PRINTOUTS, ''))
-        self.assertNotIn('__pycache__', os.listdir(self.path('there/lib/snomon/decks')))
-        again = run([os.path.join(TOP, 'install'), self.path('there')], env=environment)
-        self.assertEqual(again.status, 0)
-
-    def test_install_refuses_other_words(self):
-        for words in (['--bogus'], ['a', 'b']):
-            done = run([os.path.join(TOP, 'install'), *words], cwd=self.room)
-            self.assertEqual((done.status, done.out, self.names()), (2, b'', []))
-            self.assertIn('./install [PREFIX]', done.err)
-
+class Pages(Trying):
     def test_man_pages_are_set_without_a_warning(self):
         if not shutil.which('groff'):
             self.skipTest('there is no groff')

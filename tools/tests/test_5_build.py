@@ -1,39 +1,14 @@
-"""./run, in a small repository of its own, beside an rt that takes a script for a program."""
+"""./run and tools/release: the program that is built here, the released one, and programs that are not right."""
 import os
-import shutil
-from trying import TOP, Trying, run
-
-RT = '''#!/bin/sh
-echo built >>"$ROOM/said"
-echo "fn mon_low::f: proved" >&2
-echo "fn mon_low::g: proved" >&2
-echo "fn snomon::main: proved" >&2
-if [ -e "$ROOM/refuse" ]; then exit 1; fi
-mkdir -p out
-printf '#!/bin/sh\\necho "$@"; cat\\n' >out/snomon
-chmod +x out/snomon
-'''
+import signal
+import subprocess
+import time
+from checkout import BY_HAND, OF_THE_GATE, PROGRAM, RELEASED, Checkout, sha256
+from trying import run
 
 
-class Built(Trying):
-    def setUp(self):
-        super().setUp()
-        for name in ('tools', 'examples', 'bin', 'crates/snomon/src', 'crates/mon_low/specs', 'crates/other/src'):
-            os.makedirs(self.path(name))
-        for name in ('run', 'tools/proved', 'examples/payroll.deck'):
-            shutil.copy(os.path.join(TOP, name), self.path(name))
-        self.write('crates.txt', b'# crates\nmon_low: thiserror\nsnomon: mon_low clap\nother: mon_low\n')
-        for name in ('crates/snomon/src/main.rt', 'crates/mon_low/specs/Low.antt', 'crates/other/src/lib.rt'):
-            self.write(name, b'one\n')
-        self.write('bin/rt', RT.encode())
-        os.chmod(self.path('bin/rt'), 0o755)
-
-    def ran(self, *words):
-        environment = {**os.environ, 'ROOM': self.room, 'PATH': self.path('bin') + os.pathsep + os.environ['PATH']}
-        return run([self.path('run'), *words], given=b'deck\n', env=environment, cwd='/')
-
-    def builds(self):
-        return self.read('said').count(b'built') if 'said' in self.names() else 0
+class Built(Checkout):
+    # What is built here
 
     def test_the_first_run_builds_and_says_how_far_it_is(self):
         done = self.ran('--check')
@@ -45,7 +20,7 @@ class Built(Trying):
     def test_what_no_build_reads_builds_nothing(self):
         self.ran()
         self.write('crates/other/src/lib.rt', b'two\n')
-        self.write('crates.txt', b'# crates\nmon_low: thiserror\nsnomon: mon_low clap\nother:\nnew: mon_low\n')
+        self.write('crates.txt', b'# crates\nmon_low: thiserror\nsnomon: mon_low clap\nlisting: mon_low\nother:\nnew: mon_low\n')
         self.assertEqual((self.ran().err, self.builds()), ('', 1))
         self.write('crates/mon_low/specs/Low.antt', b'two\n')
         self.assertIn('min the last time', self.ran().err)
@@ -53,33 +28,183 @@ class Built(Trying):
         self.ran()
         self.assertEqual(self.builds(), 3)
 
-    def proved(self, *words):
-        return run([self.path('tools/proved'), *words], given=b'', cwd='/')
+    def test_another_toolchain_builds_anew_and_none_takes_what_is_there(self):
+        self.ran()
+        self.write('version', b'kit 2\n')
+        self.ran()
+        self.assertEqual(self.builds(), 2)
+        done = self.ran(with_rt=False)
+        self.assertEqual((done.out, done.err), (b'\ndeck\n', ''))
+
+    def test_other_handles_build_anew(self):
+        self.ran()
+        self.write('HANDLES', b'Handles allowed: Net.\n')
+        self.ran()
+        self.assertEqual(self.builds(), 2)
 
     def test_what_the_gate_built_is_taken(self):
-        sum = self.proved('--sum', 'snomon').out.decode().strip('\n')
-        os.makedirs(self.path('crates/snomon/out'))
-        self.write('crates/snomon/out/snomon', b'#!/bin/sh\necho of the gate\n')
-        os.chmod(self.path('crates/snomon/out/snomon'), 0o755)
-        self.assertEqual(self.proved('--stamp', 'snomon', sum).status, 0)
-        done = self.ran()
-        self.assertEqual((done.status, done.out, done.err, self.builds()), (0, b'of the gate\n', '', 0))
+        sum = self.sum()
+        self.stamp('snomon', OF_THE_GATE)
+        done = self.ran('a')
+        self.assertEqual((done.status, done.out, done.err, self.builds()), (0, b'of the gate a\n', '', 0))
         self.write('crates/mon_low/specs/Low.antt', b'two\n')
-        self.proved('--stamp', 'snomon', sum)
+        self.proved('--stamp', 'snomon', sum, 'kit 1')
         self.ran()
         self.assertEqual(self.builds(), 1)
 
     def test_help_builds_nothing(self):
         done = self.ran('--help')
         self.assertEqual((done.status, done.out, self.builds()), (2, b'', 0))
-        self.assertIn('not built yet', done.err)
+        self.assertIn('not built here', done.err)
         self.ran()
-        self.write('crates/snomon/src/main.rt', b'two\n')
-        done = self.ran('--help')
-        self.assertEqual((done.out, done.err, self.builds()), (b'--help\ndeck\n', '', 1))
+        self.assertEqual((self.ran('--help').out, self.builds()), (b'--help\ndeck\n', 1))
 
     def test_what_cannot_be_built_is_told(self):
         self.write('refuse', b'')
         done = self.ran()
         self.assertEqual((done.status, done.out), (125, b''))
         self.assertIn('could not be built', done.err)
+
+    def test_a_build_can_be_asked_for(self):
+        self.release()
+        done = self.ran('--build')
+        self.assertEqual((done.status, done.out, self.builds()), (0, b'', 1), done.err)
+        self.assertEqual(self.ran('a').out, b'a\ndeck\n')
+        self.ran('--build')
+        self.assertEqual(self.builds(), 2)
+        self.assertEqual(self.ran('--build', '--check').status, 2)
+
+    # What is not right
+
+    def test_a_program_put_there_by_hand_is_not_run(self):
+        self.script(PROGRAM, BY_HAND)
+        done = self.ran()
+        self.assertIn('is not a program that was proved and built here', done.err)
+        self.assertEqual((done.out, self.builds()), (b'\ndeck\n', 1))
+        self.script(PROGRAM, BY_HAND)
+        done = self.ran()
+        self.assertIn('is not a program that was proved and built here', done.err)
+        self.assertEqual((done.out, self.builds()), (b'\ndeck\n', 2))
+
+    def test_a_program_put_there_by_hand_gives_way_to_the_released_one(self):
+        self.release()
+        self.script(PROGRAM, BY_HAND)
+        done = self.ran('a', with_rt=False)
+        self.assertIn('is not a program that was proved and built here', done.err)
+        self.assertEqual((done.status, done.out), (0, b'released a\n'))
+
+    def test_the_released_program_needs_no_toolchain(self):
+        self.release()
+        done = self.ran('a', 'b', with_rt=False)
+        self.assertEqual((done.status, done.out, done.err), (0, b'released a b\n', ''))
+        self.assertEqual(self.ran('--help', with_rt=False).out, b'released --help\n')
+        self.write('version', b'kit 2\n')
+        self.assertEqual((self.ran().out, self.builds()), (b'released\n', 0))
+
+    def test_a_released_program_with_another_byte_is_not_run(self):
+        self.release()
+        self.script('release/snomon', RELEASED.replace(b'released', b'Released'))
+        done = self.ran(with_rt=False)
+        self.assertEqual((done.status, done.out), (125, b''))
+        self.assertIn('release/snomon is not the program that release/SHA256SUMS names', done.err)
+        self.assertEqual((self.ran().out, self.builds()), (b'\ndeck\n', 1))
+
+    def test_a_source_with_another_letter_makes_the_release_another(self):
+        self.release()
+        self.write('crates/mon_low/specs/Low.antt', b'ons\n')
+        done = self.ran(with_rt=False)
+        self.assertEqual((done.status, done.out), (125, b''))
+        self.assertIn('release/snomon is of other sources (commit 1234)', done.err)
+        self.assertIn('rt, which could prove and build it, is not on PATH', done.err)
+        self.assertEqual((self.ran().out, self.builds()), (b'\ndeck\n', 1))
+
+    def test_origin_tells_which_program_runs(self):
+        self.release()
+        said = self.ran('--origin', with_rt=False).out.decode()
+        for line in (f'program    {self.path("release/snomon")}', 'origin     released', f'sha256     {sha256(RELEASED)}',
+                     f'sources    {self.sum()}', 'commit     1234', 'toolchain  kit 1'):
+            self.assertIn(line + '\n', said)
+        self.ran('--build')
+        said = self.ran('--origin').out.decode()
+        self.assertIn(f'program    {self.path(PROGRAM)}\norigin     built here\n', said)
+        self.write('crates/mon_low/specs/Low.antt', b'two\n')
+        done = self.ran('--origin')
+        self.assertEqual((done.status, done.out), (1, b''))
+        self.assertIn('snomon is not built here, and release/snomon is of other sources', done.err)
+
+    def test_other_programs_are_refused(self):
+        for words in ((), ('other',), ('--sum', 'other', 'kit 1'), ('../snomon',)):
+            done = self.proved(*words)
+            self.assertEqual((done.status, done.out, self.builds()), (2, b'', 0))
+            self.assertIn('the programs are snomon and listing', done.err)
+
+    def test_a_checkout_that_cannot_be_written_says_so(self):
+        self.write('out', b'')
+        done = self.ran()
+        self.assertEqual((done.status, done.out, done.err), (125, b'', f'snomon: {self.path("out")} cannot be written, and a build needs it\n'))
+
+    # Two at a time, and one that is ended
+
+    def test_a_second_build_says_what_it_waits_for_and_an_ended_one_leaves_nothing(self):
+        self.write('slow', b'')
+        first = subprocess.Popen([self.path('run')], stdin=subprocess.DEVNULL, stderr=subprocess.PIPE, env=self.environment())
+        self.addCleanup(first.kill)
+        self.wait_for('child')
+        second = subprocess.Popen([self.path('run')], stdin=subprocess.DEVNULL, stdout=subprocess.PIPE, stderr=subprocess.PIPE, env=self.environment())
+        self.addCleanup(second.kill)
+        self.assertEqual(second.stderr.readline().decode(), f'snomon: waiting for the build that goes on here (process {first.pid})\n')
+        os.remove(self.path('slow'))
+        first.send_signal(signal.SIGTERM)
+        self.assertIn(b'ended before it was built', first.communicate(timeout=20)[1])
+        self.assertEqual(first.returncode, 130)
+        self.assertEqual((second.communicate(timeout=20)[0], second.returncode, self.builds()), (b'\n', 0, 2))
+        child = int(self.read('child'))
+        self.assertFalse(os.path.exists(f'/proc/{child}') and self.is_sleeping(child))
+
+    def wait_for(self, name):
+        for _ in range(200):
+            if name in self.names() and self.read(name):
+                return
+            time.sleep(0.05)
+        self.fail(f'{name} is not written')
+
+    def is_sleeping(self, process):
+        with open(f'/proc/{process}/cmdline', 'rb') as file:
+            return b'sleep' in file.read()
+
+    # Releases
+
+    def released_by(self, *words):
+        return run([self.path('tools/release'), *words], env=self.environment(), cwd='/')
+
+    def test_a_release_is_made_of_the_programs_of_a_passed_gate(self):
+        self.assertIn('no gate has passed', self.released_by().err)
+        self.stamp('snomon', OF_THE_GATE)
+        self.stamp('listing', BY_HAND)
+        self.assertEqual(self.released_by('--passed').status, 0)
+        self.assertEqual(self.released_by('--check').status, 1)
+        self.assertEqual(self.released_by().status, 0)
+        self.assertEqual(self.released_by('--check').status, 0)
+        os.remove(self.path(PROGRAM))
+        self.assertEqual(self.ran('a', with_rt=False).out, b'of the gate a\n')
+        done = run(['sha256sum', '--check', 'SHA256SUMS'], cwd=self.path('release'))
+        self.assertEqual((done.status, done.out), (0, b'snomon: OK\nlisting: OK\n'))
+        self.write('crates/mon_low/specs/Low.antt', b'two\n')
+        self.assertEqual(self.released_by('--check').status, 1)
+        self.assertIn('other sources', self.released_by().err)
+
+    def test_a_release_is_compared_with_what_the_gate_built(self):
+        for name in ('snomon', 'listing'):
+            self.stamp(name, RELEASED)
+        self.released_by('--passed')
+        self.released_by()
+        self.assertEqual(self.released_by('--compare').out, b'ok release/snomon is what was built\nok release/listing is what was built\n2 passed, 0 failed\n')
+        self.stamp('snomon', BY_HAND)
+        done = self.released_by('--compare')
+        self.assertEqual((done.status, done.out.splitlines()[-1]), (1, b'1 passed, 1 failed'))
+        self.write('crates/mon_low/specs/Low.antt', b'two\n')
+        self.stamp('snomon', BY_HAND)
+        self.stamp('listing', BY_HAND)
+        done = self.released_by('--compare')
+        self.assertEqual((done.status, done.out.splitlines()[-1]), (0, b'0 passed, 0 failed'))
+        self.assertIn(b'moved on', done.out)

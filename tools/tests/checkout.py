@@ -1,0 +1,83 @@
+"""A small repository of its own, with the scripts of this one, beside an rt that takes a script for a program."""
+import hashlib
+import os
+import shutil
+from trying import TOP, Trying, run
+
+# A toolchain whose programs say their words and then their deck.
+RT = '''#!/bin/sh
+if [ "$1" = version ]; then cat "$ROOM/version"; exit; fi
+echo built >>"$ROOM/said"
+echo "fn mon_low::f: proved" >&2
+echo "fn mon_low::g: proved" >&2
+echo "fn snomon::main: proved" >&2
+if [ -e "$ROOM/refuse" ]; then exit 1; fi
+if [ -e "$ROOM/slow" ]; then sleep 300 & echo $! >"$ROOM/child"; wait; fi
+mkdir -p out
+printf '#!/bin/sh\\necho "$@"; cat\\n' >out/snomon
+chmod +x out/snomon
+'''
+PROGRAM = 'crates/snomon/out/snomon'
+BY_HAND = b'#!/bin/sh\necho by hand\n'
+OF_THE_GATE = b'#!/bin/sh\necho of the gate "$@"\n'
+RELEASED = b'#!/bin/sh\necho released "$@"\n'
+
+
+def sha256(content):
+    return hashlib.sha256(content).hexdigest()
+
+
+def without_rt():
+    """The environment of a machine that has no toolchain."""
+    folders = os.environ['PATH'].split(os.pathsep)
+    return {**os.environ, 'PATH': os.pathsep.join(folder for folder in folders if not os.path.exists(os.path.join(folder, 'rt')))}
+
+
+class Checkout(Trying):
+    def setUp(self):
+        super().setUp()
+        for name in ('tools', 'examples', 'bin', 'crates/snomon/src', 'crates/listing/src',
+                     'crates/mon_low/specs', 'crates/other/src'):
+            os.makedirs(self.path(name))
+        for name in ('run', 'listing', 'install', 'tools/proved', 'tools/release', 'tools/deck', 'examples/payroll.deck'):
+            shutil.copy(os.path.join(TOP, name), self.path(name))
+        for name in ('tools/decks', 'docs/man'):
+            shutil.copytree(os.path.join(TOP, name), self.path(name))
+        self.write('crates.txt', b'# crates\nmon_low: thiserror\nsnomon: mon_low clap\nlisting: mon_low\nother: mon_low\n')
+        self.write('HANDLES', b'Handles allowed: none.\n')
+        for name in ('crates/snomon/src/main.rt', 'crates/listing/src/main.rt', 'crates/mon_low/specs/Low.antt', 'crates/other/src/lib.rt'):
+            self.write(name, b'one\n')
+        self.write('version', b'kit 1\n')
+        self.script('bin/rt', RT.encode())
+
+    def script(self, name, content):
+        os.makedirs(os.path.dirname(self.path(name)), exist_ok=True)
+        self.write(name, content)
+        os.chmod(self.path(name), 0o755)
+
+    def environment(self, with_rt=True):
+        bare = without_rt()
+        return {**bare, 'ROOM': self.room, 'PATH': os.pathsep.join([self.path('bin')] * with_rt + [bare['PATH']])}
+
+    def ran(self, *words, with_rt=True):
+        return run([self.path('run'), *words], given=b'deck\n', env=self.environment(with_rt), cwd='/')
+
+    def proved(self, *words):
+        return run([self.path('tools/proved'), *words], given=b'', cwd='/', env=self.environment())
+
+    def sum(self, name='snomon'):
+        return self.proved('--sum', name, 'kit 1').out.decode().strip('\n')
+
+    def builds(self):
+        return self.read('said').count(b'built') if 'said' in self.names() else 0
+
+    def release(self):
+        for name in ('snomon', 'listing'):
+            self.script(f'release/{name}', RELEASED)
+        self.write('release/SHA256SUMS', ''.join(f'{sha256(RELEASED)}  {name}\n' for name in ('snomon', 'listing')).encode())
+        self.write('release/SOURCES', f'commit 1234\ntoolchain kit 1\nsnomon {self.sum()}\nlisting {self.sum("listing")}\n'.encode())
+
+    def stamp(self, name, content):
+        """As the gate does with a program that it has built."""
+        self.script(f'crates/{name}/out/{name}', content)
+        self.proved('--stamp', name, self.sum(name), 'kit 1')
