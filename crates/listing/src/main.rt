@@ -4,6 +4,7 @@
 mod options;
 mod run;
 
+use mon_device::Noted;
 use run::run;
 use std::process::ExitCode;
 use std::rt::Env;
@@ -11,10 +12,16 @@ use std::{env, io};
 
 fn main(rt: HostRuntime) -> ExitCode {
     let words = given_words(&rt);
-    let mut input = rt.stdin();
-    let mut output = rt.stdout();
+    let mut input = Noted::new(rt.stdin());
+    let mut output = Noted::new(rt.stdout());
     let mut errors = rt.stderr();
     let status = run(rt.alloc(), words, &mut input, &mut output, &mut errors);
+    if input.would_block {
+        let _ = eprintln!(rt; "listing: standard input is non-blocking, and had nothing to read yet");
+    }
+    if output.would_block {
+        let _ = eprintln!(rt; "listing: standard output is non-blocking, and had no room yet");
+    }
     ExitCode::from(status)
 }
 

@@ -4,12 +4,14 @@
 
 pub mod device;
 pub mod memory;
+pub mod noted;
 pub mod pair;
 pub mod streams;
 pub mod transfer;
 
 pub use device::{DeckDevices, DeckReader, DeckWriter, Failed};
 pub use memory::{MemReader, MemWriter};
+pub use noted::Noted;
 pub use pair::Devices;
 pub use streams::{StdReader, StdWriter, Telling};
 pub use transfer::{MOST_READS, READ_SIZE, write_all};
