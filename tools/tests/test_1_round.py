@@ -112,6 +112,31 @@ class Next(Trying):
             self.is_refused_at(self.next(BOTH[1], stream=stream), 'stream', line, message)
 
 
+    def test_owners_and_named_users_that_are_no_accounts_are_told(self):
+        first = PRINTOUTS.count(b'\n') + 2
+        for accounts, told in ((ACCOUNTS, []), (ACCOUNTS.replace(b'lisa staff\n', b''), [
+                (first + 1, 'the list of PAYROLL has user:lisa:rw-'), (first + 10, 'LOG belongs to lisa')]),
+                (b'lisa staff\n', [(first, 'PAYROLL belongs to anna'), (first + 8, 'EMPTY belongs to anna')])):
+            for output in BOTH.values():
+                wanted = [f'deck: {self.path("output")}: line {line}: {what}, and {self.path("accounts")} has no such account' for line, what in told]
+                done = self.next(output, accounts)
+                self.assertEqual((done.status, done.err.splitlines()), (0, wanted))
+                self.assertTrue(done.out.startswith(b'$ACCOUNTS\n' + accounts + b'$CATALOGUE'))
+                done = self.next(output, accounts, STREAM, '--strict', '-o', self.path('next'))
+                if told:
+                    missing = f'deck: {self.path("accounts")}: accounts are missing, so there is no next deck (--strict)'
+                    self.assertEqual((done.status, done.out, done.err.splitlines()), (1, b'', [*wanted, missing]))
+                    self.assertNotIn('next', self.names())
+                else:
+                    self.assertEqual((done.status, done.err), (0, ''))
+                    os.remove(self.path('next'))
+
+    def test_a_record_that_looks_like_a_card_names_nobody(self):
+        output = BOTH[2].replace(b'$SET LOG anna admin 0\nuser::rwx,', b'$SET LOG eve admin 0\nuser::rwx,user:eve:r--,')
+        self.assertNotEqual(output, BOTH[2])
+        self.assertEqual(self.next(output, ACCOUNTS, STREAM, '--strict').err, '')
+
+
 class Sets(Trying):
     def test_get_writes_the_records_and_put_gives_them_back(self):
         for output in BOTH.values():

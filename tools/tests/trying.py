@@ -10,6 +10,8 @@ TOOLS = os.path.join(os.path.dirname(os.path.realpath(__file__)), '..')
 TOP = os.path.realpath(os.path.join(TOOLS, '..'))
 DECK = os.path.join(TOP, 'tools', 'deck')
 SNOMON = os.path.abspath(os.environ.get('SNOMON', os.path.join(TOP, 'run')))
+MEASURED = ('import resource, subprocess, sys; status = subprocess.call(sys.argv[1:]); '
+            'print(resource.getrusage(resource.RUSAGE_CHILDREN).ru_maxrss, status)')
 MOST_MEMORY = 64 * 1024  # that deck may take, however long a file is, in KiB
 
 # An output of each version, whose records look like what stands between data sets.
@@ -105,14 +107,11 @@ class Trying(unittest.TestCase):
         self.is_refused(done, f'{self.path(name)}: line {line}: {message}')
 
     def memory_of(self, words, status=0):
-        """The most that a run of deck took, in KiB."""
-        with tempfile.TemporaryFile() as said:
-            process = os.posix_spawn(sys.executable, [sys.executable, DECK, *words], os.environ,
-                                     file_actions=[(os.POSIX_SPAWN_DUP2, said.fileno(), 2)])
-            _, ended, used = os.wait4(process, 0)
-            said.seek(0)
-            self.assertEqual(os.WEXITSTATUS(ended), status, said.read())
-        return used.ru_maxrss
+        """The most that a run of deck took, in KiB. A small process starts it, since what a process begins as counts too."""
+        done = run([sys.executable, '-c', MEASURED, sys.executable, DECK, *words])
+        memory, ended = map(int, done.out.split())
+        self.assertEqual(ended, status, done.err)
+        return memory
 
     def line_of(self, err):
         found = re.search(r': line (\d+): ', err)
