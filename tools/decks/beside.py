@@ -37,7 +37,6 @@ def part_folder(target: str) -> Iterator[str]:
     """A new folder in the target's folder, which is gone in the end where it was not given another name."""
     number, path = _locked(target, _made_folder)
     try:
-        os.fchmod(number, FOLDER_MODE)
         yield path
     finally:
         shutil.rmtree(path, ignore_errors=True)
@@ -50,6 +49,7 @@ def _made_file(prefix: str, folder: str) -> Tuple[int, str]:
 
 def _made_folder(prefix: str, folder: str) -> Tuple[int, str]:
     path = tempfile.mkdtemp(prefix=prefix, suffix='.part', dir=folder)
+    os.chmod(path, FOLDER_MODE)
     return os.open(path, os.O_RDONLY | os.O_DIRECTORY), path
 
 
