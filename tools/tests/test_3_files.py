@@ -180,6 +180,7 @@ class Kept(Trying):
         """Status and message of a run by this user over a file of that owner and group. Python may lie where only root comes."""
         if os.geteuid() != 0:
             self.skipTest('only root can give a file away')
+        import locale  # noqa: F401, which the command asks for
         from decks import command
         os.chown(self.path('old'), owner, group)
         os.chmod(self.room, 0o777)
@@ -221,6 +222,7 @@ class Kept(Trying):
             os.mkfifo(self.path(name))
             words = ['next', self.path(name), '--accounts', accounts, '--stream', stream, '-o', self.path(name + '.new')]
             running.append(subprocess.Popen([sys.executable, DECK, *words]))
+            self.addCleanup(running[-1].kill)
             while not self.parts(name):
                 time.sleep(0.01)
         with open(self.path('killed'), 'wb'):
