@@ -25,7 +25,6 @@ def part_file(target: str) -> Iterator[Tuple[str, BinaryIO]]:
     number, path = _locked(target, _made_file)
     try:
         with os.fdopen(number, 'wb') as file:
-            os.fchmod(number, FILE_MODE)
             yield path, file
     finally:
         with contextlib.suppress(FileNotFoundError):
