@@ -47,9 +47,11 @@ def _made_file(prefix: str, folder: str) -> Tuple[int, str]:
 
 
 def _made_folder(prefix: str, folder: str) -> Tuple[int, str]:
-    path = tempfile.mkdtemp(prefix=prefix, suffix='.part', dir=folder)
-    os.chmod(path, FOLDER_MODE)
-    return os.open(path, os.O_RDONLY | os.O_DIRECTORY), path
+    while True:
+        path = tempfile.mkdtemp(prefix=prefix, suffix='.part', dir=folder)
+        with contextlib.suppress(FileNotFoundError):  # where another run took it away already
+            os.chmod(path, FOLDER_MODE)
+            return os.open(path, os.O_RDONLY | os.O_DIRECTORY), path
 
 
 def _locked(target: str, make: Callable[[str, str], Tuple[int, str]]) -> Tuple[int, str]:

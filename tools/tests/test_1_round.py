@@ -35,6 +35,8 @@ class Next(Trying):
         self.assertEqual(self.next(BOTH[1], ACCOUNTS[:-1], STREAM + b'\n$STOP').out, wanted)
 
     def test_an_output_cut_anywhere_is_refused_but_behind_a_whole_data_set(self):
+        self.write('accounts', ACCOUNTS)
+        self.write('stream', STREAM)
         for version, output in BOTH.items():
             heading = (b'$CATALOGUE\n', b'$CATALOGUE 2\n')[version - 1]
             whole = {len(PRINTOUTS + heading), len(output)}
@@ -53,7 +55,7 @@ class Next(Trying):
         import io
         from decks import rounds, text
         try:
-            rounds.next_deck(self.write('output', output), self.write('accounts', ACCOUNTS), self.write('stream', STREAM), io.BytesIO())
+            rounds.next_deck(self.write('output', output), self.path('accounts'), self.path('stream'), io.BytesIO())
         except text.Refused as refusal:
             self.assertIn(f'{self.path("output")}: line ', str(refusal))
             return refusal

@@ -241,6 +241,26 @@ class Kept(Trying):
     def parts(self, name):
         return [part for part in self.names() if part.startswith(f'.{name}.') and part.endswith('.part')]
 
+    def test_runs_that_write_into_one_folder_leave_each_other_alone(self):
+        from decks import files
+        children = []
+        for number in range(6):
+            children.append(os.fork())
+            if children[-1] == 0:
+                try:
+                    for round in range(60):
+                        with files.written(self.path(f'file{number}')) as file:
+                            file.write(b'%d' % round)
+                        with files.filled(self.path(f'folder{number}')) as room, files.made(os.path.join(room, f'in{round}')) as file:
+                            file.write(b'%d' % round)
+                    os._exit(0)
+                finally:
+                    os._exit(1)
+        self.assertEqual([os.waitpid(child, 0)[1] for child in children], [0] * 6)
+        self.assertEqual(self.names(), sorted(['output'] + [f'{what}{number}' for what in ('file', 'folder') for number in range(6)]))
+        for number in range(6):
+            self.assertEqual((self.read(f'file{number}'), len(os.listdir(self.path(f'folder{number}')))), (b'59', 60))
+
     def test_a_folder_that_a_killed_run_left_is_taken_away(self):
         from decks import beside
         with beside.part_folder(self.path('parts')) as room:
