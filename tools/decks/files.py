@@ -149,8 +149,19 @@ def _renamed(path: str, target: str) -> Iterator[BinaryIO]:
         lost = take_after(file.fileno(), target)
         os.fsync(file.fileno())
         os.replace(beside, target)
+    _wait_for_names(os.path.dirname(target))
     if lost:
         say(f'{path}: {lost}')
+
+
+def _wait_for_names(folder: str) -> None:
+    """Until the names that a folder has now are on the disk, where it is one that can tell."""
+    with contextlib.suppress(OSError):
+        number = os.open(folder, os.O_RDONLY | os.O_DIRECTORY)
+        try:
+            os.fsync(number)
+        finally:
+            os.close(number)
 
 
 @contextlib.contextmanager

@@ -122,15 +122,25 @@ class Whole(Trying):
         self.is_refused(deck('names', self.path('output'), '-o', self.path('folder')), 'folder: Is a directory', 3)
 
     def test_words_that_are_none_and_help_write_no_file(self):
-        for words in ([], ['bogus'], ['next', 'x'], ['get', 'x'], ['printouts', 'x', '--job', '-1'], ['split', 'x', 'y', '--slots', '9'],
+        for words in ([], ['bogus'], ['next', 'x'], ['failed'], ['get', 'x'], ['printouts', 'x', '--job', '-1'], ['split', 'x', 'y', '--slots', '9'],
                       ['split', 'x', 'y', '--parts', '0'], ['join'], ['names', 'x', 'y'], ['page']):
             done = deck(*words)
             self.assertEqual((done.status, done.out), (2, b''))
             self.assertIn('usage: deck', done.err)
-        for words in ([], ['next'], ['get'], ['put'], ['names'], ['printouts'], ['new'], ['split'], ['join'], ['page']):
+
+    def test_the_help_of_each_command_says_what_becomes_of_its_file(self):
+        written = {'next': 'the deck', 'failed': 'the list', 'get': 'the records', 'put': 'the whole output with that change', 'names': 'the names',
+                   'printouts': 'the printouts', 'new': 'the catalogue', 'join': 'the output', 'page': 'the page', 'split': None}
+        for words in ([], *([command] for command in written)):
             done = deck(*words, '--help')
             self.assertEqual((done.status, done.err), (0, ''))
             self.assertTrue(done.out.startswith(b'usage: deck'))
+            told = ' '.join(done.out.decode().split())
+            self.assertIn('The status is 0', told)
+            if not words:
+                self.assertLessEqual(set(written), set(told.split()))
+            elif written[words[0]] is not None:
+                self.assertIn(f'--output FILE write {written[words[0]]} to this file, whole or not at all, and not to standard output', told)
 
 
 class Kept(Trying):
@@ -149,6 +159,20 @@ class Kept(Trying):
             done = deck('names', self.path('output'), '-o', self.path('new'), preexec_fn=lambda: os.umask(umask))
             self.assertEqual((done.status, self.of('new')[2]), (0, 0o600))
             os.remove(self.path('new'))
+
+    def test_what_is_written_is_on_the_disk_with_its_name_before_the_end(self):
+        from decks import files
+        waited = []
+
+        def fsync(number):
+            there = os.fstat(number)
+            waited.append((there.st_size if stat.S_ISREG(there.st_mode) else there.st_ino, 'new' in self.names()))
+
+        self.addCleanup(setattr, os, 'fsync', os.fsync)
+        os.fsync = fsync
+        with files.written(self.path('new')) as file:
+            file.write(b'12345')
+        self.assertEqual(waited, [(5, False), (os.stat(self.room).st_ino, True)])
 
     def test_no_setuid_or_setgid_bit_is_taken_along(self):
         for mode in (0o4755, 0o2750, 0o1644):
