@@ -1,1 +1,1 @@
-"""What `deck` is made of. From below: text, lists, files; catalogue, cards, output; rounds, split, join, page; command."""
+"""What `deck` is made of. From below: text, lists, beside, files; catalogue, cards, output; rounds, printed, split, join, page; command."""

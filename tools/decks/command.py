@@ -2,24 +2,26 @@
 from __future__ import annotations
 
 import argparse
-import contextlib
 import os
 import signal
 import sys
-from typing import Callable, Sequence
+from typing import Callable, Optional, Sequence
 
-from . import join, page, rounds, split
+from . import join, page, printed, rounds, split
 from .catalogue import MODES
 from .cards import SLOTS_LIMIT
-from .files import written
+from .files import say, written
 from .lists import BadList, canonical
 from .parts import PARTS_LIMIT
 from .text import Fault, Refused, is_name
 
-STATUS_REFUSED, STATUS_FAULT = 1, 3
-ABOUT = 'Makes decks for snomon from what its runs have printed, cuts a deck into several, and makes a page of who may do what.'
-STATUSES = ('The status is 0; 1 where a file is not what it should be; 2 where these words are not; 3 where reading or '
-            'writing fails. Where it is not 0 nothing was written, but to a pipe or device that broke.')
+STATUS_REFUSED, STATUS_WORDS, STATUS_FAULT = 1, 2, 3
+ABOUT = ('Makes the next deck for snomon from what a run has printed, tells what failed in it and what was printed for whom, '
+         'cuts a deck into several, and makes a page of who may do what.')
+STATUSES = ('The status is 0; or 1 if a file is not what it should be, 2 if the words of the command are not, 3 if reading or '
+            'writing fails. Then nothing was written, except to a pipe or device that broke.')
+FAILED_STATUSES = ('The status is 0 if nothing failed; 1 if something did, or the output was cut off; 2 if the words of the '
+                   'command are not what they should be, or OUTPUT is not, or reading or writing fails.')
 NEW_LIST = 'user::rwx,group::---,other::---'
 
 
@@ -28,13 +30,12 @@ def main(words: Sequence[str]) -> int:
         signal.signal(number, _leave)  # so that what was begun is taken away
     try:
         options = _parsed(words)
-        options.act(options)
+        return options.act(options) or 0
     except (Refused, Fault) as error:
-        _say(str(error))
+        say(str(error))
         return STATUS_REFUSED if isinstance(error, Refused) else STATUS_FAULT
     except KeyboardInterrupt:
         return 128 + signal.SIGINT
-    return 0
 
 
 def _parsed(words: Sequence[str]) -> argparse.Namespace:
@@ -53,24 +54,18 @@ def _leave(number: int, _frame: object) -> None:
     raise SystemExit(128 + number)
 
 
-def _say(text: str) -> None:
-    line = ''.join(letter if letter.isprintable() else repr(letter)[1:-1] for letter in text)
-    if sys.stderr is not None:
-        with contextlib.suppress(OSError):  # there is nowhere else to say it
-            print(f'deck: {line}', file=sys.stderr)
-
-
 def _options() -> argparse.ArgumentParser:
     parser = argparse.ArgumentParser(prog='deck', description=ABOUT, epilog=STATUSES)
     kinds = parser.add_subparsers(metavar='COMMAND', required=True)
 
-    def kind(name: str, act: Callable[[argparse.Namespace], None], help_line: str, more: str = '') -> argparse.ArgumentParser:
+    def kind(name: str, act: Act, help_line: str, more: str = '', statuses: str = STATUSES) -> argparse.ArgumentParser:
         made = kinds.add_parser(name, help=help_line, description=f'{help_line[:1].upper()}{help_line[1:]}. {more}'.strip(),
-                                epilog=STATUSES)
+                                epilog=statuses)
         made.set_defaults(act=act)
         return made
 
     _add_next(kind)
+    _add_printed(kind)
     _add_sets(kind)
     _add_new(kind)
     _add_split(kind)
@@ -78,18 +73,41 @@ def _options() -> argparse.ArgumentParser:
     return parser
 
 
+Act = Callable[[argparse.Namespace], Optional[int]]
 Kind = Callable[..., argparse.ArgumentParser]
 
 
 def _add_next(kind: Kind) -> None:
     made = kind('next', _next, 'make the next deck of a run\'s output',
                 'It has the accounts of one file, the output\'s catalogue as it stands, and the cards of another file. An '
-                'output has a catalogue only where its run ended with the status 0.')
+                'output has a catalogue only where its run ended with the status 0. Each owner and each named user of a data '
+                'set that is no account is told of on standard error.')
     _takes_output(made)
     made.add_argument('--accounts', required=True, metavar='FILE', help='the accounts, one a line')
     made.add_argument('--stream', required=True, metavar='FILE',
                       help='the commands and jobs; a $STOP may end them, with nothing behind it')
+    made.add_argument('--strict', action='store_true',
+                      help='make no deck where an owner or a named user is no account; the status is then 1')
     _gives(made, 'the deck')
+
+
+def _add_printed(kind: Kind) -> None:
+    made = kind('failed', _failed, 'list the jobs that did not end well, and the commands that were refused or denied',
+                'A job is listed that was denied something, even if it ended normally, with its number, its account, what it was '
+                'denied and how it ended.', FAILED_STATUSES)
+    _takes_output(made)
+    _gives(made, 'the list')
+    made = kind('printouts', _printouts, 'write what was printed before the catalogue',
+                'Whose a printout is, its title says: the account of the job or command.')
+    _takes_output(made)
+    which = made.add_mutually_exclusive_group()
+    which.add_argument('--job', type=_number_of_job, metavar='N', help='only what the job of this number printed')
+    which.add_argument('--account', type=_name, metavar='NAME', help='only what was printed for this account')
+    which.add_argument('--each', metavar='DIR',
+                       help='write a file for each account into this folder, called as the account is. The folder is made if need '
+                            'be; a file there of that name is replaced, and others stay. The files are named on standard output')
+    made.set_defaults(refuse=made.error)
+    _gives(made, 'the printouts', 'not with --each')
 
 
 def _add_sets(kind: Kind) -> None:
@@ -103,15 +121,11 @@ def _add_sets(kind: Kind) -> None:
     _takes_output(made)
     made.add_argument('set', type=_name, metavar='SET', help='its name; it has to be there')
     made.add_argument('file', metavar='FILE', help='a text file')
-    _gives(made, 'the whole output, changed; it may be OUTPUT')
+    _gives(made, 'the whole output with that change', 'it may be OUTPUT itself')
     made = kind('names', _names, 'write the names of the data sets')
     _takes_output(made)
     made.add_argument('--long', action='store_true', help='also owner, group, mode in version 2, and number of records')
     _gives(made, 'the names')
-    made = kind('printouts', _printouts, 'write what was printed before the catalogue')
-    _takes_output(made)
-    made.add_argument('--job', type=_number_of_job, metavar='N', help='only what the job of this number printed')
-    _gives(made, 'the printouts')
 
 
 def _add_new(kind: Kind) -> None:
@@ -133,7 +147,8 @@ def _add_split(kind: Kind) -> None:
                 '1.out, 2.out and so on, in any order or at once; then join. The decks are named on standard output. What is '
                 'to be known of how it was cut is said on standard error, with the lines of the cards.')
     made.add_argument('deck', metavar='DECK', help='a deck that snomon --check finds good')
-    made.add_argument('folder', metavar='DIR', help='a folder that is not there, or empty')
+    made.add_argument('folder', metavar='DIR', help='a folder for them: it is made if need be, and may have other files, but none '
+                                                       'of another split')
     made.add_argument('--parts', type=_up_to(PARTS_LIMIT), default=16, metavar='N',
                       help='how many decks at most, 1 to %s; %%(default)s where it is not given' % PARTS_LIMIT)
     made.add_argument('--slots', type=_up_to(SLOTS_LIMIT), default=4, metavar='N',
@@ -156,9 +171,10 @@ def _takes_output(parser: argparse.ArgumentParser) -> None:
     parser.add_argument('output', metavar='OUTPUT', help='what a run of snomon has written')
 
 
-def _gives(parser: argparse.ArgumentParser, what: str) -> None:
+def _gives(parser: argparse.ArgumentParser, what: str, more: str = '') -> None:
     parser.add_argument('-o', '--output', dest='target', metavar='FILE',
-                        help=f'where {what} will be, whole or not at all; standard output where it is not given')
+                        help=f'write {what} to this file, whole or not at all, and not to standard output'
+                             + (f'; {more}' if more else ''))
 
 
 def _name(word: str) -> bytes:
@@ -190,7 +206,24 @@ def _up_to(most: int) -> Callable[[str], int]:
 
 def _next(options: argparse.Namespace) -> None:
     with written(options.target) as file:
-        rounds.next_deck(options.output, options.accounts, options.stream, file)
+        missing = rounds.next_deck(options.output, options.accounts, options.stream, file)
+        for told in missing:
+            say(told)
+        if missing and options.strict:
+            raise Refused(f'{options.accounts}: accounts are missing, so there is no next deck (--strict)')
+
+
+def _failed(options: argparse.Namespace) -> int:
+    try:
+        with written(options.target) as file:
+            is_any, cut = printed.failed(options.output, file)
+    except (Refused, Fault) as error:
+        say(str(error))
+        return STATUS_WORDS
+    if cut is not None:
+        say(str(cut))
+        say(f'{options.output}: its run ended early, or was not written to the end; what it did is not kept')
+    return STATUS_REFUSED if is_any or cut is not None else 0
 
 
 def _get(options: argparse.Namespace) -> None:
@@ -209,8 +242,14 @@ def _names(options: argparse.Namespace) -> None:
 
 
 def _printouts(options: argparse.Namespace) -> None:
+    if options.each is not None and options.target is not None:
+        options.refuse('-o is not allowed with --each')
+    paths = None if options.each is None else printed.printouts_of_each(options.output, options.each)
     with written(options.target) as file:
-        rounds.printouts(options.output, options.job, file)
+        if paths is None:
+            printed.printouts(options.output, options.job, options.account, file)
+        else:
+            file.write(_a_line_each(paths))
 
 
 def _new(options: argparse.Namespace) -> None:
@@ -222,9 +261,13 @@ def _new(options: argparse.Namespace) -> None:
 def _split(options: argparse.Namespace) -> None:
     decks, notes = split.split_deck(options.deck, options.folder, options.parts, options.slots)
     for note in notes:
-        _say(note)
+        say(note)
     with written(None) as file:
-        file.write(b''.join(os.fsencode(deck) + b'\n' for deck in decks))
+        file.write(_a_line_each(decks))
+
+
+def _a_line_each(paths: Sequence[str]) -> bytes:
+    return b''.join(os.fsencode(path) + b'\n' for path in paths)
 
 
 def _join(options: argparse.Namespace) -> None:

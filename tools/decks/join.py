@@ -7,8 +7,9 @@ then, which follows from its `$SET` cards and from the `$CREATE` and `$DELETE` c
 from __future__ import annotations
 
 import contextlib
+import heapq
 import os
-from typing import BinaryIO, Dict, Iterator, List, Optional
+from typing import BinaryIO, Dict, Iterator, List, Optional, Set
 
 from .catalogue import Found, heading
 from .files import opened
@@ -70,6 +71,7 @@ class Joining:
     def __init__(self, parts: List[Part], joined: BinaryIO) -> None:
         self.parts, self.joined = parts, joined
         self.jobs = 0
+        self.loaded: Set[int] = set()  # the parts that got a job since no part had one left
         self.names: Names = {}
 
     def follow(self, event: Event) -> None:
@@ -78,6 +80,7 @@ class Joining:
         elif event.kind == b'job' and event.part is not None:
             self.jobs += 1
             self.parts[event.part].load(self.jobs, event.words[0])
+            self.loaded.add(event.part)
         elif event.kind == b'command' and event.part is not None:
             self._command(event.part, event.words)
         elif event.kind == b'command':
@@ -115,12 +118,18 @@ class Joining:
         return name
 
     def _drain(self) -> None:
-        while any(part.accounts for part in self.parts):
-            at_hand = [(part.job_at_hand(), place) for place, part in enumerate(self.parts) if part.accounts]
-            number, place = min((number or 0, place) for number, place in at_hand)
+        """What the parts have left. A heap has the job at hand of each, or 0 where there is none."""
+        left = [(self.parts[place].job_at_hand() or 0, place) for place in sorted(self.loaded) if self.parts[place].accounts]
+        self.loaded.clear()
+        heapq.heapify(left)
+        while left:
+            number, place = heapq.heappop(left)
+            part = self.parts[place]
             if number == 0:
-                raise self.parts[place].output.refused_here('a job of this deck is to be printed here, and is not')
-            self.parts[place].copy_job(number, self.joined)
+                raise part.output.refused_here('a job of this deck is to be printed here, and is not')
+            part.copy_job(number, self.joined)
+            if part.accounts:
+                heapq.heappush(left, (part.job_at_hand() or 0, place))
 
     def catalogue(self) -> None:
         versions = {part.output.version(): part.output.lines.name for part in self.parts}

@@ -30,6 +30,12 @@ def canonical(text: bytes) -> bytes:
     return b','.join(_spelled(tag, name, entries[tag, name]) for tag, name in _in_order(entries))
 
 
+def named_users(text: bytes) -> List[Tuple[bytes, bytes]]:
+    """The users that a list names, each with its entry as it is written back."""
+    entries = [entry.split(b':') for entry in canonical(text).split(b',')]
+    return [(name, b':'.join([tag, name, permissions])) for tag, name, permissions in entries if tag == b'user' and name]
+
+
 def _read_entry(piece: bytes, number: int, entries: Entries) -> None:
     fields = [field.strip(b' \t') for field in piece.split(b':')]
     tag = TAGS.get(fields[0])

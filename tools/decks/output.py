@@ -15,25 +15,34 @@ TITLE_WORDS = {b'JOB': 3, b'CATALOG': 2}  # of the others 3
 
 
 class Output:
-    """An output, and the line of it that is at hand."""
+    """An output, and the line of it that is at hand, which is read when it is asked for."""
 
     def __init__(self, lines: OutputLines) -> None:
         self.lines = lines
-        self.line: Optional[bytes] = lines.next()
+        self._line: Optional[bytes] = None
+        self._is_read = False
+
+    @property
+    def line(self) -> Optional[bytes]:
+        """None where the output ends."""
+        if not self._is_read:
+            self._line, self._is_read = self.lines.next(), True
+        return self._line
 
     def step(self) -> bytes:
         """Takes the line at hand."""
         line = self.line
         if line is None:
             raise self.refused_here('there is no more of the output')
-        self.line = self.lines.next()
+        self._is_read = False
         return line
 
     def refused_here(self, text: str) -> Refused:
         return self.lines.cut_off(text) if self.line is None else self.lines.refused(text)
 
     def is_at_a_printout(self) -> bool:
-        return self.line is not None and self.line[:1] != b'$'
+        line = self.line
+        return line is not None and line[:1] != b'$'
 
     def title(self) -> List[bytes]:
         """The words of the printout that begins with the line at hand."""
@@ -52,12 +61,13 @@ class Output:
         begun = self.lines.number
         yield self.step()
         while True:
-            if self.line is None:
+            line = self.line
+            if line is None:
                 raise self.refused_here(f'the printout that begins at line {begun} was cut off')
-            first = self.line.split(b' ', 1)[0]
+            first = line.split(b' ', 1)[0]
             is_last = first in LAST_WORDS[word]
-            if not (is_last or self.line[:1] == b' ' or first in OTHER_WORDS.get(word, ())):
-                raise self.lines.refused(f'this belongs to no printout like that of line {begun}: {shown(self.line)}')
+            if not (is_last or line[:1] == b' ' or first in OTHER_WORDS.get(word, ())):
+                raise self.lines.refused(f'this belongs to no printout like that of line {begun}: {shown(line)}')
             yield self.step()
             if is_last:
                 return

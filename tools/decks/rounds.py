@@ -1,41 +1,63 @@
-"""The daily round: what `next`, `get`, `put`, `names`, `printouts` and `new` do."""
+"""The daily round: what `next`, `get`, `put`, `names` and `new` do."""
 from __future__ import annotations
 
 import os
 import tempfile
 from dataclasses import dataclass, replace
-from typing import BinaryIO, Iterator, List, Optional
+from typing import BinaryIO, Iterator, List, Optional, Set
 
 from .cards import Stop, read_accounts, read_stream
-from .catalogue import RECORDS_LIMIT, SETS_LIMIT, DataSet, heading
+from .catalogue import RECORDS_LIMIT, SETS_LIMIT, DataSet, Found, heading
 from .files import blaming, opened
+from .lists import named_users
 from .output import Output
 from .text import CATALOGUE_LIMIT, PIECE, Fault, Lines, OutputLines, Refused, counted, is_name, shown, text_of
 
 
-def next_deck(output: str, accounts: str, stream: str, deck: BinaryIO) -> None:
-    """The deck of these accounts, the output's catalogue and the cards of that stream."""
+def next_deck(output: str, accounts: str, stream: str, deck: BinaryIO) -> List[str]:
+    """The deck of these accounts, the output's catalogue and the cards of that stream. What there is to tell: the owners and
+    the named users of data sets that are no accounts there."""
     deck.write(b'$ACCOUNTS\n')
     with opened(accounts) as file:
-        _copy_accounts(Lines(accounts, file), deck)
+        known = _copy_accounts(Lines(accounts, file), deck)
+    missing: List[str] = []
     with opened(output) as file:
-        _copy_catalogue(_at_its_catalogue(output, file), deck)
+        reading = _at_its_catalogue(output, file)
+        deck.write(text_of([heading(reading.version())]))
+        for found in reading.data_sets():
+            missing.extend(f'{output}: {told}, and {accounts} has no such account' for told in _named_beyond(found, known))
+            _copy(found.pieces(), deck)
     deck.write(b'$STREAM\n')
     with opened(stream) as file:
         _copy_stream(Lines(stream, file), deck)
     deck.write(b'$STOP\n')
+    return missing
 
 
-def _copy_accounts(lines: Lines, deck: BinaryIO) -> None:
+def _copy_accounts(lines: Lines, deck: BinaryIO) -> Set[bytes]:
+    """The names of the accounts."""
     reading = read_accounts(lines)
+    names: Set[bytes] = set()
     while True:
         try:
-            _, pieces = next(reading)
+            account, pieces = next(reading)
         except StopIteration as end:
             if end.value is not None:
                 raise lines.refused(f'a file of accounts has accounts alone, and no card: {shown(end.value)}')
-            return
+            return names
+        names.add(account.name)
         _copy(pieces, deck)
+
+
+def _named_beyond(found: Found, known: Set[bytes]) -> Iterator[str]:
+    """Where a data set has an owner or a named user that is none of the known accounts."""
+    data_set = found.data_set
+    name = shown(data_set.name)
+    if data_set.owner not in known:
+        yield f'line {data_set.line}: {name} belongs to {shown(data_set.owner)}'
+    for user, entry in named_users(found.permissions):
+        if user not in known:
+            yield f'line {data_set.line + 1}: the list of {name} has {shown(entry)}'
 
 
 def _copy_stream(lines: Lines, deck: BinaryIO) -> None:
@@ -59,12 +81,6 @@ def _at_its_catalogue(name: str, file: BinaryIO) -> Output:
     return output
 
 
-def _copy_catalogue(output: Output, file: BinaryIO) -> None:
-    file.write(text_of([heading(output.version())]))
-    for found in output.data_sets():
-        _copy(found.pieces(), file)
-
-
 def get_records(output: str, name: bytes, records: BinaryIO) -> None:
     """The records of that data set, a line each."""
     with opened(output) as file:
@@ -83,24 +99,6 @@ def names(output: str, long: bool, listing: BinaryIO) -> None:
         for found in _at_its_catalogue(output, file).data_sets():
             data_set = found.data_set
             listing.write(text_of([b' '.join(data_set.words()) if long else data_set.name]))
-
-
-def printouts(output: str, job: Optional[int], listing: BinaryIO) -> None:
-    """All printouts, or that of one job. An output that a refused deck left has printouts too, and no catalogue."""
-    with opened(output) as file:
-        reading = Output(OutputLines(output, file))
-        is_there = job is None
-        while reading.is_at_a_printout():
-            title = reading.title()
-            is_wanted = job is None or title[0] == b'JOB' and int(title[1]) == job
-            is_there = is_there or is_wanted
-            for line in reading.printout():
-                if is_wanted:
-                    listing.write(text_of([line]))
-        if reading.line is not None:
-            reading.version()
-        if not is_there:
-            raise Refused(f'{output}: no job has the number {job}')
 
 
 @dataclass

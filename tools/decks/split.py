@@ -24,15 +24,17 @@ from __future__ import annotations
 
 import contextlib
 import os
+import re
 from dataclasses import dataclass, field
 from typing import BinaryIO, Dict, Iterator, List, Optional, Sequence, Set, Tuple, Union
 
 from .cards import Account, Command, Drain, Heading, Item, Job, Stop, StreamItem, Turn, read_deck
 from .catalogue import SETS_LIMIT, DataSet
-from .files import filled, opened_twice
+from .files import blaming, filled, made, opened_twice
 from .parts import CARDS_FILE, Event, deck_of, event_line
 from .text import Lines, Refused, counted, shown, text_of
 
+IN_THE_WAY = re.compile(r'cards|[0-9]+\.(deck|new|out)')  # what a folder has of another split, and of the runs of its decks
 Node = Union[bytes, int]  # the name of a data set, or the line of a job's card
 
 
@@ -235,6 +237,7 @@ def _placed(stretch: Stretch, groups: Groups, part_of: Dict[Node, int],
 
 def split_deck(path: str, folder: str, most: int, slots: int) -> Tuple[List[str], List[str]]:
     """Fills the folder with the decks, and with the file that `join` needs: the decks' paths, and what there is to tell."""
+    _refuse_older_decks(folder)
     with opened_twice(path) as file:
         deck = survey(Lines(path, file))
         planned = plan(deck, most, slots)
@@ -245,9 +248,17 @@ def split_deck(path: str, folder: str, most: int, slots: int) -> Tuple[List[str]
     return [deck_of(folder, part) for part in range(planned.count)], planned.notes
 
 
+def _refuse_older_decks(folder: str) -> None:
+    """An output of an older deck that was left in the folder would be joined as that of a new one."""
+    if os.path.lexists(folder):
+        with blaming(folder):
+            older = sorted(filter(IN_THE_WAY.fullmatch, os.listdir(folder)))
+        if older:
+            raise Refused(f'{folder}: it has {older[0]}, as of another split; decks are put only where no others are')
+
+
 def _write_cards(deck: Survey, planned: Plan, room: str) -> None:
-    path = os.path.join(room, CARDS_FILE)
-    with open(path, 'wb') as file:
+    with made(os.path.join(room, CARDS_FILE)) as file:
         file.write(text_of([event_line(event) for event in _events(deck, planned)]))
 
 
@@ -267,7 +278,7 @@ def _events(deck: Survey, planned: Plan) -> Iterator[Event]:
 
 def _write_decks(lines: Lines, planned: Plan, room: str) -> None:
     with contextlib.ExitStack() as stack:
-        files: List[BinaryIO] = [stack.enter_context(open(deck_of(room, part), 'wb')) for part in range(planned.count)]
+        files: List[BinaryIO] = [stack.enter_context(made(deck_of(room, part))) for part in range(planned.count)]
         for item, pieces in read_deck(lines):
             is_shared = isinstance(item, (Heading, Account))
             parts = files if is_shared else [files[part] for part in planned.parts(item)]

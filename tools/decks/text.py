@@ -18,6 +18,10 @@ class Refused(Exception):
     """What was given is not understood. The message names the file, and the line where there is one."""
 
 
+class CutOff(Refused):
+    """What was given ends where more was due."""
+
+
 class Fault(Exception):
     """A file could not be read or written. The message names it."""
 
@@ -55,9 +59,9 @@ class Lines:
     def refused(self, text: str, number: Optional[int] = None) -> Refused:
         return Refused(f'{self.name}: line {self.number if number is None else number}: {text}')
 
-    def cut_off(self, text: str) -> Refused:
+    def cut_off(self, text: str, number: Optional[int] = None) -> CutOff:
         """The lines end where one more was due."""
-        return self.refused(text, self.number + 1)
+        return CutOff(str(self.refused(text, self.number + 1 if number is None else number)))
 
     def next(self) -> Optional[bytes]:
         line = self._line()
@@ -120,4 +124,4 @@ class OutputLines(Lines):
             return line[:-1]
         if len(line) > CATALOGUE_LIMIT:
             raise self.refused(f'T4 LINE TOO LONG: more than {CATALOGUE_LIMIT} characters')
-        raise self.refused('the file ends within this line: it was cut off')
+        raise self.cut_off('the file ends within this line: it was cut off', self.number)

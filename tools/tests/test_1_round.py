@@ -35,6 +35,8 @@ class Next(Trying):
         self.assertEqual(self.next(BOTH[1], ACCOUNTS[:-1], STREAM + b'\n$STOP').out, wanted)
 
     def test_an_output_cut_anywhere_is_refused_but_behind_a_whole_data_set(self):
+        self.write('accounts', ACCOUNTS)
+        self.write('stream', STREAM)
         for version, output in BOTH.items():
             heading = (b'$CATALOGUE\n', b'$CATALOGUE 2\n')[version - 1]
             whole = {len(PRINTOUTS + heading), len(output)}
@@ -53,7 +55,7 @@ class Next(Trying):
         import io
         from decks import rounds, text
         try:
-            rounds.next_deck(self.write('output', output), self.write('accounts', ACCOUNTS), self.write('stream', STREAM), io.BytesIO())
+            rounds.next_deck(self.write('output', output), self.path('accounts'), self.path('stream'), io.BytesIO())
         except text.Refused as refusal:
             self.assertIn(f'{self.path("output")}: line ', str(refusal))
             return refusal
@@ -110,6 +112,31 @@ class Next(Trying):
                                       (b'$STOP\n\n$LIST anna LOG\n', 3, 'nothing stands behind $STOP'),
                                       (b'$JOB a\nEND\n$JOB b\nEND\n$EOJ\n', 3, 'E3 OUT OF PLACE: $JOB in the job that begins at line 1')):
             self.is_refused_at(self.next(BOTH[1], stream=stream), 'stream', line, message)
+
+
+    def test_owners_and_named_users_that_are_no_accounts_are_told(self):
+        first = PRINTOUTS.count(b'\n') + 2
+        for accounts, told in ((ACCOUNTS, []), (ACCOUNTS.replace(b'lisa staff\n', b''), [
+                (first + 1, 'the list of PAYROLL has user:lisa:rw-'), (first + 10, 'LOG belongs to lisa')]),
+                (b'lisa staff\n', [(first, 'PAYROLL belongs to anna'), (first + 8, 'EMPTY belongs to anna')])):
+            for output in BOTH.values():
+                wanted = [f'deck: {self.path("output")}: line {line}: {what}, and {self.path("accounts")} has no such account' for line, what in told]
+                done = self.next(output, accounts)
+                self.assertEqual((done.status, done.err.splitlines()), (0, wanted))
+                self.assertTrue(done.out.startswith(b'$ACCOUNTS\n' + accounts + b'$CATALOGUE'))
+                done = self.next(output, accounts, STREAM, '--strict', '-o', self.path('next'))
+                if told:
+                    missing = f'deck: {self.path("accounts")}: accounts are missing, so there is no next deck (--strict)'
+                    self.assertEqual((done.status, done.out, done.err.splitlines()), (1, b'', [*wanted, missing]))
+                    self.assertNotIn('next', self.names())
+                else:
+                    self.assertEqual((done.status, done.err), (0, ''))
+                    os.remove(self.path('next'))
+
+    def test_a_record_that_looks_like_a_card_names_nobody(self):
+        output = BOTH[2].replace(b'$SET LOG anna admin 0\nuser::rwx,', b'$SET LOG eve admin 0\nuser::rwx,user:eve:r--,')
+        self.assertNotEqual(output, BOTH[2])
+        self.assertEqual(self.next(output, ACCOUNTS, STREAM, '--strict').err, '')
 
 
 class Sets(Trying):

@@ -3,6 +3,7 @@ import io
 import os
 import random
 import re
+import stat
 from trying import ACCOUNTS, CATALOGUE_1, SNOMON, Trying, deck, snomon
 
 HEAD = b'$ACCOUNTS\n' + ACCOUNTS + b'$CATALOGUE\n'
@@ -121,13 +122,37 @@ class Split(Parts):
         self.is_refused_at(done, 'whole', 5 + 3 * 999 + 3, 'this $CREATE may be refused with K4')
         self.assertEqual(self.names(), ['parts', 'whole'])
 
-    def test_a_folder_that_is_not_empty_is_left_alone(self):
+    def test_a_folder_that_is_there_is_filled(self):
         self.whole(sets(b'A'), b'')
         os.mkdir(self.path('parts'))
+        os.chmod(self.path('parts'), 0o750)
+        before = os.stat(self.path('parts'))
+        self.write('parts/notes', b'of somebody')
         self.assertEqual(self.split().status, 0)
-        before = self.read('parts/1.deck')
-        self.is_refused(self.split(), 'parts: it is there already, and not an empty folder')
-        self.assertEqual((self.read('parts/1.deck'), self.names()), (before, ['parts', 'whole']))
+        after = os.stat(self.path('parts'))
+        self.assertEqual((after.st_ino, after.st_mode), (before.st_ino, before.st_mode))
+        self.assertEqual(sorted(os.listdir(self.path('parts'))), ['1.deck', 'cards', 'notes'])
+        self.assertEqual((self.read('parts/notes'), self.read('parts/1.deck')), (b'of somebody', self.read('whole').split(b'behind')[0]))
+        self.is_joined()
+
+    def test_what_is_new_is_for_its_owner_alone_whatever_the_umask(self):
+        self.whole(sets(b'A', b'B'), job(b'A') + job(b'B'))
+        for umask in (0, 0o777):
+            folder = self.path(f'parts{umask}')
+            done = deck('split', self.path('whole'), folder, preexec_fn=lambda: os.umask(umask))
+            self.assertEqual((done.status, done.err), (0, ''))
+            names = ['', '1.deck', '2.deck', 'cards']
+            self.assertEqual([stat.S_IMODE(os.stat(os.path.join(folder, name)).st_mode) for name in names], [0o700, 0o600, 0o600, 0o600])
+
+    def test_decks_or_outputs_of_another_split_are_left_alone(self):
+        self.whole(sets(b'A'), b'')
+        os.mkdir(self.path('parts'))
+        for name in ('1.deck', '12.out', '3.new', 'cards'):
+            self.write('parts/' + name, b'old')
+            self.is_refused(self.split(), f'parts: it has {name}, as of another split')
+            self.assertEqual((self.read('parts/' + name), os.listdir(self.path('parts'))), (b'old', [name]))
+            os.remove(self.path('parts/' + name))
+        self.is_refused(deck('split', self.path('whole'), self.path('whole')), 'whole: Not a directory', 3)
         self.is_refused(deck('split', self.path('gone'), self.path('other')), 'gone: No such file or directory', 3)
         self.is_refused(deck('split', self.path('whole'), self.path('no/folder')), 'no/folder: No such file or directory', 3)
 
@@ -249,6 +274,48 @@ class Join(Parts):
         os.remove(self.path('parts/2.out'))
         self.is_refused(self.join(), 'parts/2.out: No such file or directory', 3)
         self.is_refused(deck('join', self.path('gone')), 'gone/cards: No such file or directory', 3)
+
+
+class Many(Parts):
+    def test_999_parts_take_no_more_steps_than_one(self):
+        from decks import join
+        steps = 0
+
+        class Counted(join.Part):
+            """Counts how often it is asked whether it has jobs left, or which."""
+
+            @property
+            def accounts(self):
+                nonlocal steps
+                steps += 1
+                return self.left
+
+            @accounts.setter
+            def accounts(self, left):
+                self.left = left
+
+        self.addCleanup(setattr, join, 'Part', join.Part)
+        join.Part = Counted
+        jobs, joined = 3996, []
+        for parts in (1, 999):
+            steps, outputs = 0, {part: [] for part in range(1, parts + 1)}
+            cards = [b'decks %d' % parts]
+            for number in range(1, jobs + 1):
+                part = number % parts + 1
+                outputs[part].append(b'JOB %d lisa\n %d\nEND NORMAL AFTER 1\n' % (len(outputs[part]) + 1, number))
+                cards.append(b'job %d lisa' % part)
+                if number >= jobs // 2 and number % 2 == 0:  # half of the jobs without a $DRAIN between, and half with many
+                    cards.append(b'drain')
+            os.mkdir(self.path('of %d' % parts))
+            self.write('of %d/cards' % parts, b'\n'.join(cards) + b'\n')
+            for part, printouts in outputs.items():
+                self.write('of %d/%d.out' % (parts, part), b''.join(printouts) + b'$CATALOGUE 2\n')
+            output = io.BytesIO()
+            join.join_outputs(self.path('of %d' % parts), output)
+            joined.append(output.getvalue())
+            self.assertLess(steps, 10 * jobs)
+        wanted = b''.join(b'JOB %d lisa\n %d\nEND NORMAL AFTER 1\n' % (number, number) for number in range(1, jobs + 1))
+        self.assertEqual(joined, [wanted + b'$CATALOGUE 2\n'] * 2)
 
 
 class RandomDecks(Trying):

@@ -5,8 +5,6 @@ import shutil
 from trying import BOTH, PRINTOUTS, SNOMON, TOP, Trying, run, snomon
 from test_2_split import HEAD, job, sets
 
-SPOILED = b"$JOB hugo\n  X = 1 +\nEND\n$EOJ\n$JOB lisa ST=1\nL  :(L)\nEND\n$EOJ\n"
-
 
 class Pages(Trying):
     def test_man_pages_are_set_without_a_warning(self):
@@ -16,18 +14,6 @@ class Pages(Trying):
             done = run(['groff', '-mdoc', '-Tascii', '-ww', os.path.join(TOP, 'docs', 'man', page)])
             self.assertEqual((done.status, done.err), (0, ''))
             self.assertIn(b'DESCRIPTION', re.sub(b'.\x08', b'', done.out))
-
-    def test_the_page_has_a_grep_that_finds_what_failed(self):
-        with open(os.path.join(TOP, 'docs', 'ROUND.md')) as page:
-            command = re.search(r'^deck printouts monday.out (.*)$', page.read(), re.M).group(1)
-        deck_text = HEAD + sets(b'A') + b'$STREAM\n$LIST eve A\n' + job(b'A') + SPOILED + b'$CREATE lisa A\n$DRAIN\n$LIST lisa A\n$STOP\n'
-        self.write('monday.out', snomon(deck_text).out)
-        self.assertEqual(snomon(deck_text).status, 0)
-        done = run(['sh', '-c', f'"$0" printouts "$1" {command}', os.path.join(TOP, 'tools', 'deck'), self.path('monday.out')])
-        self.assertEqual([line for line in done.out.split(b'\n') if line and line != b'--' and not line.startswith(b'REFUSED P')
-                          and line != b'REFUSED ?'],
-                         [b'LIST eve A', b'REFUSED M2 NO ACCOUNT', b'JOB 2 hugo', b'CREATE lisa A', b'REFUSED K1 NAME TAKEN', b'JOB 3 lisa',
-                          b'END STATEMENT LIMIT AFTER 1'])
 
 
 class Rounds(Trying):

@@ -4,12 +4,18 @@ import re
 import subprocess
 import sys
 import tempfile
+import traceback
 import unittest
 
 TOOLS = os.path.join(os.path.dirname(os.path.realpath(__file__)), '..')
 TOP = os.path.realpath(os.path.join(TOOLS, '..'))
 DECK = os.path.join(TOP, 'tools', 'deck')
+sys.path[:0] = [TOOLS]
+from decks import command  # noqa: E402
+
 SNOMON = os.path.abspath(os.environ.get('SNOMON', os.path.join(TOP, 'run')))
+MEASURED = ('import resource, subprocess, sys; status = subprocess.call(sys.argv[1:]); '
+            'print(resource.getrusage(resource.RUSAGE_CHILDREN).ru_maxrss, status)')
 MOST_MEMORY = 64 * 1024  # that deck may take, however long a file is, in KiB
 
 # An output of each version, whose records look like what stands between data sets.
@@ -68,8 +74,31 @@ def run(words, given=b'', **more):
     return Done(done.returncode, done.stdout, done.stderr)
 
 
-def deck(*words, **more):
-    return run([sys.executable, DECK, *words], **more)
+def deck(*words, preexec_fn=lambda: None):
+    """Runs the command in a copy of this process, since Python takes longer to begin than most commands do. `DECK` is what
+    tests run that are about how it begins or ends, and about its streams."""
+    with tempfile.TemporaryFile() as given, tempfile.TemporaryFile() as out, tempfile.TemporaryFile() as err:
+        child = os.fork()
+        if child == 0:
+            status = 99
+            try:
+                for number, file in enumerate((given, out, err)):
+                    os.dup2(file.fileno(), number)
+                sys.stdout, sys.stderr = open(1, 'w', closefd=False), open(2, 'w', closefd=False)
+                preexec_fn()
+                status = command.main([os.fspath(word) for word in words])
+            except SystemExit as leaving:
+                status = leaving.code
+            except BaseException:
+                traceback.print_exc()
+            finally:
+                sys.stdout.flush()
+                sys.stderr.flush()
+                os._exit(status)
+        ended = os.waitpid(child, 0)[1]
+        for file in (out, err):
+            file.seek(0)
+        return Done(os.WEXITSTATUS(ended) if os.WIFEXITED(ended) else -os.WTERMSIG(ended), out.read(), err.read())
 
 
 class Trying(unittest.TestCase):
@@ -105,14 +134,11 @@ class Trying(unittest.TestCase):
         self.is_refused(done, f'{self.path(name)}: line {line}: {message}')
 
     def memory_of(self, words, status=0):
-        """The most that a run of deck took, in KiB."""
-        with tempfile.TemporaryFile() as said:
-            process = os.posix_spawn(sys.executable, [sys.executable, DECK, *words], os.environ,
-                                     file_actions=[(os.POSIX_SPAWN_DUP2, said.fileno(), 2)])
-            _, ended, used = os.wait4(process, 0)
-            said.seek(0)
-            self.assertEqual(os.WEXITSTATUS(ended), status, said.read())
-        return used.ru_maxrss
+        """The most that a run of deck took, in KiB. A small process starts it, since what a process begins as counts too."""
+        done = run([sys.executable, '-c', MEASURED, sys.executable, DECK, *words])
+        memory, ended = map(int, done.out.split())
+        self.assertEqual(ended, status, done.err)
+        return memory
 
     def line_of(self, err):
         found = re.search(r': line (\d+): ', err)
