@@ -20,7 +20,6 @@ use Rattle.mon_catalogue.specs.Writing.{Change, writing, change_refusal, records
 use Rattle.mon_catalogue.proofs.Changed.{other_sets_stay, named_set_changes}
 use Rattle.mon_catalogue.proofs.Shorthand.{listed}
 use Rattle.mon_answer.specs.declared.answer.Reason.{Reason}
-use Rattle.mon_answer.specs.declared.answer.Answer.{Answer}
 use Rattle.mon_answer.specs.declared.answer.Answer.TheVariants as answer
 use Rattle.mon_guard.specs.Deciding.{to_read, to_write}
 use Rattle.mon_guard.specs.Owning.{owner_denial, given, new_set, acl_set_unless}
