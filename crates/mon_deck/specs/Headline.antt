@@ -38,7 +38,7 @@ pub record TellsAll (options : Options) (m : Marks) (bytes : List ℕ) (deck : D
   pub lead : Lead deck.accounts deck.catalogue entries last.after.floor.sets
   -- A record is got, a data set changed, a record, list or name shown, exactly where that is asked, then granted, and fit for the
   -- set's mode. Each denial names the entry that decides, what is missing, or MODE, which comes after the grant; and it changes
-  -- no data set.
+  -- no data set. Every other answer, too, is given exactly where the data sets and their lists say so.
   pub granted : AllByRecursion (IsRight deck.accounts) entries
   -- The output is what the entries print, in order, and then the catalogue.
   pub output : output_of options m bytes ≡ papers_text (papers_in entries) ++ closing last.after.floor.sets deck.cards.ending

@@ -3,6 +3,7 @@ pub mod Runs
 pub mod Laws
 pub mod Headline
 pub mod Appending
+pub mod Seeing
 pub mod Isolation
 pub mod Example
 pub mod Schedules

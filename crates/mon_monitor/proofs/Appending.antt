@@ -106,7 +106,7 @@ request_keeps changed account reach q name first h = by (changed account reach q
 -- ONE COMMAND
 
 -- a set that is found is found before others that are put behind it
-found_first : (name : List ℕ) (set : DataSet) (more sets : Sets) → find_set name sets ≡ Some set → find_set name (sets ++ more) ≡ Some set
+pub found_first : (name : List ℕ) (set : DataSet) (more sets : Sets) → find_set name sets ≡ Some set → find_set name (sets ++ more) ≡ Some set
 found_first name set more [] h = absurd cc
 found_first name set more (named ∷ sets) h = by (pointwise nat_eq name named.0) h (found_first name set more sets)
   where

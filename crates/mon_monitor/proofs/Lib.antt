@@ -3,9 +3,11 @@ pub mod Playing
 pub mod Histories
 mod Exchanging
 mod Telling
+mod Answering
 mod Accounting
 mod Recounting
 mod Appending
+mod Seeing
 mod Headline
 mod Finding
 mod Names

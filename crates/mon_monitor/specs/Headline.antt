@@ -19,7 +19,7 @@ use Rattle.mon_access.specs.declared.account.Account.{Account}
 use Rattle.mon_access.specs.Accounts.{find_account}
 use Rattle.mon_catalogue.specs.Sets.{Sets}
 use Rattle.mon_answer.specs.declared.answer.Reason.{Reason}
-use Rattle.mon_guard.specs.Lending.{AclPart, names_lent}
+use Rattle.mon_guard.specs.Lending.{AclPart, NamePart}
 use Rattle.mon_guard.specs.Laws.{AreForReading, IsForSeeing}
 use Rattle.mon_command.specs.declared.command.Command.{Command}
 use Rattle.mon_command.specs.declared.command.Command.TheVariants.{Create, Delete, SetAcl, ShowAcl, List as Listing, Catalog}
@@ -29,7 +29,7 @@ use Rattle.mon_command.specs.Commands.{account_of}
 use Rattle.mon_command.specs.Commanded as commands
 use Rattle.mon_command.specs.Commanded.{Told, Records, Shown, Names, answered}
 use Rattle.mon_command.specs.Laws as commanding
-use Rattle.mon_command.specs.Laws.{IsKnown, IsWhy}
+use Rattle.mon_command.specs.Laws.{IsKnown}
 use Rattle.mon_unit.specs.declared.tie.Target.{Target}
 use Rattle.mon_unit.specs.declared.tie.Target.TheVariants.{Untied, Data, Spool, Set}
 use Rattle.mon_unit.specs.declared.note.Note.{Note}
@@ -49,6 +49,7 @@ use Rattle.mon_monitor.specs.Worlds.{World, first_world}
 use Rattle.mon_monitor.specs.Events.{Event, Serve, Load, Give, Drain}
 use Rattle.mon_monitor.specs.Papers.{Paper}
 use Rattle.mon_monitor.specs.Played.{played}
+use Rattle.mon_monitor.specs.Answering.{ReadsPast, LacksRoom, IsDone, AreNamed, IsTold}
 use Rattle.mon_monitor.specs.History.{Exchanged, Entry, Entered, Refused, Asked, Ended, Ordered, history, papers_in, cards_in, own}
 
 -- A JOB
@@ -231,8 +232,8 @@ Lead accounts before (entry ∷ entries) after =
 
 -- What an answer means for grants, for the requests of jobs and then for commands. The list that decides is the one that the
 -- data set has at that exchange. End of file, FULL, a name that is taken (K1), a catalogue that is full (K4) and a text that
--- spells no list (A) are answers to what was granted, and change nothing (`leaves` below, and the laws `makers_own` and
--- `owners_set_lists` of mon_guard). So is MODE, which comes after the grant: it denies, and names itself as the reason.
+-- spells no list (A) are answers to what was granted, and change nothing (`leaves` and `changed` below). So is MODE, which comes
+-- after the grant: it denies, and names itself as the reason.
 
 -- A request of a job: these are the laws `got_where_granted`, `changed_where_granted`, `denials_say_why` and
 -- `denials_change_nothing` of mon_unit, at its answer.
@@ -249,18 +250,23 @@ pub record IsRightRequest (e : Exchanged) : Type 0 where
   pub denied : (reason : Reason) → (e.answer ≡ Denied reason) ↔ WhyDenied e.account e.reach e.request reason
   -- Denied, or told that there is no room, it adds its note and changes nothing else.
   pub leaves : units.LeavesAll e.account e.reach e.request
+  -- It is told the end of file exactly where it reads behind the last line or record, and r is granted; that there is no room
+  -- exactly where it writes, w is granted, and the set has its most records; and that it is done exactly where `IsDone` says so.
+  pub past : (e.answer ≡ EndOfFile) ↔ ReadsPast e.account e.reach e.request
+  pub full : (e.answer ≡ Full) ↔ LacksRoom e.account e.reach e.request
+  pub done : (e.answer ≡ Done) ↔ IsDone e.account e.reach e.request
 
 -- a command that shows records, a list or names shows what is lent to the account; any other is told one line
 abbrev pub ShowsRightly : Account → Sets → Command → commands.Answer → Type 0
 ShowsRightly account sets (Listing _ name) answer = (records : List (List ℕ)) → (answer ≡ Records records) ↔ AreForReading account sets name records
 ShowsRightly account sets (ShowAcl _ name) answer = (list : AclPart) → (answer ≡ Shown list) ↔ IsForSeeing account sets name list
-ShowsRightly account sets (Catalog _) answer = answer ≡ Names (names_lent account sets)
+ShowsRightly account sets (Catalog _) answer = (names : List NamePart) × (answer ≡ Names names) × AreNamed account sets names
 ShowsRightly account sets (Create _ name _) answer = (reply : Reply) × (answer ≡ Told reply)
 ShowsRightly account sets (Delete _ name) answer = (reply : Reply) × (answer ≡ Told reply)
 ShowsRightly account sets (SetAcl _ name text) answer = (reply : Reply) × (answer ≡ Told reply)
 
--- A command: these are the laws `changes_where_granted`, `shows_where_granted` and `denials_say_why` of mon_command, at its
--- answer. By a name that is taken, and by denials, everyone is told whether there is such a data set.
+-- A command: these are the laws `changes_where_granted`, `shows_where_granted` and `denials_say_why` of mon_command, and what is told
+-- otherwise, at its answer. By a name that is taken, and by denials, everyone is told whether there is such a data set.
 pub record IsRightCommand (accounts : List Account) (sets : Sets) (command : Command) (answer : commands.Answer) : Type 0 where
   -- An account that is unknown is told so, and nothing else.
   pub unknown : find_account accounts (account_of command) ≡ None → answer ≡ Told reply.NoAccount
@@ -270,10 +276,9 @@ pub record IsRightCommand (accounts : List Account) (sets : Sets) (command : Com
   -- LIST shows records exactly where r is granted; SHOWACL a list to the owner and where x is granted; and CATALOG, where x is
   -- granted, a name, and with it owner, group and number of records.
   pub shown : (account : Account) → IsKnown accounts command account → ShowsRightly account sets command answer
-  -- It is denied exactly where the data set is missing, is another's (NOT OWNER), or an entry of its list decides so; and that is
-  -- the reason that it is told.
-  pub denied : (account : Account) → IsKnown accounts command account → (reason : Reason)
-      → (answer ≡ Told (reply.Denied reason)) ↔ IsWhy account command sets reason
+  -- It is told one line exactly where `IsTold` says so, by the first of what is wrong with it: it is denied exactly where the data set
+  -- is missing, is another's (NOT OWNER), or an entry of its list decides so; and that is the reason that it is told.
+  pub told : (account : Account) → IsKnown accounts command account → (reply : Reply) → (answer ≡ Told reply) ↔ IsTold account sets command reply
 
 -- an entry got, changed and showed what was granted, and its denial says why
 abbrev pub IsRight : List Account → Entry → Type 0

@@ -6,8 +6,10 @@ pub mod Told
 pub mod Happening
 pub mod Laws
 pub mod History
+pub mod Answering
 pub mod Headline
 pub mod Appending
+pub mod Seeing
 pub mod Agreeing
 pub mod Isolation
 pub mod Beginnings

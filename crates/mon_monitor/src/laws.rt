@@ -2,6 +2,7 @@
 ghost use Rattle.mon_monitor.specs.Laws.{CardByCard, PrintedInOrder, PlayedUnmarked, DrainEmpties, LoadHasRoom, CommandsKeepSlots, AccountsStay, SlotsStay};
 ghost use Rattle.mon_monitor.specs.Headline.{HistoryTells};
 ghost use Rattle.mon_monitor.specs.Appending.{AppendOnly};
+ghost use Rattle.mon_monitor.specs.Seeing.{ReadsSeeWrites};
 
 use mon_slots::laws;
 
@@ -73,5 +74,14 @@ pub fn history_tells()
 pub fn append_only()
     ensures { AppendOnly }
 {
+    mon_unit::laws::changed_where_granted();
+}
+
+/// What a job wrote, and was told to be done, is got at its place by whoever is granted r, until its data set is written again, ended or
+/// deleted.
+pub fn reads_see_writes()
+    ensures { ReadsSeeWrites }
+{
+    mon_unit::laws::got_where_granted();
     mon_unit::laws::changed_where_granted();
 }
