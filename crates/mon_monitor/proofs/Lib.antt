@@ -5,6 +5,9 @@ mod Exchanging
 mod Telling
 mod Accounting
 mod Recounting
+mod Unbroken
+mod Taking
+mod OutOfTurn
 mod Appending
 mod Headline
 mod Finding

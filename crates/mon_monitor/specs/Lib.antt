@@ -7,6 +7,7 @@ pub mod Happening
 pub mod Laws
 pub mod History
 pub mod Headline
+pub mod Turns
 pub mod Appending
 pub mod Agreeing
 pub mod Isolation
