@@ -6,6 +6,9 @@ mod Telling
 mod Answering
 mod Accounting
 mod Recounting
+mod Unbroken
+mod Taking
+mod OutOfTurn
 mod Appending
 mod Seeing
 mod Headline

@@ -1,6 +1,6 @@
 -- What the history tells (own): a job's own entries are what its program means, each entry is answered as the data sets stand
--- then, and what is granted, denied and printed follows. The law `history_tells` says it of all events. Which turns come when,
--- and that what is asked in one turn stands together, is left to the definition of `history`.
+-- then, and what is granted, denied and printed follows. The law `history_tells` says it of all events. Turns says when
+-- turns come.
 use Rattle.std.specs.Prelude.{◌≡◌, ◌≢◌, ◌⊎◌, ◌↔◌, ◌==◌, ℕ, suc, List, [], ◌∷◌, ◌++◌, map, Option, Some, None, if◌then◌else◌}
 use Rattle.std.specs.List.{AllByRecursion, flat_map}
 use Rattle.sno_ask.specs.Asking.{Exchange}

@@ -8,6 +8,7 @@ pub mod Laws
 pub mod History
 pub mod Answering
 pub mod Headline
+pub mod Turns
 pub mod Appending
 pub mod Seeing
 pub mod Agreeing

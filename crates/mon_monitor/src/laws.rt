@@ -1,6 +1,7 @@
 //! Laws of events. Each is the contract of a function that does nothing, or only cites laws of the crates below.
 ghost use Rattle.mon_monitor.specs.Laws.{CardByCard, PrintedInOrder, PlayedUnmarked, DrainEmpties, LoadHasRoom, CommandsKeepSlots, AccountsStay, SlotsStay};
 ghost use Rattle.mon_monitor.specs.Headline.{HistoryTells};
+ghost use Rattle.mon_monitor.specs.Turns.{TurnsCome};
 ghost use Rattle.mon_monitor.specs.Appending.{AppendOnly};
 ghost use Rattle.mon_monitor.specs.Seeing.{ReadsSeeWrites};
 
@@ -68,6 +69,15 @@ pub fn history_tells()
     mon_command::laws::changes_where_granted();
     mon_command::laws::shows_where_granted();
     mon_command::laws::denials_say_why();
+}
+
+/// From empty slots on, each card brings its turns and its entry in its time: turns of the slot that its card names, or of slot after
+/// slot, one statement of a job each; and a job ends for want of memory only in a turn that has a mark.
+pub fn turns_come()
+    ensures { TurnsCome }
+{
+    laws::room_is_made();
+    slots_stay();
 }
 
 /// The records of a set of mode APPEND stay as they are and where they are, and others only come behind them, until it is deleted.
