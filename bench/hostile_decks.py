@@ -82,7 +82,7 @@ def elements():
     yield plain("REM", "REM 'y'", lambda n: 3 * (n + 1))
     yield plain("FENCE", "FENCE 'y'", lambda n: 3)
     yield plain("FAIL", "FAIL", lambda n: n + 1)
-    yield plain("SUCCEED", "POS(0) SUCCEED POS(1)", lambda n: 10_000_000, size=1, unit=None, most=1)
+    yield Case("SUCCEED", x, "  S POS(0) SUCCEED POS(1)", steps=lambda n: 10_000_000, unit="step", units=lambda n: 10_000_000, most=1)
     yield plain("ARB", "POS(0) ARB 'y'", lambda n: 3 * n)
     yield plain("ARBNO", "POS(0) ARBNO('x') 'y'", lambda n: 5 * n)
     yield plain("ARBNO of a class", "POS(0) ARBNO(ANY('x')) 'y'", lambda n: 5 * n)
@@ -284,3 +284,37 @@ def keys():
 def cases():
     groups = (classes, elements, functions, units, names, gotos, programs, decks, keys)
     return {case.name: case for group in groups for case in group()}
+
+
+def kept():
+    """What a job keeps in memory: a deck by how many there are, and how many at the most are measured."""
+
+    def one(name, *program, size=1_000_000, options="ST=10000000 MATCH=10000000", cards=(), data=(), sets=()):
+        lines = lambda n: job_decks.job(f"$JOB lisa {options}".replace("#", str(n)), [*cards, *(line.replace("#", str(n)) for line in program), "END", *list(data) * n], sets)
+        return Whole(name, lines, size, name)
+
+    log = ["$SET LOG anna admin 0", LIST]
+    yield one("spooled line of 1 character", "L N = LT(N,#) N + 1 :F(END)", "  OUTPUT = 'x' :(L)")
+    yield one("spooled line of 132", "  S = DUPL('x',132)", "L N = LT(N,#) N + 1 :F(END)", "  OUTPUT = S :(L)")
+    yield one("spooled line of 1,024", "  S = DUPL('x',1024); OUTPUT('OUTPUT',6)", "L N = LT(N,#) N + 1 :F(END)", "  OUTPUT = S :(L)", size=200_000)
+    yield one("note of a unit", "  OUTPUT('W',20)", "L N = LT(N,#) N + 1 :F(END)", "  W = 'x' :(L)")
+    yield one("note of a data set", "  INPUT('W',8)", "L N = LT(N,#) N + 1 :F(END)", "  X = W :(L)", cards=["$UNIT 8 A.NAME.OF.31.CHARACTERS.AT.MOST"[:39]])
+    yield one("record of 1", "  OUTPUT('W',8)", "L N = LT(N,#) N + 1 :F(END)", "  W = 'x' :(L)", cards=["$UNIT 8 LOG"], sets=log, size=100_000)
+    yield one("record of 1,024", "  OUTPUT('W',8); S = DUPL('x',1024)", "L N = LT(N,#) N + 1 :F(END)", "  W = S :(L)", cards=["$UNIT 8 LOG"], sets=log, size=100_000)
+    yield one("variable of an integer", "L N = LT(N,#) N + 1 :F(END)", "  $N = N :(L)")
+    yield one("string of 10 in a variable", "L N = LT(N,#) N + 1 :F(END)", "  $N = N 'ABC' :(L)")
+    yield one("string of 1,000 in a variable", "  S = DUPL('x',993)", "L N = LT(N,#) N + 1 :F(END)", "  $N = S N :(L)", size=200_000)
+    yield one("string of 100,000 in a variable", "  &MAXLNGTH = 100000; S = DUPL('x',99993)", "L N = LT(N,#) N + 1 :F(END)", "  $N = S N :(L)", size=5_000)
+    yield one("item of an integer by an integer", "  T = TABLE()", "L N = LT(N,#) N + 1 :F(END)", "  T<N> = N :(L)", size=100_000)
+    yield one("item of a string by a string", "  T = TABLE()", "L N = LT(N,#) N + 1 :F(END)", "  T<N 'ABC'> = 'D' N :(L)", size=100_000)
+    yield one("pattern of one part", "L N = LT(N,#) N + 1 :F(END)", "  $N = LEN(N) :(L)", size=500_000)
+    yield one("pattern of 10 parts", "L N = LT(N,#) N + 1 :F(END)", "  $N = LEN(N) | POS(N) | TAB(N) | RTAB(N) | RPOS(N) :(L)", size=200_000)
+    yield one("step of a match", "  Q = *Q 'C' | 'D'", "  'E' Q :(END)", options="MATCH=#", size=4_000_000)
+    yield one("step of a match with .", "  &MAXLNGTH = 100000; S = DUPL('x',100000)", "  S POS(0) ARBNO(LEN(0) LEN(1) . V) 'y'", options="MATCH=#", size=800_000)
+    yield one("name of a function, in each call", "  DEFINE('F(N)" + ",".join(f"V{i}" for i in range(20)) + "') :(GO)", "F EQ(N,0) :S(RETURN)", "  F(N - 1) :(RETURN)", "GO F(# / 22)", size=4_000)
+    yield one("line of data of 1", data=["x"])
+    yield one("line of data of 200", data=["x" * 200], size=200_000)
+    yield Whole("card of a comment", lambda n: job_decks.job(CARD, [*["*"] * n, "END"]), 1_000_000, "card")
+    yield Whole("statement A = 1", lambda n: job_decks.job(CARD, [" A = 1 :(END)"] * n + ["END"]), 500_000, "statement")
+    yield Whole("statement of a card of 200", lambda n: job_decks.job(CARD, [" A = " + " ".join(["B"] * 90) + " :(END)"] * n + ["END"]), 20_000, "statement")
+    yield Whole("label", lambda n: job_decks.job(CARD, [f"L{i} :(END)" for i in range(n)] + ["END"]), 500_000, "label")
