@@ -5,9 +5,9 @@ python3 hostile_decks.py PROGRAM [HOG ..]      (HOG: the name of one, or of one 
 Three jobs and twenty commands make a deck, whose output monitor.py gives. Into it one more account's cards are put, a hog: its data
 sets, a job that is loaded behind the three, and turns that give it most of the memory while the others wait. The deck then runs
 with an address space that is limited to so many megabytes. The run has to end with status 0 and nothing on standard error; what the
-others and the catalogue print is what monitor.py gives without the hog, byte by byte; the hog's own printout is a whole one, with
-as many lines and notes as its count of statements says; and its data sets stand in the catalogue with all the records that their
-cards count.
+others and the catalogue print is what monitor.py gives without the hog, byte by byte; the hog's own printout is a whole one, where it
+spools or is denied with as many lines and notes as its count of statements says; and its data sets stand in the catalogue with all
+the records that their cards count.
 
 4,096 megabytes are tried with few hogs alone, since to fill and to print them takes seconds, and names and variables, which take long
 to make, under 300 megabytes alone."""
@@ -50,8 +50,8 @@ JOBS = [
 TURNS = ['$TURN 1 100', '$TURN 2 100', '$TURN 3 100']
 
 # The hog has most of the memory when these come.
-MEANWHILE = ['$LIST anna PAYROLL', '$SHOWACL anna LOG', *LONG_LIST, '$SHOWACL anna LOG', '$CREATE lisa DIARY', '$CREATE lisa PLANS', '$LIST hugo REPORT',
-             '$CATALOG lisa', '$SETACL hugo LOG u::,g::,o::']
+MEANWHILE = ['$LIST anna PAYROLL', '$SHOWACL anna LOG', *LONG_LIST, '$SHOWACL anna LOG', '$CREATE lisa DIARY', '$CREATE lisa PLANS',
+             '$LIST hugo REPORT', '$CATALOG lisa', '$SETACL hugo LOG u::,g::,o::']
 AFTER = ['$LIST anna LOG', '$LIST lisa REPORT', '$DELETE lisa PLANS', '$CATALOG hugo', '$SHOWACL nobody LOG', '$LIST lisa PAYROLL']
 
 
@@ -208,6 +208,8 @@ LIMITS = 300, 1024
 LARGE = 4096
 FILLING = 'short_lines', 'notes_of_sets', 'own_sets', 'strings'    # these are run at the large limit too
 SLOW = 'names', 'variables'                                        # and these at the smallest alone
+# how many statements a hog begins before it prints, and how many lines or notes each further one makes
+PRINTED = {'short_lines': (2, 1), 'long_texts': (2, 758), 'notes_of_units': (1, 1), 'notes_of_sets': (1, 1)}
 
 # ---- what came out ----------------------------------------------------------------------------------------------
 
@@ -217,19 +219,29 @@ class Wrong(Exception):
 
 
 def job_left_out(lines):
-    """Goes behind the printout of a job; its last line."""
-    told = False
+    """Goes behind the printout of a job; its last line, and how many lines and notes were before it."""
+    count, told = 0, False
     for line in lines:
         if line[:1] != b' ':
             word = line.split(None, 1)[0]
             if word == b'END':
-                return line
+                return line.decode().strip(), count
             if word not in (b'DENIED', b'FULL'):
                 raise Wrong('in the printout of the hog: %r' % line[:80])
             told = True
         elif told:
             raise Wrong('a line of the spool behind a note')
+        count += 1
     raise Wrong('the printout of the hog has no end')
+
+
+def is_whole(name, end, count):
+    """Whether a hog that ended so has printed so many lines and notes. Its last statement may have been broken off."""
+    if name not in PRINTED:
+        return True
+    before, each = PRINTED[name]
+    statements = int(end.split()[-1]) - before
+    return each * (statements - 1) <= count <= each * statements
 
 
 def listing_left_out(lines):
@@ -263,11 +275,11 @@ def catalogue_of_others(lines, kept):
 
 
 def of_others(lines):
-    """What is printed without what the hog prints; and the last lines of its jobs."""
+    """What is printed without what the hog prints; and how its jobs ended, with how many lines and notes."""
     kept, ends = [], []
     for line in lines:
         if line[:4] == b'JOB ' and line.split()[2] == b'hog':
-            ends.append(job_left_out(lines).decode().strip())
+            ends.append(job_left_out(lines))
         elif line.startswith(b'LIST hog '):
             listing_left_out(lines)
         elif line.startswith(b'SETACL hog '):
@@ -293,7 +305,7 @@ def limited(megabytes):
 
 
 def run(program, text, megabytes):
-    """What the others print, and the last lines of the hog's jobs."""
+    """What the others print, and how the hog's jobs ended, with how many lines and notes."""
     with open('/dev/shm/hostile.%d' % os.getpid() if os.path.isdir('/dev/shm') else '/tmp/hostile.%d' % os.getpid(), 'w+b') as file:
         os.unlink(file.name)
         file.write(text.encode())
@@ -319,7 +331,11 @@ def tried(program, name, megabytes, wanted):
         others, ends = run(program, deck(HOGS[name], megabytes), megabytes)
     except Wrong as wrong:
         return str(wrong), []
-    return None if others == wanted else difference(others, wanted), ends
+    if others != wanted:
+        return difference(others, wanted), []
+    if not all(is_whole(name, end, count) for end, count in ends):
+        return 'lines or notes are missing, or there are too many: %s' % ends, []
+    return None, [end for end, _ in ends]
 
 
 def cases(words):
@@ -345,7 +361,8 @@ def main():
         begun = time.monotonic()
         wrong, ends = tried(program, name, megabytes, wanted.encode())
         failed, count = failed or bool(wrong), count + 1
-        print('%s %s in %d MB: %s (%.1f s)' % ('FAILED' if wrong else 'ok', name, megabytes, wrong or ', '.join(ends), time.monotonic() - begun), flush=True)
+        told = 'FAILED' if wrong else 'ok', name, megabytes, wrong or ', '.join(ends), time.monotonic() - begun
+        print('%s %s in %d MB: %s (%.1f s)' % told, flush=True)
     print('%d hostile decks' % count)
     sys.exit(1 if failed else 0)
 
