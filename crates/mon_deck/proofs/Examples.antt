@@ -1,6 +1,6 @@
 -- The definitions at worked cases.
 use Rattle.std.proofs.Common.{subst, sym}
-use Rattle.std.specs.Prelude.{◌≡◌, ℕ, true, false, List, [], ◌∷◌, ◌++◌, Some, None, codes, refl}
+use Rattle.std.specs.Prelude.{◌≡◌, ℕ, true, false, List, [], ◌∷◌, ◌++◌, Some, None, codes, refl, replicate}
 use Rattle.std.specs.Fmt.{digits}
 use Rattle.mon_acl.specs.declared.entries.Entry.{Entry}
 use Rattle.mon_acl.specs.declared.entries.Tag.TheVariants.{UserObj, GroupObj, Other}
@@ -14,6 +14,7 @@ use Rattle.mon_command.specs.Commanded as commands
 use Rattle.mon_command.specs.Commanded.{Told}
 use Rattle.mon_slots.specs.Marks.{Marks}
 use Rattle.mon_monitor.specs.History.{Entry as AnEntry, Ordered, history}
+use Rattle.mon_monitor.specs.Turns.{Stage, BringInOrder}
 use Rattle.mon_cards.specs.declared.card.Card.TheVariants as card
 use Rattle.mon_cards.specs.declared.code.Code.TheVariants.{BadName, BadCharacter, AccountTwice, UnknownCard, BadCard, OutOfPlace, Truncated}
 use Rattle.mon_cards.specs.Decks.{Commands, Stopped, Refused}
@@ -146,3 +147,32 @@ the_history_of_payroll : (options : Options) (m : Marks) → options.slots.numbe
 unfolding decision
 the_history_of_payroll options m is =
     subst (λ (n : ℕ). (let scene = opening n (deck_of (lines payroll)) in history (events_in 0 scene) m scene.world ≡ payroll_listed)) (sym is) refl
+
+-- four empty slots
+abbrev stage : Marks → Stage
+stage m = record { seats = replicate 4 None; marks = m }
+
+-- The cards bring it in their order: each `$LIST` one entry, and `$STOP` no turn, as no job is there.
+payroll_in_order : (m : Marks) → (let deck = deck_of (lines payroll) in BringInOrder deck.accounts (events_in 0 (opening 4 deck)) (stage m) payroll_listed (stage m))
+payroll_in_order m =
+    let deck = deck_of (lines payroll) in
+    let lisa = commands.Records (codes "ADA 100" ∷ codes "BOB 200" ∷ [] ∷ []) in
+    let hugo_is_denied = Told (Denied (By Other None)) in
+    let none_there = Told (Denied NoSet) in
+    let one = lists (codes "lisa") (codes "PAYROLL") lisa in
+    let two = lists (codes "hugo") (codes "PAYROLL") hugo_is_denied in
+    let three = lists (codes "anna") (codes "GONE") none_there in (
+      one ∷ [],
+      two ∷ three ∷ [],
+      stage m,
+      refl,
+      (deck.catalogue, lisa, refl, refl),
+      (
+        two ∷ [],
+        three ∷ [],
+        stage m,
+        refl,
+        (deck.catalogue, hugo_is_denied, refl, refl),
+        (three ∷ [], [], stage m, refl, (deck.catalogue, none_there, refl, refl), ([], [], stage m, refl, ([], refl, (refl, refl)), (refl, refl))),
+      ),
+    )

@@ -1,5 +1,5 @@
 -- The headline (own): what a deck that is run does, and what it prints, told by one list.
-use Rattle.std.specs.Prelude.{◌≡◌, ℕ, false, List, ◌++◌, None}
+use Rattle.std.specs.Prelude.{◌≡◌, ℕ, false, List, ◌++◌, None, replicate}
 use Rattle.std.specs.List.{AllByRecursion}
 use Rattle.std.specs.Str.Lines.{lines}
 use Rattle.mon_slots.specs.Floors.{job_in}
@@ -9,6 +9,7 @@ use Rattle.mon_monitor.specs.Papers.{papers_text}
 use Rattle.mon_monitor.specs.Played.{Played}
 use Rattle.mon_monitor.specs.History.{Entry, history, papers_in, cards_in, own}
 use Rattle.mon_monitor.specs.Headline.{IsJob, job_of, cards_of, Lead, IsRight}
+use Rattle.mon_monitor.specs.Turns.{BringInOrder, IsUnbroken}
 use Rattle.mon_cards.specs.Decks.{Deck, Stopped}
 use Rattle.mon_cards.specs.Sections.{deck_of}
 use Rattle.mon_feed.specs.declared.options.Options.{Options}
@@ -42,6 +43,12 @@ pub record TellsAll (options : Options) (m : Marks) (bytes : List ℕ) (deck : D
   pub granted : AllByRecursion (IsRight deck.accounts) entries
   -- The output is what the entries print, in order, and then the catalogue.
   pub output : output_of options m bytes ≡ papers_text (papers_in entries) ++ closing last.after.floor.sets deck.cards.ending
+  -- All slots are empty at first. Each card brings its turns and its entry in its time, and no other: `$TURN` turns of its slot, one
+  -- statement of the job in it each; a job into full slots, `$DRAIN` and `$STOP` turns of slot after slot, round and round, just as long
+  -- as needed; and a job sits in the slot that was the lowest free one.
+  pub turns : BringInOrder deck.accounts (asked_of options bytes) (record { seats = replicate options.slots.number None; marks = m }) entries (record { seats = last.after.floor.slots; marks = last.marks })
+  -- A job ends for want of memory only in a turn with a mark (`IsTurn`): so where there are none, no job does.
+  pub memory : AllByRecursion (λ mark. mark ≡ None) m → AllByRecursion IsUnbroken entries
 
 -- For every deck that is run, wherever memory breaks its turns off.
 abbrev pub Headline : Type 0
