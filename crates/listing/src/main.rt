@@ -17,7 +17,9 @@ fn main(rt: HostRuntime) -> ExitCode {
     let mut errors = rt.stderr();
     let status = run(rt.alloc(), words, &mut input, &mut output, &mut errors);
     if input.would_block {
-        let _ = eprintln!(rt; "listing: standard input is non-blocking, and had nothing to read yet");
+        let _ = eprintln!(rt;
+            "listing: standard input is non-blocking, and had nothing to read yet"
+        );
     }
     if output.would_block {
         let _ = eprintln!(rt; "listing: standard output is non-blocking, and had no room yet");
