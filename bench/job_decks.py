@@ -14,6 +14,8 @@ The cases, at their whole size:
   functions       some 910,000 statements, nearly all within calls of a function of three arguments and a local
   calls           10,000,000 calls of a function, in two jobs that come one behind the other, ten calls a statement
   matches         a match in each of 10,000,000 statements
+  classes         a match of 3,000 steps, of which each third is a SPAN over 10,000 characters whose argument has 99,601, the
+                  last of them the one that counts; and the same of BREAK, in a second job
   strings         870,031 statements: words cut off a text by a pattern, and counted in variables named by them
   item_counts     50,000 items of a table, to each of which 1 is added 20 times: 2,000,000 statements
   variable_counts the same over variables that `$` names
@@ -125,6 +127,21 @@ def calls(size):
 
 def matches(size):
     return job(f"$JOB lisa ST={int(10_000_000 * size)}", ["L 'A' LEN(1) :(L)", "END"])
+
+
+def classes(size):
+    def lines(pattern, text):
+        return [
+            "  &MAXLNGTH = 100000",
+            "  A = DUPL('A',99600) 'X'",
+            f"  S = {text}",
+            f"  S POS(0) SUCCEED {pattern} 'Z'",
+            "END",
+        ]
+
+    card = f"$JOB lisa MATCH={int(3_000 * size)}"
+    behind = ["$DRAIN", card, *lines("BREAK(A)", "DUPL('Y',9999) 'X'"), "$EOJ"]
+    return job(card, lines("SPAN(A)", "DUPL('X',10000)"), behind=behind)
 
 
 def strings(size):
@@ -260,6 +277,7 @@ CASES = {
         functions,
         calls,
         matches,
+        classes,
         strings,
         item_counts,
         variable_counts,
