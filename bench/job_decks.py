@@ -14,7 +14,7 @@ The cases, at their whole size:
   functions       some 910,000 statements, nearly all within calls of a function of three arguments and a local
   calls           10,000,000 calls of a function, in two jobs that come one behind the other, ten calls a statement
   matches         a match in each of 10,000,000 statements
-  classes         a match of 3,000 steps, of which each third is a SPAN over 10,000 characters whose argument has 99,601, the
+  classes         a match of 3,000 steps, of which each fourth is a SPAN over 10,000 characters whose argument has 99,601, the
                   last of them the one that counts; and the same of BREAK, in a second job
   strings         870,031 statements: words cut off a text by a pattern, and counted in variables named by them
   item_counts     50,000 items of a table, to each of which 1 is added 20 times: 2,000,000 statements
