@@ -101,7 +101,7 @@ impl Perms {
 }
 
 /// The letter of a permission, or `-`.
-fn place_of(held: bool, sign: u8) -> u8
+pub(crate) fn place_of(held: bool, sign: u8) -> u8
     ensures { result ≡ letter held sign }
 {
     if held { sign } else { b'-' }
@@ -116,7 +116,7 @@ impl Tag {
     }
 
     /// The word that the type is printed with.
-    fn word(self) -> &'static [u8]
+    pub fn word(self) -> &'static [u8]
         ensures { result.now ≡ tag_word self }
     {
         match self {
@@ -193,7 +193,7 @@ impl Entry {
     }
 
     /// What a mask leaves of the permissions, where it takes any away.
-    fn effective(&self, mask: Option<Perms>) -> Option<Perms>
+    pub(crate) fn effective(&self, mask: Option<Perms>) -> Option<Perms>
         ensures { result ≡ effective mask self.now }
     {
         let mask = mask?;
