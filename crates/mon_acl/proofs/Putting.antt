@@ -1,5 +1,5 @@
 -- The parts of the printed forms, put to a sink one behind the other.
-use Rattle.std.proofs.Common.{◌≡◌, ◌∙◌, ap, refl, ℕ, ◌≤◌, ◌-◌, List, [], ◌∷◌, ◌++◌, length, take, drop, get_or, Option}
+use Rattle.std.proofs.Common.{◌≡◌, ◌∙◌, ap, ℕ, ◌≤◌, ◌-◌, List, [], ◌∷◌, ◌++◌, length, take, drop, get_or, Option}
 use Rattle.std.specs.Prelude.{flat_map}
 use Rattle.mon_device.specs.Putting.{Standing, Puts}
 use Rattle.mon_device.proofs.Putting.{puts_same, puts_then}
@@ -35,7 +35,7 @@ pub short_put : (xs self : List Entry) (x : Entry) (a b c : Standing) → xs ≡
     → Puts a b (entry_text x) → Puts b c (flat_map next_text (take (length xs - 1) (drop 1 xs))) → Puts a c (short_form self)
 short_put xs self x a b c same l is one others =
     puts_same a c (entry_text x ++ flat_map next_text (take (length xs - 1) (drop 1 xs))) (short_form self)
-    (whole_form xs self x [] (entry_text x) (entry_text x ++ flat_map next_text (take (length xs - 1) (drop 1 xs))) same l is refl refl)
+    (whole_form xs self x same l is)
     (puts_then a b c (entry_text x) (flat_map next_text (take (length xs - 1) (drop 1 xs))) one others)
 
 pub long_put : (es self : List Entry) (mask : Option Perms) (a b : Standing) → es ≡ self → mask ≡ mask_of self
