@@ -100,14 +100,18 @@ puts_failed a b text failed is =
       apart = (refl, refl, refl);
     })
 
--- of texts in a row one more
-pub puts_each : {X : Type 0} (f : X → List ℕ) (xs : List X) (i : ℕ) (x : X) (a b c : Standing) → i < length xs → x ≡ get_or xs i x → Puts a b (flat_map f (take i xs)) → Puts b c (f x)
-    → Puts a c (flat_map f (take (i + 1) xs))
-puts_each f xs i x a b c inside is so_far one =
+-- of texts in a row one more, which stands at an index
+pub puts_each_at : {X : Type 0} (f : X → List ℕ) (xs : List X) (i : ℕ) (d x : X) (a b c : Standing) → i < length xs → x ≡ get_or xs i d → Puts a b (flat_map f (take i xs))
+    → Puts b c (f x) → Puts a c (flat_map f (take (i + 1) xs))
+puts_each_at f xs i d x a b c inside is so_far one =
     puts_same a c (flat_map f (take i xs) ++ f x) (flat_map f (take (i + 1) xs))
-    (sym (ap (flat_map f) (take_more xs i x inside) ∙ flat_map-append f (take i xs) (get_or xs i x ∷ []) ∙ ap (λ (v : List ℕ). flat_map f (take i xs) ++ v) (append-nil (f (get_or xs i x)))
+    (sym (ap (flat_map f) (take_more xs i d inside) ∙ flat_map-append f (take i xs) (get_or xs i d ∷ []) ∙ ap (λ (v : List ℕ). flat_map f (take i xs) ++ v) (append-nil (f (get_or xs i d)))
     ∙ ap (λ y. flat_map f (take i xs) ++ f y) (sym is)))
     (puts_then a b c (flat_map f (take i xs)) (f x) so_far one)
+
+pub puts_each : {X : Type 0} (f : X → List ℕ) (xs : List X) (i : ℕ) (x : X) (a b c : Standing) → i < length xs → x ≡ get_or xs i x → Puts a b (flat_map f (take i xs)) → Puts b c (f x)
+    → Puts a c (flat_map f (take (i + 1) xs))
+puts_each f xs i x a b c inside is so_far one = puts_each_at f xs i x x a b c inside is so_far one
 
 -- and all
 pub puts_all : {X : Type 0} (f : X → List ℕ) (xs : List X) (i : ℕ) (a b : Standing) → length xs ≤ i → Puts a b (flat_map f (take i xs)) → Puts a b (flat_map f xs)
