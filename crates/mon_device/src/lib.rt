@@ -6,6 +6,7 @@ pub mod device;
 pub mod memory;
 pub mod noted;
 pub mod pair;
+pub mod sink;
 pub mod streams;
 pub mod transfer;
 
@@ -13,5 +14,6 @@ pub use device::{DeckDevices, DeckReader, DeckWriter, Failed};
 pub use memory::{MemReader, MemWriter};
 pub use noted::Noted;
 pub use pair::Devices;
+pub use sink::{DeviceSink, Room, Sink, TextSink};
 pub use streams::{StdReader, StdWriter, Telling};
-pub use transfer::{MOST_READS, READ_SIZE, write_all};
+pub use transfer::{MOST_READS, READ_SIZE, WRITE_SIZE, write_all};

@@ -7,6 +7,9 @@ use crate::device::{DeckDevices, Failed};
 /// How many bytes one read asks for.
 pub const READ_SIZE: usize = 65_536;
 
+/// How many bytes of output are gathered at the most before they are written.
+pub const WRITE_SIZE: usize = 65_536;
+
 /// How many reads a run makes at the most.
 pub const MOST_READS: u64 = 4_294_967_295;
 

@@ -1,6 +1,7 @@
 //! Jobs as the deck gives them and as they end: what is loaded, why a load is refused, and what each prints.
 //!
-//! `printout` and `refusal_text` in specs/ say what is printed; `put_printout` and `put_refusal` append exactly that, or nothing.
+//! `printout` and `refusal_text` in specs/ say what is printed; `print_end` and `print_refusal` put exactly that
+//! to a sink; `put_printout` and `put_refusal` append it, or nothing.
 #![tactic(auto)]
 
 pub mod deck;
@@ -8,9 +9,10 @@ pub mod job_end;
 pub mod limits;
 pub mod printing;
 pub mod refusal;
+mod words;
 
 pub use deck::{JobDeck, UnitCard, UnitCards};
 pub use job_end::JobEnd;
 pub use limits::JobLimits;
-pub use printing::put_printout;
-pub use refusal::{LoadError, put_refusal};
+pub use printing::{print_end, put_printout};
+pub use refusal::{LoadError, print_refusal, put_refusal};

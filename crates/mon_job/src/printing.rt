@@ -1,19 +1,30 @@
-//! What a job that has ended prints.
-ghost use Rattle.std.specs.Prelude.{◌≡◌, ◌++◌, codes, OnOk, OnErr};
+//! What a job that has ended prints, put to a sink from where its lines stand: it takes no memory.
+ghost use Rattle.std.specs.Prelude.{◌≡◌, ◌++◌, codes, length, take, OnOk, OnErr};
 ghost use Rattle.std.specs.List.{flat_map};
 ghost use Rattle.mon_command.specs.Printouts.{word, number, stored_line};
+ghost use Rattle.mon_device.specs.Putting.{Puts};
 ghost use Rattle.mon_job.specs.Printouts.{job_line, act_word, target_words, exchange_words, note_words, note_line, statement_words, ending_words, ending_line, printout};
 
 use crate::job_end::JobEnd;
-use mon_command::printing::{put_number_word, put_stored, put_word};
-use mon_command::reply::put_reason;
+use crate::words::{print_number, print_reason, print_stored, print_word};
+use mon_device::{Sink, TextSink};
 use mon_lines::PackedLines;
 use mon_text::Name;
 use mon_unit::{Note, NoteAct, NoteTarget, Why};
 use sno_run::Ending;
 use std::alloc::AllocError;
 
-/// Appends what a job that has ended prints: its own line, each line of its spool, its notes, and how it ended.
+/// Puts what a job that has ended prints: its own line, each line of its spool, its notes, and how it ended.
+pub fn print_end<S: Sink>(end: &JobEnd, sink: &mut S)
+    ensures { Puts (S.standing sink.old) (S.standing sink.new) (printout end.now) }
+{
+    print_job_line(end.number, &end.account, sink);
+    print_spool(&end.spool, sink);
+    print_notes(end.notes.as_slice(), sink);
+    print_ending(end.ending, end.statements, sink);
+}
+
+/// Appends what a job that has ended prints.
 ///
 /// # Errors
 ///
@@ -22,80 +33,82 @@ pub fn put_printout(end: &JobEnd, out: &mut Vec<u8>) -> Result<(), AllocError>
     ensures printed { OnOk result (out.new.items ≡ out.old.items ++ printout end.now) }
     ensures unchanged { OnErr result (out.new.items ≡ out.old.items) }
 {
-    let mut text = Vec::new(*out.allocator());
-    put_text(end, &mut text)?;
-    out.extend_from_slice(&text)
+    let before = out.len();
+    match put_text(end, out) {
+        Ok(()) => Ok(()),
+        Err(error) => {
+            out.truncate(before);
+            Err(error)
+        }
+    }
 }
 
 fn put_text(end: &JobEnd, out: &mut Vec<u8>) -> Result<(), AllocError>
-    ensures { OnOk result (out.new.items ≡ out.old.items ++ printout end.now) }
+    ensures printed { OnOk result (out.new.items ≡ out.old.items ++ printout end.now) }
+    ensures begun { take (length out.old.items) out.new.items ≡ out.old.items }
 {
-    put_job_line(end.number, &end.account, out)?;
-    put_spool(&end.spool, out)?;
-    put_notes(end.notes.as_slice(), out)?;
-    put_ending(end.ending, end.statements, out)
+    let mut sink = TextSink::new(out);
+    print_end(end, &mut sink);
+    sink.settle()
 }
 
-// Appends a job's own line.
-pub(crate) fn put_job_line(number: u64, account: &Name, out: &mut Vec<u8>) -> Result<(), AllocError>
-    ensures { OnOk result (out.new.items ≡ out.old.items ++ job_line number account.now) }
+// Puts a job's own line.
+pub(crate) fn print_job_line<S: Sink>(number: u64, account: &Name, sink: &mut S)
+    ensures { Puts (S.standing sink.old) (S.standing sink.new) (job_line number account.now) }
 {
-    out.extend_from_slice(b"JOB")?;
-    put_number_word(number, out)?;
-    put_stored(account.as_bytes(), out)
+    sink.put(b"JOB");
+    print_number(number, sink);
+    print_word(account.as_bytes(), sink);
+    sink.put(b"\n");
 }
 
-fn put_spool(lines: &PackedLines, out: &mut Vec<u8>) -> Result<(), AllocError>
-    ensures { OnOk result (out.new.items ≡ out.old.items ++ flat_map stored_line lines.now) }
+fn print_spool<S: Sink>(lines: &PackedLines, sink: &mut S)
+    ensures { Puts (S.standing sink.old) (S.standing sink.new) (flat_map stored_line lines.now) }
 {
     for index in 0..lines.len() {
-        put_stored(lines.at(index), out)?;
+        print_stored(lines.at(index), sink);
     }
-    Ok(())
 }
 
-fn put_notes(notes: &[Note], out: &mut Vec<u8>) -> Result<(), AllocError>
-    ensures { OnOk result (out.new.items ≡ out.old.items ++ flat_map note_line notes.now) }
+fn print_notes<S: Sink>(notes: &[Note], sink: &mut S)
+    ensures { Puts (S.standing sink.old) (S.standing sink.new) (flat_map note_line notes.now) }
 {
     for note in notes {
-        put_note(note, out)?;
+        print_note(note, sink);
     }
-    Ok(())
 }
 
-fn put_note(note: &Note, out: &mut Vec<u8>) -> Result<(), AllocError>
-    ensures { OnOk result (out.new.items ≡ out.old.items ++ note_line note.now) }
+fn print_note<S: Sink>(note: &Note, sink: &mut S)
+    ensures { Puts (S.standing sink.old) (S.standing sink.new) (note_line note.now) }
 {
-    put_note_words(note, out)?;
-    out.push(b'\n')?;
-    Ok(())
+    print_note_words(note, sink);
+    sink.put(b"\n");
 }
 
-fn put_note_words(note: &Note, out: &mut Vec<u8>) -> Result<(), AllocError>
-    ensures { OnOk result (out.new.items ≡ out.old.items ++ note_words note.now.why (exchange_words note.now)) }
+fn print_note_words<S: Sink>(note: &Note, sink: &mut S)
+    ensures { Puts (S.standing sink.old) (S.standing sink.new) (note_words note.now.why (exchange_words note.now)) }
 {
     match &note.why {
         Why::Denied(reason) => {
-            out.extend_from_slice(b"DENIED")?;
-            put_exchange(note, out)?;
-            out.push(b' ')?;
-            put_reason(reason.copy(), out)
+            sink.put(b"DENIED");
+            print_exchange(note, sink);
+            print_reason(reason.copy(), sink);
         }
         Why::Full => {
-            out.extend_from_slice(b"FULL")?;
-            put_exchange(note, out)
+            sink.put(b"FULL");
+            print_exchange(note, sink);
         }
     }
 }
 
-// Appends what was asked, and of what.
-fn put_exchange(note: &Note, out: &mut Vec<u8>) -> Result<(), AllocError>
-    ensures { OnOk result (out.new.items ≡ out.old.items ++ exchange_words note.now) }
+// Puts what was asked, and of what.
+fn print_exchange<S: Sink>(note: &Note, sink: &mut S)
+    ensures { Puts (S.standing sink.old) (S.standing sink.new) (exchange_words note.now) }
 {
-    out.extend_from_slice(b" STATEMENT")?;
-    put_number_word(note.statement, out)?;
-    put_word(act_word(note.act), out)?;
-    put_target(&note.target, out)
+    sink.put(b" STATEMENT");
+    print_number(note.statement, sink);
+    print_word(act_word(note.act), sink);
+    print_target(&note.target, sink);
 }
 
 fn act_word(act: NoteAct) -> &'static [u8]
@@ -109,51 +122,50 @@ fn act_word(act: NoteAct) -> &'static [u8]
     }
 }
 
-fn put_target(target: &NoteTarget, out: &mut Vec<u8>) -> Result<(), AllocError>
-    ensures { OnOk result (out.new.items ≡ out.old.items ++ target_words target.now) }
+fn print_target<S: Sink>(target: &NoteTarget, sink: &mut S)
+    ensures { Puts (S.standing sink.old) (S.standing sink.new) (target_words target.now) }
 {
     match target {
-        NoteTarget::Set(name) => put_word(name.as_bytes(), out),
+        NoteTarget::Set(name) => print_word(name.as_bytes(), sink),
         NoteTarget::Unit(unit) => {
-            out.extend_from_slice(b" UNIT")?;
-            put_number_word(*unit, out)
+            sink.put(b" UNIT");
+            print_number(*unit, sink);
         }
     }
 }
 
-fn put_ending(ending: Ending, statements: u64, out: &mut Vec<u8>) -> Result<(), AllocError>
-    ensures { OnOk result (out.new.items ≡ out.old.items ++ ending_line ending statements) }
+fn print_ending<S: Sink>(ending: Ending, statements: u64, sink: &mut S)
+    ensures { Puts (S.standing sink.old) (S.standing sink.new) (ending_line ending statements) }
 {
-    out.extend_from_slice(b"END")?;
-    put_ending_words(ending, out)?;
-    out.extend_from_slice(b" AFTER")?;
-    put_number_word(statements, out)?;
-    out.push(b'\n')?;
-    Ok(())
+    sink.put(b"END");
+    print_ending_words(ending, sink);
+    sink.put(b" AFTER");
+    print_number(statements, sink);
+    sink.put(b"\n");
 }
 
-fn put_ending_words(ending: Ending, out: &mut Vec<u8>) -> Result<(), AllocError>
-    ensures { OnOk result (out.new.items ≡ out.old.items ++ ending_words ending) }
+fn print_ending_words<S: Sink>(ending: Ending, sink: &mut S)
+    ensures { Puts (S.standing sink.old) (S.standing sink.new) (ending_words ending) }
 {
     match ending {
-        Ending::Normal => out.extend_from_slice(b" NORMAL"),
-        Ending::StatementLimit => out.extend_from_slice(b" STATEMENT LIMIT"),
+        Ending::Normal => sink.put(b" NORMAL"),
+        Ending::StatementLimit => sink.put(b" STATEMENT LIMIT"),
         Ending::MatchLimit(statement) => {
-            out.extend_from_slice(b" MATCH LIMIT")?;
-            put_at_statement(statement, out)
+            sink.put(b" MATCH LIMIT");
+            print_at_statement(statement, sink);
         }
         Ending::Fault(fault, statement) => {
-            out.extend_from_slice(b" FAULT")?;
-            put_word(fault.name().as_bytes(), out)?;
-            put_at_statement(statement, out)
+            sink.put(b" FAULT");
+            print_word(fault.name().as_bytes(), sink);
+            print_at_statement(statement, sink);
         }
-        Ending::Memory => out.extend_from_slice(b" MEMORY"),
+        Ending::Memory => sink.put(b" MEMORY"),
     }
 }
 
-fn put_at_statement(statement: u64, out: &mut Vec<u8>) -> Result<(), AllocError>
-    ensures { OnOk result (out.new.items ≡ out.old.items ++ statement_words statement) }
+fn print_at_statement<S: Sink>(statement: u64, sink: &mut S)
+    ensures { Puts (S.standing sink.old) (S.standing sink.new) (statement_words statement) }
 {
-    out.extend_from_slice(b" AT")?;
-    put_number_word(statement, out)
+    sink.put(b" AT");
+    print_number(statement, sink);
 }

@@ -1,10 +1,11 @@
 //! Why a job is not loaded, and what is printed of it.
-ghost use Rattle.std.specs.Prelude.{◌≡◌, ◌++◌, codes, OnOk, OnErr};
+ghost use Rattle.std.specs.Prelude.{◌≡◌, ◌++◌, length, take, OnOk, OnErr};
+ghost use Rattle.mon_device.specs.Putting.{Puts};
 ghost use Rattle.mon_job.specs.Printouts.{unit_refusal, syntax_words, refused_words, refusal_text};
 
-use crate::printing::put_job_line;
-use mon_command::Reply;
-use mon_command::printing::put_number_word;
+use crate::printing::print_job_line;
+use crate::words::print_number;
+use mon_device::{Sink, TextSink};
 use mon_text::Name;
 use mon_unit::UnitError;
 use sno_syntax::SyntaxError;
@@ -23,7 +24,28 @@ pub enum LoadError {
     Syntax(SyntaxError),
 }
 
-/// Appends what a job that is not loaded prints: its own line, and why. A job for which there was no slot prints nothing.
+/// Puts what a job that is not loaded prints: its own line, and why. A job for which there was no slot prints nothing.
+pub fn print_refusal<S: Sink>(number: u64, account: &Name, error: LoadError, sink: &mut S)
+    ensures { Puts (S.standing sink.old) (S.standing sink.new) (refusal_text number account.now error) }
+{
+    match error {
+        LoadError::NoSlot => {}
+        LoadError::NoAccount => {
+            print_job_line(number, account, sink);
+            sink.put(b"REFUSED M2 NO ACCOUNT\n");
+        }
+        LoadError::Cards(error) => {
+            print_job_line(number, account, sink);
+            print_unit_refusal(error, sink);
+        }
+        LoadError::Syntax(error) => {
+            print_job_line(number, account, sink);
+            print_syntax_refusal(error, sink);
+        }
+    }
+}
+
+/// Appends what a job that is not loaded prints.
 ///
 /// # Errors
 ///
@@ -37,9 +59,14 @@ pub fn put_refusal(
     ensures printed { OnOk result (out.new.items ≡ out.old.items ++ refusal_text number account.now error) }
     ensures unchanged { OnErr result (out.new.items ≡ out.old.items) }
 {
-    let mut text = Vec::new(*out.allocator());
-    put_text(number, account, error, &mut text)?;
-    out.extend_from_slice(&text)
+    let before = out.len();
+    match put_text(number, account, error, out) {
+        Ok(()) => Ok(()),
+        Err(error) => {
+            out.truncate(before);
+            Err(error)
+        }
+    }
 }
 
 fn put_text(
@@ -48,63 +75,51 @@ fn put_text(
     error: LoadError,
     out: &mut Vec<u8>,
 ) -> Result<(), AllocError>
-    ensures { OnOk result (out.new.items ≡ out.old.items ++ refusal_text number account.now error) }
+    ensures printed { OnOk result (out.new.items ≡ out.old.items ++ refusal_text number account.now error) }
+    ensures begun { take (length out.old.items) out.new.items ≡ out.old.items }
 {
-    match error {
-        LoadError::NoSlot => Ok(()),
-        LoadError::NoAccount => {
-            put_job_line(number, account, out)?;
-            Reply::NoAccount.put_line(out)
-        }
-        LoadError::Cards(error) => {
-            put_job_line(number, account, out)?;
-            put_unit_refusal(error, out)
-        }
-        LoadError::Syntax(error) => {
-            put_job_line(number, account, out)?;
-            put_syntax_refusal(error, out)
-        }
-    }
+    let mut sink = TextSink::new(out);
+    print_refusal(number, account, error, &mut sink);
+    sink.settle()
 }
 
-fn put_unit_refusal(error: UnitError, out: &mut Vec<u8>) -> Result<(), AllocError>
-    ensures { OnOk result (out.new.items ≡ out.old.items ++ refused_words (unit_refusal error)) }
+fn print_unit_refusal<S: Sink>(error: UnitError, sink: &mut S)
+    ensures { Puts (S.standing sink.old) (S.standing sink.new) (refused_words (unit_refusal error)) }
 {
-    put_unit_words(error, out)?;
-    out.push(b'\n')?;
-    Ok(())
+    sink.put(b"REFUSED ");
+    print_unit_words(error, sink);
+    sink.put(b"\n");
 }
 
-fn put_unit_words(error: UnitError, out: &mut Vec<u8>) -> Result<(), AllocError>
-    ensures { OnOk result (out.new.items ≡ out.old.items ++ (codes "REFUSED " ++ unit_refusal error)) }
+fn print_unit_words<S: Sink>(error: UnitError, sink: &mut S)
+    ensures { Puts (S.standing sink.old) (S.standing sink.new) (unit_refusal error) }
 {
     match error {
         UnitError::UnitRange(unit) => {
-            out.extend_from_slice(b"REFUSED U2 UNIT")?;
-            put_number_word(unit, out)
+            sink.put(b"U2 UNIT");
+            print_number(unit, sink);
         }
         UnitError::UnitTwice(unit) => {
-            out.extend_from_slice(b"REFUSED U1 UNIT")?;
-            put_number_word(unit, out)
+            sink.put(b"U1 UNIT");
+            print_number(unit, sink);
         }
     }
 }
 
-fn put_syntax_refusal(error: SyntaxError, out: &mut Vec<u8>) -> Result<(), AllocError>
-    ensures { OnOk result (out.new.items ≡ out.old.items ++ refused_words (syntax_words error)) }
+fn print_syntax_refusal<S: Sink>(error: SyntaxError, sink: &mut S)
+    ensures { Puts (S.standing sink.old) (S.standing sink.new) (refused_words (syntax_words error)) }
 {
-    out.extend_from_slice(b"REFUSED ")?;
-    put_syntax_words(error, out)?;
-    out.push(b'\n')?;
-    Ok(())
+    sink.put(b"REFUSED ");
+    print_syntax_words(error, sink);
+    sink.put(b"\n");
 }
 
-fn put_syntax_words(error: SyntaxError, out: &mut Vec<u8>) -> Result<(), AllocError>
-    ensures { OnOk result (out.new.items ≡ out.old.items ++ syntax_words error) }
+fn print_syntax_words<S: Sink>(error: SyntaxError, sink: &mut S)
+    ensures { Puts (S.standing sink.old) (S.standing sink.new) (syntax_words error) }
 {
-    out.extend_from_slice(error.code.symbol().as_bytes())?;
-    out.extend_from_slice(b" CARD")?;
-    put_number_word(error.place.card, out)?;
-    out.extend_from_slice(b" COLUMN")?;
-    put_number_word(error.place.column, out)
+    sink.put(error.code.symbol().as_bytes());
+    sink.put(b" CARD");
+    print_number(error.place.card, sink);
+    sink.put(b" COLUMN");
+    print_number(error.place.column, sink);
 }

@@ -1,8 +1,0 @@
--- The lines so far are written.
-use Rattle.std.proofs.Common.{◌≡◌, ◌++◌, take}
-use Rattle.std.specs.List.{flat_map}
-use Rattle.mon_command.specs.Printouts.{stored_line}
-use Rattle.mon_job.proofs.printing.put_spool.Given as goal
-
-abbrev pub invariant-loop-index : goal.invariant-loop-index
-invariant-loop-index l = l.out.items ≡ l.fn.out.items ++ flat_map stored_line (take l.index l.fn.lines)
