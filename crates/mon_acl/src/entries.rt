@@ -5,8 +5,9 @@ ghost use Rattle.std.specs.Cmp.Lexicographic.{slice_cmp};
 ghost use Rattle.mon_acl.specs.Permissions.{holds, common, is_one};
 ghost use Rattle.mon_acl.specs.Entries.{rank, qualifier, compared, is_named};
 ghost use Rattle.mon_acl.specs.Texts.{tag_word};
-ghost use Rattle.mon_acl.specs.Printing.{entry_head, entry_text, letter, perms_text, is_masked, effective, effective_text, long_line};
+ghost use Rattle.mon_acl.specs.Printing.{entry_head, letter, is_masked, effective, long_line};
 
+use mon_device::TextSink;
 use mon_text::Name;
 use std::alloc::AllocError;
 use std::cmp::Ordering;
@@ -86,22 +87,10 @@ impl Perms {
             execute: self.execute && other.execute,
         }
     }
-
-    /// Appends the three places `rwx`, with `-` for what is not held.
-    fn put(self, out: &mut Vec<u8>) -> Result<(), AllocError>
-        ensures { OnOk result (out.new.items ≡ out.old.items ++ perms_text self) }
-    {
-        let places = [
-            place_of(self.read, b'r'),
-            place_of(self.write, b'w'),
-            place_of(self.execute, b'x'),
-        ];
-        out.extend_from_slice(&places)
-    }
 }
 
 /// The letter of a permission, or `-`.
-fn place_of(held: bool, sign: u8) -> u8
+pub(crate) fn place_of(held: bool, sign: u8) -> u8
     ensures { result ≡ letter held sign }
 {
     if held { sign } else { b'-' }
@@ -116,7 +105,7 @@ impl Tag {
     }
 
     /// The word that the type is printed with.
-    fn word(self) -> &'static [u8]
+    pub fn word(self) -> &'static [u8]
         ensures { result.now ≡ tag_word self }
     {
         match self {
@@ -162,19 +151,9 @@ impl Entry {
     pub fn put_head(&self, out: &mut Vec<u8>) -> Result<(), AllocError>
         ensures { OnOk result (out.new.items ≡ out.old.items ++ entry_head self.now) }
     {
-        out.extend_from_slice(self.tag.word())?;
-        out.push(b':')?;
-        out.extend_from_slice(self.qualifier())?;
-        out.push(b':')?;
-        Ok(())
-    }
-
-    /// Appends the entry, as `user:lisa:rw-`.
-    pub(crate) fn put(&self, out: &mut Vec<u8>) -> Result<(), AllocError>
-        ensures { OnOk result (out.new.items ≡ out.old.items ++ entry_text self.now) }
-    {
-        self.put_head(out)?;
-        self.perms.put(out)
+        let mut sink = TextSink::new(out);
+        self.print_head(&mut sink);
+        sink.settle()
     }
 
     /// Appends the line of the entry under a mask, as `user:lisa:rw-`, with a tab and `#effective:r--` behind it
@@ -186,14 +165,13 @@ impl Entry {
     pub fn put_line(&self, mask: Option<Perms>, out: &mut Vec<u8>) -> Result<(), AllocError>
         ensures { OnOk result (out.new.items ≡ out.old.items ++ long_line mask self.now) }
     {
-        self.put(out)?;
-        put_effective(self.effective(mask), out)?;
-        out.push(b'\n')?;
-        Ok(())
+        let mut sink = TextSink::new(out);
+        self.print_line(mask, &mut sink);
+        sink.settle()
     }
 
     /// What a mask leaves of the permissions, where it takes any away.
-    fn effective(&self, mask: Option<Perms>) -> Option<Perms>
+    pub(crate) fn effective(&self, mask: Option<Perms>) -> Option<Perms>
         ensures { result ≡ effective mask self.now }
     {
         let mask = mask?;
@@ -239,18 +217,5 @@ impl Entry {
             (Some(own), Some(its)) => own.cmp(its),
             _ => self.qualifier().cmp(other.qualifier()),
         }
-    }
-}
-
-/// Appends the comment that tells what the mask leaves, where it takes any away.
-fn put_effective(effective: Option<Perms>, out: &mut Vec<u8>) -> Result<(), AllocError>
-    ensures { OnOk result (out.new.items ≡ out.old.items ++ effective_text effective) }
-{
-    match effective {
-        Some(perms) => {
-            out.extend_from_slice(b"\t#effective:")?;
-            perms.put(out)
-        }
-        None => Ok(()),
     }
 }

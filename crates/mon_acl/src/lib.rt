@@ -10,6 +10,7 @@ mod keys;
 pub mod laws;
 pub mod list;
 mod pieces;
+pub mod printing;
 mod reading;
 pub mod refusals;
 pub mod text;

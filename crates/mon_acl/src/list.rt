@@ -1,8 +1,8 @@
 //! Permission lists, and their text forms.
-ghost use Rattle.std.specs.Prelude.{◌≡◌, ◌++◌, ◌≤◌, ◌<◌, List, [], HoldsAt, length, flat_map, Some, Ok, IfOk, IsOk, IsErrOf, OnOk, slice_get, option_copied};
+ghost use Rattle.std.specs.Prelude.{◌≡◌, ◌++◌, ◌≤◌, ◌<◌, List, [], HoldsAt, length, Some, Ok, IfOk, IsOk, IsErrOf, OnOk, slice_get, option_copied};
 ghost use Rattle.smallvec.specs.SmallVec.{small_vec_len};
 ghost use Rattle.mon_text.specs.Stops.{Gives};
-ghost use Rattle.mon_acl.specs.Printing.{short_form, next_text, mask_of, long_line, long_form};
+ghost use Rattle.mon_acl.specs.Printing.{short_form, mask_of, long_form};
 ghost use Rattle.mon_acl.specs.declared.entries.Entry.{Entry};
 ghost use Rattle.mon_acl.specs.declared.refusals.AclError.{AclError};
 ghost use Rattle.mon_acl.specs.Texts.{IsShortText, IsLongText, pieces, long_pieces};
@@ -17,6 +17,7 @@ use crate::keys::{Chains, chains_of, index_of_name, index_of_type, keys_of};
 use crate::pieces::Form;
 use crate::reading::entry_of;
 use crate::refusals::AclError;
+use mon_device::TextSink;
 use mon_text::{Name, Stop};
 use smallvec::SmallVec;
 use std::alloc::{AllocError, Global};
@@ -89,13 +90,9 @@ impl Acl {
     pub fn put_short(&self, out: &mut Vec<u8>) -> Result<(), AllocError>
         ensures { OnOk result (out.new.items ≡ out.old.items ++ short_form self.now) }
     {
-        match self.entries() {
-            [] => Ok(()),
-            [first, others @ ..] => {
-                first.put(out)?;
-                put_others(others, out)
-            }
-        }
+        let mut sink = TextSink::new(out);
+        self.print_short(&mut sink);
+        sink.settle()
     }
 
     /// Appends the long text form: a line an entry, in canonical order, each ended by LF. An entry of a named user, the
@@ -108,7 +105,9 @@ impl Acl {
     pub fn put_long(&self, out: &mut Vec<u8>) -> Result<(), AllocError>
         ensures { OnOk result (out.new.items ≡ out.old.items ++ long_form self.now) }
     {
-        put_lines(self.entries(), self.mask(), out)
+        let mut sink = TextSink::new(out);
+        self.print_long(&mut sink);
+        sink.settle()
     }
 
     /// The permissions of the mask, where there is one.
@@ -302,25 +301,4 @@ fn read_piece(
         Ok(entry) => add(entries, entry, n),
         Err(refusal) => Err(Stop::Refused(refusal)),
     }
-}
-
-/// Appends entries, a comma before each.
-fn put_others(others: &[Entry], out: &mut Vec<u8>) -> Result<(), AllocError>
-    ensures { OnOk result (out.new.items ≡ out.old.items ++ flat_map next_text others.now) }
-{
-    for other in others {
-        out.push(b',')?;
-        other.put(out)?;
-    }
-    Ok(())
-}
-
-/// Appends the lines of entries under a mask.
-fn put_lines(entries: &[Entry], mask: Option<Perms>, out: &mut Vec<u8>) -> Result<(), AllocError>
-    ensures { OnOk result (out.new.items ≡ out.old.items ++ flat_map (long_line mask) entries.now) }
-{
-    for entry in entries {
-        entry.put_line(mask, out)?;
-    }
-    Ok(())
 }

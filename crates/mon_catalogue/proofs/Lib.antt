@@ -2,6 +2,7 @@ pub mod Heads
 pub mod Shorthand
 pub mod Steps
 pub mod Texts
+pub mod Putting
 pub mod AtOnce
 pub mod Readings
 pub mod Acls

@@ -8,6 +8,7 @@ ghost use Rattle.std.specs.Map.Iter.{deref_pair};
 ghost use Rattle.std.specs.Cmp.Lexicographic.{pointwise};
 ghost use Rattle.std.specs.Str.Lines.{lines};
 ghost use Rattle.mon_text.specs.Stops.{refused_as};
+ghost use Rattle.mon_device.specs.Putting.{Puts};
 ghost use Rattle.mon_catalogue.specs.declared.version.Version.TheVariants.{Two};
 ghost use Rattle.mon_catalogue.specs.Reading.{catalogue_of};
 ghost use Rattle.mon_catalogue.specs.Stored.{IsStored, ArePrintable};
@@ -18,9 +19,10 @@ ghost use Rattle.mon_catalogue.specs.Text.{catalogue_text, catalogue_lines};
 
 use crate::data_set::{DataSet, Records};
 use crate::mode::Mode;
-use crate::text::put_set;
+use crate::text::{self, print_set};
 use indexmap::IndexMap;
 use mon_acl::Acl;
+use mon_device::Sink;
 use mon_text::{Name, Stop};
 use std::alloc::{AllocError, Global};
 use std::marker::Model;
@@ -221,25 +223,26 @@ impl Catalogue {
         }
     }
 
-    /// Appends the catalogue's text, version 2: for each set a line `$SET name owner group mode count`, its permission list in short
-    /// form, and its records as they are. Each line is ended by LF.
-    ///
-    /// # Errors
-    ///
-    /// Where a growth was refused; `out` may then hold a part of the text.
-    #[tactic(auto, using(crate::proofs::Texts::catalogue_text_cons))]
-    pub fn put_text(&self, out: &mut Vec<u8>) -> Result<(), AllocError>
-        ensures written { OnOk result (out.new.items ≡ out.old.items ++ catalogue_text self.now) }
-        ensures stored { OnOk result (IsStored self.now) }
-        ensures printable { OnOk result (ArePrintable self.now) }
-        ensures reads_back { OnOk result (catalogue_of Two (catalogue_lines self.now) ≡ Ok self.now) }
-        ensures bytes_read_back { OnOk result (catalogue_of Two (lines (catalogue_text self.now)) ≡ Ok self.now) }
-        ensures memory { OnErr result (0 < length self.now) }
+    /// Puts the catalogue's text, version 2: for each set a line `$SET name owner group mode count`, its permission list in short
+    /// form, and its records as they are. Each line is ended by LF. It takes no memory.
+    pub fn print<S: Sink>(&self, sink: &mut S)
+        ensures { Puts (S.standing sink.old) (S.standing sink.new) (catalogue_text self.now) }
     {
         for (name, set) in &self.sets {
-            put_set(name, set, out)?;
+            print_set(name, set, sink);
         }
-        Ok(())
+    }
+
+    /// Says of the catalogue's text that it is read back as the same catalogue. No record is looked at.
+    pub fn reads_back(&self)
+        ensures stored { IsStored self.now }
+        ensures printable { ArePrintable self.now }
+        ensures reads_back { catalogue_of Two (catalogue_lines self.now) ≡ Ok self.now }
+        ensures bytes_read_back { catalogue_of Two (lines (catalogue_text self.now)) ≡ Ok self.now }
+    {
+        for (name, set) in &self.sets {
+            text::reads_back(name, set);
+        }
     }
 
     // Puts a set last.

@@ -1,6 +1,8 @@
 //! A data set and its records.
 ghost use Rattle.std.specs.Prelude.{◌≡◌, ◌==◌, ◌<◌, ◌≤◌, ◌-◌, ◌^◌, [], ◌∷◌, ◌++◌, length, slice_get, slice_index_or, IfSome, OnOk, OnErr, IsErrOf};
+ghost use Rattle.std.specs.List.{AllByRecursion, flat_map};
 ghost use Rattle.std.specs.Option.{option_map};
+ghost use Rattle.mon_device.specs.Putting.{Puts};
 ghost use Rattle.mon_text.specs.Lines.{IsLine};
 ghost use Rattle.mon_text.specs.Stops.{refused_as};
 ghost use Rattle.mon_text.specs.declared.stop.Stop.{Stop};
@@ -9,6 +11,7 @@ ghost use Rattle.mon_catalogue.specs.Writing.{Put, Cut, Add, recorded, records_a
 
 use crate::mode::Mode;
 use mon_acl::Acl;
+use mon_device::Sink;
 use mon_lines::PackedLines;
 use mon_text::{Line, Name, Stop};
 use std::alloc::{AllocError, Global};
@@ -98,6 +101,20 @@ impl Records {
         ensures printable { IsLine result.now }
     {
         self.lines.at(index as usize)
+    }
+
+    /// Says of every record that it is a printable line. It looks at none of them.
+    pub fn are_printable(&self)
+        ensures { AllByRecursion IsLine self.now }
+    {
+        self.lines.are_printable();
+    }
+
+    /// Puts the records where they stand, each with these bytes before it and LF behind it. It takes no memory.
+    pub fn print_lines<S: Sink>(&self, before: &[u8], sink: &mut S)
+        ensures { Puts (S.standing sink.old) (S.standing sink.new) (flat_map (λ line. before.now ++ line ++ 10 ∷ []) self.now) }
+    {
+        self.lines.print(before, sink);
     }
 
     /// Adds a record at the end, for which there must be room.

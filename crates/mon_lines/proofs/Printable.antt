@@ -1,6 +1,6 @@
 -- Texts of ASCII 32 to 126 joined, and parts of one.
-use Rattle.std.proofs.Common.{◌≡◌, ℕ, zero, suc, Bool, true, false, ◌&&◌, ◌-◌, List, [], ◌∷◌, ◌++◌, take, drop, refl, ap, ◌∙◌}
-use Rattle.std.specs.List.{slice_range}
+use Rattle.std.proofs.Common.{◌≡◌, ℕ, zero, suc, Bool, true, false, ◌&&◌, ◌-◌, List, [], ◌∷◌, ◌++◌, map, take, drop, refl, ap, ◌∙◌}
+use Rattle.std.specs.List.{slice_range, AllByRecursion}
 use Rattle.std.proofs.lemmas.List.Folds.{list_all-append}
 use Rattle.mon_text.specs.Characters.{is_printable}
 use Rattle.mon_text.specs.Lines.{IsLine, is_line}
@@ -31,3 +31,8 @@ line_of_drop (suc n) (c ∷ cs) h = line_of_drop n cs (second (is_printable c) _
 
 pub line_of_range : (xs : List ℕ) (from to : ℕ) → IsLine xs → IsLine (slice_range xs from to)
 line_of_range xs from to h = line_of_take (to - from) (drop from xs) (line_of_drop from xs h)
+
+-- pieces of a printable text
+pub lines_of_ranges : (xs : List ℕ) (from to : ℕ → ℕ) (places : List ℕ) → IsLine xs → AllByRecursion IsLine (map (λ i. slice_range xs (from i) (to i)) places)
+lines_of_ranges xs from to [] h = tt
+lines_of_ranges xs from to (place ∷ places) h = (line_of_range xs (from place) (to place) h, lines_of_ranges xs from to places h)

@@ -1,9 +1,12 @@
 //! Lines one behind the other.
 ghost use Rattle.std.specs.Prelude.{◌≡◌, ◌==◌, ◌<◌, ◌≤◌, [], ◌∷◌, ◌++◌, length, take, slice_get, slice_index_or, IfSome, OnOk, OnErr};
+ghost use Rattle.std.specs.List.{AllByRecursion, flat_map};
 ghost use Rattle.std.specs.Option.{option_map};
+ghost use Rattle.mon_device.specs.Putting.{Puts};
 ghost use Rattle.mon_text.specs.Lines.{IsLine};
 ghost use Rattle.mon_lines.specs.inner.Packing.{start_of};
 
+use mon_device::Sink;
 use std::alloc::{AllocError, Global};
 use std::marker::Model;
 
@@ -87,6 +90,32 @@ impl PackedLines {
         } else {
             None
         }
+    }
+
+    /// Says of every line that it is printable. It looks at none of them.
+    pub fn are_printable(&self)
+        ensures { AllByRecursion IsLine self.now }
+    {
+        let _count = self.ends.len();
+    }
+
+    /// Puts the lines where they stand, each with these bytes before it and LF behind it. It takes no memory.
+    pub fn print<S: Sink>(&self, before: &[u8], sink: &mut S)
+        ensures { Puts (S.standing sink.old) (S.standing sink.new) (flat_map (λ line. before.now ++ line ++ 10 ∷ []) self.now) }
+    {
+        for index in 0..self.len() {
+            self.print_line(before, index, sink);
+        }
+    }
+
+    // Puts a line with these bytes before it and LF behind it.
+    fn print_line<S: Sink>(&self, before: &[u8], index: usize, sink: &mut S)
+        requires { index < length self.now }
+        ensures { Puts (S.standing sink.old) (S.standing sink.new) (before.now ++ slice_index_or self.now index [] ++ 10 ∷ []) }
+    {
+        sink.put(before);
+        sink.put(self.at(index));
+        sink.put(b"\n");
     }
 
     /// Adds a line at the end.

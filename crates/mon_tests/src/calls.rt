@@ -1,7 +1,7 @@
 //! Public calls that no deck makes: what the guard decides and shows of a set by itself, and jobs of a monitor that are given
 //! turns one by one and in an order.
 use crate::access::account;
-use crate::catalogue::{lines_of, read};
+use crate::catalogue::{lines_of, put_text, read};
 use crate::guard::{Askers, Desk, askers_of, payroll};
 use mon_access::{Account, Accounts, Decider};
 use mon_acl::{Perms, Tag};
@@ -317,7 +317,7 @@ fn prints(alloc: Global, monitor: &mut Monitor, order: &[u8], output: &[u8]) -> 
     match monitor.turns(alloc, order) {
         Ok(ends) => {
             put_ends(&ends, &mut out)
-                && monitor.catalogue().put_text(&mut out).is_ok()
+                && put_text(monitor.catalogue(), &mut out)
                 && out.as_slice() == output
         }
         Err(_) => false,

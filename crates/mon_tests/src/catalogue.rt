@@ -1,5 +1,6 @@
 //! Catalogue texts of both versions that are read at once. Line by line it is read by the decks of the program `rows`.
 use mon_catalogue::{Catalogue, Version, read_text};
+use mon_device::TextSink;
 use mon_text::{Line, read_line};
 use std::alloc::Global;
 
@@ -89,11 +90,18 @@ pub(crate) fn read(alloc: Global, version: Version, text: &str) -> Option<Catalo
     }
 }
 
+// Appends a catalogue's text, and tells whether all of it was.
+pub(crate) fn put_text(catalogue: &Catalogue, out: &mut Vec<u8>) -> bool {
+    let mut sink = TextSink::new(out);
+    catalogue.print(&mut sink);
+    sink.settle().is_ok()
+}
+
 fn is_rewritten(alloc: Global, version: Version, text: &str, written: &str) -> bool {
     let mut out = Vec::new(alloc);
     match read(alloc, version, text) {
         Some(catalogue) => {
-            catalogue.put_text(&mut out).is_ok() && out.as_slice() == written.as_bytes()
+            put_text(&catalogue, &mut out) && out.as_slice() == written.as_bytes()
         }
         None => false,
     }
