@@ -3,6 +3,7 @@ use anyhow::{Context, Result};
 use mon_answer::Reason;
 use mon_text::{Line, LineError, Stop, read_line};
 use sno_ask::Answer;
+use sno_seed::Seed;
 use sno_syntax::{Program, parse, statements};
 use std::alloc::{AllocError, Global};
 
@@ -18,7 +19,9 @@ pub fn program_of(alloc: Global, cards: &str) -> Result<Program> {
     let cards = statements(alloc, &lines)
         .ok()
         .context("its cards are refused")?;
-    parse(alloc, &cards).ok().context("its program is refused")
+    parse(alloc, Seed::fixed(), &cards)
+        .ok()
+        .context("its program is refused")
 }
 
 /// Reads the answers of a service: `DONE`, `GOT` with a record, `EOF`, `DENIED` or `FULL`, a line for each.

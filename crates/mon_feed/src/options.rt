@@ -1,6 +1,8 @@
 //! What a run is told beside its deck, and what it counts.
 ghost use Rattle.std.specs.Prelude.{◌≡◌, ◌≤◌, ◌↔◌, false, IsSome, IfSome};
 
+use sno_seed::Seed;
+
 /// How many slots for jobs there are: 1 to 8.
 #[derive(Clone, Copy)]
 pub struct Slots {
@@ -36,10 +38,12 @@ pub struct Options {
     pub slots: Slots,
     /// Whether the deck is only read, and not run.
     pub check: bool,
+    /// By which what jobs name is hashed. Nothing but time depends on it.
+    pub seed: Seed,
 }
 
 impl Options {
-    /// Four slots, and the deck is run.
+    /// Four slots, and the deck is run, with the seed that is the same each time.
     pub fn new() -> Options
         ensures slots { result.slots.number ≡ 4 }
         ensures runs { result.check ≡ false }
@@ -47,6 +51,7 @@ impl Options {
         Options {
             slots: Slots { number: 4 },
             check: false,
+            seed: Seed::fixed(),
         }
     }
 }

@@ -211,6 +211,7 @@ impl Guard {
         ensures memory { OnErr result (MayTakeMemory text.now) }
         ensures fit { RowsFit self.old catalogue.old → RowsFit self.new catalogue.new }
         ensures rows_stay { OnErr result (self.new ≡ self.old) }
+        ensures dropped { result ≡ Ok AclAnswer.Done → self.new ≡ rows_beside name.now self.old }
         ensures others_stay { rows_beside name.now self.new ≡ rows_beside name.now self.old }
     {
         if let Some(reason) = owner_denial(account, catalogue, name) {
@@ -246,6 +247,7 @@ impl Guard {
         ensures denied { (reason : Reason) → (result ≡ Ok (Answer.Denied reason)) ↔ (owner_denial account.now catalogue.old name.now ≡ Some reason) }
         ensures memory { IsErrOf result Stop.Memory → MayTakeMemory text.now }
         ensures fit { RowsFit self.old catalogue.old → RowsFit self.new catalogue.new }
+        ensures dropped { result ≡ Ok Answer.Done → self.new ≡ rows_beside name.now self.old }
         ensures others_stay { rows_beside name.now self.new ≡ rows_beside name.now self.old }
     {
         match self.try_set_acl(alloc, account, catalogue, name, text) {
@@ -271,6 +273,7 @@ impl Guard {
         ensures answer { result ≡ (removed account.now catalogue.old name.now).0 }
         ensures sets { catalogue.new ≡ (removed account.now catalogue.old name.now).1 }
         ensures fit { RowsFit self.old catalogue.old → RowsFit self.new catalogue.new }
+        ensures dropped { OnOk result (self.new ≡ rows_beside name.now self.old) }
         ensures others_stay { rows_beside name.now self.new ≡ rows_beside name.now self.old }
     {
         if let Some(reason) = owner_denial(account, catalogue, name) {
@@ -290,6 +293,7 @@ impl Guard {
         ensures answer { result ≡ guard_answer (removed account.now catalogue.old name.now).0 }
         ensures sets { catalogue.new ≡ (removed account.now catalogue.old name.now).1 }
         ensures fit { RowsFit self.old catalogue.old → RowsFit self.new catalogue.new }
+        ensures dropped { result ≡ Answer.Done → self.new ≡ rows_beside name.now self.old }
         ensures others_stay { rows_beside name.now self.new ≡ rows_beside name.now self.old }
     {
         guard_answer(self.try_remove(account, catalogue, name))

@@ -1,5 +1,5 @@
 -- What is reported of the bytes of a deck (own).
-use Rattle.std.specs.Prelude.{◌≡◌, ℕ, Bool, false, List, ◌++◌, Option, None, Some, is_none, if◌then◌else◌}
+use Rattle.std.specs.Prelude.{◌≡◌, ℕ, Bool, false, List, ◌++◌, Option, None, Some, is_none, codes, decimal, if◌then◌else◌}
 use Rattle.std.specs.Io.KnownBytes.{Appends}
 use Rattle.std.specs.Str.Lines.{lines}
 use Rattle.mon_text.specs.declared.stop.Stop.{Stop}
@@ -7,6 +7,8 @@ use Rattle.mon_text.specs.declared.stop.Stop.TheVariants as stop
 use Rattle.mon_access.specs.declared.account.Account.{Account}
 use Rattle.mon_access.specs.Accounts.{find_account}
 use Rattle.mon_catalogue.specs.Sets.{Sets, find_set}
+use Rattle.mon_cards.specs.declared.code.Code.{Code}
+use Rattle.mon_cards.specs.Codes.{code_text}
 use Rattle.mon_listing.specs.declared.question.Question.{Question}
 use Rattle.mon_listing.specs.declared.front.Refusal.{Refusal}
 use Rattle.mon_listing.specs.declared.fault.Fault.{Fault}
@@ -67,3 +69,20 @@ status_of NoSet = 1
 status_of ReadFault = 3
 status_of WriteFault = 3
 status_of Memory = 3
+
+-- at which line the deck is refused, and why
+abbrev pub refusal_text : ℕ → Code → List ℕ
+refusal_text line code = codes "line " ++ decimal line ++ codes ": " ++ code_text code
+
+-- what went wrong
+abbrev pub fault_text : Fault → List ℕ
+fault_text (DeckRefused line code) = refusal_text line code
+fault_text NoAccount = codes "no account of that name"
+fault_text NoSet = codes "no data set of that name"
+fault_text ReadFault = codes "read fault"
+fault_text WriteFault = codes "write fault"
+fault_text Memory = codes "out of memory"
+
+-- the line of standard error
+abbrev pub fault_line : Fault → List ℕ
+fault_line fault = codes "listing: " ++ fault_text fault ++ codes "\n"

@@ -1,6 +1,6 @@
 //! Why nothing is reported, or not all.
 ghost use Rattle.std.specs.Prelude.{◌≡◌, ◌++◌, OnOk};
-ghost use Rattle.mon_listing.specs.Reports.{fault_of, status_of};
+ghost use Rattle.mon_listing.specs.Reports.{fault_of, status_of, refusal_text, fault_text, fault_line};
 
 use crate::front::Refusal;
 use mon_cards::Code;
@@ -61,22 +61,33 @@ impl Fault {
     /// # Errors
     ///
     /// Where a growth was refused; a part of the line may have been appended.
-    pub fn put_line(self, out: &mut Vec<u8>) -> Result<(), AllocError> {
+    pub fn put_line(self, out: &mut Vec<u8>) -> Result<(), AllocError>
+        ensures { OnOk result (out.new.items ≡ out.old.items ++ fault_line self) }
+    {
         out.extend_from_slice(b"listing: ")?;
-        match self {
-            Fault::DeckRefused(line, code) => put_refusal(line, code, out)?,
-            Fault::NoAccount => out.extend_from_slice(b"no account of that name")?,
-            Fault::NoSet => out.extend_from_slice(b"no data set of that name")?,
-            Fault::ReadFault => out.extend_from_slice(b"read fault")?,
-            Fault::WriteFault => out.extend_from_slice(b"write fault")?,
-            Fault::Memory => out.extend_from_slice(b"out of memory")?,
-        }
+        self.put_text(out)?;
         out.extend_from_slice(b"\n")
+    }
+
+    // Appends what went wrong.
+    fn put_text(self, out: &mut Vec<u8>) -> Result<(), AllocError>
+        ensures { OnOk result (out.new.items ≡ out.old.items ++ fault_text self) }
+    {
+        match self {
+            Fault::DeckRefused(line, code) => put_refusal(line, code, out),
+            Fault::NoAccount => out.extend_from_slice(b"no account of that name"),
+            Fault::NoSet => out.extend_from_slice(b"no data set of that name"),
+            Fault::ReadFault => out.extend_from_slice(b"read fault"),
+            Fault::WriteFault => out.extend_from_slice(b"write fault"),
+            Fault::Memory => out.extend_from_slice(b"out of memory"),
+        }
     }
 }
 
 // Appends the line and the code of a refusal.
-fn put_refusal(line: u64, code: Code, out: &mut Vec<u8>) -> Result<(), AllocError> {
+fn put_refusal(line: u64, code: Code, out: &mut Vec<u8>) -> Result<(), AllocError>
+    ensures { OnOk result (out.new.items ≡ out.old.items ++ refusal_text line code) }
+{
     out.extend_from_slice(b"line ")?;
     put_number(line, out)?;
     out.extend_from_slice(b": ")?;

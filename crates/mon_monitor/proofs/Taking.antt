@@ -307,8 +307,7 @@ lowest_free slots s h =
     let is : suc at.i ≡ s = (let e = at.is in omega (arith, e)) in
     subst (λ (k : ℕ). IsLowestFree k slots) is
     (record {
-      there = (omega arith, (let e = at.within in omega (arith, e)));
-      free = at.empty;
+      free = (omega arith, (let e = at.within in omega (arith, e)), at.empty);
       lowest = λ t some less. below slots at.i at.taken t some less;
     })
   where

@@ -97,8 +97,7 @@ Turns due before entries after = (turns : List (List Entry)) × (entries ≡ fla
 
 -- the lowest free slot: there is one of this number, it is empty, and each below it is taken
 pub record IsLowestFree (s : ℕ) (seats : Seats) : Type 0 where
-  pub there : (0 < s) × (s ≤ length seats)
-  pub free : seat_at s seats ≡ None
+  pub free : (0 < s) × (s ≤ length seats) × (seat_at s seats ≡ None)
   pub lowest : (t : ℕ) → 0 < t → t < s → IsSome (seat_at t seats)
 
 -- a job is loaded: into the lowest free slot, and each other slot is as it was

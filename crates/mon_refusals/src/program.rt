@@ -6,6 +6,7 @@ ghost use Rattle.mon_refusals.specs.Refused.{syntax_listed, statements_refused, 
 
 use mon_job::LoadError;
 use mon_text::{Line, Stop};
+use sno_seed::Seed;
 use sno_syntax::{
     Labels, ProgramCards, StatementText, SyntaxError, end_refusal, note_label, statement_refusal,
     statements,
@@ -50,7 +51,7 @@ fn put_statements(
     ensures found { OnOk result (found.new.items ≡ found.old.items ++ statements_refused [] 0 texts.now) }
     ensures labels { IfOk result (λ labels. labels ≡ labels_in texts.now) }
 {
-    let mut labels = Labels::new(alloc);
+    let mut labels = Labels::new(alloc, Seed::fixed());
     for (index, text) in texts.iter().enumerate() {
         put_statement(alloc, &mut labels, text, index, found)?;
     }

@@ -7,6 +7,7 @@
 
 pub mod laws;
 mod loading;
+mod reserve;
 mod rounds;
 mod sharing;
 mod slot;

@@ -18,6 +18,7 @@ use mon_job::{JobDeck, LoadError, UnitCard, UnitCards};
 use mon_text::{Line, Stop};
 use mon_unit::{Lines, UnitError, Units};
 use sno_run::Job;
+use sno_seed::Seed;
 use sno_syntax::{Program, ProgramCards, parse, statements};
 use std::alloc::{AllocError, Global};
 
@@ -121,11 +122,11 @@ fn tied(alloc: Global, lines: Lines, ties: &UnitCards) -> Result<Units, AllocErr
 }
 
 // The program that the cards spell.
-fn program_of(alloc: Global, cards: &ProgramCards) -> Result<Program, Stop<LoadError>>
+fn program_of(alloc: Global, seed: Seed, cards: &ProgramCards) -> Result<Program, Stop<LoadError>>
     ensures program { IfOk result (λ program. IsProgram cards.now (program_of program)) }
     ensures refused { IfErr result (IfRefused (λ refusal. option_map LoadError.Syntax (syntax_refusal cards.now) ≡ Some refusal)) }
 {
-    match parse(alloc, cards) {
+    match parse(alloc, seed, cards) {
         Ok(program) => Ok(program),
         Err(Stop::Refused(refusal)) => Err(Stop::Refused(LoadError::Syntax(refusal))),
         Err(Stop::Memory) => Err(Stop::Memory),
@@ -139,7 +140,12 @@ struct Parts {
     program: Program,
 }
 
-fn parts_of(alloc: Global, lines: &Lines, ties: &UnitCards) -> Result<Parts, Stop<LoadError>>
+fn parts_of(
+    alloc: Global,
+    seed: Seed,
+    lines: &Lines,
+    ties: &UnitCards,
+) -> Result<Parts, Stop<LoadError>>
     requires { ties_refusal ties.now (first_units lines.now) ≡ None }
     ensures units { IfOk result (λ parts. parts.units ≡ with_ties ties.now (first_units lines.now)) }
     ensures program { IfOk result (λ parts. IsSpelled (statements_of lines.now) (program_of parts.program)) }
@@ -147,21 +153,26 @@ fn parts_of(alloc: Global, lines: &Lines, ties: &UnitCards) -> Result<Parts, Sto
     ensures memory { IsErrOf result Stop.Memory → IsOk (statements_of lines.now) }
 {
     let cards = cards_of(alloc, lines)?;
-    let program = program_of(alloc, &cards)?;
+    let program = program_of(alloc, seed, &cards)?;
     let data = copied_from(alloc, lines.as_slice(), cards.data_from())?;
     let units = tied(alloc, data, ties)?;
     Ok(Parts { units, program })
 }
 
 // What a slot is to hold for a job of this account.
-fn slot_of_account(alloc: Global, account: &Account, deck: JobDeck) -> Result<Slot, Stop<LoadError>>
+fn slot_of_account(
+    alloc: Global,
+    seed: Seed,
+    account: &Account,
+    deck: JobDeck,
+) -> Result<Slot, Stop<LoadError>>
     requires { ties_refusal deck.ties (first_units deck.lines) ≡ None }
     ensures slot { IfOk result (λ slot. slot_by deck (Some account.now) (program_in (statements_of deck.lines)) ≡ Some (slot_of slot)) }
     ensures clean { OnOk result (program_refusal (statements_of deck.lines) ≡ None) }
     ensures refused { IfErr result (IfRefused (λ refusal. program_refusal (statements_of deck.lines) ≡ Some refusal)) }
     ensures memory { IsErrOf result Stop.Memory → IsOk (statements_of deck.lines) }
 {
-    let Parts { units, program } = parts_of(alloc, &deck.lines, &deck.ties)?;
+    let Parts { units, program } = parts_of(alloc, seed, &deck.lines, &deck.ties)?;
     let account = account.copy(alloc)?;
     let job = Job::new(alloc, program, deck.limits.get())?;
     Ok(Slot {
@@ -175,6 +186,7 @@ fn slot_of_account(alloc: Global, account: &Account, deck: JobDeck) -> Result<Sl
 // What a slot is to hold for the job.
 pub(crate) fn slot_for(
     alloc: Global,
+    seed: Seed,
     accounts: &Accounts,
     deck: JobDeck,
 ) -> Result<Slot, Stop<LoadError>>
@@ -184,7 +196,7 @@ pub(crate) fn slot_for(
     ensures memory { IsErrOf result Stop.Memory → DeckMayGrow accounts.now deck }
 {
     match account_of(accounts, &deck) {
-        Ok(account) => slot_of_account(alloc, account, deck),
+        Ok(account) => slot_of_account(alloc, seed, account, deck),
         Err(refusal) => Err(Stop::Refused(refusal)),
     }
 }

@@ -4,6 +4,7 @@
 use crate::calls::{defined_by, is_built_in, is_called};
 use crate::starts::place_at;
 use mon_text::{Line, Stop};
+use sno_seed::Seed;
 use sno_syntax::{Labels, Place, ProgramCards, StatementText, label_in, lex};
 use sno_token::{Part, Token, TokenKind, Word};
 use std::alloc::{AllocError, Global};
@@ -48,8 +49,8 @@ pub fn loose_names(alloc: Global, cards: &ProgramCards) -> Result<Vec<LooseName>
 
 fn known_names(alloc: Global, cards: &ProgramCards) -> Result<Known, AllocError> {
     let mut known = Known {
-        labels: Labels::new(alloc),
-        functions: Labels::new(alloc),
+        labels: Labels::new(alloc, Seed::fixed()),
+        functions: Labels::new(alloc, Seed::fixed()),
     };
     for (index, text) in cards.statements().iter().enumerate() {
         put_label(alloc, &mut known.labels, text, index)?;

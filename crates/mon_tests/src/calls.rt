@@ -11,6 +11,7 @@ use mon_job::{JobDeck, JobEnd, JobLimits, LoadError, UnitCard, UnitCards, put_pr
 use mon_monitor::{Monitor, Turned};
 use mon_text::{Name, Stop, read_name};
 use mon_unit::Lines;
+use sno_seed::Seed;
 use std::alloc::Global;
 
 fn decided(desk: &Desk, account: &Account, request: Perms) -> Decided {
@@ -220,7 +221,7 @@ fn accounts_of(alloc: Global) -> Option<Accounts> {
 fn monitor_over(alloc: Global, version: Version, sets: &str) -> Option<Monitor> {
     let accounts = accounts_of(alloc)?;
     let catalogue = read(alloc, version, sets)?;
-    Monitor::new(alloc, accounts, catalogue, 2).ok()
+    Monitor::new(alloc, Seed::fixed(), accounts, catalogue, 2).ok()
 }
 
 fn monitor_with(alloc: Global, first: &Entered, second: &Entered) -> Option<Monitor> {

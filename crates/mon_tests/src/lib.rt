@@ -14,6 +14,8 @@ mod deck;
 #[cfg(test)]
 mod device;
 #[cfg(test)]
+mod errors;
+#[cfg(test)]
 mod guard;
 #[cfg(test)]
 mod monitor;

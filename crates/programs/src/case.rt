@@ -4,6 +4,7 @@ use crate::answer::{put_program, put_statements_of, put_verdict};
 use anyhow::{Context, Result};
 use differences::first_difference;
 use mon_text::{Line, LineError, Stop, read_line};
+use sno_seed::Seed;
 use sno_syntax::{Program, SyntaxError, parse, statements};
 use std::alloc::{AllocError, Global};
 use std::fs;
@@ -103,5 +104,5 @@ fn line_of(alloc: Global, card: &str) -> Result<Result<Line, LineError>, AllocEr
 
 fn program_of(alloc: Global, lines: &[Line]) -> Result<Program, Stop<SyntaxError>> {
     let cards = statements(alloc, lines)?;
-    parse(alloc, &cards)
+    parse(alloc, Seed::fixed(), &cards)
 }

@@ -1,2 +1,3 @@
 pub mod Balance
+pub mod Classes
 pub mod Pairs

@@ -1,5 +1,6 @@
 //! The nodes of patterns.
 
+use crate::class::Class;
 use sno_text::{Named, Text};
 use std::rc::Rc;
 
@@ -13,10 +14,10 @@ pub enum Node {
     Tab(u64),
     RTab(u64),
     Rem,
-    Any(Text),
-    NotAny(Text),
-    Span(Text),
-    Break(Text),
+    Any(Class),
+    NotAny(Class),
+    Span(Class),
+    Break(Class),
     Arb,
     Bal,
     Cat(u16, Rc<Node>, Rc<Node>),

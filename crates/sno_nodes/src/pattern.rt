@@ -6,6 +6,7 @@ ghost use Rattle.sno_nodes.specs.Patterns as pattern;
 ghost use Rattle.sno_nodes.specs.Nodes.{pattern_of};
 ghost use Rattle.sno_nodes.specs.inner.Codes.{told_depth};
 
+use crate::class::Class;
 use crate::node::Node;
 use mon_text::Stop;
 use sno_text::{Fault, Named, Text};
@@ -128,28 +129,28 @@ impl Pat {
     pub fn any(alloc: Global, characters: Text) -> Result<Pat, AllocError>
         ensures { IfOk result (λ p. p ≡ pattern.Any characters) }
     {
-        share(alloc, Node::Any(characters))
+        share(alloc, Node::Any(Class::new(characters)))
     }
 
     /// `NOTANY(characters)`.
     pub fn not_any(alloc: Global, characters: Text) -> Result<Pat, AllocError>
         ensures { IfOk result (λ p. p ≡ pattern.NotAny characters) }
     {
-        share(alloc, Node::NotAny(characters))
+        share(alloc, Node::NotAny(Class::new(characters)))
     }
 
     /// `SPAN(characters)`.
     pub fn span(alloc: Global, characters: Text) -> Result<Pat, AllocError>
         ensures { IfOk result (λ p. p ≡ pattern.Span characters) }
     {
-        share(alloc, Node::Span(characters))
+        share(alloc, Node::Span(Class::new(characters)))
     }
 
     /// `BREAK(characters)`.
     pub fn break_at(alloc: Global, characters: Text) -> Result<Pat, AllocError>
         ensures { IfOk result (λ p. p ≡ pattern.Break characters) }
     {
-        share(alloc, Node::Break(characters))
+        share(alloc, Node::Break(Class::new(characters)))
     }
 
     /// `ARB`.

@@ -87,14 +87,14 @@ fn reached_alone(text: &[u8], node: &Node, at: usize) -> Reach
         }
         Node::Rem => Reach::Here(text.len()),
         Node::Any(set) => {
-            if begins_with_one_of(&text[at..], set.as_bytes()) {
+            if begins_with_one_of(&text[at..], set) {
                 Reach::Here(at + 1)
             } else {
                 Reach::Nowhere
             }
         }
         Node::NotAny(set) => {
-            if begins_with_another(&text[at..], set.as_bytes()) {
+            if begins_with_another(&text[at..], set) {
                 Reach::Here(at + 1)
             } else {
                 Reach::Nowhere
@@ -102,7 +102,6 @@ fn reached_alone(text: &[u8], node: &Node, at: usize) -> Reach
         }
         Node::Span(set) => {
             let rest = &text[at..];
-            let set = set.as_bytes();
             if begins_with_one_of(rest, set) {
                 Reach::Here(at + run_of(rest, set))
             } else {
@@ -110,7 +109,7 @@ fn reached_alone(text: &[u8], node: &Node, at: usize) -> Reach
             }
         }
         Node::Break(set) => {
-            let end = at + gap_before(&text[at..], set.as_bytes());
+            let end = at + gap_before(&text[at..], set);
             if end < text.len() {
                 Reach::Here(end)
             } else {

@@ -4,6 +4,8 @@ ghost use Rattle.std.specs.List.{starts_with, prefix_len, position_or_len};
 ghost use Rattle.sno_nodes.specs.Sets.{is_one_of};
 ghost use Rattle.mon_text.specs.Beginnings.{first_passes};
 
+use crate::class::Class;
+
 /// Whether a text begins with a part. Most often the first character tells.
 #[inline(always)]
 pub fn stands_first(rest: &[u8], part: &[u8]) -> bool
@@ -16,47 +18,36 @@ pub fn stands_first(rest: &[u8], part: &[u8]) -> bool
     }
 }
 
-/// Whether a character is one of the set. Most sets have one character alone.
-#[inline(always)]
-fn is_one_of(characters: &[u8], character: u8) -> bool
-    ensures { result ≡ is_one_of characters.now character }
-{
-    match characters {
-        [only] => *only == character,
-        _ => characters.contains(&character),
-    }
-}
-
 /// Whether a character of the set comes first.
 #[inline]
-pub fn begins_with_one_of(rest: &[u8], characters: &[u8]) -> bool
-    ensures { result ≡ first_passes (is_one_of characters.now) rest.now }
+pub fn begins_with_one_of(rest: &[u8], set: &Class) -> bool
+    ensures { result ≡ first_passes (is_one_of set.now) rest.now }
 {
     match rest.first() {
-        Some(first) => is_one_of(characters, *first),
+        Some(first) => set.has(*first),
         None => false,
     }
 }
 
 /// Whether a character comes first that is not of the set.
 #[inline]
-pub fn begins_with_another(rest: &[u8], characters: &[u8]) -> bool
-    ensures { result ≡ first_passes (λ x. not (is_one_of characters.now x)) rest.now }
+pub fn begins_with_another(rest: &[u8], set: &Class) -> bool
+    ensures { result ≡ first_passes (λ x. not (is_one_of set.now x)) rest.now }
 {
     match rest.first() {
-        Some(first) => !is_one_of(characters, *first),
+        Some(first) => !set.has(*first),
         None => false,
     }
 }
 
 /// How many characters of the set come first.
 #[inline]
-pub fn run_of(rest: &[u8], characters: &[u8]) -> usize
-    ensures value { result ≡ prefix_len (is_one_of characters.now) rest.now }
+pub fn run_of(rest: &[u8], set: &Class) -> usize
+    ensures value { result ≡ prefix_len (is_one_of set.now) rest.now }
     ensures within { result ≤ length rest.now }
 {
     let mut count = 0;
-    while count < rest.len() && is_one_of(characters, rest[count]) {
+    while count < rest.len() && set.has(rest[count]) {
         count += 1;
     }
     count
@@ -64,12 +55,12 @@ pub fn run_of(rest: &[u8], characters: &[u8]) -> usize
 
 /// How many characters come before the first one of the set.
 #[inline]
-pub fn gap_before(rest: &[u8], characters: &[u8]) -> usize
-    ensures value { result ≡ position_or_len (is_one_of characters.now) rest.now }
+pub fn gap_before(rest: &[u8], set: &Class) -> usize
+    ensures value { result ≡ position_or_len (is_one_of set.now) rest.now }
     ensures within { result ≤ length rest.now }
 {
     let mut count = 0;
-    while count < rest.len() && !is_one_of(characters, rest[count]) {
+    while count < rest.len() && !set.has(rest[count]) {
         count += 1;
     }
     count

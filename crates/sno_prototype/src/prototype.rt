@@ -5,13 +5,14 @@ ghost use Rattle.std.specs.Option.{option_map};
 ghost use Rattle.std.specs.Cmp.Lexicographic.{pointwise};
 ghost use Rattle.mon_text.specs.Lines.{is_blank_line};
 ghost use Rattle.sno_prototype.specs.Prototypes.{is_identifier, trimmed, cut_at, names_of, are_different, prototype_with, prototype_of};
-ghost use Rattle.sno_prototype.specs.inner.Reading.{told, listed, items_from, are_apart, both_listed};
+ghost use Rattle.sno_prototype.specs.inner.Reading.{told, listed, items_from, both_listed, Meets};
 ghost use Rattle.mon_text.specs.Characters.{is_identifier_character, is_comma, is_blank};
 ghost use Rattle.mon_text.specs.Beginnings.{without_leading};
 
 use crate::names::Names;
 use sno_text::{Named, Text, without_trailing_blanks};
 use std::alloc::{AllocError, Global};
+use std::collections::BTreeSet;
 
 /// What a prototype says of a function.
 #[derive(Drop)]
@@ -146,45 +147,41 @@ fn read_lists(
     }
 }
 
-fn is_among(name: &Text, names: &[Named]) -> bool
-    ensures { result ≡ list_any (λ other. pointwise nat_eq other name.now) names.now }
+/// Puts a name among others, unless it is one of them.
+fn meet(met: &mut BTreeSet<Text>, name: &Named) -> Result<bool, AllocError>
+    ensures { IfOk result (λ new. Meets new met.old met.new (name.now ∷ [])) }
 {
-    names.iter().any(|other| other.text() == name)
+    let name = name.text().copy()?;
+    let new = met.insert(name)?;
+    Ok(new)
 }
 
-/// Whether no name of a list is one behind it, or one of another list.
-fn are_apart(names: &[Named], others: &[Named]) -> bool
-    ensures { result ≡ are_apart names.now others.now }
+/// Puts names among others, from the last on, as far as each is new.
+fn meet_all(met: &mut BTreeSet<Text>, names: &[Named]) -> Result<bool, AllocError>
+    ensures { IfOk result (λ new. Meets new met.old met.new names.now) }
 {
-    for (place, name) in names.iter().enumerate() {
-        let later = &names[place + 1..];
-        if is_among(name.text(), later) {
-            return false;
-        }
-        if is_among(name.text(), others) {
-            return false;
+    let mut left = names.len();
+    while left > 0 {
+        left -= 1;
+        if !meet(met, &names[left])? {
+            return Ok(false);
         }
     }
-    true
+    Ok(true)
 }
 
 /// Whether all names of a function's variables are different.
-fn are_different(prototype: &Prototype) -> bool
-    ensures { result ≡ are_different (names_of prototype.now) }
+fn are_different(alloc: Global, prototype: &Prototype) -> Result<bool, AllocError>
+    ensures { IfOk result (λ is. is ≡ are_different (names_of prototype.now)) }
 {
-    let name = prototype.name.text();
-    let parameters = prototype.parameters.as_slice();
-    let locals = prototype.locals.as_slice();
-    if is_among(name, parameters) {
-        return false;
+    let mut met = BTreeSet::new(alloc);
+    if !meet_all(&mut met, prototype.locals.as_slice())? {
+        return Ok(false);
     }
-    if is_among(name, locals) {
-        return false;
+    if !meet_all(&mut met, prototype.parameters.as_slice())? {
+        return Ok(false);
     }
-    if !are_apart(parameters, locals) {
-        return false;
-    }
-    are_apart(locals, &[])
+    meet(&mut met, &prototype.name)
 }
 
 /// The prototype that a name and two lists make.
@@ -209,7 +206,7 @@ fn read_parts(
         parameters,
         locals,
     };
-    if are_different(&prototype) {
+    if are_different(alloc, &prototype)? {
         Ok(Some(prototype))
     } else {
         Ok(None)

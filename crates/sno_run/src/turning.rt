@@ -134,7 +134,7 @@ impl Job {
         ensures { IfOk result (λ job. job_of job ≡ first_job (program_of program) limits) }
     {
         let point = first_point(program.start);
-        let store = Store::new(alloc, limits.statements)?;
+        let store = Store::new(alloc, program.labels.seed(), limits.statements)?;
         let program = Loaded::new(alloc, program, limits)?;
         Ok(Job {
             program,

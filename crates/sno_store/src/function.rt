@@ -8,6 +8,7 @@ ghost use Rattle.indexmap.specs.IndexMap.{insert_entry};
 use crate::callee::{Callee, is_built_in};
 use indexmap::IndexMap;
 use sno_prototype::Function;
+use sno_seed::Seed;
 use sno_text::{Name, Named};
 use std::alloc::{AllocError, Global};
 use std::marker::Model;
@@ -15,7 +16,7 @@ use std::marker::Model;
 /// The functions of a job by their names.
 #[derive(Drop)]
 pub struct Functions {
-    functions: IndexMap<Name, Function>,
+    functions: IndexMap<Name, Function, Seed>,
     // Whether one of them has a name that no program has to define.
     overrides: bool,
 }
@@ -36,12 +37,12 @@ impl Model for Functions {
 }
 
 impl Functions {
-    /// No functions.
-    pub fn new(alloc: Global) -> Functions
+    /// No functions. They are found by a hash of this seed.
+    pub fn new(alloc: Global, seed: Seed) -> Functions
         ensures { result ≡ [] }
     {
         Functions {
-            functions: IndexMap::new(alloc),
+            functions: IndexMap::with_hasher(alloc, seed),
             overrides: false,
         }
     }

@@ -8,6 +8,7 @@ ghost use Rattle.sno_syntax.specs.Labels.{is_bad_label, is_end, is_kept, label_f
 
 use indexmap::IndexMap;
 use sno_cards::SyntaxCode;
+use sno_seed::Seed;
 use std::alloc::{AllocError, Global};
 use std::array;
 use std::cell::Cell;
@@ -20,7 +21,7 @@ use std::marker::Model;
 /// begins with a blank has none.
 #[derive(Drop)]
 pub struct Labels {
-    by_text: IndexMap<Vec<u8>, usize>,
+    by_text: IndexMap<Vec<u8>, usize, Seed>,
     // Where the label of each group was that was found last. A wrong place costs time and nothing else.
     recent: [Cell<usize>; 16],
 }
@@ -46,14 +47,19 @@ fn group_of(label: &[u8]) -> usize
 
 #[tactic(auto, using(crate::proofs::Tables::tables))]
 impl Labels {
-    /// No labels.
-    pub fn new(alloc: Global) -> Labels
+    /// No labels. They are found by a hash of this seed.
+    pub fn new(alloc: Global, seed: Seed) -> Labels
         ensures { result ≡ [] }
     {
         Labels {
-            by_text: IndexMap::new(alloc),
+            by_text: IndexMap::with_hasher(alloc, seed),
             recent: array::from_fn(|_| Cell::new(0)),
         }
+    }
+
+    /// The seed of the hash by which they are found.
+    pub fn seed(&self) -> Seed {
+        *self.by_text.hasher()
     }
 
     /// The same by hash. The place is kept for labels like it.

@@ -12,6 +12,7 @@ use crate::start::{bad_end, start_of};
 use crate::statement::{note_label, read_statement};
 use mon_text::Stop;
 use sno_cards::{ProgramCards, StatementText, SyntaxError};
+use sno_seed::Seed;
 use sno_statement::Statement;
 use std::alloc::{AllocError, Global};
 
@@ -46,7 +47,11 @@ fn read_next(
     Ok(())
 }
 
-fn read_statements(alloc: Global, texts: &[StatementText]) -> Result<Body, Stop<SyntaxError>>
+fn read_statements(
+    alloc: Global,
+    seed: Seed,
+    texts: &[StatementText],
+) -> Result<Body, Stop<SyntaxError>>
     ensures spelled { IfOk result (λ body. SpellFrom [] 0 texts.now (map statement_of body.statements.items)) }
     ensures labels { IfOk result (λ body. body.labels ≡ labels_in texts.now) }
     ensures clean { OnOk result (statements_refusal [] 0 texts.now ≡ None) }
@@ -54,7 +59,7 @@ fn read_statements(alloc: Global, texts: &[StatementText]) -> Result<Body, Stop<
 {
     let mut body = Body {
         statements: Vec::new(alloc),
-        labels: Labels::new(alloc),
+        labels: Labels::new(alloc, seed),
     };
     for (index, text) in texts.iter().enumerate() {
         read_next(alloc, &mut body, text, index)?;
@@ -62,7 +67,8 @@ fn read_statements(alloc: Global, texts: &[StatementText]) -> Result<Body, Stop<
     Ok(body)
 }
 
-/// Reads a program from its cards: its statements, their labels, and where a run begins.
+/// Reads a program from its cards: its statements, their labels, and where a run begins. What it names, labels and what its runs
+/// make, is found by a hash of this seed.
 ///
 /// A label begins in column 1 and runs to a blank. What follows it is the statement, by the grammar of the language: see
 /// `docs/LANGUAGE.md`. What follows END names the label where a run begins; where nothing does, a run begins at the first
@@ -75,11 +81,11 @@ fn read_statements(alloc: Global, texts: &[StatementText]) -> Result<Body, Stop<
 /// before. Then what `lex` refuses. Then the leftmost fault of its grammar: `BlankMissing`, `Unexpected`, or
 /// `VariableNeeded` where a variable must stand. Last, `BadEnd` where what follows END is neither blank nor one label.
 /// `Memory` where a growth was refused.
-pub fn parse(alloc: Global, cards: &ProgramCards) -> Result<Program, Stop<SyntaxError>>
+pub fn parse(alloc: Global, seed: Seed, cards: &ProgramCards) -> Result<Program, Stop<SyntaxError>>
     ensures program { IfOk result (λ program. IsProgram cards.now (program_of program)) }
     ensures refused { IfErr result (IfRefused (λ refusal. syntax_refusal cards.now ≡ Some refusal)) }
 {
-    let body = read_statements(alloc, cards.statements())?;
+    let body = read_statements(alloc, seed, cards.statements())?;
     let count = cards.statements().len();
     let rest = cards.end_rest();
     match start_of(alloc, count, &body.labels, rest.as_bytes())? {

@@ -1,6 +1,7 @@
-//! The tokens of a long statement, which no program asks for by themselves: no clause can say that memory is there.
+//! The tokens of a long statement, which no program asks for by themselves: no clause can say that memory is there. And what a
+//! refusal says of itself.
 use mon_text::{Line, read_line};
-use sno_syntax::{ProgramCards, lex, statements};
+use sno_syntax::{Place, ProgramCards, SyntaxCode, SyntaxError, lex, statements};
 use std::alloc::Global;
 
 // A card and an END line.
@@ -37,4 +38,24 @@ fn reads_a_long_statement(alloc: Global) -> bool {
 #[test]
 fn long_statements_have_their_tokens(rt: HostRuntime) {
     assert!(rt; reads_a_long_statement(rt.alloc()));
+}
+
+// A refusal tells its code and its place.
+fn tells_where(alloc: Global) -> bool {
+    let refusal = SyntaxError {
+        code: SyntaxCode::BadEnd,
+        place: Place {
+            card: 12,
+            column: 70,
+        },
+    };
+    match format!(in alloc; "{refusal}") {
+        Ok(told) => told.as_str() == "P7 BAD END CARD 12 COLUMN 70",
+        Err(_) => false,
+    }
+}
+
+#[test]
+fn refusals_tell_where(rt: HostRuntime) {
+    assert!(rt; tells_where(rt.alloc()));
 }

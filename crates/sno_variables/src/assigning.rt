@@ -11,12 +11,17 @@ use crate::recent::Recent;
 use crate::variable::Variable;
 use indexmap::IndexMap;
 use sno_prototype::Bindings;
+use sno_seed::Seed;
 use sno_text::{Name, Named, Text};
 use sno_value::Value;
 
 /// The place of a name, which is told it, and so are names like it that will be formed.
 #[inline(never)]
-fn place_told(variables: &IndexMap<Name, Variable>, recent: &Recent, name: &Named) -> Option<usize>
+fn place_told(
+    variables: &IndexMap<Name, Variable, Seed>,
+    recent: &Recent,
+    name: &Named,
+) -> Option<usize>
     ensures { result ≡ position (pointwise nat_eq name.now) (keys_of variables.now.entries) }
 {
     match variables.get_index_of(name.name()) {
@@ -31,7 +36,11 @@ fn place_told(variables: &IndexMap<Name, Variable>, recent: &Recent, name: &Name
 
 /// The place of a name, which is looked for where one like it was found last.
 #[inline(never)]
-fn place_named(variables: &IndexMap<Name, Variable>, recent: &Recent, name: &Named) -> Option<usize>
+fn place_named(
+    variables: &IndexMap<Name, Variable, Seed>,
+    recent: &Recent,
+    name: &Named,
+) -> Option<usize>
     requires { AreDistinct variables.now.entries }
     ensures { result ≡ position (pointwise nat_eq name.now) (keys_of variables.now.entries) }
 {
@@ -52,7 +61,7 @@ fn place_named(variables: &IndexMap<Name, Variable>, recent: &Recent, name: &Nam
 /// The place of a name, which is looked for at its hint first.
 #[inline(always)]
 pub(crate) fn place_of(
-    variables: &IndexMap<Name, Variable>,
+    variables: &IndexMap<Name, Variable, Seed>,
     recent: &Recent,
     name: &Named,
 ) -> Option<usize>
@@ -74,14 +83,17 @@ pub(crate) fn place_of(
 
 /// The place of a text, where no further name can share it: each name is compared with it.
 #[inline(never)]
-fn place_among(variables: &IndexMap<Name, Variable>, name: &Text) -> Option<usize>
+fn place_among(variables: &IndexMap<Name, Variable, Seed>, name: &Text) -> Option<usize>
     ensures { result ≡ position (pointwise nat_eq name.now) (keys_of variables.now.entries) }
 {
     variables.keys().position(|key| name == key.text())
 }
 
 /// The place of a text. It takes no memory.
-pub(crate) fn place_of_text(variables: &IndexMap<Name, Variable>, name: &Text) -> Option<usize>
+pub(crate) fn place_of_text(
+    variables: &IndexMap<Name, Variable, Seed>,
+    name: &Text,
+) -> Option<usize>
     ensures { result ≡ position (pointwise nat_eq name.now) (keys_of variables.now.entries) }
 {
     match name.copy() {
@@ -92,7 +104,12 @@ pub(crate) fn place_of_text(variables: &IndexMap<Name, Variable>, name: &Text) -
 
 /// Gives a variable a value, where there is room for one more.
 #[tactic(auto, using(crate::proofs::Written::assigning))]
-fn assign_one(variables: &mut IndexMap<Name, Variable>, recent: &Recent, name: Named, value: Value)
+fn assign_one(
+    variables: &mut IndexMap<Name, Variable, Seed>,
+    recent: &Recent,
+    name: Named,
+    value: Value,
+)
     requires distinct { AreDistinct variables.old.entries }
     requires room { 0 < spare variables.old }
     ensures given { variables.new.entries ≡ given name value variables.old.entries }
@@ -113,7 +130,7 @@ fn assign_one(variables: &mut IndexMap<Name, Variable>, recent: &Recent, name: N
 
 /// Gives each variable its value, where there is room for as many.
 pub(crate) fn assign_all(
-    variables: &mut IndexMap<Name, Variable>,
+    variables: &mut IndexMap<Name, Variable, Seed>,
     recent: &Recent,
     bindings: Bindings,
 )

@@ -11,6 +11,7 @@ use crate::recent::Recent;
 use crate::variable::Variable;
 use indexmap::IndexMap;
 use sno_prototype::Prototype;
+use sno_seed::Seed;
 use sno_text::{Name, Named};
 use sno_value::Value;
 use std::mem;
@@ -36,7 +37,7 @@ fn name_at(prototype: &Prototype, at: usize) -> &Named
 /// Exchanges the value of the variable at a place for another.
 #[tactic(auto, using(crate::proofs::Places::still_distinct))]
 #[inline(always)]
-fn exchange_at(variables: &mut IndexMap<Name, Variable>, place: usize, value: &mut Value)
+fn exchange_at(variables: &mut IndexMap<Name, Variable, Seed>, place: usize, value: &mut Value)
     requires { AreDistinct variables.old.entries }
     ensures written { variables.new.entries ≡ with_value_at place value.old variables.old.entries }
     ensures taken { value.new ≡ value_at place value.old variables.old.entries }
@@ -51,7 +52,7 @@ fn exchange_at(variables: &mut IndexMap<Name, Variable>, place: usize, value: &m
 #[tactic(auto, using(crate::proofs::Exchanged::one_exchanged))]
 #[inline(always)]
 fn exchange_one(
-    variables: &mut IndexMap<Name, Variable>,
+    variables: &mut IndexMap<Name, Variable, Seed>,
     recent: &Recent,
     name: &Named,
     value: &mut Value,
@@ -74,7 +75,7 @@ fn exchange_one(
 /// Exchanges the values of a function's variables for others, up to the first that was never named, and tells how many.
 #[tactic(auto, using(crate::proofs::Exchanged::exchanging))]
 pub(crate) fn exchange_known(
-    variables: &mut IndexMap<Name, Variable>,
+    variables: &mut IndexMap<Name, Variable, Seed>,
     recent: &Recent,
     prototype: &Prototype,
     values: &mut Vec<Value>,
@@ -100,7 +101,7 @@ pub(crate) fn exchange_known(
 
 /// Exchanges so many of the values again, the last one first.
 pub(crate) fn take_back(
-    variables: &mut IndexMap<Name, Variable>,
+    variables: &mut IndexMap<Name, Variable, Seed>,
     recent: &Recent,
     prototype: &Prototype,
     values: &mut Vec<Value>,

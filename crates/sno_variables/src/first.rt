@@ -8,6 +8,7 @@ ghost use Rattle.sno_variables.specs.Variables.{reading, writing};
 use crate::variables::Variables;
 use sno_nodes::Pat;
 use sno_prototype::{Format, Input, Output};
+use sno_seed::Seed;
 use sno_text::{Named, Text};
 use sno_value::Value;
 use std::alloc::{AllocError, Global};
@@ -106,15 +107,15 @@ fn hold_patterns(alloc: Global, variables: &mut Variables) -> Result<(), AllocEr
     hold_succeed(alloc, variables)
 }
 
-/// The variables of a job, at first.
+/// The variables of a job, at first. They are found by a hash of this seed.
 ///
 /// # Errors
 ///
 /// Where a growth was refused.
-pub fn first_variables(alloc: Global) -> Result<Variables, AllocError>
+pub fn first_variables(alloc: Global, seed: Seed) -> Result<Variables, AllocError>
     ensures { IfOk result (λ variables. variables ≡ first_variables) }
 {
-    let mut variables = Variables::new(alloc);
+    let mut variables = Variables::new(alloc, seed);
     hold_patterns(alloc, &mut variables)?;
     read_input(alloc, &mut variables)?;
     write_to(alloc, &mut variables, b"OUTPUT", 6, 132)?;

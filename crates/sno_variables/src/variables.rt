@@ -19,6 +19,7 @@ use crate::recent::Recent;
 use crate::variable::{Found, Variable};
 use indexmap::IndexMap;
 use sno_prototype::{Bindings, Input, Output, Prototype};
+use sno_seed::Seed;
 use sno_text::{Name, Named, Text};
 use sno_value::Value;
 use std::alloc::{AllocError, Global};
@@ -28,7 +29,7 @@ use std::mem;
 /// Variables in the order in which they were first named, no two of one name. None is ever taken out, so that a place stays.
 #[derive(Drop)]
 pub struct Variables {
-    variables: IndexMap<Name, Variable>,
+    variables: IndexMap<Name, Variable, Seed>,
     recent: Recent,
 }
 
@@ -49,12 +50,12 @@ impl Model for Variables {
 }
 
 impl Variables {
-    /// No variables.
-    pub fn new(alloc: Global) -> Variables
+    /// No variables. They are found by a hash of this seed.
+    pub fn new(alloc: Global, seed: Seed) -> Variables
         ensures { result ≡ [] }
     {
         Variables {
-            variables: IndexMap::new(alloc),
+            variables: IndexMap::with_hasher(alloc, seed),
             recent: Recent::new(),
         }
     }

@@ -7,17 +7,18 @@ ghost use Rattle.snomon.specs.CommandLine.{Gives, Writes, snomon};
 use clap::error::ErrorKind;
 use clap::{Arg, ArgAction, ArgMatches, Command, Error};
 use mon_feed::{Options, Slots};
+use sno_seed::Seed;
 use std::alloc::{AllocError, Global};
 use std::convert::AsStr;
 
-/// What the words of a command line ask for. The first word is the program's name.
+/// What the words of a command line ask for, with this seed. The first word is the program's name.
 ///
 /// # Errors
 ///
 /// Where the words give no options: an unknown one, one that is given twice, a number of slots that is none from 1 to 8, a word that
 /// is none, or a call for help or for the version. The text of the error, which is that of the help and the version too, is `clap`'s.
 /// Its kind is `OutOfMemory` where a growth was refused, and words that give options are refused for that alone.
-pub fn read_options<S: AsStr>(alloc: Global, words: &[S]) -> Result<Options, Error>
+pub fn read_options<S: AsStr>(alloc: Global, seed: Seed, words: &[S]) -> Result<Options, Error>
     ensures given { IfOk result (λ options. Gives (map S.text words.now) options) }
     ensures refused { IfErr result (λ error. (kind_of error ≡ ErrorKind.OutOfMemory)
         ⊎ ((options : Options) → Gives (map S.text words.now) options → ⊥)) }
@@ -26,6 +27,7 @@ pub fn read_options<S: AsStr>(alloc: Global, words: &[S]) -> Result<Options, Err
     Ok(Options {
         slots: slots_in(&matches),
         check: matches.get_flag("check"),
+        seed,
     })
 }
 

@@ -11,15 +11,17 @@ use clap::Error;
 use clap::error::ErrorKind;
 use mon_feed::{Options, RunError};
 use mon_shell::{Ended, finish, refuse, run_options};
+use sno_seed::Seed;
 use std::alloc::{AllocError, Global};
 use std::convert::AsStr;
 use std::io;
 use std::io::{Read, Write};
 
 /// Runs the deck that comes from one stream as these words say, writes its output to another, and tells on a third what went wrong.
-/// The first word is the program's name; words that are no text give no options.
+/// The first word is the program's name; words that are no text give no options. What jobs name is found by a hash of this seed.
 pub fn run<S: AsStr + Drop, R: Read + Drop, W: Write + Drop, E: Write + Drop>(
     alloc: Global,
+    seed: Seed,
     words: io::Result<Vec<S>>,
     input: R,
     output: W,
@@ -37,7 +39,7 @@ pub fn run<S: AsStr + Drop, R: Read + Drop, W: Write + Drop, E: Write + Drop>(
         (E.contents result.errors)) }
     ensures silent { result.status ≡ 0 → result.errors ≡ errors }
 {
-    match given_options(alloc, words) {
+    match given_options(alloc, seed, words) {
         Ok(options) => run_options(alloc, options, input, output, errors),
         Err(error) if error.kind() == ErrorKind::OutOfMemory => {
             finish(alloc, Err(RunError::Memory), input, output, errors)
@@ -49,6 +51,7 @@ pub fn run<S: AsStr + Drop, R: Read + Drop, W: Write + Drop, E: Write + Drop>(
 // The options that the words give.
 fn given_options<S: AsStr + Drop>(
     alloc: Global,
+    seed: Seed,
     words: io::Result<Vec<S>>,
 ) -> Result<Options, Error>
     ensures given { IfOk result (λ options. IsOkAnd words (λ list. Gives (map S.text list.items) options)) }
@@ -56,7 +59,7 @@ fn given_options<S: AsStr + Drop>(
         ⊎ ((options : Options) → IsOkAnd words (λ list. Gives (map S.text list.items) options) → ⊥)) }
 {
     match words {
-        Ok(words) => read_options(alloc, words.as_slice()),
+        Ok(words) => read_options(alloc, seed, words.as_slice()),
         Err(error) if error.kind() == io::ErrorKind::InvalidData => Err(no_text(alloc)?),
         Err(_) => Err(Error::from(AllocError)),
     }

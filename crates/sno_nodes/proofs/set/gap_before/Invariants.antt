@@ -7,7 +7,7 @@ use Rattle.sno_nodes.proofs.set.gap_before.Given as goal
 abbrev pub invariant-loop-count : goal.invariant-loop-count
 invariant-loop-count l = record {
   within : l.count ≤ length l.rest;
-  so_far : position_or_len (is_one_of l.characters) l.rest ≡ l.count + position_or_len (is_one_of l.characters) (drop l.count l.rest);
+  so_far : position_or_len (is_one_of l.set) l.rest ≡ l.count + position_or_len (is_one_of l.set) (drop l.count l.rest);
 }
 
 abbrev pub decreases-loop-count : goal.decreases-loop-count

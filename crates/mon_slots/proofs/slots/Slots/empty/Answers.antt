@@ -1,7 +1,7 @@
 use Rattle.std.proofs.Common.{Option, IsSome, sym, subst, ◌∙◌}
 use Rattle.mon_slots.specs.Floors.{SlotState}
 use Rattle.mon_slots.proofs.Calls.{found, seat_is, seat_emptied, some_in}
-use Rattle.mon_slots.proofs.slots.Slots.take_out.Goals as goal
+use Rattle.mon_slots.proofs.slots.Slots.empty.Goals as goal
 
 pub leave-requires : goal.leave-requires
 leave-requires c =
