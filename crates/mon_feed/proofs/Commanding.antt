@@ -9,7 +9,7 @@ use Rattle.mon_monitor.specs.Worlds.{World}
 use Rattle.mon_monitor.specs.Events.{Event, Serve, Load, Give, Drain}
 use Rattle.mon_monitor.specs.Papers.{Paper, paper_text, papers_text}
 use Rattle.mon_monitor.specs.Played.{Played, played, happened, and_played}
-use Rattle.mon_monitor.specs.Happening.{Happens}
+use Rattle.mon_monitor.specs.Happening.{Happens, Closes}
 use Rattle.mon_cards.specs.Decks.{Asked, Commands, Enters, Gives, Drains, Cards, Ending, Stopped, Refused}
 use Rattle.mon_cards.specs.Sections.{asked_then}
 use Rattle.mon_cards.specs.Jobs.{job_deck_of}
@@ -173,25 +173,28 @@ job_numbered counts job deck is = let e : counts.jobs + 1 ≡ suc counts.jobs = 
 
 -- `$STOP`
 
-pub checked_when : (check : Bool) → check ≡ true → (jobs : ℕ) (w : World) (before after : List ℕ) → after ≡ before ++ verdict Stopped → Stopping check jobs w before w after
-checked_when true e jobs w before after put = record { marks = []; written = λ rest. put; sets = λ rest. refl }
-checked_when false e jobs w before after put = cc
+pub checked_when : (check : Bool) → check ≡ true → (jobs : ℕ) (w : World) (before after : List ℕ) (left : Sets) → left ≡ w.floor.sets → after ≡ before ++ verdict Stopped
+    → Stopping check jobs w before left after
+checked_when true e jobs w before after left same put = record { marks = []; written = λ rest. put; sets = λ rest. same }
+checked_when false e jobs w before after left same put = cc
 
-pub stopped_when : (check : Bool) → check ≡ false → (jobs : ℕ) (w w' : World) (before after : List ℕ) → Stopping false jobs w before w' after → Stopping check jobs w before w' after
-stopped_when false e jobs w w' before after stopping = stopping
-stopped_when true e jobs w w' before after stopping = cc
+pub stopped_when : (check : Bool) → check ≡ false → (jobs : ℕ) (w : World) (left : Sets) (before after : List ℕ) → Stopping false jobs w before left after → Stopping check jobs w before left after
+stopped_when false e jobs w left before after stopping = stopping
+stopped_when true e jobs w left before after stopping = cc
 
--- the slots were emptied, and then the catalogue was put
-pub drained : (jobs : ℕ) (w w' : World) (before whole after : List ℕ) → Happens Drain w before w' whole → after ≡ whole ++ closing w'.floor.sets Stopped → Stopping false jobs w before w' after
-drained jobs w w' before whole after happens put = record {
-  marks = happens.marks;
-  written = λ rest.
-      let all = happened Drain (happens.marks ++ rest) w in
-      let end = closing w'.floor.sets Stopped in
-      put
-      ∙ ap (λ t. t ++ end) happens.printed
-      ∙ append_assoc before (papers_text happens.papers) end
-      ∙ ap (λ ps. before ++ (papers_text ps ++ end)) (sym (append-nil happens.papers))
-      ∙ ap (λ (p : Played). before ++ (papers_text (p.papers ++ []) ++ closing p.after.floor.sets Stopped)) (sym (happens.is rest));
-  sets = λ rest. ap (λ (p : Played). p.after.floor.sets) (sym (happens.is rest));
-}
+-- the slots were emptied, and then the catalogue was given back
+pub closed : (jobs : ℕ) (w : World) (left : Sets) (before after : List ℕ) → Closes w before left after → Stopping false jobs w before left after
+closed jobs w left before after closes =
+    let happens = closes.drained in
+    let end = closing left Stopped in
+    record {
+      marks = happens.marks;
+      written = λ rest.
+          closes.printed
+          ∙ ap (λ t. t ++ end) happens.printed
+          ∙ append_assoc before (papers_text happens.papers) end
+          ∙ ap (λ ps. before ++ (papers_text ps ++ end)) (sym (append-nil happens.papers))
+          ∙ ap (λ (sets : Sets). before ++ (papers_text (happens.papers ++ []) ++ closing sets Stopped)) closes.same
+          ∙ ap (λ (p : Played). before ++ (papers_text (p.papers ++ []) ++ closing p.after.floor.sets Stopped)) (sym (happens.is rest));
+      sets = λ rest. closes.same ∙ ap (λ (p : Played). p.after.floor.sets) (sym (happens.is rest));
+    }

@@ -1,9 +1,10 @@
 -- Pieces that a feed takes, one after the other.
 use Rattle.std.proofs.Common.{◌≡◌, ℕ, ◌+◌, List, [], ◌++◌, take, drop, Result, Err, refl, sym, subst, ap, ◌∙◌, append_assoc}
+use Rattle.std.specs.declared.alloc.Global.{Global}
+use Rattle.std.specs.declared.rc.Rc.{Rc}
 use Rattle.std.specs.Str.Lines.{lines}
+use Rattle.mon_catalogue.specs.Sets.{Sets}
 use Rattle.mon_slots.specs.Marks.{Marks}
-use Rattle.mon_monitor.specs.declared.monitor.Monitor.{Monitor}
-use Rattle.mon_monitor.specs.Told.{world_of}
 use Rattle.mon_cards.specs.declared.code.Code.{Code}
 use Rattle.mon_feed.specs.declared.fault.RunError.{RunError}
 use Rattle.mon_feed.specs.declared.fault.RunError.TheVariants.{DeckRefused, ReadFault, WriteFault, Memory}
@@ -37,17 +38,17 @@ begun_by before after f g piece u took = record {
 }
 
 -- behind `$STOP` nothing is told
-stopped_tells : (m : Marks) (before : List ℕ) (f : DeckFeed) (w : Monitor) (bytes : List ℕ) → f.state ≡ state.Stopped w
-    → told m before f bytes ≡ behind before f.counts (record { written = []; conclusion = Good nothing_counted (world_of w).floor.sets })
-stopped_tells m before f w bytes is = ap (λ (s : State). behind before f.counts (outcome f.options f.counts.jobs m s (f.lines_taken + 1) (lines (f.line ++ bytes)))) is
+stopped_tells : (m : Marks) (before : List ℕ) (f : DeckFeed) (sets : Rc Sets Global) (bytes : List ℕ) → f.state ≡ state.Stopped sets
+    → told m before f bytes ≡ behind before f.counts (record { written = []; conclusion = Good nothing_counted sets.value })
+stopped_tells m before f sets bytes is = ap (λ (s : State). behind before f.counts (outcome f.options f.counts.jobs m s (f.lines_taken + 1) (lines (f.line ++ bytes)))) is
 
-pub took_stopped : (before : List ℕ) (f g : DeckFeed) (piece : List ℕ) (w : Monitor) → f.state ≡ state.Stopped w → g.state ≡ f.state → g.counts ≡ f.counts → Took before f piece before g
-took_stopped before f g piece w is same counts = record {
+pub took_stopped : (before : List ℕ) (f g : DeckFeed) (piece : List ℕ) (sets : Rc Sets Global) → f.state ≡ state.Stopped sets → g.state ≡ f.state → g.counts ≡ f.counts → Took before f piece before g
+took_stopped before f g piece sets is same counts = record {
   marks = [];
   is = λ rest bytes.
-      stopped_tells rest before g w bytes (same ∙ is)
-      ∙ ap (λ (k : Counts). behind before k (record { written = []; conclusion = Good nothing_counted (world_of w).floor.sets })) counts
-      ∙ sym (stopped_tells rest before f w (piece ++ bytes) is);
+      stopped_tells rest before g sets bytes (same ∙ is)
+      ∙ ap (λ (k : Counts). behind before k (record { written = []; conclusion = Good nothing_counted sets.value })) counts
+      ∙ sym (stopped_tells rest before f sets (piece ++ bytes) is);
 }
 
 -- and none behind a refusal

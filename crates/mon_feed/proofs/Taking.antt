@@ -1,5 +1,7 @@
 -- A line that was taken, from what is asked on it.
 use Rattle.std.proofs.Common.{◌≡◌, ℕ, ◌+◌, Bool, true, false, not, None, List, [], ◌∷◌, ◌++◌, sym, ap, ◌∙◌, append-nil, if◌then◌else◌}
+use Rattle.std.specs.declared.alloc.Global.{Global}
+use Rattle.std.specs.declared.rc.Rc.{Rc}
 use Rattle.mon_monitor.specs.declared.monitor.Monitor.{Monitor}
 use Rattle.mon_monitor.specs.Told.{world_of}
 use Rattle.mon_catalogue.specs.Sets.{Sets}
@@ -62,17 +64,17 @@ card_taken options s w w' line before after counts counts' one asks served = rec
 }
 
 -- `$STOP` came
-pub stop_taken : (options : Options) (s : Stage) (w w' : Monitor) (line before after : List ℕ) (counts : Counts)
+pub stop_taken : (options : Options) (s : Stage) (w : Monitor) (sets : Rc Sets Global) (line before after : List ℕ) (counts : Counts)
     → ((n : ℕ) → (ls : List (List ℕ)) → scene_from options.slots.number s n (line ∷ ls) ≡ over (world_of w) stopped)
-    → Stopping options.check counts.jobs (world_of w) before (world_of w') after
-    → TookLine options (state.Reading s) line before counts (state.Stopped w') after counts
-stop_taken options s w w' line before after counts asks stopping = record {
+    → Stopping options.check counts.jobs (world_of w) before sets.value after
+    → TookLine options (state.Reading s) line before counts (state.Stopped sets) after counts
+stop_taken options s w sets line before after counts asks stopping = record {
   marks = stopping.marks;
   is = λ rest n ls.
       let m = stopping.marks ++ rest in
       let all = both_counted counts nothing_counted in
       let written = before ++ answer_to options.check counts.jobs m (over (world_of w) stopped) in
-      ap (λ t. record { written = t; conclusion = Good all (world_of w').floor.sets }) (append-nil after ∙ stopping.written rest)
-      ∙ ap (λ (sets : Sets). record { written = written; conclusion = Good all sets }) (stopping.sets rest)
+      ap (λ t. record { written = t; conclusion = Good all sets.value }) (append-nil after ∙ stopping.written rest)
+      ∙ ap (λ (left : Sets). record { written = written; conclusion = Good all left }) (stopping.sets rest)
       ∙ ap (λ (c : Scene). behind before counts (outcome_of options.check counts.jobs m c)) (sym (asks n ls));
 }

@@ -85,13 +85,13 @@ is_reading _ = false
 -- whether these bytes may take memory: none may behind `$STOP` or a refusal, and want of memory is told again
 abbrev pub may_grow : State → List ℕ → Bool
 may_grow (state.Reading stage) bytes = not (length bytes == 0)
-may_grow (state.Stopped w) bytes = false
+may_grow (state.Stopped sets) bytes = false
 may_grow (state.Refused n code) bytes = false
 may_grow state.NoMemory bytes = true
 
 -- how many bytes of a piece are taken at once: at most a line; behind `$STOP`, where there are no cards, all
 abbrev pub used_by : State → List ℕ → ℕ
-used_by (state.Stopped w) piece = length piece
+used_by (state.Stopped sets) piece = length piece
 used_by _ piece = taken_of piece
 
 -- a refused deck, or want of memory
@@ -108,7 +108,7 @@ fault_at n stop.Memory = Memory
 -- what comes of the lines from number n on, behind so many jobs
 abbrev pub outcome : Options → ℕ → Marks → State → ℕ → List (List ℕ) → Outcome
 outcome options jobs m (state.Reading stage) n ls = outcome_of options.check jobs m (scene_from options.slots.number stage n ls)
-outcome options jobs m (state.Stopped w) n ls = record { written = []; conclusion = Good nothing_counted (world_of w).floor.sets }
+outcome options jobs m (state.Stopped sets) n ls = record { written = []; conclusion = Good nothing_counted sets.value }
 outcome options jobs m (state.Refused k code) n ls = refused_at k code
 outcome options jobs m state.NoMemory n ls = record { written = []; conclusion = Good nothing_counted [] }
 
@@ -137,5 +137,5 @@ lines_loaded _ = 0
 
 -- a deck that was run to its end has written data sets that are read back
 abbrev pub IsReadBack : Bool → State → Type 0
-IsReadBack check (state.Stopped w) = check ≡ false → ReadsBack (world_of w).floor.sets
+IsReadBack check (state.Stopped sets) = check ≡ false → ReadsBack sets.value
 IsReadBack check _ = Unit {0}

@@ -21,6 +21,7 @@ use crate::feed::DeckFeed;
 use crate::options::{Counts, Options};
 use crate::stage::{Stage, State};
 use mon_cards::Code;
+use mon_monitor::Printed;
 use mon_text::{EndedLine, LineFeed, Stop};
 use std::alloc::{AllocError, Global};
 
@@ -63,14 +64,14 @@ impl DeckFeed {
     /// `DeckRefused` where a card is refused; `Memory` where a growth was refused, which takes at least one byte before
     /// `$STOP`. After an error each further call answers the same and appends nothing.
     #[tactic(auto, using(crate::proofs::Beginnings::begins_further, crate::proofs::Pieces::begun_same, crate::proofs::Pieces::took_refused))]
-    pub fn feed(&mut self, alloc: Global, piece: &[u8], out: &mut Vec<u8>) -> Result<(), RunError>
+    pub fn feed(&mut self, alloc: Global, piece: &[u8], out: &mut Printed) -> Result<(), RunError>
         requires { self.old.fed + length piece.now < 2 ^ 63 }
-        ensures appends { Begins out.old.items out.new.items }
-        ensures begun { Begun out.old.items self.old piece.now out.new.items }
-        ensures told { OnAnswer result (Took out.old.items self.old piece.now out.new.items self.new) }
+        ensures appends { Begins out.old out.new }
+        ensures begun { Begun out.old self.old piece.now out.new }
+        ensures told { OnAnswer result (Took out.old self.old piece.now out.new self.new) }
         ensures failed { IfErr result (λ error. self.new.state ≡ stopped_by error) }
-        ensures again { (n : ℕ) (code : AnyCode) → self.old.state ≡ states.Refused n code → (result ≡ Err (RunError.DeckRefused n code)) × (self.new ≡ self.old) × (out.new.items ≡ out.old.items) }
-        ensures still { self.old.state ≡ states.NoMemory → (result ≡ Err RunError.Memory) × (self.new ≡ self.old) × (out.new.items ≡ out.old.items) }
+        ensures again { (n : ℕ) (code : AnyCode) → self.old.state ≡ states.Refused n code → (result ≡ Err (RunError.DeckRefused n code)) × (self.new ≡ self.old) × (out.new ≡ out.old) }
+        ensures still { self.old.state ≡ states.NoMemory → (result ≡ Err RunError.Memory) × (self.new ≡ self.old) × (out.new ≡ out.old) }
         ensures own { IfErr result IsOwn }
         ensures memory { result ≡ Err RunError.Memory → IsTrue (may_grow self.old.state piece.now) }
         ensures reads_back { IsReadBack self.old.options.check self.old.state → OnOk result (IsReadBack self.new.options.check self.new.state) }
@@ -117,27 +118,27 @@ impl DeckFeed {
         &mut self,
         alloc: Global,
         piece: &[u8],
-        out: &mut Vec<u8>,
+        out: &mut Printed,
     ) -> Result<usize, RunError>
         requires full { 0 < length piece.now }
         requires few { self.old.fed + length piece.now < 2 ^ 63 }
         ensures used { IfOk result (λ used. (0 < used) × (used ≤ length piece.now) × (self.new.fed ≡ self.old.fed + used)) }
         ensures line { IfOk result (λ used. used ≡ used_by self.old.state piece.now) }
-        ensures told { IfOk result (λ used. Took out.old.items self.old (take used piece.now) out.new.items self.new) }
+        ensures told { IfOk result (λ used. Took out.old self.old (take used piece.now) out.new self.new) }
         ensures refused { (n : ℕ) (code : AnyCode) → result ≡ Err (RunError.DeckRefused n code) →
-            (rest : Marks) (bytes : List ℕ) → told rest out.new.items self.new bytes ≡ told rest out.old.items self.old (piece.now ++ bytes) }
-        ensures appends { Begins out.old.items out.new.items }
-        ensures begun { Begun out.old.items self.old piece.now out.new.items }
+            (rest : Marks) (bytes : List ℕ) → told rest out.new self.new bytes ≡ told rest out.old self.old (piece.now ++ bytes) }
+        ensures appends { Begins out.old out.new }
+        ensures begun { Begun out.old self.old piece.now out.new }
         ensures failed { IfErr result (λ error. self.new.state ≡ stopped_by error) }
-        ensures again { (n : ℕ) (code : AnyCode) → self.old.state ≡ states.Refused n code → (result ≡ Err (RunError.DeckRefused n code)) × (self.new ≡ self.old) × (out.new.items ≡ out.old.items) }
-        ensures still { self.old.state ≡ states.NoMemory → (result ≡ Err RunError.Memory) × (self.new ≡ self.old) × (out.new.items ≡ out.old.items) }
+        ensures again { (n : ℕ) (code : AnyCode) → self.old.state ≡ states.Refused n code → (result ≡ Err (RunError.DeckRefused n code)) × (self.new ≡ self.old) × (out.new ≡ out.old) }
+        ensures still { self.old.state ≡ states.NoMemory → (result ≡ Err RunError.Memory) × (self.new ≡ self.old) × (out.new ≡ out.old) }
         ensures own { IfErr result IsOwn }
         ensures memory { result ≡ Err RunError.Memory → IsTrue (may_grow self.old.state piece.now) }
         ensures reads_back { IsReadBack self.old.options.check self.old.state → OnOk result (IsReadBack self.new.options.check self.new.state) }
         ensures options { self.new.options ≡ self.old.options }
         ensures fed { (self.old.fed ≤ self.new.fed) × (self.new.fed ≤ self.old.fed + length piece.now) }
         ensures refused_line { (n : ℕ) (code : AnyCode) → result ≡ Err (RunError.DeckRefused n code) → is_reading self.old.state ≡ true → self.new.fed ≡ self.old.fed + taken_of piece.now }
-        ensures nothing { OnErr result (out.new.items ≡ out.old.items) }
+        ensures nothing { OnErr result (out.new ≡ out.old) }
         ensures sound { OnOk result (error_at self.new.state ≡ None) }
         ensures counted { IfOk result (λ used. is_reading self.new.state ≡ true → (is_reading self.old.state ≡ true) × (self.old.lines_taken + lines_ended (take used piece.now) ≤ self.new.lines_taken)) }
     {
@@ -199,17 +200,17 @@ impl DeckFeed {
     // Takes a whole line: its event happens, and what that prints is appended. It stays a call, so that what it needs costs
     // nothing where no line ends.
     #[inline(never)]
-    fn take_line(&mut self, alloc: Global, text: &[u8], out: &mut Vec<u8>) -> Result<(), RunError>
+    fn take_line(&mut self, alloc: Global, text: &[u8], out: &mut Printed) -> Result<(), RunError>
         requires { self.old.lines_taken < self.old.fed }
-        ensures told { OnOk result (TookLine self.old.options self.old.state text.now out.old.items self.old.counts self.new.state out.new.items self.new.counts) }
+        ensures told { OnOk result (TookLine self.old.options self.old.state text.now out.old self.old.counts self.new.state out.new self.new.counts) }
         ensures refused { (n : ℕ) (code : AnyCode) → result ≡ Err (RunError.DeckRefused n code) →
-            (rest : Marks) (ls : List (List ℕ)) → behind out.new.items self.new.counts (refused_at n code)
-            ≡ behind out.old.items self.old.counts (outcome self.old.options self.old.counts.jobs rest self.old.state (self.old.lines_taken + 1) (text.now ∷ ls)) }
+            (rest : Marks) (ls : List (List ℕ)) → behind out.new self.new.counts (refused_at n code)
+            ≡ behind out.old self.old.counts (outcome self.old.options self.old.counts.jobs rest self.old.state (self.old.lines_taken + 1) (text.now ∷ ls)) }
         ensures failed { IfErr result (λ error. self.new.state ≡ stopped_by error) }
         ensures reads_back { IsReadBack self.old.options.check self.old.state → OnOk result (IsReadBack self.new.options.check self.new.state) }
         ensures own { IfErr result IsOwn }
-        ensures appends { Begins out.old.items out.new.items }
-        ensures nothing { OnErr result (out.new.items ≡ out.old.items) }
+        ensures appends { Begins out.old out.new }
+        ensures nothing { OnErr result (out.new ≡ out.old) }
         ensures stays { (self.new.options ≡ self.old.options) × (self.new.line ≡ self.old.line) × (self.new.fed ≡ self.old.fed) }
         ensures sound { OnOk result (error_at self.new.state ≡ error_at self.old.state) }
         ensures counted { self.new.lines_taken ≡ self.old.lines_taken + 1 }
@@ -230,18 +231,18 @@ impl DeckFeed {
     /// # Errors
     ///
     /// As `feed`.
-    pub fn finish(self, alloc: Global, out: &mut Vec<u8>) -> Result<Counts, RunError>
-        ensures appends { Begins out.old.items out.new.items }
-        ensures begun { (marks : Marks) × ((rest : Marks) → Begins out.new.items (told (marks ++ rest) out.old.items self []).written) }
-        ensures ended { IfOk result (λ counts. (marks : Marks) × (sets : Sets) × ((rest : Marks) → told (marks ++ rest) out.old.items self [] ≡ record { written = out.new.items; conclusion = Good counts sets })
+    pub fn finish(self, alloc: Global, out: &mut Printed) -> Result<Counts, RunError>
+        ensures appends { Begins out.old out.new }
+        ensures begun { (marks : Marks) × ((rest : Marks) → Begins out.new (told (marks ++ rest) out.old self []).written) }
+        ensures ended { IfOk result (λ counts. (marks : Marks) × (sets : Sets) × ((rest : Marks) → told (marks ++ rest) out.old self [] ≡ record { written = out.new; conclusion = Good counts sets })
             × (IsReadBack self.options.check self.state → self.options.check ≡ false → ReadsBack sets)) }
         ensures refused { (n : ℕ) (code : AnyCode) → result ≡ Err (RunError.DeckRefused n code) →
-            (marks : Marks) × ((rest : Marks) → told (marks ++ rest) out.old.items self [] ≡ record { written = out.new.items; conclusion = Bad n code }) }
-        ensures again { (n : ℕ) (code : AnyCode) → self.state ≡ states.Refused n code → (result ≡ Err (RunError.DeckRefused n code)) × (out.new.items ≡ out.old.items) }
-        ensures still { self.state ≡ states.NoMemory → (result ≡ Err RunError.Memory) × (out.new.items ≡ out.old.items) }
+            (marks : Marks) × ((rest : Marks) → told (marks ++ rest) out.old self [] ≡ record { written = out.new; conclusion = Bad n code }) }
+        ensures again { (n : ℕ) (code : AnyCode) → self.state ≡ states.Refused n code → (result ≡ Err (RunError.DeckRefused n code)) × (out.new ≡ out.old) }
+        ensures still { self.state ≡ states.NoMemory → (result ≡ Err RunError.Memory) × (out.new ≡ out.old) }
         ensures own { IfErr result IsOwn }
         ensures memory { result ≡ Err RunError.Memory → IsTrue (may_grow self.state self.line) }
-        ensures short { result ≡ Err RunError.Memory → out.new.items ≡ out.old.items }
+        ensures short { result ≡ Err RunError.Memory → out.new ≡ out.old }
     {
         if let Some(error) = self.failed() {
             return Err(error);
@@ -283,21 +284,21 @@ fn end(
     last: &[u8],
     lines_taken: u64,
     counts: Counts,
-    out: &mut Vec<u8>,
+    out: &mut Printed,
 ) -> Result<Counts, RunError>
     requires few { counts.jobs + counts.commands < 2 ^ 63 }
     requires short { lines_taken < 2 ^ 63 }
     requires within { lines_loaded state < 2 ^ 63 }
     requires sound { error_at state ≡ None }
-    ensures appends { Begins out.old.items out.new.items }
-    ensures begun { EndBegun options state (lines_taken + 1) (last_lines last.now) out.old.items counts out.new.items }
-    ensures ended { IfOk result (λ all. (sets : Sets) × Ended options state (lines_taken + 1) (last_lines last.now) out.old.items counts out.new.items (Good all sets)
+    ensures appends { Begins out.old out.new }
+    ensures begun { EndBegun options state (lines_taken + 1) (last_lines last.now) out.old counts out.new }
+    ensures ended { IfOk result (λ all. (sets : Sets) × Ended options state (lines_taken + 1) (last_lines last.now) out.old counts out.new (Good all sets)
         × (IsReadBack options.check state → options.check ≡ false → ReadsBack sets)) }
     ensures refused { (n : ℕ) (code : AnyCode) → result ≡ Err (RunError.DeckRefused n code) →
-        Ended options state (lines_taken + 1) (last_lines last.now) out.old.items counts out.new.items (Bad n code) }
+        Ended options state (lines_taken + 1) (last_lines last.now) out.old counts out.new (Bad n code) }
     ensures own { IfErr result IsOwn }
     ensures memory { result ≡ Err RunError.Memory → IsTrue (may_grow state last.now) }
-    ensures short { result ≡ Err RunError.Memory → out.new.items ≡ out.old.items }
+    ensures short { result ≡ Err RunError.Memory → out.new ≡ out.old }
 {
     if last.is_empty() {
         return conclude(&state, lines_taken + 1, counts);

@@ -14,11 +14,12 @@ use crate::reading::{
 };
 use mon_access::Accounts;
 use mon_cards::{Code, OpenJob, OpenList, put_catalogue_line};
-use mon_catalogue::Loading;
-use mon_monitor::Monitor;
+use mon_catalogue::{Catalogue, Loading};
+use mon_monitor::{Monitor, Printed};
 use mon_text::Stop;
 use std::alloc::Global;
 use std::mem;
+use std::rc::Rc;
 
 /// The section that the next line belongs to, and what was collected.
 #[derive(Drop)]
@@ -41,8 +42,8 @@ pub enum Stage {
 pub enum State {
     /// The next line counts.
     Reading(Stage),
-    /// `$STOP` came, and the lines after it are ignored.
-    Stopped(Monitor),
+    /// `$STOP` came with these data sets, and the lines after it are ignored.
+    Stopped(Rc<Catalogue>),
     /// The deck was refused at this line.
     Refused(u64, Code),
     /// Memory ran out.
@@ -54,7 +55,7 @@ impl Drop for State {
     fn drop(self) {
         match self {
             State::Reading(_stage) => {}
-            State::Stopped(_monitor) => {}
+            State::Stopped(_sets) => {}
             State::Refused(_, _) => {}
             State::NoMemory => {}
         }
@@ -71,16 +72,16 @@ impl Stage {
         options: Options,
         text: &[u8],
         counts: &mut Counts,
-        out: &mut Vec<u8>,
+        out: &mut Printed,
     ) -> Result<bool, Stop<Code>>
         requires few { counts.old.jobs + counts.old.commands < 2 ^ 63 }
         requires within { lines_loaded (states.Reading self.old) < 2 ^ 63 }
-        ensures taken { IfOk result (λ taken. taken ≡ true → TookLine options (states.Reading self.old) text.now out.old.items counts.old (states.Reading self.new) out.new.items counts.new) }
-        ensures left { IfOk result (λ taken. taken ≡ false → (self.new ≡ self.old) × (out.new.items ≡ out.old.items) × (counts.new ≡ counts.old)) }
+        ensures taken { IfOk result (λ taken. taken ≡ true → TookLine options (states.Reading self.old) text.now out.old counts.old (states.Reading self.new) out.new counts.new) }
+        ensures left { IfOk result (λ taken. taken ≡ false → (self.new ≡ self.old) × (out.new ≡ out.old) × (counts.new ≡ counts.old)) }
         ensures within { lines_loaded (states.Reading self.new) ≤ lines_loaded (states.Reading self.old) + 1 }
         ensures counted { counts.new.jobs + counts.new.commands ≤ counts.old.jobs + counts.old.commands + 1 }
         ensures refused { IfErr result (IfRefused (λ code. (n : ℕ) (ls : List (List ℕ)) → scene_from options.slots.number self.old n (text.now ∷ ls) ≡ refused_from options.slots.number self.old n code)) }
-        ensures nothing { OnErr result (out.new.items ≡ out.old.items) }
+        ensures nothing { OnErr result (out.new ≡ out.old) }
     {
         match self {
             Stage::Catalogue(_, loading) => Ok(!put_catalogue_line(alloc, loading, text)?),
@@ -104,16 +105,16 @@ impl State {
         options: Options,
         text: &[u8],
         counts: &mut Counts,
-        out: &mut Vec<u8>,
+        out: &mut Printed,
     ) -> Result<(), Stop<Code>>
         requires few { counts.old.jobs + counts.old.commands < 2 ^ 63 }
         requires within { lines_loaded self.old < 2 ^ 63 }
-        ensures told { OnOk result (TookLine options self.old text.now out.old.items counts.old self.new out.new.items counts.new) }
+        ensures told { OnOk result (TookLine options self.old text.now out.old counts.old self.new out.new counts.new) }
         ensures within { lines_loaded self.new ≤ lines_loaded self.old + 1 }
         ensures reads_back { IsReadBack options.check self.old → OnOk result (IsReadBack options.check self.new) }
         ensures counted { counts.new.jobs + counts.new.commands ≤ counts.old.jobs + counts.old.commands + 1 }
         ensures refused { IfErr result (IfRefused (λ code. (jobs : ℕ) (m : Marks) (n : ℕ) (ls : List (List ℕ)) → outcome options jobs m self.old n (text.now ∷ ls) ≡ refused_at n code)) }
-        ensures nothing { OnErr result (out.new.items ≡ out.old.items) }
+        ensures nothing { OnErr result (out.new ≡ out.old) }
         ensures sound { OnOk result (error_at self.new ≡ error_at self.old) }
     {
         if let State::Reading(stage) = self {
@@ -133,16 +134,16 @@ impl State {
         options: Options,
         text: &[u8],
         counts: &mut Counts,
-        out: &mut Vec<u8>,
+        out: &mut Printed,
     ) -> Result<(), Stop<Code>>
         requires few { counts.old.jobs + counts.old.commands < 2 ^ 63 }
         requires within { lines_loaded self.old < 2 ^ 63 }
-        ensures told { OnOk result (TookLine options self.old text.now out.old.items counts.old self.new out.new.items counts.new) }
+        ensures told { OnOk result (TookLine options self.old text.now out.old counts.old self.new out.new counts.new) }
         ensures within { lines_loaded self.new ≤ lines_loaded self.old + 1 }
         ensures reads_back { IsReadBack options.check self.old → OnOk result (IsReadBack options.check self.new) }
         ensures counted { counts.new.jobs + counts.new.commands ≤ counts.old.jobs + counts.old.commands + 1 }
         ensures refused { IfErr result (IfRefused (λ code. (jobs : ℕ) (m : Marks) (n : ℕ) (ls : List (List ℕ)) → outcome options jobs m self.old n (text.now ∷ ls) ≡ refused_at n code)) }
-        ensures nothing { OnErr result (out.new.items ≡ out.old.items) }
+        ensures nothing { OnErr result (out.new ≡ out.old) }
         ensures sound { OnOk result (error_at self.new ≡ error_at self.old) }
     {
         let before = mem::replace(self, State::NoMemory);
@@ -161,22 +162,22 @@ impl State {
         options: Options,
         text: &[u8],
         counts: &mut Counts,
-        out: &mut Vec<u8>,
+        out: &mut Printed,
     ) -> Result<State, Stop<Code>>
         requires few { counts.old.jobs + counts.old.commands < 2 ^ 63 }
         requires within { lines_loaded self < 2 ^ 63 }
-        ensures told { IfOk result (λ after. TookLine options self text.now out.old.items counts.old after out.new.items counts.new) }
+        ensures told { IfOk result (λ after. TookLine options self text.now out.old counts.old after out.new counts.new) }
         ensures within { IfOk result (λ after. lines_loaded after ≤ lines_loaded self + 1) }
         ensures sound { IfOk result (λ after. error_at after ≡ error_at self) }
         ensures memory { IsErrOf result stops.Memory → is_reading self ≡ true }
         ensures reads_back { IsReadBack options.check self → IfOk result (IsReadBack options.check) }
         ensures counted { counts.new.jobs + counts.new.commands ≤ counts.old.jobs + counts.old.commands + 1 }
         ensures refused { IfErr result (IfRefused (λ code. (jobs : ℕ) (m : Marks) (n : ℕ) (ls : List (List ℕ)) → outcome options jobs m self n (text.now ∷ ls) ≡ refused_at n code)) }
-        ensures nothing { OnErr result (out.new.items ≡ out.old.items) }
+        ensures nothing { OnErr result (out.new ≡ out.old) }
     {
         match self {
             State::Reading(stage) => after_stage(alloc, options, stage, text, counts, out),
-            State::Stopped(monitor) => Ok(State::Stopped(monitor)),
+            State::Stopped(sets) => Ok(State::Stopped(sets)),
             State::Refused(n, code) => Ok(State::Refused(n, code)),
             State::NoMemory => Ok(State::NoMemory),
         }
@@ -191,17 +192,17 @@ fn after_stage(
     stage: Stage,
     text: &[u8],
     counts: &mut Counts,
-    out: &mut Vec<u8>,
+    out: &mut Printed,
 ) -> Result<State, Stop<Code>>
     requires few { counts.old.jobs + counts.old.commands < 2 ^ 63 }
     requires within { lines_loaded (states.Reading stage) < 2 ^ 63 }
-    ensures told { IfOk result (λ after. TookLine options (states.Reading stage) text.now out.old.items counts.old after out.new.items counts.new) }
+    ensures told { IfOk result (λ after. TookLine options (states.Reading stage) text.now out.old counts.old after out.new counts.new) }
     ensures within { IfOk result (λ after. lines_loaded after ≤ lines_loaded (states.Reading stage) + 1) }
     ensures sound { IfOk result (λ after. error_at after ≡ None) }
     ensures reads_back { IfOk result (IsReadBack options.check) }
     ensures counted { counts.new.jobs + counts.new.commands ≤ counts.old.jobs + counts.old.commands + 1 }
     ensures refused { IfErr result (IfRefused (λ code. (n : ℕ) (ls : List (List ℕ)) → scene_from options.slots.number stage n (text.now ∷ ls) ≡ refused_from options.slots.number stage n code)) }
-    ensures nothing { OnErr result (out.new.items ≡ out.old.items) }
+    ensures nothing { OnErr result (out.new ≡ out.old) }
 {
     match stage {
         Stage::Opening => Ok(State::Reading(after_opening(alloc, text)?)),

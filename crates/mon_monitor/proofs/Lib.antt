@@ -1,5 +1,6 @@
 pub mod Shorthand
 pub mod Playing
+pub mod Printing
 pub mod Histories
 mod Exchanging
 mod Telling

@@ -1,12 +1,13 @@
 -- What the calls do is what the definitions say.
 use Rattle.std.proofs.Common.{◌≡◌, ℕ, List, [], ◌∷◌, ◌++◌, Result, Ok, Err, refl, ap, sym, ◌∙◌, subst, append_assoc, append-nil}
-use Rattle.std.specs.Prelude.{OnOk, is_ok, if◌then◌else◌, replicate}
+use Rattle.std.specs.Prelude.{OnOk, replicate}
 use Rattle.std.specs.List.{flat_map}
 use Rattle.std.proofs.lemmas.List.Concat.{flat_map-append}
 use Rattle.mon_text.specs.declared.stop.Stop.{Stop}
 use Rattle.mon_text.specs.declared.stop.Stop.TheVariants.{Refused}
 use Rattle.sno_cards.specs.Answers.{IfRefused}
 use Rattle.mon_access.specs.declared.account.Account.{Account}
+use Rattle.mon_catalogue.specs.Sets.{Sets}
 use Rattle.mon_command.specs.declared.command.Command.{Command}
 use Rattle.mon_command.specs.Commanded.{commanded}
 use Rattle.mon_job.specs.declared.deck.JobDeck.{JobDeck}
@@ -20,7 +21,8 @@ use Rattle.mon_monitor.specs.Worlds.{World, with_floor, with_sets}
 use Rattle.mon_monitor.specs.Events.{Serve, Load, Give, Drain}
 use Rattle.mon_monitor.specs.Papers.{Paper, OfCommand, OfRefused, papers_text, paper_text, of_load}
 use Rattle.mon_monitor.specs.Played.{Played, loading, of_turns, of_loading, and_played, then_played}
-use Rattle.mon_monitor.specs.Happening.{Does, Happens, HappensUnmarked}
+use Rattle.mon_monitor.specs.Printed.{given_back}
+use Rattle.mon_monitor.specs.Happening.{Does, Happens, HappensUnmarked, Closes}
 use Rattle.mon_monitor.proofs.Shorthand.{of_ends}
 use Rattle.mon_monitor.specs.Told.{world}
 
@@ -141,21 +143,38 @@ entered deck w now w' before between after ends accounts is printed load =
     let d = does_then (λ m v. of_turns v (room m v.floor)) (of_loading deck) w now w' before between after made load in
     record { marks = d.marks; papers = d.papers; is = d.is; printed = d.printed }
 
--- what was appended to a text of its own
-pub appended : (act : Marks → World → Played) (w w' : World) (before text after : List ℕ) → Does act w [] w' text → after ≡ before ++ text → Does act w before w' after
-appended act w w' before text after d put = record {
-  marks = d.marks;
-  papers = d.papers;
-  is = d.is;
-  printed = put ∙ ap (λ (t : List ℕ). before ++ t) d.printed;
-}
+-- what was put to a text of its own, and then behind the printouts of jobs
+pub entered_behind : (deck : JobDeck) (w now w' : World) (before none text after : List ℕ) (ends : List JobEnd)
+    → now.accounts ≡ w.accounts → RoomIs w.floor ends now.floor → none ≡ [] → Does (of_loading deck) now none w' text
+    → after ≡ before ++ (flat_map printout ends ++ text) → Happens (Load deck) w before w' after
+entered_behind deck w now w' before none text after ends accounts is empty load put =
+    let between = before ++ flat_map printout ends in
+    entered deck w now w' before between after ends accounts is refl (record {
+      marks = load.marks;
+      papers = load.papers;
+      is = load.is;
+      printed =
+          put ∙ sym (append_assoc before (flat_map printout ends) text)
+          ∙ ap (λ (t : List ℕ). between ++ t) (load.printed ∙ ap (λ (t : List ℕ). t ++ papers_text load.papers) empty);
+    })
+
+-- the slots were emptied, and the data sets given back
+pub closed : (w left : World) (before after : List ℕ) (ends : List JobEnd) (sets printed : Sets) → left.accounts ≡ w.accounts → DrainIs w.floor ends left.floor
+    → sets ≡ left.floor.sets → printed ≡ sets → after ≡ before ++ (flat_map printout ends ++ given_back printed) → Closes w before sets after
+closed w left before after ends sets printed accounts is same copied put =
+    let text = before ++ flat_map printout ends in
+    record {
+      left = left;
+      text = text;
+      drained = drained w left before text ends accounts is refl;
+      same = same;
+      printed =
+          put ∙ ap (λ (s : Sets). before ++ (flat_map printout ends ++ given_back s)) copied
+          ∙ sym (append_assoc before (flat_map printout ends) (given_back sets));
+    }
 
 -- WHERE IT SUCCEEDS
 
 pub on_ok : {E P Q : Type 0} (r : Result (Unit {0}) E) → (P → Q) → OnOk r P → OnOk r Q
 on_ok (Ok u) f h = f h
 on_ok (Err e) f h = tt
-
-pub if_put : {E Q : Type 0} (r : Result (Unit {0}) E) (old more new : List ℕ) → new ≡ (if is_ok r then old ++ more else old) → (new ≡ old ++ more → Q) → OnOk r Q
-if_put (Ok u) old more new h f = f h
-if_put (Err e) old more new h f = tt

@@ -2,8 +2,10 @@
 use Rattle.std.specs.Prelude.{◌≡◌, ℕ, List, [], ◌++◌}
 use Rattle.mon_slots.specs.Marks.{Marks}
 use Rattle.mon_monitor.specs.Worlds.{World}
-use Rattle.mon_monitor.specs.Events.{Event}
+use Rattle.mon_catalogue.specs.Sets.{Sets}
+use Rattle.mon_monitor.specs.Events.{Event, Drain}
 use Rattle.mon_monitor.specs.Papers.{Paper, papers_text}
+use Rattle.mon_monitor.specs.Printed.{given_back}
 use Rattle.mon_monitor.specs.Played.{Played, happened}
 
 -- With some marks, and whatever marks come behind these: these papers are printed behind what was there before, this world is
@@ -21,3 +23,11 @@ Happens event w before w' after = Does (happened event) w before w' after
 -- and it took no mark
 abbrev pub HappensUnmarked : Event → World → List ℕ → World → List ℕ → Type 0
 HappensUnmarked event w before w' after = (h : Happens event w before w' after) × (h.marks ≡ [])
+
+-- The slots were emptied, and behind what that printed these data sets are given back, which are those that stood then.
+pub record Closes (w : World) (before : List ℕ) (sets : Sets) (after : List ℕ) : Type 0 where
+  pub left : World
+  pub text : List ℕ
+  pub drained : Happens Drain w before left text
+  pub same : sets ≡ left.floor.sets
+  pub printed : after ≡ text ++ given_back sets

@@ -1,6 +1,7 @@
 pub mod Worlds
 pub mod Events
 pub mod Papers
+pub mod Printed
 pub mod Played
 pub mod Told
 pub mod Happening

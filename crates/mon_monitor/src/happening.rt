@@ -1,18 +1,22 @@
 //! Events: each happens, and what it prints is appended.
 //!
 //! Where a growth is refused nothing is appended; jobs that ended are then lost, and the monitor is of no more use.
-ghost use Rattle.std.specs.Prelude.{◌≡◌, OnOk, OnErr};
+ghost use Rattle.std.specs.Prelude.{◌≡◌, ◌++◌, IfOk, OnOk, OnErr};
+ghost use Rattle.mon_command.specs.Commanded.{commanded};
 ghost use Rattle.mon_monitor.specs.Told.{world_of};
+ghost use Rattle.mon_monitor.specs.Worlds.{with_sets};
 ghost use Rattle.mon_monitor.specs.Played.{of_loading};
 ghost use Rattle.mon_monitor.specs.Events.{Serve, Load, Give, Drain};
-ghost use Rattle.mon_monitor.specs.Happening.{Does, Happens, HappensUnmarked};
+ghost use Rattle.mon_monitor.specs.Happening.{Does, Happens, HappensUnmarked, Closes};
 
 use crate::monitor::Monitor;
-use crate::printing::{put_each, put_ends};
+use crate::printed::{Piece, Printed};
+use mon_catalogue::Catalogue;
 use mon_command::Command;
-use mon_job::{JobDeck, put_printout, put_refusal};
+use mon_job::{JobDeck, put_refusal};
 use mon_text::Stop;
 use std::alloc::{AllocError, Global};
+use std::rc::Rc;
 
 impl Monitor {
     /// A command is served. It gives no turn.
@@ -24,13 +28,32 @@ impl Monitor {
         &mut self,
         alloc: Global,
         command: Command,
-        out: &mut Vec<u8>,
+        out: &mut Printed,
     ) -> Result<(), AllocError>
-        ensures happens { OnOk result (HappensUnmarked (Serve command) (world_of self.old) out.old.items (world_of self.new) out.new.items) }
-        ensures nothing { OnErr result (out.new.items ≡ out.old.items) }
+        ensures happens { OnOk result (HappensUnmarked (Serve command) (world_of self.old) out.old (world_of self.new) out.new) }
+        ensures nothing { OnErr result (out.new ≡ out.old) }
     {
-        self.put_command(alloc, command, out)?;
+        self.print_command(alloc, command, out)?;
         Ok(())
+    }
+
+    // Serves a command and appends its printout: to the text, where no pieces stand behind it.
+    fn print_command(
+        &mut self,
+        alloc: Global,
+        command: Command,
+        out: &mut Printed,
+    ) -> Result<(), AllocError>
+        ensures printed { OnOk result (out.new ≡ out.old ++ (commanded (world_of self.old).accounts (world_of self.old).floor.sets command).printout) }
+        ensures world { OnOk result (world_of self.new ≡ with_sets (world_of self.old) (commanded (world_of self.old).accounts (world_of self.old).floor.sets command).sets) }
+        ensures nothing { OnErr result (out.new ≡ out.old) }
+    {
+        if out.rest.is_empty() {
+            return self.put_command(alloc, command, &mut out.text);
+        }
+        let mut text = Vec::new(alloc);
+        self.put_command(alloc, command, &mut text)?;
+        out.put_piece(Piece::Text(text))
     }
 
     /// A job enters: where no slot is free, turns are given in rounds until one is; then it is loaded, or it is refused.
@@ -42,16 +65,15 @@ impl Monitor {
         &mut self,
         alloc: Global,
         deck: JobDeck,
-        out: &mut Vec<u8>,
+        out: &mut Printed,
     ) -> Result<(), AllocError>
-        ensures happens { OnOk result (Happens (Load deck) (world_of self.old) out.old.items (world_of self.new) out.new.items) }
-        ensures nothing { OnErr result (out.new.items ≡ out.old.items) }
+        ensures happens { OnOk result (Happens (Load deck) (world_of self.old) out.old (world_of self.new) out.new) }
+        ensures nothing { OnErr result (out.new ≡ out.old) }
     {
         let mut text = Vec::new(alloc);
         let ends = self.room(alloc)?;
-        put_each(&ends, &mut text)?;
         self.put_load(alloc, deck, &mut text)?;
-        out.extend_from_slice(&text)
+        out.put_ends_and_text(ends, text)
     }
 
     // Loads a job, or appends why it is refused.
@@ -82,13 +104,13 @@ impl Monitor {
         alloc: Global,
         slot: u8,
         count: u64,
-        out: &mut Vec<u8>,
+        out: &mut Printed,
     ) -> Result<(), AllocError>
-        ensures happens { OnOk result (Happens (Give slot count) (world_of self.old) out.old.items (world_of self.new) out.new.items) }
-        ensures nothing { OnErr result (out.new.items ≡ out.old.items) }
+        ensures happens { OnOk result (Happens (Give slot count) (world_of self.old) out.old (world_of self.new) out.new) }
+        ensures nothing { OnErr result (out.new ≡ out.old) }
     {
         match self.turns_of(alloc, slot, count) {
-            Some(end) => put_printout(&end, out),
+            Some(end) => out.put_piece(Piece::End(end)),
             None => Ok(()),
         }
     }
@@ -98,11 +120,29 @@ impl Monitor {
     /// # Errors
     ///
     /// Where a growth was refused; nothing was appended then.
-    pub fn drain_all(&mut self, alloc: Global, out: &mut Vec<u8>) -> Result<(), AllocError>
-        ensures happens { OnOk result (Happens Drain (world_of self.old) out.old.items (world_of self.new) out.new.items) }
-        ensures nothing { OnErr result (out.new.items ≡ out.old.items) }
+    pub fn drain_all(&mut self, alloc: Global, out: &mut Printed) -> Result<(), AllocError>
+        ensures happens { OnOk result (Happens Drain (world_of self.old) out.old (world_of self.new) out.new) }
+        ensures nothing { OnErr result (out.new ≡ out.old) }
     {
         let ends = self.drain(alloc)?;
-        put_ends(&ends, out)
+        out.put_ends(ends)
+    }
+
+    /// Turns are given in rounds until all slots are empty, and then the data sets are given back. They are the answer, too:
+    /// what is printed is no copy of them.
+    ///
+    /// # Errors
+    ///
+    /// Where a growth was refused; nothing was appended then.
+    pub fn close(self, alloc: Global, out: &mut Printed) -> Result<Rc<Catalogue>, AllocError>
+        ensures closes { IfOk result (λ sets. Closes (world_of self) out.old sets.value out.new) }
+        ensures nothing { OnErr result (out.new ≡ out.old) }
+    {
+        let mut monitor = self;
+        let ends = monitor.drain(alloc)?;
+        let sets = monitor.into_shared(alloc)?;
+        let printed = sets.clone()?;
+        out.put_ends_and_sets(ends, printed)?;
+        Ok(sets)
     }
 }

@@ -10,9 +10,10 @@ pub mod happening;
 pub mod isolation;
 pub mod laws;
 pub mod monitor;
-mod printing;
+pub mod printed;
 
 pub use mon_command::{Command, Printout};
 pub use mon_job::{JobDeck, JobEnd, LoadError, put_printout, put_refusal};
 pub use mon_slots::Turned;
 pub use monitor::Monitor;
+pub use printed::Printed;

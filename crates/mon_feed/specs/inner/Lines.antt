@@ -1,5 +1,6 @@
 -- What one line does, with some marks for the turns in it, and whatever marks and lines follow.
 use Rattle.std.specs.Prelude.{◌≡◌, ℕ, ◌+◌, Bool, List, [], ◌∷◌, ◌++◌}
+use Rattle.mon_catalogue.specs.Sets.{Sets}
 use Rattle.mon_slots.specs.Marks.{Marks}
 use Rattle.mon_monitor.specs.Worlds.{World}
 use Rattle.mon_cards.specs.Decks.{Asked, Cards}
@@ -23,11 +24,11 @@ pub record Served (check : Bool) (one : Asked) (w : World) (before : List ℕ) (
   pub is : (rest : Marks) → (others : Cards)
       → behind after counts' (outcome_of check counts'.jobs rest (over w' others)) ≡ behind before counts (outcome_of check counts.jobs (marks ++ rest) (over w (asked_then one others)))
 
--- `$STOP` came, behind so many jobs
-pub record Stopping (check : Bool) (jobs : ℕ) (w : World) (before : List ℕ) (w' : World) (after : List ℕ) : Type 0 where
+-- `$STOP` came, behind so many jobs, and these data sets are left
+pub record Stopping (check : Bool) (jobs : ℕ) (w : World) (before : List ℕ) (left : Sets) (after : List ℕ) : Type 0 where
   pub marks : Marks
   pub written : (rest : Marks) → after ≡ before ++ answer_to check jobs (marks ++ rest) (over w stopped)
-  pub sets : (rest : Marks) → w'.floor.sets ≡ sets_left check jobs (marks ++ rest) (over w stopped)
+  pub sets : (rest : Marks) → left ≡ sets_left check jobs (marks ++ rest) (over w stopped)
 
 -- what the last lines come to, from number n on: this was put out, and so the deck came out
 pub record Ended (options : Options) (s : State) (n : ℕ) (ls : List (List ℕ)) (before : List ℕ) (counts : Counts) (after : List ℕ) (conclusion : Conclusion) : Type 0 where

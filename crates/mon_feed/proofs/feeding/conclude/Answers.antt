@@ -1,5 +1,4 @@
 use Rattle.std.proofs.Common.{refl, ap, subst, [], ◌∙◌}
-use Rattle.mon_monitor.specs.Told.{world_of}
 use Rattle.mon_feed.specs.declared.stage.State.{State}
 use Rattle.mon_feed.specs.Feeds.{outcome, IsReadBack}
 use Rattle.mon_feed.proofs.Telling.{reading_ends}
@@ -11,7 +10,7 @@ returns-in-Reading-clause-refused c = λ m code same options jobs marks.
 
 pub returns-in-Stopped-clause-ended : goal.returns-in-Stopped-clause-ended
 returns-in-Stopped-clause-ended c = (
-  (world_of c.in-Stopped.field-0).floor.sets,
+  c.in-Stopped.field-0.value,
   λ options jobs marks. ap (λ (s : State). outcome options jobs marks s c.args.n []) c.in-Stopped.is,
   λ check back no. subst (λ (s : State). IsReadBack check s) c.in-Stopped.is back no,
   refl,

@@ -6,44 +6,44 @@ use Rattle.mon_feed.proofs.feeding.end.Goals as goal
 
 pub returns-then-is_empty-clause-ended : goal.returns-then-is_empty-clause-ended
 returns-then-is_empty-clause-ended c =
-    none_good c.args.options c.args.out.now.items c.args.counts c.args.state (c.args.lines_taken + 1) c.args.last.now (sym c.is_empty.ensures ∙ c.if-is_empty.true)
+    none_good c.args.options c.args.out.now c.args.counts c.args.state (c.args.lines_taken + 1) c.args.last.now (sym c.is_empty.ensures ∙ c.if-is_empty.true)
     c.conclude.result c.conclude.ensures.ended
 
 pub returns-then-is_empty-clause-refused : goal.returns-then-is_empty-clause-refused
 returns-then-is_empty-clause-refused c = λ n code same.
-    none_bad c.args.options c.args.out.now.items c.args.counts c.args.state (c.args.lines_taken + 1) c.args.last.now (sym c.is_empty.ensures ∙ c.if-is_empty.true)
+    none_bad c.args.options c.args.out.now c.args.counts c.args.state (c.args.lines_taken + 1) c.args.last.now (sym c.is_empty.ensures ∙ c.if-is_empty.true)
     n code (c.conclude.ensures.refused n code same)
 
 pub returns-in-Ok-clause-appends : goal.returns-in-Ok-clause-appends
 returns-in-Ok-clause-appends c =
     let counts = c.after_line.new.counts in
     let took = c.in-Ok.ensures.told in
-    only_appends c.args.out.now.items c.after_line.new.out.items c.args.counts counts
+    only_appends c.args.out.now c.after_line.new.out c.args.counts counts
     (outcome c.args.options c.args.counts.jobs (took.marks ++ []) c.args.state 0 (c.args.last.now ∷ [])) (outcome c.args.options counts.jobs [] c.in-Ok.after (0 + 1) [])
     (took.is [] 0 []) (nothing_printed c.args.options counts.jobs [] c.in-Ok.after (0 + 1))
 
 pub returns-in-Ok-clause-begun : goal.returns-in-Ok-clause-begun
 returns-in-Ok-clause-begun c =
-    last_begun c.args.options c.args.out.now.items c.args.counts c.args.state (c.args.lines_taken + 1) (c.args.lines_taken + 2) c.args.last.now c.after_line.new.out.items c.after_line.new.counts c.in-Ok.after
+    last_begun c.args.options c.args.out.now c.args.counts c.args.state (c.args.lines_taken + 1) (c.args.lines_taken + 2) c.args.last.now c.after_line.new.out c.after_line.new.counts c.in-Ok.after
     (sym c.is_empty.ensures ∙ c.if-is_empty.false) (omega arith) c.in-Ok.ensures.told
 
 pub returns-in-Ok-clause-ended : goal.returns-in-Ok-clause-ended
 returns-in-Ok-clause-ended c =
-    last_good c.args.options c.args.out.now.items c.args.counts c.args.state (c.args.lines_taken + 1) (c.args.lines_taken + 2) c.args.last.now c.after_line.new.out.items c.after_line.new.counts c.in-Ok.after
+    last_good c.args.options c.args.out.now c.args.counts c.args.state (c.args.lines_taken + 1) (c.args.lines_taken + 2) c.args.last.now c.after_line.new.out c.after_line.new.counts c.in-Ok.after
     (sym c.is_empty.ensures ∙ c.if-is_empty.false) (omega arith) c.in-Ok.ensures.told c.in-Ok.ensures.reads_back c.conclude-in-Ok.result c.conclude-in-Ok.ensures.ended
 
 pub returns-in-Ok-clause-refused : goal.returns-in-Ok-clause-refused
 returns-in-Ok-clause-refused c = λ n code same.
-    last_bad c.args.options c.args.out.now.items c.args.counts c.args.state (c.args.lines_taken + 1) (c.args.lines_taken + 2) c.args.last.now c.after_line.new.out.items c.after_line.new.counts c.in-Ok.after
+    last_bad c.args.options c.args.out.now c.args.counts c.args.state (c.args.lines_taken + 1) (c.args.lines_taken + 2) c.args.last.now c.after_line.new.out c.after_line.new.counts c.in-Ok.after
     (sym c.is_empty.ensures ∙ c.if-is_empty.false) (omega arith) c.in-Ok.ensures.told n code (c.conclude-in-Ok.ensures.refused n code same)
 
 pub returns-then-is_empty-clause-begun : goal.returns-then-is_empty-clause-begun
-returns-then-is_empty-clause-begun c = begun_last _ _ _ _ c.args.out.now.items c.args.counts c.args.out.now.items refl
+returns-then-is_empty-clause-begun c = begun_last _ _ _ _ c.args.out.now c.args.counts c.args.out.now refl
 
 pub returns-in-Err-clause-begun : goal.returns-in-Err-clause-begun
-returns-in-Err-clause-begun c = begun_last _ _ _ _ c.args.out.now.items c.args.counts c.after_line.new.out.items c.in-Err.ensures.nothing
+returns-in-Err-clause-begun c = begun_last _ _ _ _ c.args.out.now c.args.counts c.after_line.new.out c.in-Err.ensures.nothing
 
 pub returns-in-Err-clause-refused : goal.returns-in-Err-clause-refused
 returns-in-Err-clause-refused c = λ n code same.
-    stop_bad c.args.options c.args.out.now.items c.args.counts c.args.state (c.args.lines_taken + 1) c.args.last.now c.after_line.new.out.items (sym c.is_empty.ensures ∙ c.if-is_empty.false)
+    stop_bad c.args.options c.args.out.now c.args.counts c.args.state (c.args.lines_taken + 1) c.args.last.now c.after_line.new.out (sym c.is_empty.ensures ∙ c.if-is_empty.false)
     c.in-Err.ensures.nothing c.in-Err.stop c.in-Err.ensures.refused _ c.fault_of_stop.ensures.value n code same

@@ -13,19 +13,19 @@ pub returns-in-Nothing-clause-goes_on : goal.returns-in-Nothing-clause-goes_on
 returns-in-Nothing-clause-goes_on c =
     let asked = c.in_ok-read_request in
     let asks = asks_over c.args.options.slots.number c.args.monitor c.args.text.now asked.field-0 request.Nothing asked.ensures.answers asked.ensures.value c.in-Nothing.is in
-    unmoved c.args.options (stage.Stream c.args.monitor) (stage.Stream c.args.monitor) c.args.text.now c.args.out.now.items c.args.counts.now (λ n ls. sym (asks n ls))
+    unmoved c.args.options (stage.Stream c.args.monitor) (stage.Stream c.args.monitor) c.args.text.now c.args.out.now c.args.counts.now (λ n ls. sym (asks n ls))
 
 pub returns-in_ok-put_turns-in-Turns-clause-goes_on : goal.returns-in_ok-put_turns-in-Turns-clause-goes_on
 returns-in_ok-put_turns-in-Turns-clause-goes_on c =
     let asked = c.in_ok-read_request in
-    card_taken c.args.options (stage.Stream c.args.monitor) c.args.monitor c.put_turns.new.monitor c.args.text.now c.args.out.now.items c.put_turns.new.out.items c.args.counts.now c.args.counts.now
+    card_taken c.args.options (stage.Stream c.args.monitor) c.args.monitor c.put_turns.new.monitor c.args.text.now c.args.out.now c.put_turns.new.out c.args.counts.now c.args.counts.now
     (Gives c.in-Turns.turn) (asks_over c.args.options.slots.number c.args.monitor c.args.text.now asked.field-0 (request.Turns c.in-Turns.turn) asked.ensures.answers asked.ensures.value c.in-Turns.is)
     (c.in_ok-put_turns-in-Turns.ensures.served c.args.counts.now)
 
 pub returns-in_ok-put_drain-in-Drains-clause-goes_on : goal.returns-in_ok-put_drain-in-Drains-clause-goes_on
 returns-in_ok-put_drain-in-Drains-clause-goes_on c =
     let asked = c.in_ok-read_request in
-    card_taken c.args.options (stage.Stream c.args.monitor) c.args.monitor c.put_drain.new.monitor c.args.text.now c.args.out.now.items c.put_drain.new.out.items c.args.counts.now c.args.counts.now
+    card_taken c.args.options (stage.Stream c.args.monitor) c.args.monitor c.put_drain.new.monitor c.args.text.now c.args.out.now c.put_drain.new.out c.args.counts.now c.args.counts.now
     Drains (asks_over c.args.options.slots.number c.args.monitor c.args.text.now asked.field-0 request.Drains asked.ensures.answers asked.ensures.value c.in-Drains.is)
     (c.in_ok-put_drain-in-Drains.ensures.served c.args.counts.now)
 
@@ -33,18 +33,18 @@ pub returns-in-OpensList-clause-goes_on : goal.returns-in-OpensList-clause-goes_
 returns-in-OpensList-clause-goes_on c =
     let asked = c.in_ok-read_request in
     let asks = asks_over c.args.options.slots.number c.args.monitor c.args.text.now asked.field-0 (request.OpensList c.in-OpensList.account c.in-OpensList.name) asked.ensures.answers asked.ensures.value c.in-OpensList.is in
-    unmoved c.args.options (stage.Stream c.args.monitor) (stage.List c.args.monitor c.new-list.result) c.args.text.now c.args.out.now.items c.args.counts.now
+    unmoved c.args.options (stage.Stream c.args.monitor) (stage.List c.args.monitor c.new-list.result) c.args.text.now c.args.out.now c.args.counts.now
     (λ n ls. ap (λ (l : OpenList). over (world_of c.args.monitor) (stream_section (n + 1) (InList l) ls)) c.new-list.ensures ∙ sym (asks n ls))
 
 pub returns-in-OpensJob-clause-goes_on : goal.returns-in-OpensJob-clause-goes_on
 returns-in-OpensJob-clause-goes_on c =
     let asked = c.in_ok-read_request in
     let asks = asks_over c.args.options.slots.number c.args.monitor c.args.text.now asked.field-0 (request.OpensJob c.in-OpensJob.job) asked.ensures.answers asked.ensures.value c.in-OpensJob.is in
-    unmoved c.args.options (stage.Stream c.args.monitor) (stage.Job c.args.monitor c.in-OpensJob.job) c.args.text.now c.args.out.now.items c.args.counts.now (λ n ls. sym (asks n ls))
+    unmoved c.args.options (stage.Stream c.args.monitor) (stage.Job c.args.monitor c.in-OpensJob.job) c.args.text.now c.args.out.now c.args.counts.now (λ n ls. sym (asks n ls))
 
-pub returns-in_ok-put_closing-in-Stops-clause-goes_on : goal.returns-in_ok-put_closing-in-Stops-clause-goes_on
-returns-in_ok-put_closing-in-Stops-clause-goes_on c =
+pub returns-in_ok-sets-in-Stops-clause-goes_on : goal.returns-in_ok-sets-in-Stops-clause-goes_on
+returns-in_ok-sets-in-Stops-clause-goes_on c =
     let asked = c.in_ok-read_request in
-    stop_taken c.args.options (stage.Stream c.args.monitor) c.args.monitor c.put_closing.new.monitor c.args.text.now c.args.out.now.items c.put_closing.new.out.items c.args.counts.now
+    stop_taken c.args.options (stage.Stream c.args.monitor) c.args.monitor c.in_ok-sets-in-Stops.sets c.args.text.now c.args.out.now c.close.new.out c.args.counts.now
     (asks_over c.args.options.slots.number c.args.monitor c.args.text.now asked.field-0 request.Stops asked.ensures.answers asked.ensures.value c.in-Stops.is)
-    (c.in_ok-put_closing-in-Stops.ensures.stops c.args.counts.now.jobs)
+    (c.in_ok-sets-in-Stops.ensures.stops c.args.counts.now.jobs)

@@ -6,8 +6,8 @@ use Rattle.mon_feed.proofs.feed.DeckFeed.feed.Given as goal
 
 abbrev pub invariant-lines : goal.invariant-lines
 invariant-lines l = record {
-  told : TookUpTo l.fn.out.items l.fn.self l.fn.piece l.out.items l.self l.rest;
-  appends : Begins l.fn.out.items l.out.items;
+  told : TookUpTo l.fn.out l.fn.self l.fn.piece l.out l.self l.rest;
+  appends : Begins l.fn.out l.out;
   fed : l.self.fed + length l.rest ≡ l.fn.self.fed + length l.fn.piece;
   within : length l.rest ≤ length l.fn.piece;
   reads_back : IsReadBack l.fn.self.options.check l.fn.self.state → IsReadBack l.self.options.check l.self.state;

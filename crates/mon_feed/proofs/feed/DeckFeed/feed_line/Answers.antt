@@ -23,8 +23,8 @@ returns-else-contains-clause-told c = record {
       let before = c.args.self.now in
       let used = c.in-Ok-default-None.used in
       let taken = subst (λ (o : Option EndedLine). Takes before.line c.args.piece.now used (option_map text_of o) c.take_part.new.line) c.in-Ok-default-None.field-0-1-is c.in-Ok-default-None.ensures.taken in
-      told_none before.options before.state (before.lines_taken + 1) c.args.out.now.items before.counts before.line c.args.piece.now used c.take_part.new.line taken rest bytes
-      ∙ ap (λ (v : List ℕ). told rest c.args.out.now.items before (v ++ bytes)) (sym (all_taken c.args.piece.now used taken.0));
+      told_none before.options before.state (before.lines_taken + 1) c.args.out.now before.counts before.line c.args.piece.now used c.take_part.new.line taken rest bytes
+      ∙ ap (λ (v : List ℕ). told rest c.args.out.now before (v ++ bytes)) (sym (all_taken c.args.piece.now used taken.0));
 }
 
 pub returns-else-contains-clause-counted : goal.returns-else-contains-clause-counted
@@ -39,7 +39,7 @@ pub returns-then-contains-clause-refused : goal.returns-then-contains-clause-ref
 returns-then-contains-clause-refused c = λ n code same rest bytes.
     let after = c.refuse.new.self in
     let before = c.args.self.now in
-    let out = c.args.out.now.items in
+    let out = c.args.out.now in
     let piece = c.args.piece.now in
     let used = c.in-Ok-default-None.used in
     let taken = subst (λ (o : Option EndedLine). Takes before.line piece used (option_map text_of o) c.take_part.new.line) c.in-Ok-default-None.field-0-1-is c.in-Ok-default-None.ensures.taken in
@@ -61,8 +61,8 @@ pub returns-in-Ok-clause-told : goal.returns-in-Ok-clause-told
 returns-in-Ok-clause-told c =
     let before = c.args.self.now in
     let after = c.take_line.new.self in
-    let out = c.args.out.now.items in
-    let out' = c.take_line.new.out.items in
+    let out = c.args.out.now in
+    let out' = c.take_line.new.out in
     let piece = c.args.piece.now in
     let used = c.in-Ok-default-Some.used in
     let line = text_of c.in-Ok-default-Some.line in
@@ -83,8 +83,8 @@ pub returns-in-Err-take_line-clause-refused : goal.returns-in-Err-take_line-clau
 returns-in-Err-take_line-clause-refused c = λ n code same rest bytes.
     let before = c.args.self.now in
     let after = c.take_line.new.self in
-    let out = c.args.out.now.items in
-    let out' = c.take_line.new.out.items in
+    let out = c.args.out.now in
+    let out' = c.take_line.new.out in
     let piece = c.args.piece.now in
     let used = c.in-Ok-default-Some.used in
     let taken = subst (λ (o : Option EndedLine). Takes before.line piece used (option_map text_of o) c.take_part.new.line) c.in-Ok-default-Some.field-0-1-is c.in-Ok-default-Some.ensures.taken in
@@ -97,12 +97,12 @@ returns-in-Err-take_line-clause-refused c = λ n code same rest bytes.
     bytes
 
 pub returns-in-Ok-clause-begun : goal.returns-in-Ok-clause-begun
-returns-in-Ok-clause-begun c = begun_by c.args.out.now.items c.take_line.new.out.items c.args.self.now _ c.args.piece.now c.in-Ok-default-Some.used (returns-in-Ok-clause-told c)
+returns-in-Ok-clause-begun c = begun_by c.args.out.now c.take_line.new.out c.args.self.now _ c.args.piece.now c.in-Ok-default-Some.used (returns-in-Ok-clause-told c)
 
 pub returns-in-Err-take_line-clause-begun : goal.returns-in-Err-take_line-clause-begun
 returns-in-Err-take_line-clause-begun c =
-    let same : c.take_line.new.out.items ≡ c.args.out.now.items = search rules in
-    begun_same c.args.out.now.items c.take_line.new.out.items c.args.self.now c.args.piece.now same
+    let same : c.take_line.new.out ≡ c.args.out.now = search rules in
+    begun_same c.args.out.now c.take_line.new.out c.args.self.now c.args.piece.now same
 
 pub returns-in-Stopped-clause-told : goal.returns-in-Stopped-clause-told
-returns-in-Stopped-clause-told c = took_stopped c.args.out.now.items c.args.self.now _ _ c.in-Stopped.field-0 c.in-Stopped.is refl refl
+returns-in-Stopped-clause-told c = took_stopped c.args.out.now c.args.self.now _ _ c.in-Stopped.field-0 c.in-Stopped.is refl refl

@@ -9,11 +9,11 @@ returns-in-Ok-clause-appends c =
     let counts = c.take_line-answer.new.counts in
     let after = c.take_line-answer.new.self in
     let took = c.in-Ok.ensures.told in
-    only_appends c.args.out.now.items c.take_line-answer.new.out.items before.counts counts
+    only_appends c.args.out.now c.take_line-answer.new.out before.counts counts
     (outcome before.options before.counts.jobs (took.marks ++ []) before.state 0 (c.args.text.now ∷ [])) (outcome before.options counts.jobs [] after (0 + 1) [])
     (took.is [] 0 []) (nothing_printed before.options counts.jobs [] after (0 + 1))
 
 pub returns-in-Err-Refused-clause-appends : goal.returns-in-Err-Refused-clause-appends
 returns-in-Err-Refused-clause-appends c =
-    let same : c.take_line-answer.new.out.items ≡ c.args.out.now.items = search rules in
-    same_begins c.args.out.now.items c.take_line-answer.new.out.items same
+    let same : c.take_line-answer.new.out ≡ c.args.out.now = search rules in
+    same_begins c.args.out.now c.take_line-answer.new.out same

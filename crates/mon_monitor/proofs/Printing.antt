@@ -1,0 +1,13 @@
+-- A text and the pieces behind it are put.
+use Rattle.std.proofs.Common.{◌≡◌, ℕ, List, ◌++◌, ap, ◌∙◌}
+use Rattle.mon_monitor.specs.declared.printed.Piece.{Piece}
+use Rattle.mon_device.specs.Putting.{Standing, Puts}
+use Rattle.mon_monitor.specs.Printed.{pieces_text}
+use Rattle.mon_device.proofs.Putting.{puts_then, puts_same}
+
+pub printed_put : (a b c : Standing) (now text text' : List ℕ) (pieces pieces' : List Piece) → text ++ pieces_text pieces ≡ now → text' ≡ text → pieces' ≡ pieces
+    → Puts a b text' → Puts b c (pieces_text pieces') → Puts a c now
+printed_put a b c now text text' pieces pieces' is same alike first second =
+    puts_same a c (text' ++ pieces_text pieces') now
+    (ap (λ (t : List ℕ). t ++ pieces_text pieces') same ∙ ap (λ (l : List Piece). text ++ pieces_text l) alike ∙ is)
+    (puts_then a b c text' (pieces_text pieces') first second)
