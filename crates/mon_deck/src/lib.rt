@@ -2,6 +2,7 @@
 #![tactic(auto)]
 
 pub mod laws;
+mod output;
 pub mod run;
 
 pub use mon_cards::Code;

@@ -14,13 +14,11 @@ ghost use Rattle.mon_deck.specs.inner.Writing.{holds, HasGrown, Serves, Refuses,
 ghost use Rattle.mon_deck.specs.Runs.{deck_ending, counts_of, HoldsBeginning, HasWritten, HasRun, HasBegun, HasPrinted, HasBrokenOff};
 ghost use Rattle.mon_deck.specs.Faults.{status_of, fault_line};
 
-use mon_device::{DeckDevices, Failed, MOST_READS, READ_SIZE, write_all};
+use crate::output::{Output, write_out};
+use mon_device::{DeckDevices, Failed, MOST_READS, READ_SIZE, WRITE_SIZE};
 use mon_feed::{Counts, DeckFeed, Options, RunError};
 use mon_text::put_number;
 use std::alloc::{AllocError, Global};
-
-/// How many bytes of output are gathered before they are written.
-const WRITE_SIZE: usize = 65_536;
 
 /// Runs a deck: reads all of it, serves its commands and runs its jobs as its cards say, and writes the printout of each,
 /// as it is served or has ended, and then the catalogue as it stands. Where the deck is only to be checked, none of this is
@@ -73,7 +71,7 @@ pub fn run_deck<D: DeckDevices>(
     ensures write_fault { result ≡ Err RunError.WriteFault → D.write_failed devices.new ≡ true }
 {
     let mut feed = DeckFeed::new(alloc, options);
-    let mut out = Vec::new(alloc);
+    let mut out = Output::new(alloc)?;
     match feed_all(alloc, devices, &mut feed, &mut out) {
         Ok(()) => finish(alloc, feed, &mut out, devices),
         Err(error) => Err(error),
@@ -85,18 +83,18 @@ fn feed_all<D: DeckDevices>(
     alloc: Global,
     devices: &mut D,
     feed: &mut DeckFeed,
-    out: &mut Vec<u8>,
+    out: &mut Output,
 ) -> Result<(), RunError>
     requires sound { (D.read_failed devices.old ≡ false) × (D.write_failed devices.old ≡ false) }
     requires start { feed.old.fed ≡ 0 }
     requires reading { is_reading feed.old.state ≡ true }
-    requires empty { out.old.items ≡ [] }
+    requires empty { out.old.printed ≡ [] }
     ensures runs { OnOk result ((given : List ℕ) × Runs (D.remaining devices.old) (D.remaining devices.new) (D.written devices.old) (D.written devices.new) feed.old feed.new given) }
     ensures begun { OnErr result ((given : List ℕ) × Begun (D.remaining devices.old) (D.remaining devices.new) (D.written devices.old) (D.written devices.new) feed.old given) }
     ensures due { result ≡ Err RunError.ReadFault → (given : List ℕ) × Runs (D.remaining devices.old) (D.remaining devices.new) (D.written devices.old) (D.written devices.new) feed.old feed.new given }
     ensures short { result ≡ Err RunError.Memory → (given : List ℕ) × Broke (D.remaining devices.old) (D.remaining devices.new) (D.written devices.old) (D.written devices.new) feed.old given }
     ensures at_end { OnOk result (IsAtEnd (D.remaining devices.new)) }
-    ensures empty { OnOk result (out.new.items ≡ []) }
+    ensures empty { OnOk result (out.new.printed ≡ []) }
     ensures reads_back { IsReadBack feed.old.options.check feed.old.state → OnOk result (IsReadBack feed.new.options.check feed.new.state) }
     ensures options { feed.new.options ≡ feed.old.options }
     ensures refused { (n : ℕ) (code : AnyCode) → result ≡ Err (RunError.DeckRefused n code) →
@@ -133,19 +131,19 @@ fn serve<D: DeckDevices>(
     alloc: Global,
     feed: &mut DeckFeed,
     piece: &[u8],
-    out: &mut Vec<u8>,
+    out: &mut Output,
     devices: &mut D,
 ) -> Result<(), RunError>
     requires sound { (D.read_failed devices.old ≡ false) × (D.write_failed devices.old ≡ false) }
     requires few { feed.old.fed + length piece.now < 2 ^ 63 }
     requires reading { error_at feed.old.state ≡ None }
-    requires empty { out.old.items ≡ [] }
+    requires empty { out.old.printed ≡ [] }
     ensures served { OnOk result (Stands (D.written devices.old) (D.written devices.new) [] feed.old feed.new piece.now) }
     ensures refused { (n : ℕ) (code : AnyCode) → result ≡ Err (RunError.DeckRefused n code) →
         Refuses (D.written devices.old) (D.written devices.new) [] feed.old piece.now n code }
     ensures begun { Starts (D.written devices.old) (D.written devices.new) [] feed.old piece.now }
     ensures short { result ≡ Err RunError.Memory → BrokeOff (D.written devices.old) (D.written devices.new) feed.old piece.now }
-    ensures empty { OnOk result (out.new.items ≡ []) }
+    ensures empty { OnOk result (out.new.printed ≡ []) }
     ensures fed { OnOk result (feed.new.fed ≡ feed.old.fed + length piece.now) }
     ensures reads_back { IsReadBack feed.old.options.check feed.old.state → OnOk result (IsReadBack feed.new.options.check feed.new.state) }
     ensures options { feed.new.options ≡ feed.old.options }
@@ -171,7 +169,7 @@ fn serve_line<D: DeckDevices>(
     alloc: Global,
     feed: &mut DeckFeed,
     piece: &[u8],
-    out: &mut Vec<u8>,
+    out: &mut Output,
     devices: &mut D,
 ) -> Result<usize, RunError>
     requires sound { (D.read_failed devices.old ≡ false) × (D.write_failed devices.old ≡ false) }
@@ -179,11 +177,11 @@ fn serve_line<D: DeckDevices>(
     requires few { feed.old.fed + length piece.now < 2 ^ 63 }
     requires reading { error_at feed.old.state ≡ None }
     ensures used { IfOk result (λ used. (0 < used) × (used ≤ length piece.now) × (feed.new.fed ≡ feed.old.fed + used)) }
-    ensures served { IfOk result (λ used. Serves (D.written devices.old) (D.written devices.new) out.old.items feed.old (take used piece.now) out.new.items feed.new) }
+    ensures served { IfOk result (λ used. Serves (D.written devices.old) (D.written devices.new) out.old.printed feed.old (take used piece.now) out.new.printed feed.new) }
     ensures refused { (n : ℕ) (code : AnyCode) → result ≡ Err (RunError.DeckRefused n code) →
-        Refuses (D.written devices.old) (D.written devices.new) out.old.items feed.old piece.now n code }
-    ensures begun { Starts (D.written devices.old) (D.written devices.new) out.old.items feed.old piece.now }
-    ensures short { result ≡ Err RunError.Memory → (is_reading feed.old.state ≡ true) × (D.written devices.new ≡ holding (D.written devices.old) out.old.items) }
+        Refuses (D.written devices.old) (D.written devices.new) out.old.printed feed.old piece.now n code }
+    ensures begun { Starts (D.written devices.old) (D.written devices.new) out.old.printed feed.old piece.now }
+    ensures short { result ≡ Err RunError.Memory → (is_reading feed.old.state ≡ true) × (D.written devices.new ≡ holding (D.written devices.old) out.old.printed) }
     ensures counted { IfOk result (λ used. is_reading feed.new.state ≡ true → (is_reading feed.old.state ≡ true) × (feed.old.lines_taken + lines_ended (take used piece.now) ≤ feed.new.lines_taken)) }
     ensures reading { OnOk result (error_at feed.new.state ≡ None) }
     ensures grown { HasGrown (D.written devices.old) (D.written devices.new) }
@@ -195,12 +193,12 @@ fn serve_line<D: DeckDevices>(
     ensures read_fault { result ≡ Err RunError.ReadFault → ⊥ }
     ensures write_fault { result ≡ Err RunError.WriteFault → D.write_failed devices.new ≡ true }
 {
-    match feed.feed_line(alloc, piece, out) {
+    match feed.feed_line(alloc, piece, &mut out.printed) {
         Ok(used) => match flush_large(out, devices) {
             Ok(()) => Ok(used),
             Err(_) => Err(RunError::WriteFault),
         },
-        Err(error) => match write_all(devices, out) {
+        Err(error) => match write_out(out, devices) {
             Ok(()) => Err(error),
             Err(_) => Err(RunError::WriteFault),
         },
@@ -208,29 +206,29 @@ fn serve_line<D: DeckDevices>(
 }
 
 // Writes what is gathered, if it is much.
-fn flush_large<D: DeckDevices>(out: &mut Vec<u8>, devices: &mut D) -> Result<(), Failed>
+fn flush_large<D: DeckDevices>(out: &mut Output, devices: &mut D) -> Result<(), Failed>
     requires sound { (D.read_failed devices.old ≡ false) × (D.write_failed devices.old ≡ false) }
-    ensures put { OnOk result (holding (D.written devices.new) out.new.items ≡ holding (D.written devices.old) out.old.items) }
-    ensures begun { HoldsBeginning (D.written devices.old) (D.written devices.new) out.old.items }
+    ensures put { OnOk result (holding (D.written devices.new) out.new.printed ≡ holding (D.written devices.old) out.old.printed) }
+    ensures begun { HoldsBeginning (D.written devices.old) (D.written devices.new) out.old.printed }
     ensures failed { D.write_failed devices.new ≡ is_err result }
     ensures apart { (D.remaining devices.new ≡ D.remaining devices.old) × (D.reads devices.new ≡ D.reads devices.old) × (D.read_failed devices.new ≡ false) }
 {
-    if out.len() < WRITE_SIZE {
-        return Ok(());
+    if out.printed.is_more_than(WRITE_SIZE) {
+        return flush(out, devices);
     }
-    flush(out, devices)
+    Ok(())
 }
 
 // The reader is at its end.
 fn finish<D: DeckDevices>(
     alloc: Global,
     feed: DeckFeed,
-    out: &mut Vec<u8>,
+    out: &mut Output,
     devices: &mut D,
 ) -> Result<Counts, RunError>
     requires sound { (D.read_failed devices.old ≡ false) × (D.write_failed devices.old ≡ false) }
     requires reading { error_at feed.state ≡ None }
-    requires empty { out.old.items ≡ [] }
+    requires empty { out.old.printed ≡ [] }
     ensures ended { IfOk result (λ counts. (marks : Marks) × (sets : Sets)
         × (holds (D.written devices.new) (record { written = []; conclusion = Good counts sets }) ≡ holds (D.written devices.old) (outcome_from marks feed []))
         × (IsReadBack feed.options.check feed.state → feed.options.check ≡ false → ReadsBack sets)) }
@@ -243,8 +241,8 @@ fn finish<D: DeckDevices>(
     ensures read_fault { result ≡ Err RunError.ReadFault → ⊥ }
     ensures write_fault { result ≡ Err RunError.WriteFault → D.write_failed devices.new ≡ true }
 {
-    let answer = feed.finish(alloc, out);
-    match write_all(devices, out) {
+    let answer = feed.finish(alloc, &mut out.printed);
+    match write_out(out, devices) {
         Ok(()) => answer,
         Err(_) => Err(RunError::WriteFault),
     }
@@ -252,17 +250,17 @@ fn finish<D: DeckDevices>(
 
 // Writes what is gathered.
 #[tactic(auto, using(mon_device::proofs::Holding::holds))]
-fn flush<D: DeckDevices>(out: &mut Vec<u8>, devices: &mut D) -> Result<(), Failed>
+fn flush<D: DeckDevices>(out: &mut Output, devices: &mut D) -> Result<(), Failed>
     requires sound { (D.read_failed devices.old ≡ false) × (D.write_failed devices.old ≡ false) }
-    ensures written { OnOk result (D.written devices.new ≡ holding (D.written devices.old) out.old.items) }
-    ensures put { OnOk result (holding (D.written devices.new) out.new.items ≡ holding (D.written devices.old) out.old.items) }
-    ensures begun { HoldsBeginning (D.written devices.old) (D.written devices.new) out.old.items }
-    ensures empty { OnOk result (out.new.items ≡ []) }
+    ensures written { OnOk result (D.written devices.new ≡ holding (D.written devices.old) out.old.printed) }
+    ensures put { OnOk result (holding (D.written devices.new) out.new.printed ≡ holding (D.written devices.old) out.old.printed) }
+    ensures begun { HoldsBeginning (D.written devices.old) (D.written devices.new) out.old.printed }
+    ensures empty { OnOk result (out.new.printed ≡ []) }
     ensures failed { D.write_failed devices.new ≡ is_err result }
     ensures apart { (D.remaining devices.new ≡ D.remaining devices.old) × (D.reads devices.new ≡ D.reads devices.old) × (D.read_failed devices.new ≡ false) }
 {
-    write_all(devices, out)?;
-    out.clear();
+    write_out(out, devices)?;
+    out.printed.clear();
     Ok(())
 }
 

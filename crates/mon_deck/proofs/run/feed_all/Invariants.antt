@@ -8,7 +8,7 @@ use Rattle.mon_deck.proofs.run.feed_all.Given as goal
 abbrev pub invariant-loop-read : goal.invariant-loop-read
 invariant-loop-read g l = record {
   buffer : vec_len l.buffer ≡ 65536;
-  empty : l.out.items ≡ [];
+  empty : l.out.printed ≡ [];
   runs : (given : List ℕ) × Runs (g.D.DeckDevices.remaining l.fn.devices) (g.D.DeckDevices.remaining l.devices) (g.D.DeckDevices.written l.fn.devices) (g.D.DeckDevices.written l.devices) l.fn.feed l.feed given;
   reads : HasRead l._read (g.D.DeckDevices.reads l.fn.devices) (g.D.DeckDevices.reads l.devices);
   few : l.feed.fed ≤ l._read * 65536;

@@ -1,8 +1,8 @@
-use Rattle.std.proofs.Common.{rules, ◌≡◌, ◌∙◌, sym, subst, List, ℕ, Option}
+use Rattle.std.proofs.Common.{rules, ◌≡◌, ◌∙◌, sym, subst, [], List, ℕ, Option}
 use Rattle.mon_cards.specs.Decks.{Stopped, Refused}
 use Rattle.mon_deck.specs.Runs.{deck_ending, HasWritten, HasRun, HasBegun, HasBrokenOff}
 use Rattle.mon_feed.proofs.Telling.{refused_so}
-use Rattle.mon_deck.proofs.Running.{run_good, run_bad, met_bad, on_good, counts_good, if_some, IsGood, broken, finished, fault_so, memory_so, broke_behind}
+use Rattle.mon_deck.proofs.Running.{run_good, run_bad, met_bad, on_good, counts_good, if_some, IsGood, broken, finished, fault_so, memory_so, broke_behind, begun_at_start, broke_at_start}
 use Rattle.mon_deck.proofs.Due.{due, broken_off}
 use Rattle.mon_deck.proofs.run.run_deck.Goals as goal
 
@@ -98,4 +98,12 @@ returns-in-Err-clause-due g c = λ fault.
 pub returns-in-Err-clause-short : goal.returns-in-Err-clause-short
 returns-in-Err-clause-short g c = λ short.
     let b = c.feed_all.ensures.short (c.in-Err.is ∙ memory_so c.in-Err.error short) in
+    broken_off c.args.options _ _ _ _ c.new-feed.result b.0 c.new-feed.ensures.start b.1
+
+pub returns-in_err-out-clause-begun : goal.returns-in_err-out-clause-begun
+returns-in_err-out-clause-begun g c = broken c.args.options _ _ _ _ c.new-feed.result c.new-feed.ensures.start [] (begun_at_start _ _ _)
+
+pub returns-in_err-out-clause-short : goal.returns-in_err-out-clause-short
+returns-in_err-out-clause-short g c = λ short.
+    let b = broke_at_start (g.D.DeckDevices.remaining c.args.devices.now) (g.D.DeckDevices.written c.args.devices.now) c.new-feed.result (search rules) in
     broken_off c.args.options _ _ _ _ c.new-feed.result b.0 c.new-feed.ensures.start b.1

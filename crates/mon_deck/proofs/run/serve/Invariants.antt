@@ -7,7 +7,7 @@ use Rattle.mon_deck.proofs.run.serve.Given as goal
 
 abbrev pub invariant-lines : goal.invariant-lines
 invariant-lines g l = record {
-  far : Far (g.D.DeckDevices.written l.fn.devices) (g.D.DeckDevices.written l.devices) l.out.items l.fn.feed l.feed l.fn.piece l.rest;
+  far : Far (g.D.DeckDevices.written l.fn.devices) (g.D.DeckDevices.written l.devices) l.out.printed l.fn.feed l.feed l.fn.piece l.rest;
   grown : HasGrown (g.D.DeckDevices.written l.fn.devices) (g.D.DeckDevices.written l.devices);
   fed : l.feed.fed + length l.rest ≡ l.fn.feed.fed + length l.fn.piece;
   reads_back : IsReadBack l.fn.feed.options.check l.fn.feed.state → IsReadBack l.feed.options.check l.feed.state;
