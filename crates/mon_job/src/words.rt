@@ -1,6 +1,7 @@
 //! The words of printouts, put to a sink.
 ghost use Rattle.std.specs.Prelude.{◌≡◌, []};
 ghost use Rattle.std.specs.Option.{unwrap_or};
+ghost use Rattle.mon_acl.specs.Texts.{tag_word};
 ghost use Rattle.mon_command.specs.Printouts.{word, number, stored_line, entry_words};
 ghost use Rattle.mon_command.specs.Replies.{reason_text};
 ghost use Rattle.mon_device.specs.Putting.{Puts};
@@ -63,7 +64,7 @@ fn print_reason_text<S: Sink>(reason: Reason, sink: &mut S)
 fn print_entry<S: Sink>(tag: Tag, name: Option<Name>, sink: &mut S)
     ensures { Puts (S.standing sink.old) (S.standing sink.new) (entry_words tag name) }
 {
-    sink.put(tag.word());
+    sink.put(tag_word(tag));
     sink.put(b":");
     print_qualifier(name, sink);
     sink.put(b":");
@@ -76,5 +77,17 @@ fn print_qualifier<S: Sink>(name: Option<Name>, sink: &mut S)
     match name {
         Some(name) => sink.put(name.as_bytes()),
         None => {}
+    }
+}
+
+// The word that the type of an entry is printed with.
+fn tag_word(tag: Tag) -> &'static [u8]
+    ensures { result.now ≡ tag_word tag }
+{
+    match tag {
+        Tag::UserObj | Tag::User => b"user",
+        Tag::GroupObj | Tag::Group => b"group",
+        Tag::Mask => b"mask",
+        Tag::Other => b"other",
     }
 }
