@@ -106,7 +106,7 @@ def own_sets(megabytes):
     sets = [line for n in range(20) for line in ['$SET HOG%02d hog crew APPEND 0' % n, 'user::rwx,group::---,other::---']]
     ties = ['$UNIT %d HOG%02d' % (10 + n, n) for n in range(20)]
     program = ["  S = DUPL('x',1024)", 'N N = LT(N,20) N + 1 :F(END)', "  OUTPUT('W',9 + N)", 'L W = S :S(L)F(N)']
-    return sets, job(program, ties=ties), share(megabytes, 1100), []
+    return sets, job(program, ties=ties), share(megabytes, 1100), ['$LIST hog HOG00']
 
 
 def one_set_listed(megabytes):
@@ -208,7 +208,6 @@ LIMITS = 300, 1024
 LARGE = 4096
 FILLING = 'short_lines', 'notes_of_sets', 'own_sets', 'strings'    # these are run at the large limit too
 SLOW = 'names', 'variables'                                        # and these at the smallest alone
-LISTED = 'one_set_listed',                                         # and this not there, since a listing is gathered whole
 # how many statements a hog begins before it prints, and how many lines or notes each further one makes
 PRINTED = {'short_lines': (2, 1), 'long_texts': (2, 758), 'notes_of_units': (1, 1), 'notes_of_sets': (1, 1)}
 
@@ -346,7 +345,7 @@ def cases(words):
         for limit in [int(megabytes)] if megabytes else LIMITS:
             yield name, limit
     if not words:
-        yield from ((name, limit) for limit in LIMITS for name in HOGS if name not in (LISTED if limit == LIMITS[0] else SLOW))
+        yield from ((name, limit) for limit in LIMITS for name in HOGS if limit == LIMITS[0] or name not in SLOW)
         yield from ((name, LARGE) for name in FILLING)
 
 
