@@ -10,4 +10,4 @@ abbrev pub world : List Account → Floor → World
 world accounts floor = record { accounts = accounts; floor = floor }
 
 abbrev pub world_of : Monitor → World
-world_of m = world m.accounts (floor m.catalogue (slots_in m.slots))
+world_of m = world m.accounts (floor m.catalogue.value (slots_in m.slots))

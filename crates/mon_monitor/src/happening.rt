@@ -5,6 +5,7 @@ ghost use Rattle.std.specs.Prelude.{◌≡◌, ◌++◌, IfOk, OnOk, OnErr};
 ghost use Rattle.mon_command.specs.Commanded.{commanded};
 ghost use Rattle.mon_monitor.specs.Told.{world_of};
 ghost use Rattle.mon_monitor.specs.Worlds.{with_sets};
+ghost use Rattle.mon_monitor.specs.Printed.{listing};
 ghost use Rattle.mon_monitor.specs.Played.{of_loading};
 ghost use Rattle.mon_monitor.specs.Events.{Serve, Load, Give, Drain};
 ghost use Rattle.mon_monitor.specs.Happening.{Does, Happens, HappensUnmarked, Closes};
@@ -14,7 +15,7 @@ use crate::printed::{Piece, Printed};
 use mon_catalogue::Catalogue;
 use mon_command::Command;
 use mon_job::{JobDeck, put_refusal};
-use mon_text::Stop;
+use mon_text::{Name, Stop};
 use std::alloc::{AllocError, Global};
 use std::rc::Rc;
 
@@ -37,8 +38,41 @@ impl Monitor {
         Ok(())
     }
 
-    // Serves a command and appends its printout: to the text, where no pieces stand behind it.
+    // Serves a command and appends its printout. Records that are many are shown from where they stand.
     fn print_command(
+        &mut self,
+        alloc: Global,
+        command: Command,
+        out: &mut Printed,
+    ) -> Result<(), AllocError>
+        ensures printed { OnOk result (out.new ≡ out.old ++ (commanded (world_of self.old).accounts (world_of self.old).floor.sets command).printout) }
+        ensures world { OnOk result (world_of self.new ≡ with_sets (world_of self.old) (commanded (world_of self.old).accounts (world_of self.old).floor.sets command).sets) }
+        ensures nothing { OnErr result (out.new ≡ out.old) }
+    {
+        if let Command::List { account, name } = &command {
+            if self.lists_many(account, name) {
+                return self.print_listing(account, name, out);
+            }
+        }
+        self.print_other(alloc, command, out)
+    }
+
+    // Appends the printout of a command that lists the records of a data set.
+    fn print_listing(
+        &self,
+        account: &Name,
+        name: &Name,
+        out: &mut Printed,
+    ) -> Result<(), AllocError>
+        ensures printed { OnOk result (out.new ≡ out.old ++ listing account.now name.now (world_of self.now).floor.sets) }
+        ensures nothing { OnErr result (out.new ≡ out.old) }
+    {
+        let sets = self.share()?;
+        out.put_piece(Piece::Listed(sets, account.copy(), name.copy()))
+    }
+
+    // Serves a command and appends its printout as a text, behind pieces as one of them.
+    fn print_other(
         &mut self,
         alloc: Global,
         command: Command,
@@ -109,7 +143,8 @@ impl Monitor {
         ensures happens { OnOk result (Happens (Give slot count) (world_of self.old) out.old (world_of self.new) out.new) }
         ensures nothing { OnErr result (out.new ≡ out.old) }
     {
-        match self.turns_of(alloc, slot, count) {
+        let end = self.turns_of(alloc, slot, count)?;
+        match end {
             Some(end) => out.put_piece(Piece::End(end)),
             None => Ok(()),
         }
@@ -140,7 +175,7 @@ impl Monitor {
     {
         let mut monitor = self;
         let ends = monitor.drain(alloc)?;
-        let sets = monitor.into_shared(alloc)?;
+        let sets = monitor.into_sets();
         let printed = sets.clone()?;
         out.put_ends_and_sets(ends, printed)?;
         Ok(sets)

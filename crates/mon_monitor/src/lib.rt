@@ -9,6 +9,7 @@
 pub mod happening;
 pub mod isolation;
 pub mod laws;
+mod listing;
 pub mod monitor;
 pub mod printed;
 

@@ -5,9 +5,11 @@ ghost use Rattle.mon_device.specs.Putting.{Puts};
 ghost use Rattle.mon_job.specs.Printouts.{printout};
 ghost use Rattle.mon_monitor.specs.Printed.{given_back, piece_text, pieces_text};
 
+use crate::listing::print_listing;
 use mon_catalogue::Catalogue;
 use mon_device::Sink;
 use mon_job::{JobEnd, print_end};
+use mon_text::Name;
 use std::alloc::{AllocError, Global};
 use std::marker::Model;
 use std::rc::Rc;
@@ -24,6 +26,8 @@ pub(crate) enum Piece {
     End(JobEnd),
     // The printouts of jobs that have ended, in order.
     Ends(Vec<JobEnd>),
+    // The printout of a command that lists the records of a data set for an account.
+    Listed(Rc<Catalogue>, Name, Name),
     // The data sets, given back.
     Sets(Rc<Catalogue>),
 }
@@ -186,6 +190,7 @@ fn print_piece<S: Sink>(piece: &Piece, sink: &mut S)
         Piece::Text(text) => sink.put(text),
         Piece::End(end) => print_end(end, sink),
         Piece::Ends(ends) => print_ends(ends, sink),
+        Piece::Listed(sets, account, name) => print_listing(sets, account, name, sink),
         Piece::Sets(sets) => print_sets(sets, sink),
     }
 }

@@ -250,18 +250,18 @@ fn is_printed(alloc: Global, end: &JobEnd, printout: &[u8]) -> bool {
 }
 
 fn goes_on(alloc: Global, monitor: &mut Monitor, slot: u8) -> bool {
-    matches!(monitor.turn(alloc, slot), Turned::Goes)
+    matches!(monitor.turn(alloc, slot), Ok(Turned::Goes))
 }
 
 fn ends(alloc: Global, monitor: &mut Monitor, slot: u8, printout: &[u8]) -> bool {
     match monitor.turn(alloc, slot) {
-        Turned::Ended(end) => is_printed(alloc, &end, printout),
+        Ok(Turned::Ended(end)) => is_printed(alloc, &end, printout),
         _ => false,
     }
 }
 
 fn is_empty(alloc: Global, monitor: &mut Monitor, slot: u8) -> bool {
-    matches!(monitor.turn(alloc, slot), Turned::Empty)
+    matches!(monitor.turn(alloc, slot), Ok(Turned::Empty))
 }
 
 // Both slots have a job, until the second is given turns to its end.
