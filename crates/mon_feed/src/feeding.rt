@@ -91,6 +91,7 @@ impl DeckFeed {
         let mut rest = piece;
         'lines: while !rest.is_empty() {
             let used = self.feed_line(alloc, rest, out)?;
+            out.let_go();
             rest = &rest[used..];
         }
         Ok(())

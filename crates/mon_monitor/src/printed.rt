@@ -7,7 +7,7 @@ ghost use Rattle.mon_monitor.specs.Printed.{given_back, piece_text, pieces_text}
 
 use crate::listing::print_listing;
 use mon_catalogue::Catalogue;
-use mon_device::Sink;
+use mon_device::{Sink, TextSink};
 use mon_job::{JobEnd, print_end};
 use mon_text::Name;
 use std::alloc::{AllocError, Global};
@@ -164,6 +164,38 @@ impl Printed {
 }
 
 impl Printed {
+    /// Makes a text of it where a listing shows data sets, and there is memory for that: so they may change. Where what is printed is
+    /// written before more is, there is no need for it.
+    pub fn let_go(&mut self)
+        ensures { self.new ≡ self.old }
+    {
+        if self.shows_sets() {
+            let mut text = Vec::new(*self.text.allocator());
+            if self.put_text(&mut text).is_ok() {
+                self.text = text;
+                self.rest.clear();
+            }
+        }
+    }
+
+    fn shows_sets(&self) -> bool {
+        for piece in &self.rest {
+            if let Piece::Listed(..) = piece {
+                return true;
+            }
+        }
+        false
+    }
+
+    // Appends it to a text.
+    fn put_text(&self, out: &mut Vec<u8>) -> Result<(), AllocError>
+        ensures { OnOk result (out.new.items ≡ out.old.items ++ self.now) }
+    {
+        let mut sink = TextSink::new(out);
+        self.print(&mut sink);
+        sink.settle()
+    }
+
     /// Puts it to a sink. It takes no memory.
     pub fn print<S: Sink>(&self, sink: &mut S)
         ensures { Puts (S.standing sink.old) (S.standing sink.new) self.now }

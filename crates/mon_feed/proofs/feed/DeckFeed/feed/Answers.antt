@@ -39,9 +39,10 @@ lines-preserved c =
     let less : length (drop used rest) ≤ length c.args.piece.now = omega (arith, length-drop used rest, c.lines.invariant.within) in
     record {
       told =
-          took_more c.args.out.now c.args.self.now c.args.piece.now c.lines.out c.lines.self rest c.lines.invariant.told
-          c.feed_line.new.out feed used _ (take_rest rest used) c.in_ok-used.ensures.told;
-      appends = begins_further c.args.out.now c.lines.out c.feed_line.new.out c.lines.invariant.appends c.feed_line.ensures.appends;
+          rw (c.let_go.ensures)
+          (took_more c.args.out.now c.args.self.now c.args.piece.now c.lines.out c.lines.self rest c.lines.invariant.told
+          c.feed_line.new.out feed used _ (take_rest rest used) c.in_ok-used.ensures.told);
+      appends = rw (c.let_go.ensures) (begins_further c.args.out.now c.lines.out c.feed_line.new.out c.lines.invariant.appends c.feed_line.ensures.appends);
       fed = ap (λ (v : List ℕ). feed.fed + length v) (take_rest rest used) ∙ there;
       within = rw (take_rest rest used) less;
       reads_back = λ back. c.in_ok-used.ensures.reads_back (c.lines.invariant.reads_back back);
