@@ -4,6 +4,8 @@ ghost use Rattle.std.specs.Prelude.{◌≡◌, ◌<◌, false};
 use mon_deck::{
     Code, Counts, DeckFeed, Devices, MemReader, MemWriter, Options, RunError, run_deck,
 };
+use mon_device::TextSink;
+use mon_monitor::Printed;
 use std::alloc::{AllocError, Global};
 
 /// Room for the longest output of a case, and for some more.
@@ -72,29 +74,43 @@ fn shows_what_is_due(
     )
 }
 
-// Feeds a byte: how many were fed then.
+// Feeds a byte: how many were fed then. What is printed is appended.
 fn feed_byte(
     alloc: Global,
     feed: &mut DeckFeed,
     byte: u8,
+    printed: &mut Printed,
     out: &mut Vec<u8>,
 ) -> Result<u64, RunError> {
     if feed.fed() < MANY_BYTES {
-        feed.feed(alloc, &[byte], out)?;
+        feed.feed(alloc, &[byte], printed)?;
+        gather(printed, out)?;
     }
     Ok(feed.fed())
+}
+
+// Appends what is printed to a text, and forgets it.
+fn gather(printed: &mut Printed, out: &mut Vec<u8>) -> Result<(), AllocError> {
+    let mut sink = TextSink::new(out);
+    printed.print(&mut sink);
+    sink.settle()?;
+    printed.clear();
+    Ok(())
 }
 
 // The place of the first byte behind which a deck that is fed byte by byte shows something else than it must: something is
 // printed only where a line ends, all of it is what the whole run wrote, and the deck comes out as it did there.
 fn first_bad_byte(alloc: Global, deck: &[u8], options: Options, whole: &Run) -> Option<usize> {
     let mut feed = DeckFeed::new(alloc, options);
+    let Ok(mut printed) = Printed::new(alloc) else {
+        return Some(0);
+    };
     let mut out = Vec::new(alloc);
     for at in 0..deck.len() {
-        let printed = out.len();
-        match feed_byte(alloc, &mut feed, deck[at], &mut out) {
+        let before = out.len();
+        match feed_byte(alloc, &mut feed, deck[at], &mut printed, &mut out) {
             Ok(fed) => {
-                if fed != at as u64 + 1 || !goes_on(whole, &out, printed, deck[at] == b'\n') {
+                if fed != at as u64 + 1 || !goes_on(whole, &out, before, deck[at] == b'\n') {
                     return Some(at);
                 }
             }
@@ -105,8 +121,8 @@ fn first_bad_byte(alloc: Global, deck: &[u8], options: Options, whole: &Run) -> 
             },
         }
     }
-    let outcome = feed.finish(alloc, &mut out);
-    if came_out(whole, &outcome, &out) {
+    let outcome = feed.finish(alloc, &mut printed);
+    if gather(&mut printed, &mut out).is_ok() && came_out(whole, &outcome, &out) {
         None
     } else {
         Some(deck.len())
