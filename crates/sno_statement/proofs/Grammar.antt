@@ -13,8 +13,8 @@ use Rattle.sno_statement.specs.inner.Faults.{FaultAt, refused_as, then_on, refus
 use Rattle.sno_statement.specs.inner.Reading.{statement_in}
 use Rattle.sno_statement.specs.inner.Variables.{fitting}
 use Rattle.sno_statement.specs.Told.{statement_of, Parsed}
-use Rattle.sno_statement.specs.Laws.{OneStatement}
-use Rattle.sno_statement.specs.inner.Laws.{NotesExactly, Taken}
+use Rattle.sno_statement.specs.Laws.{OneStatement, Taken}
+use Rattle.sno_statement.specs.inner.Laws.{NotesExactly}
 use Rattle.sno_statement.proofs.Completing.{statement_read}
 use Rattle.sno_statement.proofs.Sound.{statement_sound}
 use Rattle.sno_statement.proofs.Strides.{on_walk, walked}
@@ -61,7 +61,7 @@ taken ts = (
   λ e. let r = some_statement (refusal ts) (statement_in ts) (agrees ts) e in
       let q = statement_sound ts r.0 r.1 in
       (r.0, q.0, q.1),
-  λ s v p. no_refusal (refusal ts) (statement_in ts) s (agrees ts) (statement_read s ts v p),
+  λ s. no_refusal (refusal ts) (statement_in ts) s.0 (agrees ts) (statement_read s.0 ts s.1 s.2),
 )
 
 -- it notes nothing exactly where a variable stands in each place that needs one

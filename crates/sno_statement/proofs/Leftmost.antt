@@ -291,7 +291,7 @@ blames_stop ts [] v f e n d = at (may_end v) refl d
           refl,
           n,
           λ s.
-              let a : refusal (ts ++ []) ≡ None = subst (λ (x : List Token). refusal x ≡ None) (sym (nothing ts)) ((taken ts).1 s.0 s.1 s.2) in
+              let a : refusal (ts ++ []) ≡ None = subst (λ (x : List Token). refusal x ≡ None) (sym (nothing ts)) ((taken ts).1 s) in
               let b : refusal (ts ++ []) ≡ Some (FaultAt (length ts) Unfit) = refusal_split ts [] begins v 0 (length ts) e tt (omega arith) ∙ ap (λ (c : Bool). if c then None else Some (FaultAt (length ts) Unfit)) m in
               cc,
         )
@@ -361,7 +361,7 @@ none_fit ts e =
     (q.0, q.1, (notes_exactly ts q.0 q.1 q.2).0 (not_noted (noted ts) (refusal ts) e), q.2)
 
 pub fit_none : (ts : List Token) → IsFit ts → fault ts ≡ None
-fit_none ts s = ap (λ (o : Option ℕ). earlier o (refusal ts)) ((notes_exactly ts s.0 s.1 s.3).1 s.2) ∙ (taken ts).1 s.0 s.1 s.3
+fit_none ts s = ap (λ (o : Option ℕ). earlier o (refusal ts)) ((notes_exactly ts s.0 s.1 s.3).1 s.2) ∙ (taken ts).1 (s.0, s.1, s.3)
 
 pub fault_is_leftmost : FaultIsLeftmost
 fault_is_leftmost ts = (λ f. (found ts f, is_found ts f), (none_fit ts, fit_none ts))

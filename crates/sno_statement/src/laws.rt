@@ -1,10 +1,15 @@
 //! Laws of the grammar; nothing runs here.
 
-ghost use Rattle.sno_statement.specs.Laws.{FaultIsLeftmost, OneStatement};
+ghost use Rattle.sno_statement.specs.Laws.{FaultIsLeftmost, OneStatement, Taken};
 
 /// A list of tokens spells at most one statement.
 pub fn one_statement()
     ensures { OneStatement }
+{}
+
+/// The walk over tokens takes them all and may end there, exactly where they spell a statement.
+pub fn walk_takes_statements()
+    ensures { Taken }
 {}
 
 /// The fault that is found is the leftmost one, and none is found exactly where the tokens are a statement with its variables.
