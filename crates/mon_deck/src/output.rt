@@ -56,6 +56,7 @@ fn write_printed<D: DeckDevices>(
     ensures failed { D.write_failed devices.new ≡ is_err result }
     ensures apart { (D.remaining devices.new ≡ D.remaining devices.old) × (D.reads devices.new ≡ D.reads devices.old) × (D.read_failed devices.new ≡ false) }
 {
+    room.clear();
     let mut sink = DeviceSink::new(devices, room);
     printed.print(&mut sink);
     sink.settle()

@@ -1,5 +1,5 @@
 //! What a printout is put to, piece by piece: a text in memory, or a writer, through a room of fixed size.
-ghost use Rattle.std.specs.Prelude.{◌≡◌, ◌≤◌, ◌+◌, ◌-◌, ◌∷◌, ◌++◌, ℕ, List, [], Some, None, true, false, length, vec_len, vec_capacity, is_err, IfOk, OnOk};
+ghost use Rattle.std.specs.Prelude.{◌≡◌, ◌≤◌, ◌<◌, ◌+◌, ◌-◌, ◌∷◌, ◌++◌, ℕ, List, [], Some, None, true, false, length, is_err, IfOk, OnOk};
 ghost use Rattle.mon_device.specs.Devices.{HasTaken, holding};
 ghost use Rattle.mon_device.specs.declared.transfer.TheConstants.{WRITE_SIZE};
 ghost use Rattle.mon_device.specs.Putting.{Standing, Puts};
@@ -7,6 +7,7 @@ ghost use Rattle.mon_device.specs.Putting.{Standing, Puts};
 use crate::device::{DeckDevices, Failed};
 use crate::transfer::{WRITE_SIZE, write_all};
 use std::alloc::{AllocError, Global};
+use std::marker::Model;
 
 /// What a printout is put to.
 pub trait Sink {
@@ -16,6 +17,10 @@ pub trait Sink {
     /// Takes bytes, in order. It answers nothing: a sink that has failed takes nothing more, and tells so at the end.
     fn put(&mut self, bytes: &[u8])
         ensures { Puts (standing self.old) (standing self.new) bytes.now };
+
+    /// Takes a line, as `put` takes bytes: what stands before its text, the text, and LF behind it.
+    fn put_line(&mut self, before: &[u8], text: &[u8])
+        ensures { Puts (standing self.old) (standing self.new) (before.now ++ text.now ++ 10 ∷ []) };
 }
 
 /// A text in memory to which a printout is put.
@@ -51,68 +56,125 @@ impl<'a> TextSink<'a> {
             Ok(())
         }
     }
-}
 
-impl Sink for TextSink<'_> {
-    ghost standing = { λ s. record { written = Some s.text.now.items; gathered = []; failed = s.has_failed; remaining = None; reads = 0; lent = s.text.ghost_name ∷ [] } };
-
-    fn put(&mut self, bytes: &[u8]) {
+    // Appends bytes, unless a growth was refused before.
+    fn take(&mut self, bytes: &[u8])
+        ensures { Puts (⟦<TextSink<'a> as Sink>⟧.standing self.old) (⟦<TextSink<'a> as Sink>⟧.standing self.new) bytes.now }
+    {
         if !self.has_failed {
             self.has_failed = self.text.extend_from_slice(bytes).is_err();
         }
     }
 }
 
-/// The memory in which a run gathers what it writes. It is taken when the run begins, and never grows.
+impl Sink for TextSink<'_> {
+    ghost standing = { λ s. record { written = Some s.text.now.items; gathered = []; failed = s.has_failed; remaining = None; reads = 0; lent = s.text.ghost_name ∷ [] } };
+
+    fn put(&mut self, bytes: &[u8]) {
+        self.take(bytes);
+    }
+
+    fn put_line(&mut self, before: &[u8], text: &[u8]) {
+        self.take(before);
+        self.take(text);
+        self.take(b"\n");
+    }
+}
+
+/// The memory in which a run gathers what it writes: at most `WRITE_SIZE` bytes. It is taken when the run begins, and never
+/// grows.
+///
+/// A contract sees it as the bytes that are gathered.
 #[derive(Drop)]
 pub struct Room {
     bytes: Vec<u8>,
-    ghost within: { vec_len bytes ≤ WRITE_SIZE },
-    ghost room: { WRITE_SIZE ≤ vec_capacity bytes },
+}
+
+impl Model for Room {
+    ghost use Rattle.std.specs.Prelude.{◌≤◌, ℕ, List, length, vec_capacity};
+    ghost use Rattle.mon_device.specs.declared.transfer.TheConstants.{WRITE_SIZE};
+
+    ghost Value = { List ℕ };
+
+    ghost view = { λ r. r.bytes.items };
+
+    ghost invariant = { λ r. (length r.bytes.items ≤ WRITE_SIZE) × (WRITE_SIZE ≤ vec_capacity r.bytes) };
 }
 
 impl Room {
-    /// Takes the memory.
+    /// Takes the memory. Nothing is gathered.
     ///
     /// # Errors
     ///
     /// Where it was refused.
-    pub fn new(alloc: Global) -> Result<Room, AllocError> {
+    pub fn new(alloc: Global) -> Result<Room, AllocError>
+        ensures { IfOk result (λ room. room ≡ []) }
+    {
         Ok(Room {
             bytes: Vec::with_capacity(alloc, WRITE_SIZE)?,
         })
     }
 
+    /// Forgets what is gathered.
+    pub fn clear(&mut self)
+        ensures { self.new ≡ [] }
+    {
+        self.bytes.clear();
+    }
+
     // How many bytes more it can take.
     fn left(&self) -> usize
-        ensures { result ≡ WRITE_SIZE - vec_len self.now.bytes }
+        ensures value { result ≡ WRITE_SIZE - length self.now }
+        ensures within { length self.now ≤ WRITE_SIZE }
     {
         WRITE_SIZE - self.bytes.len()
     }
 
     // Gathers bytes for which there is room.
     fn keep(&mut self, bytes: &[u8])
-        requires { vec_len self.old.bytes + length bytes.now ≤ WRITE_SIZE }
-        ensures { self.new.bytes.items ≡ self.old.bytes.items ++ bytes.now }
+        requires { length self.old + length bytes.now ≤ WRITE_SIZE }
+        ensures { self.new ≡ self.old ++ bytes.now }
     {
         let Ok(()) = self.bytes.extend_from_slice(bytes) else {
             unreachable!();
         };
     }
 
-    // Forgets what is gathered.
-    fn clear(&mut self)
-        ensures { self.new.bytes.items ≡ [] }
+    // Gathers a byte for which there is room.
+    fn keep_byte(&mut self, byte: u8)
+        requires { length self.old < WRITE_SIZE }
+        ensures { self.new ≡ self.old ++ byte ∷ [] }
     {
-        self.bytes.clear();
+        self.bytes.push_reserved(byte);
+    }
+
+    // Gathers what stands before the text of a line, which is mostly one blank.
+    fn keep_before(&mut self, before: &[u8])
+        requires { length self.old + length before.now ≤ WRITE_SIZE }
+        ensures { self.new ≡ self.old ++ before.now }
+    {
+        match before {
+            [byte] => self.keep_byte(*byte),
+            _ => self.keep(before),
+        }
+    }
+
+    // Gathers a line for which there is room.
+    fn keep_line(&mut self, before: &[u8], text: &[u8])
+        requires { length self.old + (length before.now + length text.now) < WRITE_SIZE }
+        ensures { self.new ≡ self.old ++ (before.now ++ text.now ++ 10 ∷ []) }
+    {
+        self.keep_before(before);
+        self.keep(text);
+        self.keep_byte(b'\n');
     }
 
     // Writes what is gathered.
     fn write_to<D: DeckDevices>(&mut self, devices: &mut D) -> Result<(), Failed>
         requires sound { (D.read_failed devices.old ≡ false) × (D.write_failed devices.old ≡ false) }
-        ensures settled { OnOk result (self.new.bytes.items ≡ []) }
-        ensures all { OnOk result (D.written devices.new ≡ holding (D.written devices.old) self.old.bytes.items) }
-        ensures taken { (left : List ℕ) × HasTaken (D.written devices.old) (D.written devices.new) self.old.bytes.items left }
+        ensures settled { OnOk result (self.new ≡ []) }
+        ensures all { OnOk result (D.written devices.new ≡ holding (D.written devices.old) self.old) }
+        ensures taken { (left : List ℕ) × HasTaken (D.written devices.old) (D.written devices.new) self.old left }
         ensures failed { D.write_failed devices.new ≡ is_err result }
         ensures apart { (D.remaining devices.new ≡ D.remaining devices.old) × (D.reads devices.new ≡ D.reads devices.old) × (D.read_failed devices.new ≡ false) }
     {
@@ -132,12 +194,11 @@ pub struct DeviceSink<'a, D: DeckDevices> {
 }
 
 impl<'a, D: DeckDevices> DeviceSink<'a, D> {
-    /// Puts to the writer of these devices.
+    /// Puts to the writer of these devices, behind what is gathered in the room.
     pub fn new(devices: &'a mut D, room: &'a mut Room) -> DeviceSink<'a, D>
         requires sound { (D.read_failed devices.old ≡ false) × (D.write_failed devices.old ≡ false) }
-        ensures { ⟦<DeviceSink<'a, D> as Sink>⟧.standing result ≡ record { written = D.written devices.old; gathered = []; failed = false; remaining = D.remaining devices.old; reads = D.reads devices.old; lent = devices.entry.ghost_name ∷ room.entry.ghost_name ∷ [] } }
+        ensures { ⟦<DeviceSink<'a, D> as Sink>⟧.standing result ≡ record { written = D.written devices.old; gathered = room.old; failed = false; remaining = D.remaining devices.old; reads = D.reads devices.old; lent = devices.entry.ghost_name ∷ room.entry.ghost_name ∷ [] } }
     {
-        room.clear();
         DeviceSink {
             devices,
             room,
@@ -191,6 +252,15 @@ impl<'a, D: DeckDevices> DeviceSink<'a, D> {
         self.room.keep(bytes);
     }
 
+    // Takes a line for which there is room.
+    fn gather_line(&mut self, before: &[u8], text: &[u8])
+        requires sound { (⟦<DeviceSink<'a, D> as Sink>⟧.standing self.old).failed ≡ false }
+        requires room { length (⟦<DeviceSink<'a, D> as Sink>⟧.standing self.old).gathered + (length before.now + length text.now) < WRITE_SIZE }
+        ensures { Puts (⟦<DeviceSink<'a, D> as Sink>⟧.standing self.old) (⟦<DeviceSink<'a, D> as Sink>⟧.standing self.new) (before.now ++ text.now ++ 10 ∷ []) }
+    {
+        self.room.keep_line(before, text);
+    }
+
     // Takes a piece behind all that is gathered, for which there is no room.
     fn make_room(&mut self, bytes: &[u8])
         requires sound { (⟦<DeviceSink<'a, D> as Sink>⟧.standing self.old).failed ≡ false }
@@ -205,12 +275,11 @@ impl<'a, D: DeckDevices> DeviceSink<'a, D> {
             self.write_through(bytes);
         }
     }
-}
 
-impl<'a, D: DeckDevices> Sink for DeviceSink<'a, D> {
-    ghost standing = { λ s. record { written = D.written s.devices.now; gathered = s.room.now.bytes.items; failed = s.has_failed; remaining = D.remaining s.devices.now; reads = D.reads s.devices.now; lent = s.devices.ghost_name ∷ s.room.ghost_name ∷ [] } };
-
-    fn put(&mut self, bytes: &[u8]) {
+    // Takes bytes, unless a write failed before.
+    fn take(&mut self, bytes: &[u8])
+        ensures { Puts (⟦<DeviceSink<'a, D> as Sink>⟧.standing self.old) (⟦<DeviceSink<'a, D> as Sink>⟧.standing self.new) bytes.now }
+    {
         if self.has_failed {
             return;
         }
@@ -219,6 +288,32 @@ impl<'a, D: DeckDevices> Sink for DeviceSink<'a, D> {
             self.gather(bytes);
         } else {
             self.make_room(bytes);
+        }
+    }
+
+    // Takes a line in three pieces: there is no room for the whole of it, or nothing is taken any more.
+    #[inline(never)]
+    fn take_line(&mut self, before: &[u8], text: &[u8])
+        ensures { Puts (⟦<DeviceSink<'a, D> as Sink>⟧.standing self.old) (⟦<DeviceSink<'a, D> as Sink>⟧.standing self.new) (before.now ++ text.now ++ 10 ∷ []) }
+    {
+        self.take(before);
+        self.take(text);
+        self.take(b"\n");
+    }
+}
+
+impl<'a, D: DeckDevices> Sink for DeviceSink<'a, D> {
+    ghost standing = { λ s. record { written = D.written s.devices.now; gathered = s.room.now; failed = s.has_failed; remaining = D.remaining s.devices.now; reads = D.reads s.devices.now; lent = s.devices.ghost_name ∷ s.room.ghost_name ∷ [] } };
+
+    fn put(&mut self, bytes: &[u8]) {
+        self.take(bytes);
+    }
+
+    fn put_line(&mut self, before: &[u8], text: &[u8]) {
+        if !self.has_failed && before.len() + text.len() < self.room.left() {
+            self.gather_line(before, text);
+        } else {
+            self.take_line(before, text);
         }
     }
 }
