@@ -206,6 +206,17 @@ impl<'a, D: DeckDevices> DeviceSink<'a, D> {
         }
     }
 
+    /// Whether all went well so far. It writes nothing.
+    ///
+    /// # Errors
+    ///
+    /// `Failed` where the writer failed.
+    pub fn outcome(&self) -> Result<(), Failed>
+        ensures { (⟦<DeviceSink<'a, D> as Sink>⟧.standing self.now).failed ≡ is_err result }
+    {
+        if self.has_failed { Err(Failed) } else { Ok(()) }
+    }
+
     /// Writes what is gathered.
     ///
     /// # Errors
