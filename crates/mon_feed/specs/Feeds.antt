@@ -1,6 +1,6 @@
 -- What comes of a deck from the middle of it on: what was read so far is a stage, and the lines that are left are a deck
 -- by the same sections, over the world as it stands.
-use Rattle.std.specs.Prelude.{◌≡◌, ℕ, ◌+◌, ◌==◌, Bool, true, false, not, List, [], ◌++◌, length, Option, Some, None, Result, Ok, Err, if◌then◌else◌}
+use Rattle.std.specs.Prelude.{◌≡◌, ℕ, ◌==◌, Bool, true, false, not, List, [], ◌++◌, length, Option, Some, None, Result, Ok, Err, if◌then◌else◌}
 use Rattle.mon_catalogue.specs.Sets.{Sets}
 use Rattle.mon_catalogue.specs.Progress.{lines_taken}
 use Rattle.mon_slots.specs.Marks.{Marks}

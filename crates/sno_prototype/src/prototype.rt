@@ -1,8 +1,7 @@
 //! Prototypes of functions.
-ghost use Rattle.std.specs.Prelude.{◌≡◌, ◌==◌, position, ◌∷◌, ◌++◌, ◌<◌, [], length, nat_eq, true, map, ⊤, if◌then◌else◌, ◌&&◌, IfOk, IfSome, MatchOption};
-ghost use Rattle.std.specs.List.{list_all, list_any, slice_split};
+ghost use Rattle.std.specs.Prelude.{◌≡◌, ◌==◌, position, ◌∷◌, ◌++◌, ◌<◌, [], length, ⊤, if◌then◌else◌, IfOk, IfSome, MatchOption};
+ghost use Rattle.std.specs.List.{list_all, slice_split};
 ghost use Rattle.std.specs.Option.{option_map};
-ghost use Rattle.std.specs.Cmp.Lexicographic.{pointwise};
 ghost use Rattle.mon_text.specs.Lines.{is_blank_line};
 ghost use Rattle.sno_prototype.specs.Prototypes.{is_identifier, trimmed, cut_at, names_of, are_different, prototype_with, prototype_of};
 ghost use Rattle.sno_prototype.specs.inner.Reading.{told, listed, items_from, both_listed, Meets};

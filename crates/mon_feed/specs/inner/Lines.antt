@@ -1,5 +1,5 @@
 -- What one line does, with some marks for the turns in it, and whatever marks and lines follow.
-use Rattle.std.specs.Prelude.{◌≡◌, ℕ, ◌+◌, Bool, List, [], ◌∷◌, ◌++◌}
+use Rattle.std.specs.Prelude.{◌≡◌, ℕ, ◌+◌, Bool, List, ◌∷◌, ◌++◌}
 use Rattle.mon_catalogue.specs.Sets.{Sets}
 use Rattle.mon_slots.specs.Marks.{Marks}
 use Rattle.mon_monitor.specs.Worlds.{World}
