@@ -2,7 +2,7 @@
 ghost use Rattle.std.specs.Prelude.{◌≡◌};
 ghost use Rattle.mon_text.specs.Lines.{IsLine};
 ghost use Rattle.sno_nodes.specs.Sets.{is_one_of};
-ghost use Rattle.sno_nodes.specs.inner.Classes.{Tells};
+ghost use Rattle.sno_nodes.specs.inner.Classes.{Tells, Lists};
 
 use sno_text::Text;
 use std::marker::Model;
@@ -56,5 +56,16 @@ impl Class {
             return false;
         }
         (bits[usize::from(character / 64)] >> (character % 64)) & 1 == 1
+    }
+
+    /// Whether each byte is a character of the set. This costs as much as some 200 calls of `has`.
+    pub(crate) fn table(&self) -> [bool; 256]
+        ensures { Lists result 256 self.now }
+    {
+        let mut table = [false; 256];
+        for byte in 0..256 {
+            table[byte] = self.has(byte as u8);
+        }
+        table
     }
 }

@@ -40,14 +40,66 @@ pub fn begins_with_another(rest: &[u8], set: &Class) -> bool
     }
 }
 
+/// How far characters are looked up one by one. A run that goes on behind them is worth a table.
+const NEAR: usize = 1_024;
+
+/// How many characters of the set come first, where many may.
+#[inline(never)]
+fn long_run_of(rest: &[u8], set: &Class) -> usize
+    ensures value { result ≡ prefix_len (is_one_of set.now) rest.now }
+    ensures within { result ≤ length rest.now }
+{
+    let table = set.table();
+    let mut count = 0;
+    'fours: while rest.len() - count >= 4
+        && table[usize::from(rest[count])]
+        && table[usize::from(rest[count + 1])]
+        && table[usize::from(rest[count + 2])]
+        && table[usize::from(rest[count + 3])]
+    {
+        count += 4;
+    }
+    'ones: while count < rest.len() && table[usize::from(rest[count])] {
+        count += 1;
+    }
+    count
+}
+
 /// How many characters of the set come first.
 #[inline]
 pub fn run_of(rest: &[u8], set: &Class) -> usize
     ensures value { result ≡ prefix_len (is_one_of set.now) rest.now }
     ensures within { result ≤ length rest.now }
 {
+    let near = rest.len().min(NEAR);
     let mut count = 0;
-    while count < rest.len() && set.has(rest[count]) {
+    while count < near && set.has(rest[count]) {
+        count += 1;
+    }
+    if count < NEAR {
+        count
+    } else {
+        count + long_run_of(&rest[count..], set)
+    }
+}
+
+/// How many characters come before the first one of the set, where many may.
+#[inline(never)]
+fn long_gap_before(rest: &[u8], set: &Class) -> usize
+    ensures value { result ≡ position_or_len (is_one_of set.now) rest.now }
+    ensures within { result ≤ length rest.now }
+{
+    let table = set.table();
+    let mut count = 0;
+    'fours: while rest.len() - count >= 4
+        && !table[usize::from(rest[count])]
+        && !table[usize::from(rest[count + 1])]
+        && !table[usize::from(rest[count + 2])]
+        && !table[usize::from(rest[count + 3])]
+    {
+        count += 4;
+    }
+    'ones: while count < rest.len() && !table[usize::from(rest[count])] {
         count += 1;
     }
     count
@@ -59,9 +111,14 @@ pub fn gap_before(rest: &[u8], set: &Class) -> usize
     ensures value { result ≡ position_or_len (is_one_of set.now) rest.now }
     ensures within { result ≤ length rest.now }
 {
+    let near = rest.len().min(NEAR);
     let mut count = 0;
-    while count < rest.len() && !set.has(rest[count]) {
+    while count < near && !set.has(rest[count]) {
         count += 1;
     }
-    count
+    if count < NEAR {
+        count
+    } else {
+        count + long_gap_before(&rest[count..], set)
+    }
 }
