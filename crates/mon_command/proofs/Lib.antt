@@ -1,4 +1,5 @@
 pub mod Shorthand
 mod Names
+mod Words
 mod Changed
 mod Shows

@@ -5,12 +5,12 @@
 
 pub mod command;
 pub mod laws;
-pub mod printing;
+mod printing;
 pub mod printout;
 pub mod reply;
 pub mod serving;
 
 pub use command::Command;
 pub use printout::Printout;
-pub use reply::Reply;
+pub use reply::{Reply, print_reason};
 pub use serving::{put_served, serve};

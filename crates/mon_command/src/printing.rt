@@ -1,11 +1,11 @@
 //! The words and lines of printouts.
-ghost use Rattle.std.specs.Prelude.{◌≡◌, ◌++◌, ◌+◌, ◌≤◌, None, OnOk, OnErr, length, take, vec_len, vec_capacity};
+ghost use Rattle.std.specs.Prelude.{◌≡◌, ◌++◌, ◌+◌, ◌≤◌, OnOk, OnErr, length, take, vec_len, vec_capacity};
 ghost use Rattle.std.specs.List.{flat_map};
 ghost use Rattle.mon_acl.specs.Printing.{long_line};
 ghost use Rattle.mon_command.specs.Commands.{card_line};
 ghost use Rattle.mon_command.specs.Commanded.{Records as Listed, printed};
 ghost use Rattle.mon_command.specs.declared.command.Command.TheVariants as command;
-ghost use Rattle.mon_command.specs.Printouts.{word, number, stored_line, count_line, records_text, name_line, acl_text, entry_words, list_refusal};
+ghost use Rattle.mon_command.specs.Printouts.{word, number, stored_line, count_line, records_text, name_line, acl_text, list_refusal};
 
 use itoa::Buffer;
 use mon_acl::{AclError, Entry, Perms, Tag};
@@ -14,12 +14,8 @@ use mon_guard::{ShownAcl, ShownName};
 use mon_text::Name;
 use std::alloc::AllocError;
 
-/// Appends a word behind another.
-///
-/// # Errors
-///
-/// Where a growth was refused; nothing was appended then.
-pub fn put_word(text: &[u8], out: &mut Vec<u8>) -> Result<(), AllocError>
+// Appends a word behind another.
+pub(crate) fn put_word(text: &[u8], out: &mut Vec<u8>) -> Result<(), AllocError>
     ensures appended { OnOk result (out.new.items ≡ out.old.items ++ word text.now) }
     ensures unchanged { OnErr result (out.new.items ≡ out.old.items) }
 {
@@ -40,24 +36,16 @@ fn put_word_in_room(text: &[u8], out: &mut Vec<u8>)
     out.extend_from_slice(text).unwrap();
 }
 
-/// Appends a number behind a word.
-///
-/// # Errors
-///
-/// Where a growth was refused; `out` may then hold a part of the text.
-pub fn put_number_word(value: u64, out: &mut Vec<u8>) -> Result<(), AllocError>
+// Appends a number behind a word.
+fn put_number_word(value: u64, out: &mut Vec<u8>) -> Result<(), AllocError>
     ensures { OnOk result (out.new.items ≡ out.old.items ++ number value) }
 {
     put_word(Buffer::new().format(value).as_bytes(), out)
 }
 
-/// Appends a line that shows stored text.
-///
-/// # Errors
-///
-/// Where a growth was refused; nothing was appended then.
+// Appends a line that shows stored text.
 #[inline(always)]
-pub fn put_stored(text: &[u8], out: &mut Vec<u8>) -> Result<(), AllocError>
+fn put_stored(text: &[u8], out: &mut Vec<u8>) -> Result<(), AllocError>
     ensures appended { OnOk result (out.new.items ≡ out.old.items ++ stored_line text.now) }
     ensures unchanged { OnErr result (out.new.items ≡ out.old.items) }
 {
@@ -187,18 +175,6 @@ pub(crate) fn put_card(
     Ok(())
 }
 
-// Appends an entry without its permissions: its type, and its qualifier if it has one.
-pub(crate) fn put_entry(tag: Tag, name: Option<Name>, out: &mut Vec<u8>) -> Result<(), AllocError>
-    ensures { OnOk result (out.new.items ≡ out.old.items ++ entry_words tag name) }
-{
-    let entry = Entry {
-        tag,
-        name,
-        perms: Perms::default(),
-    };
-    entry.put_head(out)
-}
-
 // Appends a refusal that names an entry by its number.
 fn put_at_entry(what: &[u8], entry: u64, out: &mut Vec<u8>) -> Result<(), AllocError>
     ensures { OnOk result (out.new.items ≡ out.old.items ++ (what.now ++ number entry)) }
@@ -227,5 +203,6 @@ fn put_missing(tag: Tag, out: &mut Vec<u8>) -> Result<(), AllocError>
     ensures { OnOk result (out.new.items ≡ out.old.items ++ list_refusal (AclError.Missing tag)) }
 {
     out.extend_from_slice(b"A4 MISSING ")?;
-    put_entry(tag, None, out)
+    out.extend_from_slice(tag.word())?;
+    out.extend_from_slice(b"::")
 }

@@ -1,10 +1,12 @@
 //! What a command is told in one line.
 ghost use Rattle.std.specs.Prelude.{◌≡◌, ◌++◌, OnOk};
+ghost use Rattle.mon_device.specs.Putting.{Puts};
 ghost use Rattle.mon_command.specs.Replies.{reason_text, reply_text, reply_line};
 
-use crate::printing::{put_entry, put_list_refusal};
-use mon_acl::AclError;
+use crate::printing::put_list_refusal;
+use mon_acl::{AclError, Entry, Perms};
 use mon_answer::Reason;
+use mon_device::{Sink, TextSink};
 use std::alloc::AllocError;
 
 /// What a command is told in one line: that it is done, or why it is not.
@@ -58,24 +60,34 @@ impl Reply {
     }
 }
 
-/// Appends why something is denied.
-///
-/// # Errors
-///
-/// Where a growth was refused; `out` may then hold a part of the text.
-pub fn put_reason(reason: Reason, out: &mut Vec<u8>) -> Result<(), AllocError>
-    ensures { OnOk result (out.new.items ≡ out.old.items ++ reason_text reason) }
+/// Puts why something is denied: by the entry that decided, or for what is missing.
+pub fn print_reason<S: Sink>(reason: Reason, sink: &mut S)
+    ensures { Puts (S.standing sink.old) (S.standing sink.new) (reason_text reason) }
 {
     match reason {
         Reason::By(tag, name) => {
-            out.extend_from_slice(b"BY ")?;
-            put_entry(tag, name, out)
+            let entry = Entry {
+                tag,
+                name,
+                perms: Perms::default(),
+            };
+            sink.put(b"BY ");
+            entry.print_head(sink);
         }
-        Reason::NoSet => out.extend_from_slice(b"NO DATA SET"),
-        Reason::NotOwner => out.extend_from_slice(b"NOT OWNER"),
-        Reason::NoUnit => out.extend_from_slice(b"NO UNIT"),
-        Reason::InStream => out.extend_from_slice(b"IN STREAM"),
-        Reason::SpoolUnit => out.extend_from_slice(b"SPOOL UNIT"),
-        Reason::Mode => out.extend_from_slice(b"MODE"),
+        Reason::NoSet => sink.put(b"NO DATA SET"),
+        Reason::NotOwner => sink.put(b"NOT OWNER"),
+        Reason::NoUnit => sink.put(b"NO UNIT"),
+        Reason::InStream => sink.put(b"IN STREAM"),
+        Reason::SpoolUnit => sink.put(b"SPOOL UNIT"),
+        Reason::Mode => sink.put(b"MODE"),
     }
+}
+
+// Appends why something is denied.
+fn put_reason(reason: Reason, out: &mut Vec<u8>) -> Result<(), AllocError>
+    ensures { OnOk result (out.new.items ≡ out.old.items ++ reason_text reason) }
+{
+    let mut sink = TextSink::new(out);
+    print_reason(reason, &mut sink);
+    sink.settle()
 }
