@@ -6,7 +6,8 @@ ghost use Rattle.mon_device.specs.Putting.{Puts};
 ghost use Rattle.mon_job.specs.Printouts.{job_line, act_word, target_words, exchange_words, note_words, note_line, statement_words, ending_words, ending_line, printout};
 
 use crate::job_end::JobEnd;
-use crate::words::{print_number, print_reason, print_stored, print_word};
+use crate::words::{print_number, print_stored, print_word};
+use mon_command::print_reason;
 use mon_device::{Sink, TextSink};
 use mon_lines::PackedLines;
 use mon_text::Name;
@@ -92,6 +93,7 @@ fn print_note_words<S: Sink>(note: &Note, sink: &mut S)
         Why::Denied(reason) => {
             sink.put(b"DENIED");
             print_exchange(note, sink);
+            sink.put(b" ");
             print_reason(reason.copy(), sink);
         }
         Why::Full => {
