@@ -6,7 +6,7 @@ ghost use Rattle.mon_device.specs.Putting.{Puts};
 ghost use Rattle.mon_job.specs.Printouts.{job_line, act_word, target_words, exchange_words, note_words, note_line, statement_words, ending_words, ending_line, printout};
 
 use crate::job_end::JobEnd;
-use crate::words::{print_number, print_stored, print_word};
+use crate::words::{print_number, print_word};
 use mon_command::print_reason;
 use mon_device::{Sink, TextSink};
 use mon_lines::PackedLines;
@@ -66,9 +66,7 @@ pub(crate) fn print_job_line<S: Sink>(number: u64, account: &Name, sink: &mut S)
 fn print_spool<S: Sink>(lines: &PackedLines, sink: &mut S)
     ensures { Puts (S.standing sink.old) (S.standing sink.new) (flat_map stored_line lines.now) }
 {
-    for index in 0..lines.len() {
-        print_stored(lines.at(index), sink);
-    }
+    lines.print(b" ", sink);
 }
 
 fn print_notes<S: Sink>(notes: &[Note], sink: &mut S)

@@ -1,5 +1,5 @@
 //! The words of printouts, put to a sink.
-ghost use Rattle.mon_command.specs.Printouts.{word, number, stored_line};
+ghost use Rattle.mon_command.specs.Printouts.{word, number};
 ghost use Rattle.mon_device.specs.Putting.{Puts};
 
 use itoa::Buffer;
@@ -18,12 +18,4 @@ pub(crate) fn print_number<S: Sink>(value: u64, sink: &mut S)
     ensures { Puts (S.standing sink.old) (S.standing sink.new) (number value) }
 {
     print_word(Buffer::new().format(value).as_bytes(), sink);
-}
-
-// Puts a line that shows stored text.
-pub(crate) fn print_stored<S: Sink>(text: &[u8], sink: &mut S)
-    ensures { Puts (S.standing sink.old) (S.standing sink.new) (stored_line text.now) }
-{
-    print_word(text, sink);
-    sink.put(b"\n");
 }
