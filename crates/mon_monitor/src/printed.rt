@@ -1,5 +1,5 @@
 //! What is printed and not yet written: a text, and pieces behind it that print what stands in memory already.
-ghost use Rattle.std.specs.Prelude.{◌≡◌, ◌++◌, [], true, IfOk, OnOk, OnErr};
+ghost use Rattle.std.specs.Prelude.{◌≡◌, ◌≤◌, ◌++◌, [], true, false, length, IfOk, OnOk, OnErr};
 ghost use Rattle.std.specs.List.{flat_map};
 ghost use Rattle.mon_device.specs.Putting.{Puts};
 ghost use Rattle.mon_job.specs.Printouts.{printout};
@@ -75,7 +75,9 @@ impl Printed {
     }
 
     /// Whether it is more than a text of so many bytes: then it is to be written before more is printed.
-    pub fn is_more_than(&self, bytes: usize) -> bool {
+    pub fn is_more_than(&self, bytes: usize) -> bool
+        ensures at_most { result ≡ false → length self.now ≤ bytes }
+    {
         self.text.len() > bytes || !self.rest.is_empty()
     }
 

@@ -1,7 +1,7 @@
 //! Memory that is kept aside, so that one job that takes all the memory there is leaves some to others.
 //!
 //! Nothing touches it, so no page of it is used. Under a limit of the address space it is in nobody's hands until it is given up.
-ghost use Rattle.std.specs.Prelude.{◌≡◌, ◌≤◌, vec_len, vec_capacity};
+ghost use Rattle.std.specs.Prelude.{◌≡◌, ◌≤◌, ◌/◌, true, false, max, vec_len, vec_capacity};
 
 use std::alloc::Global;
 
@@ -25,7 +25,10 @@ pub(crate) struct Reserve {
 
 impl Reserve {
     // One for so many bytes, of which none is kept.
-    fn of(alloc: Global, size: u32) -> Reserve {
+    fn of(alloc: Global, size: u32) -> Reserve
+        ensures size { result.size ≡ size }
+        ensures none { vec_capacity result.block ≡ 0 }
+    {
         Reserve {
             size,
             block: Vec::new(alloc),
@@ -40,13 +43,20 @@ impl Reserve {
     }
 
     // One for as many bytes, of which none is kept.
-    pub(crate) fn another(&self, alloc: Global) -> Reserve {
+    pub(crate) fn another(&self, alloc: Global) -> Reserve
+        ensures size { result.size ≡ self.now.size }
+        ensures none { vec_capacity result.block ≡ 0 }
+    {
         Reserve::of(alloc, self.size)
     }
 
     // Keeps so many bytes, if they can be had. It stays a call: a compiler that saw that nothing reads them would not take them.
     #[inline(never)]
-    fn keep(&mut self, alloc: Global, bytes: usize) -> bool {
+    fn keep(&mut self, alloc: Global, bytes: usize) -> bool
+        ensures kept { result ≡ true → vec_capacity self.new.block ≡ bytes }
+        ensures left { result ≡ false → self.new ≡ self.old }
+        ensures size { self.new.size ≡ self.old.size }
+    {
         match Vec::with_capacity(alloc, bytes) {
             Ok(block) => {
                 self.block = block;
@@ -66,12 +76,18 @@ impl Reserve {
     }
 
     // Keeps a little, if it can be had.
-    pub(crate) fn take_little(&mut self, alloc: Global) {
+    pub(crate) fn take_little(&mut self, alloc: Global)
+        ensures at_most { vec_capacity self.new.block ≤ max (vec_capacity self.old.block) 98304 }
+        ensures size { self.new.size ≡ self.old.size }
+    {
         self.keep(alloc, LITTLE);
     }
 
     // Keeps all again, where there is room for twice as much, so that others are left as much.
-    pub(crate) fn fill(&mut self, alloc: Global) {
+    pub(crate) fn fill(&mut self, alloc: Global)
+        ensures at_most { vec_capacity self.new.block ≤ max (vec_capacity self.old.block) self.old.size }
+        ensures size { self.new.size ≡ self.old.size }
+    {
         let size = self.size;
         if self.block.capacity() < size as usize && there_is(alloc, size, 2) {
             self.give_up();
@@ -81,14 +97,17 @@ impl Reserve {
 
     // Gives up half of what is kept.
     pub(crate) fn halve(&mut self)
-        ensures { vec_capacity self.new.block ≤ vec_capacity self.old.block }
+        ensures at_most { vec_capacity self.new.block ≤ vec_capacity self.old.block }
+        ensures half { vec_capacity self.old.block / 2 ≤ vec_capacity self.new.block }
+        ensures size { self.new.size ≡ self.old.size }
     {
         self.block.shrink_to(self.block.capacity() / 2);
     }
 
     // Gives up all.
     pub(crate) fn give_up(&mut self)
-        ensures { vec_capacity self.new.block ≡ 0 }
+        ensures none { vec_capacity self.new.block ≡ 0 }
+        ensures size { self.new.size ≡ self.old.size }
     {
         self.block.shrink_to(0);
     }
