@@ -7,6 +7,7 @@ beginning of what it writes else; or one job has ended with END MEMORY, and all 
 moment of some turn, at which a statement began or something was asked, with the count that monitor.py has there; or nothing
 differs."""
 import os
+import re
 import subprocess
 import sys
 import tempfile
@@ -107,6 +108,17 @@ def is_explained(data, out, ends):
     return out in ends[job]
 
 
+def is_told(data, err):
+    """Whether this tells of memory, and perhaps behind it of a line of the deck and a job in it, with its account."""
+    lines = data.decode().split('\n')
+    told = re.fullmatch(r'(snomon: out of memory\n(snomon: at line ([0-9]+)(; job ([0-9]+) of (\S+) holds most: [0-9]+ bytes of printout)?\n)?)?', err)
+    if told is None or told[2] is None:
+        return told is not None
+    at = int(told[3])
+    jobs = [line.split()[1] for line in lines[:at] if line.split()[:1] == ['$JOB']]
+    return 0 < at <= len(lines) and (told[4] is None or jobs[int(told[5]) - 1:int(told[5])] == [told[6]])
+
+
 def main():
     program, decks = sys.argv[1], sys.argv[2:]
     with tempfile.TemporaryDirectory() as room:
@@ -130,7 +142,7 @@ def main():
                     break
                 if got.returncode == 3:
                     counts['told'] += 1
-                    good = whole[0].startswith(out) and err in ('snomon: out of memory\n', '')
+                    good = whole[0].startswith(out) and is_told(data, err)
                 elif (out, err, got.returncode) == whole:
                     counts['not seen'] += 1
                     good = True

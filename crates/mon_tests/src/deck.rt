@@ -2,10 +2,11 @@
 ghost use Rattle.std.specs.Prelude.{◌≡◌, None, false};
 
 use mon_deck::{
-    Code, Counts, Devices, MemReader, MemWriter, Options, RunError, exit_status, put_fault,
-    run_deck,
+    Code, Counts, DeckFeed, Devices, MemReader, MemWriter, Options, RunError, exit_status,
+    put_fault, run_deck,
 };
-use mon_device::{DeckReader, DeckWriter, Failed};
+use mon_device::{DeckReader, DeckWriter, Failed, TextSink};
+use mon_monitor::Printed;
 use std::alloc::{AllocError, Global};
 
 /// The worked deck: records with an empty one, a denial by `other::`, a missing data set.
@@ -719,6 +720,80 @@ fn serves_many_commands(alloc: Global) -> bool {
 #[test]
 fn a_long_deck_is_served(rt: HostRuntime) {
     assert!(rt; serves_many_commands(rt.alloc()));
+}
+
+/// How many records the long listing has: so many that it is kept as a piece until it is printed.
+const LISTED: usize = 65;
+
+/// A deck that lists its records, and then changes which data sets there are: what stands before the records, and behind them.
+const LISTING: (&[u8], &[u8]) = (
+    b"$ACCOUNTS\n\
+        anna admin\n\
+        $CATALOGUE\n\
+        $SET LONG anna admin 65\n\
+        user::rwx,group::---,other::---\n",
+    b"$STREAM\n\
+        $LIST anna LONG\n\
+        $CREATE anna NEW\n\
+        $DELETE anna LONG\n\
+        $STOP\n",
+);
+
+/// What it prints, worked by hand.
+const LISTING_OUTPUT: (&[u8], &[u8]) = (
+    b"LIST anna LONG\n",
+    b"RECORDS 65\n\
+        CREATE anna NEW\n\
+        DONE\n\
+        DELETE anna LONG\n\
+        DONE\n\
+        $CATALOGUE 2\n\
+        $SET NEW anna admin SEQ 0\n\
+        user::rwx,group::---,other::---\n",
+);
+
+// A text with so many lines in its middle.
+fn with_lines(alloc: Global, ends: (&[u8], &[u8]), line: &[u8]) -> Result<Vec<u8>, AllocError> {
+    let mut text = Vec::from_slice(alloc, ends.0)?;
+    for _ in 0..LISTED {
+        text.extend_from_slice(line)?;
+    }
+    text.extend_from_slice(ends.1)?;
+    Ok(text)
+}
+
+// Whether this is what is printed.
+fn is_text(alloc: Global, printed: &Printed, text: &[u8]) -> bool {
+    let mut out = Vec::new(alloc);
+    let mut sink = TextSink::new(&mut out);
+    printed.print(&mut sink);
+    sink.settle().is_ok() && out.as_slice() == text
+}
+
+// Whether a feed that gets a short deck in one piece prints this.
+fn is_printed_at_once(alloc: Global, deck: &[u8], output: &[u8]) -> bool {
+    let Ok(mut printed) = Printed::new(alloc) else {
+        return false;
+    };
+    let mut feed = DeckFeed::new(alloc, options(false));
+    deck.len() < 1_000
+        && feed.feed(alloc, deck, &mut printed).is_ok()
+        && is_text(alloc, &printed, output)
+}
+
+fn lists_before_a_change(alloc: Global) -> bool {
+    let Ok(deck) = with_lines(alloc, LISTING, b"ADA\n") else {
+        return false;
+    };
+    let Ok(output) = with_lines(alloc, LISTING_OUTPUT, b" ADA\n") else {
+        return false;
+    };
+    is_printed_at_once(alloc, &deck, &output)
+}
+
+#[test]
+fn a_listing_and_a_change_come_in_one_piece(rt: HostRuntime) {
+    assert!(rt; lists_before_a_change(rt.alloc()));
 }
 
 fn says(alloc: Global, fault: RunError, line: &[u8], status: u8) -> bool {
