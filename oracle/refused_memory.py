@@ -108,15 +108,30 @@ def is_explained(data, out, ends):
     return out in ends[job]
 
 
-def is_told(data, err):
-    """Whether this tells of memory, and perhaps behind it of a line of the deck and a job in it, with its account."""
-    lines = data.decode().split('\n')
-    told = re.fullmatch(r'(snomon: out of memory\n(snomon: at line ([0-9]+)(; job ([0-9]+) of (\S+) holds most: [0-9]+ bytes of printout)?\n)?)?', err)
-    if told is None or told[2] is None:
-        return told is not None
-    at = int(told[3])
-    jobs = [line.split()[1] for line in lines[:at] if line.split()[:1] == ['$JOB']]
-    return 0 < at <= len(lines) and (told[4] is None or jobs[int(told[5]) - 1:int(told[5])] == [told[6]])
+def held_by(job):
+    """How many bytes the printout of a job in a slot takes so far."""
+    return sum(len(line) + 5 for line in job.spool) + 96 * len(job.notes)
+
+
+def told_at(data, line):
+    """What is printed up to a line of a deck, and what is told where memory runs out at it."""
+    state = Monitor(4)
+    deck = monitor.Deck(state)
+    for raw in data.split(b'\n')[:line - 1]:
+        deck.take(raw.removesuffix(b'\r'))
+    most = max(filter(None, state.slots), key=held_by, default=None)
+    held = most and '; job %d of %s holds most: %d bytes of printout' % (most.number, most.account[0], held_by(most))
+    return ''.join(line + '\n' for line in state.out), 'snomon: at line %d%s\n' % (line, held or '')
+
+
+def is_told(data, out, err):
+    """Whether all of this, or for want of memory less, tells of memory, of a line up to which all that is printed is right, and of the
+    job that then holds most."""
+    first, line = 'snomon: out of memory\n', re.search('at line ([0-9]+)', err)
+    if line is None:
+        return err in ('', first)
+    printed, second = told_at(data, int(line[1]))
+    return printed.startswith(out) and err == first + second
 
 
 def main():
@@ -142,7 +157,7 @@ def main():
                     break
                 if got.returncode == 3:
                     counts['told'] += 1
-                    good = whole[0].startswith(out) and is_told(data, err)
+                    good = whole[0].startswith(out) and is_told(data, out, err)
                 elif (out, err, got.returncode) == whole:
                     counts['not seen'] += 1
                     good = True

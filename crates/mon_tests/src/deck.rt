@@ -2,11 +2,12 @@
 ghost use Rattle.std.specs.Prelude.{◌≡◌, None, false};
 
 use mon_deck::{
-    Code, Counts, DeckFeed, Devices, MemReader, MemWriter, Options, RunError, exit_status,
-    put_fault, run_deck,
+    Code, Counts, DeckFeed, Devices, Holder, MemReader, MemWriter, Options, RunError, Shortage,
+    exit_status, put_fault, put_shortage, run_deck,
 };
 use mon_device::{DeckReader, DeckWriter, Failed, TextSink};
 use mon_monitor::Printed;
+use mon_text::{Name, read_name};
 use std::alloc::{AllocError, Global};
 
 /// The worked deck: records with an empty one, a denial by `other::`, a missing data set.
@@ -818,4 +819,31 @@ fn faults_have_a_line_and_a_status(rt: HostRuntime) {
     for (fault, line, status) in faults {
         assert!(rt; says(rt.alloc(), fault, line, status));
     }
+}
+
+// How far a run had come, with a job that holds most.
+fn held_by(account: Name) -> Shortage {
+    let mut shortage = Shortage::new();
+    shortage.line = 1_234;
+    shortage.job = Some(Holder {
+        number: 3,
+        account,
+        bytes: 52_428_800,
+    });
+    shortage
+}
+
+fn tells_how_far(alloc: Global) -> bool {
+    let Ok(lisa) = read_name(b"lisa") else {
+        return false;
+    };
+    let shortage = held_by(lisa);
+    let mut out = Vec::new(alloc);
+    let told = b"snomon: at line 1234; job 3 of lisa holds most: 52428800 bytes of printout\n";
+    put_shortage(&shortage, &mut out).is_ok() && out.as_slice() == told.as_slice()
+}
+
+#[test]
+fn a_lack_of_memory_has_a_line_and_a_job(rt: HostRuntime) {
+    assert!(rt; tells_how_far(rt.alloc()));
 }

@@ -1,6 +1,6 @@
 //! The program over streams in memory: the status, and what is told of a refusal and of a fault. No contract can say that a fault
 //! is told, since a stream may fail; nor that one is answered only where a stream failed.
-use mon_deck::{Options, RunError};
+use mon_deck::{Options, RunError, Shortage};
 use mon_shell::{finish, refuse, run_options};
 use std::alloc::Global;
 use std::io;
@@ -92,12 +92,11 @@ fn tells_a_write_fault(alloc: Global) -> bool {
         && ended.errors.as_slice() == b"snomon: write fault\n".as_slice()
 }
 
-// Whether a lack of memory is told.
-fn tells_of_memory(alloc: Global) -> bool {
-    let ended = finish(alloc, Err(RunError::Memory), DECK, Broken, Vec::new(alloc));
-    ended.status == 3
-        && ended.is_told
-        && ended.errors.as_slice() == b"snomon: out of memory\n".as_slice()
+// Whether a lack of memory is told so, by how far the run had come.
+fn tells_of_memory(alloc: Global, shortage: Option<Shortage>, told: &[u8]) -> bool {
+    let memory = Err(RunError::Memory);
+    let ended = finish(alloc, memory, shortage, DECK, Broken, Vec::new(alloc));
+    ended.status == 3 && ended.is_told && ended.errors.as_slice() == told
 }
 
 // Whether the status stays where a fault can't be told.
@@ -119,7 +118,9 @@ fn tells_the_reason(alloc: Global) -> bool {
 fn faults_are_told(rt: HostRuntime) {
     assert!(rt; tells_a_read_fault(rt.alloc()));
     assert!(rt; tells_a_write_fault(rt.alloc()));
-    assert!(rt; tells_of_memory(rt.alloc()));
+    assert!(rt; tells_of_memory(rt.alloc(), None, b"snomon: out of memory\n"));
+    let told = b"snomon: out of memory\nsnomon: at line 1\n".as_slice();
+    assert!(rt; tells_of_memory(rt.alloc(), Some(Shortage::new()), told));
     assert!(rt; stays_untold(rt.alloc()));
     assert!(rt; tells_the_reason(rt.alloc()));
 }
