@@ -15,6 +15,6 @@ pub mod printed;
 
 pub use mon_command::{Command, Printout};
 pub use mon_job::{JobDeck, JobEnd, LoadError, put_printout, put_refusal};
-pub use mon_slots::Turned;
+pub use mon_slots::{Holder, Turned};
 pub use monitor::Monitor;
 pub use printed::Printed;

@@ -7,4 +7,5 @@ pub mod Turning
 pub mod Loads
 pub mod Memory
 pub mod Ties
+pub mod Holding
 pub mod inner

@@ -5,6 +5,8 @@
 //! sets, of the jobs in the slots, and of where memory broke turns off; `laws` says what holds of it.
 #![tactic(auto)]
 
+pub mod holder;
+mod holding;
 pub mod laws;
 mod loading;
 mod reserve;
@@ -14,5 +16,6 @@ mod slot;
 pub mod slots;
 pub mod turned;
 
+pub use holder::Holder;
 pub use slots::Slots;
 pub use turned::Turned;
