@@ -155,7 +155,7 @@ set_jobs (x ∷ slots) zero slot o h =
     subst (λ (y : Option SlotState). suc (one_in o + jobs_in slots) ≡ one_in o + (one_in y + jobs_in slots)) (sym e) (omega arith)
 set_jobs (x ∷ slots) (suc i) slot o h = let k = set_jobs slots i slot o h in omega (arith, k)
 
-with_jobs : (s : ℕ) (slots : List (Option SlotState)) (slot : SlotState) (o : Option SlotState) → seat_at s slots ≡ Some slot
+pub with_jobs : (s : ℕ) (slots : List (Option SlotState)) (slot : SlotState) (o : Option SlotState) → seat_at s slots ≡ Some slot
     → suc (jobs_in (with_seat s o slots)) ≡ one_in o + jobs_in slots
 with_jobs zero slots slot o h = absurd cc
 with_jobs (suc i) slots slot o h = set_jobs slots i slot o h

@@ -6,6 +6,7 @@ pub mod Past
 pub mod Rounding
 pub mod Giving
 pub mod Calls
+pub mod Alone
 pub mod Loads
 mod Shared
 mod Apart

@@ -44,7 +44,7 @@ set_less (x ∷ slots) zero slot o h g =
     subst (λ (y : Option SlotState). suc (turns_ahead o + turns_left slots) ≤ turns_ahead y + turns_left slots) (sym e) (omega (arith, g))
 set_less (x ∷ slots) (suc i) slot o h g = omega (arith, (set_less slots i slot o h g))
 
-with_less : (s : ℕ) (slots : List (Option SlotState)) (slot : SlotState) (o : Option SlotState) → seat_at s slots ≡ Some slot → suc (turns_ahead o) ≤ turns_ahead (Some slot)
+pub with_less : (s : ℕ) (slots : List (Option SlotState)) (slot : SlotState) (o : Option SlotState) → seat_at s slots ≡ Some slot → suc (turns_ahead o) ≤ turns_ahead (Some slot)
     → suc (turns_left (with_seat s o slots)) ≤ turns_left slots
 with_less zero slots slot o h g = absurd cc
 with_less (suc i) slots slot o h g = set_less slots i slot o h g

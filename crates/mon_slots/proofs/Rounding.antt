@@ -11,10 +11,10 @@ use Rattle.mon_slots.specs.Floors.{Floor}
 use Rattle.mon_slots.specs.Turns.{ends_by}
 use Rattle.mon_slots.specs.Marks.{Marks, Past, nothing, ends_then, until, rounds, turns_left, rounds_until, is_done}
 use Rattle.mon_slots.specs.Turning.{TurnOr, Passed, UntilIs, RoundsAre, ended_in}
-use Rattle.mon_slots.specs.inner.Rounding.{Ahead, RoundTo, Going, Unless, stop_of}
+use Rattle.mon_slots.specs.inner.Rounding.{Ahead, RoundTo, Going, GoingTo, Unless, stop_of}
 use Rattle.mon_slots.proofs.Past.{until_stops, until_goes, until_append, until_length, after_past, rounds_same, round_falls, room_at_last}
 
-append_empty : {A : Type 0} (xs : List A) → xs ++ [] ≡ xs
+pub append_empty : {A : Type 0} (xs : List A) → xs ++ [] ≡ xs
 append_empty [] = refl
 append_empty {A} (x ∷ xs) = ap (λ (l : List A). x ∷ l) (append_empty xs)
 
@@ -154,6 +154,32 @@ module _ (stop : Floor → Bool) where
         ∙ h.is (one.marks ++ rest)
         ∙ ap (ends_then h.numbered) (round_then stop (length now.slots) at_last now more now' refl one busy rest)
         ∙ chained h.numbered one.numbered (rounds_until stop rest now');
+  }
+
+  -- some rounds after others
+  going_on : (w : Floor) (ends : List JobEnd) (now now' : Floor) (more : List JobEnd)
+      → Going stop w ends now → Going stop now more now' → Going stop w (ends ++ more) now'
+  going_on w ends now now' more h on = record {
+    marks = h.marks ++ on.marks;
+    numbered = h.numbered ++ on.numbered;
+    ended = map_append h.numbered on.numbered ∙ ap (λ (l : List JobEnd). l ++ map (λ e. e.1) on.numbered) h.ended ∙ ap (λ (l : List JobEnd). ends ++ l) on.ended;
+    is = λ rest.
+        ap (λ (m : Marks). rounds_until stop m w) (append_assoc h.marks on.marks rest)
+        ∙ h.is (on.marks ++ rest)
+        ∙ ap (ends_then h.numbered) (on.is rest)
+        ∙ chained h.numbered on.numbered (rounds_until stop rest now');
+  }
+
+  pub going_to : (w : Floor) (before ends : List JobEnd) (now now' : Floor) → Going stop w before now → GoingTo stop now before ends now' → Going stop w ends now'
+  going_to w before ends now now' h on = subst (λ (l : List JobEnd). Going stop w l now') (sym on.grown) (going_on w before now now' on.more h on.is)
+
+  -- one round
+  pub going_round : (before ends : List JobEnd) (now now' : Floor) → ((v : Floor) → length v.slots ≡ length now.slots → is_done v ≡ true → stop v ≡ true) → stop now ≡ false
+      → RoundTo stop now before ends [] now' → GoingTo stop now before ends now'
+  going_round before ends now now' at_last busy r = record {
+    more = r.more;
+    grown = r.grown;
+    is = going_more now [] now now' r.more at_last busy (going_begins stop now) r.is;
   }
 
   pub going_done : (w : Floor) (ends : List JobEnd) (now : Floor) → stop now ≡ true → Going stop w ends now → RoundsAre stop w ends now

@@ -9,6 +9,7 @@ pub mod holder;
 mod holding;
 pub mod laws;
 mod loading;
+mod lone;
 mod reserve;
 mod rounds;
 mod sharing;

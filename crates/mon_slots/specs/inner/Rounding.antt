@@ -34,6 +34,12 @@ pub record Going (stop : Floor → Bool) (w : Floor) (ends : List JobEnd) (now :
   pub ended : map (λ e. e.1) numbered ≡ ends
   pub is : (rest : Marks) → rounds_until stop (marks ++ rest) w ≡ ends_then numbered (rounds_until stop rest now)
 
+-- some rounds, in which more jobs have ended
+pub record GoingTo (stop : Floor → Bool) (w : Floor) (before ends : List JobEnd) (now : Floor) : Type 0 where
+  pub more : List JobEnd
+  pub grown : ends ≡ before ++ more
+  pub is : Going stop w more now
+
 -- a turn, whose end is kept
 pub record OneTurn (s : ℕ) (w : Floor) (ends ends' : List JobEnd) (w' : Floor) : Type 0 where
   pub told : Turned
