@@ -75,7 +75,8 @@ open_where part found is e = none_found part ∙ ap not (sym is ∙ e)
 pub ended_where : (part : List ℕ) (found : Bool) → found ≡ list_any is_line_feed part → found ≡ true → has_no_end part ≡ true → ⊥
 ended_where part found is e open_part = let never : false ≡ true = ap not (sym e ∙ is) ∙ sym (none_found part) ∙ open_part in cc
 
-none_ended : (part : List ℕ) → has_no_end part ≡ true → lines_ended part ≡ 0
+-- no line ends in it
+pub none_ended : (part : List ℕ) → has_no_end part ≡ true → lines_ended part ≡ 0
 none_ended [] e = refl
 none_ended (x ∷ xs) e = by (is_line_feed x) refl e (none_ended xs)
   where

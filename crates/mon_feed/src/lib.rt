@@ -4,6 +4,7 @@
 pub mod fault;
 pub mod feed;
 mod feeding;
+mod holding;
 mod listing;
 pub mod options;
 mod reading;
@@ -12,4 +13,5 @@ pub mod stage;
 
 pub use fault::RunError;
 pub use feed::DeckFeed;
+pub use mon_monitor::Holder;
 pub use options::{Counts, Options, Slots};
