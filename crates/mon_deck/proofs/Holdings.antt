@@ -7,14 +7,15 @@ use Rattle.mon_cards.specs.declared.code.Code.{Code}
 use Rattle.mon_feed.specs.declared.feed.DeckFeed.{DeckFeed}
 use Rattle.mon_slots.specs.Marks.{Marks}
 use Rattle.mon_feed.specs.declared.options.Counts.{Counts}
-use Rattle.mon_feed.specs.Feeds.{Outcome, behind, refused_at, Bad, Begins, is_reading, error_at, may_grow}
+use Rattle.mon_feed.specs.Feeds.{Outcome, behind, refused_at, Bad, Begins, is_reading, error_at, may_grow, used_by}
 use Rattle.mon_feed.specs.declared.stage.State.{State}
 use Rattle.mon_feed.specs.declared.stage.State.TheVariants as state
 use Rattle.mon_feed.specs.Told.{told, Took, Begun as Beginning}
+use Rattle.mon_text.specs.Feeding.{taken_of}
 use Rattle.mon_feed.specs.inner.Counting.{lines_ended}
 use Rattle.mon_feed.proofs.Parts.{ended_further}
 use Rattle.mon_deck.specs.Runs.{HoldsBeginning}
-use Rattle.mon_deck.specs.inner.Writing.{Held, holds, HasGrown, Serves, Refuses, Starts, Stands, BrokeOff}
+use Rattle.mon_deck.specs.inner.Writing.{Held, holds, HasGrown, Serves, Refuses, Starts, Stands, BrokeOffAt}
 
 pub kept : (w w' : Option (List ℕ)) (out out' x : List ℕ) → holding w' out' ≡ holding w out → holding w' (out' ++ x) ≡ holding w (out ++ x)
 kept w w' out out' x same = sym (holding-append w' out' x) ∙ ap (λ h. holding h x) same ∙ holding-append w out x
@@ -124,6 +125,13 @@ still_read (state.Stopped w) bytes sound grows = cc
 still_read (state.Refused n code) bytes sound grows = cc
 still_read state.NoMemory bytes sound grows = cc
 
+-- where a deck is still read, a line is taken at once
+pub taken_where_read : (s : State) (piece : List ℕ) → is_reading s ≡ true → used_by s piece ≡ taken_of piece
+taken_where_read (state.Reading stage) piece reading = refl
+taken_where_read (state.Stopped w) piece reading = cc
+taken_where_read (state.Refused n code) piece reading = cc
+taken_where_read state.NoMemory piece reading = cc
+
 pub stands_at_start : (held : Option (List ℕ)) (gathered : List ℕ) (f : DeckFeed) → gathered ≡ [] → error_at f.state ≡ None → Stands held held gathered f f []
 stands_at_start held gathered f empty sound = record {
   served = record { marks = []; is = λ rest bytes. ap (λ (out : List ℕ). holds held (told rest out f bytes)) empty };
@@ -216,13 +224,17 @@ module _ (held mid : Option (List ℕ)) (out : List ℕ) (start f : DeckFeed) (p
       subst (λ (v : List ℕ). Stands held now [] start f v) (sym same)
       (subst (λ (o : List ℕ). Stands held now o start f far.front) empty (stands_written held mid now out out' start f far.front put far.stands))
 
-  -- memory ran out at a line
-  pub breaks_off : (now : Option (List ℕ)) → is_reading f.state ≡ true → now ≡ holding mid out → BrokeOff held now start piece
-  breaks_off now reading all = record {
-    front = far.front;
-    back = rest;
-    are = far.are;
-    feed = f;
-    stands = stands_written held mid now out [] start f far.front (holding-nothing now ∙ all) far.stands;
-    reading = reading;
+  -- memory ran out at this line
+  pub breaks_off : (now : Option (List ℕ)) (first line : ℕ) → is_reading f.state ≡ true → now ≡ holding mid out
+      → (is_reading f.state ≡ true → line + lines_ended rest ≡ first + lines_ended piece) → BrokeOffAt held now start piece first line
+  breaks_off now first line reading all due = record {
+    broke = record {
+      front = far.front;
+      back = rest;
+      are = far.are;
+      feed = f;
+      stands = stands_written held mid now out [] start f far.front (holding-nothing now ∙ all) far.stands;
+      reading = reading;
+    };
+    line_is = let here = due reading in let parts = ap lines_ended far.are in omega (arith, here, parts, ended_further far.front rest);
   }

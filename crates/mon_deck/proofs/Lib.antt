@@ -1,4 +1,5 @@
 pub mod Holdings
+mod Counted
 pub mod Running
 pub mod ShownRecords
 pub mod Ordered

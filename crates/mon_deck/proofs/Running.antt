@@ -17,8 +17,9 @@ use Rattle.mon_feed.specs.Scenes.{Scene, sets_after, all_counted, nothing_counte
 use Rattle.mon_feed.specs.Printouts.{output_of, ReadsBack}
 use Rattle.mon_feed.specs.Feeds.{outcome_of, refused_at, is_reading, IsReadBack, concluded, sets_left, Outcome, Conclusion, Good, Bad, Begins}
 use Rattle.mon_feed.specs.Told.{told}
+use Rattle.mon_feed.proofs.Parts.{ended_further}
 use Rattle.mon_deck.specs.Runs.{deck_ending, scene_of, counts_of, HoldsBeginning, HasWritten, HasRun, HasBegun}
-use Rattle.mon_deck.specs.inner.Writing.{Held, holds, Begun, Runs, Refuses, Starts, Stands, BrokeOff, Broke}
+use Rattle.mon_deck.specs.inner.Writing.{Held, holds, Begun, Runs, Refuses, Starts, Stands, IsDue, BrokeOffAt, BrokeAt}
 use Rattle.mon_deck.proofs.Holdings.{nothing_held, held_begins, not_grown, has_grown, grown_further, grown_held, no_error, stands_at_start, stands_further, refuses_further, starts_further}
 
 gives_nothing : (told : Option (List ℕ)) → Gives told [] told
@@ -44,14 +45,17 @@ begins given_by held f reading =
 pub fault_so : {T U : Type 0} (error : RunError) → ◌≡◌ {A = Result T RunError} (Err error) (Err ReadFault) → ◌≡◌ {A = Result U RunError} (Err error) (Err ReadFault)
 fault_so error same = let is : error ≡ ReadFault = cc in ap Err is
 
--- nothing was read, and the run broke off
-pub broke_at_start : (given_by held : Option (List ℕ)) (f : DeckFeed) → is_reading f.state ≡ true → (all : List ℕ) × Broke given_by given_by held held f all
-broke_at_start given_by held f reading = (
+-- nothing was read, and the run broke off at the first line
+pub broke_at_start : (given_by held : Option (List ℕ)) (f : DeckFeed) (line : ℕ) → line ≡ 1 → is_reading f.state ≡ true → (all : List ℕ) × BrokeAt given_by given_by held held f all 1 line
+broke_at_start given_by held f line is reading = (
   [],
   record {
-    gives = gives_nothing given_by;
-    broke = record { front = []; back = []; are = refl; feed = f; stands = stands_at_start held [] f refl (no_error f.state reading); reading = reading };
-    last = omega arith;
+    run = record {
+      gives = gives_nothing given_by;
+      broke = record { front = []; back = []; are = refl; feed = f; stands = stands_at_start held [] f refl (no_error f.state reading); reading = reading };
+      last = omega arith;
+    };
+    line_is = is;
   },
 )
 
@@ -97,40 +101,54 @@ module _ (given_by left held now : Option (List ℕ)) (start f : DeckFeed) (give
     stands = stands_further held now now' [] [] start f f' given piece runs.stands step.served step.counted step.sound;
   }
 
+  -- another piece was read, and behind it a line is due
+  pub due_further : (piece : List ℕ) (f' : DeckFeed) (first line line' : ℕ) → IsDue first line f given → IsDue line line' f' piece
+      → (is_reading f'.state ≡ true → is_reading f.state ≡ true) → IsDue first line' f' (given ++ piece)
+  due_further piece f' first line line' before here read reading =
+      let was = before (read reading) in
+      let is = here reading in
+      omega (arith, was, is, ended_further given piece)
+
   -- the run broke off within another piece
-  pub broke_within : (piece : List ℕ) (after now' : Option (List ℕ)) → length piece ≤ READ_SIZE → Gives left piece after → BrokeOff now now' f piece
-      → (all : List ℕ) × Broke given_by after held now' start all
-  broke_within piece after now' size gives broke = (
+  pub broke_within : (piece : List ℕ) (after now' : Option (List ℕ)) (first line line' : ℕ) → length piece ≤ READ_SIZE → Gives left piece after → IsDue first line f given
+      → BrokeOffAt now now' f piece line line' → (all : List ℕ) × BrokeAt given_by after held now' start all first line'
+  broke_within piece after now' first line line' size gives due at = (
     given ++ piece,
     record {
-      gives = gives_more given_by left after given piece runs.so_far.gives gives;
-      broke = record {
-        front = given ++ broke.front;
-        back = broke.back;
-        are = ap (λ v. given ++ v) broke.are ∙ sym (append_assoc given broke.front broke.back);
-        feed = broke.feed;
-        stands = stands_further held now now' [] [] start f broke.feed given broke.front runs.stands broke.stands.served broke.stands.counted broke.stands.sound;
-        reading = broke.reading;
+      run = record {
+        gives = gives_more given_by left after given piece runs.so_far.gives gives;
+        broke = record {
+          front = given ++ at.broke.front;
+          back = at.broke.back;
+          are = ap (λ v. given ++ v) at.broke.are ∙ sym (append_assoc given at.broke.front at.broke.back);
+          feed = at.broke.feed;
+          stands = stands_further held now now' [] [] start f at.broke.feed given at.broke.front runs.stands at.broke.stands.served at.broke.stands.counted at.broke.stands.sound;
+          reading = at.broke.reading;
+        };
+        last = let parts : length piece ≡ length at.broke.front + length at.broke.back = ap length at.broke.are ∙ length-append at.broke.front at.broke.back in omega (arith, parts, size);
       };
-      last = let parts : length piece ≡ length broke.front + length broke.back = ap length broke.are ∙ length-append broke.front broke.back in omega (arith, parts, size);
+      line_is = let was = due (at.broke.stands.counted at.broke.reading).0 in omega (arith, was, at.line_is, ended_further given at.broke.front);
     },
   )
 
   -- or behind all that was given
-  pub broke_behind : (now' : Option (List ℕ)) → now' ≡ now → is_reading f.state ≡ true → (all : List ℕ) × Broke given_by left held now' start all
-  broke_behind now' same reading = (
+  pub broke_behind : (now' : Option (List ℕ)) (first line : ℕ) → now' ≡ now → is_reading f.state ≡ true → IsDue first line f given → (all : List ℕ) × BrokeAt given_by left held now' start all first line
+  broke_behind now' first line same reading due = (
     given,
     record {
-      gives = runs.so_far.gives;
-      broke = record {
-        front = given;
-        back = [];
-        are = sym (append-nil given);
-        feed = f;
-        stands = subst (λ (n : Option (List ℕ)). Stands held n [] start f given) (sym same) runs.stands;
-        reading = reading;
+      run = record {
+        gives = runs.so_far.gives;
+        broke = record {
+          front = given;
+          back = [];
+          are = sym (append-nil given);
+          feed = f;
+          stands = subst (λ (n : Option (List ℕ)). Stands held n [] start f given) (sym same) runs.stands;
+          reading = reading;
+        };
+        last = omega arith;
       };
-      last = omega arith;
+      line_is = due reading;
     },
   )
 

@@ -1,9 +1,11 @@
--- The exit status and the line of standard error (own).
-use Rattle.std.specs.Prelude.{ℕ, List, ◌++◌, Result, Ok, Err, codes, decimal}
+-- The exit status and the lines of standard error (own).
+use Rattle.std.specs.Prelude.{ℕ, List, [], ◌++◌, Option, Some, None, Result, Ok, Err, codes, decimal}
+use Rattle.mon_slots.specs.declared.holder.Holder.{Holder}
 use Rattle.mon_feed.specs.declared.fault.RunError.{RunError}
 use Rattle.mon_feed.specs.declared.fault.RunError.TheVariants.{DeckRefused, ReadFault, WriteFault, Memory}
 use Rattle.mon_feed.specs.declared.options.Counts.{Counts}
 use Rattle.mon_cards.specs.Codes.{code_text}
+use Rattle.mon_deck.specs.declared.shortage.Shortage.{Shortage}
 
 -- 0; 1 for a refused deck; 3 for a fault
 abbrev pub status_of : Result Counts RunError → ℕ
@@ -22,3 +24,19 @@ fault_text Memory = codes "out of memory"
 
 abbrev pub fault_line : RunError → List ℕ
 fault_line fault = codes "snomon: " ++ fault_text fault ++ codes "\n"
+
+-- which job it is, and whose
+abbrev pub name_text : Holder → List ℕ
+name_text job = codes "; job " ++ decimal job.number ++ codes " of " ++ job.account
+
+-- how much it holds of its printout
+abbrev pub holder_text : Holder → List ℕ
+holder_text job = name_text job ++ codes " holds most: " ++ decimal job.bytes ++ codes " bytes of printout"
+
+abbrev pub job_text : Option Holder → List ℕ
+job_text None = []
+job_text (Some job) = holder_text job
+
+-- how far a run had come where memory ran out: the second line, behind that of the fault
+abbrev pub shortage_line : Shortage → List ℕ
+shortage_line shortage = codes "snomon: at line " ++ decimal shortage.line ++ job_text shortage.job ++ codes "\n"

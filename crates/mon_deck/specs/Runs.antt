@@ -1,5 +1,5 @@
 -- What a run answers for these bytes (own).
-use Rattle.std.specs.Prelude.{◌≡◌, ◌≤◌, ℕ, false, List, [], ◌∷◌, ◌++◌, length, Option, if◌then◌else◌}
+use Rattle.std.specs.Prelude.{◌≡◌, ◌≤◌, ◌+◌, ℕ, false, List, [], ◌∷◌, ◌++◌, length, Option, if◌then◌else◌}
 use Rattle.std.specs.Str.Lines.{lines}
 use Rattle.mon_text.specs.Feeding.{has_no_end}
 use Rattle.mon_catalogue.specs.Sets.{Sets}
@@ -74,3 +74,9 @@ abbrev pub HasBrokenOff : Options → Option (List ℕ) → Option (List ℕ) �
 HasBrokenOff options told left held now =
     (given front back : List ℕ) × Gives told given left × (given ≡ front ++ back) × (length back ≤ READ_SIZE)
     × HasAnswered options held now front × (deck_ending (whole_lines front) ≡ Stopped → ⊥)
+
+-- And this is the line at which it ran out: the one behind those that were read whole.
+abbrev pub HasBrokenOffAt : Options → ℕ → Option (List ℕ) → Option (List ℕ) → Option (List ℕ) → Option (List ℕ) → Type 0
+HasBrokenOffAt options line told left held now =
+    (given front back : List ℕ) × Gives told given left × (given ≡ front ++ back) × (length back ≤ READ_SIZE)
+    × HasAnswered options held now front × (deck_ending (whole_lines front) ≡ Stopped → ⊥) × (line ≡ length (lines (whole_lines front)) + 1)

@@ -4,11 +4,13 @@
 pub mod laws;
 mod output;
 pub mod run;
+pub mod shortage;
 
 pub use mon_cards::Code;
 pub use mon_device::{
     DeckDevices, DeckReader, DeckWriter, Devices, Failed, MemReader, MemWriter, StdReader,
     StdWriter, Telling,
 };
-pub use mon_feed::{Counts, DeckFeed, Options, RunError, Slots};
-pub use run::{exit_status, put_fault, run_deck};
+pub use mon_feed::{Counts, DeckFeed, Holder, Options, RunError, Slots};
+pub use run::{exit_status, put_fault, run_deck, run_deck_noting};
+pub use shortage::{Shortage, put_shortage};

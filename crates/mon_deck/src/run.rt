@@ -6,15 +6,16 @@ ghost use Rattle.mon_slots.specs.Marks.{Marks};
 ghost use Rattle.mon_cards.specs.Decks.{Stopped, Refused};
 ghost use Rattle.mon_device.specs.declared.transfer.TheConstants.{MOST_READS, READ_SIZE};
 ghost use Rattle.mon_device.specs.Devices.{IsAtEnd, HasRead, holding};
-ghost use Rattle.mon_feed.specs.Feeds.{Good, refused_at, error_at, is_reading, IsReadBack};
+ghost use Rattle.mon_feed.specs.Feeds.{Good, refused_at, error_at, is_reading, used_by, IsReadBack};
 ghost use Rattle.mon_feed.specs.Told.{outcome_from};
 ghost use Rattle.mon_feed.specs.inner.Counting.{lines_ended};
 ghost use Rattle.mon_feed.specs.Printouts.{ReadsBack};
-ghost use Rattle.mon_deck.specs.inner.Writing.{holds, HasGrown, Serves, Refuses, Starts, Begun, Runs, Broke, Stands, BrokeOff};
-ghost use Rattle.mon_deck.specs.Runs.{deck_ending, counts_of, HoldsBeginning, HasWritten, HasRun, HasBegun, HasPrinted, HasBrokenOff};
+ghost use Rattle.mon_deck.specs.inner.Writing.{holds, HasGrown, Serves, Refuses, Starts, Begun, Runs, Stands, IsDue, BrokeOffAt, BrokeAt};
+ghost use Rattle.mon_deck.specs.Runs.{deck_ending, counts_of, HoldsBeginning, HasWritten, HasRun, HasBegun, HasPrinted, HasBrokenOff, HasBrokenOffAt};
 ghost use Rattle.mon_deck.specs.Faults.{status_of, fault_line};
 
 use crate::output::{Output, write_out};
+use crate::shortage::Shortage;
 use mon_device::{DeckDevices, Failed, MOST_READS, READ_SIZE, WRITE_SIZE};
 use mon_feed::{Counts, DeckFeed, Options, RunError};
 use mon_text::put_number;
@@ -70,9 +71,59 @@ pub fn run_deck<D: DeckDevices>(
         (D.read_failed devices.new ≡ true) ⊎ HasRead MOST_READS (D.reads devices.old) (D.reads devices.new) }
     ensures write_fault { result ≡ Err RunError.WriteFault → D.write_failed devices.new ≡ true }
 {
+    let mut shortage = Shortage::new();
+    run_deck_noting(alloc, devices, options, &mut shortage)
+}
+
+/// Runs a deck as `run_deck` does, and notes how far it has come, to be told where memory runs out.
+///
+/// # Errors
+///
+/// As `run_deck`.
+pub fn run_deck_noting<D: DeckDevices>(
+    alloc: Global,
+    devices: &mut D,
+    options: Options,
+    shortage: &mut Shortage,
+) -> Result<Counts, RunError>
+    requires sound { (D.read_failed devices.old ≡ false) × (D.write_failed devices.old ≡ false) }
+
+    // A good deck was read to its end, and its output was written, whose catalogue can be read again.
+    ensures at_end { OnOk result (IsAtEnd (D.remaining devices.new)) }
+    ensures stopped { OnOk result (IfSome (D.remaining devices.old) (λ bytes. deck_ending bytes ≡ Stopped)) }
+    ensures output { OnOk result (IfSome (D.remaining devices.old) (λ bytes. HasRun options (D.written devices.old) (D.written devices.new) bytes)) }
+    ensures counts { IfOk result (λ counts. IfSome (D.remaining devices.old) (λ bytes. counts ≡ counts_of bytes)) }
+
+    // A refused deck is refused at its first refusal, and what came before that was written.
+    ensures refused { (line : ℕ) (code : Code) → result ≡ Err (RunError.DeckRefused line code) →
+        IfSome (D.remaining devices.old) (λ bytes. deck_ending bytes ≡ Refused line code) }
+    ensures refused_output { (line : ℕ) (code : Code) → result ≡ Err (RunError.DeckRefused line code) →
+        IfSome (D.remaining devices.old) (λ bytes. HasWritten options (D.written devices.old) (D.written devices.new) bytes) }
+
+    // Whatever is answered, what was written is a beginning of the output.
+    ensures begun { HasBegun options (D.remaining devices.old) (D.remaining devices.new) (D.written devices.old) (D.written devices.new) }
+
+    // Where the reader failed, all lines that were read whole have been answered, and none was refused. They had been before
+    // that read, since nothing may be written after it.
+    ensures due { result ≡ Err RunError.ReadFault → HasPrinted options (D.remaining devices.old) (D.remaining devices.new) (D.written devices.old) (D.written devices.new) }
+
+    // Where memory ran out, it did at a line of the last read: those before it have been answered, none was refused, and no
+    // `$STOP` was among them.
+    ensures short { result ≡ Err RunError.Memory → HasBrokenOff options (D.remaining devices.old) (D.remaining devices.new) (D.written devices.old) (D.written devices.new) }
+
+    // Where a device failed, that is told; and only there.
+    ensures faults { (D.read_failed devices.new ≡ true → result ≡ Err RunError.ReadFault) × (D.write_failed devices.new ≡ true → result ≡ Err RunError.WriteFault) }
+    ensures read_fault { result ≡ Err RunError.ReadFault →
+        (D.read_failed devices.new ≡ true) ⊎ HasRead MOST_READS (D.reads devices.old) (D.reads devices.new) }
+    ensures write_fault { result ≡ Err RunError.WriteFault → D.write_failed devices.new ≡ true }
+
+    // Where memory ran out, the line that is noted is the one behind those that were read whole.
+    ensures line { result ≡ Err RunError.Memory → HasBrokenOffAt options shortage.new.line (D.remaining devices.old) (D.remaining devices.new) (D.written devices.old) (D.written devices.new) }
+{
+    *shortage = Shortage::new();
     let mut feed = DeckFeed::new(alloc, options);
     let mut out = Output::new(alloc)?;
-    match feed_all(alloc, devices, &mut feed, &mut out) {
+    match feed_all(alloc, devices, &mut feed, &mut out, shortage) {
         Ok(()) => finish(alloc, feed, &mut out, devices),
         Err(error) => Err(error),
     }
@@ -84,15 +135,18 @@ fn feed_all<D: DeckDevices>(
     devices: &mut D,
     feed: &mut DeckFeed,
     out: &mut Output,
+    shortage: &mut Shortage,
 ) -> Result<(), RunError>
     requires sound { (D.read_failed devices.old ≡ false) × (D.write_failed devices.old ≡ false) }
     requires start { feed.old.fed ≡ 0 }
+    requires first { shortage.old.line ≡ 1 }
     requires reading { is_reading feed.old.state ≡ true }
     requires empty { out.old.printed ≡ [] }
-    ensures runs { OnOk result ((given : List ℕ) × Runs (D.remaining devices.old) (D.remaining devices.new) (D.written devices.old) (D.written devices.new) feed.old feed.new given) }
+    ensures runs { OnOk result ((given : List ℕ) × Runs (D.remaining devices.old) (D.remaining devices.new) (D.written devices.old) (D.written devices.new) feed.old feed.new given
+        × IsDue 1 shortage.new.line feed.new given) }
     ensures begun { OnErr result ((given : List ℕ) × Begun (D.remaining devices.old) (D.remaining devices.new) (D.written devices.old) (D.written devices.new) feed.old given) }
     ensures due { result ≡ Err RunError.ReadFault → (given : List ℕ) × Runs (D.remaining devices.old) (D.remaining devices.new) (D.written devices.old) (D.written devices.new) feed.old feed.new given }
-    ensures short { result ≡ Err RunError.Memory → (given : List ℕ) × Broke (D.remaining devices.old) (D.remaining devices.new) (D.written devices.old) (D.written devices.new) feed.old given }
+    ensures short { result ≡ Err RunError.Memory → (given : List ℕ) × BrokeAt (D.remaining devices.old) (D.remaining devices.new) (D.written devices.old) (D.written devices.new) feed.old given 1 shortage.new.line }
     ensures at_end { OnOk result (IsAtEnd (D.remaining devices.new)) }
     ensures empty { OnOk result (out.new.printed ≡ []) }
     ensures reads_back { IsReadBack feed.old.options.check feed.old.state → OnOk result (IsReadBack feed.new.options.check feed.new.state) }
@@ -110,7 +164,7 @@ fn feed_all<D: DeckDevices>(
         match devices.read(&mut buffer) {
             Err(Failed) => return Err(RunError::ReadFault),
             Ok(0) => return Ok(()),
-            Ok(count) => match serve(alloc, feed, &buffer[..count], out, devices) {
+            Ok(count) => match serve(alloc, feed, &buffer[..count], out, devices, shortage) {
                 Ok(()) => {}
                 Err(error) => return Err(error),
             },
@@ -133,16 +187,20 @@ fn serve<D: DeckDevices>(
     piece: &[u8],
     out: &mut Output,
     devices: &mut D,
+    shortage: &mut Shortage,
 ) -> Result<(), RunError>
     requires sound { (D.read_failed devices.old ≡ false) × (D.write_failed devices.old ≡ false) }
     requires few { feed.old.fed + length piece.now < 2 ^ 63 }
+    requires lines { shortage.old.line ≤ feed.old.fed + 1 }
     requires reading { error_at feed.old.state ≡ None }
     requires empty { out.old.printed ≡ [] }
     ensures served { OnOk result (Stands (D.written devices.old) (D.written devices.new) [] feed.old feed.new piece.now) }
     ensures refused { (n : ℕ) (code : AnyCode) → result ≡ Err (RunError.DeckRefused n code) →
         Refuses (D.written devices.old) (D.written devices.new) [] feed.old piece.now n code }
     ensures begun { Starts (D.written devices.old) (D.written devices.new) [] feed.old piece.now }
-    ensures short { result ≡ Err RunError.Memory → BrokeOff (D.written devices.old) (D.written devices.new) feed.old piece.now }
+    ensures short { result ≡ Err RunError.Memory → BrokeOffAt (D.written devices.old) (D.written devices.new) feed.old piece.now shortage.old.line shortage.new.line }
+    ensures due { OnOk result (IsDue shortage.old.line shortage.new.line feed.new piece.now) }
+    ensures lines { OnOk result (shortage.new.line ≤ feed.new.fed + 1) }
     ensures empty { OnOk result (out.new.printed ≡ []) }
     ensures fed { OnOk result (feed.new.fed ≡ feed.old.fed + length piece.now) }
     ensures reads_back { IsReadBack feed.old.options.check feed.old.state → OnOk result (IsReadBack feed.new.options.check feed.new.state) }
@@ -155,7 +213,10 @@ fn serve<D: DeckDevices>(
 {
     let mut rest = piece;
     'lines: while !rest.is_empty() {
+        let commands = feed.commands();
         let used = serve_line(alloc, feed, rest, out, devices)?;
+        shortage.look(feed, commands);
+        shortage.pass(&rest[..used]);
         rest = &rest[used..];
     }
     match flush(out, devices) {
@@ -177,6 +238,7 @@ fn serve_line<D: DeckDevices>(
     requires few { feed.old.fed + length piece.now < 2 ^ 63 }
     requires reading { error_at feed.old.state ≡ None }
     ensures used { IfOk result (λ used. (0 < used) × (used ≤ length piece.now) × (feed.new.fed ≡ feed.old.fed + used)) }
+    ensures line { IfOk result (λ used. used ≡ used_by feed.old.state piece.now) }
     ensures served { IfOk result (λ used. Serves (D.written devices.old) (D.written devices.new) out.old.printed feed.old (take used piece.now) out.new.printed feed.new) }
     ensures refused { (n : ℕ) (code : AnyCode) → result ≡ Err (RunError.DeckRefused n code) →
         Refuses (D.written devices.old) (D.written devices.new) out.old.printed feed.old piece.now n code }

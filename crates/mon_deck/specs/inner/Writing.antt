@@ -70,3 +70,17 @@ pub record Broke (told left held now : Option (List ℕ)) (start : DeckFeed) (gi
   pub gives : Gives told given left
   pub broke : BrokeOff held now start given
   pub last : length broke.back ≤ READ_SIZE
+
+-- where the deck is still read, this line is due: behind the first one, so many have ended
+abbrev pub IsDue : ℕ → ℕ → DeckFeed → List ℕ → Type 0
+IsDue first line f given = is_reading f.state ≡ true → line ≡ first + lines_ended given
+
+-- it broke off within this piece, at this line
+pub record BrokeOffAt (held now : Option (List ℕ)) (start : DeckFeed) (piece : List ℕ) (first line : ℕ) : Type 0 where
+  pub broke : BrokeOff held now start piece
+  pub line_is : line ≡ first + lines_ended broke.front
+
+-- the run broke off within the bytes of the last read, at this line
+pub record BrokeAt (told left held now : Option (List ℕ)) (start : DeckFeed) (given : List ℕ) (first line : ℕ) : Type 0 where
+  pub run : Broke told left held now start given
+  pub line_is : line ≡ first + lines_ended run.broke.front

@@ -1,9 +1,12 @@
-use Rattle.std.proofs.Common.{rules, Result, Err, List, ℕ, ◌+◌, ◌≡◌, ◌∙◌, length, drop, ap, sym, subst, refl, arith}
+use Rattle.std.proofs.Common.{rules, Result, Err, List, ℕ, ◌+◌, ◌≡◌, ◌∙◌, length, take, drop, ap, sym, subst, refl, arith}
 use Rattle.std.proofs.lemmas.List.{take_rest, length-drop}
 use Rattle.mon_text.proofs.Cutting.{nothing_kept}
 use Rattle.mon_feed.specs.declared.fault.RunError.{RunError}
 use Rattle.mon_feed.specs.declared.fault.RunError.TheVariants.{DeckRefused, Memory}
 use Rattle.mon_deck.proofs.Holdings.{Far, not_grown, grown_further, all_told, far_at_start, starts_far, refuses_far, further, all_taken, breaks_off}
+use Rattle.mon_feed.specs.inner.Counting.{lines_ended}
+use Rattle.mon_deck.specs.inner.Ending.{ended_by}
+use Rattle.mon_deck.proofs.Counted.{one_at_most, due_further, due_behind}
 use Rattle.mon_deck.proofs.run.serve.Goals as goal
 
 pub returns-in_err-used-clause-begun : goal.returns-in_err-used-clause-begun
@@ -20,7 +23,8 @@ pub returns-in_err-used-clause-short : goal.returns-in_err-used-clause-short
 returns-in_err-used-clause-short g c = λ short.
     let so : ◌≡◌ {A = Result ℕ RunError} c.serve_line.result (Err Memory) = search (rules, short) in
     let at = c.serve_line.ensures.short so in
-    breaks_off _ (g.D.DeckDevices.written c.lines.devices) c.lines.out.printed _ c.lines.feed _ c.lines.rest.now c.lines.invariant.far _ at.0 at.1
+    breaks_off _ (g.D.DeckDevices.written c.lines.devices) c.lines.out.printed _ c.lines.feed _ c.lines.rest.now c.lines.invariant.far _
+    c.args.shortage.now.line c.lines.shortage.line at.0 at.1 c.lines.invariant.due
 
 pub returns-in-Ok-clause-begun : goal.returns-in-Ok-clause-begun
 returns-in-Ok-clause-begun g c =
@@ -37,10 +41,17 @@ returns-in-Ok-clause-served g c =
     all_taken _ (g.D.DeckDevices.written c.lines.devices) c.lines.out.printed _ _ _ c.lines.rest.now c.lines.invariant.far _ c.flush.new.out.printed
     (nothing_kept c.lines.rest.now (sym c.is_empty.ensures ∙ c.lines-test.false)) c.in-Ok.ensures.put c.in-Ok.ensures.empty
 
+pub returns-in-Ok-clause-due : goal.returns-in-Ok-clause-due
+returns-in-Ok-clause-due g c = λ reading.
+    due_behind c.lines.rest.now c.args.shortage.now.line c.lines.shortage.line (lines_ended c.args.piece.now)
+    (nothing_kept c.lines.rest.now (sym c.is_empty.ensures ∙ c.lines-test.false)) (c.lines.invariant.due reading)
+
 pub lines-init : goal.lines-init
 lines-init g c = record {
   far = far_at_start _ _ _ _ c.requires.empty c.requires.reading;
   grown = not_grown (g.D.DeckDevices.written c.args.devices.now);
+  due = λ reading. refl;
+  lines = c.requires.lines;
   fed = refl;
   reads_back = λ back. back;
   options = refl;
@@ -59,11 +70,18 @@ lines-preserved g c =
     let now = g.D.DeckDevices.written c.serve_line.new.devices in
     let there : feed.fed + length (drop used rest) ≡ c.args.feed.now.fed + length c.args.piece.now =
     omega (arith, c.in_ok-used.ensures.used.1, c.in_ok-used.ensures.used.2, length-drop used rest, c.lines.invariant.fed) in
+    let line : c.pass.new.self.line ≡ c.lines.shortage.line + ended_by (take used rest) = c.pass.ensures.line ∙ ap (λ (n : ℕ). n + ended_by (take used rest)) c.look.ensures.line in
     record {
       far = subst (λ (v : List ℕ). Far held now c.serve_line.new.out.printed c.args.feed.now feed c.args.piece.now v) (sym (take_rest rest used))
           (further held (g.D.DeckDevices.written c.lines.devices) c.lines.out.printed c.args.feed.now c.lines.feed c.args.piece.now rest c.lines.invariant.far
           now c.serve_line.new.out.printed feed used c.in_ok-used.ensures.served c.in_ok-used.ensures.counted c.in_ok-used.ensures.reading);
       grown = grown_further _ _ _ c.lines.invariant.grown c.serve_line.ensures.grown;
+      due = λ reading.
+          subst (λ (v : List ℕ). c.pass.new.self.line + lines_ended v ≡ c.args.shortage.now.line + lines_ended c.args.piece.now) (sym (take_rest rest used))
+          (ap (λ (n : ℕ). n + lines_ended (drop used rest)) line
+          ∙ due_further c.lines.feed.state rest used c.args.shortage.now.line c.lines.shortage.line (lines_ended c.args.piece.now) c.in_ok-used.ensures.line
+          (c.in_ok-used.ensures.counted reading).0 (c.lines.invariant.due (c.in_ok-used.ensures.counted reading).0));
+      lines = omega (arith, line, c.lines.invariant.lines, c.in_ok-used.ensures.used.0, c.in_ok-used.ensures.used.2, one_at_most (take used rest));
       fed = ap (λ (v : List ℕ). feed.fed + length v) (take_rest rest used) ∙ there;
       reads_back = λ back. c.in_ok-used.ensures.reads_back (c.lines.invariant.reads_back back);
       options = c.serve_line.ensures.options ∙ c.lines.invariant.options;

@@ -1,6 +1,7 @@
 -- What was written and gathered so far is what comes of the part of the piece that was taken, whatever follows.
-use Rattle.std.proofs.Common.{◌≡◌, ◌+◌, false, length}
-use Rattle.mon_feed.specs.Feeds.{IsReadBack}
+use Rattle.std.proofs.Common.{◌≡◌, ◌≤◌, ◌+◌, true, false, length}
+use Rattle.mon_feed.specs.Feeds.{IsReadBack, is_reading}
+use Rattle.mon_feed.specs.inner.Counting.{lines_ended}
 use Rattle.mon_deck.specs.inner.Writing.{HasGrown}
 use Rattle.mon_deck.proofs.Holdings.{Far}
 use Rattle.mon_deck.proofs.run.serve.Given as goal
@@ -9,6 +10,8 @@ abbrev pub invariant-lines : goal.invariant-lines
 invariant-lines g l = record {
   far : Far (g.D.DeckDevices.written l.fn.devices) (g.D.DeckDevices.written l.devices) l.out.printed l.fn.feed l.feed l.fn.piece l.rest;
   grown : HasGrown (g.D.DeckDevices.written l.fn.devices) (g.D.DeckDevices.written l.devices);
+  due : is_reading l.feed.state ≡ true → l.shortage.line + lines_ended l.rest ≡ l.fn.shortage.line + lines_ended l.fn.piece;
+  lines : l.shortage.line ≤ l.feed.fed + 1;
   fed : l.feed.fed + length l.rest ≡ l.fn.feed.fed + length l.fn.piece;
   reads_back : IsReadBack l.fn.feed.options.check l.fn.feed.state → IsReadBack l.feed.options.check l.feed.state;
   options : l.feed.options ≡ l.fn.feed.options;

@@ -1,10 +1,10 @@
-use Rattle.std.proofs.Common.{rules, ◌≡◌, ◌∙◌, sym, subst, [], List, ℕ, Option}
+use Rattle.std.proofs.Common.{rules, refl, ◌≡◌, ◌∙◌, sym, subst, [], List, ℕ, Option}
 use Rattle.mon_cards.specs.Decks.{Stopped, Refused}
-use Rattle.mon_deck.specs.Runs.{deck_ending, HasWritten, HasRun, HasBegun, HasBrokenOff}
+use Rattle.mon_deck.specs.Runs.{deck_ending, HasWritten, HasRun, HasBegun, HasBrokenOff, HasBrokenOffAt}
 use Rattle.mon_feed.proofs.Telling.{refused_so}
 use Rattle.mon_deck.proofs.Running.{run_good, run_bad, met_bad, on_good, counts_good, if_some, IsGood, broken, finished, fault_so, memory_so, broke_behind, begun_at_start, broke_at_start}
-use Rattle.mon_deck.proofs.Due.{due, broken_off}
-use Rattle.mon_deck.proofs.run.run_deck.Goals as goal
+use Rattle.mon_deck.proofs.Due.{due, broken_off, broken_off_at}
+use Rattle.mon_deck.proofs.run.run_deck_noting.Goals as goal
 
 pub returns-in-Ok-clause-stopped : goal.returns-in-Ok-clause-stopped
 returns-in-Ok-clause-stopped g c =
@@ -81,9 +81,20 @@ returns-in-Ok-clause-short g c = λ short.
     let held = g.D.DeckDevices.written c.args.devices.now in
     let now = g.D.DeckDevices.written c.finish.new.devices in
     let at = c.finish.ensures.short short in
-    let broke = broke_behind _ _ held _ c.new-feed.result _ r.0 r.1 now at.1 at.0 in
+    let broke = broke_behind _ _ held _ c.new-feed.result _ r.0 r.1 now 1 c.feed_all.new.shortage.line at.1 at.0 r.2 in
     subst (λ (l : Option (List ℕ)). HasBrokenOff c.args.options (g.D.DeckDevices.remaining c.args.devices.now) l held now) (sym c.finish.ensures.apart.0)
-    (broken_off c.args.options _ _ held now c.new-feed.result broke.0 c.new-feed.ensures.start broke.1)
+    (broken_off c.args.options _ _ held now _ (broken_off_at c.args.options _ _ held now c.new-feed.result broke.0 c.new-feed.ensures.start _ broke.1))
+
+pub returns-in-Ok-clause-line : goal.returns-in-Ok-clause-line
+returns-in-Ok-clause-line g c = λ short.
+    let r = c.in-Ok.ensures.runs in
+    let held = g.D.DeckDevices.written c.args.devices.now in
+    let now = g.D.DeckDevices.written c.finish.new.devices in
+    let line = c.feed_all.new.shortage.line in
+    let at = c.finish.ensures.short short in
+    let broke = broke_behind _ _ held _ c.new-feed.result _ r.0 r.1 now 1 line at.1 at.0 r.2 in
+    subst (λ (l : Option (List ℕ)). HasBrokenOffAt c.args.options line (g.D.DeckDevices.remaining c.args.devices.now) l held now) (sym c.finish.ensures.apart.0)
+    (broken_off_at c.args.options _ _ held now c.new-feed.result broke.0 c.new-feed.ensures.start _ broke.1)
 
 pub returns-in-Err-clause-begun : goal.returns-in-Err-clause-begun
 returns-in-Err-clause-begun g c =
@@ -98,12 +109,22 @@ returns-in-Err-clause-due g c = λ fault.
 pub returns-in-Err-clause-short : goal.returns-in-Err-clause-short
 returns-in-Err-clause-short g c = λ short.
     let b = c.feed_all.ensures.short (c.in-Err.is ∙ memory_so c.in-Err.error short) in
-    broken_off c.args.options _ _ _ _ c.new-feed.result b.0 c.new-feed.ensures.start b.1
+    broken_off c.args.options _ _ _ _ _ (broken_off_at c.args.options _ _ _ _ c.new-feed.result b.0 c.new-feed.ensures.start _ b.1)
+
+pub returns-in-Err-clause-line : goal.returns-in-Err-clause-line
+returns-in-Err-clause-line g c = λ short.
+    let b = c.feed_all.ensures.short (c.in-Err.is ∙ memory_so c.in-Err.error short) in
+    broken_off_at c.args.options _ _ _ _ c.new-feed.result b.0 c.new-feed.ensures.start _ b.1
 
 pub returns-in_err-out-clause-begun : goal.returns-in_err-out-clause-begun
 returns-in_err-out-clause-begun g c = broken c.args.options _ _ _ _ c.new-feed.result c.new-feed.ensures.start [] (begun_at_start _ _ _)
 
 pub returns-in_err-out-clause-short : goal.returns-in_err-out-clause-short
 returns-in_err-out-clause-short g c = λ short.
-    let b = broke_at_start (g.D.DeckDevices.remaining c.args.devices.now) (g.D.DeckDevices.written c.args.devices.now) c.new-feed.result (search rules) in
-    broken_off c.args.options _ _ _ _ c.new-feed.result b.0 c.new-feed.ensures.start b.1
+    let b = broke_at_start (g.D.DeckDevices.remaining c.args.devices.now) (g.D.DeckDevices.written c.args.devices.now) c.new-feed.result 1 refl (search rules) in
+    broken_off c.args.options _ _ _ _ 1 (broken_off_at c.args.options _ _ _ _ c.new-feed.result b.0 c.new-feed.ensures.start 1 b.1)
+
+pub returns-in_err-out-clause-line : goal.returns-in_err-out-clause-line
+returns-in_err-out-clause-line g c = λ short.
+    let b = broke_at_start (g.D.DeckDevices.remaining c.args.devices.now) (g.D.DeckDevices.written c.args.devices.now) c.new-feed.result _ c.new.ensures.line (search rules) in
+    broken_off_at c.args.options _ _ _ _ c.new-feed.result b.0 c.new-feed.ensures.start _ b.1
