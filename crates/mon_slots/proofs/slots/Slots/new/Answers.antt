@@ -1,4 +1,4 @@
-use Rattle.std.proofs.Common.{◌≡◌, ◌∙◌, ap, arith, ℕ, None, replicate}
+use Rattle.std.proofs.Common.{◌∙◌, ap, arith, ℕ, None, replicate}
 use Rattle.mon_slots.specs.Told.{seats_of}
 use Rattle.mon_slots.proofs.Seats.{empty_seats}
 use Rattle.mon_slots.proofs.slots.Slots.new.Goals as goal
