@@ -8,15 +8,16 @@ use Rattle.mon_feed.specs.declared.fault.RunError.{RunError}
 use Rattle.mon_feed.specs.declared.fault.RunError.TheVariants.{DeckRefused, ReadFault, Memory}
 use Rattle.mon_feed.specs.declared.options.Options.{Options}
 use Rattle.mon_feed.specs.declared.options.Counts.{Counts}
-use Rattle.mon_deck.specs.Runs.{deck_ending, counts_of, HasWritten, HasRun, HasBegun, HasPrinted, HasBrokenOff}
+use Rattle.mon_deck.specs.Runs.{deck_ending, counts_of, HasWritten, HasRun, HasBegun, HasPrinted, HasBrokenOffAt}
+use Rattle.mon_deck.specs.declared.shortage.Shortage.{Shortage}
 
 -- what a stream tells now that told this at first: nothing, where it told nothing
 abbrev pub told_since : Option (List ℕ) → Option (List ℕ) → Option (List ℕ)
 told_since first now = where_told (is_some first) now
 
--- How a run of a deck comes out, by what its reader told and has left, and what its writer held and holds now: what `run_deck`
--- says of its devices.
-pub record Comes (options : Options) (told left held now : Option (List ℕ)) (outcome : Result Counts RunError) : Type 0 where
+-- How a run of a deck comes out, by what its reader told and has left, what its writer held and holds now, and how far the run had
+-- come where memory ran out: what `run_deck_noting` says of its devices.
+pub record Comes (options : Options) (told left held now : Option (List ℕ)) (outcome : Result Counts RunError) (shortage : Shortage) : Type 0 where
   pub at_end : OnOk outcome (IsAtEnd left)
   pub stopped : OnOk outcome (IfSome told (λ bytes. deck_ending bytes ≡ Stopped))
   pub output : OnOk outcome (IfSome told (λ bytes. HasRun options held now bytes))
@@ -25,4 +26,4 @@ pub record Comes (options : Options) (told left held now : Option (List ℕ)) (o
   pub refused_output : (line : ℕ) (code : Code) → outcome ≡ Err (DeckRefused line code) → IfSome told (λ bytes. HasWritten options held now bytes)
   pub begun : HasBegun options told left held now
   pub due : outcome ≡ Err ReadFault → HasPrinted options told left held now
-  pub short : outcome ≡ Err Memory → HasBrokenOff options told left held now
+  pub short : outcome ≡ Err Memory → HasBrokenOffAt options shortage.line told left held now

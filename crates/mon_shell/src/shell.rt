@@ -1,12 +1,12 @@
 //! How a run ends: what is told of it, and the exit status.
 ghost use Rattle.std.specs.Prelude.{◌≡◌, true, OnOk, IfSome};
 ghost use Rattle.std.specs.Io.KnownBytes.{Appends};
-ghost use Rattle.mon_deck.specs.Faults.{status_of, fault_line};
+ghost use Rattle.mon_deck.specs.Faults.{status_of, fault_line, shortage_line};
 ghost use Rattle.mon_shell.specs.Streams.{told_since};
-ghost use Rattle.mon_shell.specs.Endings.{Tells, Ends};
+ghost use Rattle.mon_shell.specs.Endings.{Tells, Ends, told_of};
 
 use crate::streams::run_streams;
-use mon_deck::{Counts, Options, RunError, exit_status, put_fault};
+use mon_deck::{Counts, Options, RunError, Shortage, exit_status, put_fault, put_shortage};
 use std::alloc::Global;
 use std::fmt::Display;
 use std::io;
@@ -44,13 +44,22 @@ pub fn run_options<R: Read + Drop, W: Write + Drop, E: Write + Drop>(
     ensures silent { result.status ≡ 0 → result.errors ≡ errors }
 {
     let ran = run_streams(alloc, options, input, output);
-    finish(alloc, ran.outcome, ran.input, ran.output, errors)
+    finish(
+        alloc,
+        ran.outcome,
+        Some(ran.shortage),
+        ran.input,
+        ran.output,
+        errors,
+    )
 }
 
-/// Tells a fault, where there is one, and gives the exit status.
+/// Tells a fault, where there is one, and gives the exit status. Where memory ran out, how far the run had come is told too, if it
+/// is given.
 pub fn finish<R: Drop, W: Drop, E: Write + Drop>(
     alloc: Global,
     outcome: Result<Counts, RunError>,
+    shortage: Option<Shortage>,
     input: R,
     output: W,
     mut errors: E,
@@ -59,11 +68,11 @@ pub fn finish<R: Drop, W: Drop, E: Write + Drop>(
     ensures input { result.input ≡ input }
     ensures output { result.output ≡ output }
     ensures silent { OnOk outcome (result.errors ≡ errors) }
-    ensures told { Tells outcome result.is_told (E.contents errors) (E.contents result.errors) }
+    ensures told { Tells outcome shortage result.is_told (E.contents errors) (E.contents result.errors) }
 {
     let is_told = match &outcome {
         Ok(_) => false,
-        Err(fault) => tell(alloc, fault, &mut errors).is_ok(),
+        Err(fault) => tell(alloc, fault, &shortage, &mut errors).is_ok(),
     };
     Ended {
         status: exit_status(&outcome),
@@ -74,12 +83,40 @@ pub fn finish<R: Drop, W: Drop, E: Write + Drop>(
     }
 }
 
+// Writes the line for a fault, and behind it, where memory ran out, how far the run had come.
+fn tell<E: Write>(
+    alloc: Global,
+    fault: &RunError,
+    shortage: &Option<Shortage>,
+    errors: &mut E,
+) -> io::Result<()>
+    ensures { OnOk result (Appends (E.contents errors.old) (E.contents errors.new) (told_of fault.now shortage.now)) }
+{
+    tell_fault(alloc, fault, errors)?;
+    match fault {
+        RunError::Memory => match shortage {
+            Some(shortage) => tell_shortage(alloc, shortage, errors),
+            None => Ok(()),
+        },
+        _ => Ok(()),
+    }
+}
+
 // Writes the line for a fault. Where there is no memory for it nothing is written.
-fn tell<E: Write>(alloc: Global, fault: &RunError, errors: &mut E) -> io::Result<()>
+fn tell_fault<E: Write>(alloc: Global, fault: &RunError, errors: &mut E) -> io::Result<()>
     ensures { OnOk result (Appends (E.contents errors.old) (E.contents errors.new) (fault_line fault.now)) }
 {
     let mut line = Vec::new(alloc);
     put_fault(fault, &mut line)?;
+    errors.write_all(&line)
+}
+
+// Writes how far a run had come. Where there is no memory for the line nothing is written.
+fn tell_shortage<E: Write>(alloc: Global, shortage: &Shortage, errors: &mut E) -> io::Result<()>
+    ensures { OnOk result (Appends (E.contents errors.old) (E.contents errors.new) (shortage_line shortage.now)) }
+{
+    let mut line = Vec::new(alloc);
+    put_shortage(shortage, &mut line)?;
     errors.write_all(&line)
 }
 
