@@ -1,5 +1,5 @@
 //! What the program does, over any streams of std: from its words and three streams to what stands in these and the exit status.
-ghost use Rattle.std.specs.Prelude.{◌≡◌, ◌⊎◌, map, IfOk, IfErr, IsOkAnd, Err};
+ghost use Rattle.std.specs.Prelude.{◌≡◌, ◌⊎◌, map, IfOk, IfErr, IsOkAnd, Err, None};
 ghost use Rattle.clap.specs.Words.{kind_of};
 ghost use Rattle.mon_feed.specs.declared.options.Options.{Options};
 ghost use Rattle.mon_shell.specs.Streams.{told_since};
@@ -32,7 +32,7 @@ pub fn run<S: AsStr + Drop, R: Read + Drop, W: Write + Drop, E: Write + Drop>(
         × (result.input ≡ input) × (result.output ≡ output) }
     ensures ran { (result.status ≡ 2)
         ⊎ ((result.status ≡ 3) × (result.input ≡ input) × (result.output ≡ output)
-        × Tells (Err RunError.Memory) result.is_told (E.contents errors) (E.contents result.errors))
+        × Tells (Err RunError.Memory) None result.is_told (E.contents errors) (E.contents result.errors))
         ⊎ ((options : Options) × IsOkAnd words (λ list. Gives (map S.text list.items) options)
         × Ends options (R.remaining input) (told_since (R.remaining input) (R.remaining result.input)) (W.contents output)
         (told_since (W.contents output) (W.contents result.output)) result.status result.is_told (E.contents errors)
@@ -42,7 +42,7 @@ pub fn run<S: AsStr + Drop, R: Read + Drop, W: Write + Drop, E: Write + Drop>(
     match given_options(alloc, seed, words) {
         Ok(options) => run_options(alloc, options, input, output, errors),
         Err(error) if error.kind() == ErrorKind::OutOfMemory => {
-            finish(alloc, Err(RunError::Memory), input, output, errors)
+            finish(alloc, Err(RunError::Memory), None, input, output, errors)
         }
         Err(error) => refuse(error, input, output, errors),
     }
