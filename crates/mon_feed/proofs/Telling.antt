@@ -17,7 +17,7 @@ use Rattle.mon_feed.specs.declared.stage.Stage.{Stage}
 use Rattle.mon_feed.specs.declared.stage.State.{State}
 use Rattle.mon_feed.specs.declared.stage.State.TheVariants as state
 use Rattle.mon_feed.specs.Scenes.{nothing_counted, both_counted}
-use Rattle.mon_feed.specs.Feeds.{outcome, outcome_of, behind, refused_at, fault_at, IsReadBack, Outcome, Good, Bad}
+use Rattle.mon_feed.specs.Feeds.{outcome, outcome_of, behind, refused_at, fault_at, stopped_by, IsReadBack, Outcome, Good, Bad}
 use Rattle.mon_feed.specs.Printouts.{ReadsBack}
 use Rattle.mon_feed.specs.Told.{last_lines}
 use Rattle.mon_feed.specs.inner.Lines.{TookLine, Ended, EndBegun}
@@ -71,7 +71,7 @@ behind_good out counts sets =
     ∙ ap (λ (k : Counts). record { written = out; conclusion = Good k sets }) (and_nothing counts)
 
 -- the same refusal of another call
-abbrev error_of : {T : Type 0} → Result T RunError → RunError → RunError
+abbrev pub error_of : {T : Type 0} → Result T RunError → RunError → RunError
 error_of (Ok x) other = other
 error_of (Err error) other = error
 
@@ -176,20 +176,27 @@ begun_last options s n ls out counts after same = record {
 
 -- the last line was refused
 pub stop_bad : (options : Options) (out : List ℕ) (counts : Counts) (s : State) (n : ℕ) (last out' : List ℕ) → (length last == 0) ≡ false → out' ≡ out
-    → (stop : Stop Code) → IfRefused (λ code. (jobs : ℕ) → (m : Marks) → (n : ℕ) → (ls : List (List ℕ)) → outcome options jobs m s n (last ∷ ls) ≡ refused_at n code) stop
-    → (fault : RunError) → fault ≡ fault_at n stop → (k : ℕ) → (code : Code) → ◌≡◌ {A = Result Counts RunError} (Err fault) (Err (DeckRefused k code))
+    → (c : Code) → ((jobs : ℕ) → (m : Marks) → (n : ℕ) → (ls : List (List ℕ)) → outcome options jobs m s n (last ∷ ls) ≡ refused_at n c)
+    → (told : Code) → told ≡ c → (k : ℕ) → (code : Code) → ◌≡◌ {A = Result Counts RunError} (Err (DeckRefused n told)) (Err (DeckRefused k code))
     → Ended options s n (last_lines last) out counts out' (Bad k code)
-stop_bad options out counts s n last out' full same stop.Memory refused fault is k code error =
-    let none : fault ≡ Memory = is in
-    let some : fault ≡ DeckRefused k code = ap (λ r. error_of r fault) error in
-    let no : Memory ≡ DeckRefused k code = sym none ∙ some in
-    cc
-stop_bad options out counts s n last out' full same (stop.Refused c) refused fault is k code error = record {
+stop_bad options out counts s n last out' full same c refused told is k code error = record {
   marks = [];
   is = λ rest.
       ap (λ b. behind out counts (outcome options counts.jobs rest s n (if b then [] else last ∷ []))) full
       ∙ ap (behind out counts) (refused counts.jobs rest n [])
       ∙ behind_refused out counts n c
       ∙ ap (λ t. record { written = t; conclusion = Bad n c }) (sym same)
-      ∙ ap (λ (o : Outcome). record { written = out'; conclusion = o.conclusion }) (ap of_answer (ap Err (sym is) ∙ error));
+      ∙ ap (λ (d : Code). record { written = out'; conclusion = Bad n d }) (sym is)
+      ∙ ap (λ (o : Outcome). record { written = out'; conclusion = o.conclusion }) (ap of_answer error);
 }
+
+-- a line was refused, and so the feed stands
+pub stop_told : (options : Options) (out : List ℕ) (counts k : Counts) (s s' : State) (n i : ℕ) (line : List ℕ) (stop : Stop Code) (m : Marks)
+    → IfRefused (λ code. (jobs : ℕ) → (m : Marks) → (n : ℕ) → (ls : List (List ℕ)) → outcome options jobs m s n (line ∷ ls) ≡ refused_at n code) stop
+    → s' ≡ stopped_by (fault_at n stop) → (fault : RunError) → fault ≡ fault_at n stop → (j : ℕ) → (code : Code) → fault ≡ DeckRefused j code
+    → (later ls : List (List ℕ)) → behind out k (outcome options k.jobs m s' i later) ≡ behind out counts (outcome options counts.jobs m s n (line ∷ ls))
+stop_told options out counts k s s' n i line stop.Memory m refused stands fault is j code bad later ls =
+    let no : Memory ≡ DeckRefused j code = sym is ∙ bad in
+    cc
+stop_told options out counts k s s' n i line (stop.Refused c) m refused stands fault is j code bad later ls =
+    ap (λ (v : State). behind out k (outcome options k.jobs m v i later)) stands ∙ ap (behind out counts) (sym (refused counts.jobs m n ls))

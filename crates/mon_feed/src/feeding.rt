@@ -1,5 +1,5 @@
 //! Feeding a deck: each card's event happens when the card is complete.
-ghost use Rattle.std.specs.Prelude.{◌≡◌, ℕ, List, ◌+◌, ◌-◌, ◌<◌, ◌≤◌, ◌^◌, [], ◌∷◌, ◌++◌, Bool, true, false, None, length, take, Ok, Err, IfSome, IfOk, IfErr, OnOk, OnErr, IsTrue};
+ghost use Rattle.std.specs.Prelude.{◌≡◌, ℕ, List, ◌+◌, ◌-◌, ◌<◌, ◌≤◌, ◌^◌, [], ◌++◌, Bool, true, false, None, length, take, Ok, Err, IfOk, IfErr, OnOk, OnErr, IsTrue};
 ghost use Rattle.std.specs.Str.Lines.{lines};
 ghost use Rattle.mon_catalogue.specs.Sets.{Sets};
 ghost use Rattle.mon_slots.specs.Marks.{Marks};
@@ -14,7 +14,7 @@ ghost use Rattle.mon_feed.specs.Printouts.{ReadsBack};
 ghost use Rattle.mon_feed.specs.Feeds.{outcome, outcome_of, behind, refused_at, Good, Bad, Begins, OnAnswer, lines_loaded, is_reading, may_grow, used_by, IsReadBack, IsOwn, stopped_by, error_at, fault_at};
 ghost use Rattle.mon_feed.specs.Told.{told, outcome_from, Took, Begun, last_lines};
 ghost use Rattle.mon_feed.specs.inner.Counting.{lines_ended};
-ghost use Rattle.mon_feed.specs.inner.Lines.{TookLine, Ended, EndBegun};
+ghost use Rattle.mon_feed.specs.inner.Lines.{Ended, EndBegun};
 
 use crate::fault::RunError;
 use crate::feed::DeckFeed;
@@ -153,15 +153,19 @@ impl DeckFeed {
             State::Reading(_) => {}
         }
         match take_part(&mut self.line, piece) {
-            Err(_) => Err(self.run_short()),
+            Err(_) => Err(self.fail(Stop::Memory)),
             Ok((used, Some(line))) => {
                 self.fed += used as u64;
-                match self.take_line(alloc, line.text(), out) {
+                self.lines_taken += 1;
+                let answer = self
+                    .state
+                    .take_line(alloc, self.options, line.text(), &mut self.counts, out);
+                match answer {
                     Ok(()) => {
                         self.line.reuse(line);
                         Ok(used)
                     }
-                    Err(error) => Err(error),
+                    Err(stop) => Err(self.fail(stop)),
                 }
             }
             Ok((used, None)) => {
@@ -169,61 +173,30 @@ impl DeckFeed {
                 // A line that is longer than any may be need not be told by itself.
                 if piece.contains(&b'\n') {
                     self.lines_taken += 1;
-                    return Err(self.refuse(Code::LineTooLong));
+                    return Err(self.fail(Stop::Refused(Code::LineTooLong)));
                 }
                 Ok(used)
             }
         }
     }
 
-    // Memory ran out. It stays a call, since the room for a state is cleared where a function begins.
+    // The line that was counted last is refused, or memory ran out. It stays a call, since the room for a state is cleared where
+    // a function begins.
     #[inline(never)]
-    fn run_short(&mut self) -> RunError
-        ensures error { result ≡ RunError.Memory }
-        ensures state { self.new.state ≡ states.NoMemory }
+    fn fail(&mut self, stop: Stop<Code>) -> RunError
+        ensures error { result ≡ fault_at self.old.lines_taken stop }
+        ensures state { self.new.state ≡ stopped_by (fault_at self.old.lines_taken stop) }
         ensures stays { (self.new.options ≡ self.old.options) × (self.new.line ≡ self.old.line) × (self.new.fed ≡ self.old.fed) × (self.new.lines_taken ≡ self.old.lines_taken) }
     {
-        self.state = State::NoMemory;
-        RunError::Memory
-    }
-
-    // The line that was counted last is refused. It stays a call, too.
-    #[inline(never)]
-    fn refuse(&mut self, code: Code) -> RunError
-        ensures error { result ≡ RunError.DeckRefused self.old.lines_taken code }
-        ensures state { self.new.state ≡ states.Refused self.old.lines_taken code }
-        ensures stays { (self.new.options ≡ self.old.options) × (self.new.line ≡ self.old.line) × (self.new.fed ≡ self.old.fed) × (self.new.counts ≡ self.old.counts) × (self.new.lines_taken ≡ self.old.lines_taken) }
-    {
-        self.state = State::Refused(self.lines_taken, code);
-        RunError::DeckRefused(self.lines_taken, code)
-    }
-
-    // Takes a whole line: its event happens, and what that prints is appended. It stays a call, so that what it needs costs
-    // nothing where no line ends.
-    #[inline(never)]
-    fn take_line(&mut self, alloc: Global, text: &[u8], out: &mut Printed) -> Result<(), RunError>
-        requires { self.old.lines_taken < self.old.fed }
-        ensures told { OnOk result (TookLine self.old.options self.old.state text.now out.old self.old.counts self.new.state out.new self.new.counts) }
-        ensures refused { (n : ℕ) (code : AnyCode) → result ≡ Err (RunError.DeckRefused n code) →
-            (rest : Marks) (ls : List (List ℕ)) → behind out.new self.new.counts (refused_at n code)
-            ≡ behind out.old self.old.counts (outcome self.old.options self.old.counts.jobs rest self.old.state (self.old.lines_taken + 1) (text.now ∷ ls)) }
-        ensures failed { IfErr result (λ error. self.new.state ≡ stopped_by error) }
-        ensures reads_back { IsReadBack self.old.options.check self.old.state → OnOk result (IsReadBack self.new.options.check self.new.state) }
-        ensures own { IfErr result IsOwn }
-        ensures appends { Begins out.old out.new }
-        ensures nothing { OnErr result (out.new ≡ out.old) }
-        ensures stays { (self.new.options ≡ self.old.options) × (self.new.line ≡ self.old.line) × (self.new.fed ≡ self.old.fed) }
-        ensures sound { OnOk result (error_at self.new.state ≡ error_at self.old.state) }
-        ensures counted { self.new.lines_taken ≡ self.old.lines_taken + 1 }
-    {
-        self.lines_taken += 1;
-        let answer = self
-            .state
-            .take_line(alloc, self.options, text, &mut self.counts, out);
-        match answer {
-            Ok(()) => Ok(()),
-            Err(Stop::Refused(code)) => Err(self.refuse(code)),
-            Err(Stop::Memory) => Err(self.run_short()),
+        match stop {
+            Stop::Refused(code) => {
+                self.state = State::Refused(self.lines_taken, code);
+                RunError::DeckRefused(self.lines_taken, code)
+            }
+            Stop::Memory => {
+                self.state = State::NoMemory;
+                RunError::Memory
+            }
         }
     }
 
@@ -304,10 +277,12 @@ fn end(
     if last.is_empty() {
         return conclude(&state, lines_taken + 1, counts);
     }
+    let mut state = state;
     let mut counts = counts;
-    match state.after_line(alloc, options, last, &mut counts, out) {
-        Err(stop) => Err(fault_of_stop(lines_taken + 1, stop)),
-        Ok(after) => conclude(&after, lines_taken + 2, counts),
+    match state.take_line(alloc, options, last, &mut counts, out) {
+        Ok(()) => conclude(&state, lines_taken + 2, counts),
+        Err(Stop::Refused(code)) => Err(RunError::DeckRefused(lines_taken + 1, code)),
+        Err(Stop::Memory) => Err(RunError::Memory),
     }
 }
 
@@ -324,16 +299,5 @@ fn conclude(state: &State, n: u64, counts: Counts) -> Result<Counts, RunError>
         State::Stopped(_) => Ok(counts),
         State::Refused(n, code) => Err(RunError::DeckRefused(*n, *code)),
         State::NoMemory => Err(RunError::Memory),
-    }
-}
-
-// What a refusal of line n, or want of memory, is for the run.
-fn fault_of_stop(n: u64, stop: Stop<Code>) -> RunError
-    ensures value { result ≡ fault_at n stop }
-    ensures own { IsOwn result }
-{
-    match stop {
-        Stop::Refused(code) => RunError::DeckRefused(n, code),
-        Stop::Memory => RunError::Memory,
     }
 }

@@ -1,23 +1,24 @@
 //! How far the reading of a deck has come, and what the next line makes of that.
-ghost use Rattle.std.specs.Prelude.{◌≡◌, ℕ, List, true, false, None, OnOk, IsErrOf, ◌+◌, ◌<◌, ◌≤◌, ◌^◌, ◌∷◌, IfOk, IfErr, OnErr};
+ghost use Rattle.std.specs.Prelude.{◌≡◌, ℕ, List, true, None, OnOk, IsErrOf, ◌+◌, ◌<◌, ◌≤◌, ◌^◌, ◌∷◌, IfOk, IfErr, OnErr};
+ghost use Rattle.mon_catalogue.specs.Progress.{is_due};
+ghost use Rattle.mon_cards.specs.Sections.{sets_of};
 ghost use Rattle.mon_cards.specs.inner.Stops.{IfRefused};
 ghost use Rattle.mon_text.specs.declared.stop.Stop.TheVariants as stops;
 ghost use Rattle.mon_slots.specs.Marks.{Marks};
+ghost use Rattle.mon_monitor.specs.Worlds.{first_world};
+ghost use Rattle.mon_monitor.specs.Told.{world_of};
 ghost use Rattle.mon_feed.specs.declared.stage.State.TheVariants as states;
-ghost use Rattle.mon_feed.specs.inner.Lines.{TookLine};
-ghost use Rattle.mon_feed.specs.Feeds.{scene_from, refused_from, outcome, refused_at, lines_loaded, is_reading, error_at, IsReadBack};
+ghost use Rattle.mon_feed.specs.inner.Lines.{TookLine, Leaves, MovedOn};
+ghost use Rattle.mon_feed.specs.Feeds.{outcome, refused_at, lines_loaded, is_reading, error_at, IsReadBack};
 
 use crate::options::{Counts, Options};
-use crate::reading::{
-    after_account, after_card, after_catalogue, after_job_line, after_list_line, after_opening,
-    take_card, take_job_line, take_list_line,
-};
+use crate::serving::{close, put_command, put_job};
 use mon_access::Accounts;
-use mon_cards::{Code, OpenJob, OpenList, put_catalogue_line};
+use mon_cards::{Code, OpenJob, OpenList, finish_catalogue};
 use mon_catalogue::{Catalogue, Loading};
 use mon_monitor::{Monitor, Printed};
 use mon_text::Stop;
-use std::alloc::Global;
+use std::alloc::{AllocError, Global};
 use std::mem;
 use std::rc::Rc;
 
@@ -62,43 +63,13 @@ impl Drop for State {
     }
 }
 
-impl Stage {
-    // Takes a line that changes what was collected and not the section, where what was collected stands: most lines do. Whether
-    // it was one; else nothing has changed.
-    #[tactic(auto, using(crate::proofs::Taking::unmoved, crate::proofs::Taking::catalogue_line))]
-    fn take_in_place(
-        &mut self,
-        alloc: Global,
-        options: Options,
-        text: &[u8],
-        counts: &mut Counts,
-        out: &mut Printed,
-    ) -> Result<bool, Stop<Code>>
-        requires few { counts.old.jobs + counts.old.commands < 2 ^ 63 }
-        requires within { lines_loaded (states.Reading self.old) < 2 ^ 63 }
-        ensures taken { IfOk result (λ taken. taken ≡ true → TookLine options (states.Reading self.old) text.now out.old counts.old (states.Reading self.new) out.new counts.new) }
-        ensures left { IfOk result (λ taken. taken ≡ false → (self.new ≡ self.old) × (out.new ≡ out.old) × (counts.new ≡ counts.old)) }
-        ensures within { lines_loaded (states.Reading self.new) ≤ lines_loaded (states.Reading self.old) + 1 }
-        ensures counted { counts.new.jobs + counts.new.commands ≤ counts.old.jobs + counts.old.commands + 1 }
-        ensures refused { IfErr result (IfRefused (λ code. (n : ℕ) (ls : List (List ℕ)) → scene_from options.slots.number self.old n (text.now ∷ ls) ≡ refused_from options.slots.number self.old n code)) }
-        ensures nothing { OnErr result (out.new ≡ out.old) }
-    {
-        match self {
-            Stage::Catalogue(_, loading) => Ok(!put_catalogue_line(alloc, loading, text)?),
-            Stage::Stream(monitor) => take_card(alloc, options, monitor, text, counts, out),
-            Stage::List(_, list) => take_list_line(alloc, list, text),
-            Stage::Job(_, job) => take_job_line(alloc, job, text),
-            Stage::Opening | Stage::Accounts(_) => Ok(false),
-        }
-    }
-}
-
 impl State {
-    /// Takes a whole line.
+    /// Takes a whole line. It stays a call, so that what it needs costs nothing where no line ends.
     ///
     /// # Errors
     ///
     /// The line's refusal; memory. Nothing was appended then, and what the state is says nothing.
+    #[inline(never)]
     pub(crate) fn take_line(
         &mut self,
         alloc: Global,
@@ -114,108 +85,101 @@ impl State {
         ensures reads_back { IsReadBack options.check self.old → OnOk result (IsReadBack options.check self.new) }
         ensures counted { counts.new.jobs + counts.new.commands ≤ counts.old.jobs + counts.old.commands + 1 }
         ensures refused { IfErr result (IfRefused (λ code. (jobs : ℕ) (m : Marks) (n : ℕ) (ls : List (List ℕ)) → outcome options jobs m self.old n (text.now ∷ ls) ≡ refused_at n code)) }
+        ensures memory { IsErrOf result stops.Memory → is_reading self.old ≡ true }
         ensures nothing { OnErr result (out.new ≡ out.old) }
         ensures sound { OnOk result (error_at self.new ≡ error_at self.old) }
     {
-        if let State::Reading(stage) = self {
-            if stage.take_in_place(alloc, options, text, counts, out)? {
-                return Ok(());
+        match self {
+            State::Reading(stage) => {
+                if !stage.take(alloc, options, text, counts, out)? {
+                    return Ok(());
+                }
+                self.follow(alloc, options, counts, out)?;
+                Ok(())
             }
+            State::Stopped(_) | State::Refused(..) | State::NoMemory => Ok(()),
         }
-        self.move_on(alloc, options, text, counts, out)
     }
 
-    // Takes a whole line, for what comes of it. It stays a call, since the room for a state is cleared wherever this stands, and
-    // most lines take none.
+    // The stage of a deck that is still read.
+    fn into_stage(self) -> Stage
+        requires { Leaves self }
+        ensures { self ≡ states.Reading result }
+    {
+        match self {
+            State::Reading(stage) => stage,
+            _ => unreachable!(),
+        }
+    }
+
+    // What comes of a line that has ended its section. It stays a call, since the room for a state is cleared wherever this
+    // stands, and most lines take none.
     #[inline(never)]
-    fn move_on(
+    fn follow(
         &mut self,
         alloc: Global,
         options: Options,
-        text: &[u8],
         counts: &mut Counts,
         out: &mut Printed,
-    ) -> Result<(), Stop<Code>>
+    ) -> Result<(), AllocError>
         requires few { counts.old.jobs + counts.old.commands < 2 ^ 63 }
-        requires within { lines_loaded self.old < 2 ^ 63 }
-        ensures told { OnOk result (TookLine options self.old text.now out.old counts.old self.new out.new counts.new) }
-        ensures within { lines_loaded self.new ≤ lines_loaded self.old + 1 }
-        ensures reads_back { IsReadBack options.check self.old → OnOk result (IsReadBack options.check self.new) }
+        requires leaves { Leaves self.old }
+        ensures told { OnOk result (MovedOn options self.old out.old counts.old self.new out.new counts.new) }
+        ensures within { lines_loaded self.new ≡ 0 }
+        ensures sound { OnOk result (error_at self.new ≡ None) }
+        ensures reads_back { OnOk result (IsReadBack options.check self.new) }
         ensures counted { counts.new.jobs + counts.new.commands ≤ counts.old.jobs + counts.old.commands + 1 }
-        ensures refused { IfErr result (IfRefused (λ code. (jobs : ℕ) (m : Marks) (n : ℕ) (ls : List (List ℕ)) → outcome options jobs m self.old n (text.now ∷ ls) ≡ refused_at n code)) }
-        ensures nothing { OnErr result (out.new ≡ out.old) }
-        ensures sound { OnOk result (error_at self.new ≡ error_at self.old) }
-    {
-        let before = mem::replace(self, State::NoMemory);
-        *self = before.after_line(alloc, options, text, counts, out)?;
-        Ok(())
-    }
-
-    /// After a whole line.
-    ///
-    /// # Errors
-    ///
-    /// The line's refusal; memory. Nothing was appended then.
-    pub(crate) fn after_line(
-        self,
-        alloc: Global,
-        options: Options,
-        text: &[u8],
-        counts: &mut Counts,
-        out: &mut Printed,
-    ) -> Result<State, Stop<Code>>
-        requires few { counts.old.jobs + counts.old.commands < 2 ^ 63 }
-        requires within { lines_loaded self < 2 ^ 63 }
-        ensures told { IfOk result (λ after. TookLine options self text.now out.old counts.old after out.new counts.new) }
-        ensures within { IfOk result (λ after. lines_loaded after ≤ lines_loaded self + 1) }
-        ensures sound { IfOk result (λ after. error_at after ≡ error_at self) }
-        ensures memory { IsErrOf result stops.Memory → is_reading self ≡ true }
-        ensures reads_back { IsReadBack options.check self → IfOk result (IsReadBack options.check) }
-        ensures counted { counts.new.jobs + counts.new.commands ≤ counts.old.jobs + counts.old.commands + 1 }
-        ensures refused { IfErr result (IfRefused (λ code. (jobs : ℕ) (m : Marks) (n : ℕ) (ls : List (List ℕ)) → outcome options jobs m self n (text.now ∷ ls) ≡ refused_at n code)) }
         ensures nothing { OnErr result (out.new ≡ out.old) }
     {
-        match self {
-            State::Reading(stage) => after_stage(alloc, options, stage, text, counts, out),
-            State::Stopped(sets) => Ok(State::Stopped(sets)),
-            State::Refused(n, code) => Ok(State::Refused(n, code)),
-            State::NoMemory => Ok(State::NoMemory),
+        match mem::replace(self, State::NoMemory).into_stage() {
+            Stage::Opening => {
+                *self = State::Reading(Stage::Accounts(Accounts::new(alloc)));
+                Ok(())
+            }
+            Stage::Accounts(_) => unreachable!(),
+            Stage::Catalogue(accounts, loading) => {
+                let monitor = monitor_of(alloc, options, accounts, loading)?;
+                *self = State::Reading(Stage::Stream(monitor));
+                Ok(())
+            }
+            Stage::Stream(monitor) => {
+                let sets = close(alloc, options.check, monitor, out)?;
+                *self = State::Stopped(sets);
+                Ok(())
+            }
+            Stage::List(monitor, list) => {
+                let mut monitor = monitor;
+                let command = list.into_command();
+                put_command(alloc, options.check, &mut monitor, command, counts, out)?;
+                *self = State::Reading(Stage::Stream(monitor));
+                Ok(())
+            }
+            Stage::Job(monitor, job) => {
+                let mut monitor = monitor;
+                put_job(alloc, options.check, &mut monitor, job, counts, out)?;
+                *self = State::Reading(Stage::Stream(monitor));
+                Ok(())
+            }
         }
     }
 }
 
-// After a whole line of a deck that is still read.
-#[tactic(auto, using(crate::proofs::Taking::unmoved))]
-fn after_stage(
+// The monitor over these accounts and a catalogue that is whole.
+fn monitor_of(
     alloc: Global,
     options: Options,
-    stage: Stage,
-    text: &[u8],
-    counts: &mut Counts,
-    out: &mut Printed,
-) -> Result<State, Stop<Code>>
-    requires few { counts.old.jobs + counts.old.commands < 2 ^ 63 }
-    requires within { lines_loaded (states.Reading stage) < 2 ^ 63 }
-    ensures told { IfOk result (λ after. TookLine options (states.Reading stage) text.now out.old counts.old after out.new counts.new) }
-    ensures within { IfOk result (λ after. lines_loaded after ≤ lines_loaded (states.Reading stage) + 1) }
-    ensures sound { IfOk result (λ after. error_at after ≡ None) }
-    ensures reads_back { IfOk result (IsReadBack options.check) }
-    ensures counted { counts.new.jobs + counts.new.commands ≤ counts.old.jobs + counts.old.commands + 1 }
-    ensures refused { IfErr result (IfRefused (λ code. (n : ℕ) (ls : List (List ℕ)) → scene_from options.slots.number stage n (text.now ∷ ls) ≡ refused_from options.slots.number stage n code)) }
-    ensures nothing { OnErr result (out.new ≡ out.old) }
+    accounts: Accounts,
+    loading: Loading,
+) -> Result<Monitor, AllocError>
+    requires { is_due loading ≡ true }
+    ensures { IfOk result (λ monitor. world_of monitor ≡ first_world options.slots.number accounts (sets_of loading)) }
 {
-    match stage {
-        Stage::Opening => Ok(State::Reading(after_opening(alloc, text)?)),
-        Stage::Accounts(accounts) => { Ok(State::Reading(after_account(alloc, accounts, text)?)) }
-        Stage::Catalogue(accounts, loading) => {
-            Ok(State::Reading(after_catalogue(alloc, options, accounts, loading, text)?))
-        }
-        Stage::Stream(monitor) => after_card(alloc, options, monitor, text, counts, out),
-        Stage::List(monitor, list) => {
-            after_list_line(alloc, options, monitor, list, text, counts, out)
-        }
-        Stage::Job(monitor, job) => {
-            after_job_line(alloc, options, monitor, job, text, counts, out)
-        }
-    }
+    let slots = options.slots.number();
+    Monitor::new(
+        alloc,
+        options.seed,
+        accounts,
+        finish_catalogue(loading),
+        slots,
+    )
 }
