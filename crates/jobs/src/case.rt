@@ -1,6 +1,6 @@
 //! A worked case, as its text says.
 ghost use Rattle.std.specs.Prelude.{IfSome};
-ghost use Rattle.sno_keeping.specs.Limits.{IsLimit, AreLimits};
+ghost use Rattle.sno_cards.specs.Limits.{IsLimit, AreLimits};
 
 use mon_text::read_count;
 use sno_run::Limits;

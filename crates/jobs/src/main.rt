@@ -22,7 +22,7 @@
 //! at every level, and how many turns there were.
 #![tactic(auto)]
 
-ghost use Rattle.sno_keeping.specs.Limits.{AreLimits};
+ghost use Rattle.sno_cards.specs.Limits.{AreLimits};
 
 mod case;
 mod run;

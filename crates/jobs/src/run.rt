@@ -1,5 +1,5 @@
 //! The run of a case.
-ghost use Rattle.sno_keeping.specs.Limits.{AreLimits};
+ghost use Rattle.sno_cards.specs.Limits.{AreLimits};
 
 use crate::case::Case;
 use crate::script::{answers_of, program_of};

@@ -7,7 +7,7 @@ use Rattle.mon_text.specs.Characters.{is_blank}
 use Rattle.mon_text.specs.Names.{is_name}
 use Rattle.mon_text.specs.Counts.{is_count}
 use Rattle.mon_text.specs.Lines.{is_nonempty, words}
-use Rattle.mon_job.specs.declared.deck.UnitCard.{UnitCard}
+use Rattle.mon_cards.specs.declared.job_deck.UnitCard.{UnitCard}
 use Rattle.mon_cards.specs.declared.code.Code.TheVariants.{BadName, BadNumber, BadCard, OutOfPlace}
 use Rattle.mon_cards.specs.declared.card.Card.{Card}
 use Rattle.mon_cards.specs.declared.card.Card.TheVariants as card

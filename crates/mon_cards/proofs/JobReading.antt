@@ -4,7 +4,7 @@ use Rattle.std.proofs.lemmas.List.{append_assoc, append-nil}
 use borrow.Author.Tests.{ne_eqb}
 use Rattle.mon_text.specs.Lines.{words}
 use Rattle.mon_catalogue.proofs.Blanks.{both}
-use Rattle.mon_job.specs.declared.deck.UnitCard.{UnitCard}
+use Rattle.mon_cards.specs.declared.job_deck.UnitCard.{UnitCard}
 use Rattle.mon_cards.specs.declared.code.Code.TheVariants.{BadCard, OutOfPlace}
 use Rattle.mon_cards.specs.declared.card.Card.{Card}
 use Rattle.mon_cards.specs.declared.card.Card.TheVariants as card

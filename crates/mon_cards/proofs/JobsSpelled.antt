@@ -6,7 +6,7 @@ use Rattle.mon_text.specs.Names.{is_name}
 use Rattle.mon_text.specs.Counts.{is_count, value_of}
 use Rattle.mon_text.specs.Lines.{words}
 use Rattle.mon_catalogue.proofs.Blanks.{both}
-use Rattle.sno_keeping.specs.declared.limits.Limits.{Limits}
+use Rattle.sno_cards.specs.declared.limits.Limits.{Limits}
 use Rattle.mon_cards.specs.declared.card.Card.TheVariants as card
 use Rattle.mon_cards.specs.declared.code.Code.TheVariants.{BadName, BadNumber, BadCard}
 use Rattle.mon_cards.specs.declared.job.OpenJob.{OpenJob}
@@ -17,7 +17,7 @@ use Rattle.mon_cards.specs.Refusing.{unless}
 use Rattle.mon_cards.specs.Jobs.{is_within, are_options, limits_refusal, job_refusal, opened_job, job_on, turn_refusal, turn_on}
 use Rattle.mon_cards.specs.JobSpelling.{SpellsLimits, SpellsUnits, SpellsTexts, SpellsJob, SpellsTurn}
 use Rattle.mon_cards.proofs.Spelled.{both_hold, neither, passes}
-use Rattle.mon_cards.proofs.JobLimits.{within_is, is_within_then, limits_read, limits_spelled}
+use Rattle.mon_cards.proofs.LimitsRead.{within_is, is_within_then, limits_read, limits_spelled}
 use Rattle.mon_cards.proofs.JobLines.{three_words}
 use Rattle.mon_cards.proofs.JobReading.{Job}
 use Rattle.std.specs.Option.{option_or}

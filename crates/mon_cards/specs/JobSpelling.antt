@@ -2,9 +2,9 @@
 use Rattle.std.specs.Prelude.{◌≡◌, ◌⊎◌, ℕ, ◌≤◌, List, [], ◌∷◌, ◌++◌, if◌then◌else◌, IsTrue, codes}
 use Rattle.mon_text.specs.Names.{is_name}
 use Rattle.mon_text.specs.Counts.{IsCount, value_of}
-use Rattle.sno_keeping.specs.declared.limits.Limits.{Limits}
-use Rattle.sno_keeping.specs.Limits.{IsLimit}
-use Rattle.mon_job.specs.declared.deck.UnitCard.{UnitCard}
+use Rattle.sno_cards.specs.declared.limits.Limits.{Limits}
+use Rattle.sno_cards.specs.Limits.{IsLimit}
+use Rattle.mon_cards.specs.declared.job_deck.UnitCard.{UnitCard}
 use Rattle.mon_cards.specs.declared.card.Card.TheVariants as card
 use Rattle.mon_cards.specs.declared.job.OpenJob.{OpenJob}
 use Rattle.mon_cards.specs.declared.turn.Turn.{Turn}

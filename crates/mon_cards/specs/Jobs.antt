@@ -4,9 +4,9 @@ use Rattle.std.specs.List.{starts_with, fold}
 use Rattle.mon_text.specs.Names.{is_name}
 use Rattle.mon_text.specs.Counts.{is_count, value_of}
 use Rattle.mon_text.specs.Lines.{words}
-use Rattle.sno_keeping.specs.declared.limits.Limits.{Limits}
-use Rattle.mon_job.specs.declared.deck.UnitCard.{UnitCard}
-use Rattle.mon_job.specs.declared.deck.JobDeck.{JobDeck}
+use Rattle.sno_cards.specs.declared.limits.Limits.{Limits}
+use Rattle.mon_cards.specs.declared.job_deck.UnitCard.{UnitCard}
+use Rattle.mon_cards.specs.declared.job_deck.JobDeck.{JobDeck}
 use Rattle.mon_cards.specs.declared.code.Code.{Code}
 use Rattle.mon_cards.specs.declared.code.Code.TheVariants.{BadName, BadNumber, UnknownCard, BadCard, OutOfPlace}
 use Rattle.mon_cards.specs.declared.card.Card.{Card}

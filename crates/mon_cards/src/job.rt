@@ -17,9 +17,10 @@ use crate::job_options::{option_number, sets_statements, sets_steps, with_option
 use crate::words::{
     MOST_LINE_CHARACTERS, Words, begins_with_dollar, check_line, line_of, name_of, number_of,
 };
-use mon_job::{JobDeck, JobLimits, UnitCard, UnitCards};
+use crate::job_deck::{JobDeck, UnitCard, UnitCards};
+use crate::job_limits::JobLimits;
 use mon_text::{Line, Name, Stop};
-use mon_unit::Lines;
+use mon_text::Lines;
 use std::alloc::{AllocError, Global};
 
 /// A job whose lines are still to come: the name of its account, its limits, its unit cards so far, and the lines of its

@@ -8,7 +8,7 @@ ghost use Rattle.mon_cards.specs.inner.Stops.{Answers};
 
 use crate::code::Code;
 use crate::words::number_of;
-use mon_job::JobLimits;
+use crate::job_limits::JobLimits;
 use mon_text::Stop;
 
 /// How much a limit of a job may be.

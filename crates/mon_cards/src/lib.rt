@@ -4,6 +4,8 @@
 pub mod card;
 pub mod code;
 pub mod job;
+pub mod job_deck;
+pub mod job_limits;
 mod job_options;
 pub mod laws;
 pub mod list;
@@ -12,6 +14,8 @@ pub mod request;
 pub mod turn;
 mod words;
 
+pub use job_deck::{JobDeck, UnitCard, UnitCards};
+pub use job_limits::JobLimits;
 pub use code::Code;
 pub use job::OpenJob;
 pub use list::OpenList;

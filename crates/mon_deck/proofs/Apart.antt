@@ -12,8 +12,8 @@ use Rattle.mon_unit.specs.declared.tie.Tie.{Tie}
 use Rattle.mon_unit.specs.State.{UnitState}
 use Rattle.mon_unit.specs.Tying.{tied_to, first_tie}
 use Rattle.mon_unit.specs.Laws.{targets, TiedTo}
-use Rattle.mon_job.specs.declared.deck.UnitCard.{UnitCard}
-use Rattle.mon_job.specs.declared.deck.JobDeck.{JobDeck}
+use Rattle.mon_cards.specs.declared.job_deck.UnitCard.{UnitCard}
+use Rattle.mon_cards.specs.declared.job_deck.JobDeck.{JobDeck}
 use Rattle.mon_job.specs.declared.refusal.LoadError.{LoadError}
 use Rattle.mon_slots.specs.Floors.{SlotState, Floor, floor, seat_at, first_free, job_in}
 use Rattle.mon_slots.specs.Loads.{first_units, tied_by, with_ties, program_in, load_refusal, slot_by, slot_in, loaded_by, job_loaded}

@@ -3,7 +3,7 @@
 use Rattle.std.specs.Prelude.{◌≡◌, ◌⊎◌, ℕ, false, List, [], ◌∷◌, ◌++◌, IsPermutation}
 use Rattle.std.specs.List.{AllByRecursion, flat_map}
 use Rattle.std.specs.Str.Lines.{lines}
-use Rattle.mon_job.specs.declared.deck.UnitCard.{UnitCard}
+use Rattle.mon_cards.specs.declared.job_deck.UnitCard.{UnitCard}
 use Rattle.mon_job.specs.declared.job_end.JobEnd.{JobEnd}
 use Rattle.mon_job.specs.Printouts.{printout}
 use Rattle.mon_slots.specs.Marks.{Marks}

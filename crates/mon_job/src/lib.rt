@@ -4,15 +4,12 @@
 //! to a sink; `put_printout` and `put_refusal` append it, or nothing.
 #![tactic(auto)]
 
-pub mod deck;
 pub mod job_end;
-pub mod limits;
 pub mod printing;
 pub mod refusal;
 mod words;
 
-pub use deck::{JobDeck, UnitCard, UnitCards};
 pub use job_end::JobEnd;
-pub use limits::JobLimits;
+pub use mon_cards::{JobDeck, JobLimits, UnitCard, UnitCards};
 pub use printing::{print_end, put_printout};
 pub use refusal::{LoadError, print_refusal, put_refusal};

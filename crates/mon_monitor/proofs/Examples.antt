@@ -25,7 +25,7 @@ use Rattle.mon_unit.specs.declared.note.Note.{Note}
 use Rattle.mon_unit.specs.declared.note.Why.TheVariants as why
 use Rattle.mon_unit.specs.State.{UnitState}
 use Rattle.mon_unit.specs.Serving.{serve}
-use Rattle.mon_job.specs.declared.deck.JobDeck.{JobDeck}
+use Rattle.mon_cards.specs.declared.job_deck.JobDeck.{JobDeck}
 use Rattle.mon_job.specs.declared.job_end.JobEnd.{JobEnd}
 use Rattle.mon_slots.specs.Floors.{SlotState, seat_at}
 use Rattle.mon_slots.specs.Loads.{first_units, with_ties, program_in}

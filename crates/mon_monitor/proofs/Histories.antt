@@ -10,7 +10,7 @@ use Rattle.sno_syntax.specs.Refusals.{syntax_refusal}
 use Rattle.mon_access.specs.declared.account.Account.{Account}
 use Rattle.mon_access.specs.Accounts.{find_account}
 use Rattle.mon_unit.specs.declared.units.UnitError.{UnitError}
-use Rattle.mon_job.specs.declared.deck.JobDeck.{JobDeck}
+use Rattle.mon_cards.specs.declared.job_deck.JobDeck.{JobDeck}
 use Rattle.mon_job.specs.declared.job_end.JobEnd.{JobEnd}
 use Rattle.mon_job.specs.declared.refusal.LoadError.{LoadError}
 use Rattle.mon_job.specs.declared.refusal.LoadError.TheVariants.{NoSlot, NoAccount, Cards, Syntax}

@@ -10,8 +10,8 @@ use Rattle.mon_unit.specs.declared.tie.Target.TheVariants.{Set}
 use Rattle.mon_unit.specs.declared.tie.Tie.{Tie}
 use Rattle.mon_unit.specs.State.{UnitState}
 use Rattle.mon_unit.specs.Tying.{first_tie, tied_to}
-use Rattle.mon_job.specs.declared.deck.UnitCard.{UnitCard}
-use Rattle.mon_job.specs.declared.deck.JobDeck.{JobDeck}
+use Rattle.mon_cards.specs.declared.job_deck.UnitCard.{UnitCard}
+use Rattle.mon_cards.specs.declared.job_deck.JobDeck.{JobDeck}
 use Rattle.mon_job.specs.declared.refusal.LoadError.{LoadError}
 use Rattle.mon_slots.specs.Floors.{SlotState, seat_at, first_free, job_in}
 use Rattle.mon_slots.specs.Loads.{first_units, with_ties, tied_by, program_in, load_refusal, slot_by, slot_in, loaded_by, job_loaded}

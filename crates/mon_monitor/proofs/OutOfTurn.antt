@@ -7,7 +7,7 @@ use Rattle.sno_run.specs.declared.ending.Step.TheVariants as step
 use Rattle.mon_access.specs.declared.account.Account.{Account}
 use Rattle.mon_unit.specs.State.{UnitState}
 use Rattle.mon_command.specs.declared.command.Command.{Command}
-use Rattle.mon_job.specs.declared.deck.JobDeck.{JobDeck}
+use Rattle.mon_cards.specs.declared.job_deck.JobDeck.{JobDeck}
 use Rattle.mon_slots.specs.Floors.{SlotState, seat_at}
 use Rattle.mon_slots.specs.Turns.{told}
 use Rattle.mon_slots.specs.Marks.{Mark, Marks}

@@ -19,8 +19,8 @@ use Rattle.mon_unit.specs.Runs.{run}
 use Rattle.mon_unit.proofs.Runs.{passed_begins}
 use Rattle.mon_catalogue.specs.Sets.{Sets}
 use Rattle.mon_command.specs.Commanded.{answered}
-use Rattle.mon_job.specs.declared.deck.UnitCard.{UnitCard}
-use Rattle.mon_job.specs.declared.deck.JobDeck.{JobDeck}
+use Rattle.mon_cards.specs.declared.job_deck.UnitCard.{UnitCard}
+use Rattle.mon_cards.specs.declared.job_deck.JobDeck.{JobDeck}
 use Rattle.mon_job.specs.declared.refusal.LoadError.{LoadError}
 use Rattle.mon_job.specs.declared.refusal.LoadError.TheVariants.{NoSlot, NoAccount}
 use Rattle.mon_slots.specs.Floors.{SlotState, Floor, floor, seat_at, with_seat, job_in, first_free}

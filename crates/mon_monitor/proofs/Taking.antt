@@ -26,7 +26,7 @@ use Rattle.mon_unit.specs.Serving.{Reach, serve}
 use Rattle.mon_unit.specs.Runs.{run, passed}
 use Rattle.mon_unit.proofs.Runs.{passing}
 use Rattle.mon_unit.proofs.Fitting.{serve_fits}
-use Rattle.mon_job.specs.declared.deck.JobDeck.{JobDeck}
+use Rattle.mon_cards.specs.declared.job_deck.JobDeck.{JobDeck}
 use Rattle.mon_job.specs.declared.refusal.LoadError.{LoadError}
 use Rattle.mon_job.specs.declared.refusal.LoadError.TheVariants.{NoSlot}
 use Rattle.mon_slots.specs.Floors.{SlotState, Floor, seat_at, with_seat, job_in, first_free}

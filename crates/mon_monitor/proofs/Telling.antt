@@ -19,7 +19,7 @@ use Rattle.mon_access.specs.declared.account.Account.{Account}
 use Rattle.mon_unit.specs.declared.note.Note.{Note}
 use Rattle.mon_unit.specs.State.{UnitState}
 use Rattle.mon_unit.specs.Serving.{serve}
-use Rattle.mon_job.specs.declared.deck.JobDeck.{JobDeck}
+use Rattle.mon_cards.specs.declared.job_deck.JobDeck.{JobDeck}
 use Rattle.mon_slots.specs.Floors.{SlotState, seat_at, with_seat}
 use Rattle.mon_slots.specs.Loads.{first_units, with_ties}
 use Rattle.mon_slots.specs.Turns.{seat, told}

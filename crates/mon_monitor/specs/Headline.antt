@@ -39,7 +39,7 @@ use Rattle.mon_unit.specs.State.{UnitState}
 use Rattle.mon_unit.specs.Serving.{serve, unit_of, note_act, note_target}
 use Rattle.mon_unit.specs.Laws as units
 use Rattle.mon_unit.specs.Laws.{target_of, ReadsDeck, ReadsSet, WhyDenied}
-use Rattle.mon_job.specs.declared.deck.JobDeck.{JobDeck}
+use Rattle.mon_cards.specs.declared.job_deck.JobDeck.{JobDeck}
 use Rattle.mon_job.specs.declared.job_end.JobEnd.{JobEnd}
 use Rattle.mon_job.specs.declared.refusal.LoadError.{LoadError}
 use Rattle.mon_slots.specs.Floors.{SlotState, seat_at}

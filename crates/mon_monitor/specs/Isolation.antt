@@ -7,7 +7,7 @@ use Rattle.sno_ask.specs.declared.request.Request.{Request}
 use Rattle.mon_command.specs.declared.command.Command.{Command}
 use Rattle.mon_command.specs.Commands.{account_of}
 use Rattle.mon_command.specs.Commanded.{commanded}
-use Rattle.mon_job.specs.declared.deck.JobDeck.{JobDeck}
+use Rattle.mon_cards.specs.declared.job_deck.JobDeck.{JobDeck}
 use Rattle.mon_unit.specs.Serving.{Reach, serve}
 use Rattle.mon_unit.specs.Laws.{Same}
 use Rattle.mon_slots.specs.Marks.{Mark, Marks, turn_as}

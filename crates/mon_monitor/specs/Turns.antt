@@ -13,7 +13,7 @@ use Rattle.mon_access.specs.declared.account.Account.{Account}
 use Rattle.mon_catalogue.specs.Sets.{Sets}
 use Rattle.mon_command.specs.Commanded as commands
 use Rattle.mon_unit.specs.State.{UnitState}
-use Rattle.mon_job.specs.declared.deck.JobDeck.{JobDeck}
+use Rattle.mon_cards.specs.declared.job_deck.JobDeck.{JobDeck}
 use Rattle.mon_job.specs.declared.refusal.LoadError.{LoadError}
 use Rattle.mon_slots.specs.Floors.{SlotState, seat_at, with_seat}
 use Rattle.mon_slots.specs.Loads.{slot_in}

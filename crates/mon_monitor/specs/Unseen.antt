@@ -5,7 +5,7 @@ use Rattle.mon_access.specs.declared.account.Account.{Account}
 use Rattle.mon_command.specs.declared.command.Command.{Command}
 use Rattle.mon_command.specs.Commands.{account_of}
 use Rattle.mon_command.specs.Commanded.{commanded}
-use Rattle.mon_job.specs.declared.deck.JobDeck.{JobDeck}
+use Rattle.mon_cards.specs.declared.job_deck.JobDeck.{JobDeck}
 use Rattle.mon_job.specs.declared.refusal.LoadError.{LoadError}
 use Rattle.mon_slots.specs.declared.turned.Turned.{Turned}
 use Rattle.mon_slots.specs.Marks.{Mark, turn_as}

@@ -11,8 +11,8 @@ use Rattle.sno_syntax.specs.Refusals.{label_of, with_label, statement_refusal, s
 use Rattle.mon_access.specs.declared.account.Account.{Account}
 use Rattle.mon_access.specs.Accounts.{find_account}
 use Rattle.mon_unit.specs.declared.units.UnitError.{UnitError}
-use Rattle.mon_job.specs.declared.deck.UnitCard.{UnitCard}
-use Rattle.mon_job.specs.declared.deck.JobDeck.{JobDeck}
+use Rattle.mon_cards.specs.declared.job_deck.UnitCard.{UnitCard}
+use Rattle.mon_cards.specs.declared.job_deck.JobDeck.{JobDeck}
 use Rattle.mon_job.specs.declared.refusal.LoadError.{LoadError}
 use Rattle.mon_job.specs.declared.refusal.LoadError.TheVariants.{NoAccount, Cards, Syntax}
 use Rattle.mon_slots.specs.Loads.{first_units, ties_refusal, program_refusal, missing, deck_refusal}

@@ -8,7 +8,7 @@ use Rattle.mon_unit.specs.declared.tie.Tie.{Tie}
 use Rattle.mon_unit.specs.declared.units.UnitError.TheVariants.{UnitRange, UnitTwice}
 use Rattle.mon_unit.specs.State.{UnitState}
 use Rattle.mon_unit.specs.Tying.{new_units, is_a_set, tied_to, tie_refusal}
-use Rattle.mon_job.specs.declared.deck.UnitCard.{UnitCard}
+use Rattle.mon_cards.specs.declared.job_deck.UnitCard.{UnitCard}
 use Rattle.mon_job.specs.declared.refusal.LoadError.{LoadError}
 use Rattle.mon_slots.specs.Loads.{tied_by, ties_refusal}
 use Rattle.mon_slots.specs.inner.Carding.{refused_by, cards_refused}

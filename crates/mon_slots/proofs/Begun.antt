@@ -17,7 +17,7 @@ use Rattle.sno_meaning.specs.Execution.{Next, On, Over}
 use Rattle.sno_meaning.specs.Lines.{Line, Lines, Point, At, End, Return, FailureReturn}
 use Rattle.sno_meaning.specs.Running.{Turned, Goes, Ended, stands_at, executed, run as runs, settled, turn_begun, turn_line, turn}
 use Rattle.sno_meaning.proofs.Depth.{same_runs, executed_same}
-use Rattle.sno_keeping.specs.declared.limits.Limits.{Limits}
+use Rattle.sno_cards.specs.declared.limits.Limits.{Limits}
 use Rattle.sno_keeping.specs.State.{keeping, allowed}
 use Rattle.sno_keeping.proofs.Counting.{state_counts}
 use Rattle.sno_run.specs.declared.ending.Ending.{Ending}

@@ -16,8 +16,8 @@ use Rattle.mon_unit.specs.declared.tie.Target.TheVariants.{Set}
 use Rattle.mon_unit.specs.declared.units.UnitError.{UnitError}
 use Rattle.mon_unit.specs.State.{UnitState}
 use Rattle.mon_unit.specs.Tying.{new_units, tie_refusal, tied_to, with_tie}
-use Rattle.mon_job.specs.declared.deck.UnitCard.{UnitCard}
-use Rattle.mon_job.specs.declared.deck.JobDeck.{JobDeck}
+use Rattle.mon_cards.specs.declared.job_deck.UnitCard.{UnitCard}
+use Rattle.mon_cards.specs.declared.job_deck.JobDeck.{JobDeck}
 use Rattle.mon_job.specs.declared.refusal.LoadError.{LoadError}
 use Rattle.mon_job.specs.declared.refusal.LoadError.TheVariants.{NoSlot, NoAccount, Cards, Syntax}
 use Rattle.mon_slots.specs.Floors.{SlotState, with_seat, first_free}

@@ -3,7 +3,7 @@ use Rattle.std.specs.Prelude.{◌≡◌, List, Option, None, IsSome, IsOk}
 use Rattle.sno_cards.specs.Statements.{statements_of}
 use Rattle.mon_access.specs.declared.account.Account.{Account}
 use Rattle.mon_access.specs.Accounts.{find_account}
-use Rattle.mon_job.specs.declared.deck.JobDeck.{JobDeck}
+use Rattle.mon_cards.specs.declared.job_deck.JobDeck.{JobDeck}
 use Rattle.mon_slots.specs.Floors.{SlotState, first_free}
 use Rattle.mon_slots.specs.Loads.{first_units, ties_refusal}
 

@@ -6,6 +6,7 @@
 pub mod count;
 pub mod ended_line;
 pub mod line;
+pub mod lines;
 pub mod line_feed;
 pub mod name;
 pub mod stop;
@@ -13,6 +14,7 @@ mod words;
 
 pub use count::{BadNumber, put_number, read_count};
 pub use ended_line::EndedLine;
+pub use lines::Lines;
 pub use line::{Line, LineError, read_line, split_words};
 pub use line_feed::{LineFeed, MOST_KEPT_BYTES, first_line_end};
 pub use name::{BadName, Name, read_name};

@@ -11,7 +11,8 @@ pub mod service;
 pub mod tie;
 pub mod units;
 
-pub use lists::{Lines, Notes};
+pub use lists::Notes;
+pub use mon_text::Lines;
 pub use note::{Note, NoteAct, NoteTarget, Why};
 pub use service::UnitService;
 pub use tie::{Target, Tie};

@@ -7,7 +7,8 @@ ghost use Rattle.mon_unit.specs.Tying.{new_units, tie_refusal, tie_at, tied_to, 
 ghost use Rattle.mon_unit.specs.Serving.{noted, with_note};
 ghost use Rattle.mon_unit.specs.inner.Settling.{placed, settled, target_of, IsNoted};
 
-use crate::lists::{Lines, Notes};
+use crate::lists::Notes;
+use mon_text::Lines;
 use crate::note::{Note, NoteAct, NoteTarget, Why};
 use crate::tie::{Target, Tie};
 use mon_answer::{Answer, Reason};

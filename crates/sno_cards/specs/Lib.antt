@@ -2,6 +2,7 @@ pub mod Codes
 pub mod Texts
 pub mod Programs
 pub mod Cards
+pub mod Limits
 pub mod Statements
 pub mod Answers
 pub mod Laws

@@ -4,6 +4,7 @@
 //! statement can say where it refuses it.
 #![tactic(auto)]
 
+pub mod limits;
 pub mod card;
 pub mod cutting;
 pub mod laws;
@@ -13,6 +14,7 @@ pub mod reading;
 pub mod refusal;
 pub mod text;
 
+pub use limits::Limits;
 pub use program::ProgramCards;
 pub use reading::statements;
 pub use refusal::{Place, SyntaxCode, SyntaxError};

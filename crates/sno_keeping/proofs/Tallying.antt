@@ -11,7 +11,7 @@ use Rattle.sno_ask.specs.Counting.{Moment, Beginning, Requesting, Counted, Passe
 use Rattle.sno_meaning.specs.Keeping.{Entered, Enters}
 use Rattle.sno_store.specs.declared.store.Store.{Store as State}
 use Rattle.sno_store.specs.States.{may_begin, with_statement as with_statement_begun}
-use Rattle.sno_keeping.specs.declared.limits.Limits.{Limits}
+use Rattle.sno_cards.specs.declared.limits.Limits.{Limits}
 use Rattle.sno_keeping.specs.Using.{used, assigned}
 use Rattle.sno_keeping.specs.Matching.{matched}
 use Rattle.sno_keeping.specs.Calling.{begun}

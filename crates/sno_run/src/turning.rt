@@ -4,7 +4,7 @@ ghost use Rattle.sno_talk.specs.Exchanges.{Answered};
 ghost use Rattle.sno_ask.specs.Asking.{Exchange};
 ghost use Rattle.sno_ask.specs.Counting.{Held, Cut};
 ghost use Rattle.sno_syntax.specs.Programs.{program_of};
-ghost use Rattle.sno_keeping.specs.Limits.{AreLimits};
+ghost use Rattle.sno_cards.specs.Limits.{AreLimits};
 ghost use Rattle.sno_meaning.specs.Execution.{On};
 ghost use Rattle.sno_run.specs.Jobs.{first_job, first_point, ending_of, stepped, statements_begun, TurnIs};
 ghost use Rattle.sno_run.specs.Told.{job_of};

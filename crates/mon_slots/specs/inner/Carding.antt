@@ -3,7 +3,7 @@ use Rattle.std.specs.Prelude.{ℕ, nat_lt, Bool, true, false, ◌==◌, ◌||◌
 use Rattle.std.specs.Option.{option_or}
 use Rattle.mon_unit.specs.declared.units.UnitError.{UnitError}
 use Rattle.mon_unit.specs.declared.units.UnitError.TheVariants.{UnitRange, UnitTwice}
-use Rattle.mon_job.specs.declared.deck.UnitCard.{UnitCard}
+use Rattle.mon_cards.specs.declared.job_deck.UnitCard.{UnitCard}
 
 abbrev pub refused_by : ℕ → List Bool → Option UnitError
 refused_by u tied = if (u == 0) || nat_lt 99 u then Some (UnitRange u) else if slice_index_or tied u false then Some (UnitTwice u) else None

@@ -1,5 +1,5 @@
 -- The limits stay within what a job may be allowed.
-use Rattle.sno_keeping.specs.Limits.{AreLimits}
+use Rattle.sno_cards.specs.Limits.{AreLimits}
 use Rattle.jobs.proofs.case.limits_of.Given as goal
 
 abbrev pub invariant-loop-word : goal.invariant-loop-word

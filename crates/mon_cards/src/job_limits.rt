@@ -1,8 +1,8 @@
 //! The limits of a job, as they may be.
 ghost use Rattle.std.specs.Prelude.{◌≡◌};
-ghost use Rattle.sno_keeping.specs.Limits.{IsLimit, AreLimits};
+ghost use Rattle.sno_cards.specs.Limits.{IsLimit, AreLimits};
 
-use sno_run::Limits;
+use sno_cards::Limits;
 use std::marker::Model;
 
 /// How much a job may do where its card does not say it.
@@ -18,8 +18,8 @@ pub struct JobLimits {
 }
 
 impl Model for JobLimits {
-    ghost use Rattle.sno_keeping.specs.declared.limits.Limits.{Limits};
-    ghost use Rattle.sno_keeping.specs.Limits.{AreLimits};
+    ghost use Rattle.sno_cards.specs.declared.limits.Limits.{Limits};
+    ghost use Rattle.sno_cards.specs.Limits.{AreLimits};
 
     ghost Value = { Limits };
 

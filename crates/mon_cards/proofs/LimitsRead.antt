@@ -6,8 +6,8 @@ use Rattle.std.proofs.lemmas.Bool.Decides.{Decides-eqb}
 use Rattle.std.proofs.lemmas.Slice.Eq.{starts_is}
 use Rattle.mon_text.specs.Counts.{is_count, value_of}
 use Rattle.mon_catalogue.proofs.Blanks.{both}
-use Rattle.sno_keeping.specs.declared.limits.Limits.{Limits}
-use Rattle.sno_keeping.specs.Limits.{IsLimit}
+use Rattle.sno_cards.specs.declared.limits.Limits.{Limits}
+use Rattle.sno_cards.specs.Limits.{IsLimit}
 use Rattle.mon_cards.specs.declared.code.Code.TheVariants.{BadNumber, BadCard}
 use Rattle.mon_cards.specs.Refusing.{unless}
 use Rattle.mon_cards.specs.Jobs.{is_within, sets_statements, sets_steps, are_options, option_text, has_number, is_limit, limits_refusal, usual_limits, with_option}

@@ -1,9 +1,8 @@
 //! A job as it is to be loaded.
 ghost use Rattle.std.specs.Prelude.{◌≡◌, [], ◌∷◌, ◌++◌, length, OnOk, OnErr};
 
-use crate::limits::JobLimits;
-use mon_text::Name;
-use mon_unit::Lines;
+use crate::job_limits::JobLimits;
+use mon_text::{Lines, Name};
 use std::alloc::{AllocError, Global};
 use std::marker::Model;
 
@@ -23,7 +22,7 @@ pub struct UnitCards {
 
 impl Model for UnitCards {
     ghost use Rattle.std.specs.Prelude.{List};
-    ghost use Rattle.mon_job.specs.declared.deck.UnitCard.{UnitCard};
+    ghost use Rattle.mon_cards.specs.declared.job_deck.UnitCard.{UnitCard};
 
     ghost Value = { List UnitCard };
 
