@@ -1,7 +1,7 @@
 //! Prints as many integers as the first word says that collide as keys of a job's first table: their tags are one, and their places
 //! begin in one sixteenth of the map, so that they fill a single run of places, in which each is compared with those that stand before
 //! it. They are the first such from 0 on; or, where a second word `names` follows, the first of nine digits that collide so as names of
-//! variables. Places of items are hashed as crates/sno_table/src/key.rt derives it: the table's number in four bytes, which kind of key
+//! variables. Places of items are hashed as crates/sno_value/src/key.rt derives it: the table's number in four bytes, which kind of key
 //! it is in eight, and the integer in eight; names by their length in eight bytes, and then byte by byte.
 use std::io::{BufWriter, Write};
 

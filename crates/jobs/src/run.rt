@@ -5,7 +5,7 @@ use crate::case::Case;
 use crate::script::{answers_of, program_of};
 use crate::seen::{End, put_end, put_requests};
 use anyhow::{Context, Result};
-use sno_ask::Script;
+use interaction::Script;
 use sno_run::{Job, Step, statement_turn};
 use std::alloc::Global;
 

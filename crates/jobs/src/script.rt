@@ -1,10 +1,9 @@
 //! Programs and answers, from the lines of a case.
 use anyhow::{Context, Result};
-use mon_answer::Reason;
 use mon_text::{Line, LineError, Stop, read_line};
-use sno_ask::Answer;
-use sno_seed::Seed;
+use interaction::{Answer, Reason};
 use sno_syntax::{Program, parse, statements};
+use sno_text::Seed;
 use std::alloc::{AllocError, Global};
 
 /// How many characters a card has at the most.

@@ -4,7 +4,7 @@ ghost use Rattle.std.specs.List.{flat_map};
 ghost use Rattle.jobs.specs.inner.Seen.{act_text, request_line, ending_text, end_line};
 
 use mon_text::put_number;
-use sno_ask::{Act, Request};
+use interaction::{Act, Request};
 use sno_run::Ending;
 use std::alloc::AllocError;
 

@@ -4,7 +4,7 @@ ghost use Rattle.clap.specs.Words.{first_value, found_of};
 
 use clap::error::ErrorKind;
 use clap::{Arg, ArgAction, ArgMatches, Command, Error};
-use mon_listing::{Form, Question};
+use deck_report::{Form, Question};
 use mon_text::{Name, read_name};
 use std::alloc::{AllocError, Global};
 use std::convert::AsStr;

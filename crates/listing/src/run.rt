@@ -1,15 +1,16 @@
 //! What the program does, over any streams of std: from its words to what stands in these, and the exit status.
 ghost use Rattle.std.specs.Prelude.{◌≡◌, IfSome};
-ghost use Rattle.mon_listing.specs.Reports.{ReportedTo, status_of};
+ghost use Rattle.deck_report.specs.Reports.{ReportedTo, status_of};
 
-use crate::options::{Asked, no_text, read_asked};
 use clap::Error;
 use clap::error::ErrorKind;
-use mon_listing::{Fault, Question, report_streams};
-use mon_review::{ReviewFault, Tally, review_streams};
+use crate::options::{Asked, no_text, read_asked};
+use crate::streams::{ReviewFault, review_streams};
+use deck_report::{Fault, Question, report_streams};
+use deck_lint::Tally;
+use std::io;
 use std::alloc::{AllocError, Global};
 use std::convert::AsStr;
-use std::io;
 use std::io::{Read, Write};
 
 /// The exit status where the words ask nothing.

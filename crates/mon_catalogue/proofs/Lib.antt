@@ -21,3 +21,5 @@ pub mod Bytes
 pub mod Printable
 pub mod Back
 pub mod Examples
+pub mod LinesPrintable
+pub mod Standing

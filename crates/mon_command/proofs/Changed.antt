@@ -5,12 +5,12 @@ use Rattle.mon_access.specs.Accounts.{find_account}
 use Rattle.mon_catalogue.specs.declared.catalogue.CreateError.{CreateError}
 use Rattle.mon_catalogue.specs.declared.catalogue.CreateError.TheVariants as create
 use Rattle.mon_catalogue.specs.Sets.{Sets, find_set}
-use Rattle.mon_answer.specs.declared.answer.Reason.{Reason}
+use Rattle.interaction.specs.declared.answer.Reason.{Reason}
 use Rattle.mon_guard.specs.declared.answer.AclAnswer.{AclAnswer}
 use Rattle.mon_guard.specs.declared.answer.AclAnswer.TheVariants as acl
 use Rattle.mon_acl.specs.declared.text.AclText.{AclText}
 use Rattle.mon_acl.specs.declared.text.AclText.TheVariants.{Short}
-use Rattle.mon_guard.specs.Lending.{records_lent, acl_lent, names_lent}
+use Rattle.mon_guard.specs.Views.{records_lent, acl_lent, names_lent}
 use Rattle.mon_guard.specs.Owning.{removed, acl_set, created}
 use Rattle.mon_guard.specs.Laws as guard
 use Rattle.mon_command.specs.declared.command.Command.{Command}

@@ -9,7 +9,7 @@ use Rattle.mon_access.specs.declared.account.Account.{Account}
 use Rattle.mon_catalogue.specs.declared.data_set.DataSet.{DataSet}
 use Rattle.mon_catalogue.specs.Sets.{Sets}
 use Rattle.mon_guard.specs.Deciding.{may_be_shown}
-use Rattle.mon_guard.specs.Lending.{NamePart, name_part, name_of, names_shown, names_lent}
+use Rattle.mon_guard.specs.Views.{NamePart, name_part, name_of, names_shown, names_lent}
 use Rattle.mon_command.specs.Printouts.{name_line}
 use Rattle.mon_command.specs.inner.Names.{one_or_none, shown_at}
 

@@ -7,10 +7,10 @@ use Rattle.mon_acl.specs.declared.entries.Entry.{Entry}
 use Rattle.mon_catalogue.specs.declared.catalogue.CreateError.{CreateError}
 use Rattle.mon_catalogue.specs.declared.catalogue.CreateError.TheVariants as create
 use Rattle.mon_catalogue.specs.Sets.{Sets}
-use Rattle.mon_answer.specs.declared.answer.Reason.{Reason}
+use Rattle.interaction.specs.declared.answer.Reason.{Reason}
 use Rattle.mon_acl.specs.declared.text.AclText.{AclText}
 use Rattle.mon_acl.specs.Forms.{list_of_text}
-use Rattle.mon_guard.specs.Lending.{AclPart, records_lent, acl_lent, names_lent}
+use Rattle.mon_guard.specs.Views.{AclPart, records_lent, acl_lent, names_lent}
 use Rattle.mon_guard.specs.Owning.{owner_denial, given, created, acl_set_unless}
 use Rattle.mon_guard.specs.Laws as guard
 use Rattle.mon_command.specs.declared.command.Command.{Command}

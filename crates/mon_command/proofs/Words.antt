@@ -5,7 +5,7 @@ use Rattle.std.specs.Option.{unwrap_or}
 use Rattle.mon_acl.specs.declared.entries.Entry.{Entry}
 use Rattle.mon_acl.specs.Texts.{tag_word}
 use Rattle.mon_acl.specs.Printing.{entry_head}
-use Rattle.mon_answer.specs.declared.answer.Reason.TheVariants as reason
+use Rattle.interaction.specs.declared.answer.Reason.TheVariants as reason
 use Rattle.mon_command.specs.Replies.{reason_text}
 
 pub by_head : (entry : Entry) → codes "BY " ++ entry_head entry ≡ reason_text (reason.By entry.tag entry.name)

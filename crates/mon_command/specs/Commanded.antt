@@ -6,10 +6,10 @@ use Rattle.mon_access.specs.Accounts.{find_account}
 use Rattle.mon_catalogue.specs.declared.catalogue.CreateError.{CreateError}
 use Rattle.mon_catalogue.specs.declared.catalogue.CreateError.TheVariants as create
 use Rattle.mon_catalogue.specs.Sets.{Sets}
-use Rattle.mon_answer.specs.declared.answer.Reason.{Reason}
+use Rattle.interaction.specs.declared.answer.Reason.{Reason}
 use Rattle.mon_guard.specs.declared.answer.AclAnswer.{AclAnswer}
 use Rattle.mon_guard.specs.declared.answer.AclAnswer.TheVariants as acl
-use Rattle.mon_guard.specs.Lending.{AclPart, NamePart, records_lent, acl_lent, names_lent}
+use Rattle.mon_guard.specs.Views.{AclPart, NamePart, records_lent, acl_lent, names_lent}
 use Rattle.mon_guard.specs.Owning.{removed, acl_set, created}
 use Rattle.mon_command.specs.declared.command.Command.{Command}
 use Rattle.mon_command.specs.declared.command.Command.TheVariants.{Create, Delete, SetAcl, ShowAcl, List as Listing, Catalog}

@@ -5,8 +5,8 @@ use Rattle.mon_access.specs.declared.account.Account.{Account}
 use Rattle.mon_access.specs.Accounts.{find_account}
 use Rattle.mon_catalogue.specs.declared.data_set.DataSet.{DataSet}
 use Rattle.mon_catalogue.specs.Sets.{Sets, find_set}
-use Rattle.mon_answer.specs.declared.answer.Reason.{Reason}
-use Rattle.mon_guard.specs.Lending.{AclPart, names_lent}
+use Rattle.interaction.specs.declared.answer.Reason.{Reason}
+use Rattle.mon_guard.specs.Views.{AclPart, names_lent}
 use Rattle.mon_guard.specs.Laws.{MaySeeName, AreForReading, IsForSeeing, Creates, Removes, SetsList, WhyNotOwner, WhyNotSeeList, WhyNotRead}
 use Rattle.mon_command.specs.declared.command.Command.{Command}
 use Rattle.mon_command.specs.declared.command.Command.TheVariants.{Create, Delete, SetAcl, ShowAcl, List as Listing, Catalog}

@@ -2,5 +2,5 @@ pub mod Printouts
 pub mod Commands
 pub mod Replies
 pub mod Commanded
-pub mod inner
 pub mod Laws
+pub mod inner

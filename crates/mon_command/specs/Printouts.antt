@@ -6,7 +6,7 @@ use Rattle.mon_acl.specs.declared.refusals.AclError.{AclError}
 use Rattle.mon_acl.specs.declared.refusals.AclError.TheVariants.{BadTag, BadQualifier, BadPerms, Missing, Twice, NoMask, TooMany}
 use Rattle.mon_acl.specs.Texts.{tag_word}
 use Rattle.mon_acl.specs.Printing.{mask_of, long_line}
-use Rattle.mon_guard.specs.Lending.{AclPart, NamePart}
+use Rattle.mon_guard.specs.Views.{AclPart, NamePart}
 use Rattle.std.specs.Option.{unwrap_or}
 
 -- a word behind another, and a number behind a word

@@ -1,7 +1,7 @@
 -- What a command is told in one line (own).
 use Rattle.std.specs.Prelude.{ℕ, List, ◌++◌, codes}
-use Rattle.mon_answer.specs.declared.answer.Reason.{Reason}
-use Rattle.mon_answer.specs.declared.answer.Reason.TheVariants as reason
+use Rattle.interaction.specs.declared.answer.Reason.{Reason}
+use Rattle.interaction.specs.declared.answer.Reason.TheVariants as reason
 use Rattle.mon_command.specs.declared.reply.Reply.{Reply}
 use Rattle.mon_command.specs.declared.reply.Reply.TheVariants.{Done, NoAccount, Denied, NameTaken, CatalogueFull, BadList}
 use Rattle.mon_command.specs.Printouts.{entry_words, list_refusal}

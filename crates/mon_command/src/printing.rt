@@ -10,7 +10,7 @@ ghost use Rattle.mon_command.specs.Printouts.{word, number, stored_line, count_l
 use itoa::Buffer;
 use mon_acl::{AclError, Entry, Perms, Tag};
 use mon_catalogue::Records;
-use mon_guard::{ShownAcl, ShownName};
+use mon_guard::{AclView, NameView};
 use mon_text::Name;
 use std::alloc::AllocError;
 
@@ -104,7 +104,7 @@ pub(crate) fn put_listing(
 }
 
 // Appends a data set's owner, its group and its permission list, and how many entries that has.
-pub(crate) fn put_acl(shown: &ShownAcl, out: &mut Vec<u8>) -> Result<(), AllocError>
+pub(crate) fn put_acl(shown: &AclView, out: &mut Vec<u8>) -> Result<(), AllocError>
     ensures { OnOk result (out.new.items ≡ out.old.items ++ acl_text shown.now) }
 {
     out.extend_from_slice(b"OWNER")?;
@@ -136,7 +136,7 @@ fn put_acl_line(entry: &Entry, mask: Option<Perms>, out: &mut Vec<u8>) -> Result
 
 // Appends a data set's name, its owner, its group and the number of its records.
 #[inline(never)]
-pub(crate) fn put_name(shown: &ShownName, out: &mut Vec<u8>) -> Result<(), AllocError>
+pub(crate) fn put_name(shown: &NameView, out: &mut Vec<u8>) -> Result<(), AllocError>
     ensures { OnOk result (out.new.items ≡ out.old.items ++ name_line shown.now) }
 {
     let (name, owner, group) = (

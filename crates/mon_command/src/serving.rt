@@ -4,9 +4,9 @@
 //! everything as it was. Where the change is then denied or refused, nothing has changed, and the printout is made anew.
 ghost use Rattle.std.specs.Prelude.{◌≡◌, ◌++◌, length, IfOk, OnOk, OnErr};
 ghost use Rattle.std.specs.List.{flat_map};
-ghost use Rattle.mon_guard.specs.Lending.{records_lent, acl_lent, names_lent};
+ghost use Rattle.mon_guard.specs.Views.{records_lent, acl_lent, names_lent};
 ghost use Rattle.mon_guard.specs.Owning.{created, removed, acl_set};
-ghost use Rattle.mon_guard.specs.Rows.{RowsFit};
+ghost use Rattle.mon_guard.specs.Cache.{CacheFits};
 ghost use Rattle.mon_command.specs.Commanded.{Names, Records as Listed, Shown, told_by, creation_reply, removal_reply, acl_reply, shown_as, printed, served, commanded};
 ghost use Rattle.mon_command.specs.Printouts.{name_line, names_text};
 ghost use Rattle.mon_command.specs.inner.Names.{shown_at};
@@ -20,7 +20,7 @@ use crate::reply::Reply;
 use mon_access::{Account, Accounts};
 use mon_acl::AclText;
 use mon_catalogue::{Catalogue, CreateError, Mode, Records};
-use mon_guard::{AclAnswer, Guard, ShownAcl};
+use mon_guard::{AclAnswer, AclView, Guard};
 use mon_text::{Name, Stop};
 use std::alloc::{AllocError, Global};
 
@@ -43,7 +43,7 @@ pub fn serve(
     ensures printout { IfOk result (λ printout. printout ≡ (commanded accounts.now catalogue.old command).printout) }
     ensures sets { OnOk result (catalogue.new ≡ (commanded accounts.now catalogue.old command).sets) }
     ensures unchanged { OnErr result (catalogue.new ≡ catalogue.old) }
-    ensures fit { RowsFit guard.old catalogue.old → RowsFit guard.new catalogue.new }
+    ensures fit { CacheFits guard.old catalogue.old → CacheFits guard.new catalogue.new }
 {
     match accounts.find(command.account()) {
         Some(account) => serve_known(alloc, account, guard, catalogue, &command),
@@ -67,7 +67,7 @@ pub fn put_served(
     ensures printed { OnOk result (out.new.items ≡ out.old.items ++ (commanded accounts.now catalogue.old command).printout) }
     ensures sets { OnOk result (catalogue.new ≡ (commanded accounts.now catalogue.old command).sets) }
     ensures nothing { OnErr result (out.new.items ≡ out.old.items) }
-    ensures fit { RowsFit guard.old catalogue.old → RowsFit guard.new catalogue.new }
+    ensures fit { CacheFits guard.old catalogue.old → CacheFits guard.new catalogue.new }
 {
     if let Command::List { account, name } = &command {
         return put_list(alloc, accounts, guard, catalogue, account, name, out);
@@ -113,7 +113,7 @@ fn serve_known(
     command: &Command,
 ) -> Result<Printout, AllocError>
     ensures serves { Serves command.now result catalogue.old catalogue.new (served account.now command.now catalogue.old) }
-    ensures fit { RowsFit guard.old catalogue.old → RowsFit guard.new catalogue.new }
+    ensures fit { CacheFits guard.old catalogue.old → CacheFits guard.new catalogue.new }
 {
     match command {
         Command::Create { name, mode, .. } => create(
@@ -139,7 +139,7 @@ fn create(
     mode: Mode,
 ) -> Result<Printout, AllocError>
     ensures serves { Serves command.now result catalogue.old catalogue.new (told_by creation_reply (created account.now catalogue.old name.now mode)) }
-    ensures fit { RowsFit guard.old catalogue.old → RowsFit guard.new catalogue.new }
+    ensures fit { CacheFits guard.old catalogue.old → CacheFits guard.new catalogue.new }
 {
     let done = told(alloc, command, Reply::Done)?;
     match guard.create(alloc, account, catalogue, name.copy(), mode) {
@@ -161,7 +161,7 @@ fn delete(
     name: &Name,
 ) -> Result<Printout, AllocError>
     ensures serves { Serves command.now result catalogue.old catalogue.new (told_by removal_reply (removed account.now catalogue.old name.now)) }
-    ensures fit { RowsFit guard.old catalogue.old → RowsFit guard.new catalogue.new }
+    ensures fit { CacheFits guard.old catalogue.old → CacheFits guard.new catalogue.new }
 {
     let done = told(alloc, command, Reply::Done)?;
     match guard.try_remove(account, catalogue, name) {
@@ -180,7 +180,7 @@ fn set_acl(
     text: &AclText,
 ) -> Result<Printout, AllocError>
     ensures serves { Serves command.now result catalogue.old catalogue.new (told_by acl_reply (acl_set account.now catalogue.old name.now text.now)) }
-    ensures fit { RowsFit guard.old catalogue.old → RowsFit guard.new catalogue.new }
+    ensures fit { CacheFits guard.old catalogue.old → CacheFits guard.new catalogue.new }
 {
     let done = told(alloc, command, Reply::Done)?;
     match guard.try_set_acl(alloc, account, catalogue, name, text)? {
@@ -206,7 +206,7 @@ fn show_acl(
     }
 }
 
-fn acl_of(alloc: Global, command: &Command, shown: &ShownAcl) -> Result<Printout, AllocError>
+fn acl_of(alloc: Global, command: &Command, shown: &AclView) -> Result<Printout, AllocError>
     ensures { IfOk result (λ printout. printout ≡ printed command.now (Shown shown.now)) }
 {
     let mut bytes = Vec::with_capacity(alloc, USUAL_BYTES)?;

@@ -7,10 +7,10 @@ use Rattle.mon_catalogue.specs.declared.data_set.SetFull.{SetFull}
 use Rattle.mon_catalogue.specs.declared.mode.Mode.{Mode}
 use Rattle.mon_catalogue.specs.declared.mode.Mode.TheVariants.{Seq, Append}
 use Rattle.mon_catalogue.specs.Writing.{Change, writing, change_refusal, recorded}
-use Rattle.mon_answer.specs.declared.answer.Reason.{Reason}
-use Rattle.mon_answer.specs.declared.answer.Reason.TheVariants.{NoSet, Mode as WrongMode}
-use Rattle.mon_answer.specs.declared.answer.Answer.{Answer}
-use Rattle.mon_answer.specs.declared.answer.Answer.TheVariants as answer
+use Rattle.interaction.specs.declared.answer.Reason.{Reason}
+use Rattle.interaction.specs.declared.answer.Reason.TheVariants.{NoSet, Mode as WrongMode}
+use Rattle.interaction.specs.declared.answer.Answer.{Answer}
+use Rattle.interaction.specs.declared.answer.Answer.TheVariants as answer
 use Rattle.mon_guard.specs.Deciding.{decision_on, by_decision}
 use Rattle.mon_guard.specs.Reasons.{reason_of}
 use Rattle.mon_guard.specs.Acting.{Act, Read, Write, End, Acted, asks, done, or_denied, acted_on, acted, only_answered, read_at, ended, left, changed}

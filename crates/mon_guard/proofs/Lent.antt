@@ -11,11 +11,11 @@ use Rattle.mon_access.specs.declared.access.Decision.TheVariants.{Granted, Denie
 use Rattle.mon_access.specs.Matches.{is_owner}
 use Rattle.mon_catalogue.specs.declared.data_set.DataSet.{DataSet}
 use Rattle.mon_catalogue.specs.Sets.{Sets, find_set}
-use Rattle.mon_answer.specs.declared.answer.Reason.{Reason}
-use Rattle.mon_answer.specs.declared.answer.Reason.TheVariants.{NoSet, NotOwner}
+use Rattle.interaction.specs.declared.answer.Reason.{Reason}
+use Rattle.interaction.specs.declared.answer.Reason.TheVariants.{NoSet, NotOwner}
 use Rattle.mon_guard.specs.Deciding.{to_read, to_execute, decision_on, by_decision, where_granted, is_granted, may_be_shown}
 use Rattle.mon_guard.specs.Reasons.{reason_of}
-use Rattle.mon_guard.specs.Lending.{AclPart, acl_part, name_part, names_shown}
+use Rattle.mon_guard.specs.Views.{AclPart, acl_part, name_part, names_shown}
 use Rattle.mon_guard.specs.Owning.{owner_denial}
 use Rattle.mon_guard.specs.Laws.{IsThere, MaySeeList, MaySeeName, AreForReading, IsForSeeing, DecidedBy, WhyNotRead, WhyNotSeeList, WhyNotOwner, LendsWhereGranted, HiddenSetsLeaveNoTrace, DenialsSayWhy}
 use Rattle.mon_guard.proofs.Kept.{keeps, kept_only}

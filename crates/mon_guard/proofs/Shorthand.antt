@@ -8,13 +8,13 @@ use Rattle.mon_catalogue.specs.declared.data_set.DataSet.{DataSet}
 use Rattle.mon_catalogue.specs.declared.catalogue.CreateError.{CreateError}
 use Rattle.mon_catalogue.specs.Sets.{Sets}
 use Rattle.mon_catalogue.specs.Changes.{without_set}
-use Rattle.mon_answer.specs.declared.answer.Reason.{Reason}
-use Rattle.mon_answer.specs.declared.answer.Reason.TheVariants.{NoSet, NotOwner}
+use Rattle.interaction.specs.declared.answer.Reason.{Reason}
+use Rattle.interaction.specs.declared.answer.Reason.TheVariants.{NoSet, NotOwner}
 use Rattle.mon_catalogue.specs.declared.data_set.SetFull.{SetFull}
 use Rattle.mon_catalogue.specs.Writing.{Change}
-use Rattle.mon_answer.specs.declared.answer.Answer.TheVariants.{Done, Full}
+use Rattle.interaction.specs.declared.answer.Answer.TheVariants.{Done, Full}
 use Rattle.mon_guard.specs.Deciding.{to_read, to_execute, where_granted}
-use Rattle.mon_guard.specs.Lending.{AclPart, acl_part}
+use Rattle.mon_guard.specs.Views.{AclPart, acl_part}
 use Rattle.mon_guard.specs.Acting.{Acted, only_answered, position_after}
 use Rattle.mon_guard.specs.Owning.{new_set}
 

@@ -12,10 +12,10 @@ use Rattle.mon_catalogue.specs.declared.data_set.SetFull.{SetFull}
 use Rattle.mon_catalogue.specs.Sets.{Sets, find_set}
 use Rattle.mon_catalogue.specs.Changes.{with_changed}
 use Rattle.mon_catalogue.specs.Writing.{Change, Put, Cut, Add, writing, change_refusal, recorded, records_after}
-use Rattle.mon_answer.specs.declared.answer.Reason.{Reason}
-use Rattle.mon_answer.specs.declared.answer.Reason.TheVariants as reason
-use Rattle.mon_answer.specs.declared.answer.Answer.{Answer}
-use Rattle.mon_answer.specs.declared.answer.Answer.TheVariants.{Done, Got, EndOfFile, Denied, Full}
+use Rattle.interaction.specs.declared.answer.Reason.{Reason}
+use Rattle.interaction.specs.declared.answer.Reason.TheVariants as reason
+use Rattle.interaction.specs.declared.answer.Answer.{Answer}
+use Rattle.interaction.specs.declared.answer.Answer.TheVariants.{Done, Got, EndOfFile, Denied, Full}
 use Rattle.mon_guard.specs.declared.answer.Answered.{Answered}
 use Rattle.mon_guard.specs.Deciding.{to_read, to_write, where_granted}
 

@@ -11,7 +11,7 @@ use Rattle.mon_catalogue.specs.declared.data_set.DataSet.{DataSet}
 use Rattle.mon_catalogue.specs.Sets.{Sets, find_set}
 use Rattle.mon_guard.specs.declared.answer.Decided.{Decided}
 use Rattle.mon_guard.specs.declared.answer.Decided.TheVariants.{Granted, Denied, NoSet}
-use Rattle.mon_answer.specs.declared.answer.Reason.{Reason}
+use Rattle.interaction.specs.declared.answer.Reason.{Reason}
 use Rattle.mon_guard.specs.Reasons.{reason_of}
 
 -- the access check on a set

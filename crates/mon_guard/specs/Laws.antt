@@ -15,15 +15,15 @@ use Rattle.mon_catalogue.specs.declared.mode.Mode.TheVariants.{Seq, Append}
 use Rattle.mon_catalogue.specs.declared.data_set.DataSet.{DataSet}
 use Rattle.mon_catalogue.specs.Sets.{Sets, find_set}
 use Rattle.mon_catalogue.specs.Changes.{without_set, with_acl}
-use Rattle.mon_answer.specs.declared.answer.Reason.{Reason}
-use Rattle.mon_answer.specs.declared.answer.Reason.TheVariants.{By, NoSet, NotOwner, NoUnit, InStream, SpoolUnit, Mode as WrongMode}
+use Rattle.interaction.specs.declared.answer.Reason.{Reason}
+use Rattle.interaction.specs.declared.answer.Reason.TheVariants.{By, NoSet, NotOwner, NoUnit, InStream, SpoolUnit, Mode as WrongMode}
 use Rattle.mon_guard.specs.declared.answer.AclAnswer.TheVariants as acl
 use Rattle.mon_guard.specs.Deciding.{decision_on, to_read, to_execute}
 use Rattle.mon_guard.specs.Reasons.{reason_of}
-use Rattle.mon_guard.specs.Lending.{AclPart, acl_part, records_lent, acl_lent, names_shown, names_lent}
+use Rattle.mon_guard.specs.Views.{AclPart, acl_part, records_lent, acl_lent, names_shown, names_lent}
 use Rattle.mon_guard.specs.Owning.{owner_denial, removed, acl_set, new_set, created}
 use Rattle.mon_guard.specs.Acting.{Act, Read, Write, End, asks, done, acted, only_answered, changed}
-use Rattle.mon_answer.specs.declared.answer.Answer.TheVariants as answer
+use Rattle.interaction.specs.declared.answer.Answer.TheVariants as answer
 
 -- there is a data set of this name, and it is this one
 abbrev pub IsThere : List ℕ → Sets → DataSet → Type 0

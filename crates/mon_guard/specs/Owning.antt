@@ -14,8 +14,8 @@ use Rattle.mon_catalogue.specs.declared.data_set.DataSet.{DataSet}
 use Rattle.mon_catalogue.specs.declared.catalogue.CreateError.{CreateError}
 use Rattle.mon_catalogue.specs.Sets.{Sets, find_set, empty_set, create_refusal}
 use Rattle.mon_catalogue.specs.Changes.{without_set, with_acl}
-use Rattle.mon_answer.specs.declared.answer.Reason.{Reason}
-use Rattle.mon_answer.specs.declared.answer.Reason.TheVariants.{NoSet, NotOwner}
+use Rattle.interaction.specs.declared.answer.Reason.{Reason}
+use Rattle.interaction.specs.declared.answer.Reason.TheVariants.{NoSet, NotOwner}
 use Rattle.mon_guard.specs.declared.answer.AclAnswer.{AclAnswer}
 use Rattle.mon_guard.specs.declared.answer.AclAnswer.TheVariants as acl
 use Rattle.std.specs.Option.{option_map_or}

@@ -5,8 +5,8 @@ use Rattle.mon_acl.specs.declared.entries.Tag.TheVariants as tag
 use Rattle.mon_acl.specs.declared.entries.Entry.{Entry}
 use Rattle.mon_access.specs.declared.access.Decider.{Decider}
 use Rattle.mon_access.specs.declared.access.Decider.TheVariants as decider
-use Rattle.mon_answer.specs.declared.answer.Reason.{Reason}
-use Rattle.mon_answer.specs.declared.answer.Reason.TheVariants.{By}
+use Rattle.interaction.specs.declared.answer.Reason.{Reason}
+use Rattle.interaction.specs.declared.answer.Reason.TheVariants.{By}
 use Rattle.std.specs.Option.{option_map_or}
 
 -- what is named of an entry; where there is none, the type alone

@@ -8,24 +8,22 @@ ghost use Rattle.mon_access.specs.Matches.{is_owner};
 ghost use Rattle.mon_catalogue.specs.Sets.{create_refusal, find_set};
 ghost use Rattle.mon_catalogue.specs.Changes.{with_acl};
 ghost use Rattle.mon_catalogue.specs.Writing.{Put, Add};
-ghost use Rattle.mon_answer.specs.declared.answer.Reason.{Reason};
+ghost use Rattle.interaction.specs.declared.answer.Reason.{Reason};
 ghost use Rattle.mon_guard.specs.Deciding.{to_read, to_write, to_execute, decision_on, decided, where_granted};
-ghost use Rattle.mon_guard.specs.Lending.{records_lent, acl_lent, name_lent};
+ghost use Rattle.mon_guard.specs.Views.{records_lent, acl_lent, name_lent};
 ghost use Rattle.mon_guard.specs.Owning.{owner_denial, removed, acl_set, created, new_list};
 ghost use Rattle.mon_guard.specs.Acting.{Read, Write, End, acted, changed, changing, done, left, told, read_at};
 ghost use Rattle.mon_guard.specs.inner.Judging.{acted_by};
 ghost use Rattle.mon_guard.specs.Answers.{guard_answer, acl_answer};
 
 use crate::answer::{AclAnswer, Answered, Decided, guard_answer, reason_of};
-use crate::rows::Rows;
-use crate::shown::{ShownAcl, ShownName};
+use crate::cache::DecisionCache;
+use crate::views::{AclView, NameView};
 use mon_access::{Account, Decision, check};
 use mon_acl::{Acl, AclError, AclText, Perms};
-use mon_answer::{Answer, Reason};
-use mon_catalogue::{
-    Catalogue, CreateError, DataSet, MOST_RECORD_CHARACTERS, Mode, NoSet, Records, SetFull,
-};
+use mon_catalogue::{Catalogue, CreateError, DataSet, MOST_RECORD_CHARACTERS, Mode, NoSet, Records, SetFull};
 use mon_text::{Line, Name, Stop};
+use interaction::{Answer, Reason};
 use std::alloc::{AllocError, Global};
 use std::marker::Model;
 
@@ -37,27 +35,27 @@ use std::marker::Model;
 /// that they fit the data sets, and each call keeps that. They change no answer.
 #[derive(Drop)]
 pub struct Guard {
-    rows: Rows,
+    rows: DecisionCache,
 }
 
 impl Model for Guard {
     ghost use Rattle.std.specs.Prelude.{List};
-    ghost use Rattle.mon_guard.specs.declared.rows.Row.{Row};
+    ghost use Rattle.mon_guard.specs.declared.cache.CachedDecision.{CachedDecision};
 
-    ghost Value = { List Row };
+    ghost Value = { List CachedDecision };
 
     ghost view = { λ g. g.rows };
 }
 
 impl Guard {
-    ghost use Rattle.mon_guard.specs.Rows.{RowsFit, Begins, rows_beside};
+    ghost use Rattle.mon_guard.specs.Cache.{CacheFits, Begins, cache_beside};
 
     /// A guard that keeps no row.
     pub fn new(alloc: Global) -> Guard
         ensures { result ≡ [] }
     {
         Guard {
-            rows: Rows::new(alloc),
+            rows: DecisionCache::new(alloc),
         }
     }
 
@@ -86,7 +84,7 @@ impl Guard {
         name: &Name,
         request: Perms,
     ) -> Decided
-        requires fit { RowsFit self.now catalogue.now }
+        requires fit { CacheFits self.now catalogue.now }
         ensures { result ≡ decided account.now catalogue.now name.now request }
     {
         match catalogue.find(name) {
@@ -130,7 +128,7 @@ impl Guard {
         account: &Account,
         catalogue: &'a Catalogue,
         name: &Name,
-    ) -> Result<ShownAcl<'a>, Reason>
+    ) -> Result<AclView<'a>, Reason>
         ensures { result ≡ acl_lent account.now catalogue.now name.now }
     {
         let Some(set) = catalogue.find(name) else {
@@ -139,7 +137,7 @@ impl Guard {
         if !owns(account, set) {
             permit(account, set, to_execute())?;
         }
-        Ok(ShownAcl {
+        Ok(AclView {
             owner: &set.owner,
             group: &set.group,
             acl: &set.acl,
@@ -153,12 +151,12 @@ impl Guard {
         account: &Account,
         catalogue: &'a Catalogue,
         index: usize,
-    ) -> Option<ShownName<'a>>
+    ) -> Option<NameView<'a>>
         ensures { result ≡ name_lent account.now catalogue.now index }
     {
         let (name, set) = catalogue.at(index)?;
         match decision_on(account, set, to_execute()) {
-            Decision::Granted => Some(ShownName {
+            Decision::Granted => Some(NameView {
                 name,
                 owner: &set.owner,
                 group: &set.group,
@@ -209,10 +207,10 @@ impl Guard {
         ensures unchanged { OnErr result (catalogue.new ≡ catalogue.old) }
         ensures denied { (reason : Reason) → (result ≡ Ok (AclAnswer.Denied reason)) ↔ (owner_denial account.now catalogue.old name.now ≡ Some reason) }
         ensures memory { OnErr result (MayTakeMemory text.now) }
-        ensures fit { RowsFit self.old catalogue.old → RowsFit self.new catalogue.new }
+        ensures fit { CacheFits self.old catalogue.old → CacheFits self.new catalogue.new }
         ensures rows_stay { OnErr result (self.new ≡ self.old) }
-        ensures dropped { result ≡ Ok AclAnswer.Done → self.new ≡ rows_beside name.now self.old }
-        ensures others_stay { rows_beside name.now self.new ≡ rows_beside name.now self.old }
+        ensures dropped { result ≡ Ok AclAnswer.Done → self.new ≡ cache_beside name.now self.old }
+        ensures others_stay { cache_beside name.now self.new ≡ cache_beside name.now self.old }
     {
         if let Some(reason) = owner_denial(account, catalogue, name) {
             return Ok(AclAnswer::Denied(reason));
@@ -246,9 +244,9 @@ impl Guard {
         ensures unchanged { OnErr result (catalogue.new ≡ catalogue.old) }
         ensures denied { (reason : Reason) → (result ≡ Ok (Answer.Denied reason)) ↔ (owner_denial account.now catalogue.old name.now ≡ Some reason) }
         ensures memory { IsErrOf result Stop.Memory → MayTakeMemory text.now }
-        ensures fit { RowsFit self.old catalogue.old → RowsFit self.new catalogue.new }
-        ensures dropped { result ≡ Ok Answer.Done → self.new ≡ rows_beside name.now self.old }
-        ensures others_stay { rows_beside name.now self.new ≡ rows_beside name.now self.old }
+        ensures fit { CacheFits self.old catalogue.old → CacheFits self.new catalogue.new }
+        ensures dropped { result ≡ Ok Answer.Done → self.new ≡ cache_beside name.now self.old }
+        ensures others_stay { cache_beside name.now self.new ≡ cache_beside name.now self.old }
     {
         match self.try_set_acl(alloc, account, catalogue, name, text) {
             Ok(AclAnswer::Done) => Ok(Answer::Done),
@@ -272,9 +270,9 @@ impl Guard {
     ) -> Result<(), Reason>
         ensures answer { result ≡ (removed account.now catalogue.old name.now).0 }
         ensures sets { catalogue.new ≡ (removed account.now catalogue.old name.now).1 }
-        ensures fit { RowsFit self.old catalogue.old → RowsFit self.new catalogue.new }
-        ensures dropped { OnOk result (self.new ≡ rows_beside name.now self.old) }
-        ensures others_stay { rows_beside name.now self.new ≡ rows_beside name.now self.old }
+        ensures fit { CacheFits self.old catalogue.old → CacheFits self.new catalogue.new }
+        ensures dropped { OnOk result (self.new ≡ cache_beside name.now self.old) }
+        ensures others_stay { cache_beside name.now self.new ≡ cache_beside name.now self.old }
     {
         if let Some(reason) = owner_denial(account, catalogue, name) {
             return Err(reason);
@@ -292,9 +290,9 @@ impl Guard {
     pub fn remove(&mut self, account: &Account, catalogue: &mut Catalogue, name: &Name) -> Answer
         ensures answer { result ≡ guard_answer (removed account.now catalogue.old name.now).0 }
         ensures sets { catalogue.new ≡ (removed account.now catalogue.old name.now).1 }
-        ensures fit { RowsFit self.old catalogue.old → RowsFit self.new catalogue.new }
-        ensures dropped { result ≡ Answer.Done → self.new ≡ rows_beside name.now self.old }
-        ensures others_stay { rows_beside name.now self.new ≡ rows_beside name.now self.old }
+        ensures fit { CacheFits self.old catalogue.old → CacheFits self.new catalogue.new }
+        ensures dropped { result ≡ Answer.Done → self.new ≡ cache_beside name.now self.old }
+        ensures others_stay { cache_beside name.now self.new ≡ cache_beside name.now self.old }
     {
         guard_answer(self.try_remove(account, catalogue, name))
     }
@@ -314,10 +312,10 @@ impl Guard {
         name: &Name,
         position: u64,
     ) -> Result<Answered, AllocError>
-        requires fit { RowsFit self.old catalogue.now }
+        requires fit { CacheFits self.old catalogue.now }
         ensures answer { IfOk result (λ answered. answered ≡ told position (acted account.now (Read position) catalogue.now name.now)) }
         ensures memory { OnErr result (IsSome (acted account.now (Read position) catalogue.now name.now).position) }
-        ensures fit { RowsFit self.new catalogue.now }
+        ensures fit { CacheFits self.new catalogue.now }
         ensures rows { Begins self.old self.new }
         ensures rows_stay { OnErr result (self.new ≡ self.old) }
     {
@@ -342,7 +340,7 @@ impl Guard {
         name: &Name,
         position: u64,
     ) -> Option<&'a [u8]>
-        requires fit { RowsFit self.now catalogue.now }
+        requires fit { CacheFits self.now catalogue.now }
         ensures record { IfSome result (λ line. acted account.now (Read position) catalogue.now name.now ≡ read_at position (Some line.now)) }
         ensures within { IfSome result (λ line. position < 2 ^ 64 - 1) }
         ensures printable { IfSome result (λ line. IsLine line.now) }
@@ -377,11 +375,11 @@ impl Guard {
         line: Line,
     ) -> Result<Answered, AllocError>
         requires short { length line ≤ MOST_RECORD_CHARACTERS }
-        requires fit { RowsFit self.old catalogue.old }
+        requires fit { CacheFits self.old catalogue.old }
         ensures answer { IfOk result (λ answered. answered ≡ told position (acted account.now (Write position line) catalogue.old name.now)) }
         ensures sets { OnOk result (catalogue.new ≡ changed name.now (acted account.now (Write position line) catalogue.old name.now).change catalogue.old) }
         ensures unchanged { OnErr result (catalogue.new ≡ catalogue.old) }
-        ensures fit { RowsFit self.new catalogue.new }
+        ensures fit { CacheFits self.new catalogue.new }
         ensures rows { Begins self.old self.new }
         ensures rows_stay { OnErr result (self.new ≡ self.old) }
         ensures memory { OnErr result ((acted account.now (Write position line) catalogue.old name.now).answer ≡ Answer.Done) }
@@ -406,10 +404,10 @@ impl Guard {
         name: &Name,
         position: u64,
     ) -> Answered
-        requires fit { RowsFit self.old catalogue.old }
+        requires fit { CacheFits self.old catalogue.old }
         ensures answer { result ≡ told position (acted account.now (End position) catalogue.old name.now) }
         ensures sets { catalogue.new ≡ changed name.now (acted account.now (End position) catalogue.old name.now).change catalogue.old }
-        ensures fit { RowsFit self.new catalogue.new }
+        ensures fit { CacheFits self.new catalogue.new }
         ensures rows { Begins self.old self.new }
     {
         let near = self.rows.near(account, catalogue, name);
@@ -442,7 +440,7 @@ impl Guard {
         ensures refused { refused_as result ≡ create_refusal name catalogue.old }
         ensures sets { OnOk result (catalogue.new ≡ (created account.now catalogue.old name mode).1) }
         ensures unchanged { OnErr result (catalogue.new ≡ catalogue.old) }
-        ensures fit { RowsFit self.old catalogue.old → RowsFit self.new catalogue.new }
+        ensures fit { CacheFits self.old catalogue.old → CacheFits self.new catalogue.new }
         ensures rows_stay { self.new ≡ self.old }
     {
         let acl = new_list(alloc)?;

@@ -6,14 +6,14 @@
 #![tactic(auto)]
 
 pub mod answer;
+pub mod cache;
 pub mod guard;
 pub mod laws;
-pub mod rows;
-pub mod shown;
+pub mod views;
 
 pub use answer::{AclAnswer, Answered, Decided};
+pub use cache::{CachedDecision, MOST_CACHED_DECISIONS};
 pub use guard::Guard;
 pub use mon_acl::AclText;
-pub use mon_answer::{Answer as GuardAnswer, Reason};
-pub use rows::{MOST_ROWS, Row};
-pub use shown::{ShownAcl, ShownName};
+pub use interaction::{Answer as GuardAnswer, Reason};
+pub use views::{AclView, NameView};

@@ -20,22 +20,22 @@ use Rattle.mon_catalogue.specs.declared.catalogue.CreateError.{CreateError}
 use Rattle.mon_catalogue.specs.declared.catalogue.CreateError.TheVariants as create
 use Rattle.mon_catalogue.specs.Sets.{Sets, find_set}
 use Rattle.mon_catalogue.specs.Writing.{writing}
-use Rattle.mon_answer.specs.declared.answer.Reason.{Reason}
-use Rattle.mon_answer.specs.declared.answer.Reason.TheVariants.{NotOwner}
-use Rattle.mon_answer.specs.declared.answer.Answer.{Answer}
-use Rattle.mon_answer.specs.declared.answer.Answer.TheVariants as answer
+use Rattle.interaction.specs.declared.answer.Reason.{Reason}
+use Rattle.interaction.specs.declared.answer.Reason.TheVariants.{NotOwner}
+use Rattle.interaction.specs.declared.answer.Answer.{Answer}
+use Rattle.interaction.specs.declared.answer.Answer.TheVariants as answer
 use Rattle.mon_guard.specs.Deciding.{to_read, to_write, to_execute, decision_on, is_granted}
-use Rattle.mon_guard.specs.Lending.{NamePart, name_part, names_shown, names_lent, records_lent, acl_lent}
+use Rattle.mon_guard.specs.Views.{NamePart, name_part, names_shown, names_lent, records_lent, acl_lent}
 use Rattle.mon_guard.specs.Owning.{owner_denial, given, acl_set_unless}
 use Rattle.mon_guard.specs.Acting as acting
 use Rattle.mon_guard.specs.Acting.{Acted, only_answered, read_at, changing, acted}
 use Rattle.mon_guard.specs.Laws.{IsThere, IsGranted, IsFor, OwnsNamed}
 use Rattle.mon_guard.proofs.Acting.{acts_where_granted}
 use Rattle.mon_guard.proofs.Shorthand.{made, owner_denial_of, removed_unless, created_unless}
-use Rattle.sno_ask.specs.Fitting.{fits}
-use Rattle.sno_ask.specs.declared.request.Act.{Act}
-use Rattle.sno_ask.specs.declared.request.Act.TheVariants.{Read, Write, Endfile, Rewind}
-use Rattle.sno_ask.specs.declared.request.Request.{Request}
+use Rattle.interaction.specs.Fitting.{fits}
+use Rattle.interaction.specs.declared.request.Act.{Act}
+use Rattle.interaction.specs.declared.request.Act.TheVariants.{Read, Write, Endfile, Rewind}
+use Rattle.interaction.specs.declared.request.Request.{Request}
 use Rattle.mon_unit.specs.declared.note.NoteAct.TheVariants as note
 use Rattle.mon_unit.specs.declared.tie.Target.{Target}
 use Rattle.mon_unit.specs.declared.tie.Target.TheVariants.{Untied, Data, Spool, Set}

@@ -17,12 +17,12 @@ use Rattle.mon_catalogue.specs.Sets.{Sets, find_set, create_refusal}
 use Rattle.mon_catalogue.specs.Changes.{with_changed, without_set}
 use Rattle.mon_catalogue.specs.Writing.{Change, Add, writing, records_after, recorded}
 use Rattle.mon_catalogue.proofs.Changed.{other_sets_stay, named_set_changes}
-use Rattle.mon_answer.specs.declared.answer.Reason.{Reason}
+use Rattle.interaction.specs.declared.answer.Reason.{Reason}
 use Rattle.mon_guard.specs.Owning.{owner_denial, given, new_set, acl_set_unless}
 use Rattle.mon_guard.specs.Laws.{IsThere}
-use Rattle.sno_ask.specs.declared.request.Act.{Act}
-use Rattle.sno_ask.specs.declared.request.Act.TheVariants.{Read, Write, Endfile, Rewind}
-use Rattle.sno_ask.specs.declared.request.Request.{Request}
+use Rattle.interaction.specs.declared.request.Act.{Act}
+use Rattle.interaction.specs.declared.request.Act.TheVariants.{Read, Write, Endfile, Rewind}
+use Rattle.interaction.specs.declared.request.Request.{Request}
 use Rattle.mon_command.specs.declared.command.Command.{Command}
 use Rattle.mon_command.specs.declared.command.Command.TheVariants.{Create, Delete, SetAcl, ShowAcl, List as Listing, Catalog}
 use Rattle.mon_command.specs.Commands.{account_of}
@@ -174,5 +174,5 @@ module _ (changed : units.ChangedWhereGranted) (accounts : List Account) (name :
 
 pub append_only : units.ChangedWhereGranted → AppendOnly
 append_only changed events m w name set there mode none =
-    lead_keeps changed w.accounts name set.records w.floor.sets (played events m w).after.floor.sets (history events m w)
-    (history_lead w.accounts events m w.floor) none (set, there, mode, ([], sym (append-nil set.records)))
+    lead_keeps changed w.accounts name set.records w.scheduler.sets (played events m w).after.scheduler.sets (history events m w)
+    (history_lead w.accounts events m w.scheduler) none (set, there, mode, ([], sym (append-nil set.records)))

@@ -2,9 +2,9 @@
 use Rattle.std.proofs.Common.{◌≡◌, ℕ, zero, suc, Some, None, refl, ap}
 use Rattle.std.specs.Prelude.{replicate, slice_get}
 use Rattle.std.specs.Option.{option_flatten}
-use Rattle.mon_slots.specs.Floors.{SlotState, seat_at}
-use Rattle.mon_monitor.specs.Worlds.{first_world}
-use Rattle.mon_monitor.specs.Papers.{papers_text}
+use Rattle.scheduler.specs.States.{SlotState, seat_at}
+use Rattle.mon_monitor.specs.SystemStates.{first_system}
+use Rattle.mon_monitor.specs.Printouts.{printouts_text}
 use Rattle.mon_monitor.specs.Beginnings.{FromTheBeginning}
 use Rattle.mon_monitor.proofs.Agreeing.{isolated}
 
@@ -19,14 +19,14 @@ no_job_at n (suc i) slot h = no_job n i slot h
 
 pub from_the_beginning : FromTheBeginning
 from_the_beginning slots accounts account sets others known differ alike E own m =
-    ap papers_text (isolated account (first_world slots accounts sets) (first_world slots accounts others) (record {
+    ap printouts_text (isolated account (first_system slots accounts sets) (first_system slots accounts others) (record {
       accounts = refl;
       known = known;
-      floor = record {
+      scheduler = record {
         slots = refl;
         own = λ s slot h. absurd (no_job_at slots s slot h);
         names = differ;
         sets = alike;
         ties = λ s slot h. absurd (no_job_at slots s slot h);
       };
-    }) E own m).papers
+    }) E own m).printouts

@@ -22,10 +22,10 @@ use Rattle.mon_catalogue.specs.declared.catalogue.CreateError.TheVariants.{NameT
 use Rattle.mon_catalogue.specs.Sets.{Sets, find_set, NamesDiffer, create_refusal}
 use Rattle.mon_catalogue.specs.Changes.{without_set, with_acl}
 use Rattle.mon_catalogue.proofs.Changed.{other_sets_stay, named_set_changes, order_stays}
-use Rattle.mon_answer.specs.declared.answer.Reason.{Reason}
-use Rattle.mon_answer.specs.declared.answer.Reason.TheVariants.{NoSet, NotOwner}
+use Rattle.interaction.specs.declared.answer.Reason.{Reason}
+use Rattle.interaction.specs.declared.answer.Reason.TheVariants.{NoSet, NotOwner}
 use Rattle.mon_guard.specs.Deciding.{to_read, to_execute, decision_on, is_granted, by_decision, where_granted, may_be_shown}
-use Rattle.mon_guard.specs.Lending.{AclPart, NamePart, acl_part, name_part, names_shown, names_lent}
+use Rattle.mon_guard.specs.Views.{AclPart, NamePart, acl_part, name_part, names_shown, names_lent}
 use Rattle.mon_guard.specs.Owning.{given, new_set, acl_set_unless}
 use Rattle.mon_command.specs.declared.command.Command.{Command}
 use Rattle.mon_command.specs.declared.command.Command.TheVariants.{Create, Delete, SetAcl, ShowAcl, List as Listing, Catalog}
@@ -281,22 +281,22 @@ pub commands_agree : CommandsAgree
 commands_agree account w v agree command own =
     let known : find_account w.accounts (account_of command) ≡ Some account = ap (find_account w.accounts) own ∙ agree.known in
     let known' : find_account v.accounts (account_of command) ≡ Some account = ap (λ (l : List Account). find_account l (account_of command)) (sym agree.accounts) ∙ known in
-    let one : StillAlike account w.floor.sets v.floor.sets (answered w.accounts w.floor.sets command) (answered v.accounts v.floor.sets command) =
-    subst (λ (o : Option Account). StillAlike account w.floor.sets v.floor.sets (served_if_known o command w.floor.sets) (answered v.accounts v.floor.sets command)) (sym known)
-    (subst (λ (o : Option Account). StillAlike account w.floor.sets v.floor.sets (served account command w.floor.sets) (served_if_known o command v.floor.sets)) (sym known')
-    (serves account w.floor.sets v.floor.sets agree.floor.sets agree.floor.names command)) in
+    let one : StillAlike account w.scheduler.sets v.scheduler.sets (answered w.accounts w.scheduler.sets command) (answered v.accounts v.scheduler.sets command) =
+    subst (λ (o : Option Account). StillAlike account w.scheduler.sets v.scheduler.sets (served_if_known o command w.scheduler.sets) (answered v.accounts v.scheduler.sets command)) (sym known)
+    (subst (λ (o : Option Account). StillAlike account w.scheduler.sets v.scheduler.sets (served account command w.scheduler.sets) (served_if_known o command v.scheduler.sets)) (sym known')
+    (serves account w.scheduler.sets v.scheduler.sets agree.scheduler.sets agree.scheduler.names command)) in
     record {
       printout = ap (printed command) one.answer;
       after = record {
         accounts = agree.accounts;
         known = agree.known;
-        floor = record {
-          slots = agree.floor.slots;
-          own = agree.floor.own;
+        scheduler = record {
+          slots = agree.scheduler.slots;
+          own = agree.scheduler.own;
           names = one.names;
           sets = one.alike;
-          ties = λ s slot is. ties_stay w.floor.sets v.floor.sets (answered w.accounts w.floor.sets command).sets (answered v.accounts v.floor.sets command).sets slot.units
-              one.same (agree.floor.ties s slot is);
+          ties = λ s slot is. ties_stay w.scheduler.sets v.scheduler.sets (answered w.accounts w.scheduler.sets command).sets (answered v.accounts v.scheduler.sets command).sets slot.units
+              one.same (agree.scheduler.ties s slot is);
         };
       };
     }

@@ -1,11 +1,11 @@
--- What is no history: of a small world, lists that differ from its history in one place.
+-- What is no history: of a small system, lists that differ from its history in one place.
 use Rattle.std.proofs.Common.{◌≡◌, ℕ, zero, suc, List, [], ◌∷◌, ◌++◌, map, Option, Some, None, refl, sym, ap, ◌∙◌, subst, inl, inr}
 use Rattle.std.specs.Prelude.{◌⊎◌, codes}
-use Rattle.sno_ask.specs.Asking.{Exchange, Tells}
-use Rattle.sno_ask.specs.declared.request.Act.{Act}
-use Rattle.sno_ask.specs.declared.request.Act.TheVariants.{Read, Write}
-use Rattle.mon_answer.specs.declared.answer.Answer.{Answer}
-use Rattle.mon_answer.specs.declared.answer.Answer.TheVariants.{Done, Got, Denied}
+use Rattle.interaction.specs.Asking.{Exchange, IsTrace}
+use Rattle.interaction.specs.declared.request.Act.{Act}
+use Rattle.interaction.specs.declared.request.Act.TheVariants.{Read, Write}
+use Rattle.interaction.specs.declared.answer.Answer.{Answer}
+use Rattle.interaction.specs.declared.answer.Answer.TheVariants.{Done, Got, Denied}
 use Rattle.sno_run.specs.declared.ending.Ending.TheVariants.{Normal, Memory}
 use Rattle.sno_run.specs.declared.ending.Step.TheVariants as step
 use Rattle.sno_run.specs.Jobs.{Job, turns_of, first_job}
@@ -17,7 +17,7 @@ use Rattle.mon_access.specs.AccessCheck.{decision}
 use Rattle.mon_access.specs.Accounts.{find_account}
 use Rattle.mon_catalogue.specs.declared.mode.Mode.TheVariants.{Seq}
 use Rattle.mon_catalogue.specs.Sets.{Sets}
-use Rattle.mon_answer.specs.declared.answer.Reason.TheVariants.{By}
+use Rattle.interaction.specs.declared.answer.Reason.TheVariants.{By}
 use Rattle.mon_guard.specs.Owning.{plain}
 use Rattle.mon_unit.specs.declared.note.NoteAct.TheVariants as act
 use Rattle.mon_unit.specs.declared.note.NoteTarget.TheVariants as target
@@ -25,11 +25,11 @@ use Rattle.mon_unit.specs.declared.note.Note.{Note}
 use Rattle.mon_unit.specs.declared.note.Why.TheVariants as why
 use Rattle.mon_unit.specs.State.{UnitState}
 use Rattle.mon_unit.specs.Serving.{serve}
-use Rattle.mon_cards.specs.declared.job_deck.JobDeck.{JobDeck}
-use Rattle.mon_job.specs.declared.job_end.JobEnd.{JobEnd}
-use Rattle.mon_slots.specs.Floors.{SlotState, seat_at}
-use Rattle.mon_slots.specs.Loads.{first_units, with_ties, program_in}
-use Rattle.mon_monitor.specs.Worlds.{World, first_world}
+use Rattle.deck_syntax.specs.declared.job_deck.JobDeck.{JobDeck}
+use Rattle.scheduler.specs.declared.job_end.JobEnd.{JobEnd}
+use Rattle.scheduler.specs.States.{SlotState, seat_at}
+use Rattle.scheduler.specs.Loads.{first_units, with_ties, program_in}
+use Rattle.mon_monitor.specs.SystemStates.{SystemState, first_system}
 use Rattle.mon_monitor.specs.Events.{Event, Load, Drain}
 use Rattle.mon_monitor.specs.Played.{played}
 use Rattle.mon_monitor.specs.History.{Exchanged, Entry, Entered, Asked, Ended, history}
@@ -69,8 +69,8 @@ copies n account = record {
 abbrev events : List Event
 events = Load (copies 1 bob) ∷ Load (copies 2 ann) ∷ Drain ∷ []
 
-abbrev w : World
-w = first_world 1 (bob ∷ ann ∷ []) sets
+abbrev w : SystemState
+w = first_system 1 (bob ∷ ann ∷ []) sets
 
 -- ITS HISTORY
 
@@ -121,7 +121,7 @@ its_history = refl
 -- WHAT IS NOT
 
 abbrev IsIts : List Entry → Type 0
-IsIts entries = let p = played events [] w in IsHistory events w entries p.papers p.after
+IsIts entries = let p = played events [] w in IsHistory events w entries p.printouts p.after
 
 -- the end of a job whose cards spell this program, if they spell one
 abbrev EndsAs : JobDeck → Option Program → List Exchange → JobEnd → Type 0
@@ -138,7 +138,7 @@ record Said (deck : JobDeck) (asked : List Exchanged) (end : JobEnd) : Type 0 wh
 
 -- what such a job asked, where memory did not break it off
 ended : (start : Job) (x : List Exchange) (end : JobEnd) → EndsSo start x end
-    → ((job : Job) × Tells (turns_of (suc start.limits.statements) start) x (step.Ended end.ending, job)) ⊎ (end.ending ≡ Memory)
+    → ((job : Job) × IsTrace (turns_of (suc start.limits.statements) start) x (step.Ended end.ending, job)) ⊎ (end.ending ≡ Memory)
 ended start x end h = elim h.ends [
   | inl tells ↦ inl (tells.0, asked_alone (suc start.limits.statements) start (step.Ended end.ending, tells.0) h.passed x h.asked tells.1)
   | inr broken ↦ inr broken.0

@@ -10,22 +10,22 @@ use Rattle.sno_syntax.specs.Refusals.{syntax_refusal}
 use Rattle.mon_access.specs.declared.account.Account.{Account}
 use Rattle.mon_access.specs.Accounts.{find_account}
 use Rattle.mon_unit.specs.declared.units.UnitError.{UnitError}
-use Rattle.mon_cards.specs.declared.job_deck.JobDeck.{JobDeck}
-use Rattle.mon_job.specs.declared.job_end.JobEnd.{JobEnd}
-use Rattle.mon_job.specs.declared.refusal.LoadError.{LoadError}
-use Rattle.mon_job.specs.declared.refusal.LoadError.TheVariants.{NoSlot, NoAccount, Cards, Syntax}
-use Rattle.mon_slots.specs.Floors.{SlotState, Floor, first_free}
-use Rattle.mon_slots.specs.Marks.{Marks, Past, turn_as, until, never, rounds, turns_left, is_done, has_free_slot, room}
-use Rattle.mon_slots.specs.Rounds.{NoneByMemory, MarksEndJobs, RoomIsMade}
-use Rattle.mon_slots.specs.Loads.{first_units, ties_refusal, missing, program_refusal, deck_refusal, loaded_by, slot_in}
-use Rattle.mon_slots.proofs.Seats.{seat_length}
-use Rattle.mon_slots.proofs.Past.{either_way, until_stops, until_goes, until_length}
-use Rattle.mon_monitor.specs.Worlds.{World, with_floor}
+use Rattle.deck_syntax.specs.declared.job_deck.JobDeck.{JobDeck}
+use Rattle.scheduler.specs.declared.job_end.JobEnd.{JobEnd}
+use Rattle.scheduler.specs.declared.refusal.LoadError.{LoadError}
+use Rattle.scheduler.specs.declared.refusal.LoadError.TheVariants.{NoSlot, NoAccount, Cards, Syntax}
+use Rattle.scheduler.specs.States.{SlotState, SchedulerState, first_free}
+use Rattle.scheduler.specs.Marks.{Marks, Past, turn_as, until, never, rounds, turns_left, is_done, has_free_slot, room}
+use Rattle.scheduler.specs.Rounds.{NoneByMemory, MarksEndJobs, RoomIsMade}
+use Rattle.scheduler.specs.Loads.{first_units, ties_refusal, missing, program_refusal, deck_refusal, loaded_by, slot_in}
+use Rattle.scheduler.proofs.Seats.{seat_length}
+use Rattle.scheduler.proofs.Past.{either_way, until_stops, until_goes, until_length}
+use Rattle.mon_monitor.specs.SystemStates.{SystemState, with_scheduler}
 use Rattle.mon_monitor.specs.Events.{Event, Serve, Load, Give, Drain}
-use Rattle.mon_monitor.specs.Papers.{Paper, papers_text, of_load}
+use Rattle.mon_monitor.specs.Printouts.{Printout, printouts_text, of_load}
 use Rattle.mon_monitor.specs.Played.{Played, loading, of_turns, and_played, happened, played}
 use Rattle.mon_monitor.specs.Laws.{CardByCard, PrintedInOrder, NotByMemory, AsUnmarked, PlayedUnmarked, LoadHasRoom, AccountsStay, SlotsStay}
-use Rattle.mon_monitor.proofs.Playing.{papers_append}
+use Rattle.mon_monitor.proofs.Playing.{printouts_append}
 use Rattle.mon_monitor.proofs.Shorthand.{of_ends}
 
 pub card_by_card : CardByCard
@@ -34,13 +34,13 @@ card_by_card (e ∷ E) F m w =
     let p = happened e m w in
     let q = played E p.marks p.after in
     let r = played F q.marks q.after in
-    ap (and_played p.papers) (card_by_card E F p.marks p.after)
-    ∙ ap (λ (l : List Paper). let x : Played = record { papers = l; after = r.after; marks = r.marks } in x) (sym (append_assoc p.papers q.papers r.papers))
+    ap (and_played p.printouts) (card_by_card E F p.marks p.after)
+    ∙ ap (λ (l : List Printout). let x : Played = record { printouts = l; after = r.after; marks = r.marks } in x) (sym (append_assoc p.printouts q.printouts r.printouts))
 
 pub printed_in_order : PrintedInOrder
 printed_in_order E F m w =
     let p = played E m w in
-    ap (λ (x : Played). papers_text x.papers) (card_by_card E F m w) ∙ papers_append p.papers (played F p.marks p.after).papers
+    ap (λ (x : Played). printouts_text x.printouts) (card_by_card E F m w) ∙ printouts_append p.printouts (played F p.marks p.after).printouts
 
 -- MARKS
 
@@ -48,63 +48,63 @@ not_memory : (ends : List (ℕ × JobEnd)) → AllByRecursion NotByMemory (of_en
 not_memory [] h = tt
 not_memory (e ∷ ends) h = (h.0, not_memory ends h.1)
 
-parted : (xs ys : List Paper) → AllByRecursion NotByMemory (xs ++ ys) → AllByRecursion NotByMemory xs × AllByRecursion NotByMemory ys
+parted : (xs ys : List Printout) → AllByRecursion NotByMemory (xs ++ ys) → AllByRecursion NotByMemory xs × AllByRecursion NotByMemory ys
 parted [] ys h = (tt, h)
 parted (x ∷ xs) ys h = let rest = parted xs ys h.1 in ((h.0, rest.0), rest.1)
 
 -- of no marks none are left
-until_none : (stop : Floor → Bool) (E : List ℕ) (w : Floor) → (until stop E [] w).marks ≡ []
+until_none : (stop : SchedulerState → Bool) (E : List ℕ) (w : SchedulerState) → (until stop E [] w).marks ≡ []
 until_none stop [] w = refl
 until_none stop (s ∷ E) w = elim (either_way (stop w)) [
   | inl h ↦ ap (λ (p : Past). p.marks) (until_stops stop (s ∷ E) [] w h)
   | inr h ↦ ap (λ (p : Past). p.marks) (until_goes stop s E [] w h) ∙ until_none stop E (turn_as None s w).1
 ]
 
-happened_none : (e : Event) (w : World) → (happened e [] w).marks ≡ []
+happened_none : (e : Event) (w : SystemState) → (happened e [] w).marks ≡ []
 happened_none (Serve command) w = refl
-happened_none (Load deck) w = until_none has_free_slot (rounds (turns_left w.floor.slots) (length w.floor.slots)) w.floor
-happened_none (Give s n) w = until_none never (replicate n s) w.floor
-happened_none Drain w = until_none is_done (rounds (turns_left w.floor.slots) (length w.floor.slots)) w.floor
+happened_none (Load deck) w = until_none has_free_slot (rounds (turns_left w.scheduler.slots) (length w.scheduler.slots)) w.scheduler
+happened_none (Give s n) w = until_none never (replicate n s) w.scheduler
+happened_none Drain w = until_none is_done (rounds (turns_left w.scheduler.slots) (length w.scheduler.slots)) w.scheduler
 
 module _ (law : MarksEndJobs) where
-  turns_unmarked : (stop : Floor → Bool) (E : List ℕ) (m : Marks) (w : World) → AllByRecursion NotByMemory (of_turns w (until stop E m w.floor)).papers
-      → AsUnmarked (of_turns w (until stop E m w.floor)) (of_turns w (until stop E [] w.floor))
+  turns_unmarked : (stop : SchedulerState → Bool) (E : List ℕ) (m : Marks) (w : SystemState) → AllByRecursion NotByMemory (of_turns w (until stop E m w.scheduler)).printouts
+      → AsUnmarked (of_turns w (until stop E m w.scheduler)) (of_turns w (until stop E [] w.scheduler))
   turns_unmarked stop E m w none =
-      let k = law stop w.floor E m (not_memory (until stop E m w.floor).ends none) in
-      record { papers = ap (λ (l : List (ℕ × JobEnd)). of_ends (map (λ e. e.1) l)) k.0; after = ap (with_floor w) k.1 }
+      let k = law stop w.scheduler E m (not_memory (until stop E m w.scheduler).ends none) in
+      record { printouts = ap (λ (l : List (ℕ × JobEnd)). of_ends (map (λ e. e.1) l)) k.0; after = ap (with_scheduler w) k.1 }
 
-  entered_unmarked : (deck : JobDeck) (m : Marks) (w : World) → AllByRecursion NotByMemory (happened (Load deck) m w).papers
+  entered_unmarked : (deck : JobDeck) (m : Marks) (w : SystemState) → AllByRecursion NotByMemory (happened (Load deck) m w).printouts
       → AsUnmarked (happened (Load deck) m w) (happened (Load deck) [] w)
   entered_unmarked deck m w none =
-      let p = of_turns w (room m w.floor) in
-      let q = of_turns w (room [] w.floor) in
-      let parts = parted p.papers (of_load deck (loading deck p.after).0) none in
-      let a = turns_unmarked has_free_slot (rounds (turns_left w.floor.slots) (length w.floor.slots)) m w parts.0 in
+      let p = of_turns w (room m w.scheduler) in
+      let q = of_turns w (room [] w.scheduler) in
+      let parts = parted p.printouts (of_load deck (loading deck p.after).0) none in
+      let a = turns_unmarked has_free_slot (rounds (turns_left w.scheduler.slots) (length w.scheduler.slots)) m w parts.0 in
       record {
-        papers = ap (λ (l : List Paper). l ++ of_load deck (loading deck p.after).0) a.papers ∙ ap (λ (v : World). q.papers ++ of_load deck (loading deck v).0) a.after;
-        after = ap (λ (v : World). (loading deck v).1) a.after;
+        printouts = ap (λ (l : List Printout). l ++ of_load deck (loading deck p.after).0) a.printouts ∙ ap (λ (v : SystemState). q.printouts ++ of_load deck (loading deck v).0) a.after;
+        after = ap (λ (v : SystemState). (loading deck v).1) a.after;
       }
 
-  happened_unmarked : (e : Event) (m : Marks) (w : World) → AllByRecursion NotByMemory (happened e m w).papers → AsUnmarked (happened e m w) (happened e [] w)
-  happened_unmarked (Serve command) m w none = record { papers = refl; after = refl }
+  happened_unmarked : (e : Event) (m : Marks) (w : SystemState) → AllByRecursion NotByMemory (happened e m w).printouts → AsUnmarked (happened e m w) (happened e [] w)
+  happened_unmarked (Serve command) m w none = record { printouts = refl; after = refl }
   happened_unmarked (Load deck) m w none = entered_unmarked deck m w none
   happened_unmarked (Give s n) m w none = turns_unmarked never (replicate n s) m w none
-  happened_unmarked Drain m w none = turns_unmarked is_done (rounds (turns_left w.floor.slots) (length w.floor.slots)) m w none
+  happened_unmarked Drain m w none = turns_unmarked is_done (rounds (turns_left w.scheduler.slots) (length w.scheduler.slots)) m w none
 
   pub played_unmarked : PlayedUnmarked
-  played_unmarked [] m w none = record { papers = refl; after = refl }
+  played_unmarked [] m w none = record { printouts = refl; after = refl }
   played_unmarked (e ∷ E) m w none =
       let p = happened e m w in
       let q = happened e [] w in
-      let parts = parted p.papers (played E p.marks p.after).papers none in
+      let parts = parted p.printouts (played E p.marks p.after).printouts none in
       let a = happened_unmarked e m w parts.0 in
       let b = played_unmarked E p.marks p.after parts.1 in
       let same : played E [] p.after ≡ played E q.marks q.after =
-      ap (λ (v : World). played E [] v) a.after ∙ ap (λ (k : Marks). played E k q.after) (sym (happened_none e w)) in
+      ap (λ (v : SystemState). played E [] v) a.after ∙ ap (λ (k : Marks). played E k q.after) (sym (happened_none e w)) in
       record {
-        papers =
-            ap (λ (l : List Paper). l ++ (played E p.marks p.after).papers) a.papers
-            ∙ ap (λ (l : List Paper). q.papers ++ l) (b.papers ∙ ap (λ (x : Played). x.papers) same);
+        printouts =
+            ap (λ (l : List Printout). l ++ (played E p.marks p.after).printouts) a.printouts
+            ∙ ap (λ (l : List Printout). q.printouts ++ l) (b.printouts ∙ ap (λ (x : Played). x.printouts) same);
         after = b.after ∙ ap (λ (x : Played). x.after) same;
       }
 
@@ -133,14 +133,14 @@ answer_not (Some n) (Some r) slot slots h g e = g (let k : Err r ≡ Err NoSlot 
 
 pub load_has_room : RoomIsMade → LoadHasRoom
 load_has_room law deck m w some =
-    let v = with_floor w (room m w.floor).after in
-    answer_not (first_free v.floor.slots) (deck_refusal v.accounts deck) (slot_in v.accounts deck) v.floor.slots (law w.floor m some)
+    let v = with_scheduler w (room m w.scheduler).after in
+    answer_not (first_free v.scheduler.slots) (deck_refusal v.accounts deck) (slot_in v.accounts deck) v.scheduler.slots (law w.scheduler m some)
     (deck_not (find_account v.accounts deck.account) (ties_refusal deck.ties (first_units deck.lines)) (statements_of deck.lines))
 
 -- WHAT STAYS
 
 -- no event changes the account table
-pub event_accounts : (e : Event) (m : Marks) (w : World) → (happened e m w).after.accounts ≡ w.accounts
+pub event_accounts : (e : Event) (m : Marks) (w : SystemState) → (happened e m w).after.accounts ≡ w.accounts
 event_accounts (Serve command) m w = refl
 event_accounts (Load deck) m w = refl
 event_accounts (Give s n) m w = refl
@@ -155,12 +155,12 @@ loaded_length (Some r) n slot slots = refl
 loaded_length None (Some n) slot slots = seat_length n slot slots
 loaded_length None None slot slots = refl
 
-event_slots : (e : Event) (m : Marks) (w : World) → length (happened e m w).after.floor.slots ≡ length w.floor.slots
+event_slots : (e : Event) (m : Marks) (w : SystemState) → length (happened e m w).after.scheduler.slots ≡ length w.scheduler.slots
 event_slots (Serve command) m w = refl
 event_slots (Load deck) m w =
-    loaded_length _ _ _ (room m w.floor).after.slots ∙ until_length has_free_slot (rounds (turns_left w.floor.slots) (length w.floor.slots)) m w.floor
-event_slots (Give s n) m w = until_length never (replicate n s) m w.floor
-event_slots Drain m w = until_length is_done (rounds (turns_left w.floor.slots) (length w.floor.slots)) m w.floor
+    loaded_length _ _ _ (room m w.scheduler).after.slots ∙ until_length has_free_slot (rounds (turns_left w.scheduler.slots) (length w.scheduler.slots)) m w.scheduler
+event_slots (Give s n) m w = until_length never (replicate n s) m w.scheduler
+event_slots Drain m w = until_length is_done (rounds (turns_left w.scheduler.slots) (length w.scheduler.slots)) m w.scheduler
 
 pub slots_stay : SlotsStay
 slots_stay [] m w = refl

@@ -1,4 +1,4 @@
--- A job of an account is loaded, in worlds that agree for it.
+-- A job of an account is loaded, in systems that agree for it.
 use Rattle.std.proofs.Common.{◌≡◌, ℕ, zero, suc, List, [], ◌∷◌, Option, Some, None, Result, ap, sym, ◌∙◌, subst, inl, inr}
 use Rattle.std.specs.Prelude.{◌⊎◌, slice_get, map}
 use Rattle.std.specs.List.{range_with_len}
@@ -10,11 +10,11 @@ use Rattle.mon_unit.specs.declared.tie.Target.TheVariants.{Set}
 use Rattle.mon_unit.specs.declared.tie.Tie.{Tie}
 use Rattle.mon_unit.specs.State.{UnitState}
 use Rattle.mon_unit.specs.Tying.{first_tie, tied_to}
-use Rattle.mon_cards.specs.declared.job_deck.UnitCard.{UnitCard}
-use Rattle.mon_cards.specs.declared.job_deck.JobDeck.{JobDeck}
-use Rattle.mon_job.specs.declared.refusal.LoadError.{LoadError}
-use Rattle.mon_slots.specs.Floors.{SlotState, seat_at, first_free, job_in}
-use Rattle.mon_slots.specs.Loads.{first_units, with_ties, tied_by, program_in, load_refusal, slot_by, slot_in, loaded_by, job_loaded}
+use Rattle.deck_syntax.specs.declared.job_deck.UnitCard.{UnitCard}
+use Rattle.deck_syntax.specs.declared.job_deck.JobDeck.{JobDeck}
+use Rattle.scheduler.specs.declared.refusal.LoadError.{LoadError}
+use Rattle.scheduler.specs.States.{SlotState, seat_at, first_free, job_in}
+use Rattle.scheduler.specs.Loads.{first_units, with_ties, tied_by, program_in, load_refusal, slot_by, slot_in, loaded_by, job_loaded}
 use Rattle.mon_monitor.specs.Isolation.{LoadsAgree}
 use Rattle.mon_monitor.proofs.Requests.{get_after_set}
 use Rattle.mon_monitor.proofs.Turning.{seat_after}
@@ -70,25 +70,25 @@ loaded_seats None None slot slots s x h = inl h
 pub loads_agree : LoadsAgree
 loads_agree account w v agree deck own =
     let known : find_account w.accounts deck.account ≡ Some account = ap (find_account w.accounts) own ∙ agree.known in
-    let same : job_loaded w.accounts deck w.floor.slots ≡ job_loaded v.accounts deck v.floor.slots =
-    ap (λ (l : List Account). job_loaded l deck w.floor.slots) agree.accounts ∙ ap (job_loaded v.accounts deck) agree.floor.slots in
-    let seats : (s : ℕ) (x : SlotState) → seat_at s (job_loaded w.accounts deck w.floor.slots).1 ≡ Some x → (job_in s w.floor ≡ Some x) ⊎ (slot_in w.accounts deck ≡ Some x) =
-    loaded_seats (load_refusal w.accounts deck w.floor.slots) (first_free w.floor.slots) (slot_in w.accounts deck) w.floor.slots in
+    let same : job_loaded w.accounts deck w.scheduler.slots ≡ job_loaded v.accounts deck v.scheduler.slots =
+    ap (λ (l : List Account). job_loaded l deck w.scheduler.slots) agree.accounts ∙ ap (job_loaded v.accounts deck) agree.scheduler.slots in
+    let seats : (s : ℕ) (x : SlotState) → seat_at s (job_loaded w.accounts deck w.scheduler.slots).1 ≡ Some x → (job_in s w.scheduler ≡ Some x) ⊎ (slot_in w.accounts deck ≡ Some x) =
+    loaded_seats (load_refusal w.accounts deck w.scheduler.slots) (first_free w.scheduler.slots) (slot_in w.accounts deck) w.scheduler.slots in
     record {
       answer = ap (λ (p : Result ℕ LoadError × List (Option SlotState)). p.0) same;
       after = record {
         accounts = agree.accounts;
         known = agree.known;
-        floor = record {
+        scheduler = record {
           slots = ap (λ (p : Result ℕ LoadError × List (Option SlotState)). p.1) same;
           own = λ s x is. elim (seats s x is) [
-            | inl was ↦ agree.floor.own s x was
+            | inl was ↦ agree.scheduler.own s x was
             | inr now ↦ (fresh account deck w.accounts x known now).own
           ];
-          names = agree.floor.names;
-          sets = agree.floor.sets;
+          names = agree.scheduler.names;
+          sets = agree.scheduler.sets;
           ties = λ s x is. elim (seats s x is) [
-            | inl was ↦ agree.floor.ties s x was
+            | inl was ↦ agree.scheduler.ties s x was
             | inr now ↦ λ u tie name at tied. inl ((fresh account deck w.accounts x known now).start u tie at)
           ];
         };

@@ -7,10 +7,10 @@ use Rattle.sno_run.specs.declared.ending.Step.TheVariants as step
 use Rattle.mon_access.specs.declared.account.Account.{Account}
 use Rattle.mon_unit.specs.State.{UnitState}
 use Rattle.mon_command.specs.declared.command.Command.{Command}
-use Rattle.mon_cards.specs.declared.job_deck.JobDeck.{JobDeck}
-use Rattle.mon_slots.specs.Floors.{SlotState, seat_at}
-use Rattle.mon_slots.specs.Turns.{told}
-use Rattle.mon_slots.specs.Marks.{Mark, Marks}
+use Rattle.deck_syntax.specs.declared.job_deck.JobDeck.{JobDeck}
+use Rattle.scheduler.specs.States.{SlotState, seat_at}
+use Rattle.scheduler.specs.Turns.{told}
+use Rattle.scheduler.specs.Marks.{Mark, Marks}
 use Rattle.mon_monitor.specs.Events.{Event, Serve, Load, Give}
 use Rattle.mon_monitor.specs.History.{Exchanged, Entry, Entered, Asked, Ordered, end_entry}
 use Rattle.mon_monitor.specs.Headline.{Follow}

@@ -19,15 +19,15 @@ use Rattle.mon_unit.specs.Runs.{run}
 use Rattle.mon_unit.proofs.Runs.{passed_begins}
 use Rattle.mon_catalogue.specs.Sets.{Sets}
 use Rattle.mon_command.specs.Commanded.{answered}
-use Rattle.mon_cards.specs.declared.job_deck.UnitCard.{UnitCard}
-use Rattle.mon_cards.specs.declared.job_deck.JobDeck.{JobDeck}
-use Rattle.mon_job.specs.declared.refusal.LoadError.{LoadError}
-use Rattle.mon_job.specs.declared.refusal.LoadError.TheVariants.{NoSlot, NoAccount}
-use Rattle.mon_slots.specs.Floors.{SlotState, Floor, floor, seat_at, with_seat, job_in, first_free}
-use Rattle.mon_slots.specs.Loads.{missing, first_units, tied_by, with_ties, program_refusal, program_in, deck_refusal, loaded_slot, slot_by, slot_in, loaded_by, job_loaded}
-use Rattle.mon_slots.specs.Turns.{reached, ran, ends_by}
-use Rattle.mon_slots.specs.Marks.{Mark, Marks, mark_of, passed_at, exchanges_at, may_break, ran_as, turn_as, Past, nothing, ends_then, until, never, is_done, has_free_slot, room}
-use Rattle.mon_monitor.specs.Worlds.{World}
+use Rattle.deck_syntax.specs.declared.job_deck.UnitCard.{UnitCard}
+use Rattle.deck_syntax.specs.declared.job_deck.JobDeck.{JobDeck}
+use Rattle.scheduler.specs.declared.refusal.LoadError.{LoadError}
+use Rattle.scheduler.specs.declared.refusal.LoadError.TheVariants.{NoSlot, NoAccount}
+use Rattle.scheduler.specs.States.{SlotState, SchedulerState, scheduler, seat_at, with_seat, job_in, first_free}
+use Rattle.scheduler.specs.Loads.{missing, first_units, tied_by, with_ties, program_refusal, program_in, deck_refusal, loaded_slot, slot_by, slot_in, loaded_by, job_loaded}
+use Rattle.scheduler.specs.Turns.{reached, ran, ends_by}
+use Rattle.scheduler.specs.Marks.{Mark, Marks, mark_of, passed_at, exchanges_at, may_break, ran_as, turn_as, Past, nothing, ends_then, until, never, is_done, has_free_slot, room}
+use Rattle.mon_monitor.specs.SystemStates.{SystemState}
 use Rattle.mon_monitor.specs.Events.{Event, Serve, Load, Give, Drain}
 use Rattle.mon_monitor.specs.Played.{happened, played}
 use Rattle.mon_monitor.specs.History.{Entry, Entered, Refused, Asked, Ordered, whole_turn, broken_turn, asked_in, end_entry, turn_entries, entries_until, load_entry, event_entries, history, is_of, own}
@@ -37,10 +37,10 @@ use Rattle.mon_monitor.proofs.Accounting.{in_rounds}
 use Rattle.mon_unit.proofs.Fitting.{serve_fits}
 use Rattle.mon_monitor.proofs.Exchanging.{whole_told, cut_told, all_passed, all_told, all_asked, cut_asks}
 use Rattle.sno_run.proofs.Tallying.{turn_counts}
-use Rattle.mon_slots.proofs.Seating.{IsSeat, seat_changed, free_seat}
+use Rattle.scheduler.proofs.Seating.{IsSeat, seat_changed, free_seat}
 use Rattle.mon_monitor.proofs.Telling.{same_or_not, not_same, AreOf, none_of, more_of, number_is, number_not, own_more, own_same, Sitting, goes_on, Turn, Again, IsToCome, SoFar, still_job, turn_far}
-use Rattle.mon_slots.proofs.Shorthand.{turn_as_by, broken_by}
-use Rattle.mon_monitor.specs.Told.{world}
+use Rattle.scheduler.proofs.Shorthand.{turn_as_by, broken_by}
+use Rattle.mon_monitor.specs.Abstraction.{system}
 
 -- A turn of a job leaves its limits; where the job goes on, fewer statements may begin than before, and where it ends, it has
 -- ended so.
@@ -129,7 +129,7 @@ module _ (accounts : List Account) (J : ℕ → Option JobDeck) (numbered : (n :
     turn_is None slot sets = whole_is slot sets
     turn_is (Some m) slot sets = broken_is (may_break slot.job) m slot sets
 
-    step_by : (m : Option Mark) (s : ℕ) (w : Floor) (H : List Entry) (o : Option SlotState) → job_in s w ≡ o → Far E H w.slots
+    step_by : (m : Option Mark) (s : ℕ) (w : SchedulerState) (H : List Entry) (o : Option SlotState) → job_in s w ≡ o → Far E H w.slots
         → Far E (H ++ (map Asked (asked_in m o w.sets) ++ end_entry (turn_as_by m s o w).0)) (turn_as_by m s o w).1.slots
     step_by m s w H None e far = subst (λ (l : List Entry). Far E l w.slots) (sym (append-nil H)) far
     step_by m s w H (Some slot) e far =
@@ -141,7 +141,7 @@ module _ (accounts : List Account) (J : ℕ → Option JobDeck) (numbered : (n :
     unless_far true H xs p q h g = subst (λ (l : List Entry). Far E l p.after.slots) (sym (append-nil H)) h
     unless_far false H xs p q h g = g
 
-    pub until_far : (stop : Floor → Bool) (S : List ℕ) (m : Marks) (w : Floor) (H : List Entry) → Far E H w.slots
+    pub until_far : (stop : SchedulerState → Bool) (S : List ℕ) (m : Marks) (w : SchedulerState) (H : List Entry) → Far E H w.slots
         → Far E (H ++ entries_until stop S m w) (until stop S m w).after.slots
     until_far stop [] m w H far = subst (λ (l : List Entry). Far E l w.slots) (sym (append-nil H)) far
     until_far stop (s ∷ S) m w H far =
@@ -348,12 +348,12 @@ module _ (accounts : List Account) (J : ℕ → Option JobDeck) (numbered : (n :
     ordered_by_none n H entry not =
         filter-append (is_of n) H (entry ∷ []) ∙ ap (λ (b : Bool). own n H ++ (if b then entry ∷ [] else [])) not ∙ append-nil (own n H)
 
-    module _ (made : (w : Floor) (m : Marks) → length w.slots ≢ 0 → has_free_slot (room m w).after ≡ true)
-        (stays : (e : Event) (m : Marks) (w : World) → length (happened e m w).after.floor.slots ≡ length w.floor.slots) where
-      abbrev Happens : Event → Marks → Floor → List Entry → List Event → Type 0
-      Happens e m f H E = Far E (H ++ event_entries e m (world accounts f)) (happened e m (world accounts f)).after.floor.slots
+    module _ (made : (w : SchedulerState) (m : Marks) → length w.slots ≢ 0 → has_free_slot (room m w).after ≡ true)
+        (stays : (e : Event) (m : Marks) (w : SystemState) → length (happened e m w).after.scheduler.slots ≡ length w.scheduler.slots) where
+      abbrev Happens : Event → Marks → SchedulerState → List Entry → List Event → Type 0
+      Happens e m f H E = Far E (H ++ event_entries e m (system accounts f)) (happened e m (system accounts f)).after.scheduler.slots
 
-      event_far : (e : Event) (E : List Event) (m : Marks) (f : Floor) (H : List Entry) → NumbersDiffer (e ∷ E) → length f.slots ≢ 0 → Far (e ∷ E) H f.slots → Happens e m f H E
+      event_far : (e : Event) (E : List Event) (m : Marks) (f : SchedulerState) (H : List Entry) → NumbersDiffer (e ∷ E) → length f.slots ≢ 0 → Far (e ∷ E) H f.slots → Happens e m f H E
       event_far (Serve command) E m f H differ some far =
           let entry = Ordered f.sets command (answered accounts f.sets command).answer in
           as_far accounts J (Serve command ∷ E) E H (H ++ entry ∷ []) f.slots (λ n. refl) (λ n. ordered_by_none n H entry refl) far
@@ -375,19 +375,19 @@ module _ (accounts : List Account) (J : ℕ → Option JobDeck) (numbered : (n :
       differ_later (Give slot count) E differ = differ
       differ_later Drain E differ = differ
 
-      pub history_far : (E : List Event) (m : Marks) (f : Floor) (H : List Entry) → NumbersDiffer E → length f.slots ≢ 0 → Far E H f.slots
-          → Far [] (H ++ history E m (world accounts f)) (played E m (world accounts f)).after.floor.slots
+      pub history_far : (E : List Event) (m : Marks) (f : SchedulerState) (H : List Entry) → NumbersDiffer E → length f.slots ≢ 0 → Far E H f.slots
+          → Far [] (H ++ history E m (system accounts f)) (played E m (system accounts f)).after.scheduler.slots
       history_far [] m f H differ some far = subst (λ (l : List Entry). Far [] l f.slots) (sym (append-nil H)) far
       history_far (e ∷ E) m f H differ some far =
-          let p = happened e m (world accounts f) in
-          let here = event_entries e m (world accounts f) in
-          let now = world accounts p.after.floor in
-          let same : p.after ≡ now = ap (λ (a : List Account). world a p.after.floor) (event_accounts e m (world accounts f)) in
+          let p = happened e m (system accounts f) in
+          let here = event_entries e m (system accounts f) in
+          let now = system accounts p.after.scheduler in
+          let same : p.after ≡ now = ap (λ (a : List Account). system a p.after.scheduler) (event_accounts e m (system accounts f)) in
           let next = event_far e E m f H differ some far in
-          let enough : length p.after.floor.slots ≢ 0 = (λ z. some (sym (stays e m (world accounts f)) ∙ z)) in
-          let rest = history_far E p.marks p.after.floor (H ++ here) (differ_later e E differ) enough next in
-          let moved = subst (λ (w : World). Far [] ((H ++ here) ++ history E p.marks w) (played E p.marks w).after.floor.slots) (sym same) rest in
-          subst (λ (l : List Entry). Far [] l (played E p.marks p.after).after.floor.slots) (append_assoc H here (history E p.marks p.after)) moved
+          let enough : length p.after.scheduler.slots ≢ 0 = (λ z. some (sym (stays e m (system accounts f)) ∙ z)) in
+          let rest = history_far E p.marks p.after.scheduler (H ++ here) (differ_later e E differ) enough next in
+          let moved = subst (λ (w : SystemState). Far [] ((H ++ here) ++ history E p.marks w) (played E p.marks w).after.scheduler.slots) (sym same) rest in
+          subst (λ (l : List Entry). Far [] l (played E p.marks p.after).after.scheduler.slots) (append_assoc H here (history E p.marks p.after)) moved
 
 -- at the beginning
 none_first : (n s : ℕ) (slot : SlotState) → seat_at s (replicate n None) ≡ Some slot → ⊥
@@ -403,23 +403,23 @@ so_many : (n : ℕ) → length (no_jobs n) ≡ n
 so_many zero = refl
 so_many (suc n) = ap suc (so_many n)
 
-pub all_jobs : Again → TurnsWell → Spell → ((w : Floor) (m : Marks) → length w.slots ≢ 0 → has_free_slot (room m w).after ≡ true)
-    → ((e : Event) (m : Marks) (w : World) → length (happened e m w).after.floor.slots ≡ length w.floor.slots)
+pub all_jobs : Again → TurnsWell → Spell → ((w : SchedulerState) (m : Marks) → length w.slots ≢ 0 → has_free_slot (room m w).after ≡ true)
+    → ((e : Event) (m : Marks) (w : SystemState) → length (happened e m w).after.scheduler.slots ≡ length w.scheduler.slots)
     → (slots : ℕ) (accounts : List Account) (sets : Sets) (E : List Event) (m : Marks) → slots ≢ 0 → NumbersDiffer E
-    → (let w = world accounts (floor sets (replicate slots None)) in
-    (n : ℕ) → IsJob accounts (played E m w).after.floor.slots (job_of n E) (own n (history E m w)))
+    → (let w = system accounts (scheduler sets (replicate slots None)) in
+    (n : ℕ) → IsJob accounts (played E m w).after.scheduler.slots (job_of n E) (own n (history E m w)))
 all_jobs again well spell made lengths slots accounts sets E m some differ n =
     elim (far.each n) [
       | inl h ↦ h
-      | inr h ↦ subst (λ (o : Option JobDeck). IsJob accounts (played E m w).after.floor.slots o (own n (history E m w))) (sym h.1) h.0
+      | inr h ↦ subst (λ (o : Option JobDeck). IsJob accounts (played E m w).after.scheduler.slots o (own n (history E m w))) (sym h.1) h.0
     ]
   where
-    w : World
-    w = world accounts (floor sets (replicate slots None))
+    w : SystemState
+    w = system accounts (scheduler sets (replicate slots None))
 
-    far : SoFar accounts (λ k. job_of k E) [] (history E m w) (played E m w).after.floor.slots
+    far : SoFar accounts (λ k. job_of k E) [] (history E m w) (played E m w).after.scheduler.slots
     far =
-        history_far accounts (λ k. job_of k E) (λ k deck is. job_number k E deck is) again well spell made lengths E m (floor sets (replicate slots None)) [] differ
+        history_far accounts (λ k. job_of k E) (λ k deck is. job_number k E deck is) again well spell made lengths E m (scheduler sets (replicate slots None)) [] differ
         (λ z. some (sym (so_many slots) ∙ z))
         (record {
           each = λ k. inr (refl, refl);

@@ -14,16 +14,16 @@ use Rattle.mon_catalogue.specs.declared.data_set.SetFull.{SetFull}
 use Rattle.mon_catalogue.specs.Sets.{Sets, find_set}
 use Rattle.mon_catalogue.specs.Writing.{Change, Put, Cut, Add, writing, recorded, change_refusal}
 use Rattle.mon_catalogue.proofs.Changed.{named_set_changes}
-use Rattle.mon_answer.specs.declared.answer.Reason.TheVariants.{Mode as WrongMode}
-use Rattle.mon_answer.specs.declared.answer.Answer.TheVariants.{Denied, Full}
+use Rattle.interaction.specs.declared.answer.Reason.TheVariants.{Mode as WrongMode}
+use Rattle.interaction.specs.declared.answer.Answer.TheVariants.{Denied, Full}
 use Rattle.mon_guard.specs.Reasons.{reason_of}
 use Rattle.mon_guard.specs.Deciding.{to_read, to_write, decision_on, is_granted, by_decision}
 use Rattle.mon_guard.specs.Acting.{Acted, only_answered, read_at, changing, ended, or_denied, left, changed}
-use Rattle.sno_ask.specs.declared.request.Act.{Act}
-use Rattle.sno_ask.specs.declared.request.Act.TheVariants.{Read, Write, Endfile, Rewind}
-use Rattle.sno_ask.specs.declared.request.Request.{Request}
-use Rattle.mon_answer.specs.declared.answer.Answer.{Answer}
-use Rattle.mon_answer.specs.declared.answer.Answer.TheVariants as answer
+use Rattle.interaction.specs.declared.request.Act.{Act}
+use Rattle.interaction.specs.declared.request.Act.TheVariants.{Read, Write, Endfile, Rewind}
+use Rattle.interaction.specs.declared.request.Request.{Request}
+use Rattle.interaction.specs.declared.answer.Answer.{Answer}
+use Rattle.interaction.specs.declared.answer.Answer.TheVariants as answer
 use Rattle.mon_unit.specs.declared.tie.Target.{Target}
 use Rattle.mon_unit.specs.declared.tie.Target.TheVariants.{Untied, Data, Spool, Set}
 use Rattle.mon_unit.specs.declared.tie.Tie.{Tie}

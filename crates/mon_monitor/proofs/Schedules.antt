@@ -7,7 +7,7 @@ use Rattle.std.specs.Map.{keys_of}
 use Rattle.std.specs.List.{IsDistinct, AllByRecursion}
 use Rattle.std.specs.Option.{option_flatten}
 use Rattle.mon_catalogue.specs.Sets.{Sets, find_set, NamesDiffer}
-use Rattle.sno_ask.specs.declared.request.Request.{Request}
+use Rattle.interaction.specs.declared.request.Request.{Request}
 use Rattle.sno_run.specs.declared.ending.Ending.TheVariants.{Memory}
 use Rattle.sno_run.specs.declared.ending.Step.{Step}
 use Rattle.sno_run.specs.declared.ending.Step.TheVariants as step
@@ -19,16 +19,16 @@ use Rattle.mon_unit.specs.Serving.{Reach, set_of, serve}
 use Rattle.mon_unit.specs.Laws.{Same, targets, TiedTo}
 use Rattle.mon_unit.proofs.Runs.{run_alike}
 use Rattle.mon_unit.proofs.Looks.{one_look, looks_at_tied, targets_stay, run_keeps_to_ties}
-use Rattle.mon_job.specs.declared.job_end.JobEnd.{JobEnd}
-use Rattle.mon_slots.specs.declared.turned.Turned.{Turned}
-use Rattle.mon_slots.specs.declared.turned.Turned.TheVariants.{Empty, Goes, Ended}
-use Rattle.mon_slots.specs.Floors.{SlotState, Floor, seat_at, with_seat, job_in}
-use Rattle.mon_slots.specs.Turns.{reached, ran, after_turn, job_end, seat, told, turn_by, turn, Course, ends_by, turns}
-use Rattle.mon_slots.specs.Marks.{Marks, mark_of, turn_as, Past, ends_then, until, never, marked, rounds, turns_left, is_done, drain}
-use Rattle.mon_slots.specs.Rounds.{NoneByMemory}
-use Rattle.mon_slots.specs.Turning.{UntilIs, MarkedIs, DrainIs}
-use Rattle.mon_slots.proofs.Past.{either_way, until_stops, until_goes, marks_end_jobs, unmarked, drain_empties}
-use Rattle.mon_slots.specs.Ties.{Independent}
+use Rattle.scheduler.specs.declared.job_end.JobEnd.{JobEnd}
+use Rattle.scheduler.specs.declared.turned.Turned.{Turned}
+use Rattle.scheduler.specs.declared.turned.Turned.TheVariants.{Empty, Goes, Ended}
+use Rattle.scheduler.specs.States.{SlotState, SchedulerState, seat_at, with_seat, job_in}
+use Rattle.scheduler.specs.Turns.{reached, ran, after_turn, job_end, seat, told, turn_by, turn, Course, ends_by, turns}
+use Rattle.scheduler.specs.Marks.{Marks, mark_of, turn_as, Past, ends_then, until, never, marked, rounds, turns_left, is_done, drain}
+use Rattle.scheduler.specs.Rounds.{NoneByMemory}
+use Rattle.scheduler.specs.Turning.{UntilIs, MarkedIs, DrainIs}
+use Rattle.scheduler.proofs.Past.{either_way, until_stops, until_goes, marks_end_jobs, unmarked, drain_empties}
+use Rattle.scheduler.specs.Ties.{Independent}
 use Rattle.mon_monitor.specs.Schedules.{turns_given, of_slot, AsAlone, EndsAlone, AnySchedule, Settles, InAnyOrder, DrainedInAnyOrder}
 use Rattle.mon_monitor.proofs.Names.{tell_name, same_lists}
 use Rattle.mon_monitor.proofs.Turning.{seat_after, seat_is}
@@ -104,8 +104,8 @@ module _ (slot : SlotState) where
         (record { units = refl; targets = refl; same = λ n h. h }) in
         record { step = whole.0; units = whole.1.units; same = whole.1.same }
 
--- two floors are one to the job in slot s, whose sets are in T
-record Like (s : ℕ) (T : List ℕ → Type 0) (w v : Floor) : Type 0 where
+-- two schedulers are one to the job in slot s, whose sets are in T
+record Like (s : ℕ) (T : List ℕ → Type 0) (w v : SchedulerState) : Type 0 where
   pub job : job_in s w ≡ job_in s v
   pub same : (n : List ℕ) → T n → Same n w.sets v.sets
   pub own : (slot : SlotState) → job_in s w ≡ Some slot → (n : List ℕ) → TiedTo slot.units n → T n
@@ -117,7 +117,7 @@ still_tied slot x sets n now t =
     let r = ran slot sets in
     tied_by r.1.units slot.units n (ran_targets slot sets) (subst (λ (y : SlotState). TiedTo y.units n) (sym (seat_is r.0.0 (after_turn slot r) x now)) t)
 
-module _ (s : ℕ) (T : List ℕ → Type 0) (w v : Floor) (like : Like s T w v) where
+module _ (s : ℕ) (T : List ℕ → Type 0) (w v : SchedulerState) (like : Like s T w v) where
   own_by : (o : Option SlotState) → job_in s w ≡ o → job_in s v ≡ o
       → ((turn_by s o w).0 ≡ (turn_by s o v).0) × Like s T (turn_by s o w).1 (turn_by s o v).1
   own_by None e f = (refl, like)
@@ -183,7 +183,7 @@ given_other : (s t : ℕ) (E : List ℕ) → t ≢ s → turns_given s (t ∷ E)
 given_other s t E ne = grind (arith, nat_tests)
 
 -- the turns of slot s among others are its turns alone
-project : (s : ℕ) (T : List ℕ → Type 0) (E : List ℕ) (w v : Floor) → Like s T w v
+project : (s : ℕ) (T : List ℕ → Type 0) (E : List ℕ) (w v : SchedulerState) → Like s T w v
     → (of_slot s (turns E w).ends ≡ (turns (replicate (turns_given s E) s) v).ends)
     × Like s T (turns E w).after (turns (replicate (turns_given s E) s) v).after
 project s T [] w v like = (refl, like)
@@ -206,10 +206,10 @@ project s T (t ∷ E) w v like = elim (eqb_tells t s) [
 ]
 
 -- the sets that the job in slot s is tied to
-abbrev Ties : Floor → ℕ → List ℕ → Type 0
+abbrev Ties : SchedulerState → ℕ → List ℕ → Type 0
 Ties w s n = (slot : SlotState) × (job_in s w ≡ Some slot) × TiedTo slot.units n
 
-like_itself : (w : Floor) → Independent w → (s : ℕ) → Like s (Ties w s) w w
+like_itself : (w : SchedulerState) → Independent w → (s : ℕ) → Like s (Ties w s) w w
 like_itself w apart s = record {
   job = refl;
   same = λ n h. refl;
@@ -217,7 +217,7 @@ like_itself w apart s = record {
   others = λ t slot ne is n h. apart s t h.0 slot (λ (e : s ≡ t). ne (sym e)) h.1 is n h.2;
 }
 
-pub each_as_alone : (w : Floor) → Independent w → (E : List ℕ) (s : ℕ) → AsAlone w E s
+pub each_as_alone : (w : SchedulerState) → Independent w → (E : List ℕ) (s : ℕ) → AsAlone w E s
 each_as_alone w apart E s =
     let whole = project s (Ties w s) E w w (like_itself w apart s) in
     record {
@@ -227,21 +227,21 @@ each_as_alone w apart E s =
     }
 
 -- an empty slot stays empty
-no_turns : (s k : ℕ) (v : Floor) → job_in s v ≡ None → turns (replicate k s) v ≡ (let r : Course = record { ends = []; after = v } in r)
+no_turns : (s k : ℕ) (v : SchedulerState) → job_in s v ≡ None → turns (replicate k s) v ≡ (let r : Course = record { ends = []; after = v } in r)
 no_turns s zero v h = refl
 no_turns s (suc k) v h =
     let one : turn s v ≡ (Empty, v) = ap (λ (o : Option SlotState). turn_by s o v) h in
-    ap (λ (p : Turned × Floor). let r : Course = record { ends = ends_by s p.0 ++ (turns (replicate k s) p.1).ends; after = (turns (replicate k s) p.1).after } in r) one
+    ap (λ (p : Turned × SchedulerState). let r : Course = record { ends = ends_by s p.0 ++ (turns (replicate k s) p.1).ends; after = (turns (replicate k s) p.1).after } in r) one
     ∙ no_turns s k v h
 
 -- more turns change nothing once the job has ended
-settled : (s n m : ℕ) (v : Floor) → n ≤ m → job_in s (turns (replicate n s) v).after ≡ None → turns (replicate m s) v ≡ turns (replicate n s) v
+settled : (s n m : ℕ) (v : SchedulerState) → n ≤ m → job_in s (turns (replicate n s) v).after ≡ None → turns (replicate m s) v ≡ turns (replicate n s) v
 settled s zero m v le h = no_turns s m v h
 settled s (suc n) zero v le h = absurd (omega (arith, le))
 settled s (suc n) (suc m) v le h =
     ap (λ (x : Course). let r : Course = record { ends = ends_by s (turn s v).0 ++ x.ends; after = x.after } in r) (settled s n m (turn s v).1 (omega (arith, le)) h)
 
-either_more : (s n m : ℕ) (v : Floor) → job_in s (turns (replicate n s) v).after ≡ None → job_in s (turns (replicate m s) v).after ≡ None
+either_more : (s n m : ℕ) (v : SchedulerState) → job_in s (turns (replicate n s) v).after ≡ None → job_in s (turns (replicate m s) v).after ≡ None
     → turns (replicate n s) v ≡ turns (replicate m s) v
 either_more s n m v h g = elim (le_or n m) [
   | inl le ↦ sym (settled s n m v le h)
@@ -306,10 +306,10 @@ tied_in n (Some x ∷ slots) = elim (tied_target n (targets x.units)) [
     by t h (suc s) slot e = h s slot e
 
 -- a set that no job is tied to stays
-record IsFree (n : List ℕ) (w : Floor) : Type 0 where
+record IsFree (n : List ℕ) (w : SchedulerState) : Type 0 where
   pub none : (s : ℕ) (slot : SlotState) → job_in s w ≡ Some slot → ¬ TiedTo slot.units n
 
-tied_or_not : (n : List ℕ) (w : Floor) → ((s : ℕ) × (slot : SlotState) × (job_in s w ≡ Some slot) × TiedTo slot.units n) ⊎ IsFree n w
+tied_or_not : (n : List ℕ) (w : SchedulerState) → ((s : ℕ) × (slot : SlotState) × (job_in s w ≡ Some slot) × TiedTo slot.units n) ⊎ IsFree n w
 tied_or_not n w = elim (tied_in n w.slots) [
   | inl h ↦ inl (suc h.0, h.1, h.2, h.3)
   | inr h ↦ inr (record { none = by h })
@@ -320,7 +320,7 @@ tied_or_not n w = elim (tied_in n w.slots) [
     by h zero slot e = absurd cc
     by h (suc i) slot e = h i slot e
 
-untied_turn : (n : List ℕ) (s : ℕ) (w : Floor) → IsFree n w → (o : Option SlotState) → job_in s w ≡ o → Same n (turn_by s o w).1.sets w.sets × IsFree n (turn_by s o w).1
+untied_turn : (n : List ℕ) (s : ℕ) (w : SchedulerState) → IsFree n w → (o : Option SlotState) → job_in s w ≡ o → Same n (turn_by s o w).1.sets w.sets × IsFree n (turn_by s o w).1
 untied_turn n s w un None e = (refl, un)
 untied_turn n s w un (Some slot) e =
     let r = ran slot w.sets in (
@@ -333,21 +333,21 @@ untied_turn n s w un (Some slot) e =
       },
     )
 
-untied : (n : List ℕ) (E : List ℕ) (w : Floor) → IsFree n w → Same n (turns E w).after.sets w.sets
+untied : (n : List ℕ) (E : List ℕ) (w : SchedulerState) → IsFree n w → Same n (turns E w).after.sets w.sets
 untied n [] w un = refl
 untied n (s ∷ E) w un =
     let one = untied_turn n s w un (job_in s w) refl in
     untied n E (turn s w).1 one.1 ∙ one.0
 
-turn_keys : (s : ℕ) (o : Option SlotState) (w : Floor) → keys_of (turn_by s o w).1.sets ≡ keys_of w.sets
+turn_keys : (s : ℕ) (o : Option SlotState) (w : SchedulerState) → keys_of (turn_by s o w).1.sets ≡ keys_of w.sets
 turn_keys s None w = refl
 turn_keys s (Some slot) w = ran_keys slot w.sets
 
-turns_keys : (E : List ℕ) (w : Floor) → keys_of (turns E w).after.sets ≡ keys_of w.sets
+turns_keys : (E : List ℕ) (w : SchedulerState) → keys_of (turns E w).after.sets ≡ keys_of w.sets
 turns_keys [] w = refl
 turns_keys (s ∷ E) w = turns_keys E (turn s w).1 ∙ turn_keys s (job_in s w) w
 
-module _ (w : Floor) (apart : Independent w) (differ : NamesDiffer w.sets) (E F : List ℕ)
+module _ (w : SchedulerState) (apart : Independent w) (differ : NamesDiffer w.sets) (E F : List ℕ)
     (done : (s : ℕ) → job_in s (turns E w).after ≡ None) (done_too : (s : ℕ) → job_in s (turns F w).after ≡ None) where
   same_alone : (s : ℕ) → turns (replicate (turns_given s E) s) w ≡ turns (replicate (turns_given s F) s) w
   same_alone s =
@@ -375,11 +375,11 @@ module _ (w : Floor) (apart : Independent w) (differ : NamesDiffer w.sets) (E F 
 record Once (s : ℕ) (ends : List (ℕ × JobEnd)) : Type 0 where
   pub is : (ends ≡ []) ⊎ ((e : JobEnd) × (ends ≡ (s, e) ∷ []))
 
-once : (s n : ℕ) (v : Floor) → Once s (turns (replicate n s) v).ends
+once : (s n : ℕ) (v : SchedulerState) → Once s (turns (replicate n s) v).ends
 once s zero v = record { is = inl refl }
 once s (suc n) v = by (job_in s v) refl (λ u. once s n u)
   where
-    by : (o : Option SlotState) → job_in s v ≡ o → ((u : Floor) → Once s (turns (replicate n s) u).ends)
+    by : (o : Option SlotState) → job_in s v ≡ o → ((u : SchedulerState) → Once s (turns (replicate n s) u).ends)
         → Once s (ends_by s (turn_by s o v).0 ++ (turns (replicate n s) (turn_by s o v).1).ends)
     by None e rest = rest v
     by (Some slot) e rest = step_by ((ran slot v.sets).0.0) refl
@@ -416,7 +416,7 @@ all_map : (P : JobEnd → Type 0) (xs : List (ℕ × JobEnd)) → AllByRecursion
 all_map P [] h = tt
 all_map P (x ∷ xs) h = (h.0, all_map P xs h.1)
 
-pub ends_as_alone : (w : Floor) → Independent w → (E : List ℕ) → AllByRecursion (EndsAlone w) (map (λ e. e.1) (turns E w).ends)
+pub ends_as_alone : (w : SchedulerState) → Independent w → (E : List ℕ) → AllByRecursion (EndsAlone w) (map (λ e. e.1) (turns E w).ends)
 ends_as_alone w apart E = all_map (EndsAlone w) (turns E w).ends (all_slots (λ e. EndsAlone w e.1) (turns E w).ends (λ s.
     let n = turns_given s E in
     let alone = (each_as_alone w apart E s).ends in
@@ -425,15 +425,15 @@ ends_as_alone w apart E = all_map (EndsAlone w) (turns E w).ends (all_slots (λ 
       | inr e ↦ subst (AllByRecursion (λ x. EndsAlone w x.1)) (sym (alone ∙ e.1)) ((s, n, e.1), tt)
     ]))
 
-pub rearranged : (w : Floor) → Independent w → (E F : List ℕ) → ((s : ℕ) → turns_given s F ≡ turns_given s E)
+pub rearranged : (w : SchedulerState) → Independent w → (E F : List ℕ) → ((s : ℕ) → turns_given s F ≡ turns_given s E)
     → ((s : ℕ) → job_in s (turns E w).after ≡ None) → (s : ℕ) → job_in s (turns F w).after ≡ None
 rearranged w apart E F counts done s =
     (each_as_alone w apart F s).job
     ∙ ap (λ (n : ℕ). job_in s (turns (replicate n s) w).after) (counts s)
     ∙ sym (each_as_alone w apart E s).job ∙ done s
 
--- turns until a floor to stop at are those of some list
-some_turns : (stop : Floor → Bool) (w : Floor) (E : List ℕ) (m : Marks) → (F : List ℕ) × (until stop E m w ≡ marked F m w)
+-- turns until a scheduler to stop at are those of some list
+some_turns : (stop : SchedulerState → Bool) (w : SchedulerState) (E : List ℕ) (m : Marks) → (F : List ℕ) × (until stop E m w ≡ marked F m w)
 some_turns stop w [] m = ([], refl)
 some_turns stop w (s ∷ E) m = elim (either_way (stop w)) [
   | inl h ↦ ([], until_stops stop (s ∷ E) m w h)
@@ -444,7 +444,7 @@ some_turns stop w (s ∷ E) m = elim (either_way (stop w)) [
 ]
 
 -- where no job ends for want of memory
-pub drain_settles : (w : Floor) (m : Marks) → Independent w → NoneByMemory (drain m w).ends → Settles w m
+pub drain_settles : (w : SchedulerState) (m : Marks) → Independent w → NoneByMemory (drain m w).ends → Settles w m
 drain_settles w m apart none =
     let some = some_turns is_done w (rounds (turns_left w.slots) (length w.slots)) [] in
     let is = marks_end_jobs is_done w (rounds (turns_left w.slots) (length w.slots)) m none in
@@ -454,8 +454,8 @@ drain_settles w m apart none =
     record {
       alone = subst (λ (l : List (ℕ × JobEnd)). AllByRecursion (EndsAlone w) (map (λ e. e.1) l)) (sym ends) (ends_as_alone w apart some.0);
       sets = λ differ E done.
-          ap (λ (v : Floor). v.sets) after
-          ∙ same_sets w apart differ some.0 E (λ s. ap (λ (v : Floor). job_in s v) (sym after) ∙ drain_empties w m s) done;
+          ap (λ (v : SchedulerState). v.sets) after
+          ∙ same_sets w apart differ some.0 E (λ s. ap (λ (v : SchedulerState). job_in s v) (sym after) ∙ drain_empties w m s) done;
     }
 
 -- what a call's turns come to, wherever they stop
@@ -463,7 +463,7 @@ not_by_memory : (ends : List (ℕ × JobEnd)) → AllByRecursion (λ e. e.ending
 not_by_memory [] h = tt
 not_by_memory (e ∷ ends) h = (h.0, not_by_memory ends h.1)
 
-in_any_order : (stop : Floor → Bool) (E : List ℕ) (w : Floor) (ends : List JobEnd) (w' : Floor) → UntilIs stop E w ends w' → InAnyOrder w ends w'
+in_any_order : (stop : SchedulerState → Bool) (E : List ℕ) (w : SchedulerState) (ends : List JobEnd) (w' : SchedulerState) → UntilIs stop E w ends w' → InAnyOrder w ends w'
 in_any_order stop E w ends w' h = record {
   is = λ apart none.
       let m = h.marks ++ [] in
@@ -477,19 +477,19 @@ in_any_order stop E w ends w' h = record {
       record {
         alone = subst (AllByRecursion (EndsAlone w)) (sym told) (ends_as_alone w apart some.0);
         sets = λ differ empty F done.
-            ap (λ (v : Floor). v.sets) after ∙ same_sets w apart differ some.0 F (λ s. ap (λ (v : Floor). job_in s v) (sym after) ∙ empty s) done;
+            ap (λ (v : SchedulerState). v.sets) after ∙ same_sets w apart differ some.0 F (λ s. ap (λ (v : SchedulerState). job_in s v) (sym after) ∙ empty s) done;
       };
 }
 
-pub turns_any_order : {Z E : Type 0} (r : Result (Vec JobEnd Z) E) (order : List ℕ) (w w' : Floor)
+pub turns_any_order : {Z E : Type 0} (r : Result (Vec JobEnd Z) E) (order : List ℕ) (w w' : SchedulerState)
     → IfOk r (λ ends. MarkedIs order w ends.items w') → IfOk r (λ ends. InAnyOrder w ends.items w')
 turns_any_order (Ok ends) order w w' h = in_any_order never order w ends.items w' h
 turns_any_order (Err e) order w w' h = tt
 
-pub drained_any_order : {Z E : Type 0} (r : Result (Vec JobEnd Z) E) (w w' : Floor)
+pub drained_any_order : {Z E : Type 0} (r : Result (Vec JobEnd Z) E) (w w' : SchedulerState)
     → IfOk r (λ ends. DrainIs w ends.items w') → IfOk r (λ ends. DrainedInAnyOrder w ends.items w')
 drained_any_order (Ok ends) w w' h = record {
-  empty = λ s. ap (λ (v : Floor). job_in s v) (sym (h.is []).after) ∙ drain_empties w (h.marks ++ []) s;
+  empty = λ s. ap (λ (v : SchedulerState). job_in s v) (sym (h.is []).after) ∙ drain_empties w (h.marks ++ []) s;
   order = in_any_order is_done (rounds (turns_left w.slots) (length w.slots)) w ends.items w' h;
 }
 drained_any_order (Err e) w w' h = tt

@@ -19,14 +19,14 @@ use Rattle.mon_catalogue.specs.Changes.{with_changed, without_set}
 use Rattle.mon_catalogue.specs.Writing.{Change, writing, change_refusal, records_after, recorded}
 use Rattle.mon_catalogue.proofs.Changed.{other_sets_stay, named_set_changes}
 use Rattle.mon_catalogue.proofs.Shorthand.{listed}
-use Rattle.mon_answer.specs.declared.answer.Reason.{Reason}
-use Rattle.mon_answer.specs.declared.answer.Answer.TheVariants as answer
+use Rattle.interaction.specs.declared.answer.Reason.{Reason}
+use Rattle.interaction.specs.declared.answer.Answer.TheVariants as answer
 use Rattle.mon_guard.specs.Deciding.{to_read, to_write}
 use Rattle.mon_guard.specs.Owning.{owner_denial, given, new_set, acl_set_unless}
 use Rattle.mon_guard.specs.Laws.{IsThere, IsGranted}
 use Rattle.mon_guard.proofs.Shorthand.{removed_unless, created_unless}
-use Rattle.sno_ask.specs.declared.request.Act.{Act}
-use Rattle.sno_ask.specs.declared.request.Act.TheVariants.{Read, Write, Endfile, Rewind}
+use Rattle.interaction.specs.declared.request.Act.{Act}
+use Rattle.interaction.specs.declared.request.Act.TheVariants.{Read, Write, Endfile, Rewind}
 use Rattle.mon_command.specs.declared.command.Command.{Command}
 use Rattle.mon_command.specs.declared.command.Command.TheVariants.{Create, Delete, SetAcl, ShowAcl, List as Listing, Catalog}
 use Rattle.mon_command.specs.Commands.{account_of}
@@ -244,4 +244,4 @@ sees_writes got changed accounts sets last entries lead first between after wrot
 
 pub reads_see_writes : units.GotWhereGranted → units.ChangedWhereGranted → ReadsSeeWrites
 reads_see_writes got changed events m w =
-    sees_writes got changed w.accounts w.floor.sets (played events m w).after.floor.sets (history events m w) (history_lead w.accounts events m w.floor)
+    sees_writes got changed w.accounts w.scheduler.sets (played events m w).after.scheduler.sets (history events m w) (history_lead w.accounts events m w.scheduler)

@@ -6,11 +6,11 @@ use Rattle.std.specs.Option.{option_flatten, option_or}
 use Rattle.std.proofs.lemmas.Bool.{lt-ltb, le-ltb}
 use Rattle.std.proofs.lemmas.Nat.{mod-mul-add}
 use Rattle.std.proofs.Math.Nat.{suc-mul}
-use Rattle.sno_talk.specs.Talks.{Ends, Asks}
-use Rattle.sno_ask.specs.Asking.{Asking}
-use Rattle.sno_ask.specs.Asking as asking
-use Rattle.sno_ask.specs.Counting.{Beginning, Requesting, Counted, Passed, requests_in, statements_in}
-use Rattle.mon_answer.specs.declared.answer.Answer.TheVariants.{Done}
+use Rattle.interaction.specs.Interactions.{Returns, Asks}
+use Rattle.interaction.specs.Asking.{Asking}
+use Rattle.interaction.specs.Asking as asking
+use Rattle.interaction.specs.Counting.{Beginning, Requesting, Counted, Passed, requests_in, statements_in}
+use Rattle.interaction.specs.declared.answer.Answer.TheVariants.{Done}
 use Rattle.sno_run.specs.declared.ending.Ending.{Ending}
 use Rattle.sno_run.specs.declared.ending.Ending.TheVariants.{Memory}
 use Rattle.sno_run.specs.declared.ending.Step.{Step}
@@ -26,19 +26,19 @@ use Rattle.mon_unit.specs.Serving.{Reach, serve}
 use Rattle.mon_unit.specs.Runs.{run, passed}
 use Rattle.mon_unit.proofs.Runs.{passing}
 use Rattle.mon_unit.proofs.Fitting.{serve_fits}
-use Rattle.mon_cards.specs.declared.job_deck.JobDeck.{JobDeck}
-use Rattle.mon_job.specs.declared.refusal.LoadError.{LoadError}
-use Rattle.mon_job.specs.declared.refusal.LoadError.TheVariants.{NoSlot}
-use Rattle.mon_slots.specs.Floors.{SlotState, Floor, seat_at, with_seat, job_in, first_free}
-use Rattle.mon_slots.specs.Loads.{missing, program_in, deck_refusal, loaded_slot, slot_by, slot_in, loaded_by, job_loaded}
-use Rattle.mon_slots.specs.Turns.{reached, ran, after_turn, seat, told, ends_by}
-use Rattle.mon_slots.specs.Marks.{Mark, Marks, mark_of, exchanges_at, may_break, ran_as, turn_as, Past, nothing, ends_then, until, never, rounds, turns_left, is_done, has_free_slot, room}
-use Rattle.mon_slots.specs.Rounds.{RoomIsMade}
+use Rattle.deck_syntax.specs.declared.job_deck.JobDeck.{JobDeck}
+use Rattle.scheduler.specs.declared.refusal.LoadError.{LoadError}
+use Rattle.scheduler.specs.declared.refusal.LoadError.TheVariants.{NoSlot}
+use Rattle.scheduler.specs.States.{SlotState, SchedulerState, seat_at, with_seat, job_in, first_free}
+use Rattle.scheduler.specs.Loads.{missing, program_in, deck_refusal, loaded_slot, slot_by, slot_in, loaded_by, job_loaded}
+use Rattle.scheduler.specs.Turns.{reached, ran, after_turn, seat, told, ends_by}
+use Rattle.scheduler.specs.Marks.{Mark, Marks, mark_of, exchanges_at, may_break, ran_as, turn_as, Past, nothing, ends_then, until, never, rounds, turns_left, is_done, has_free_slot, room}
+use Rattle.scheduler.specs.Rounds.{RoomIsMade}
 use Rattle.mon_monitor.proofs.Unbroken.{turn_unbroken}
-use Rattle.mon_slots.proofs.Past.{turn_length, until_goes, enough}
-use Rattle.mon_slots.proofs.Shorthand.{turn_as_by, broken_by}
-use Rattle.mon_monitor.specs.Worlds.{World, first_world}
-use Rattle.mon_monitor.specs.Told.{world}
+use Rattle.scheduler.proofs.Past.{turn_length, until_goes, enough}
+use Rattle.scheduler.proofs.Shorthand.{turn_as_by, broken_by}
+use Rattle.mon_monitor.specs.SystemStates.{SystemState, first_system}
+use Rattle.mon_monitor.specs.Abstraction.{system}
 use Rattle.mon_monitor.specs.Events.{Event, Serve, Load, Give, Drain}
 use Rattle.mon_monitor.specs.Played.{happened, played}
 use Rattle.mon_monitor.specs.Laws.{SlotsStay}
@@ -59,16 +59,16 @@ Going seats = (s : ℕ) (slot : SlotState) → seat_at s seats ≡ Some slot →
 -- A TURN
 
 asked_tells : {A : Type 0} (n : ℕ) (account : Account) (t : Asking A) (reach : Reach)
-    → asking.Tells t (exchanges (asked_by n account t reach)) (run (serve account) t reach).0
-asked_tells n account (Ends a) reach = refl
+    → asking.IsTrace t (exchanges (asked_by n account t reach)) (run (serve account) t reach).0
+asked_tells n account (Returns a) reach = refl
 asked_tells n account (Asks q f) reach = (refl, serve_fits account reach q, asked_tells n account (f (serve account reach q).0) (serve account reach q).1)
 
 passed_taken : {A : Type 0} (n : ℕ) (account : Account) (k : ℕ) (t : Counted A) (reach : Reach)
     → passed (serve account) k t reach ≡ take k (all_passed n account t reach)
-passed_taken n account zero (Ends a) reach = refl
+passed_taken n account zero (Returns a) reach = refl
 passed_taken n account zero (Asks Beginning f) reach = refl
 passed_taken n account zero (Asks (Requesting q) f) reach = refl
-passed_taken n account (suc k) (Ends a) reach = refl
+passed_taken n account (suc k) (Returns a) reach = refl
 passed_taken n account (suc k) (Asks Beginning f) reach = ap (λ (x : List Passed). passing Beginning Done ∷ x) (passed_taken n account k (f Done) reach)
 passed_taken n account (suc k) (Asks (Requesting q) f) reach =
     ap (λ (x : List Passed). passing (Requesting q) (serve account reach q).0 ∷ x)
@@ -130,12 +130,12 @@ module _ (s : ℕ) (slot : SlotState) (before : Seats) (sets : Sets) (going : sl
   goes None is = (turn_unbroken slot.job going (serve slot.account) (reached sets slot)).1 is
   goes (Some m) is = broken_goes (may_break slot.job) m is
 
-turn_of_slot : (mark : Option Mark) (s : ℕ) (w : Floor) (o : Option SlotState) → job_in s w ≡ o → Going w.slots
+turn_of_slot : (mark : Option Mark) (s : ℕ) (w : SchedulerState) (o : Option SlotState) → job_in s w ≡ o → Going w.slots
     → TurnOf mark s o w.slots (map Asked (asked_in mark o w.sets) ++ end_entry (turn_as_by mark s o w).0) (turn_as_by mark s o w).1.slots
 turn_of_slot mark s w None e going = (refl, refl)
 turn_of_slot mark s w (Some slot) e going = job_turned s slot w.slots w.sets (going s slot e) mark
 
-going_after : (mark : Option Mark) (s : ℕ) (w : Floor) (o : Option SlotState) → job_in s w ≡ o → Going w.slots → Going (turn_as_by mark s o w).1.slots
+going_after : (mark : Option Mark) (s : ℕ) (w : SchedulerState) (o : Option SlotState) → job_in s w ≡ o → Going w.slots → Going (turn_as_by mark s o w).1.slots
 going_after mark s w None e going = going
 going_after mark s w (Some slot) e going = λ t other at.
     let r = ran_as mark slot w.sets in
@@ -156,9 +156,9 @@ going_after mark s w (Some slot) e going = λ t other at.
 abbrev past_stage : Past → Stage
 past_stage p = staged p.after.slots p.marks
 
-module _ (stop : Floor → Bool) where
+module _ (stop : SchedulerState → Bool) where
   -- what each turn adds
-  abbrev each_turn : List ℕ → Marks → Floor → List (List Entry)
+  abbrev each_turn : List ℕ → Marks → SchedulerState → List (List Entry)
   each_turn [] m w = []
   each_turn (s ∷ E) m w = if stop w then [] else turn_entries (mark_of m) s w ∷ each_turn E (drop 1 m) (turn_as (mark_of m) s w).1
 
@@ -167,7 +167,7 @@ module _ (stop : Floor → Bool) where
   joined_by true here rest more h = refl
   joined_by false here rest more h = ap (λ (l : List Entry). here ++ l) h
 
-  joined : (E : List ℕ) (m : Marks) (w : Floor) → entries_until stop E m w ≡ flat_map (λ added. added) (each_turn E m w)
+  joined : (E : List ℕ) (m : Marks) (w : SchedulerState) → entries_until stop E m w ≡ flat_map (λ added. added) (each_turn E m w)
   joined [] m w = refl
   joined (s ∷ E) m w = joined_by (stop w) _ _ _ (joined E (drop 1 m) (turn_as (mark_of m) s w).1)
 
@@ -175,7 +175,7 @@ module _ (stop : Floor → Bool) where
   going_unless true p q h g = h
   going_unless false p q h g = g
 
-  going_until : (E : List ℕ) (m : Marks) (w : Floor) → Going w.slots → Going (until stop E m w).after.slots
+  going_until : (E : List ℕ) (m : Marks) (w : SchedulerState) → Going w.slots → Going (until stop E m w).after.slots
   going_until [] m w going = going
   going_until (s ∷ E) m w going =
       let t = turn_as (mark_of m) s w in
@@ -224,16 +224,16 @@ placed size q (suc k) =
 placed_first : (size k : ℕ) → Places size 0 (rounds k size)
 placed_first size k = let none : 0 * size ≡ 0 = omega arith in subst (λ (i : ℕ). Places size i (rounds k size)) none (placed size 0 k)
 
-module _ (enough_of : Seats → Bool) (stop : Floor → Bool) (agree : (v : Floor) → stop v ≡ enough_of v.slots) (size : ℕ) where
-  due_none : (i : ℕ) (w : Floor) → stop w ≡ true → in_rounds enough_of i w.slots ≡ None
+module _ (enough_of : Seats → Bool) (stop : SchedulerState → Bool) (agree : (v : SchedulerState) → stop v ≡ enough_of v.slots) (size : ℕ) where
+  due_none : (i : ℕ) (w : SchedulerState) → stop w ≡ true → in_rounds enough_of i w.slots ≡ None
   due_none i w h = ap (λ (b : Bool). if b then None else Some (suc (i % length w.slots))) (sym (agree w) ∙ h)
 
-  due_some : (i s : ℕ) (w : Floor) → length w.slots ≡ size → stop w ≡ false → s ≡ suc (i % size) → in_rounds enough_of i w.slots ≡ Some s
+  due_some : (i s : ℕ) (w : SchedulerState) → length w.slots ≡ size → stop w ≡ false → s ≡ suc (i % size) → in_rounds enough_of i w.slots ≡ Some s
   due_some i s w is h place =
       ap (λ (b : Bool). if b then None else Some (suc (i % length w.slots))) (sym (agree w) ∙ h)
       ∙ ap (λ (n : ℕ). Some (suc (i % n))) is ∙ ap (λ (n : ℕ). Some n) (sym place)
 
-  rounds_take : (E : List ℕ) (i : ℕ) (m : Marks) (w : Floor) → length w.slots ≡ size → Going w.slots → Places size i E → stop (until stop E m w).after ≡ true
+  rounds_take : (E : List ℕ) (i : ℕ) (m : Marks) (w : SchedulerState) → length w.slots ≡ size → Going w.slots → Places size i E → stop (until stop E m w).after ≡ true
       → Take (in_rounds enough_of) i (staged w.slots m) (each_turn stop E m w) (past_stage (until stop E m w))
   rounds_take [] i m w is going places last = (due_none i w last, refl)
   rounds_take (s ∷ E) i m w is going places last =
@@ -249,7 +249,7 @@ module _ (enough_of : Seats → Bool) (stop : Floor → Bool) (agree : (v : Floo
       by true e rest = (due_none i w e, refl)
       by false e rest = (s, (turn_as (mark_of m) s w).1.slots, due_some i s w is e places.0, turn_of_slot (mark_of m) s w (job_in s w) refl going, rest e)
 
-give_take : (s count j i : ℕ) (m : Marks) (w : Floor) → i + j ≡ count → Going w.slots
+give_take : (s count j i : ℕ) (m : Marks) (w : SchedulerState) → i + j ≡ count → Going w.slots
     → Take (given s count) i (staged w.slots m) (each_turn never (replicate j s) m w) (past_stage (until never (replicate j s) m w))
 give_take s count zero i m w is going = (ap (λ (b : Bool). if b then Some s else None) (le-ltb i count (omega (arith, is))), refl)
 give_take s count (suc j) i m w is going =
@@ -353,15 +353,15 @@ going_loaded accounts deck slots None (Some s) going = λ t other at.
 
 -- CARDS
 
-module _ (accounts : List Account) (made : (w : Floor) (m : Marks) → length w.slots ≢ 0 → has_free_slot (room m w).after ≡ true) where
-  abbrev stage_after : Event → Marks → Floor → Stage
-  stage_after e m f = let p = happened e m (world accounts f) in staged p.after.floor.slots p.marks
+module _ (accounts : List Account) (made : (w : SchedulerState) (m : Marks) → length w.slots ≢ 0 → has_free_slot (room m w).after ≡ true) where
+  abbrev stage_after : Event → Marks → SchedulerState → Stage
+  stage_after e m f = let p = happened e m (system accounts f) in staged p.after.scheduler.slots p.marks
 
-  abbrev in_turn : Floor → List ℕ
+  abbrev in_turn : SchedulerState → List ℕ
   in_turn f = rounds (turns_left f.slots) (length f.slots)
 
-  card_brings : (e : Event) (m : Marks) (f : Floor) → length f.slots ≢ 0 → Going f.slots
-      → Brings accounts e (staged f.slots m) (event_entries e m (world accounts f)) (stage_after e m f)
+  card_brings : (e : Event) (m : Marks) (f : SchedulerState) → length f.slots ≢ 0 → Going f.slots
+      → Brings accounts e (staged f.slots m) (event_entries e m (system accounts f)) (stage_after e m f)
   card_brings (Serve command) m f some going = (f.sets, (answered accounts f.sets command).answer, refl, refl)
   card_brings (Load deck) m f some going =
       let g = room m f in
@@ -388,7 +388,7 @@ module _ (accounts : List Account) (made : (w : Floor) (m : Marks) → length w.
     rounds_take (list_all is_none) is_done (λ v. refl) (length f.slots) (in_turn f) 0 m f refl going (placed_first (length f.slots) (turns_left f.slots)) (enough is_done f (λ v is h. h) m).stops,
   )
 
-  card_going : (e : Event) (m : Marks) (f : Floor) → Going f.slots → Going (happened e m (world accounts f)).after.floor.slots
+  card_going : (e : Event) (m : Marks) (f : SchedulerState) → Going f.slots → Going (happened e m (system accounts f)).after.scheduler.slots
   card_going (Serve command) m f going = going
   card_going (Load deck) m f going =
       let slots = (room m f).after.slots in
@@ -397,22 +397,22 @@ module _ (accounts : List Account) (made : (w : Floor) (m : Marks) → length w.
   card_going (Give slot count) m f going = going_until never (replicate count slot) m f going
   card_going Drain m f going = going_until is_done (in_turn f) m f going
 
-  module _ (stays : (e : Event) (m : Marks) (w : World) → length (happened e m w).after.floor.slots ≡ length w.floor.slots) where
-    pub cards_bring : (E : List Event) (m : Marks) (f : Floor) → length f.slots ≢ 0 → Going f.slots
-        → (let p = played E m (world accounts f) in BringInOrder accounts E (staged f.slots m) (history E m (world accounts f)) (staged p.after.floor.slots p.marks))
+  module _ (stays : (e : Event) (m : Marks) (w : SystemState) → length (happened e m w).after.scheduler.slots ≡ length w.scheduler.slots) where
+    pub cards_bring : (E : List Event) (m : Marks) (f : SchedulerState) → length f.slots ≢ 0 → Going f.slots
+        → (let p = played E m (system accounts f) in BringInOrder accounts E (staged f.slots m) (history E m (system accounts f)) (staged p.after.scheduler.slots p.marks))
     cards_bring [] m f some going = (refl, refl)
     cards_bring (e ∷ E) m f some going =
-        let p = happened e m (world accounts f) in
-        let now = world accounts p.after.floor in
-        let same : p.after ≡ now = ap (λ (a : List Account). world a p.after.floor) (event_accounts e m (world accounts f)) in
-        let enough : length p.after.floor.slots ≢ 0 = (λ z. some (sym (stays e m (world accounts f)) ∙ z)) in
-        let rest = cards_bring E p.marks p.after.floor enough (card_going e m f going) in (
-          event_entries e m (world accounts f),
+        let p = happened e m (system accounts f) in
+        let now = system accounts p.after.scheduler in
+        let same : p.after ≡ now = ap (λ (a : List Account). system a p.after.scheduler) (event_accounts e m (system accounts f)) in
+        let enough : length p.after.scheduler.slots ≢ 0 = (λ z. some (sym (stays e m (system accounts f)) ∙ z)) in
+        let rest = cards_bring E p.marks p.after.scheduler enough (card_going e m f going) in (
+          event_entries e m (system accounts f),
           history E p.marks p.after,
-          staged p.after.floor.slots p.marks,
+          staged p.after.scheduler.slots p.marks,
           refl,
           card_brings e m f some going,
-          subst (λ (w : World). (let q = played E p.marks w in BringInOrder accounts E (staged p.after.floor.slots p.marks) (history E p.marks w) (staged q.after.floor.slots q.marks)))
+          subst (λ (w : SystemState). (let q = played E p.marks w in BringInOrder accounts E (staged p.after.scheduler.slots p.marks) (history E p.marks w) (staged q.after.scheduler.slots q.marks)))
               (sym same) rest,
         )
 
@@ -516,7 +516,7 @@ so_many (suc n) = ap suc (so_many n)
 
 pub turns_come : RoomIsMade → SlotsStay → TurnsCome
 turns_come made stay slots accounts sets events m some =
-    let w = first_world slots accounts sets in
+    let w = first_system slots accounts sets in
     let p = played events m w in
-    let all = cards_bring accounts made (λ e m w. stay (e ∷ []) m w) events m w.floor (λ z. some (sym (so_many slots) ∙ z)) (λ s slot at. absurd (none_first slots s slot at)) in
-    (all, unbroken accounts events (staged (no_jobs slots) m) (history events m w) (staged p.after.floor.slots p.marks) all)
+    let all = cards_bring accounts made (λ e m w. stay (e ∷ []) m w) events m w.scheduler (λ z. some (sym (so_many slots) ∙ z)) (λ s slot at. absurd (none_first slots s slot at)) in
+    (all, unbroken accounts events (staged (no_jobs slots) m) (history events m w) (staged p.after.scheduler.slots p.marks) all)

@@ -1,15 +1,15 @@
--- The history of events tells each job's talk, one after another.
+-- The history of events tells each job's interaction, one after another.
 use Rattle.std.proofs.Common.{◌≡◌, ◌≢◌, ◌⊎◌, ◌==◌, ℕ, zero, suc, ◌+◌, ◌-◌, ◌≤◌, Bool, true, false, List, [], ◌∷◌, ◌++◌, map, Option, Some, None, refl, ap, sym, ◌∙◌, subst, inl, inr, arith, append_assoc, append-nil}
 use Rattle.std.specs.Prelude.{if◌then◌else◌}
 use Rattle.std.proofs.lemmas.List.{map-append}
 use Rattle.std.proofs.lemmas.List.Elements.{filter-append}
 use Rattle.std.proofs.lemmas.List.Concat.{flat_map-append}
 use Rattle.std.proofs.lemmas.Bool.{eq-eqb, eqb-true, eqb-false}
-use Rattle.sno_ask.specs.Asking as asking
-use Rattle.sno_ask.specs.Asking.{Exchange}
-use Rattle.mon_answer.specs.declared.answer.Answer.{Answer}
-use Rattle.sno_ask.specs.Counting.{Moment, Beginning, Requesting, Passed, MomentFits, Tells, Begins, with_request, requests_in, with_statement, statements_in}
-use Rattle.sno_ask.proofs.Counting.{plain_told}
+use Rattle.interaction.specs.Asking as asking
+use Rattle.interaction.specs.Asking.{Exchange}
+use Rattle.interaction.specs.declared.answer.Answer.{Answer}
+use Rattle.interaction.specs.Counting.{Moment, Beginning, Requesting, Passed, MomentFits, IsTrace, IsTracePrefix, with_request, requests_in, with_statement, statements_in}
+use Rattle.interaction.proofs.Counting.{plain_told}
 use Rattle.sno_run.specs.declared.ending.Ending.{Ending}
 use Rattle.sno_run.specs.declared.ending.Ending.TheVariants.{Memory}
 use Rattle.sno_run.specs.declared.ending.Step.{Step}
@@ -19,16 +19,16 @@ use Rattle.mon_access.specs.declared.account.Account.{Account}
 use Rattle.mon_unit.specs.declared.note.Note.{Note}
 use Rattle.mon_unit.specs.State.{UnitState}
 use Rattle.mon_unit.specs.Serving.{serve}
-use Rattle.mon_cards.specs.declared.job_deck.JobDeck.{JobDeck}
-use Rattle.mon_slots.specs.Floors.{SlotState, seat_at, with_seat}
-use Rattle.mon_slots.specs.Loads.{first_units, with_ties}
-use Rattle.mon_slots.specs.Turns.{seat, told}
+use Rattle.deck_syntax.specs.declared.job_deck.JobDeck.{JobDeck}
+use Rattle.scheduler.specs.States.{SlotState, seat_at, with_seat}
+use Rattle.scheduler.specs.Loads.{first_units, with_ties}
+use Rattle.scheduler.specs.Turns.{seat, told}
 use Rattle.mon_monitor.specs.Events.{Event}
 use Rattle.mon_monitor.specs.History.{Exchanged, Entry, Entered, Asked, end_entry, is_of, own}
 use Rattle.mon_monitor.specs.Headline.{job_in_cards, exchange, exchanges, Follow, spooled, noted, Course, GoesOn, IsJob, job_of}
-use Rattle.sno_talk.proofs.Told.{tells_then, begins_then, begins_first}
+use Rattle.interaction.proofs.Told.{tells_then, begins_then, begins_first}
 use Rattle.mon_monitor.proofs.Exchanging.{Told, follow_both}
-use Rattle.mon_slots.proofs.Seating.{seat_changed, taken_seat}
+use Rattle.scheduler.proofs.Seating.{seat_changed, taken_seat}
 
 -- WHOSE ENTRIES
 
@@ -110,10 +110,10 @@ statements_both [] y = omega arith
 statements_both (m ∷ x) y = ap (with_statement m.asked) (statements_both x y) ∙ one_begun m.asked (statements_in x) (statements_in y)
 
 -- what is asked alone
-pub asked_alone : (k : ℕ) (first : Job) (r : Step × Job) (passed : List Passed) (x : List Exchange) → x ≡ requests_in passed → Tells (counted_turns k first) passed r
-    → asking.Tells (turns_of k first) x r
+pub asked_alone : (k : ℕ) (first : Job) (r : Step × Job) (passed : List Passed) (x : List Exchange) → x ≡ requests_in passed → IsTrace (counted_turns k first) passed r
+    → asking.IsTrace (turns_of k first) x r
 asked_alone k first r passed x is h =
-    subst (λ (l : List Exchange). asking.Tells (turns_of k first) l r) (sym is) (plain_told (counted_turns k first) passed r h)
+    subst (λ (l : List Exchange). asking.IsTrace (turns_of k first) l r) (sym is) (plain_told (counted_turns k first) passed r h)
 
 -- A JOB IN ITS SLOT
 
@@ -131,7 +131,7 @@ pub record Sitting (accounts : List Account) (given : Option JobDeck) (entries :
   pub passed : List Passed
   pub asked : exchanges course.asked ≡ requests_in passed
   pub counted : statements_begun slot.job ≡ statements_in passed
-  pub tells : Tells (counted_turns turns (job_in_cards accounts deck course)) passed (step.Goes, slot.job)
+  pub tells : IsTrace (counted_turns turns (job_in_cards accounts deck course)) passed (step.Goes, slot.job)
   pub spool : slot.units.spool ≡ spooled course.asked
   pub notes : slot.units.notes ≡ noted course.asked
 
@@ -161,28 +161,28 @@ pub record Turn (slot : SlotState) (x : List Exchanged) (st : Step) (job : Job) 
   pub passed : List Passed
   pub asked : exchanges x ≡ requests_in passed
   pub counted : statements_begun job ≡ statements_begun slot.job + statements_in passed
-  pub ends : (Tells (counted_turn slot.job) passed (st, job) × ((ending : Ending) → st ≡ step.Ended ending → job.ended ≡ Some ending))
-      ⊎ ((st ≡ step.Ended Memory) × Begins (counted_turn slot.job) passed)
+  pub ends : (IsTrace (counted_turn slot.job) passed (st, job) × ((ending : Ending) → st ≡ step.Ended ending → job.ended ≡ Some ending))
+      ⊎ ((st ≡ step.Ended Memory) × IsTracePrefix (counted_turn slot.job) passed)
 
 -- one that has ended asks nothing more
 abbrev pub Again : Type 0
-Again = (job : Job) (ending : Ending) → job.ended ≡ Some ending → Tells (counted_turn job) [] (step.Ended ending, job)
+Again = (job : Job) (ending : Ending) → job.ended ≡ Some ending → IsTrace (counted_turn job) [] (step.Ended ending, job)
 
 module _ (again : Again) (first job : Job) (ending : Ending) (x : List Passed) (ended : job.ended ≡ Some ending) where
-  pub tells_on : (n m : ℕ) → n ≤ m → Tells (counted_turns n first) x (step.Ended ending, job) → Tells (counted_turns m first) x (step.Ended ending, job)
-  tells_on n zero le h = let is : n ≡ 0 = omega (arith, le) in subst (λ (k : ℕ). Tells (counted_turns k first) x (step.Ended ending, job)) is h
+  pub tells_on : (n m : ℕ) → n ≤ m → IsTrace (counted_turns n first) x (step.Ended ending, job) → IsTrace (counted_turns m first) x (step.Ended ending, job)
+  tells_on n zero le h = let is : n ≡ 0 = omega (arith, le) in subst (λ (k : ℕ). IsTrace (counted_turns k first) x (step.Ended ending, job)) is h
   tells_on n (suc m) le h = elim (same_or_not n (suc m)) [
-    | inl is ↦ subst (λ (k : ℕ). Tells (counted_turns k first) x (step.Ended ending, job)) is h
+    | inl is ↦ subst (λ (k : ℕ). IsTrace (counted_turns k first) x (step.Ended ending, job)) is h
     | inr ne ↦
-        subst (λ (l : List Passed). Tells (counted_turns (suc m) first) l (step.Ended ending, job)) (append-nil x)
+        subst (λ (l : List Passed). IsTrace (counted_turns (suc m) first) l (step.Ended ending, job)) (append-nil x)
         (tells_then MomentFits (counted_turns m first) (λ r. counted_turn r.1) x [] (step.Ended ending, job) (step.Ended ending, job)
         (tells_on n m (omega (arith, le, ne)) h) (again job ending ended))
   ]
 
-pub begins_on : (first : Job) (x : List Passed) (n m : ℕ) → n ≤ m → Begins (counted_turns n first) x → Begins (counted_turns m first) x
-begins_on first x n zero le h = let is : n ≡ 0 = omega (arith, le) in subst (λ (k : ℕ). Begins (counted_turns k first) x) is h
+pub begins_on : (first : Job) (x : List Passed) (n m : ℕ) → n ≤ m → IsTracePrefix (counted_turns n first) x → IsTracePrefix (counted_turns m first) x
+begins_on first x n zero le h = let is : n ≡ 0 = omega (arith, le) in subst (λ (k : ℕ). IsTracePrefix (counted_turns k first) x) is h
 begins_on first x n (suc m) le h = elim (same_or_not n (suc m)) [
-  | inl is ↦ subst (λ (k : ℕ). Begins (counted_turns k first) x) is h
+  | inl is ↦ subst (λ (k : ℕ). IsTracePrefix (counted_turns k first) x) is h
   | inr ne ↦ begins_first MomentFits (counted_turns m first) (λ r. counted_turn r.1) x (begins_on first x n m (omega (arith, le, ne)) h)
 ]
 
@@ -279,10 +279,10 @@ module _ (again : Again) (accounts : List Account) (J : ℕ → Option JobDeck) 
         let both = statements_both sit.passed turn.passed in
         omega (arith, both, sit.counted, turn.counted)
 
-    tells : (q : Step) → Tells (counted_turn slot.job) turn.passed (q, job) → Tells (counted_turns (suc sit.turns) first) passed (q, job)
+    tells : (q : Step) → IsTrace (counted_turn slot.job) turn.passed (q, job) → IsTrace (counted_turns (suc sit.turns) first) passed (q, job)
     tells q h = tells_then MomentFits (counted_turns sit.turns first) (λ r. counted_turn r.1) sit.passed turn.passed (step.Goes, slot.job) (q, job) sit.tells h
 
-    begins : Begins (counted_turn slot.job) turn.passed → Begins (counted_turns (suc sit.turns) first) passed
+    begins : IsTracePrefix (counted_turn slot.job) turn.passed → IsTracePrefix (counted_turns (suc sit.turns) first) passed
     begins h = begins_then MomentFits (counted_turns sit.turns first) (λ r. counted_turn r.1) sit.passed turn.passed (step.Goes, slot.job) sit.tells h
 
     same_limit : slot.job.limits.statements ≡ sit.deck.limits.statements
@@ -318,9 +318,9 @@ module _ (again : Again) (accounts : List Account) (J : ℕ → Option JobDeck) 
         turn.told.notes ∙ ap (λ (l : List Note). l ++ noted x) sit.notes
         ∙ sym (flat_map-append _ sit.course.asked x)
 
-    goes : st ≡ step.Goes → Tells (counted_turns (suc sit.turns) first) passed (step.Goes, job)
+    goes : st ≡ step.Goes → IsTrace (counted_turns (suc sit.turns) first) passed (step.Goes, job)
     goes is = elim turn.ends [
-      | inl h ↦ tells step.Goes (subst (λ (r : Step). Tells (counted_turn slot.job) turn.passed (r, job)) is h.0)
+      | inl h ↦ tells step.Goes (subst (λ (r : Step). IsTrace (counted_turn slot.job) turn.passed (r, job)) is h.0)
       | inr h ↦ absurd (let e : step.Goes ≡ step.Ended Memory = sym is ∙ h.0 in cc (e))
     ]
 
@@ -353,7 +353,7 @@ module _ (again : Again) (accounts : List Account) (J : ℕ → Option JobDeck) 
           | inl h ↦ inl (
             job,
             tells_on again first job ending passed (h.1 ending is) (suc sit.turns) (suc sit.deck.limits.statements) few
-                (tells (step.Ended ending) (subst (λ (r : Step). Tells (counted_turn slot.job) turn.passed (r, job)) is h.0)),
+                (tells (step.Ended ending) (subst (λ (r : Step). IsTrace (counted_turn slot.job) turn.passed (r, job)) is h.0)),
           )
           | inr h ↦ inr (
             (let e : step.Ended ending ≡ step.Ended Memory = sym is ∙ h.0 in cc (e)),

@@ -7,10 +7,10 @@ use Rattle.std.specs.Cmp.Lexicographic.{pointwise}
 use Rattle.std.specs.Option.{option_flatten}
 use Rattle.mon_access.specs.declared.account.Account.{Account}
 use Rattle.mon_catalogue.specs.Sets.{Sets}
-use Rattle.sno_ask.specs.declared.request.Request.{Request}
+use Rattle.interaction.specs.declared.request.Request.{Request}
 use Rattle.sno_run.specs.declared.ending.Step.{Step}
 use Rattle.sno_run.specs.declared.ending.Step.TheVariants as step
-use Rattle.sno_ask.specs.Counting.{Passed, requests_in, statements_in}
+use Rattle.interaction.specs.Counting.{Passed, requests_in, statements_in}
 use Rattle.sno_run.specs.declared.ending.Ending.TheVariants.{Memory}
 use Rattle.sno_run.specs.Jobs.{Job, counted_turn, turn_of}
 use Rattle.mon_unit.specs.State.{UnitState}
@@ -19,14 +19,14 @@ use Rattle.mon_unit.specs.Laws.{Same}
 use Rattle.mon_unit.specs.Runs.{run_cut}
 use Rattle.mon_unit.proofs.Runs.{run_alike, run_cut_alike, passed_alike}
 use Rattle.mon_unit.proofs.Looks.{run_keeps_to_ties, cut_keeps_to_ties}
-use Rattle.mon_slots.specs.declared.turned.Turned.{Turned}
-use Rattle.mon_slots.specs.Floors.{SlotState, Floor, seat_at, with_seat, job_in}
-use Rattle.mon_slots.specs.Turns.{reached, ran, after_turn, seat, told}
-use Rattle.mon_slots.specs.Marks.{Mark, passed_at, exchanges_at, counted, may_break, ran_as, turn_as}
-use Rattle.mon_monitor.specs.Agreeing.{LooksAlike, Both, TiesFit, ReachesAgree, FloorsAgree}
+use Rattle.scheduler.specs.declared.turned.Turned.{Turned}
+use Rattle.scheduler.specs.States.{SlotState, SchedulerState, seat_at, with_seat, job_in}
+use Rattle.scheduler.specs.Turns.{reached, ran, after_turn, seat, told}
+use Rattle.scheduler.specs.Marks.{Mark, passed_at, exchanges_at, counted, may_break, ran_as, turn_as}
+use Rattle.mon_monitor.specs.Agreeing.{LooksAlike, Both, TiesFit, ReachesAgree, SchedulersAgree}
 use Rattle.mon_monitor.specs.Isolation.{TurnsAgree}
 use Rattle.mon_monitor.proofs.Requests.{requests_agree, ties_stay}
-use Rattle.mon_slots.proofs.Shorthand.{turn_as_by, broken_by}
+use Rattle.scheduler.proofs.Shorthand.{turn_as_by, broken_by}
 
 -- who is in a seat after one was changed
 seated_after : (slots : List (Option SlotState)) (i j : ℕ) (o : Option SlotState) (x : SlotState)
@@ -99,12 +99,12 @@ pub ran_as_keys : (m : Option Mark) (slot : SlotState) (sets : Sets) → keys_of
 ran_as_keys None slot sets = (run_keeps_to_ties slot.account (reached sets slot) (turn_of slot.job)).names
 ran_as_keys (Some m) slot sets = broken_keys (may_break slot.job) m slot sets
 
-pub record FloorTurn (account : Account) (t u : Turned × Floor) : Type 0 where
+pub record SchedulerTurn (account : Account) (t u : Turned × SchedulerState) : Type 0 where
   pub answer : t.0 ≡ u.0
-  pub after : FloorsAgree account t.1 u.1
+  pub after : SchedulersAgree account t.1 u.1
 
-module _ (account : Account) (w v : Floor) (agree : FloorsAgree account w v) where
-  turn_by_agrees : (m : Option Mark) (s : ℕ) (o : Option SlotState) → job_in s w ≡ o → FloorTurn account (turn_as_by m s o w) (turn_as_by m s o v)
+module _ (account : Account) (w v : SchedulerState) (agree : SchedulersAgree account w v) where
+  turn_by_agrees : (m : Option Mark) (s : ℕ) (o : Option SlotState) → job_in s w ≡ o → SchedulerTurn account (turn_as_by m s o w) (turn_as_by m s o v)
   turn_by_agrees m s None e = record { answer = refl; after = agree }
   turn_by_agrees m s (Some slot) e =
       let r = ran_as m slot w.sets in
@@ -133,12 +133,12 @@ module _ (account : Account) (w v : Floor) (agree : FloorsAgree account w v) whe
         };
       }
 
-  pub floor_turn : (m : Option Mark) (s : ℕ) → FloorTurn account (turn_as m s w) (turn_as m s v)
-  floor_turn m s =
-      subst (λ (o : Option SlotState). FloorTurn account (turn_as m s w) (turn_as_by m s o v)) (ap (seat_at s) agree.slots)
+  pub scheduler_turn : (m : Option Mark) (s : ℕ) → SchedulerTurn account (turn_as m s w) (turn_as m s v)
+  scheduler_turn m s =
+      subst (λ (o : Option SlotState). SchedulerTurn account (turn_as m s w) (turn_as_by m s o v)) (ap (seat_at s) agree.slots)
       (turn_by_agrees m s (job_in s w) refl)
 
 pub turns_agree : TurnsAgree
 turns_agree account w v agree m s =
-    let one = floor_turn account w.floor v.floor agree.floor m s in
-    record { answer = one.answer; after = record { accounts = agree.accounts; known = agree.known; floor = one.after } }
+    let one = scheduler_turn account w.scheduler v.scheduler agree.scheduler m s in
+    record { answer = one.answer; after = record { accounts = agree.accounts; known = agree.known; scheduler = one.after } }

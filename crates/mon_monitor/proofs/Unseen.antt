@@ -8,54 +8,54 @@ use Rattle.mon_access.specs.declared.account.Account.{Account}
 use Rattle.mon_catalogue.specs.Sets.{Sets}
 use Rattle.mon_command.specs.declared.command.Command.{Command}
 use Rattle.mon_command.specs.Commanded.{commanded}
-use Rattle.mon_cards.specs.declared.job_deck.JobDeck.{JobDeck}
-use Rattle.mon_job.specs.declared.refusal.LoadError.{LoadError}
-use Rattle.mon_slots.specs.declared.turned.Turned.{Turned}
-use Rattle.mon_slots.specs.declared.slots.Slots.{Slots}
-use Rattle.mon_slots.specs.Told.{slots_in}
-use Rattle.mon_slots.specs.Floors.{SlotState, Floor, floor}
-use Rattle.mon_slots.specs.Loads.{job_loaded}
-use Rattle.mon_slots.specs.Turning.{TurnOr}
-use Rattle.mon_monitor.specs.Worlds.{World, with_floor, with_sets}
+use Rattle.deck_syntax.specs.declared.job_deck.JobDeck.{JobDeck}
+use Rattle.scheduler.specs.declared.refusal.LoadError.{LoadError}
+use Rattle.scheduler.specs.declared.turned.Turned.{Turned}
+use Rattle.scheduler.specs.declared.slots.Slots.{Slots}
+use Rattle.scheduler.specs.Abstraction.{slots_in}
+use Rattle.scheduler.specs.States.{SlotState, SchedulerState, scheduler}
+use Rattle.scheduler.specs.Loads.{job_loaded}
+use Rattle.scheduler.specs.Turning.{TurnOr}
+use Rattle.mon_monitor.specs.SystemStates.{SystemState, with_scheduler, with_sets}
 use Rattle.mon_monitor.specs.Played.{loading}
 use Rattle.mon_monitor.specs.Agreeing.{Agree}
 use Rattle.mon_monitor.specs.Unseen.{turning, CommandIsolated, LoadIsolated, TurnIsolated}
 use Rattle.mon_monitor.proofs.Turning.{turns_agree}
 use Rattle.mon_monitor.proofs.Commands.{commands_agree}
 use Rattle.mon_monitor.proofs.Loading.{loads_agree}
-use Rattle.mon_monitor.specs.Told.{world}
+use Rattle.mon_monitor.specs.Abstraction.{system}
 
 -- a command
-command_shows_none : (command : Command) (w w' : World) (told : List ℕ) → told ≡ (commanded w.accounts w.floor.sets command).printout
-    → w' ≡ with_sets w (commanded w.accounts w.floor.sets command).sets → CommandIsolated command w told w'
+command_shows_none : (command : Command) (w w' : SystemState) (told : List ℕ) → told ≡ (commanded w.accounts w.scheduler.sets command).printout
+    → w' ≡ with_sets w (commanded w.accounts w.scheduler.sets command).sets → CommandIsolated command w told w'
 command_shows_none command w w' told said is = record {
   same = λ account v agree own.
       let one = commands_agree account w v agree command own in
       record {
         answer = sym one.printout ∙ sym said;
-        after = subst (λ (x : World). Agree account x (with_sets v (commanded v.accounts v.floor.sets command).sets)) (sym is) one.after;
+        after = subst (λ (x : SystemState). Agree account x (with_sets v (commanded v.accounts v.scheduler.sets command).sets)) (sym is) one.after;
       };
 }
 
-pub command_isolated : {E : Type 0} (r : Result (List ℕ) E) (command : Command) (w w' : World)
-    → IfOk r (λ told. told ≡ (commanded w.accounts w.floor.sets command).printout)
-    → OnOk r (w' ≡ with_sets w (commanded w.accounts w.floor.sets command).sets)
+pub command_isolated : {E : Type 0} (r : Result (List ℕ) E) (command : Command) (w w' : SystemState)
+    → IfOk r (λ told. told ≡ (commanded w.accounts w.scheduler.sets command).printout)
+    → OnOk r (w' ≡ with_sets w (commanded w.accounts w.scheduler.sets command).sets)
     → IfOk r (λ told. CommandIsolated command w told w')
 command_isolated (Ok told) command w w' said is = command_shows_none command w w' told said is
 command_isolated (Err e) command w w' said is = tt
 
 -- a load
-load_shows_none : (deck : JobDeck) (w w' : World) (told : Result ℕ LoadError) → loading deck w ≡ (told, w') → LoadIsolated deck w told w'
+load_shows_none : (deck : JobDeck) (w w' : SystemState) (told : Result ℕ LoadError) → loading deck w ≡ (told, w') → LoadIsolated deck w told w'
 load_shows_none deck w w' told is = record {
   same = λ account v agree own.
       let one = loads_agree account w v agree deck own in
       record {
-        answer = sym one.answer ∙ ap (λ (l : Result ℕ LoadError × World). l.0) is;
-        after = subst (λ (x : World). Agree account x (loading deck v).1) (ap (λ (l : Result ℕ LoadError × World). l.1) is) one.after;
+        answer = sym one.answer ∙ ap (λ (l : Result ℕ LoadError × SystemState). l.0) is;
+        after = subst (λ (x : SystemState). Agree account x (loading deck v).1) (ap (λ (l : Result ℕ LoadError × SystemState). l.1) is) one.after;
       };
 }
 
-pub load_isolated : {E : Type 0} (r : Result ℕ E) (deck : JobDeck) (w w' : World) → IfOk r (λ n. loading deck w ≡ (Ok n, w'))
+pub load_isolated : {E : Type 0} (r : Result ℕ E) (deck : JobDeck) (w w' : SystemState) → IfOk r (λ n. loading deck w ≡ (Ok n, w'))
     → IfOk r (λ n. LoadIsolated deck w (Ok n) w')
 load_isolated (Ok n) deck w w' is = load_shows_none deck w w' (Ok n) is
 load_isolated (Err e) deck w w' is = tt
@@ -66,13 +66,13 @@ module _ (deck : JobDeck) (accounts : List Account) (sets : Sets) (old new : Slo
   Refuses refusal = job_loaded accounts deck (slots_in old) ≡ (Err refusal, slots_in old)
 
   abbrev Shows : LoadError → Type 0
-  Shows refusal = LoadIsolated deck (world accounts (floor sets (slots_in old))) (Err refusal) (world accounts (floor sets (slots_in new)))
+  Shows refusal = LoadIsolated deck (system accounts (scheduler sets (slots_in old))) (Err refusal) (system accounts (scheduler sets (slots_in new)))
 
   refused_shows_none : (stop : Stop LoadError) → IfRefused Refuses stop → new ≡ old → IfRefused Shows stop
   refused_shows_none (Refused refusal) is same =
-      load_shows_none deck (world accounts (floor sets (slots_in old))) (world accounts (floor sets (slots_in new))) (Err refusal)
-      (ap (λ (l : Result ℕ LoadError × List (Option SlotState)). let x : Result ℕ LoadError × World = (l.0, world accounts (floor sets l.1)) in x) is
-      ∙ ap (λ (s : Slots). let x : Result ℕ LoadError × World = (Err refusal, world accounts (floor sets (slots_in s))) in x) (sym same))
+      load_shows_none deck (system accounts (scheduler sets (slots_in old))) (system accounts (scheduler sets (slots_in new))) (Err refusal)
+      (ap (λ (l : Result ℕ LoadError × List (Option SlotState)). let x : Result ℕ LoadError × SystemState = (l.0, system accounts (scheduler sets l.1)) in x) is
+      ∙ ap (λ (s : Slots). let x : Result ℕ LoadError × SystemState = (Err refusal, system accounts (scheduler sets (slots_in s))) in x) (sym same))
   refused_shows_none Memory is same = tt
 
   pub refusal_isolated : (r : Result ℕ (Stop LoadError)) → IfErr r (IfRefused Refuses) → OnErr r (new ≡ old) → IfErr r (IfRefused Shows)
@@ -80,18 +80,18 @@ module _ (deck : JobDeck) (accounts : List Account) (sets : Sets) (old new : Slo
   refusal_isolated (Err stop) is same = refused_shows_none stop is same
 
 -- a turn
-pub turn_isolated : (s : ℕ) (w w' : World) (told : Turned) → TurnOr s w.floor told w'.floor → w'.accounts ≡ w.accounts → TurnIsolated s w told w'
+pub turn_isolated : (s : ℕ) (w w' : SystemState) (told : Turned) → TurnOr s w.scheduler told w'.scheduler → w'.accounts ≡ w.accounts → TurnIsolated s w told w'
 turn_isolated s w w' told h same =
     let is : turning h.mark s w ≡ (told, w') =
-    ap (λ (t : Turned × Floor). let x : Turned × World = (t.0, with_floor w t.1) in x) h.is
-    ∙ ap (λ (a : List Account). let x : Turned × World = (told, world a w'.floor) in x) (sym same) in
+    ap (λ (t : Turned × SchedulerState). let x : Turned × SystemState = (t.0, with_scheduler w t.1) in x) h.is
+    ∙ ap (λ (a : List Account). let x : Turned × SystemState = (told, system a w'.scheduler) in x) (sym same) in
     record {
       mark = h.mark;
       is = is;
       same = λ account v agree.
           let one = turns_agree account w v agree h.mark s in
           record {
-            answer = sym one.answer ∙ ap (λ (t : Turned × World). t.0) is;
-            after = subst (λ (x : World). Agree account x (turning h.mark s v).1) (ap (λ (t : Turned × World). t.1) is) one.after;
+            answer = sym one.answer ∙ ap (λ (t : Turned × SystemState). t.0) is;
+            after = subst (λ (x : SystemState). Agree account x (turning h.mark s v).1) (ap (λ (t : Turned × SystemState). t.1) is) one.after;
           };
     }

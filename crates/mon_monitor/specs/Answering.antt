@@ -9,14 +9,14 @@ use Rattle.mon_catalogue.specs.declared.mode.Mode.TheVariants.{Seq, Append}
 use Rattle.mon_catalogue.specs.declared.data_set.DataSet.{DataSet}
 use Rattle.mon_catalogue.specs.Sets.{Sets, find_set}
 use Rattle.mon_guard.specs.Deciding.{to_read, to_write}
-use Rattle.mon_guard.specs.Lending.{NamePart, name_part}
+use Rattle.mon_guard.specs.Views.{NamePart, name_part}
 use Rattle.mon_guard.specs.Laws.{IsThere, IsGranted, MaySeeName, OwnsNamed}
 use Rattle.mon_command.specs.declared.command.Command.{Command}
 use Rattle.mon_command.specs.declared.command.Command.TheVariants.{Create, SetAcl}
 use Rattle.mon_command.specs.declared.reply.Reply.{Reply}
 use Rattle.mon_command.specs.declared.reply.Reply.TheVariants.{Done, Denied, NameTaken, CatalogueFull, BadList}
 use Rattle.mon_command.specs.Laws.{Changes, IsWhy}
-use Rattle.sno_ask.specs.declared.request.Request.{Request}
+use Rattle.interaction.specs.declared.request.Request.{Request}
 use Rattle.mon_unit.specs.declared.note.NoteAct.TheVariants.{Read, Write, Endfile, Rewind}
 use Rattle.mon_unit.specs.declared.tie.Target.TheVariants.{Untied, Data, Spool, Set}
 use Rattle.mon_unit.specs.Serving.{Reach, note_act}

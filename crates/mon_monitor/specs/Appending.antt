@@ -11,8 +11,8 @@ use Rattle.mon_command.specs.declared.command.Command.TheVariants.{Delete}
 use Rattle.mon_command.specs.declared.reply.Reply.TheVariants as reply
 use Rattle.mon_command.specs.Commanded as commands
 use Rattle.mon_command.specs.Commanded.{Told}
-use Rattle.mon_slots.specs.Marks.{Marks}
-use Rattle.mon_monitor.specs.Worlds.{World}
+use Rattle.scheduler.specs.Marks.{Marks}
+use Rattle.mon_monitor.specs.SystemStates.{SystemState}
 use Rattle.mon_monitor.specs.Events.{Event}
 use Rattle.mon_monitor.specs.Played.{played}
 use Rattle.mon_monitor.specs.History.{Entry, Ordered, history}
@@ -38,9 +38,9 @@ Deletes name _ = ⊥
 abbrev pub NoneDeletes : List ℕ → List Entry → Type 0
 NoneDeletes name entries = AllByRecursion (λ entry. ¬ Deletes name entry) entries
 
--- From any world on, wherever memory breaks turns off: a set of mode APPEND that nothing in the history deletes is there after all
+-- From any system on, wherever memory breaks turns off: a set of mode APPEND that nothing in the history deletes is there after all
 -- of it, is of mode APPEND still, and its records begin with those that it had.
 abbrev pub AppendOnly : Type 0
-AppendOnly = (events : List Event) (m : Marks) (w : World) (name : List ℕ) (set : DataSet)
-    → IsThere name w.floor.sets set → set.mode ≡ Append → NoneDeletes name (history events m w)
-    → Keeps name set.records (played events m w).after.floor.sets
+AppendOnly = (events : List Event) (m : Marks) (w : SystemState) (name : List ℕ) (set : DataSet)
+    → IsThere name w.scheduler.sets set → set.mode ≡ Append → NoneDeletes name (history events m w)
+    → Keeps name set.records (played events m w).after.scheduler.sets

@@ -4,10 +4,10 @@ use Rattle.std.specs.List.{AllByRecursion}
 use Rattle.mon_access.specs.declared.account.Account.{Account}
 use Rattle.mon_access.specs.Accounts.{find_account}
 use Rattle.mon_catalogue.specs.Sets.{Sets, NamesDiffer}
-use Rattle.mon_slots.specs.Marks.{Marks}
-use Rattle.mon_monitor.specs.Worlds.{first_world}
+use Rattle.scheduler.specs.Marks.{Marks}
+use Rattle.mon_monitor.specs.SystemStates.{first_system}
 use Rattle.mon_monitor.specs.Events.{Event}
-use Rattle.mon_monitor.specs.Papers.{papers_text}
+use Rattle.mon_monitor.specs.Printouts.{printouts_text}
 use Rattle.mon_monitor.specs.Played.{played}
 use Rattle.mon_monitor.specs.Agreeing.{LooksAlike, Both}
 use Rattle.mon_monitor.specs.Isolation.{IsOwn}
@@ -17,4 +17,4 @@ abbrev pub FromTheBeginning : Type 0
 FromTheBeginning = (slots : ℕ) (accounts : List Account) (account : Account) (sets others : Sets)
     → find_account accounts account.name ≡ Some account → NamesDiffer sets → Both (LooksAlike account) sets others
     → (E : List Event) → AllByRecursion (IsOwn account) E → (m : Marks)
-    → papers_text (played E m (first_world slots accounts sets)).papers ≡ papers_text (played E m (first_world slots accounts others)).papers
+    → printouts_text (played E m (first_system slots accounts sets)).printouts ≡ printouts_text (played E m (first_system slots accounts others)).printouts

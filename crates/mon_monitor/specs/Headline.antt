@@ -3,13 +3,13 @@
 -- turns come.
 use Rattle.std.specs.Prelude.{◌≡◌, ◌≢◌, ◌⊎◌, ◌↔◌, ◌==◌, ℕ, suc, List, [], ◌∷◌, ◌++◌, map, Option, Some, None, if◌then◌else◌}
 use Rattle.std.specs.List.{AllByRecursion, flat_map}
-use Rattle.sno_ask.specs.Asking.{Exchange}
-use Rattle.sno_ask.specs.Asking as asking
-use Rattle.sno_ask.specs.Counting.{Passed, Tells, Begins, requests_in, statements_in}
-use Rattle.sno_ask.specs.declared.request.Act.{Act}
-use Rattle.sno_ask.specs.declared.request.Act.TheVariants.{Read, Write, Endfile, Rewind}
-use Rattle.mon_answer.specs.declared.answer.Answer.{Answer}
-use Rattle.mon_answer.specs.declared.answer.Answer.TheVariants.{Done, Got, EndOfFile, Denied, Full}
+use Rattle.interaction.specs.Asking.{Exchange}
+use Rattle.interaction.specs.Asking as asking
+use Rattle.interaction.specs.Counting.{Passed, IsTrace, IsTracePrefix, requests_in, statements_in}
+use Rattle.interaction.specs.declared.request.Act.{Act}
+use Rattle.interaction.specs.declared.request.Act.TheVariants.{Read, Write, Endfile, Rewind}
+use Rattle.interaction.specs.declared.answer.Answer.{Answer}
+use Rattle.interaction.specs.declared.answer.Answer.TheVariants.{Done, Got, EndOfFile, Denied, Full}
 use Rattle.sno_run.specs.declared.ending.Ending.TheVariants.{Memory}
 use Rattle.sno_run.specs.declared.ending.Step.TheVariants as step
 use Rattle.sno_run.specs.Jobs.{Job, counted_turns, turns_of, first_job}
@@ -18,8 +18,8 @@ use Rattle.sno_syntax.specs.Programs.{Program}
 use Rattle.mon_access.specs.declared.account.Account.{Account}
 use Rattle.mon_access.specs.Accounts.{find_account}
 use Rattle.mon_catalogue.specs.Sets.{Sets}
-use Rattle.mon_answer.specs.declared.answer.Reason.{Reason}
-use Rattle.mon_guard.specs.Lending.{AclPart, NamePart}
+use Rattle.interaction.specs.declared.answer.Reason.{Reason}
+use Rattle.mon_guard.specs.Views.{AclPart, NamePart}
 use Rattle.mon_guard.specs.Laws.{AreForReading, IsForSeeing}
 use Rattle.mon_command.specs.declared.command.Command.{Command}
 use Rattle.mon_command.specs.declared.command.Command.TheVariants.{Create, Delete, SetAcl, ShowAcl, List as Listing, Catalog}
@@ -39,18 +39,18 @@ use Rattle.mon_unit.specs.State.{UnitState}
 use Rattle.mon_unit.specs.Serving.{serve, unit_of, note_act, note_target}
 use Rattle.mon_unit.specs.Laws as units
 use Rattle.mon_unit.specs.Laws.{target_of, ReadsDeck, ReadsSet, WhyDenied}
-use Rattle.mon_cards.specs.declared.job_deck.JobDeck.{JobDeck}
-use Rattle.mon_job.specs.declared.job_end.JobEnd.{JobEnd}
-use Rattle.mon_job.specs.declared.refusal.LoadError.{LoadError}
-use Rattle.mon_slots.specs.Floors.{SlotState, seat_at}
-use Rattle.mon_slots.specs.Loads.{first_units, with_ties, program_in, deck_refusal}
-use Rattle.mon_slots.specs.Marks.{Marks}
-use Rattle.mon_monitor.specs.Worlds.{World, first_world}
+use Rattle.deck_syntax.specs.declared.job_deck.JobDeck.{JobDeck}
+use Rattle.scheduler.specs.declared.job_end.JobEnd.{JobEnd}
+use Rattle.scheduler.specs.declared.refusal.LoadError.{LoadError}
+use Rattle.scheduler.specs.States.{SlotState, seat_at}
+use Rattle.scheduler.specs.Loads.{first_units, with_ties, program_in, deck_refusal}
+use Rattle.scheduler.specs.Marks.{Marks}
+use Rattle.mon_monitor.specs.SystemStates.{SystemState, first_system}
 use Rattle.mon_monitor.specs.Events.{Event, Serve, Load, Give, Drain}
-use Rattle.mon_monitor.specs.Papers.{Paper}
+use Rattle.mon_monitor.specs.Printouts.{Printout}
 use Rattle.mon_monitor.specs.Played.{played}
 use Rattle.mon_monitor.specs.Answering.{ReadsPast, LacksRoom, IsDone, AreNamed, IsTold}
-use Rattle.mon_monitor.specs.History.{Exchanged, Entry, Entered, Refused, Asked, Ended, Ordered, history, papers_in, cards_in, own}
+use Rattle.mon_monitor.specs.History.{Exchanged, Entry, Entered, Refused, Asked, Ended, Ordered, history, printouts_in, cards_in, own}
 
 -- A JOB
 
@@ -110,7 +110,7 @@ pub record EndsSo (first : Job) (x : List Exchange) (end : JobEnd) : Type 0 wher
   pub asked : x ≡ requests_in passed
   pub counted : end.statements ≡ statements_in passed
   pub ends : (let all = counted_turns (suc first.limits.statements) first in
-      ((job : Job) × Tells all passed (step.Ended end.ending, job)) ⊎ ((end.ending ≡ Memory) × Begins all passed))
+      ((job : Job) × IsTrace all passed (step.Ended end.ending, job)) ⊎ ((end.ending ≡ Memory) × IsTracePrefix all passed))
 
 -- a job that was refused: that is all there is of it
 pub record WasRefused (accounts : List Account) (deck : JobDeck) (entries : List Entry) : Type 0 where
@@ -155,7 +155,7 @@ pub record GoesOn (accounts : List Account) (deck : JobDeck) (slots : List (Opti
   pub units : state.units ≡ course.units
   -- It asked all that its program asks in some number of turns, and goes on from there.
   pub turns : ℕ
-  pub asks : asking.Tells (turns_of turns (job_in_cards accounts deck course)) (exchanges course.asked) (step.Goes, state.job)
+  pub asks : asking.IsTrace (turns_of turns (job_in_cards accounts deck course)) (exchanges course.asked) (step.Goes, state.job)
 
 -- It has ended: it has asked all that its program asks up to its end, and nothing else, or where memory broke it off a
 -- beginning of that; and what it prints is what these exchanges spooled and noted, and how it ended.
@@ -290,23 +290,23 @@ IsRight accounts (Ended end) = Unit {0}
 
 -- ALL OF IT
 
--- These entries are the history of these events: all that they have brought about in this world, which printed these papers and
--- left that world.
-pub record IsHistory (events : List Event) (w : World) (entries : List Entry) (papers : List Paper) (after : World) : Type 0 where
+-- These entries are the history of these events: all that they have brought about in this system, which printed these printouts and
+-- left that system.
+pub record IsHistory (events : List Event) (w : SystemState) (entries : List Entry) (printouts : List Printout) (after : SystemState) : Type 0 where
   -- Each command and each job stands in it, in the order in which they are asked, and no other.
   pub cards : cards_in entries ≡ cards_of events
   -- Of each job there is what its program means, and nothing else.
-  pub jobs : (n : ℕ) → IsJob w.accounts after.floor.slots (job_of n events) (own n entries)
+  pub jobs : (n : ℕ) → IsJob w.accounts after.scheduler.slots (job_of n events) (own n entries)
   -- Each entry is answered over the data sets that the one before it left, and nothing else changes them.
-  pub lead : Lead w.accounts w.floor.sets entries after.floor.sets
+  pub lead : Lead w.accounts w.scheduler.sets entries after.scheduler.sets
   -- What is got, changed or shown is what is granted, and each denial says why.
   pub granted : AllByRecursion (IsRight w.accounts) entries
   -- What is printed is what the entries print, in their order.
-  pub printed : papers ≡ papers_in entries
+  pub printed : printouts ≡ printouts_in entries
 
 -- From empty slots on, whatever is asked and wherever memory breaks turns off.
 abbrev pub HistoryTells : Type 0
 HistoryTells = (slots : ℕ) (accounts : List Account) (sets : Sets) (events : List Event) (m : Marks) → slots ≢ 0 → NumbersDiffer events
-    → (let w = first_world slots accounts sets in
+    → (let w = first_system slots accounts sets in
     let p = played events m w in
-    IsHistory events w (history events m w) p.papers p.after)
+    IsHistory events w (history events m w) p.printouts p.after)

@@ -3,10 +3,10 @@
 -- turn asks stands together.
 use Rattle.std.specs.Prelude.{ℕ, ◌==◌, Bool, true, false, List, [], ◌∷◌, ◌++◌, length, map, filter, take, Option, Some, None, Result, Ok, Err, if◌then◌else◌, drop, replicate}
 use Rattle.std.specs.List.{flat_map}
-use Rattle.sno_talk.specs.Talks.{Ends, Asks}
-use Rattle.sno_ask.specs.Asking.{Asking}
-use Rattle.sno_ask.specs.declared.request.Request.{Request}
-use Rattle.mon_answer.specs.declared.answer.Answer.{Answer}
+use Rattle.interaction.specs.Interactions.{Returns, Asks}
+use Rattle.interaction.specs.Asking.{Asking}
+use Rattle.interaction.specs.declared.request.Request.{Request}
+use Rattle.interaction.specs.declared.answer.Answer.{Answer}
 use Rattle.sno_run.specs.Jobs.{turn_of}
 use Rattle.mon_access.specs.declared.account.Account.{Account}
 use Rattle.mon_catalogue.specs.Sets.{Sets}
@@ -14,17 +14,17 @@ use Rattle.mon_command.specs.declared.command.Command.{Command}
 use Rattle.mon_command.specs.Commanded as commands
 use Rattle.mon_command.specs.Commanded.{answered, printed}
 use Rattle.mon_unit.specs.Serving.{Reach, serve}
-use Rattle.mon_cards.specs.declared.job_deck.JobDeck.{JobDeck}
-use Rattle.mon_job.specs.declared.job_end.JobEnd.{JobEnd}
-use Rattle.mon_job.specs.declared.refusal.LoadError.{LoadError}
-use Rattle.mon_slots.specs.declared.turned.Turned.{Turned}
-use Rattle.mon_slots.specs.declared.turned.Turned.TheVariants as turn
-use Rattle.mon_slots.specs.Floors.{SlotState, Floor, job_in}
-use Rattle.mon_slots.specs.Turns.{reached}
-use Rattle.mon_slots.specs.Marks.{Mark, Marks, mark_of, exchanges_at, may_break, turn_as, never, rounds, turns_left, is_done, has_free_slot, room}
-use Rattle.mon_monitor.specs.Worlds.{World, with_floor}
+use Rattle.deck_syntax.specs.declared.job_deck.JobDeck.{JobDeck}
+use Rattle.scheduler.specs.declared.job_end.JobEnd.{JobEnd}
+use Rattle.scheduler.specs.declared.refusal.LoadError.{LoadError}
+use Rattle.scheduler.specs.declared.turned.Turned.{Turned}
+use Rattle.scheduler.specs.declared.turned.Turned.TheVariants as turn
+use Rattle.scheduler.specs.States.{SlotState, SchedulerState, job_in}
+use Rattle.scheduler.specs.Turns.{reached}
+use Rattle.scheduler.specs.Marks.{Mark, Marks, mark_of, exchanges_at, may_break, turn_as, never, rounds, turns_left, is_done, has_free_slot, room}
+use Rattle.mon_monitor.specs.SystemStates.{SystemState, with_scheduler}
 use Rattle.mon_monitor.specs.Events.{Event, Serve, Load, Give, Drain}
-use Rattle.mon_monitor.specs.Papers.{Paper, OfCommand, OfJob, OfRefused}
+use Rattle.mon_monitor.specs.Printouts.{Printout, OfCommand, OfJob, OfRefused}
 use Rattle.mon_monitor.specs.Played.{loading, happened}
 
 -- a request of a job: the job's number, the account that it is for, what its requests reach then, what it asks, and the answer
@@ -50,7 +50,7 @@ pub data Entry : Type 0 where
 
 -- all that a program asks, each answered by `serve`
 abbrev pub asked_by : {A : Type 0} → ℕ → Account → Asking A → Reach → List Exchanged
-asked_by n account (Ends a) reach = []
+asked_by n account (Returns a) reach = []
 asked_by n account (Asks q f) reach =
     record { number = n; account = account; reach = reach; request = q; answer = (serve account reach q).0 }
     ∷ asked_by n account (f (serve account reach q).0) (serve account reach q).1
@@ -77,18 +77,18 @@ end_entry turn.Goes = []
 end_entry (turn.Ended e) = Ended e ∷ []
 
 -- a turn of the job in a slot
-abbrev pub turn_entries : Option Mark → ℕ → Floor → List Entry
+abbrev pub turn_entries : Option Mark → ℕ → SchedulerState → List Entry
 turn_entries m s w = map Asked (asked_in m (job_in s w) w.sets) ++ end_entry (turn_as m s w).0
 
--- turns of the jobs in these slots, until the floor is one to stop at
-abbrev pub entries_until : (Floor → Bool) → List ℕ → Marks → Floor → List Entry
+-- turns of the jobs in these slots, until the scheduler is one to stop at
+abbrev pub entries_until : (SchedulerState → Bool) → List ℕ → Marks → SchedulerState → List Entry
 entries_until stop [] m w = []
 entries_until stop (s ∷ E) m w =
     if stop w then []
     else turn_entries (mark_of m) s w ++ entries_until stop E (drop 1 m) (turn_as (mark_of m) s w).1
 
--- rounds of turns, until the floor is one to stop at
-abbrev pub entries_of_rounds : (Floor → Bool) → Marks → Floor → List Entry
+-- rounds of turns, until the scheduler is one to stop at
+abbrev pub entries_of_rounds : (SchedulerState → Bool) → Marks → SchedulerState → List Entry
 entries_of_rounds stop m w = entries_until stop (rounds (turns_left w.slots) (length w.slots)) m w
 
 -- a job that is loaded, or refused
@@ -97,29 +97,29 @@ load_entry deck (Ok slot) = Entered deck ∷ []
 load_entry deck (Err refusal) = Refused deck refusal ∷ []
 
 -- one event: a command is served; a job enters, behind the turns that make room for it; turns are taken
-abbrev pub event_entries : Event → Marks → World → List Entry
-event_entries (Serve command) m w = Ordered w.floor.sets command (answered w.accounts w.floor.sets command).answer ∷ []
+abbrev pub event_entries : Event → Marks → SystemState → List Entry
+event_entries (Serve command) m w = Ordered w.scheduler.sets command (answered w.accounts w.scheduler.sets command).answer ∷ []
 event_entries (Load deck) m w =
-    entries_of_rounds has_free_slot m w.floor ++ load_entry deck (loading deck (with_floor w (room m w.floor).after)).0
-event_entries (Give slot count) m w = entries_until never (replicate count slot) m w.floor
-event_entries Drain m w = entries_of_rounds is_done m w.floor
+    entries_of_rounds has_free_slot m w.scheduler ++ load_entry deck (loading deck (with_scheduler w (room m w.scheduler).after)).0
+event_entries (Give slot count) m w = entries_until never (replicate count slot) m w.scheduler
+event_entries Drain m w = entries_of_rounds is_done m w.scheduler
 
 -- all of these events
-abbrev pub history : List Event → Marks → World → List Entry
+abbrev pub history : List Event → Marks → SystemState → List Entry
 history [] m w = []
 history (event ∷ events) m w = event_entries event m w ++ history events (happened event m w).marks (happened event m w).after
 
 -- what an entry prints: a command its answer, a job what it printed up to its end, or why it was refused
-abbrev pub paper_of : Entry → List Paper
-paper_of (Entered deck) = []
-paper_of (Refused deck refusal) = OfRefused deck.number deck.account refusal ∷ []
-paper_of (Asked e) = []
-paper_of (Ended e) = OfJob e ∷ []
-paper_of (Ordered sets command answer) = OfCommand (printed command answer) ∷ []
+abbrev pub printout_of : Entry → List Printout
+printout_of (Entered deck) = []
+printout_of (Refused deck refusal) = OfRefused deck.number deck.account refusal ∷ []
+printout_of (Asked e) = []
+printout_of (Ended e) = OfJob e ∷ []
+printout_of (Ordered sets command answer) = OfCommand (printed command answer) ∷ []
 
 -- what entries print, in order
-abbrev pub papers_in : List Entry → List Paper
-papers_in entries = flat_map paper_of entries
+abbrev pub printouts_in : List Entry → List Printout
+printouts_in entries = flat_map printout_of entries
 
 -- the card that an entry answers, if it answers one
 abbrev pub card_of : Entry → List Event

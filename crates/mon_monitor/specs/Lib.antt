@@ -1,9 +1,9 @@
-pub mod Worlds
+pub mod SystemStates
 pub mod Events
-pub mod Papers
+pub mod Printouts
 pub mod Printed
 pub mod Played
-pub mod Told
+pub mod Abstraction
 pub mod Happening
 pub mod Laws
 pub mod History

@@ -6,7 +6,7 @@ use Rattle.mon_catalogue.specs.Sets.{Sets, find_set}
 use Rattle.mon_catalogue.specs.Text.{catalogue_text}
 use Rattle.mon_command.specs.declared.command.Command.TheVariants.{List as Listing}
 use Rattle.mon_command.specs.Commanded.{Records, printed}
-use Rattle.mon_job.specs.Printouts.{printout}
+use Rattle.scheduler.specs.Printouts.{printout}
 use Rattle.mon_monitor.specs.declared.printed.Piece.{Piece}
 use Rattle.mon_monitor.specs.declared.printed.Piece.TheVariants as piece
 

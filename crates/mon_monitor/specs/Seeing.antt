@@ -2,8 +2,8 @@
 -- the data set is written again, ended or deleted. The law `reads_see_writes` says it of all events.
 use Rattle.std.specs.Prelude.{◌≡◌, ◌≢◌, ◌↔◌, ℕ, List, ◌∷◌, ◌++◌}
 use Rattle.std.specs.List.{AllByRecursion}
-use Rattle.sno_ask.specs.declared.request.Act.TheVariants.{Write}
-use Rattle.mon_answer.specs.declared.answer.Answer.TheVariants.{Done, Got}
+use Rattle.interaction.specs.declared.request.Act.TheVariants.{Write}
+use Rattle.interaction.specs.declared.answer.Answer.TheVariants.{Done, Got}
 use Rattle.mon_catalogue.specs.declared.data_set.DataSet.{DataSet}
 use Rattle.mon_guard.specs.Deciding.{to_read}
 use Rattle.mon_guard.specs.Laws.{IsThere, IsGranted}
@@ -11,8 +11,8 @@ use Rattle.mon_unit.specs.declared.note.NoteAct.TheVariants as note
 use Rattle.mon_unit.specs.declared.tie.Target.TheVariants.{Set}
 use Rattle.mon_unit.specs.Serving.{note_act}
 use Rattle.mon_unit.specs.Laws.{target_of, position_of, IsRead}
-use Rattle.mon_slots.specs.Marks.{Marks}
-use Rattle.mon_monitor.specs.Worlds.{World}
+use Rattle.scheduler.specs.Marks.{Marks}
+use Rattle.mon_monitor.specs.SystemStates.{SystemState}
 use Rattle.mon_monitor.specs.Events.{Event}
 use Rattle.mon_monitor.specs.History.{Exchanged, Entry, Asked, Ordered, history}
 use Rattle.mon_monitor.specs.Answering.{before}
@@ -41,6 +41,6 @@ SeesWrites entries = (before between after : List Entry) (wrote reads : Exchange
     → Wrote name line place wrote → AllByRecursion (λ entry. ¬ Overwrites name entry) between → ReadsAt name place reads
     → (set : DataSet) × IsThere name reads.reach.sets set × ((reads.answer ≡ Got line) ↔ IsGranted reads.account set to_read)
 
--- From any world on, wherever memory breaks turns off.
+-- From any system on, wherever memory breaks turns off.
 abbrev pub ReadsSeeWrites : Type 0
-ReadsSeeWrites = (events : List Event) (m : Marks) (w : World) → SeesWrites (history events m w)
+ReadsSeeWrites = (events : List Event) (m : Marks) (w : SystemState) → SeesWrites (history events m w)

@@ -2,9 +2,9 @@
 -- over the data sets that the one before it left, `Lead` of Headline says.
 use Rattle.std.specs.Prelude.{◌≡◌, ◌≢◌, ◌⊎◌, ℕ, suc, ◌+◌, ◌%◌, ◌<◌, ◌≤◌, nat_lt, Bool, List, [], ◌∷◌, ◌++◌, length, map, take, drop, Option, Some, None, IsSome, is_none, if◌then◌else◌, replicate}
 use Rattle.std.specs.List.{AllByRecursion, flat_map, list_all, list_any}
-use Rattle.sno_ask.specs.Asking.{Exchange}
-use Rattle.sno_ask.specs.Asking as asking
-use Rattle.sno_ask.specs.Counting.{Passed, Tells, requests_in, statements_in}
+use Rattle.interaction.specs.Asking.{Exchange}
+use Rattle.interaction.specs.Asking as asking
+use Rattle.interaction.specs.Counting.{Passed, IsTrace, requests_in, statements_in}
 use Rattle.sno_run.specs.declared.ending.Ending.TheVariants.{Memory}
 use Rattle.sno_run.specs.declared.ending.Step.{Step}
 use Rattle.sno_run.specs.declared.ending.Step.TheVariants as step
@@ -13,13 +13,13 @@ use Rattle.mon_access.specs.declared.account.Account.{Account}
 use Rattle.mon_catalogue.specs.Sets.{Sets}
 use Rattle.mon_command.specs.Commanded as commands
 use Rattle.mon_unit.specs.State.{UnitState}
-use Rattle.mon_cards.specs.declared.job_deck.JobDeck.{JobDeck}
-use Rattle.mon_job.specs.declared.refusal.LoadError.{LoadError}
-use Rattle.mon_slots.specs.Floors.{SlotState, seat_at, with_seat}
-use Rattle.mon_slots.specs.Loads.{slot_in}
-use Rattle.mon_slots.specs.Turns.{seat, told}
-use Rattle.mon_slots.specs.Marks.{Mark, Marks, mark_of}
-use Rattle.mon_monitor.specs.Worlds.{first_world}
+use Rattle.deck_syntax.specs.declared.job_deck.JobDeck.{JobDeck}
+use Rattle.scheduler.specs.declared.refusal.LoadError.{LoadError}
+use Rattle.scheduler.specs.States.{SlotState, seat_at, with_seat}
+use Rattle.scheduler.specs.Loads.{slot_in}
+use Rattle.scheduler.specs.Turns.{seat, told}
+use Rattle.scheduler.specs.Marks.{Mark, Marks, mark_of}
+use Rattle.mon_monitor.specs.SystemStates.{first_system}
 use Rattle.mon_monitor.specs.Events.{Event, Serve, Load, Give, Drain}
 use Rattle.mon_monitor.specs.Played.{played}
 use Rattle.mon_monitor.specs.History.{Exchanged, Entry, Entered, Refused, Asked, Ended, Ordered, end_entry, history}
@@ -41,7 +41,7 @@ pub record IsBrokenAt (mark : Option Mark) (before : Job) (x : List Exchange) (e
   pub stands : mark ≡ Some at
   pub memory : end ≡ step.Ended Memory
   pub all : List Passed
-  pub statement : (whole : Step × Job) × Tells (counted_turn before) all whole
+  pub statement : (whole : Step × Job) × IsTrace (counted_turn before) all whole
   pub asked : x ≡ requests_in (take (suc at.moments) all)
   pub counted : statements_begun after ≡ statements_begun before + statements_in (take (suc at.moments) all)
 
@@ -58,7 +58,7 @@ pub record IsTurn (mark : Option Mark) (s : ℕ) (slot : SlotState) (before : Se
   -- It is what the statement asks: all of it, or so much as memory let pass, where the turn has a mark.
   pub end : Step
   pub job : Job
-  pub asks : (asking.Tells (turn_of slot.job) (exchanges asked) (end, job) × (end ≢ step.Ended Memory)) ⊎ IsBrokenAt mark slot.job (exchanges asked) end job
+  pub asks : (asking.IsTrace (turn_of slot.job) (exchanges asked) (end, job) × (end ≢ step.Ended Memory)) ⊎ IsBrokenAt mark slot.job (exchanges asked) end job
   -- That is added, and the job's end if it has ended.
   pub adds : entries ≡ map Asked asked ++ end_entry (told end (left_as slot job units))
   -- The job stays in its slot, or has ended and leaves it; each other slot is as it was.
@@ -135,7 +135,7 @@ IsUnbroken _ = Unit {0}
 -- and where no turn has a mark, no job ends for want of memory.
 abbrev pub TurnsCome : Type 0
 TurnsCome = (slots : ℕ) (accounts : List Account) (sets : Sets) (events : List Event) (m : Marks) → slots ≢ 0
-    → (let w = first_world slots accounts sets in
+    → (let w = first_system slots accounts sets in
     let p = played events m w in
-    BringInOrder accounts events (record { seats = replicate slots None; marks = m }) (history events m w) (record { seats = p.after.floor.slots; marks = p.marks })
+    BringInOrder accounts events (record { seats = replicate slots None; marks = m }) (history events m w) (record { seats = p.after.scheduler.slots; marks = p.marks })
     × (AllByRecursion (λ mark. mark ≡ None) m → AllByRecursion IsUnbroken (history events m w)))

@@ -3,8 +3,8 @@
 //! Where a growth is refused nothing is appended; jobs that ended are then lost, and the monitor is of no more use.
 ghost use Rattle.std.specs.Prelude.{◌≡◌, ◌++◌, IfOk, OnOk, OnErr};
 ghost use Rattle.mon_command.specs.Commanded.{commanded};
-ghost use Rattle.mon_monitor.specs.Told.{world_of};
-ghost use Rattle.mon_monitor.specs.Worlds.{with_sets};
+ghost use Rattle.mon_monitor.specs.Abstraction.{system_of};
+ghost use Rattle.mon_monitor.specs.SystemStates.{with_sets};
 ghost use Rattle.mon_monitor.specs.Printed.{listing};
 ghost use Rattle.mon_monitor.specs.Played.{of_loading};
 ghost use Rattle.mon_monitor.specs.Events.{Serve, Load, Give, Drain};
@@ -14,7 +14,7 @@ use crate::monitor::Monitor;
 use crate::printed::{Piece, Printed};
 use mon_catalogue::Catalogue;
 use mon_command::Command;
-use mon_job::{JobDeck, put_refusal};
+use scheduler::{JobDeck, put_refusal};
 use mon_text::{Name, Stop};
 use std::alloc::{AllocError, Global};
 use std::rc::Rc;
@@ -31,7 +31,7 @@ impl Monitor {
         command: Command,
         out: &mut Printed,
     ) -> Result<(), AllocError>
-        ensures happens { OnOk result (HappensUnmarked (Serve command) (world_of self.old) out.old (world_of self.new) out.new) }
+        ensures happens { OnOk result (HappensUnmarked (Serve command) (system_of self.old) out.old (system_of self.new) out.new) }
         ensures nothing { OnErr result (out.new ≡ out.old) }
     {
         self.print_command(alloc, command, out)?;
@@ -45,8 +45,8 @@ impl Monitor {
         command: Command,
         out: &mut Printed,
     ) -> Result<(), AllocError>
-        ensures printed { OnOk result (out.new ≡ out.old ++ (commanded (world_of self.old).accounts (world_of self.old).floor.sets command).printout) }
-        ensures world { OnOk result (world_of self.new ≡ with_sets (world_of self.old) (commanded (world_of self.old).accounts (world_of self.old).floor.sets command).sets) }
+        ensures printed { OnOk result (out.new ≡ out.old ++ (commanded (system_of self.old).accounts (system_of self.old).scheduler.sets command).printout) }
+        ensures system { OnOk result (system_of self.new ≡ with_sets (system_of self.old) (commanded (system_of self.old).accounts (system_of self.old).scheduler.sets command).sets) }
         ensures nothing { OnErr result (out.new ≡ out.old) }
     {
         if let Command::List { account, name } = &command {
@@ -64,7 +64,7 @@ impl Monitor {
         name: &Name,
         out: &mut Printed,
     ) -> Result<(), AllocError>
-        ensures printed { OnOk result (out.new ≡ out.old ++ listing account.now name.now (world_of self.now).floor.sets) }
+        ensures printed { OnOk result (out.new ≡ out.old ++ listing account.now name.now (system_of self.now).scheduler.sets) }
         ensures nothing { OnErr result (out.new ≡ out.old) }
     {
         let sets = self.share()?;
@@ -78,8 +78,8 @@ impl Monitor {
         command: Command,
         out: &mut Printed,
     ) -> Result<(), AllocError>
-        ensures printed { OnOk result (out.new ≡ out.old ++ (commanded (world_of self.old).accounts (world_of self.old).floor.sets command).printout) }
-        ensures world { OnOk result (world_of self.new ≡ with_sets (world_of self.old) (commanded (world_of self.old).accounts (world_of self.old).floor.sets command).sets) }
+        ensures printed { OnOk result (out.new ≡ out.old ++ (commanded (system_of self.old).accounts (system_of self.old).scheduler.sets command).printout) }
+        ensures system { OnOk result (system_of self.new ≡ with_sets (system_of self.old) (commanded (system_of self.old).accounts (system_of self.old).scheduler.sets command).sets) }
         ensures nothing { OnErr result (out.new ≡ out.old) }
     {
         if out.rest.is_empty() {
@@ -101,7 +101,7 @@ impl Monitor {
         deck: JobDeck,
         out: &mut Printed,
     ) -> Result<(), AllocError>
-        ensures happens { OnOk result (Happens (Load deck) (world_of self.old) out.old (world_of self.new) out.new) }
+        ensures happens { OnOk result (Happens (Load deck) (system_of self.old) out.old (system_of self.new) out.new) }
         ensures nothing { OnErr result (out.new ≡ out.old) }
     {
         let mut text = Vec::new(alloc);
@@ -117,7 +117,7 @@ impl Monitor {
         deck: JobDeck,
         out: &mut Vec<u8>,
     ) -> Result<(), AllocError>
-        ensures { OnOk result (Does (of_loading deck) (world_of self.old) out.old.items (world_of self.new) out.new.items) }
+        ensures { OnOk result (Does (of_loading deck) (system_of self.old) out.old.items (system_of self.new) out.new.items) }
     {
         let number = deck.number;
         let account = deck.account.copy();
@@ -140,7 +140,7 @@ impl Monitor {
         count: u64,
         out: &mut Printed,
     ) -> Result<(), AllocError>
-        ensures happens { OnOk result (Happens (Give slot count) (world_of self.old) out.old (world_of self.new) out.new) }
+        ensures happens { OnOk result (Happens (Give slot count) (system_of self.old) out.old (system_of self.new) out.new) }
         ensures nothing { OnErr result (out.new ≡ out.old) }
     {
         let end = self.turns_of(alloc, slot, count)?;
@@ -156,7 +156,7 @@ impl Monitor {
     ///
     /// Where a growth was refused; nothing was appended then.
     pub fn drain_all(&mut self, alloc: Global, out: &mut Printed) -> Result<(), AllocError>
-        ensures happens { OnOk result (Happens Drain (world_of self.old) out.old (world_of self.new) out.new) }
+        ensures happens { OnOk result (Happens Drain (system_of self.old) out.old (system_of self.new) out.new) }
         ensures nothing { OnErr result (out.new ≡ out.old) }
     {
         let ends = self.drain(alloc)?;
@@ -170,7 +170,7 @@ impl Monitor {
     ///
     /// Where a growth was refused; nothing was appended then.
     pub fn close(self, alloc: Global, out: &mut Printed) -> Result<Rc<Catalogue>, AllocError>
-        ensures closes { IfOk result (λ sets. Closes (world_of self) out.old sets.value out.new) }
+        ensures closes { IfOk result (λ sets. Closes (system_of self) out.old sets.value out.new) }
         ensures nothing { OnErr result (out.new ≡ out.old) }
     {
         let mut monitor = self;

@@ -5,7 +5,7 @@ ghost use Rattle.mon_monitor.specs.Isolation.{RequestsAgree, CommandsAgree, Load
 ghost use Rattle.mon_monitor.specs.Beginnings.{FromTheBeginning};
 ghost use Rattle.mon_monitor.specs.Schedules.{EachAsAlone, EndsAsAlone, Rearranged, AnySchedule, DrainSettles};
 
-/// There are worlds that differ and agree.
+/// There are systems that differ and agree.
 pub fn they_agree()
     ensures { TheyAgree }
 {}
@@ -30,7 +30,7 @@ pub fn turns_agree()
     ensures { TurnsAgree }
 {}
 
-/// And so have any events of the account's own: what is printed is the same, and the worlds agree again.
+/// And so have any events of the account's own: what is printed is the same, and the systems agree again.
 pub fn isolated()
     ensures { Isolated }
 {}

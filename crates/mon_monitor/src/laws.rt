@@ -5,9 +5,9 @@ ghost use Rattle.mon_monitor.specs.Turns.{TurnsCome};
 ghost use Rattle.mon_monitor.specs.Appending.{AppendOnly};
 ghost use Rattle.mon_monitor.specs.Seeing.{ReadsSeeWrites};
 
-use mon_slots::laws;
+use scheduler::laws;
 
-/// More events only add papers: those of the first come first, and the others happen in the world that these leave.
+/// More events only add printouts: those of the first come first, and the others happen in the system that these leave.
 pub fn card_by_card()
     ensures { CardByCard }
 {}
@@ -17,7 +17,7 @@ pub fn printed_in_order()
     ensures { PrintedInOrder }
 {}
 
-/// Where no job ended for want of memory, papers and world are those of no marks.
+/// Where no job ended for want of memory, printouts and system are those of no marks.
 pub fn unmarked()
     ensures { PlayedUnmarked }
 {

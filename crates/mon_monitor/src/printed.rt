@@ -2,13 +2,13 @@
 ghost use Rattle.std.specs.Prelude.{◌≡◌, ◌≤◌, ◌++◌, [], true, false, length, IfOk, OnOk, OnErr};
 ghost use Rattle.std.specs.List.{flat_map};
 ghost use Rattle.mon_device.specs.Putting.{Puts};
-ghost use Rattle.mon_job.specs.Printouts.{printout};
+ghost use Rattle.scheduler.specs.Printouts.{printout};
 ghost use Rattle.mon_monitor.specs.Printed.{given_back, piece_text, pieces_text};
 
 use crate::listing::print_listing;
 use mon_catalogue::Catalogue;
 use mon_device::{Sink, TextSink};
-use mon_job::{JobEnd, print_end};
+use scheduler::{JobEnd, print_end};
 use mon_text::Name;
 use std::alloc::{AllocError, Global};
 use std::marker::Model;

@@ -7,11 +7,11 @@ use mon_access::{Account, Accounts, Decider};
 use mon_acl::{Perms, Tag};
 use mon_catalogue::Version;
 use mon_guard::{Decided, GuardAnswer, Reason};
-use mon_job::{JobDeck, JobEnd, JobLimits, LoadError, UnitCard, UnitCards, put_printout};
 use mon_monitor::{Monitor, Turned};
+use scheduler::{JobDeck, JobEnd, JobLimits, LoadError, UnitCard, UnitCards, put_printout};
 use mon_text::{Name, Stop, read_name};
 use mon_unit::Lines;
-use sno_seed::Seed;
+use sno_text::Seed;
 use std::alloc::Global;
 
 fn decided(desk: &Desk, account: &Account, request: Perms) -> Decided {

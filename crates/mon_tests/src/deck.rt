@@ -1,10 +1,7 @@
 //! Whole runs over memory: worked decks in pieces, with each call that fails, cut anywhere; and decks that are refused.
 ghost use Rattle.std.specs.Prelude.{◌≡◌, None, false};
 
-use mon_deck::{
-    Code, Counts, DeckFeed, Devices, Holder, MemReader, MemWriter, Options, RunError, Shortage,
-    exit_status, put_fault, put_shortage, run_deck,
-};
+use deck_run::{Counts, DeckError, DeckFeed, Devices, Holder, MemReader, MemWriter, Options, RunError, Shortage, exit_status, put_fault, put_shortage, run_deck};
 use mon_device::{DeckReader, DeckWriter, Failed, TextSink};
 use mon_monitor::Printed;
 use mon_text::{Name, read_name};
@@ -455,12 +452,12 @@ fn last_line(bytes: &[u8]) -> u64 {
 
 // Whether this line is where a deck of these bytes may be refused with this code: behind a whole line it is truncated,
 // and a cut within a line may leave another good line there, or one that is refused.
-fn is_where_it_ends(cut: &[u8], line: u64, code: Code) -> bool {
+fn is_where_it_ends(cut: &[u8], line: u64, code: DeckError) -> bool {
     let last = last_line(cut);
     if cut.is_empty() || cut.ends_with(b"\n") {
-        return line == last && code == Code::Truncated;
+        return line == last && code == DeckError::Truncated;
     }
-    if code == Code::Truncated {
+    if code == DeckError::Truncated {
         return line == last.saturating_add(1);
     }
     line == last
@@ -488,144 +485,144 @@ fn a_deck_cut_anywhere_is_refused(rt: HostRuntime) {
 }
 
 /// Small decks, the line at which each is refused, and the code: by the rules, section by section.
-static REFUSALS: [(&[u8], u64, Code); 33] = [
-    (b"", 1, Code::Truncated),
-    (b"\n  \nanna admin\n", 3, Code::UnknownCard),
-    (b"$CATALOGUE\n", 1, Code::OutOfPlace),
-    (b"$ACCOUNTS x\n", 1, Code::BadCard),
-    (b"$ACCOUNTS\nanna\n", 2, Code::BadCard),
-    (b"$ACCOUNTS\n2anna\n", 2, Code::BadCard),
-    (b"$ACCOUNTS\n2anna admin\n", 2, Code::BadName),
-    (b"$ACCOUNTS\nanna\tadmin\n", 2, Code::BadCharacter),
-    (b"$ACCOUNTS\nanna\radmin\n", 2, Code::BadCharacter),
-    (b"$ACCOUNTS\nanna admin\nanna admin 9g\n", 3, Code::BadName),
-    (b"$ACCOUNTS\nanna admin\nanna ops\n", 3, Code::AccountTwice),
+static REFUSALS: [(&[u8], u64, DeckError); 33] = [
+    (b"", 1, DeckError::Truncated),
+    (b"\n  \nanna admin\n", 3, DeckError::UnknownCard),
+    (b"$CATALOGUE\n", 1, DeckError::OutOfPlace),
+    (b"$ACCOUNTS x\n", 1, DeckError::BadCard),
+    (b"$ACCOUNTS\nanna\n", 2, DeckError::BadCard),
+    (b"$ACCOUNTS\n2anna\n", 2, DeckError::BadCard),
+    (b"$ACCOUNTS\n2anna admin\n", 2, DeckError::BadName),
+    (b"$ACCOUNTS\nanna\tadmin\n", 2, DeckError::BadCharacter),
+    (b"$ACCOUNTS\nanna\radmin\n", 2, DeckError::BadCharacter),
+    (b"$ACCOUNTS\nanna admin\nanna admin 9g\n", 3, DeckError::BadName),
+    (b"$ACCOUNTS\nanna admin\nanna ops\n", 3, DeckError::AccountTwice),
     (
         b"$ACCOUNTS\nanna admin g g g g g g g g g g g g g g g g g\n",
         2,
-        Code::TooManyGroups,
+        DeckError::TooManyGroups,
     ),
-    (b"$ACCOUNTS\nanna admin\n$ACCOUNTS\n", 3, Code::OutOfPlace),
+    (b"$ACCOUNTS\nanna admin\n$ACCOUNTS\n", 3, DeckError::OutOfPlace),
     (
         b"$ACCOUNTS\nanna admin\n$CATALOGUE\nSET X anna admin 0\n",
         4,
-        Code::UnknownCard,
+        DeckError::UnknownCard,
     ),
     (
         b"$ACCOUNTS\nanna admin\n$CATALOGUE\n$STOP\n",
         4,
-        Code::OutOfPlace,
+        DeckError::OutOfPlace,
     ),
     (
         b"$ACCOUNTS\nanna admin\n$CATALOGUE\n$STREAM x\n",
         4,
-        Code::BadCard,
+        DeckError::BadCard,
     ),
     (
         b"$ACCOUNTS\nanna admin\n$CATALOGUE\n$SET X anna admin two\n",
         4,
-        Code::BadText,
+        DeckError::BadText,
     ),
     (
         b"$ACCOUNTS\nanna admin\n$CATALOGUE\n$SET X anna admin 100001\n",
         4,
-        Code::SetFull,
+        DeckError::SetFull,
     ),
     (
         b"$ACCOUNTS\nanna admin\n$CATALOGUE\n$SET X anna admin 0\nu::r,u:lisa:r,g::,o::\n",
         5,
-        Code::BadText,
+        DeckError::BadText,
     ),
     (
         b"$ACCOUNTS\nanna admin\n$CATALOGUE\n$SET X anna admin 0\nu::,g::,o::\n$SET X anna admin 0\n",
         6,
-        Code::NameTaken,
+        DeckError::NameTaken,
     ),
     (
         b"$ACCOUNTS\n$CATALOGUE\n$STREAM\n$SET X anna admin 0\n",
         4,
-        Code::OutOfPlace,
+        DeckError::OutOfPlace,
     ),
     (
         b"$ACCOUNTS\n$CATALOGUE\n$STREAM\n$LIST lisa\n$STOP\n",
         4,
-        Code::BadCard,
+        DeckError::BadCard,
     ),
     (
         b"$ACCOUNTS\n$CATALOGUE\n$STREAM\n$LIST 9a 9X y\n$STOP\n",
         4,
-        Code::BadCard,
+        DeckError::BadCard,
     ),
     (
         b"$ACCOUNTS\n$CATALOGUE\n$STREAM\n$FOO\n",
         4,
-        Code::UnknownCard,
+        DeckError::UnknownCard,
     ),
     (
         b"$ACCOUNTS\n$CATALOGUE\n$STREAM\n$ENDACL\n",
         4,
-        Code::OutOfPlace,
+        DeckError::OutOfPlace,
     ),
     (
         b"$ACCOUNTS\n$CATALOGUE\n$STREAM\n$CREATE lisa X LIFO\n",
         4,
-        Code::BadCard,
+        DeckError::BadCard,
     ),
     (
         b"$ACCOUNTS\n$CATALOGUE\n$STREAM\n$CATALOG lisa X\n",
         4,
-        Code::BadCard,
+        DeckError::BadCard,
     ),
     (
         b"$ACCOUNTS\n$CATALOGUE\n$STREAM\n$CATALOG 9\n",
         4,
-        Code::BadName,
+        DeckError::BadName,
     ),
     (
         b"$ACCOUNTS\n$CATALOGUE\n$STREAM\n$SETACL lisa\n",
         4,
-        Code::BadCard,
+        DeckError::BadCard,
     ),
     (
         b"$ACCOUNTS\n$CATALOGUE\n$STREAM\n$SETACL lisa X u::r,\tg::r,o::r\n",
         4,
-        Code::BadCharacter,
+        DeckError::BadCharacter,
     ),
     (
         b"$ACCOUNTS\n$CATALOGUE\n$STREAM\n$SETACL lisa X\nu::r\n$LIST lisa X\n",
         6,
-        Code::OutOfPlace,
+        DeckError::OutOfPlace,
     ),
     (
         b"$ACCOUNTS\n$CATALOGUE\n$STREAM\n$SETACL lisa X\nu::r\n$ENDACL x\n",
         6,
-        Code::BadCard,
+        DeckError::BadCard,
     ),
     (
         b"$ACCOUNTS\n$CATALOGUE\n$STREAM\n$SETACL lisa X\n\tu::r\n$ENDACL\t\n",
         6,
-        Code::BadCharacter,
+        DeckError::BadCharacter,
     ),
 ];
 
 /// The same, and what each printed before.
-static LATE_REFUSALS: [(&[u8], u64, Code, &[u8]); 3] = [
+static LATE_REFUSALS: [(&[u8], u64, DeckError, &[u8]); 3] = [
     (
         b"$ACCOUNTS\n$CATALOGUE\n$STREAM\n$LIST lisa X\n$LIST lisa 9X\n$STOP\n",
         5,
-        Code::BadName,
+        DeckError::BadName,
         b"LIST lisa X\nREFUSED M2 NO ACCOUNT\n",
     ),
     (
         b"$ACCOUNTS\n$CATALOGUE\n$STREAM\n$LIST lisa X\n$STOP now\n",
         5,
-        Code::BadCard,
+        DeckError::BadCard,
         b"LIST lisa X\nREFUSED M2 NO ACCOUNT\n",
     ),
     (
         b"$ACCOUNTS\n$CATALOGUE\n$STREAM\n$LIST lisa X\n",
         5,
-        Code::Truncated,
+        DeckError::Truncated,
         b"LIST lisa X\nREFUSED M2 NO ACCOUNT\n",
     ),
 ];
@@ -635,7 +632,7 @@ fn is_refused(
     deck: &[u8],
     check: bool,
     line: u64,
-    code: Code,
+    code: DeckError,
     printed: &[u8],
 ) -> bool {
     let Ok(writer) = MemWriter::new(alloc, ROOM) else {
@@ -670,7 +667,7 @@ fn long_line(alloc: Global, length: usize) -> Result<Vec<u8>, AllocError> {
 }
 
 // Too long comes before a bad character.
-fn is_told_to_be_long(alloc: Global, length: usize, code: Code) -> bool {
+fn is_told_to_be_long(alloc: Global, length: usize, code: DeckError) -> bool {
     let Ok(deck) = long_line(alloc, length) else {
         return false;
     };
@@ -680,9 +677,9 @@ fn is_told_to_be_long(alloc: Global, length: usize, code: Code) -> bool {
 #[test]
 fn long_lines_are_refused(rt: HostRuntime) {
     for (length, code) in [
-        (200, Code::BadCharacter),
-        (201, Code::LineTooLong),
-        (70_000, Code::LineTooLong),
+        (200, DeckError::BadCharacter),
+        (201, DeckError::LineTooLong),
+        (70_000, DeckError::LineTooLong),
     ] {
         assert!(rt; is_told_to_be_long(rt.alloc(), length, code));
     }
@@ -808,7 +805,7 @@ fn says(alloc: Global, fault: RunError, line: &[u8], status: u8) -> bool {
 fn faults_have_a_line_and_a_status(rt: HostRuntime) {
     let faults: [(RunError, &[u8], u8); 4] = [
         (
-            RunError::DeckRefused(14, Code::Truncated),
+            RunError::DeckRefused(14, DeckError::Truncated),
             b"snomon: line 14: E4 TRUNCATED\n",
             1,
         ),

@@ -3,7 +3,7 @@
 use mon_access::AccountError;
 use mon_acl::{AclError, Tag};
 use mon_catalogue::{CatalogueError, CreateError, NoSet, SetFull};
-use mon_deck::Code;
+use deck_run::DeckError;
 use mon_device::Failed;
 use mon_text::{BadName, BadNumber, LineError};
 use mon_unit::UnitError;
@@ -65,7 +65,7 @@ fn units_say(alloc: Global) -> bool {
 }
 
 fn decks_say(alloc: Global) -> bool {
-    says(alloc, &Code::Truncated, "E4 TRUNCATED") && says(alloc, &Failed, "the device failed")
+    says(alloc, &DeckError::Truncated, "E4 TRUNCATED") && says(alloc, &Failed, "the device failed")
 }
 
 #[test]

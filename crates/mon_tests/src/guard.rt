@@ -1,6 +1,6 @@
 //! A list of the largest size, records by position, and the rows that a guard keeps, where memory is ample. The other requests
 //! are decks, which the program `rows` runs.
-ghost use Rattle.mon_guard.specs.Rows.{RowsFit};
+ghost use Rattle.mon_guard.specs.Cache.{CacheFits};
 
 use crate::access::account;
 use crate::catalogue::read;
@@ -77,7 +77,7 @@ pub(crate) struct Desk {
     pub(crate) guard: Guard,
     pub(crate) catalogue: Catalogue,
     pub(crate) name: Name,
-    ghost fit: { RowsFit guard catalogue },
+    ghost fit: { CacheFits guard catalogue },
 }
 
 fn desk_over(alloc: Global, catalogue: Catalogue, name: Name) -> Desk {

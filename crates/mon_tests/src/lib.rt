@@ -21,5 +21,3 @@ mod guard;
 mod monitor;
 #[cfg(test)]
 mod schedules;
-#[cfg(test)]
-mod shell;

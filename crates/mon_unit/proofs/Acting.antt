@@ -8,15 +8,15 @@ use Rattle.mon_catalogue.specs.declared.mode.Mode.TheVariants.{Seq, Append}
 use Rattle.mon_catalogue.specs.declared.data_set.DataSet.{DataSet}
 use Rattle.mon_catalogue.specs.declared.data_set.SetFull.{SetFull}
 use Rattle.mon_catalogue.specs.Writing.{Change, writing, change_refusal}
-use Rattle.mon_answer.specs.declared.answer.Reason.{Reason}
-use Rattle.mon_answer.specs.declared.answer.Reason.TheVariants.{NoSet, NoUnit, InStream, SpoolUnit, Mode as WrongMode}
+use Rattle.interaction.specs.declared.answer.Reason.{Reason}
+use Rattle.interaction.specs.declared.answer.Reason.TheVariants.{NoSet, NoUnit, InStream, SpoolUnit, Mode as WrongMode}
 use Rattle.mon_guard.specs.Deciding.{decision_on, by_decision}
 use Rattle.mon_guard.specs.Reasons.{reason_of}
 use Rattle.mon_guard.specs.Acting as acting
 use Rattle.mon_guard.specs.Acting.{Acted, only_answered, read_at, position_after, changing, ended, asks, done, or_denied, acted_on}
-use Rattle.sno_ask.specs.declared.request.Act.{Act}
-use Rattle.sno_ask.specs.declared.request.Act.TheVariants.{Read, Write, Endfile, Rewind}
-use Rattle.mon_answer.specs.declared.answer.Answer.TheVariants as answer
+use Rattle.interaction.specs.declared.request.Act.{Act}
+use Rattle.interaction.specs.declared.request.Act.TheVariants.{Read, Write, Endfile, Rewind}
+use Rattle.interaction.specs.declared.answer.Answer.TheVariants as answer
 use Rattle.mon_unit.specs.declared.tie.Target.{Target}
 use Rattle.mon_unit.specs.declared.tie.Target.TheVariants.{Untied, Data, Spool, Set}
 use Rattle.mon_unit.specs.State.{UnitState}

@@ -1,12 +1,12 @@
 -- Each answer of a service fits what was asked.
 use Rattle.std.proofs.Common.{ℕ, List, Option, Some, None, refl, slice_get}
 use Rattle.std.specs.Prelude.{IsTrue}
-use Rattle.sno_ask.specs.Fitting.{fits, Fits}
-use Rattle.sno_ask.specs.declared.request.Act.{Act}
-use Rattle.sno_ask.specs.declared.request.Act.TheVariants.{Read, Write, Endfile, Rewind}
-use Rattle.sno_ask.specs.declared.request.Request.{Request}
-use Rattle.mon_answer.specs.declared.answer.Answer.TheVariants.{Denied}
-use Rattle.mon_answer.specs.declared.answer.Reason.{Reason}
+use Rattle.interaction.specs.Fitting.{fits, Fits}
+use Rattle.interaction.specs.declared.request.Act.{Act}
+use Rattle.interaction.specs.declared.request.Act.TheVariants.{Read, Write, Endfile, Rewind}
+use Rattle.interaction.specs.declared.request.Request.{Request}
+use Rattle.interaction.specs.declared.answer.Answer.TheVariants.{Denied}
+use Rattle.interaction.specs.declared.answer.Reason.{Reason}
 use Rattle.mon_acl.specs.declared.entries.Entry as acl
 use Rattle.mon_access.specs.declared.account.Account.{Account}
 use Rattle.mon_access.specs.declared.access.Decision.{Decision}

@@ -1,13 +1,13 @@
 -- What a service that holds loans leaves, and that what it answered is the run by `serve`.
 use Rattle.std.proofs.Common.{◌≡◌, List, [], ◌∷◌, length, refl, sym, ap, ◌∙◌, subst}
-use Rattle.sno_talk.specs.Talks.{Ends, Asks}
-use Rattle.sno_talk.specs.Exchanges.{Answered}
-use Rattle.sno_ask.specs.declared.request.Request.{Request}
-use Rattle.mon_answer.specs.declared.answer.Answer.{Answer}
-use Rattle.mon_answer.specs.declared.answer.Answer.TheVariants.{Done}
-use Rattle.sno_ask.specs.Asking.{Asking, Exchange, Tells, Begins}
-use Rattle.sno_ask.specs.Counting.{Moment, Beginning, Requesting, Counted, Passed, with_request, requests_in}
-use Rattle.sno_ask.specs.Counting as counting
+use Rattle.interaction.specs.Interactions.{Returns, Asks}
+use Rattle.interaction.specs.Exchanges.{AnswersAll}
+use Rattle.interaction.specs.declared.request.Request.{Request}
+use Rattle.interaction.specs.declared.answer.Answer.{Answer}
+use Rattle.interaction.specs.declared.answer.Answer.TheVariants.{Done}
+use Rattle.interaction.specs.Asking.{Asking, Exchange, IsTrace, IsTracePrefix}
+use Rattle.interaction.specs.Counting.{Moment, Beginning, Requesting, Counted, Passed, with_request, requests_in}
+use Rattle.interaction.specs.Counting as counting
 use Rattle.mon_access.specs.declared.account.Account.{Account}
 use Rattle.mon_unit.specs.declared.service.UnitService.{UnitService}
 use Rattle.mon_unit.specs.Serving.{Reach, serve}
@@ -32,7 +32,7 @@ same_then s t u p q = record {
 }
 
 -- it holds the same loans after any exchanges
-pub same_loans : (s : UnitService) (x : List Exchange) (t : UnitService) → Answered UnitAnswers s x t → SameLoans s t
+pub same_loans : (s : UnitService) (x : List Exchange) (t : UnitService) → AnswersAll UnitAnswers s x t → SameLoans s t
 same_loans s [] t h = same_here s t h
 same_loans s (e ∷ x) t h = same_then s h.0 t h.1.0 (same_loans h.0 x t h.2)
 
@@ -46,11 +46,11 @@ one_served a s e q m is same h =
 still : (a : Account) (s m : UnitService) → s.account.now ≡ a → SameLoans s m → m.account.now ≡ a
 still a s m is h = ap (λ x. x.now) h.account ∙ is
 
--- a talk that it answered is the run over what it was lent
+-- an interaction that it answered is the run over what it was lent
 pub served_run : {A : Type 0} (a : Account) (t : Asking A) (s : UnitService) (x : List Exchange) (b : A) (s' : UnitService) → s.account.now ≡ a
-    → Answered UnitAnswers s x s' → Tells t x b → run (serve a) t (reach_of s) ≡ (b, reach_of s')
-served_run a (Ends v) s [] b s' is h g = cc (ap reach_of h, g)
-served_run a (Ends v) s (e ∷ x) b s' is h g = absurd g
+    → AnswersAll UnitAnswers s x s' → IsTrace t x b → run (serve a) t (reach_of s) ≡ (b, reach_of s')
+served_run a (Returns v) s [] b s' is h g = cc (ap reach_of h, g)
+served_run a (Returns v) s (e ∷ x) b s' is h g = absurd g
 served_run a (Asks q f) s [] b s' is h g = absurd g
 served_run {A} a (Asks q f) s (e ∷ x) b s' is h g =
     ap (λ (p : Answer × Reach). run (serve a) (f p.0) p.1) (one_served a s e q h.0 is g.0 h.1)
@@ -58,27 +58,27 @@ served_run {A} a (Asks q f) s (e ∷ x) b s' is h g =
 
 -- and one that was broken off is the run that is cut
 pub served_cut : {A : Type 0} (a : Account) (t : Asking A) (s : UnitService) (x : List Exchange) (s' : UnitService) → s.account.now ≡ a
-    → Answered UnitAnswers s x s' → Begins t x → run_cut (serve a) (length x) t (reach_of s) ≡ reach_of s'
+    → AnswersAll UnitAnswers s x s' → IsTracePrefix t x → run_cut (serve a) (length x) t (reach_of s) ≡ reach_of s'
 served_cut a t s [] s' is h g = ap reach_of (sym h)
-served_cut a (Ends v) s (e ∷ x) s' is h g = absurd g
+served_cut a (Returns v) s (e ∷ x) s' is h g = absurd g
 served_cut {A} a (Asks q f) s (e ∷ x) s' is h g =
     ap (λ (p : Answer × Reach). run_cut (serve a) (length x) (f p.0) p.1) (one_served a s e q h.0 is g.0 h.1)
     ∙ served_cut a (f e.reply) h.0 x s' (still a s h.0 is h.1.0) h.2 g.2
 
 -- the moments of a program that it answered are those that pass
 pub served_passed : {A : Type 0} (a : Account) (t : Counted A) (s : UnitService) (x : List Passed) (s' : UnitService) → s.account.now ≡ a
-    → Answered UnitAnswers s (requests_in x) s' → counting.Begins t x → passed (serve a) (length x) t (reach_of s) ≡ x
+    → AnswersAll UnitAnswers s (requests_in x) s' → counting.IsTracePrefix t x → passed (serve a) (length x) t (reach_of s) ≡ x
 served_passed a t s [] s' is h g = refl
-served_passed a (Ends v) s (m ∷ x) s' is h g = absurd g
+served_passed a (Returns v) s (m ∷ x) s' is h g = absurd g
 served_passed a (Asks Beginning f) s (m ∷ x) s' is h g =
-    let rest : Answered UnitAnswers s (requests_in x) s' = subst (λ (z : Moment). Answered UnitAnswers s (with_request z m.reply (requests_in x)) s') g.0 h in
+    let rest : AnswersAll UnitAnswers s (requests_in x) s' = subst (λ (z : Moment). AnswersAll UnitAnswers s (with_request z m.reply (requests_in x)) s') g.0 h in
     let one : passing Beginning Done ≡ m = ap (λ (z : Moment). passing z Done) (sym g.0) ∙ ap (λ (r : Answer). passing m.asked r) (sym g.1) in
     let more : passed (serve a) (length x) (f Done) (reach_of s) ≡ x =
     ap (λ (r : Answer). passed (serve a) (length x) (f r) (reach_of s)) (sym g.1) ∙ served_passed a (f m.reply) s x s' is rest g.2 in
     ap (λ (l : List Passed). passing Beginning Done ∷ l) more ∙ ap (λ (z : Passed). z ∷ x) one
 served_passed a (Asks (Requesting q) f) s (m ∷ x) s' is h g =
-    let rest : Answered UnitAnswers s (with_request (Requesting q) m.reply (requests_in x)) s' =
-    subst (λ (z : Moment). Answered UnitAnswers s (with_request z m.reply (requests_in x)) s') g.0 h in
+    let rest : AnswersAll UnitAnswers s (with_request (Requesting q) m.reply (requests_in x)) s' =
+    subst (λ (z : Moment). AnswersAll UnitAnswers s (with_request z m.reply (requests_in x)) s') g.0 h in
     let e : Exchange = record { asked = q; reply = m.reply } in
     ap (λ (p : Answer × Reach). passing (Requesting q) p.0 ∷ passed (serve a) (length x) (f p.0) p.1) (one_served a s e q rest.0 is refl rest.1)
     ∙ ap (λ (l : List Passed). passing (Requesting q) m.reply ∷ l) (served_passed a (f m.reply) rest.0 x s' (still a s rest.0 is rest.1.0) rest.2 g.2)

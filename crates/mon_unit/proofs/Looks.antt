@@ -10,12 +10,12 @@ use Rattle.mon_catalogue.specs.Sets.{Sets, find_set}
 use Rattle.mon_catalogue.specs.Changes.{with_changed}
 use Rattle.mon_catalogue.specs.Writing.{Change, recorded}
 use Rattle.mon_catalogue.proofs.Changed.{other_sets_stay, named_set_changes, order_stays}
-use Rattle.sno_ask.specs.declared.request.Act.{Act}
-use Rattle.sno_ask.specs.declared.request.Act.TheVariants.{Read, Write, Endfile, Rewind}
-use Rattle.sno_ask.specs.declared.request.Request.{Request}
-use Rattle.mon_answer.specs.declared.answer.Answer.{Answer}
-use Rattle.sno_ask.specs.Asking.{Asking}
-use Rattle.mon_answer.specs.declared.answer.Answer.TheVariants.{Done, Got, EndOfFile, Denied, Full}
+use Rattle.interaction.specs.declared.request.Act.{Act}
+use Rattle.interaction.specs.declared.request.Act.TheVariants.{Read, Write, Endfile, Rewind}
+use Rattle.interaction.specs.declared.request.Request.{Request}
+use Rattle.interaction.specs.declared.answer.Answer.{Answer}
+use Rattle.interaction.specs.Asking.{Asking}
+use Rattle.interaction.specs.declared.answer.Answer.TheVariants.{Done, Got, EndOfFile, Denied, Full}
 use Rattle.mon_unit.specs.declared.tie.Target.{Target}
 use Rattle.mon_unit.specs.declared.tie.Target.TheVariants.{Untied, Data, Spool, Set}
 use Rattle.mon_unit.specs.declared.tie.Tie.{Tie}
@@ -132,7 +132,7 @@ targets_stay account reach q =
     note_stays q.statement (note_act q.act) (note_target (unit_of q.act) target) a.answer (moved (unit_of q.act) a.position spooled)
     ∙ move_stays (unit_of q.act) a.position spooled ∙ spool_stays q.act target reach.units
 
--- so a whole talk keeps to them
+-- so a whole interaction keeps to them
 module _ (account : Account) (reach : Reach) where
   here : KeepsToTies reach reach
   here = record { targets = refl; others = λ name h. refl; names = refl }

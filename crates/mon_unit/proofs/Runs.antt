@@ -1,26 +1,26 @@
--- What follows for a whole talk from what holds of each question and its reply.
+-- What follows for a whole interaction from what holds of each question and its reply.
 use Rattle.std.proofs.Common.{◌≡◌, ℕ, zero, suc, List, [], ◌∷◌, refl, ap, ◌∙◌, subst}
-use Rattle.sno_talk.specs.Talks.{Talk, Ends, Asks, ◌>>=◌}
-use Rattle.sno_talk.specs.Exchanges.{Exchange, Tells, Answered}
-use Rattle.sno_ask.specs.declared.request.Request.{Request}
-use Rattle.mon_answer.specs.declared.answer.Answer.{Answer}
-use Rattle.mon_answer.specs.declared.answer.Answer.TheVariants.{Done}
-use Rattle.sno_ask.specs.Fitting.{Fits}
-use Rattle.sno_ask.specs.Counting.{Moment, Beginning, Requesting, Counted, Passed, Begins}
+use Rattle.interaction.specs.Interactions.{Interaction, Returns, Asks, ◌>>=◌}
+use Rattle.interaction.specs.Exchanges.{Exchange, IsTrace, AnswersAll}
+use Rattle.interaction.specs.declared.request.Request.{Request}
+use Rattle.interaction.specs.declared.answer.Answer.{Answer}
+use Rattle.interaction.specs.declared.answer.Answer.TheVariants.{Done}
+use Rattle.interaction.specs.Fitting.{Fits}
+use Rattle.interaction.specs.Counting.{Moment, Beginning, Requesting, Counted, Passed, IsTracePrefix}
 use Rattle.mon_unit.specs.Runs.{run, run_cut, exchanges, passed}
 
--- one talk after the other
-pub run_bind : {S Q R A B : Type 0} (reply : S → Q → R × S) (t : Talk Q R A) (k : A → Talk Q R B) (s : S)
+-- one interaction after the other
+pub run_bind : {S Q R A B : Type 0} (reply : S → Q → R × S) (t : Interaction Q R A) (k : A → Interaction Q R B) (s : S)
     → run reply (t >>= k) s ≡ run reply (k (run reply t s).0) (run reply t s).1
-run_bind reply (Ends a) k s = refl
+run_bind reply (Returns a) k s = refl
 run_bind reply (Asks q f) k s = run_bind reply (f (reply s q).0) k (reply s q).1
 
 -- what was told and answered is the run, where the meaning is a function
 pub told_is_run : {S Q R A : Type 0} (meaning : S → Q → R → S → Type 0) (fits : Q → R → Type 0) (reply : S → Q → R × S)
     → ((s : S) (q : Q) (r : R) (m : S) → meaning s q r m → reply s q ≡ (r, m))
-    → (t : Talk Q R A) (s : S) (x : List (Exchange Q R)) (b : A) (s' : S) → Answered meaning s x s' → Tells fits t x b → run reply t s ≡ (b, s')
-told_is_run meaning fits reply is (Ends a) s [] b s' h g = cc (h, g)
-told_is_run meaning fits reply is (Ends a) s (e ∷ x) b s' h g = absurd g
+    → (t : Interaction Q R A) (s : S) (x : List (Exchange Q R)) (b : A) (s' : S) → AnswersAll meaning s x s' → IsTrace fits t x b → run reply t s ≡ (b, s')
+told_is_run meaning fits reply is (Returns a) s [] b s' h g = cc (h, g)
+told_is_run meaning fits reply is (Returns a) s (e ∷ x) b s' h g = absurd g
 told_is_run meaning fits reply is (Asks q f) s [] b s' h g = absurd g
 told_is_run {S} {Q} {R} {A} meaning fits reply is (Asks q f) s (e ∷ x) b s' h g =
     let one : reply s q ≡ (e.reply, h.0) = subst (λ (k : Q). reply s k ≡ (e.reply, h.0)) g.0 (is s e.asked e.reply h.0 h.1) in
@@ -28,32 +28,32 @@ told_is_run {S} {Q} {R} {A} meaning fits reply is (Asks q f) s (e ∷ x) b s' h 
     ap (λ (p : R × S). run reply (f p.0) p.1) one ∙ rest
 
 -- the run is told, and answered
-pub run_is_told : {S Q R A : Type 0} (reply : S → Q → R × S) (t : Talk Q R A) (s : S)
-    → Answered (λ (s : S) (q : Q) (r : R) (m : S). reply s q ≡ (r, m)) s (exchanges reply t s) (run reply t s).1
-    × Tells (λ (q : Q) (r : R). Unit {0}) t (exchanges reply t s) (run reply t s).0
-run_is_told reply (Ends a) s = (refl, refl)
+pub run_is_told : {S Q R A : Type 0} (reply : S → Q → R × S) (t : Interaction Q R A) (s : S)
+    → AnswersAll (λ (s : S) (q : Q) (r : R) (m : S). reply s q ≡ (r, m)) s (exchanges reply t s) (run reply t s).1
+    × IsTrace (λ (q : Q) (r : R). Unit {0}) t (exchanges reply t s) (run reply t s).0
+run_is_told reply (Returns a) s = (refl, refl)
 run_is_told reply (Asks q f) s =
     let rest = run_is_told reply (f (reply s q).0) (reply s q).1 in
     (((reply s q).1, refl, rest.0), (refl, tt, rest.1))
 
 -- what each reply keeps
 pub run_keeps : {S Q R A : Type 0} (reply : S → Q → R × S) (P : S → Type 0) → ((s : S) (q : Q) → P s → P (reply s q).1)
-    → (t : Talk Q R A) (s : S) → P s → P (run reply t s).1
-run_keeps reply P each (Ends a) s h = h
+    → (t : Interaction Q R A) (s : S) → P s → P (run reply t s).1
+run_keeps reply P each (Returns a) s h = h
 run_keeps reply P each (Asks q f) s h = run_keeps reply P each (f (reply s q).0) (reply s q).1 (each s q h)
 
 pub run_cut_keeps : {S Q R A : Type 0} (reply : S → Q → R × S) (P : S → Type 0) → ((s : S) (q : Q) → P s → P (reply s q).1)
-    → (k : ℕ) (t : Talk Q R A) (s : S) → P s → P (run_cut reply k t s)
+    → (k : ℕ) (t : Interaction Q R A) (s : S) → P s → P (run_cut reply k t s)
 run_cut_keeps reply P each zero t s h = h
-run_cut_keeps reply P each (suc k) (Ends a) s h = h
+run_cut_keeps reply P each (suc k) (Returns a) s h = h
 run_cut_keeps reply P each (suc k) (Asks q f) s h = run_cut_keeps reply P each k (f (reply s q).0) (reply s q).1 (each s q h)
 
 -- two that reply alike from states that agree, and agree again after each reply
 module _ {S T Q R : Type 0} (reply : S → Q → R × S) (reply' : T → Q → R × T) (agree : S → T → Type 0)
     (each : (s : S) (u : T) (q : Q) → agree s u → ((reply s q).0 ≡ (reply' u q).0) × agree (reply s q).1 (reply' u q).1) where
-  pub run_alike : {A : Type 0} (t : Talk Q R A) (s : S) (u : T) → agree s u
+  pub run_alike : {A : Type 0} (t : Interaction Q R A) (s : S) (u : T) → agree s u
       → ((run reply t s).0 ≡ (run reply' t u).0) × agree (run reply t s).1 (run reply' t u).1
-  run_alike (Ends a) s u h = (refl, h)
+  run_alike (Returns a) s u h = (refl, h)
   run_alike {A} (Asks q f) s u h =
       let one = each s u q h in
       let rest = run_alike (f (reply s q).0) (reply s q).1 (reply' u q).1 one.1 in
@@ -61,9 +61,9 @@ module _ {S T Q R : Type 0} (reply : S → Q → R × S) (reply' : T → Q → R
       × agree (run reply (f (reply s q).0) (reply s q).1).1 (run reply' (f r) (reply' u q).1).1) one.0 rest
 
   -- and so where both are broken off after as many replies
-  pub run_cut_alike : {A : Type 0} (k : ℕ) (t : Talk Q R A) (s : S) (u : T) → agree s u → agree (run_cut reply k t s) (run_cut reply' k t u)
+  pub run_cut_alike : {A : Type 0} (k : ℕ) (t : Interaction Q R A) (s : S) (u : T) → agree s u → agree (run_cut reply k t s) (run_cut reply' k t u)
   run_cut_alike zero t s u h = h
-  run_cut_alike (suc k) (Ends a) s u h = h
+  run_cut_alike (suc k) (Returns a) s u h = h
   run_cut_alike (suc k) (Asks q f) s u h =
       let one = each s u q h in
       subst (λ (r : R). agree (run_cut reply k (f (reply s q).0) (reply s q).1) (run_cut reply' k (f r) (reply' u q).1)) one.0
@@ -78,7 +78,7 @@ module _ {S T : Type 0} (reply : S → Request → Answer × S) (reply' : T → 
     (each : (s : S) (u : T) (q : Request) → agree s u → ((reply s q).0 ≡ (reply' u q).0) × agree (reply s q).1 (reply' u q).1) where
   pub passed_alike : {A : Type 0} (k : ℕ) (t : Counted A) (s : S) (u : T) → agree s u → passed reply k t s ≡ passed reply' k t u
   passed_alike zero t s u h = refl
-  passed_alike (suc k) (Ends a) s u h = refl
+  passed_alike (suc k) (Returns a) s u h = refl
   passed_alike (suc k) (Asks Beginning f) s u h = ap (λ (x : List Passed). passing Beginning Done ∷ x) (passed_alike k (f Done) s u h)
   passed_alike (suc k) (Asks (Requesting q) f) s u h =
       let one = each s u q h in
@@ -87,9 +87,9 @@ module _ {S T : Type 0} (reply : S → Request → Answer × S) (reply' : T → 
 
 -- the program begins with them, where each reply fits
 pub passed_begins : {S A : Type 0} (reply : S → Request → Answer × S) → ((s : S) (q : Request) → Fits q (reply s q).0)
-    → (k : ℕ) (t : Counted A) (s : S) → Begins t (passed reply k t s)
-passed_begins reply fit zero (Ends a) s = tt
+    → (k : ℕ) (t : Counted A) (s : S) → IsTracePrefix t (passed reply k t s)
+passed_begins reply fit zero (Returns a) s = tt
 passed_begins reply fit zero (Asks q f) s = tt
-passed_begins reply fit (suc k) (Ends a) s = tt
+passed_begins reply fit (suc k) (Returns a) s = tt
 passed_begins reply fit (suc k) (Asks Beginning f) s = (refl, refl, passed_begins reply fit k (f Done) s)
 passed_begins reply fit (suc k) (Asks (Requesting q) f) s = (refl, fit s q, passed_begins reply fit k (f (reply s q).0) (reply s q).1)

@@ -1,7 +1,7 @@
 -- How the service answers that is lent the data sets and the units (own).
 use Rattle.std.specs.Prelude.{◌≡◌}
-use Rattle.sno_ask.specs.declared.request.Request.{Request}
-use Rattle.mon_answer.specs.declared.answer.Answer.{Answer}
+use Rattle.interaction.specs.declared.request.Request.{Request}
+use Rattle.interaction.specs.declared.answer.Answer.{Answer}
 use Rattle.mon_unit.specs.declared.service.UnitService.{UnitService}
 use Rattle.mon_unit.specs.Serving.{Reach, serve}
 

@@ -1,11 +1,11 @@
 -- Which requests may take memory (own): a record that is handed out or stored is copied, and what is not done is noted.
 use Rattle.std.specs.Prelude.{Bool, true, false, IsTrue}
 use Rattle.mon_access.specs.declared.account.Account.{Account}
-use Rattle.sno_ask.specs.declared.request.Act.{Act}
-use Rattle.sno_ask.specs.declared.request.Act.TheVariants.{Read, Write, Endfile, Rewind}
-use Rattle.sno_ask.specs.declared.request.Request.{Request}
-use Rattle.mon_answer.specs.declared.answer.Answer.{Answer}
-use Rattle.mon_answer.specs.declared.answer.Answer.TheVariants.{Done, Got, EndOfFile, Denied, Full}
+use Rattle.interaction.specs.declared.request.Act.{Act}
+use Rattle.interaction.specs.declared.request.Act.TheVariants.{Read, Write, Endfile, Rewind}
+use Rattle.interaction.specs.declared.request.Request.{Request}
+use Rattle.interaction.specs.declared.answer.Answer.{Answer}
+use Rattle.interaction.specs.declared.answer.Answer.TheVariants.{Done, Got, EndOfFile, Denied, Full}
 use Rattle.mon_unit.specs.Serving.{Reach, serve}
 
 -- the end of file takes none, and neither does what is done but for a write

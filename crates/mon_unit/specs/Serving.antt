@@ -4,14 +4,14 @@ use Rattle.mon_access.specs.declared.account.Account.{Account}
 use Rattle.mon_catalogue.specs.declared.data_set.DataSet.{DataSet}
 use Rattle.mon_catalogue.specs.Sets.{Sets, find_set}
 use Rattle.mon_catalogue.specs.Writing.{Change}
-use Rattle.mon_answer.specs.declared.answer.Reason.TheVariants.{NoUnit, InStream, SpoolUnit}
-use Rattle.mon_answer.specs.declared.answer.Answer.{Answer}
-use Rattle.mon_answer.specs.declared.answer.Answer.TheVariants.{Done, Got, EndOfFile, Denied, Full}
+use Rattle.interaction.specs.declared.answer.Reason.TheVariants.{NoUnit, InStream, SpoolUnit}
+use Rattle.interaction.specs.declared.answer.Answer.{Answer}
+use Rattle.interaction.specs.declared.answer.Answer.TheVariants.{Done, Got, EndOfFile, Denied, Full}
 use Rattle.mon_guard.specs.Acting as acting
 use Rattle.mon_guard.specs.Acting.{Acted, only_answered, read_at, acted_on, changed}
-use Rattle.sno_ask.specs.declared.request.Act.{Act}
-use Rattle.sno_ask.specs.declared.request.Act.TheVariants.{Read, Write, Endfile, Rewind}
-use Rattle.sno_ask.specs.declared.request.Request.{Request}
+use Rattle.interaction.specs.declared.request.Act.{Act}
+use Rattle.interaction.specs.declared.request.Act.TheVariants.{Read, Write, Endfile, Rewind}
+use Rattle.interaction.specs.declared.request.Request.{Request}
 use Rattle.mon_unit.specs.declared.tie.Target.{Target}
 use Rattle.mon_unit.specs.declared.tie.Target.TheVariants.{Untied, Data, Spool, Set}
 use Rattle.mon_unit.specs.declared.tie.Tie.{Tie}

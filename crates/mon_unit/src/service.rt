@@ -1,7 +1,7 @@
 //! The service that answers a program's requests from units and data sets.
 ghost use Rattle.std.specs.Prelude.{◌≡◌, ◌≤◌, length, take, slice_get, IfOk, OnOk, OnErr, IsSome};
 ghost use Rattle.mon_guard.specs.Acting.{read_at};
-ghost use Rattle.mon_guard.specs.Rows.{RowsFit};
+ghost use Rattle.mon_guard.specs.Cache.{CacheFits};
 ghost use Rattle.mon_unit.specs.Serving.{serve, moved};
 ghost use Rattle.mon_unit.specs.Memory.{MayGrow};
 ghost use Rattle.mon_unit.specs.inner.Settling.{reach, asked, settled, target_of, IsNoted};
@@ -10,11 +10,10 @@ use crate::note::NoteAct;
 use crate::tie::Target;
 use crate::units::Units;
 use mon_access::Account;
-use mon_answer::Reason;
 use mon_catalogue::{Catalogue, MOST_RECORD_CHARACTERS};
 use mon_guard::{Answered, Guard};
 use mon_text::Line;
-use sno_ask::{Act, Answer, Request, Service};
+use interaction::{Act, Answer, Reason, Request, Service};
 use std::alloc::{AllocError, Global};
 
 /// Answers an account's requests from the data sets and the units that it is lent.
@@ -38,21 +37,21 @@ struct Origin {
 }
 
 impl Service for UnitService<'_> {
-    ghost use Rattle.sno_ask.specs.Fitting.{Fits, IsShort};
+    ghost use Rattle.interaction.specs.Fitting.{Fits, IsShort};
     ghost use Rattle.mon_unit.specs.Lent.{UnitAnswers, reach_of};
-    ghost use Rattle.mon_guard.specs.Rows.{RowsFit};
+    ghost use Rattle.mon_guard.specs.Cache.{CacheFits};
 
-    ghost ready = { λ s. RowsFit s.guard.now s.catalogue.now };
+    ghost ready = { λ s. CacheFits s.guard.now s.catalogue.now };
 
     ghost answers = { UnitAnswers };
 
     fn ask(&mut self, request: &Request) -> Result<Answer, AllocError>
-        requires ready { RowsFit self.old.guard.now self.old.catalogue.now }
+        requires ready { CacheFits self.old.guard.now self.old.catalogue.now }
         requires short { IsShort request.now.act }
         ensures answered { IfOk result (λ answer. UnitAnswers self.old request.now answer self.new) }
         ensures fits { IfOk result (λ answer. Fits request.now answer) }
         ensures unchanged { OnErr result (self.new ≡ self.old) }
-        ensures ready { RowsFit self.new.guard.now self.new.catalogue.now }
+        ensures ready { CacheFits self.new.guard.now self.new.catalogue.now }
         ensures memory { OnErr result (MayGrow self.old.account.now (reach_of self.old) request.now) }
     {
         let statement = request.statement;
@@ -105,12 +104,12 @@ impl Service for UnitService<'_> {
     }
 
     fn ask_once(&mut self, request: Request) -> Result<Answer, AllocError>
-        requires ready { RowsFit self.old.guard.now self.old.catalogue.now }
+        requires ready { CacheFits self.old.guard.now self.old.catalogue.now }
         requires short { IsShort request.act }
         ensures answered { IfOk result (λ answer. UnitAnswers self.old request answer self.new) }
         ensures fits { IfOk result (λ answer. Fits request answer) }
         ensures unchanged { OnErr result (self.new ≡ self.old) }
-        ensures ready { RowsFit self.new.guard.now self.new.catalogue.now }
+        ensures ready { CacheFits self.new.guard.now self.new.catalogue.now }
         ensures memory { OnErr result (MayGrow self.old.account.now (reach_of self.old) request) }
     {
         let Request { statement, act } = request;
@@ -136,11 +135,11 @@ fn read(
     units: &mut Units,
     origin: Origin,
 ) -> Result<Answer, AllocError>
-    requires fit { RowsFit guard.old catalogue.now }
+    requires fit { CacheFits guard.old catalogue.now }
     ensures served { IfOk result (λ answer. serve account.now (reach catalogue.now units.old) (asked origin.statement (Act.Read origin.unit)) ≡ (answer, reach catalogue.now units.new)) }
     ensures unchanged { OnErr result (units.new ≡ units.old) }
     ensures guard { OnErr result (guard.new ≡ guard.old) }
-    ensures fit { RowsFit guard.new catalogue.now }
+    ensures fit { CacheFits guard.new catalogue.now }
     ensures memory { OnErr result (MayGrow account.now (reach catalogue.now units.old) (asked origin.statement (Act.Read origin.unit))) }
 {
     let Origin { statement, unit } = origin;
@@ -174,12 +173,12 @@ fn write(
     line: Line,
 ) -> Result<Answer, AllocError>
     requires short { length line ≤ MOST_RECORD_CHARACTERS }
-    requires fit { RowsFit guard.old catalogue.old }
+    requires fit { CacheFits guard.old catalogue.old }
     ensures served { IfOk result (λ answer. serve account.now (reach catalogue.old units.old) (asked origin.statement (Act.Write origin.unit line)) ≡ (answer, reach catalogue.new units.new)) }
     ensures sets { OnErr result (catalogue.new ≡ catalogue.old) }
     ensures unchanged { OnErr result (units.new ≡ units.old) }
     ensures guard { OnErr result (guard.new ≡ guard.old) }
-    ensures fit { RowsFit guard.new catalogue.new }
+    ensures fit { CacheFits guard.new catalogue.new }
     ensures memory { OnErr result (MayGrow account.now (reach catalogue.old units.old) (asked origin.statement (Act.Write origin.unit line))) }
 {
     let Origin { statement, unit } = origin;
@@ -206,12 +205,12 @@ fn end(
     units: &mut Units,
     origin: Origin,
 ) -> Result<Answer, AllocError>
-    requires fit { RowsFit guard.old catalogue.old }
+    requires fit { CacheFits guard.old catalogue.old }
     ensures served { IfOk result (λ answer. serve account.now (reach catalogue.old units.old) (asked origin.statement (Act.Endfile origin.unit)) ≡ (answer, reach catalogue.new units.new)) }
     ensures sets { OnErr result (catalogue.new ≡ catalogue.old) }
     ensures unchanged { OnErr result (units.new ≡ units.old) }
     ensures guard { OnErr result (guard.new ≡ guard.old) }
-    ensures fit { RowsFit guard.new catalogue.new }
+    ensures fit { CacheFits guard.new catalogue.new }
     ensures memory { OnErr result (MayGrow account.now (reach catalogue.old units.old) (asked origin.statement (Act.Endfile origin.unit))) }
 {
     let Origin { statement, unit } = origin;

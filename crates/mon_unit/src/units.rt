@@ -8,13 +8,12 @@ ghost use Rattle.mon_unit.specs.Serving.{noted, with_note};
 ghost use Rattle.mon_unit.specs.inner.Settling.{placed, settled, target_of, IsNoted};
 
 use crate::lists::Notes;
-use mon_text::Lines;
 use crate::note::{Note, NoteAct, NoteTarget, Why};
 use crate::tie::{Target, Tie};
-use mon_answer::{Answer, Reason};
+use mon_catalogue::PackedLines;
 use mon_guard::Answered;
-use mon_lines::PackedLines;
-use mon_text::{Line, Name};
+use mon_text::{Line, Lines, Name};
+use interaction::{Answer, Reason};
 use std::alloc::{AllocError, Global};
 use std::marker::Model;
 use thiserror::Error;

@@ -2,12 +2,12 @@
 use Rattle.std.proofs.Common.{◌≡◌, ℕ, zero, suc, ◌<◌, length, drop, arith, OnOk, Result, Ok, Err, List, [], ◌∷◌, ◌++◌, refl, sym, ap, ◌∙◌, append_assoc}
 use Rattle.std.specs.Prelude.{codes}
 use Rattle.std.proofs.lemmas.List.{append-nil}
-use Rattle.sno_tree.specs.declared.tree.Pending.{Pending}
-use Rattle.sno_tree.specs.declared.tree.Operands.{Operands, out-Operands}
-use Rattle.sno_tree.specs.Expressions.{Expression}
-use Rattle.sno_tree.specs.Told.{expression_of}
-use Rattle.sno_tree.specs.inner.Runs.{right_of, spread_all}
-use Rattle.sno_tree.proofs.Runs.{right_is}
+use Rattle.sno_expression.specs.declared.tree.Pending.{Pending}
+use Rattle.sno_expression.specs.declared.tree.Operands.{Operands, out-Operands}
+use Rattle.sno_expression.specs.Expressions.{Expression}
+use Rattle.sno_expression.specs.Abstraction.{expression_of}
+use Rattle.sno_expression.specs.inner.Runs.{right_of, spread_all}
+use Rattle.sno_expression.proofs.Runs.{right_is}
 use Rattle.programs.specs.inner.Trees.{expression_text}
 use Rattle.programs.specs.inner.Runs.{left_text, lefts_text, ends_text}
 

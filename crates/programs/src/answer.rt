@@ -1,7 +1,7 @@
 //! What is shown of a program that was read or refused.
 ghost use Rattle.std.specs.Prelude.{◌≡◌, ◌+◌, ◌<◌, ◌≤◌, ◌^◌, ◌++◌, codes, option_map, OnOk};
 ghost use Rattle.std.specs.Option.{option_copied};
-ghost use Rattle.sno_statement.specs.Told.{statement_of};
+ghost use Rattle.sno_statement.specs.Abstraction.{statement_of};
 ghost use Rattle.programs.specs.inner.Statements.{statement_text};
 ghost use Rattle.programs.specs.inner.Answers.{own_label, passed, statements_from, verdict_text, program_answer, statement_answer, statements_text, start_text, stop_text, refusal_text};
 

@@ -1,15 +1,15 @@
 //! Expressions as text: each with its operands behind it, in parentheses.
 ghost use Rattle.std.specs.Prelude.{◌≡◌, ◌++◌, codes, OnOk};
-ghost use Rattle.sno_tree.specs.declared.tree.UnaryOperator.TheVariants.{Indirect};
-ghost use Rattle.sno_tree.specs.Expressions.{Unary};
-ghost use Rattle.sno_tree.specs.Told.{expression_of, arguments_of};
-ghost use Rattle.sno_tree.specs.inner.Runs.{right_of};
+ghost use Rattle.sno_expression.specs.declared.tree.UnaryOperator.TheVariants.{Indirect};
+ghost use Rattle.sno_expression.specs.Expressions.{Unary};
+ghost use Rattle.sno_expression.specs.Abstraction.{expression_of, arguments_of};
+ghost use Rattle.sno_expression.specs.inner.Runs.{right_of};
 ghost use Rattle.programs.specs.inner.Trees.{expression_text, arguments_text, unary_text, operator_text};
 ghost use Rattle.programs.specs.inner.Runs.{left_text, lefts_text, ends_text};
 
 use itoa::Buffer;
-use sno_token::Characters;
-use sno_tree::{Arguments, BinaryOperator, Expression, Operands, Pending, UnaryOperator};
+use sno_expression::{Arguments, BinaryOperator, Expression, Operands, Pending, UnaryOperator};
+use sno_lexer::Characters;
 use std::alloc::AllocError;
 
 /// Appends a text.
@@ -21,7 +21,7 @@ pub fn put(text: &[u8], out: &mut Vec<u8>) -> Result<(), AllocError>
 
 /// Appends an expression.
 #[cycle(printing)]
-#[tactic(auto, using(sno_tree::proofs::Runs::binary_is, sno_tree::proofs::Runs::left_is))]
+#[tactic(auto, using(sno_expression::proofs::Runs::binary_is, sno_expression::proofs::Runs::left_is))]
 pub fn put_expression(expression: &Expression, out: &mut Vec<u8>) -> Result<(), AllocError>
     ensures { OnOk result (out.new.items ≡ out.old.items ++ expression_text (expression_of expression.now)) }
 {

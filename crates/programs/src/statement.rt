@@ -1,13 +1,13 @@
 //! Statements as text.
 ghost use Rattle.std.specs.Prelude.{◌≡◌, ◌++◌, OnOk};
 ghost use Rattle.std.specs.Option.{option_copied};
-ghost use Rattle.sno_tree.specs.Told.{expressions_of};
-ghost use Rattle.sno_statement.specs.Told.{statement_of, body_of, object_of, goto_of, target_of};
+ghost use Rattle.sno_expression.specs.Abstraction.{expressions_of};
+ghost use Rattle.sno_statement.specs.Abstraction.{statement_of, body_of, object_of, goto_of, target_of};
 ghost use Rattle.programs.specs.inner.Statements.{statement_text, body_text, pattern_text, object_text, goto_text, target_text};
 
 use crate::expression::{put, put_expression, put_indirect};
+use sno_expression::Expression;
 use sno_statement::{Body, Goto, Object, Statement, Target};
-use sno_tree::Expression;
 use std::alloc::AllocError;
 
 /// What stands for a part that a statement has not.

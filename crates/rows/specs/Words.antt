@@ -1,6 +1,6 @@
 -- The words that a worked deck is run with (own).
 use Rattle.std.specs.Prelude.{ℕ, ◌+◌, Bool, List, [], ◌∷◌, ◌++◌, codes, if◌then◌else◌}
-use Rattle.mon_feed.specs.declared.options.Slots.{Slots}
+use Rattle.deck_driver.specs.declared.options.Slots.{Slots}
 
 -- `--check` on a line of its own where the deck is only read, and else nothing
 abbrev pub words_for : Bool → List ℕ

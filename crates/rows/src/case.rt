@@ -5,7 +5,7 @@ ghost use Rattle.rows.specs.Words.{words_for, slots_words};
 use crate::cuts::first_bad_cut;
 use crate::difference::first_difference;
 use anyhow::{Context, Result};
-use mon_deck::{Devices, MemReader, MemWriter, Options, Slots, exit_status, put_fault, run_deck};
+use deck_run::{Devices, MemReader, MemWriter, Options, Slots, exit_status, put_fault, run_deck};
 use std::alloc::{AllocError, Global};
 use std::fs;
 use std::rt::Files;

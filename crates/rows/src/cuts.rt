@@ -1,9 +1,7 @@
 //! A deck that is cut anywhere, or whose reader fails there: what the whole lines before that print is out, and no more.
 ghost use Rattle.std.specs.Prelude.{◌≡◌, ◌<◌, false};
 
-use mon_deck::{
-    Code, Counts, DeckFeed, Devices, MemReader, MemWriter, Options, RunError, run_deck,
-};
+use deck_run::{Counts, DeckError, DeckFeed, Devices, MemReader, MemWriter, Options, RunError, run_deck};
 use mon_device::TextSink;
 use mon_monitor::Printed;
 use std::alloc::{AllocError, Global};
@@ -170,7 +168,7 @@ fn is_same(a: &Run, b: &Run) -> bool {
 
 // Whether a deck was cut off behind so many lines.
 fn is_cut_behind(run: &Run, lines: u64) -> bool {
-    matches!(run.outcome, Err(RunError::DeckRefused(line, Code::Truncated)) if line == lines.saturating_add(1))
+    matches!(run.outcome, Err(RunError::DeckRefused(line, DeckError::Truncated)) if line == lines.saturating_add(1))
 }
 
 // Whole lines from the front of a deck: they are all that counts in it, or it goes on behind them, and what they print is

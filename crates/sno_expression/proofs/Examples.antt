@@ -1,14 +1,14 @@
 -- Examples, by computing.
 use Rattle.std.proofs.Common.{◌≡◌, ℕ, List, [], ◌∷◌, refl}
 use Rattle.std.specs.Prelude.{true, false, Some, None}
-use Rattle.sno_token.specs.declared.Mark.TheVariants as mark
-use Rattle.sno_token.specs.declared.Part.TheVariants.{Equals}
-use Rattle.sno_token.specs.declared.TokenKind.TheVariants as token
-use Rattle.sno_tree.specs.declared.tree.BinaryOperator.TheVariants as operator
-use Rattle.sno_tree.specs.declared.tree.UnaryOperator.TheVariants as unary
-use Rattle.sno_tree.specs.Expressions.{Identifier, Keyword, Unevaluated, Group, Call, Unary, Binary, NoArguments, Omitted, Argument}
-use Rattle.sno_tree.specs.Lacking.{lacking}
-use Rattle.sno_tree.specs.Spelling.{spaced}
+use Rattle.sno_lexer.specs.declared.token.Mark.TheVariants as mark
+use Rattle.sno_lexer.specs.declared.token.Part.TheVariants.{Equals}
+use Rattle.sno_lexer.specs.declared.token.TokenKind.TheVariants as token
+use Rattle.sno_expression.specs.declared.tree.BinaryOperator.TheVariants as operator
+use Rattle.sno_expression.specs.declared.tree.UnaryOperator.TheVariants as unary
+use Rattle.sno_expression.specs.Expressions.{Identifier, Keyword, Unevaluated, Group, Call, Unary, Binary, NoArguments, Omitted, Argument}
+use Rattle.sno_expression.specs.Lacking.{lacking}
+use Rattle.sno_expression.specs.Spelling.{spaced}
 use Rattle.sno_expression.specs.inner.Reading.{reading, Read}
 
 abbrev A : List ℕ

@@ -1,9 +1,9 @@
 -- The laws of the grammar.
 use Rattle.std.proofs.Common.{◌≡◌, List, [], ◌∷◌, refl, sym, ap, ◌∙◌}
 use Rattle.std.specs.Prelude.{Bool, true, false, Option, Some, None}
-use Rattle.sno_token.specs.declared.Token.{Token}
-use Rattle.sno_tree.specs.Expressions.{Expression, HasLevels}
-use Rattle.sno_tree.specs.Spelling.{Spells}
+use Rattle.sno_lexer.specs.declared.token.Token.{Token}
+use Rattle.sno_expression.specs.Expressions.{Expression, HasLevels}
+use Rattle.sno_expression.specs.Spelling.{Spells}
 use Rattle.sno_expression.specs.inner.Walks.{Walk, take}
 use Rattle.sno_expression.specs.inner.Reading.{State, read, result, Reading, Read, and_then, answer, start, reading, walk}
 use Rattle.sno_expression.specs.Laws.{OneExpression}

@@ -7,3 +7,5 @@ pub mod Spines
 pub mod Grammar
 pub mod Loop
 mod Examples
+pub mod Tested
+pub mod Runs

@@ -1,8 +1,8 @@
 -- The loop over the tokens, one step and the ends.
 use Rattle.std.proofs.Common.{◌≡◌, ℕ, suc, ◌+◌, ◌<◌, length, List, [], ◌∷◌, drop, get_or, refl, sym, ap, ◌∙◌, add-one, drop-cons}
 use Rattle.std.specs.Prelude.{Bool, Option, Some, None}
-use Rattle.sno_token.specs.declared.Token.{Token}
-use Rattle.sno_tree.specs.Expressions.{Expression}
+use Rattle.sno_lexer.specs.declared.token.Token.{Token}
+use Rattle.sno_expression.specs.Expressions.{Expression}
 use Rattle.sno_expression.specs.inner.Reading.{State, read, result, Reading, Read, and_then, answer}
 use Rattle.sno_expression.specs.inner.Told.{Next, End, stepped}
 

@@ -1,8 +1,8 @@
 -- What holds of trees and tokens.
 use Rattle.std.specs.Prelude.{◌≡◌, List}
-use Rattle.sno_token.specs.declared.Token.{Token}
-use Rattle.sno_tree.specs.Expressions.{Expression, HasLevels}
-use Rattle.sno_tree.specs.Spelling.{Spells}
+use Rattle.sno_lexer.specs.declared.token.Token.{Token}
+use Rattle.sno_expression.specs.Expressions.{Expression, HasLevels}
+use Rattle.sno_expression.specs.Spelling.{Spells}
 
 -- tokens spell at most one tree
 abbrev pub OneExpression : Type 0

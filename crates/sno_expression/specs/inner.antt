@@ -4,3 +4,6 @@ pub mod Reading
 pub mod Spines
 pub mod Told
 pub mod Laws
+pub mod Variables
+pub mod Runs
+pub mod Levels

@@ -1,11 +1,11 @@
 //! Trees that grow while they are read.
 ghost use Rattle.std.specs.Prelude.{◌≡◌, IfOk};
-ghost use Rattle.sno_tree.specs.Expressions as expressions;
-ghost use Rattle.sno_tree.specs.Told.{expression_of, arguments_of};
+ghost use Rattle.sno_expression.specs.Expressions as expressions;
+ghost use Rattle.sno_expression.specs.Abstraction.{expression_of, arguments_of};
 ghost use Rattle.sno_expression.specs.inner.Reading.{with_prefix};
 
-use sno_token::{Characters, Constant};
-use sno_tree::{Arguments, BinaryOperator, Expression, IdentifierPrefix, Operands};
+use crate::tree::{Arguments, BinaryOperator, Expression, IdentifierPrefix, Operands};
+use sno_lexer::{Characters, Constant};
 use std::alloc::{AllocError, Global};
 
 // Two operands under their operator.

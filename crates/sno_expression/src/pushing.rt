@@ -1,16 +1,16 @@
 //! One more operand on an open spine: each operator is opened and closed once, whatever the depth.
 
 ghost use Rattle.std.specs.Prelude.{◌≡◌, true, IfOk};
-ghost use Rattle.sno_tree.specs.inner.Levels.{FitsLeft};
+ghost use Rattle.sno_expression.specs.inner.Levels.{FitsLeft};
 ghost use Rattle.sno_expression.specs.inner.Reading.{push};
 ghost use Rattle.sno_expression.specs.inner.Spines.{is_element, is_ordered, is_under_all};
-ghost use Rattle.sno_tree.specs.Told.{expression_of};
-ghost use Rattle.sno_tree.specs.inner.Runs.{spread_all};
+ghost use Rattle.sno_expression.specs.Abstraction.{expression_of};
+ghost use Rattle.sno_expression.specs.inner.Runs.{spread_all};
 ghost use Rattle.sno_expression.specs.inner.Told.{spine_tree};
 
 use crate::growing::join;
 use crate::spine::Spine;
-use sno_tree::{BinaryOperator, Expression, Operands, Pending, binds_into_right};
+use crate::tree::{BinaryOperator, Expression, Operands, Pending, binds_into_right};
 use std::alloc::{AllocError, Global};
 
 // One more operator, the innermost, with its operands.

@@ -3,7 +3,7 @@
 ghost use Rattle.std.specs.Prelude.{◌≡◌, true};
 ghost use Rattle.sno_expression.specs.inner.Spines.{is_element, is_ordered};
 
-use sno_tree::{Expression, Pending};
+use crate::tree::{Expression, Pending};
 
 /// A tree by its right spine.
 #[derive(Drop)]

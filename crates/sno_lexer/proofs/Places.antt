@@ -2,7 +2,7 @@
 use Rattle.std.proofs.Common.{arith, ◌≡◌, ℕ, ◌+◌, ◌≤◌, ◌<◌, List, [], ◌∷◌, length, drop, length-drop, sym, subst}
 use Rattle.std.specs.Prelude.{Result, Ok, Err}
 use Rattle.std.proofs.lemmas.List.Elements.{All-nil, All-cons}
-use Rattle.sno_token.specs.declared.Token.{Token}
+use Rattle.sno_lexer.specs.declared.token.Token.{Token}
 use Rattle.sno_lexer.specs.declared.begin.Context.{Context}
 use Rattle.sno_lexer.specs.declared.lexing.Action.{Action}
 use Rattle.sno_lexer.specs.declared.lexing.Action.TheVariants.{Pass, Take, Refuse}

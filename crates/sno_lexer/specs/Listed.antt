@@ -1,7 +1,7 @@
 -- The tokens of a text, and the index of each one's first character (own).
 use Rattle.std.specs.Prelude.{ℕ, ◌<◌, List, Result, Ok, Err}
 use Rattle.std.specs.List.{All}
-use Rattle.sno_token.specs.declared.Token.{Token}
+use Rattle.sno_lexer.specs.declared.token.Token.{Token}
 use Rattle.sno_lexer.specs.declared.fault.LexFault.{LexFault}
 
 pub record TokenList : Type 0 where

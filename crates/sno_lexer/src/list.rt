@@ -1,7 +1,7 @@
 //! Tokens with their offsets.
 ghost use Rattle.std.specs.Prelude.{◌≡◌, length};
 
-use sno_token::Token;
+use crate::token::Token;
 use std::marker::Model;
 
 /// The tokens of a text, and for each the index of its first character. Their names are those of the text.

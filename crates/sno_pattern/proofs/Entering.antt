@@ -1,13 +1,13 @@
 -- Patterns met without goals of their own in memory.
 use Rattle.std.proofs.Common.{◌≡◌, ◌≢◌, ℕ, zero, suc, ◌-◌, ◌<◌, ◌≤◌, List, ◌∷◌, length, refl, sym, ap, ◌∙◌, arith}
-use Rattle.sno_nodes.specs.Patterns.{Pattern}
-use Rattle.sno_nodes.specs.Patterns as pattern
-use Rattle.sno_nodes.specs.declared.reach.Reach.TheVariants.{Here, Nowhere}
+use Rattle.sno_text.specs.Patterns.{Pattern}
+use Rattle.sno_text.specs.Patterns as pattern
+use Rattle.sno_text.specs.declared.reach.Reach.TheVariants.{Here, Nowhere}
 use Rattle.sno_pattern.specs.declared.ending.Pending.{Pending}
 use Rattle.sno_pattern.specs.declared.trail.Waiting.{Waiting}
-use Rattle.sno_pattern.specs.declared.choices.Turn.TheVariants.{Stay}
-use Rattle.sno_pattern.specs.declared.choices.Ended.TheVariants as ended
-use Rattle.sno_nodes.specs.inner.Reaching.{reached}
+use Rattle.sno_pattern.specs.declared.choice_points.Turn.TheVariants.{Stay}
+use Rattle.sno_pattern.specs.declared.choice_points.Ended.TheVariants as ended
+use Rattle.sno_text.specs.inner.Reaching.{reached}
 use Rattle.sno_pattern.specs.Steps.{Goal, Meet, EndConditional, EndImmediate, OutOfSteps, Trying, on_failure, row, outcome}
 use Rattle.sno_pattern.specs.inner.Stack.{Choice, Ahead, Second, waiting_of, resume, AllWithin, Entering, Led}
 use Rattle.sno_pattern.proofs.Table.{takes_off, no_step_left}

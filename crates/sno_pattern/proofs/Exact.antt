@@ -2,13 +2,13 @@
 use Rattle.std.specs.Prelude.{◌≡◌, ◌⊎◌, ℕ, zero, suc, ◌+◌, ◌-◌, ◌≤◌, List, [], ◌∷◌, ◌++◌, length, drop, Bool, true, false, not, ◌&&◌, if◌then◌else◌, nat_eq, nat_le, nat_lt}
 use Rattle.std.proofs.Common.{refl, sym, ap, subst, inl, inr, arith}
 use Rattle.std.specs.List.{starts_with, prefix_len, position_or_len, range_with_len}
-use Rattle.sno_talk.specs.Talks.{Ends, Asks}
-use Rattle.sno_nodes.specs.Patterns.{Pattern}
-use Rattle.sno_nodes.specs.Patterns as pattern
+use Rattle.interaction.specs.Interactions.{Returns, Asks}
+use Rattle.sno_text.specs.Patterns.{Pattern}
+use Rattle.sno_text.specs.Patterns as pattern
 use Rattle.sno_pattern.specs.declared.ending.Pending.{Pending}
 use Rattle.sno_pattern.specs.Looks.{Told, Found, Given, Refused, Faulty}
-use Rattle.sno_nodes.specs.Sets.{is_one_of}
-use Rattle.sno_nodes.specs.Balance.{part, balanced_ends}
+use Rattle.sno_text.specs.Sets.{is_one_of}
+use Rattle.sno_text.specs.Balance.{part, balanced_ends}
 use Rattle.sno_pattern.specs.Steps.{Goal, Meet, More, EndConditional, EndImmediate, End, Success, Failure, WholeFails, OutOfSteps, Fault, Trying, Way, ends, after_end, on_failure, at_each, pattern_found, with_found, if_given, row, attempt, outcome}
 use Rattle.sno_pattern.proofs.Trying.{LeavesAtMost, Falls, leaves_more, fails_falls}
 use Rattle.sno_pattern.proofs.Table.{row_falls, attempt_falls}
@@ -16,7 +16,7 @@ use Rattle.mon_text.specs.Beginnings.{first_passes}
 
 -- t' is t with j + 1 steps more
 abbrev pub Longer : ℕ → Trying → Trying → Type 0
-Longer j (Ends o) t' = ((o.end ≡ OutOfSteps) × LeavesAtMost j t') ⊎ (t' ≡ Ends (record { end = o.end; left = o.left + suc j }))
+Longer j (Returns o) t' = ((o.end ≡ OutOfSteps) × LeavesAtMost j t') ⊎ (t' ≡ Returns (record { end = o.end; left = o.left + suc j }))
 Longer j (Asks q f) t' = (f' : Told → Trying) × (t' ≡ Asks q f') × ((r : Told) → Longer j (f r) (f' r))
 
 pub as_long : (j : ℕ) (e : End) (n : ℕ) → Longer j (ends e n) (ends e (n + suc j))
@@ -32,9 +32,9 @@ module _ (j n : ℕ) (second second' : ℕ → Trying) (longer : (m : ℕ) → m
   after_longer (Fault f) m l = inr refl
 
   pub fails_longer : (t t' : Trying) → LeavesAtMost n t → Longer j t t' → Longer j (on_failure t second) (on_failure t' second')
-  fails_longer (Ends o) t' l (inl h) =
+  fails_longer (Returns o) t' l (inl h) =
       subst (λ (e : End). Longer j (after_end e o.left second) (on_failure t' second')) (sym h.0) (inl (refl, fails_falls t' j second' h.1 falls))
-  fails_longer (Ends o) t' l (inr h) =
+  fails_longer (Returns o) t' l (inr h) =
       subst (λ (z : Trying). Longer j (after_end o.end o.left second) (on_failure z second')) (sym h) (after_longer o.end o.left l)
   fails_longer (Asks q f) t' l h =
       ((λ r. on_failure (h.0 r) second'), ap (λ z. on_failure z second') h.1, (λ r. fails_longer (f r) (h.0 r) (l r) (h.2 r)))

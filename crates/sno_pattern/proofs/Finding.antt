@@ -6,12 +6,12 @@ use Rattle.std.proofs.lemmas.Grind.{flat_map-append}
 use Rattle.std.proofs.lemmas.List.{append-nil}
 use Rattle.std.proofs.lemmas.Bool.Decides.{nat_tests}
 use lib.Pointwise.{pointwise_long}
-use Rattle.sno_talk.specs.Talks.{Ends, Asks}
-use Rattle.sno_nodes.specs.Patterns.{Pattern}
-use Rattle.sno_nodes.specs.Patterns as pattern
+use Rattle.interaction.specs.Interactions.{Returns, Asks}
+use Rattle.sno_text.specs.Patterns.{Pattern}
+use Rattle.sno_text.specs.Patterns as pattern
 use Rattle.sno_pattern.specs.declared.ending.Pending.{Pending}
-use Rattle.sno_nodes.specs.Sets.{is_one_of}
-use Rattle.sno_nodes.specs.Balance.{part, in_pairs, balanced_ends}
+use Rattle.sno_text.specs.Sets.{is_one_of}
+use Rattle.sno_text.specs.Balance.{part, in_pairs, balanced_ends}
 use Rattle.sno_pattern.specs.Steps.{Goal, Meet, More, EndConditional, EndImmediate, End, Success, Failure, WholeFails, OutOfSteps, Fault, Trying, Way, ends, after_end, on_failure, at_each, row, attempt, outcome}
 use Rattle.sno_pattern.specs.Places.{IsSimple, ends_of_turns, one_end, ends_of, Finds, Comes}
 use Rattle.mon_text.specs.Beginnings.{first_passes}
@@ -214,7 +214,7 @@ after_finds OutOfSteps n second es fs h k = tt
 after_finds (Fault f) n second es fs h k = absurd h
 
 then_finds : (t : Trying) (second : ℕ → Trying) (es fs : List ℕ) → Comes es t → ((n : ℕ) → Comes fs (second n)) → Comes (es ++ fs) (on_failure t second)
-then_finds (Ends o) second es fs h k = after_finds o.end o.left second es fs h k
+then_finds (Returns o) second es fs h k = after_finds o.end o.left second es fs h k
 then_finds (Asks q f) second es fs h k = absurd h
 
 flat_same : (f g : ℕ → List ℕ) (xs : List ℕ) → ((e : ℕ) → f e ≡ g e) → flat_map f xs ≡ flat_map g xs

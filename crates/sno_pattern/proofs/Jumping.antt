@@ -3,10 +3,10 @@ use Rattle.std.proofs.Common.{◌≡◌, ◌≢◌, ℕ, zero, suc, ◌+◌, ◌
 use Rattle.std.specs.Prelude.{nat_eq, ◌&&◌}
 use Rattle.std.specs.List.{range_with_len, slice_index, starts_with}
 use Rattle.std.proofs.lemmas.Bool.{false_from_ne_true, eqb-true}
-use Rattle.sno_nodes.specs.Patterns.{Pattern}
-use Rattle.sno_nodes.specs.Patterns as pattern
-use Rattle.sno_nodes.specs.inner.Reaching.{reached, here_if}
-use Rattle.sno_nodes.specs.declared.reach.Reach.TheVariants.{Nowhere}
+use Rattle.sno_text.specs.Patterns.{Pattern}
+use Rattle.sno_text.specs.Patterns as pattern
+use Rattle.sno_text.specs.inner.Reaching.{reached, here_if}
+use Rattle.sno_text.specs.declared.reach.Reach.TheVariants.{Nowhere}
 use Rattle.sno_pattern.specs.declared.ending.Pending.{Pending}
 use Rattle.sno_pattern.specs.Steps.{Goal, Meet, at_each, outcome}
 use Rattle.sno_pattern.proofs.Pushing.{skip_one}

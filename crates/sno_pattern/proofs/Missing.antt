@@ -1,12 +1,12 @@
 -- Starts that are missed at once.
 use Rattle.std.specs.Prelude.{◌≡◌, ℕ, suc, ◌+◌, List, [], ◌∷◌, Some}
 use Rattle.std.proofs.Common.{ap, ◌∙◌}
-use Rattle.sno_talk.specs.Talks.{◌>>=◌}
-use Rattle.sno_nodes.specs.Patterns.{Pattern}
-use Rattle.sno_nodes.specs.Patterns as pattern
-use Rattle.sno_nodes.specs.declared.reach.Reach.TheVariants.{Nowhere}
+use Rattle.interaction.specs.Interactions.{◌>>=◌}
+use Rattle.sno_text.specs.Patterns.{Pattern}
+use Rattle.sno_text.specs.Patterns as pattern
+use Rattle.sno_text.specs.declared.reach.Reach.TheVariants.{Nowhere}
 use Rattle.sno_pattern.specs.declared.ending.Pending.{Pending}
-use Rattle.sno_nodes.specs.inner.Reaching.{reached}
+use Rattle.sno_text.specs.inner.Reaching.{reached}
 use Rattle.sno_pattern.specs.Steps.{Goal, Meet, EndConditional, EndImmediate, Failure, ends, row, outcome, settle, from_starts}
 use Rattle.sno_pattern.specs.inner.Meeting.{first_part}
 use Rattle.sno_pattern.proofs.Table.{takes_off}

@@ -1,11 +1,11 @@
 -- Parts of a pattern that are passed at once, one after the other.
 use Rattle.std.proofs.Common.{◌≡◌, ◌≢◌, ℕ, suc, ◌-◌, ◌<◌, List, ◌∷◌, [], ◌++◌, ap, refl, ◌∙◌, arith}
-use Rattle.sno_nodes.specs.Patterns.{Pattern}
-use Rattle.sno_nodes.specs.Patterns as pattern
-use Rattle.sno_nodes.specs.declared.reach.Reach.TheVariants.{Here}
+use Rattle.sno_text.specs.Patterns.{Pattern}
+use Rattle.sno_text.specs.Patterns as pattern
+use Rattle.sno_text.specs.declared.reach.Reach.TheVariants.{Here}
 use Rattle.sno_pattern.specs.declared.ending.Pending.{Pending}
-use Rattle.sno_nodes.specs.Balance.{part}
-use Rattle.sno_nodes.specs.inner.Reaching.{reached}
+use Rattle.sno_text.specs.Balance.{part}
+use Rattle.sno_text.specs.inner.Reaching.{reached}
 use Rattle.sno_pattern.specs.Steps.{Goal, Meet, EndConditional, row, outcome}
 use Rattle.sno_pattern.proofs.Table.{takes_off}
 use Rattle.sno_pattern.proofs.Reaches.{row_here}

@@ -4,26 +4,26 @@ use Rattle.std.specs.List.{range_with_len}
 use Rattle.std.specs.Prelude.{nat_eq, Result, Ok, Err, IfOk}
 use Rattle.std.proofs.lemmas.List.{map-append}
 use Rattle.sno_text.specs.declared.fault.Fault.{Fault as AFault}
-use Rattle.sno_talk.specs.Talks.{Asks}
-use Rattle.sno_talk.specs.Holding.{Held, Cut}
-use Rattle.sno_talk.proofs.Held.{cut_here}
+use Rattle.interaction.specs.Interactions.{Asks}
+use Rattle.interaction.specs.Holding.{RunsTo, StopsIn}
+use Rattle.interaction.proofs.Held.{cut_here}
 use Rattle.std.specs.declared.rc.Rc.{Rc}
 use Rattle.std.specs.declared.alloc.Global.{Global}
-use Rattle.sno_nodes.specs.declared.node.Node.{Node}
-use Rattle.sno_nodes.specs.Nodes.{pattern_of}
-use Rattle.sno_nodes.specs.Patterns.{Pattern}
-use Rattle.sno_nodes.specs.Patterns as pattern
-use Rattle.sno_nodes.specs.Balance.{part, balanced_ends}
-use Rattle.sno_nodes.specs.inner.Reaching.{reached}
-use Rattle.sno_nodes.specs.declared.reach.Reach.TheVariants.{Here, Nowhere}
+use Rattle.sno_text.specs.declared.node.Node.{Node}
+use Rattle.sno_text.specs.Nodes.{pattern_of}
+use Rattle.sno_text.specs.Patterns.{Pattern}
+use Rattle.sno_text.specs.Patterns as pattern
+use Rattle.sno_text.specs.Balance.{part, balanced_ends}
+use Rattle.sno_text.specs.inner.Reaching.{reached}
+use Rattle.sno_text.specs.declared.reach.Reach.TheVariants.{Here, Nowhere}
 use Rattle.sno_pattern.specs.declared.ending.Pending.{Pending}
 use Rattle.sno_pattern.specs.Looks.{Look, Told, Fits}
 use Rattle.sno_pattern.specs.Steps.{Goal, Meet, More, EndConditional, EndImmediate, End, Failure, WholeFails, OutOfSteps, Fault, Trying, ends, on_failure, at_each, row, outcome}
 use Rattle.sno_pattern.specs.declared.trail.Waiting.{Waiting}
 use Rattle.sno_pattern.specs.declared.host.Taken.TheVariants.{Part, Cursor}
-use Rattle.sno_pattern.specs.declared.choices.Turn.{Turn}
-use Rattle.sno_pattern.specs.declared.choices.Turn.TheVariants.{Go, Meet as MeetNow, Stay}
-use Rattle.sno_pattern.specs.declared.choices.Ended.TheVariants as ended
+use Rattle.sno_pattern.specs.declared.choice_points.Turn.{Turn}
+use Rattle.sno_pattern.specs.declared.choice_points.Turn.TheVariants.{Go, Meet as MeetNow, Stay}
+use Rattle.sno_pattern.specs.declared.choice_points.Ended.TheVariants as ended
 use Rattle.sno_pattern.specs.inner.Stack.{Choice, Trial, Second, Each, Balanced, Whole, Ahead, waiting_of, second, resume, rank, assigning, looking, AllWithin, Led, Moved}
 use Rattle.sno_pattern.proofs.Trying.{IsLast, last_stays, then_fails}
 use Rattle.sno_pattern.proofs.Table.{takes_off, no_step_left}
@@ -246,8 +246,8 @@ module _ {S : Type 0} (tells : S → Look → Told → S → Type 0) (broken : S
   -- with no word to the host
   pub quietly : {turn : Turn} {new : Ahead} {m : ℕ} → Led text old t n turn new m → Moved tells broken text s old t n s turn new m
   quietly {turn} {new} {m} k = record {
-    held = λ b v h. subst (λ (z : Trying). Held tells Fits z s b v) (sym k.comes) h;
-    cut = λ v h. subst (λ (z : Trying). Cut tells Fits broken z s v) (sym k.comes) h;
+    held = λ b v h. subst (λ (z : Trying). RunsTo tells Fits z s b v) (sym k.comes) h;
+    cut = λ v h. subst (λ (z : Trying). StopsIn tells Fits broken z s v) (sym k.comes) h;
     fewer = k.fewer;
     all = k.all;
     here = k.here;
@@ -261,35 +261,35 @@ module _ {S : Type 0} (tells : S → Look → Told → S → Type 0) (broken : S
     pub asked : {u : S} (r : Told) {turn : Turn} {new : Ahead} {m : ℕ} → tells s q r u → Fits q r → Led text old (f r) n turn new m
         → Moved tells broken text s old t n u turn new m
     asked {u} r {turn} {new} {m} h fits k = record {
-      held = λ b v g. subst (λ (z : Trying). Held tells Fits z s b v) (sym first)
-          (r, u, h, fits, subst (λ (z : Trying). Held tells Fits z u b v) (sym k.comes) g);
-      cut = λ v g. subst (λ (z : Trying). Cut tells Fits broken z s v) (sym first)
-          (inr (inr (r, u, h, fits, subst (λ (z : Trying). Cut tells Fits broken z u v) (sym k.comes) g)));
+      held = λ b v g. subst (λ (z : Trying). RunsTo tells Fits z s b v) (sym first)
+          (r, u, h, fits, subst (λ (z : Trying). RunsTo tells Fits z u b v) (sym k.comes) g);
+      cut = λ v g. subst (λ (z : Trying). StopsIn tells Fits broken z s v) (sym first)
+          (inr (inr (r, u, h, fits, subst (λ (z : Trying). StopsIn tells Fits broken z u v) (sym k.comes) g)));
       fewer = k.fewer;
       all = k.all;
       here = k.here;
     }
 
     -- and nothing followed
-    pub asked_cut : (u : S) (r : Told) → tells s q r u → Fits q r → Cut tells Fits broken (resume text old t) s u
-    asked_cut u r h fits = subst (λ (z : Trying). Cut tells Fits broken z s u) (sym first)
+    pub asked_cut : (u : S) (r : Told) → tells s q r u → Fits q r → StopsIn tells Fits broken (resume text old t) s u
+    asked_cut u r h fits = subst (λ (z : Trying). StopsIn tells Fits broken z s u) (sym first)
         (inr (inr (r, u, h, fits, cut_here tells Fits broken (resume text old (f r)) u)))
 
     -- or broke off
-    pub asked_broken : (u : S) → broken s q u → Cut tells Fits broken (resume text old t) s u
-    asked_broken u h = subst (λ (z : Trying). Cut tells Fits broken z s u) (sym first) (inr (inl h))
+    pub asked_broken : (u : S) → broken s q u → StopsIn tells Fits broken (resume text old t) s u
+    asked_broken u h = subst (λ (z : Trying). StopsIn tells Fits broken z s u) (sym first) (inr (inl h))
 
   -- what stands for it goes on as the host told
   pub moved_as : (t' : Trying) (old' : List Choice) (k : ℕ) {u : S} {turn : Turn} {new : Ahead} {m : ℕ} → resume text old t ≡ resume text old' t' → k ≤ n
       → Moved tells broken text s old' t' k u turn new m → Moved tells broken text s old t n u turn new m
   moved_as t' old' k e l d = record {
-    held = λ b v h. subst (λ (z : Trying). Held tells Fits z s b v) (sym e) (d.held b v h);
-    cut = λ v h. subst (λ (z : Trying). Cut tells Fits broken z s v) (sym e) (d.cut v h);
+    held = λ b v h. subst (λ (z : Trying). RunsTo tells Fits z s b v) (sym e) (d.held b v h);
+    cut = λ v h. subst (λ (z : Trying). StopsIn tells Fits broken z s v) (sym e) (d.cut v h);
     fewer = (let f = d.fewer in omega arith);
     all = d.all;
     here = d.here;
   }
 
-  pub cut_as : (t' : Trying) (old' : List Choice) (v : S) → resume text old t ≡ resume text old' t' → Cut tells Fits broken (resume text old' t') s v
-      → Cut tells Fits broken (resume text old t) s v
-  cut_as t' old' v e h = subst (λ (z : Trying). Cut tells Fits broken z s v) (sym e) h
+  pub cut_as : (t' : Trying) (old' : List Choice) (v : S) → resume text old t ≡ resume text old' t' → StopsIn tells Fits broken (resume text old' t') s v
+      → StopsIn tells Fits broken (resume text old t) s v
+  cut_as t' old' v e h = subst (λ (z : Trying). StopsIn tells Fits broken z s v) (sym e) h

@@ -1,11 +1,11 @@
 -- What one attempt and then another leave, and where they agree.
 use Rattle.std.specs.Prelude.{◌≡◌, ℕ, ◌≤◌, List, Bool, true, false, if◌then◌else◌}
 use Rattle.std.proofs.Common.{refl, ap, ◌∙◌, arith}
-use Rattle.sno_talk.specs.Talks.{Ends, Asks}
-use Rattle.sno_talk.specs.Endings.{EndsIn}
-use Rattle.sno_talk.proofs.Binds.{funext}
-use Rattle.sno_talk.proofs.Enough.{ends_in_then, same_then}
-use Rattle.sno_nodes.specs.Patterns.{Pattern}
+use Rattle.interaction.specs.Interactions.{Returns, Asks}
+use Rattle.interaction.specs.Endings.{EndsIn}
+use Rattle.interaction.proofs.Binds.{funext}
+use Rattle.interaction.proofs.Enough.{ends_in_then, same_then}
+use Rattle.sno_text.specs.Patterns.{Pattern}
 use Rattle.sno_pattern.specs.declared.ending.Pending.{Pending}
 use Rattle.sno_pattern.specs.Looks.{Look, Told, Found, Given, Refused, Faulty}
 use Rattle.sno_pattern.specs.Steps.{Goal, End, Success, Failure, WholeFails, OutOfSteps, Fault, Outcome, Trying, Way, ends, after_end, on_failure, pattern_found, with_found, if_given}
@@ -50,12 +50,12 @@ after_fails (Fault f) n = refl
 
 -- a second attempt that fails at once changes nothing
 pub then_fails : (t : Trying) → on_failure t (λ m. ends Failure m) ≡ t
-then_fails (Ends o) = after_fails o.end o.left
+then_fails (Returns o) = after_fails o.end o.left
 then_fails (Asks q f) =
     ap (λ (z : Told → Trying). Asks q z) (funext (λ r. on_failure (f r) (λ m. ends Failure m)) f (λ r. then_fails (f r)))
 
 pub leaves_more : (m n : ℕ) → m ≤ n → (t : Trying) → LeavesAtMost m t → LeavesAtMost n t
-leaves_more m n le (Ends o) h = omega arith
+leaves_more m n le (Returns o) h = omega arith
 leaves_more m n le (Asks q f) h = λ r. leaves_more m n le (f r) (h r)
 
 after_falls : (e : End) (m n : ℕ) (second : ℕ → Trying) → m ≤ n → ((m : ℕ) → m ≤ n → LeavesAtMost n (second m)) → LeavesAtMost n (after_end e m second)

@@ -2,17 +2,17 @@
 use Rattle.std.specs.Prelude.{ℕ, zero, suc, ◌+◌, ◌-◌, ◌≤◌, List, [], ◌∷◌, ◌++◌, length, drop, Bool, true, false, not, ◌&&◌, if◌then◌else◌, nat_eq, nat_le, nat_lt}
 use Rattle.std.proofs.Common.{arith}
 use Rattle.std.specs.List.{starts_with, prefix_len, position_or_len, range_with_len}
-use Rattle.sno_talk.specs.Talks.{Talk, Ends, Asks}
-use Rattle.sno_talk.specs.Endings.{EndsIn}
-use Rattle.sno_talk.specs.Holding.{Held}
-use Rattle.sno_talk.proofs.Enough.{ends_in_then, ends_in_weaker}
+use Rattle.interaction.specs.Interactions.{Interaction, Returns, Asks}
+use Rattle.interaction.specs.Endings.{EndsIn}
+use Rattle.interaction.specs.Holding.{RunsTo}
+use Rattle.interaction.proofs.Enough.{ends_in_then, ends_in_weaker}
 use Rattle.std.proofs.Common.{sym, subst}
-use Rattle.sno_nodes.specs.Patterns.{Pattern}
-use Rattle.sno_nodes.specs.Patterns as pattern
+use Rattle.sno_text.specs.Patterns.{Pattern}
+use Rattle.sno_text.specs.Patterns as pattern
 use Rattle.sno_pattern.specs.declared.ending.Pending.{Pending}
 use Rattle.sno_pattern.specs.Looks.{Look, Told, Found, Given, Refused, Faulty}
-use Rattle.sno_nodes.specs.Sets.{is_one_of}
-use Rattle.sno_nodes.specs.Balance.{part, balanced_ends}
+use Rattle.sno_text.specs.Sets.{is_one_of}
+use Rattle.sno_text.specs.Balance.{part, balanced_ends}
 use Rattle.sno_pattern.specs.Steps.{Goal, Meet, More, EndConditional, EndImmediate, End, Success, Failure, WholeFails, OutOfSteps, Fault, Outcome, Trying, Way, ends, after_end, on_failure, at_each, pattern_found, with_found, if_given, row, attempt, outcome, Finish, settle, from_starts}
 use Rattle.sno_pattern.specs.Places.{one_end, MatchesWithin}
 use Rattle.sno_pattern.specs.Laws.{MatchIsWithin}
@@ -137,7 +137,7 @@ outcome_comes text gs c p n h = attempt_comes text n gs c p n h
 abbrev Finishes : ℕ → Finish → Type 0
 Finishes l f = MatchesWithin l f.end
 
-settle_within : (l at : ℕ) (next : ℕ → Talk Look Told Finish) → ((n : ℕ) → EndsIn (Finishes l) (next n)) → (e : End) (n : ℕ) → Onward l at e
+settle_within : (l at : ℕ) (next : ℕ → Interaction Look Told Finish) → ((n : ℕ) → EndsIn (Finishes l) (next n)) → (e : End) (n : ℕ) → Onward l at e
     → EndsIn (Finishes l) (settle at e n next)
 settle_within l at next h (Success to p) n k = k
 settle_within l at next h Failure n k = h n
@@ -156,11 +156,11 @@ starts_within text p (suc k) at n h =
 pub matches_within : MatchIsWithin
 matches_within text p anchored limit =
     ends_in_then (Finishes (length text)) (MatchesWithin (length text)) (from_starts text p (if anchored then 1 else (length text + 1)) 0 limit)
-    (λ f. Ends f.end)
+    (λ f. Returns f.end)
     (starts_within text p (if anchored then 1 else (length text + 1)) 0 limit (enough_starts (length text) anchored)) (λ f i. i)
 
--- what a talk ends with in any case, it ended with where it was held
-pub held_ends : {S Q R A : Type 0} (meaning : S → Q → R → S → Type 0) (fits : Q → R → Type 0) (P : A → Type 0) (t : Talk Q R A) (s : S) (a : A) (s' : S)
-    → EndsIn P t → Held meaning fits t s a s' → P a
-held_ends meaning fits P (Ends b) s a s' h k = subst P (sym k.0) h
+-- what an interaction ends with in any case, it ended with where it was held
+pub held_ends : {S Q R A : Type 0} (meaning : S → Q → R → S → Type 0) (fits : Q → R → Type 0) (P : A → Type 0) (t : Interaction Q R A) (s : S) (a : A) (s' : S)
+    → EndsIn P t → RunsTo meaning fits t s a s' → P a
+held_ends meaning fits P (Returns b) s a s' h k = subst P (sym k.0) h
 held_ends meaning fits P (Asks q f) s a s' h k = held_ends meaning fits P (f k.0) k.1 a s' (h k.0) k.4

@@ -1,11 +1,11 @@
 -- What holds of every match, as statements.
 use Rattle.std.specs.Prelude.{◌≡◌, ◌≢◌, ℕ, suc, ◌<◌, ◌≤◌, List, ◌∷◌, [], ◌++◌, length, Bool}
-use Rattle.sno_talk.specs.Talks.{Ends}
-use Rattle.sno_talk.specs.Exchanges.{Exchange, replies, Tells}
-use Rattle.sno_talk.specs.Holding.{Cut}
-use Rattle.sno_talk.specs.Laws.{StoppedAt}
-use Rattle.sno_talk.specs.Endings.{EndsIn}
-use Rattle.sno_nodes.specs.Patterns.{Pattern}
+use Rattle.interaction.specs.Interactions.{Returns}
+use Rattle.interaction.specs.Exchanges.{Exchange, replies, IsTrace}
+use Rattle.interaction.specs.Holding.{StopsIn}
+use Rattle.interaction.specs.InteractionLaws.{StoppedAt}
+use Rattle.interaction.specs.Endings.{EndsIn}
+use Rattle.sno_text.specs.Patterns.{Pattern}
 use Rattle.sno_pattern.specs.declared.ending.Pending.{Pending}
 use Rattle.sno_pattern.specs.declared.ending.MatchEnd.{MatchEnd}
 use Rattle.sno_pattern.specs.declared.ending.MatchEnd.TheVariants.{Limit}
@@ -31,25 +31,25 @@ AnyDepth = (text : List ℕ) (d e : ℕ) (gs : List Goal) (c : ℕ) (p : List Pe
 -- with these exchanges the match ends so after these steps: it has none left then
 abbrev pub Needs : List ℕ → Pattern → Bool → List (Exchange Look Told) → ℕ → MatchEnd → Type 0
 Needs text p anchored x u e =
-    (e ≢ Limit) × Tells Fits (counted_match text p anchored u) x (let f : Finish = record { end = e; left = 0 } in f)
+    (e ≢ Limit) × IsTrace Fits (counted_match text p anchored u) x (let f : Finish = record { end = e; left = 0 } in f)
 
 -- each end but Limit needs some number of steps, within the limit
 abbrev pub NeedsSteps : Type 0
 NeedsSteps = (text : List ℕ) (p : Pattern) (anchored : Bool) (n : ℕ) (x : List (Exchange Look Told)) (e : MatchEnd)
-    → Tells Fits (match_of text p anchored n) x e → e ≢ Limit
+    → IsTrace Fits (match_of text p anchored n) x e → e ≢ Limit
     → (u : ℕ) × (u ≤ n) × Needs text p anchored x u e
 
 -- with as many steps or more the match ends so, and with fewer by Limit after some of those exchanges
 abbrev pub StepsAreExact : Type 0
 StepsAreExact = (text : List ℕ) (p : Pattern) (anchored : Bool) (x : List (Exchange Look Told)) (u : ℕ) (e : MatchEnd)
     → Needs text p anchored x u e → (n : ℕ)
-    → (u ≤ n → Tells Fits (match_of text p anchored n) x e)
-    × (n < u → (y z : List (Exchange Look Told)) × (x ≡ y ++ z) × Tells Fits (match_of text p anchored n) y Limit)
+    → (u ≤ n → IsTrace Fits (match_of text p anchored n) x e)
+    × (n < u → (y z : List (Exchange Look Told)) × (x ≡ y ++ z) × IsTrace Fits (match_of text p anchored n) y Limit)
 
 -- two matches whose hosts answer alike ask the same and end alike
 abbrev pub MatchesAlike : Type 0
 MatchesAlike = (text : List ℕ) (p : Pattern) (anchored : Bool) (limit : ℕ) (x y more others : List (Exchange Look Told)) (a b : MatchEnd)
-    → Tells Fits (match_of text p anchored limit) x a → Tells Fits (match_of text p anchored limit) y b
+    → IsTrace Fits (match_of text p anchored limit) x a → IsTrace Fits (match_of text p anchored limit) y b
     → replies (x ++ more) ≡ replies (y ++ others) → (x ≡ y) × (a ≡ b)
 
 -- a pattern that asks no host and cuts nothing off comes out at the first of its ends, and fails where it has none, unless
@@ -61,7 +61,7 @@ FirstEnd = (text : List ℕ) (a : Pattern) (c : ℕ) (p : List Pending) (n : ℕ
 -- and so does the whole match: from the first start that has an end to the first of its ends, or nowhere
 abbrev pub FirstMatch : Type 0
 FirstMatch = (text : List ℕ) (p : Pattern) (anchored : Bool) (limit : ℕ)
-    → IsSimple p → (e : MatchEnd) × (match_of text p anchored limit ≡ Ends e) × IsAt (first_place text p (starts text anchored)) e
+    → IsSimple p → (e : MatchEnd) × (match_of text p anchored limit ≡ Returns e) × IsAt (first_place text p (starts text anchored)) e
 
 -- whatever the host tells, what is matched is a part of the text
 abbrev pub MatchIsWithin : Type 0
@@ -72,5 +72,5 @@ MatchIsWithin = (text : List ℕ) (p : Pattern) (anchored : Bool) (limit : ℕ)
 module _ {S : Type 0} (tells : S → Look → Told → S → Type 0) (broken : S → Look → S → Type 0) where
   abbrev pub MatchesGoOn : Type 0
   MatchesGoOn = (text : List ℕ) (p : Pattern) (anchored : Bool) (limit : ℕ) (s s' : S)
-      → Cut tells Fits broken (match_of text p anchored limit) s s'
-      → (x y : List (Exchange Look Told)) × (e : MatchEnd) × Tells Fits (match_of text p anchored limit) (x ++ y) e × StoppedAt tells Fits broken s x y s'
+      → StopsIn tells Fits broken (match_of text p anchored limit) s s'
+      → (x y : List (Exchange Look Told)) × (e : MatchEnd) × IsTrace Fits (match_of text p anchored limit) (x ++ y) e × StoppedAt tells Fits broken s x y s'

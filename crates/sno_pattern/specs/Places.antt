@@ -2,13 +2,13 @@
 -- chapter 2; own for BAL and ARBNO): no steps, no goals and no backing up.
 use Rattle.std.specs.Prelude.{◌≡◌, ℕ, zero, suc, ◌+◌, ◌-◌, List, [], ◌∷◌, ◌++◌, length, drop, Bool, not, ◌&&◌, if◌then◌else◌, nat_eq, nat_le, nat_lt, Option, Some, None, ◌≤◌}
 use Rattle.std.specs.List.{starts_with, flat_map, prefix_len, position_or_len, range_with_len}
-use Rattle.sno_talk.specs.Talks.{Ends, Asks}
-use Rattle.sno_nodes.specs.Patterns.{Pattern}
-use Rattle.sno_nodes.specs.Patterns as pattern
+use Rattle.interaction.specs.Interactions.{Returns, Asks}
+use Rattle.sno_text.specs.Patterns.{Pattern}
+use Rattle.sno_text.specs.Patterns as pattern
 use Rattle.sno_pattern.specs.declared.ending.MatchEnd.{MatchEnd}
 use Rattle.sno_pattern.specs.declared.ending.MatchEnd.TheVariants as end
-use Rattle.sno_nodes.specs.Sets.{is_one_of}
-use Rattle.sno_nodes.specs.Balance.{balanced_ends}
+use Rattle.sno_text.specs.Sets.{is_one_of}
+use Rattle.sno_text.specs.Balance.{balanced_ends}
 use Rattle.sno_pattern.specs.Steps.{End, Success, Failure, WholeFails, OutOfSteps, Fault, Trying}
 use Rattle.mon_text.specs.Beginnings.{first_passes}
 
@@ -65,7 +65,7 @@ Finds es (Fault f) = ⊥
 
 -- it asks nothing, and ends so
 abbrev pub Comes : List ℕ → Trying → Type 0
-Comes es (Ends o) = Finds es o.end
+Comes es (Returns o) = Finds es o.end
 Comes es (Asks q f) = ⊥
 
 -- every cursor, or the first one alone

@@ -2,12 +2,12 @@
 -- number of steps and ARBNO are own).
 use Rattle.std.specs.Prelude.{ℕ, zero, suc, ◌+◌, ◌-◌, List, [], ◌∷◌, ◌++◌, length, drop, Bool, not, ◌&&◌, if◌then◌else◌, nat_eq, nat_le, nat_lt}
 use Rattle.std.specs.List.{range_with_len, starts_with, prefix_len, position_or_len}
-use Rattle.sno_talk.specs.Talks.{Talk, Ends, ask, ◌>>=◌}
+use Rattle.interaction.specs.Interactions.{Interaction, Returns, ask, ◌>>=◌}
 use Rattle.sno_text.specs.declared.fault.Fault.{Fault as AFault}
-use Rattle.sno_nodes.specs.Patterns.{Pattern}
-use Rattle.sno_nodes.specs.Balance.{part, balanced_ends}
-use Rattle.sno_nodes.specs.Sets.{is_one_of}
-use Rattle.sno_nodes.specs.Patterns as pattern
+use Rattle.sno_text.specs.Patterns.{Pattern}
+use Rattle.sno_text.specs.Balance.{part, balanced_ends}
+use Rattle.sno_text.specs.Sets.{is_one_of}
+use Rattle.sno_text.specs.Patterns as pattern
 use Rattle.sno_pattern.specs.declared.host.Looked.{Looked}
 use Rattle.sno_pattern.specs.declared.host.Looked.TheVariants as looked
 use Rattle.sno_pattern.specs.declared.host.Taken.TheVariants.{Part, Cursor}
@@ -42,14 +42,14 @@ pub record Outcome : Type 0 where
   pub left : ℕ
 
 abbrev pub Trying : Type 0
-Trying = Talk Look Told Outcome
+Trying = Interaction Look Told Outcome
 
 -- how goals go on from a cursor, with the assignments that wait and the steps that are left
 abbrev pub Way : Type 0
 Way = (goals : List Goal) (at : ℕ) (pending : List Pending) (left : ℕ) → Trying
 
 abbrev pub ends : End → ℕ → Trying
-ends e n = Ends (record { end = e; left = n })
+ends e n = Returns (record { end = e; left = n })
 
 -- the second attempt after an end, if that is failure, with the steps that are left
 abbrev pub after_end : End → ℕ → (ℕ → Trying) → Trying
@@ -154,24 +154,24 @@ pub record Finish : Type 0 where
   pub left : ℕ
 
 -- the end of one start is the match's, but for failure, after which the next start is tried
-abbrev pub settle : ℕ → End → ℕ → (ℕ → Talk Look Told Finish) → Talk Look Told Finish
-settle from (Success to pending) n next = Ends (record { end = end.Matched from to pending; left = n })
+abbrev pub settle : ℕ → End → ℕ → (ℕ → Interaction Look Told Finish) → Interaction Look Told Finish
+settle from (Success to pending) n next = Returns (record { end = end.Matched from to pending; left = n })
 settle from Failure n next = next n
-settle from WholeFails n next = Ends (record { end = end.NoMatch; left = n })
-settle from OutOfSteps n next = Ends (record { end = end.Limit; left = n })
-settle from (Fault f) n next = Ends (record { end = end.Fault f; left = n })
+settle from WholeFails n next = Returns (record { end = end.NoMatch; left = n })
+settle from OutOfSteps n next = Returns (record { end = end.Limit; left = n })
+settle from (Fault f) n next = Returns (record { end = end.Fault f; left = n })
 
 -- so many starts from one on
-abbrev pub from_starts : List ℕ → Pattern → ℕ → ℕ → ℕ → Talk Look Told Finish
-from_starts text p zero at n = Ends (record { end = end.NoMatch; left = n })
+abbrev pub from_starts : List ℕ → Pattern → ℕ → ℕ → ℕ → Interaction Look Told Finish
+from_starts text p zero at n = Returns (record { end = end.NoMatch; left = n })
 from_starts text p (suc k) at n = do
   o ← outcome text (Meet p ∷ []) at [] n
   settle at o.end o.left (λ n'. from_starts text p k (at + 1) n')
 
 -- the match with the steps that it leaves
-abbrev pub counted_match : List ℕ → Pattern → (anchored : Bool) → (limit : ℕ) → Talk Look Told Finish
+abbrev pub counted_match : List ℕ → Pattern → (anchored : Bool) → (limit : ℕ) → Interaction Look Told Finish
 counted_match text p anchored limit = from_starts text p (if anchored then 1 else (length text + 1)) 0 limit
 
 -- THE MATCH
-abbrev pub match_of : List ℕ → Pattern → (anchored : Bool) → (limit : ℕ) → Talk Look Told MatchEnd
-match_of text p anchored limit = counted_match text p anchored limit >>= (λ f. Ends f.end)
+abbrev pub match_of : List ℕ → Pattern → (anchored : Bool) → (limit : ℕ) → Interaction Look Told MatchEnd
+match_of text p anchored limit = counted_match text p anchored limit >>= (λ f. Returns f.end)

@@ -3,8 +3,7 @@
 ghost use Rattle.sno_pattern.specs.Looks.{Look, Told, LookUp, Assign};
 ghost use Rattle.sno_pattern.specs.Hosts.{WasFound, WasGiven};
 
-use sno_nodes::Pat;
-use sno_text::{Fault, Named, Text};
+use sno_text::{Fault, Named, Pat, Text};
 
 /// What a variable stands for in a pattern.
 #[derive(Drop)]

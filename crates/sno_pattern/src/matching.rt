@@ -1,24 +1,23 @@
 //! A whole match.
 ghost use Rattle.std.specs.Prelude.{◌≡◌, ◌≤◌, ◌+◌, ◌-◌, length, IfOk, OnErr};
 ghost use Rattle.mon_text.specs.Lines.{IsLine};
-ghost use Rattle.sno_talk.specs.Holding.{Held, Cut};
-ghost use Rattle.sno_nodes.specs.Nodes.{pattern_of};
+ghost use Rattle.interaction.specs.Holding.{RunsTo, StopsIn};
+ghost use Rattle.sno_text.specs.Nodes.{pattern_of};
 ghost use Rattle.sno_pattern.specs.Looks.{Fits};
 ghost use Rattle.sno_pattern.specs.Steps.{match_of};
 ghost use Rattle.sno_pattern.specs.Places.{MatchesWithin};
 ghost use Rattle.sno_pattern.specs.inner.Running.{finishing};
 ghost use Rattle.sno_pattern.specs.inner.Stack.{waiting_of};
 
-use crate::choices::Ended;
+use crate::choice_points::Ended;
+use crate::consuming::part_of;
+use crate::deterministic::go_straight;
 use crate::ending::{Assignments, MatchEnd, Pending};
 use crate::host::MatchHost;
 use crate::running::run;
 use crate::starting::skip_starts;
-use crate::straight::go_straight;
-use crate::taking::part_of;
 use crate::trail::{Trail, Waiting};
-use sno_nodes::{Node, Pat};
-use sno_text::Text;
+use sno_text::{Node, Pat, Text};
 use std::alloc::{AllocError, Global};
 use std::rc::Rc;
 
@@ -51,8 +50,8 @@ fn matches_from<H: MatchHost>(
     requires printable { IsLine text.now }
     requires within { starts ≤ length text.now + 1 }
     requires begins { first ≤ starts }
-    ensures held { IfOk result (λ end. Held H.tells Fits (finishing text.now (pattern_of pattern.now.value) (starts - first) first limit) host.old end host.new) }
-    ensures cut { OnErr result (Cut H.tells Fits H.broken (finishing text.now (pattern_of pattern.now.value) (starts - first) first limit) host.old host.new) }
+    ensures held { IfOk result (λ end. RunsTo H.tells Fits (finishing text.now (pattern_of pattern.now.value) (starts - first) first limit) host.old end host.new) }
+    ensures cut { OnErr result (StopsIn H.tells Fits H.broken (finishing text.now (pattern_of pattern.now.value) (starts - first) first limit) host.old host.new) }
     ensures ready { H.ready host.new }
 {
     let node: &Node = pattern;
@@ -93,8 +92,8 @@ fn matches_in<H: MatchHost>(
 ) -> Result<MatchEnd, AllocError>
     requires ready { H.ready host.old }
     requires printable { IsLine text.now }
-    ensures held { IfOk result (λ end. Held H.tells Fits (match_of text.now (pattern_of pattern.now.value) anchored limit) host.old end host.new) }
-    ensures cut { OnErr result (Cut H.tells Fits H.broken (match_of text.now (pattern_of pattern.now.value) anchored limit) host.old host.new) }
+    ensures held { IfOk result (λ end. RunsTo H.tells Fits (match_of text.now (pattern_of pattern.now.value) anchored limit) host.old end host.new) }
+    ensures cut { OnErr result (StopsIn H.tells Fits H.broken (match_of text.now (pattern_of pattern.now.value) anchored limit) host.old host.new) }
     ensures ready { H.ready host.new }
 {
     let starts = if anchored { 1 } else { text.len() + 1 };
@@ -132,9 +131,9 @@ pub fn matches<H: MatchHost>(
     host: &mut H,
 ) -> Result<MatchEnd, AllocError>
     requires ready { H.ready host.old }
-    ensures held { IfOk result (λ end. Held H.tells Fits (match_of text.now pattern.now anchored limit) host.old end host.new) }
+    ensures held { IfOk result (λ end. RunsTo H.tells Fits (match_of text.now pattern.now anchored limit) host.old end host.new) }
     ensures within { IfOk result (MatchesWithin (length text.now)) }
-    ensures cut { OnErr result (Cut H.tells Fits H.broken (match_of text.now pattern.now anchored limit) host.old host.new) }
+    ensures cut { OnErr result (StopsIn H.tells Fits H.broken (match_of text.now pattern.now anchored limit) host.old host.new) }
     ensures ready { H.ready host.new }
 {
     let node = pattern.node();

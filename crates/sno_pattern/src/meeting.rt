@@ -1,22 +1,22 @@
 //! Patterns met: what a pattern is made of is met at once, without a goal of its own in memory, as far as that can be.
 ghost use Rattle.std.specs.Prelude.{◌≡◌, ◌<◌, ◌≤◌, ◌+◌, ◌*◌, ◌∷◌, length, IfOk, OnErr};
 ghost use Rattle.std.specs.Option.{MatchOption};
-ghost use Rattle.sno_talk.specs.Holding.{Cut};
-ghost use Rattle.sno_nodes.specs.Nodes.{pattern_of};
-ghost use Rattle.sno_pattern.specs.declared.choices.Ended.TheVariants.{OutOfSteps};
-ghost use Rattle.sno_pattern.specs.declared.choices.Turn.TheVariants.{Stay};
+ghost use Rattle.interaction.specs.Holding.{StopsIn};
+ghost use Rattle.sno_text.specs.Nodes.{pattern_of};
+ghost use Rattle.sno_pattern.specs.declared.choice_points.Ended.TheVariants.{OutOfSteps};
+ghost use Rattle.sno_pattern.specs.declared.choice_points.Turn.TheVariants.{Stay};
 ghost use Rattle.sno_pattern.specs.Looks.{Fits};
 ghost use Rattle.sno_pattern.specs.Steps.{Meet, outcome};
 ghost use Rattle.sno_pattern.specs.inner.Meeting.{IsEntered};
 ghost use Rattle.sno_pattern.specs.inner.Stack.{Second, goal_as, waiting_of, AllWithin, Entering, Led, Moved, resume, rank};
 
-use crate::choices::{Ended, Turn};
+use crate::choice_points::{Ended, Turn};
+use crate::consuming::{assigned, looked};
 use crate::host::{MatchHost, Taken};
-use crate::rows::plain;
-use crate::taking::{assigned, looked};
+use crate::steps::plain;
 use crate::trail::{Goal, Kind, Role, Trail};
-use sno_nodes::Node;
-use sno_nodes::reach::{Reach, misses, reached};
+use sno_text::Node;
+use sno_text::reach::{Reach, misses, reached};
 use std::alloc::{AllocError, Global};
 use std::rc::Rc;
 
@@ -108,7 +108,7 @@ pub(crate) fn meet<H: MatchHost>(
     requires all { AllWithin (length text.now) trail.old.opens }
     ensures moved { IfOk result (λ turn. Moved H.tells H.broken text.now host.old trail.old.opens (outcome text.now (Meet (pattern_of pattern.now.value) ∷ trail.old.goals) from (waiting_of text.now trail.old.waits) left.old) left.old host.new turn trail.new left.new) }
     ensures falls { IfOk result (λ turn. rank turn left.new < 3 * left.old + 1) }
-    ensures cut { OnErr result (Cut H.tells Fits H.broken (resume text.now trail.old.opens (outcome text.now (Meet (pattern_of pattern.now.value) ∷ trail.old.goals) from (waiting_of text.now trail.old.waits) left.old)) host.old host.new) }
+    ensures cut { OnErr result (StopsIn H.tells Fits H.broken (resume text.now trail.old.opens (outcome text.now (Meet (pattern_of pattern.now.value) ∷ trail.old.goals) from (waiting_of text.now trail.old.waits) left.old)) host.old host.new) }
     ensures ready { H.ready host.new }
 {
     let Some((node, at)) = descend(text, pattern, from, trail, left)? else {

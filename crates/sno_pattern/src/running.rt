@@ -1,18 +1,18 @@
 //! Goals taken one after the other until they come out.
 ghost use Rattle.std.specs.Prelude.{◌≤◌, ◌∷◌, [], length, IfOk, OnErr};
-ghost use Rattle.sno_nodes.specs.Nodes.{pattern_of};
+ghost use Rattle.sno_text.specs.Nodes.{pattern_of};
 ghost use Rattle.mon_text.specs.Lines.{IsLine};
-ghost use Rattle.sno_talk.specs.Holding.{Held, Cut};
+ghost use Rattle.interaction.specs.Holding.{RunsTo, StopsIn};
 ghost use Rattle.sno_pattern.specs.Looks.{Fits};
 ghost use Rattle.sno_pattern.specs.Steps.{Meet, outcome};
 ghost use Rattle.sno_pattern.specs.inner.Running.{outcome_of};
 
-use crate::choices::{Ended, Turn};
+use crate::choice_points::{Ended, Turn};
+use crate::consuming::take;
 use crate::host::MatchHost;
 use crate::meeting::meet;
-use crate::taking::take;
 use crate::trail::Trail;
-use sno_nodes::Node;
+use sno_text::Node;
 use std::alloc::{AllocError, Global};
 use std::rc::Rc;
 
@@ -36,8 +36,8 @@ pub(crate) fn run<H: MatchHost>(
     requires ready { H.ready host.old }
     requires printable { IsLine text.now }
     requires within { start ≤ length text.now }
-    ensures held { IfOk result (λ a. Held H.tells Fits (outcome text.now (Meet (pattern_of pattern.now.value) ∷ []) start [] limit) host.old (outcome_of text.now trail.new.waits a) host.new) }
-    ensures cut { OnErr result (Cut H.tells Fits H.broken (outcome text.now (Meet (pattern_of pattern.now.value) ∷ []) start [] limit) host.old host.new) }
+    ensures held { IfOk result (λ a. RunsTo H.tells Fits (outcome text.now (Meet (pattern_of pattern.now.value) ∷ []) start [] limit) host.old (outcome_of text.now trail.new.waits a) host.new) }
+    ensures cut { OnErr result (StopsIn H.tells Fits H.broken (outcome text.now (Meet (pattern_of pattern.now.value) ∷ []) start [] limit) host.old host.new) }
     ensures ready { H.ready host.new }
 {
     trail.clear();

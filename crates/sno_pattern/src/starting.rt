@@ -1,12 +1,12 @@
 //! Where a match starts: the starts that are missed at once.
 ghost use Rattle.std.specs.Prelude.{◌≡◌, ◌≤◌, ◌+◌, ◌-◌, ◌∷◌, List, Some, length, IfSome};
-ghost use Rattle.sno_nodes.specs.Nodes.{pattern_of};
+ghost use Rattle.sno_text.specs.Nodes.{pattern_of};
 ghost use Rattle.sno_pattern.specs.declared.ending.Pending.{Pending as Waits};
 ghost use Rattle.sno_pattern.specs.Steps.{Goal as Aim, Meet, Failure, ends, outcome, from_starts};
 ghost use Rattle.sno_pattern.specs.inner.Meeting.{first_part};
 
-use sno_nodes::Node;
-use sno_nodes::reach::misses;
+use sno_text::Node;
+use sno_text::reach::misses;
 
 /// The part of a pattern that is met right after it, where there is one such part.
 fn first_part(node: &Node) -> Option<&Node>

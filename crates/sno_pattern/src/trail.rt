@@ -6,8 +6,7 @@ ghost use Rattle.std.specs.Prelude.{◌≡◌, [], ◌∷◌, ◌++◌, drop, If
 ghost use Rattle.std.specs.Option.{MatchOption};
 ghost use Rattle.sno_pattern.specs.inner.Stack.{goal_of, trial_of, nothing_ahead};
 
-use sno_nodes::Node;
-use sno_text::Text;
+use sno_text::{Node, Text};
 use std::alloc::{AllocError, Global};
 use std::marker::Model;
 use std::rc::Rc;
@@ -84,7 +83,7 @@ pub(crate) struct Trail {
 impl Model for Trail {
     ghost use Rattle.std.specs.Prelude.{reverse};
     ghost use Rattle.std.specs.Coded.{codes};
-    ghost use Rattle.sno_nodes.specs.inner.Codes.{pattern_code};
+    ghost use Rattle.sno_text.specs.inner.Codes.{pattern_code};
     ghost use Rattle.sno_pattern.specs.inner.Stack.{Ahead};
 
     ghost Value = { Ahead };

@@ -1,3 +1,12 @@
 pub mod Standing
 pub mod Turns
 pub mod Tallying
+pub mod Naming
+pub mod Stepping
+pub mod Moved
+pub mod Parts
+pub mod MachineStanding
+pub mod Begins
+pub mod Assigning
+pub mod Splicing
+pub mod Staying

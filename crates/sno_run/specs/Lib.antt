@@ -1,4 +1,4 @@
 pub mod Jobs
-pub mod Told
+pub mod Abstraction
 pub mod Laws
 pub mod inner

@@ -2,13 +2,23 @@
 //!
 //! A job is a program with the state that its statements change. A turn is one statement with all calls in it. No
 //! statement is evaluated by recursion over its tree: a loop goes over its code, and only calls of functions nest.
+//!
+//! The machine that runs programs, over whoever answers what they ask.
+//!
+//! No statement is evaluated by recursion over its tree: a loop goes over its code, and only calls of functions nest.
 #![tactic(auto)]
 
+mod acting;
+mod doing;
 mod ending;
+mod going;
+mod items;
 pub mod laws;
+mod machine;
 mod turning;
 
 pub use ending::{Ending, Step};
-pub use sno_ask::{Act, Answer, Request, Script, Service};
-pub use sno_keeping::Limits;
+pub use machine::run_line;
+pub use interaction::{Act, Answer, Request, Script, Service};
+pub use sno_state::Limits;
 pub use turning::{Job, statement_turn};

@@ -1,24 +1,23 @@
 //! Jobs, and their turns.
 ghost use Rattle.std.specs.Prelude.{◌≡◌, List, IfOk, OnErr, Some};
-ghost use Rattle.sno_talk.specs.Exchanges.{Answered};
-ghost use Rattle.sno_ask.specs.Asking.{Exchange};
-ghost use Rattle.sno_ask.specs.Counting.{Held, Cut};
+ghost use Rattle.interaction.specs.Exchanges.{AnswersAll};
+ghost use Rattle.interaction.specs.Asking.{Exchange};
+ghost use Rattle.interaction.specs.Counting.{RunsTo, StopsIn};
 ghost use Rattle.sno_syntax.specs.Programs.{program_of};
 ghost use Rattle.sno_cards.specs.Limits.{AreLimits};
-ghost use Rattle.sno_meaning.specs.Execution.{On};
+ghost use Rattle.sno_semantics.specs.Execution.{On};
 ghost use Rattle.sno_run.specs.Jobs.{first_job, first_point, ending_of, stepped, statements_begun, TurnIs};
-ghost use Rattle.sno_run.specs.Told.{job_of};
-ghost use Rattle.sno_code.specs.inner.Seen.{point_seen, next_seen};
-ghost use Rattle.sno_loaded.specs.inner.Counting.{Started, beside};
+ghost use Rattle.sno_run.specs.Abstraction.{job_of};
+ghost use Rattle.sno_bytecode.specs.inner.Seen.{point_seen, next_seen};
+ghost use Rattle.sno_state.specs.inner.Counting.{Started, beside};
 ghost use Rattle.sno_run.specs.inner.Turning.{turned_of, HasLine, turn_coded, settled_coded};
 
 use crate::ending::{Ending, Step};
-use sno_ask::Service;
-use sno_code::{Next, Point};
-use sno_keeping::Limits;
-use sno_loaded::Loaded;
-use sno_machine::run_line;
-use sno_meaning::Halt;
+use crate::machine::run_line;
+use interaction::Service;
+use sno_bytecode::{Jump, Point};
+use sno_state::{CompiledProgram, Limits};
+use sno_semantics::Halt;
 use sno_stack::Stack;
 use sno_store::Store;
 use sno_syntax::{Program, Start};
@@ -28,7 +27,7 @@ use std::alloc::{AllocError, Global};
 /// A program with the state that its statements change.
 #[derive(Drop)]
 pub struct Job {
-    program: Loaded,
+    program: CompiledProgram,
     point: Point,
     store: Store,
     ended: Option<Ending>,
@@ -66,7 +65,7 @@ fn ending_of(halt: Halt, state: &Store) -> Ending
 }
 
 // What comes of going on at a point, in no function.
-fn settled_at(program: &Loaded, point: Point, state: &Store) -> Turned
+fn settled_at(program: &CompiledProgram, point: Point, state: &Store) -> Turned
     ensures { (turned_of result, state.now) ≡ settled_coded program.now (On (point_seen point), state.now) }
 {
     match point {
@@ -81,29 +80,29 @@ fn settled_at(program: &Loaded, point: Point, state: &Store) -> Turned
 }
 
 // What comes of where a statement leads that no function runs.
-fn settled(program: &Loaded, next: Next, state: &Store) -> Turned
+fn settled(program: &CompiledProgram, next: Jump, state: &Store) -> Turned
     ensures { (turned_of result, state.now) ≡ settled_coded program.now (next_seen next, state.now) }
 {
     match next {
-        Next::On(point) => settled_at(program, point, state),
-        Next::Over(halt) => Turned::Ended(halt),
+        Jump::On(point) => settled_at(program, point, state),
+        Jump::Over(halt) => Turned::Ended(halt),
     }
 }
 
 // A turn at a point.
 #[inline(always)]
-#[tactic(auto, using(sno_talk::proofs::Held::talking))]
+#[tactic(auto, using(interaction::proofs::Held::talking))]
 fn turn_at<S: Service>(
     alloc: Global,
-    program: &Loaded,
+    program: &CompiledProgram,
     point: Point,
     stack: &mut Stack,
     state: &mut Store,
     service: &mut S,
 ) -> Result<Turned, AllocError>
     requires { S.ready service.old }
-    ensures held { IfOk result (λ turned. Held S.answers (turn_coded program.now (point_seen point) state.old) (beside service.old state.old) (turned_of turned, state.new) (beside service.new state.new)) }
-    ensures cut { OnErr result (Cut S.answers (turn_coded program.now (point_seen point) state.old) (beside service.old state.old) (beside service.new state.new)) }
+    ensures held { IfOk result (λ turned. RunsTo S.answers (turn_coded program.now (point_seen point) state.old) (beside service.old state.old) (turned_of turned, state.new) (beside service.new state.new)) }
+    ensures cut { OnErr result (StopsIn S.answers (turn_coded program.now (point_seen point) state.old) (beside service.old state.old) (beside service.new state.new)) }
     ensures line { OnErr result (HasLine program.now (point_seen point)) }
     ensures started { OnErr result (Started program.now.limits state.old state.new) }
     ensures ready { S.ready service.new }
@@ -135,7 +134,7 @@ impl Job {
     {
         let point = first_point(program.start);
         let store = Store::new(alloc, program.labels.seed(), limits.statements)?;
-        let program = Loaded::new(alloc, program, limits)?;
+        let program = CompiledProgram::new(alloc, program, limits)?;
         Ok(Job {
             program,
             point,
@@ -174,10 +173,10 @@ impl Job {
 ///
 /// After `Memory` what was asked stands, and the job has ended. Memory is taken by a statement that has begun alone.
 #[inline(always)]
-#[tactic(auto, using(sno_talk::proofs::Held::talking))]
+#[tactic(auto, using(interaction::proofs::Held::talking))]
 pub fn statement_turn<S: Service>(alloc: Global, job: &mut Job, service: &mut S) -> Step
     requires { S.ready service.old }
-    ensures turn { (x : List Exchange) × Answered S.answers service.old x service.new × TurnIs (job_of job.old) x result (job_of job.new) }
+    ensures turn { (x : List Exchange) × AnswersAll S.answers service.old x service.new × TurnIs (job_of job.old) x result (job_of job.new) }
     ensures ready { S.ready service.new }
 {
     match job.ended {

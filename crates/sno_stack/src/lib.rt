@@ -3,4 +3,4 @@
 
 pub mod stack;
 
-pub use stack::{Found, Item, Spare, Stack, stuck};
+pub use stack::{Found, Spare, Stack, StackEntry, unreachable};

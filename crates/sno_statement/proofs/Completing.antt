@@ -2,16 +2,16 @@
 use Rattle.std.proofs.Common.{◌≡◌, List, [], ◌∷◌, refl, sym, ap, ◌∙◌, subst}
 use Rattle.std.specs.Prelude.{Bool, true, false, Option, Some, None}
 use Rattle.std.proofs.Common.{inl, inr}
-use Rattle.sno_token.specs.declared.Mark.{Mark}
-use Rattle.sno_token.specs.declared.Mark.TheVariants.{Dollar}
-use Rattle.sno_token.specs.declared.Outcome.{Outcome}
-use Rattle.sno_token.specs.declared.Outcome.TheVariants.{Success, Failure}
-use Rattle.sno_token.specs.declared.Part.TheVariants.{Equals, Colon}
-use Rattle.sno_token.specs.declared.Token.{Token}
-use Rattle.sno_token.specs.declared.TokenKind.TheVariants as token
-use Rattle.sno_tree.specs.declared.tree.UnaryOperator.TheVariants.{Indirect}
-use Rattle.sno_tree.specs.Expressions.{Expression, Unary}
-use Rattle.sno_tree.specs.Spelling.{spaced, SpellsTo}
+use Rattle.sno_lexer.specs.declared.token.Mark.{Mark}
+use Rattle.sno_lexer.specs.declared.token.Mark.TheVariants.{Dollar}
+use Rattle.sno_lexer.specs.declared.token.Outcome.{Outcome}
+use Rattle.sno_lexer.specs.declared.token.Outcome.TheVariants.{Success, Failure}
+use Rattle.sno_lexer.specs.declared.token.Part.TheVariants.{Equals, Colon}
+use Rattle.sno_lexer.specs.declared.token.Token.{Token}
+use Rattle.sno_lexer.specs.declared.token.TokenKind.TheVariants as token
+use Rattle.sno_expression.specs.declared.tree.UnaryOperator.TheVariants.{Indirect}
+use Rattle.sno_expression.specs.Expressions.{Expression, Unary}
+use Rattle.sno_expression.specs.Spelling.{spaced, SpellsTo}
 use Rattle.sno_expression.specs.inner.Reading.{Stops, reading}
 use Rattle.sno_statement.specs.declared.walking.Role.{Role}
 use Rattle.sno_statement.specs.inner.Walking.{stands}

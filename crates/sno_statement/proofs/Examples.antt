@@ -1,18 +1,18 @@
 -- Examples, by computing: what the tokens of a statement are read as, and where their leftmost fault stands.
 use Rattle.std.proofs.Common.{◌≡◌, ℕ, List, [], ◌∷◌, refl}
 use Rattle.std.specs.Prelude.{Bool, true, false, Option, Some, None}
-use Rattle.sno_token.specs.declared.Constant.TheVariants as constant
-use Rattle.sno_token.specs.declared.Mark.{Mark}
-use Rattle.sno_token.specs.declared.Mark.TheVariants.{Power, Star, Slash, Plus, Minus, Bar, Dot, Dollar, At, Ampersand}
-use Rattle.sno_token.specs.declared.Outcome.{Outcome}
-use Rattle.sno_token.specs.declared.Outcome.TheVariants.{Success, Failure}
-use Rattle.sno_token.specs.declared.Part.TheVariants.{Equals, Colon, On, Label}
-use Rattle.sno_token.specs.declared.Token.{Token}
-use Rattle.sno_token.specs.declared.TokenKind.TheVariants as token
-use Rattle.sno_tree.specs.Spelling.{spaced}
-use Rattle.sno_tree.specs.declared.tree.BinaryOperator.TheVariants as operator
-use Rattle.sno_tree.specs.declared.tree.UnaryOperator.TheVariants as unary
-use Rattle.sno_tree.specs.Expressions.{Expression, Identifier, Constant, Keyword, Group, Call, TableItem, Unary, Binary, NoArguments, Omitted, Argument}
+use Rattle.sno_lexer.specs.declared.token.Constant.TheVariants as constant
+use Rattle.sno_lexer.specs.declared.token.Mark.{Mark}
+use Rattle.sno_lexer.specs.declared.token.Mark.TheVariants.{Power, Star, Slash, Plus, Minus, Bar, Dot, Dollar, At, Ampersand}
+use Rattle.sno_lexer.specs.declared.token.Outcome.{Outcome}
+use Rattle.sno_lexer.specs.declared.token.Outcome.TheVariants.{Success, Failure}
+use Rattle.sno_lexer.specs.declared.token.Part.TheVariants.{Equals, Colon, On, Label}
+use Rattle.sno_lexer.specs.declared.token.Token.{Token}
+use Rattle.sno_lexer.specs.declared.token.TokenKind.TheVariants as token
+use Rattle.sno_expression.specs.Spelling.{spaced}
+use Rattle.sno_expression.specs.declared.tree.BinaryOperator.TheVariants as operator
+use Rattle.sno_expression.specs.declared.tree.UnaryOperator.TheVariants as unary
+use Rattle.sno_expression.specs.Expressions.{Expression, Identifier, Constant, Keyword, Group, Call, TableItem, Unary, Binary, NoArguments, Omitted, Argument}
 use Rattle.sno_statement.specs.declared.fault.Fault.{Fault}
 use Rattle.sno_statement.specs.declared.fault.FaultKind.TheVariants.{MissingBlank, Unfit, NoVariable}
 use Rattle.sno_statement.specs.Statements.{Target, To, Computed, NoGoto, Always, OnSuccess, OnFailure, OnBoth, NoObject, NullObject, ValueObject, NoBody, Does, Statement, Says}

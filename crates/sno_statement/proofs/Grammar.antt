@@ -1,7 +1,7 @@
 -- What the walk takes and notes, by the grammar, and that tokens spell one statement at the most.
 use Rattle.std.proofs.Common.{◌≡◌, ℕ, ◌+◌, List, [], ◌∷◌, refl, sym, ◌∙◌}
 use Rattle.std.specs.Prelude.{Bool, true, false, Option, Some, None, is_some, is_none, Ok, if◌then◌else◌}
-use Rattle.sno_token.specs.declared.Token.{Token}
+use Rattle.sno_lexer.specs.declared.token.Token.{Token}
 use Rattle.sno_statement.specs.declared.fault.Fault.{Fault}
 use Rattle.sno_statement.specs.declared.fault.FaultKind.TheVariants.{Unfit}
 use Rattle.sno_statement.specs.declared.statement.Statement.{Statement as AStatement}
@@ -12,7 +12,7 @@ use Rattle.sno_statement.specs.inner.Walking.{Walk, take, begins, may_end}
 use Rattle.sno_statement.specs.inner.Faults.{FaultAt, refused_as, then_on, refusal_from, refusal, noted, earlier, fault}
 use Rattle.sno_statement.specs.inner.Reading.{statement_in}
 use Rattle.sno_statement.specs.inner.Variables.{fitting}
-use Rattle.sno_statement.specs.Told.{statement_of, Parsed}
+use Rattle.sno_statement.specs.Abstraction.{statement_of, Parsed}
 use Rattle.sno_statement.specs.Laws.{OneStatement, Taken}
 use Rattle.sno_statement.specs.inner.Laws.{NotesExactly}
 use Rattle.sno_statement.proofs.Completing.{statement_read}

@@ -1,32 +1,32 @@
 -- A walk over the tokens of a tree notes the places that lack a variable.
 use Rattle.std.proofs.Common.{arith, ◌≡◌, ℕ, ◌+◌, ◌-◌, List, [], ◌∷◌, ◌++◌, refl, sym, ap, ◌∙◌, subst}
 use Rattle.std.specs.Prelude.{Bool, true, false, not, ◌&&◌, Option, Some, None, if◌then◌else◌}
-use Rattle.sno_token.specs.declared.Mark.{Mark}
-use Rattle.sno_token.specs.declared.Mark.TheVariants as mark
-use Rattle.sno_token.specs.declared.Token.{Token}
-use Rattle.sno_token.specs.declared.TokenKind.{TokenKind}
-use Rattle.sno_token.specs.declared.TokenKind.TheVariants as token
-use Rattle.sno_tree.specs.declared.tree.BinaryOperator.{BinaryOperator}
-use Rattle.sno_tree.specs.declared.tree.BinaryOperator.TheVariants.{Concatenation}
-use Rattle.sno_tree.specs.declared.tree.UnaryOperator.{UnaryOperator}
-use Rattle.sno_tree.specs.declared.tree.UnaryOperator.TheVariants as unary
-use Rattle.sno_tree.specs.declared.tree.Prefix.TheVariants.{OfOperand}
+use Rattle.sno_lexer.specs.declared.token.Mark.{Mark}
+use Rattle.sno_lexer.specs.declared.token.Mark.TheVariants as mark
+use Rattle.sno_lexer.specs.declared.token.Token.{Token}
+use Rattle.sno_lexer.specs.declared.token.TokenKind.{TokenKind}
+use Rattle.sno_lexer.specs.declared.token.TokenKind.TheVariants as token
+use Rattle.sno_expression.specs.declared.tree.BinaryOperator.{BinaryOperator}
+use Rattle.sno_expression.specs.declared.tree.BinaryOperator.TheVariants.{Concatenation}
+use Rattle.sno_expression.specs.declared.tree.UnaryOperator.{UnaryOperator}
+use Rattle.sno_expression.specs.declared.tree.UnaryOperator.TheVariants as unary
+use Rattle.sno_expression.specs.declared.tree.Prefix.TheVariants.{OfOperand}
 use Rattle.sno_expression.specs.declared.walking.Paren.{Paren}
 use Rattle.sno_expression.specs.declared.walking.Paren.TheVariants.{OfGroup, OfCall, OfItem}
 use Rattle.sno_expression.specs.declared.walking.Position.{Position}
 use Rattle.sno_expression.specs.declared.walking.Position.TheVariants.{AtStart, AfterBinary, AfterUnary, AfterPrefix, AfterIdentifier, AfterOperand}
 use Rattle.sno_expression.specs.declared.walking.Move.{Move}
 use Rattle.sno_expression.specs.declared.walking.Move.TheVariants as move
-use Rattle.sno_tree.specs.Marks.{prefix_of, needs_variable, operand_is_variable}
-use Rattle.sno_tree.specs.Expressions.{Expression, Arguments, Identifier, Constant, Keyword, Unevaluated, Group, Call, TableItem, Unary, Binary, NoArguments, Omitted, Argument, AreSome, IsOperand, HasLevels, HaveLevels, is_variable}
-use Rattle.sno_tree.specs.Spelling.{spaced, Joins, Parts, SpellsTo, SpellTo}
+use Rattle.sno_expression.specs.Marks.{prefix_of, needs_variable, operand_is_variable}
+use Rattle.sno_expression.specs.Expressions.{Expression, Arguments, Identifier, Constant, Keyword, Unevaluated, Group, Call, TableItem, Unary, Binary, NoArguments, Omitted, Argument, AreSome, IsOperand, HasLevels, HaveLevels, is_variable}
+use Rattle.sno_expression.specs.Spelling.{spaced, Joins, Parts, SpellsTo, SpellTo}
 use Rattle.sno_expression.specs.inner.Walking.{begin, prefixed, joined, first, go_on, stops, step, begins_variable, is_misfit, misfit_index, inner_of, outer_of, ends, after_operand, paren_of}
 use Rattle.sno_statement.specs.declared.walking.Field.{Field}
 use Rattle.sno_statement.specs.declared.walking.Stage.TheVariants.{In}
 use Rattle.sno_statement.specs.declared.walking.SubjectKind.{SubjectKind}
 use Rattle.sno_statement.specs.inner.Walking.{Walk, At, role_by, role, alone, in_field, advanced}
 use Rattle.sno_statement.specs.inner.Faults.{is_unset, note, least, noted_from, then_note}
-use Rattle.sno_tree.specs.Lacking.{between, comma_behind, lacking, lacking_among}
+use Rattle.sno_expression.specs.Lacking.{between, comma_behind, lacking, lacking_among}
 use Rattle.sno_statement.proofs.Strides.{taken_sets}
 use Rattle.sno_statement.proofs.Roles.{Apart}
 use Rattle.sno_statement.proofs.Marked.{marked, marked_append, marked_same, least_nothing}

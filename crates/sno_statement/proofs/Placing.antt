@@ -2,23 +2,23 @@
 use Rattle.std.proofs.Common.{◌≡◌, ℕ, ◌+◌, List, [], ◌∷◌, ◌++◌, refl, sym, ap, ◌∙◌}
 use Rattle.std.specs.Prelude.{Bool, true, false, not, ◌&&◌, Option, Some, None, is_some}
 use Rattle.std.proofs.Common.{inl, inr}
-use Rattle.sno_token.specs.declared.Mark.{Mark}
-use Rattle.sno_token.specs.declared.Mark.TheVariants.{Dollar}
-use Rattle.sno_token.specs.declared.Outcome.{Outcome}
-use Rattle.sno_token.specs.declared.Outcome.TheVariants.{Success, Failure}
-use Rattle.sno_token.specs.declared.Part.TheVariants.{Equals, Colon, Label}
-use Rattle.sno_token.specs.declared.Token.{Token}
-use Rattle.sno_token.specs.declared.TokenKind.{TokenKind}
-use Rattle.sno_token.specs.declared.TokenKind.TheVariants as token
-use Rattle.sno_tree.specs.declared.tree.BinaryOperator.{BinaryOperator}
-use Rattle.sno_tree.specs.declared.tree.BinaryOperator.TheVariants.{Concatenation}
-use Rattle.sno_tree.specs.declared.tree.UnaryOperator.TheVariants.{Indirect}
-use Rattle.sno_tree.specs.declared.tree.UnaryOperator.TheVariants as unary
+use Rattle.sno_lexer.specs.declared.token.Mark.{Mark}
+use Rattle.sno_lexer.specs.declared.token.Mark.TheVariants.{Dollar}
+use Rattle.sno_lexer.specs.declared.token.Outcome.{Outcome}
+use Rattle.sno_lexer.specs.declared.token.Outcome.TheVariants.{Success, Failure}
+use Rattle.sno_lexer.specs.declared.token.Part.TheVariants.{Equals, Colon, Label}
+use Rattle.sno_lexer.specs.declared.token.Token.{Token}
+use Rattle.sno_lexer.specs.declared.token.TokenKind.{TokenKind}
+use Rattle.sno_lexer.specs.declared.token.TokenKind.TheVariants as token
+use Rattle.sno_expression.specs.declared.tree.BinaryOperator.{BinaryOperator}
+use Rattle.sno_expression.specs.declared.tree.BinaryOperator.TheVariants.{Concatenation}
+use Rattle.sno_expression.specs.declared.tree.UnaryOperator.TheVariants.{Indirect}
+use Rattle.sno_expression.specs.declared.tree.UnaryOperator.TheVariants as unary
 use Rattle.sno_expression.specs.declared.walking.Position.TheVariants.{AtStart, AfterUnary, AfterOperand}
 use Rattle.sno_expression.specs.declared.walking.Move.{Move}
 use Rattle.sno_expression.specs.declared.walking.Move.TheVariants as move
-use Rattle.sno_tree.specs.Expressions.{Expression, Arguments, Identifier, Constant, Keyword, Unevaluated, Group, Call, TableItem, Unary, Binary, NoArguments, Omitted, Argument, IsOperand, HasLevels, is_variable}
-use Rattle.sno_tree.specs.Spelling.{spaced, Joins, Parts, SpellsTo, SpellTo}
+use Rattle.sno_expression.specs.Expressions.{Expression, Arguments, Identifier, Constant, Keyword, Unevaluated, Group, Call, TableItem, Unary, Binary, NoArguments, Omitted, Argument, IsOperand, HasLevels, is_variable}
+use Rattle.sno_expression.specs.Spelling.{spaced, Joins, Parts, SpellsTo, SpellTo}
 use Rattle.sno_expression.specs.inner.Walking.{begin, opens_bracket}
 use Rattle.sno_expression.specs.inner.Reading.{Stops}
 use Rattle.sno_statement.specs.declared.walking.Field.TheVariants.{Subject, Pattern, Object as Given, Target as InComputed}
@@ -28,10 +28,10 @@ use Rattle.sno_statement.specs.Statements.{Target, To, Computed, Goto, NoGoto, A
 use Rattle.sno_statement.specs.Spelling.{TargetTo, OutcomeTo, LeadsTo, GotoTo, ObjectTo, Spells}
 use Rattle.sno_statement.specs.declared.walking.Role.{Role}
 use Rattle.sno_statement.specs.declared.walking.Field.{Field}
-use Rattle.sno_tree.specs.Marks.{operand_is_variable}
+use Rattle.sno_expression.specs.Marks.{operand_is_variable}
 use Rattle.sno_statement.specs.inner.Walking.{Walk, At, begins, other, role_by, stands, advanced, enter, continued, at_first, after_equals, after_subject}
 use Rattle.sno_statement.specs.inner.Faults.{note, least, noted_from, then_note, noted, is_unset, subject_kind}
-use Rattle.sno_tree.specs.Lacking.{lacking}
+use Rattle.sno_expression.specs.Lacking.{lacking}
 use Rattle.sno_statement.specs.Lacking.{is_wrong, lacking_object, lacking_body, lacking_target, lacking_goto, named_first, lacking_in}
 use Rattle.sno_statement.proofs.Roles.{Apart, dollar, kind_spelled}
 use Rattle.sno_statement.proofs.Completing.{goto_stops, object_stops, pattern_stops}

@@ -1,12 +1,12 @@
 -- Parts of the definitions by names of their own.
 use Rattle.std.specs.Prelude.{◌≡◌, Bool, true, false, List, [], ◌∷◌, Option, IfSome, MatchOption}
 use Rattle.std.specs.Option.{option_map_or}
-use Rattle.sno_token.specs.declared.Part.TheVariants.{Colon}
-use Rattle.sno_token.specs.declared.Token.{Token}
-use Rattle.sno_token.specs.declared.TokenKind.TheVariants as token
-use Rattle.sno_tree.specs.Expressions.{Expression, HasLevels}
-use Rattle.sno_tree.specs.Lacking.{lacking}
-use Rattle.sno_tree.specs.Spelling.{spaced, SpellsTo}
+use Rattle.sno_lexer.specs.declared.token.Part.TheVariants.{Colon}
+use Rattle.sno_lexer.specs.declared.token.Token.{Token}
+use Rattle.sno_lexer.specs.declared.token.TokenKind.TheVariants as token
+use Rattle.sno_expression.specs.Expressions.{Expression, HasLevels}
+use Rattle.sno_expression.specs.Lacking.{lacking}
+use Rattle.sno_expression.specs.Spelling.{spaced, SpellsTo}
 use Rattle.sno_statement.specs.Spelling.{LeadsTo}
 use Rattle.sno_statement.specs.Statements.{Goto}
 

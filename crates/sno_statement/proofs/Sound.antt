@@ -1,16 +1,16 @@
 -- What the tokens are read as has levels and spells them.
 use Rattle.std.proofs.Common.{◌≡◌, ℕ, List, [], ◌∷◌, refl, ap, subst, inl, inr}
 use Rattle.std.specs.Prelude.{Bool, true, false, Option, Some, None}
-use Rattle.sno_token.specs.declared.Mark.TheVariants.{Dollar}
-use Rattle.sno_token.specs.declared.Outcome.{Outcome}
-use Rattle.sno_token.specs.declared.Outcome.TheVariants.{Success, Failure}
-use Rattle.sno_token.specs.declared.Part.TheVariants.{Equals, Colon, On, Label}
-use Rattle.sno_token.specs.declared.Token.{Token}
-use Rattle.sno_token.specs.declared.TokenKind.{TokenKind}
-use Rattle.sno_token.specs.declared.TokenKind.TheVariants as token
-use Rattle.sno_tree.specs.declared.tree.UnaryOperator.TheVariants.{Indirect}
-use Rattle.sno_tree.specs.Expressions.{Expression, Unary, HasLevels, IsOperand}
-use Rattle.sno_tree.specs.Spelling.{spaced, SpellsTo}
+use Rattle.sno_lexer.specs.declared.token.Mark.TheVariants.{Dollar}
+use Rattle.sno_lexer.specs.declared.token.Outcome.{Outcome}
+use Rattle.sno_lexer.specs.declared.token.Outcome.TheVariants.{Success, Failure}
+use Rattle.sno_lexer.specs.declared.token.Part.TheVariants.{Equals, Colon, On, Label}
+use Rattle.sno_lexer.specs.declared.token.Token.{Token}
+use Rattle.sno_lexer.specs.declared.token.TokenKind.{TokenKind}
+use Rattle.sno_lexer.specs.declared.token.TokenKind.TheVariants as token
+use Rattle.sno_expression.specs.declared.tree.UnaryOperator.TheVariants.{Indirect}
+use Rattle.sno_expression.specs.Expressions.{Expression, Unary, HasLevels, IsOperand}
+use Rattle.sno_expression.specs.Spelling.{spaced, SpellsTo}
 use Rattle.sno_expression.specs.inner.Reading.{Reading, Read, reading}
 use Rattle.sno_statement.specs.declared.walking.Role.{Role}
 use Rattle.sno_statement.specs.declared.walking.Role.TheVariants.{Assigns, Goes, Follows, Touches}

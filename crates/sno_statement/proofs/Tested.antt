@@ -1,13 +1,13 @@
 -- The test for what lacks a variable says what it should.
 use Rattle.std.proofs.Common.{◌≡◌, ℕ, ◌+◌, List, [], ◌∷◌, ◌++◌, refl, sym, ap, ◌∙◌}
 use Rattle.std.specs.Prelude.{Bool, true, false, nat_le, ◌||◌, Option, Some, None, if◌then◌else◌}
-use Rattle.sno_token.specs.declared.Outcome.{Outcome}
-use Rattle.sno_token.specs.declared.Outcome.TheVariants.{Success, Failure}
-use Rattle.sno_token.specs.declared.Token.{Token}
-use Rattle.sno_tree.specs.Expressions.{Expression}
-use Rattle.sno_tree.specs.Lacking.{lacking}
-use Rattle.sno_tree.specs.inner.Variables.{lacks}
-use Rattle.sno_tree.proofs.Tested.{marked, marked_both, marked_first, tested}
+use Rattle.sno_lexer.specs.declared.token.Outcome.{Outcome}
+use Rattle.sno_lexer.specs.declared.token.Outcome.TheVariants.{Success, Failure}
+use Rattle.sno_lexer.specs.declared.token.Token.{Token}
+use Rattle.sno_expression.specs.Expressions.{Expression}
+use Rattle.sno_expression.specs.Lacking.{lacking}
+use Rattle.sno_expression.specs.inner.Variables.{lacks}
+use Rattle.sno_expression.proofs.Tested.{marked, marked_both, marked_first, tested}
 use Rattle.sno_statement.specs.Statements.{Target, To, Computed, Goto, NoGoto, Always, OnSuccess, OnFailure, OnBoth, Object, NoObject, NullObject, ValueObject, Body, NoBody, Does, Statement, Says}
 use Rattle.sno_statement.specs.Lacking.{is_wrong, lacking_object, lacking_body, lacking_target, lacking_goto, named_first, lacking_in, StatementHasVariables}
 use Rattle.sno_statement.specs.inner.Variables.{target_lacks, goto_lacks, pattern_lacks, object_lacks, body_lacks, statement_lacks, fitting}

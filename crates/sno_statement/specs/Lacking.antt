@@ -2,15 +2,15 @@
 -- is none (own).
 use Rattle.std.specs.Prelude.{◌≡◌, Bool, false, not, ◌++◌, List, [], ◌∷◌, Option, Some, None, is_some}
 use Rattle.std.specs.List.{list_any}
-use Rattle.sno_token.specs.declared.Outcome.{Outcome}
-use Rattle.sno_token.specs.declared.Outcome.TheVariants.{Success, Failure}
-use Rattle.sno_token.specs.declared.Part.TheVariants.{On}
-use Rattle.sno_token.specs.declared.Token.{Token}
-use Rattle.sno_token.specs.declared.TokenKind.{TokenKind}
-use Rattle.sno_token.specs.declared.TokenKind.TheVariants as token
-use Rattle.sno_tree.specs.declared.tree.UnaryOperator.TheVariants.{Indirect}
-use Rattle.sno_tree.specs.Expressions.{Expression, Unary}
-use Rattle.sno_tree.specs.Lacking.{lacking}
+use Rattle.sno_lexer.specs.declared.token.Outcome.{Outcome}
+use Rattle.sno_lexer.specs.declared.token.Outcome.TheVariants.{Success, Failure}
+use Rattle.sno_lexer.specs.declared.token.Part.TheVariants.{On}
+use Rattle.sno_lexer.specs.declared.token.Token.{Token}
+use Rattle.sno_lexer.specs.declared.token.TokenKind.{TokenKind}
+use Rattle.sno_lexer.specs.declared.token.TokenKind.TheVariants as token
+use Rattle.sno_expression.specs.declared.tree.UnaryOperator.TheVariants.{Indirect}
+use Rattle.sno_expression.specs.Expressions.{Expression, Unary}
+use Rattle.sno_expression.specs.Lacking.{lacking}
 use Rattle.sno_statement.specs.Statements.{Target, To, Computed, Goto, NoGoto, Always, OnSuccess, OnFailure, OnBoth, Object, NoObject, NullObject, ValueObject, Body, NoBody, Does, Statement, Says, kind_of, can_be_set}
 use Rattle.std.specs.Option.{option_map_or}
 

@@ -1,6 +1,6 @@
 -- What holds of statements and tokens.
 use Rattle.std.specs.Prelude.{◌≡◌, ◌↔◌, List, Some, None}
-use Rattle.sno_token.specs.declared.Token.{Token}
+use Rattle.sno_lexer.specs.declared.token.Token.{Token}
 use Rattle.sno_statement.specs.declared.fault.Fault.{Fault}
 use Rattle.sno_statement.specs.Statements.{Statement, StatementHasLevels}
 use Rattle.sno_statement.specs.Spelling.{Spells}

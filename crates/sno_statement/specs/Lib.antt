@@ -2,6 +2,6 @@ pub mod Statements
 pub mod Spelling
 pub mod Lacking
 pub mod Faults
-pub mod Told
+pub mod Abstraction
 pub mod Laws
 pub mod inner

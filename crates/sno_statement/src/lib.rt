@@ -5,8 +5,8 @@ mod fault;
 mod finding;
 mod fitting;
 pub mod laws;
+mod parser;
 mod parsing;
-mod reading;
 mod statement;
 mod walking;
 

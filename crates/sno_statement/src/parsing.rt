@@ -2,16 +2,16 @@
 
 ghost use Rattle.std.specs.Prelude.{◌≡◌, Some, None, IfOk};
 ghost use Rattle.sno_statement.specs.inner.Faults.{fault};
-ghost use Rattle.sno_statement.specs.Told.{Parsed};
+ghost use Rattle.sno_statement.specs.Abstraction.{Parsed};
 ghost use Rattle.sno_statement.specs.inner.Reading.{statement_in};
 ghost use Rattle.sno_statement.specs.inner.Variables.{fitting};
 
 use crate::fault::Fault;
 use crate::finding::find_fault;
 use crate::fitting::fitting;
-use crate::reading::read_statement;
+use crate::parser::read_statement;
 use crate::statement::Statement;
-use sno_token::Token;
+use sno_lexer::Token;
 use std::alloc::{AllocError, Global};
 
 // What is wrong with tokens that spell no statement.

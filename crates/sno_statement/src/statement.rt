@@ -1,7 +1,7 @@
 //! Statements without their labels.
 
 use mon_text::Line;
-use sno_tree::Expression;
+use sno_expression::Expression;
 
 /// Where a goto leads.
 #[derive(Drop)]

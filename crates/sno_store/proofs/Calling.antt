@@ -4,14 +4,14 @@ use Rattle.std.proofs.lemmas.List.{append_assoc, append-nil, length-append, reve
 use Rattle.std.specs.Prelude.{unwrap_or}
 use Rattle.sno_value.specs.declared.value.Value.{Value}
 use Rattle.sno_value.specs.Values.{null}
-use Rattle.sno_prototype.specs.declared.prototype.Prototype.{Prototype}
-use Rattle.sno_prototype.specs.Prototypes.{names_of}
-use Rattle.sno_prototype.specs.declared.definition.Definition.{Definition}
+use Rattle.sno_declarations.specs.declared.prototype.Prototype.{Prototype}
+use Rattle.sno_declarations.specs.Prototypes.{names_of}
+use Rattle.sno_declarations.specs.declared.definition.Definition.{Definition}
 use Rattle.sno_variables.specs.Variables.{Variables, value_of}
 use Rattle.sno_variables.specs.Bindings.{Bindings, paired, assigned}
 use Rattle.sno_variables.specs.inner.Exchanging.{values_now}
 use Rattle.sno_variables.proofs.Exchanged.{saved_pairs, length_now}
-use Rattle.sno_store.specs.Levels.{Level}
+use Rattle.sno_store.specs.CallFrames.{CallFrame}
 use Rattle.sno_store.specs.Calls.{bindings_of, level_with}
 use Rattle.sno_store.specs.inner.Filling.{fitted, values_for}
 
@@ -71,9 +71,9 @@ pub call_assigned : (p : Prototype) (arguments ws : List Value) (vs : Variables)
 call_assigned p arguments ws vs is = ap (λ (bs : Bindings). assigned bs vs) (ap (paired (names_of p)) is ∙ for_call p arguments)
 
 pub level_begun : (d : Definition) (statement : ℕ) (vs : Variables) (ws : List Value) → ws ≡ values_now (names_of d.prototype) vs
-    → ◌≡◌ {A = Level} (record { name = d.prototype.name; saved = paired (names_of d.prototype) ws; statement = statement }) (level_with d statement vs)
+    → ◌≡◌ {A = CallFrame} (record { name = d.prototype.name; saved = paired (names_of d.prototype) ws; statement = statement }) (level_with d statement vs)
 level_begun d statement vs ws is =
-    ap (λ (bs : Bindings). let l : Level = record { name = d.prototype.name; saved = bs; statement = statement } in l)
+    ap (λ (bs : Bindings). let l : CallFrame = record { name = d.prototype.name; saved = bs; statement = statement } in l)
     (ap (paired (names_of d.prototype)) is ∙ saved_pairs (names_of d.prototype) vs)
 
 pub first_now : (p : Prototype) (vs : Variables) (ws : List Value) → ws ≡ values_now (names_of p) vs → unwrap_or (slice_get ws 0) null ≡ value_of p.name vs
@@ -83,12 +83,12 @@ reverse_added : {A : Type 0} (xs : List A) (x : A) → reverse (xs ++ x ∷ []) 
 reverse_added xs x = reverse-append xs (x ∷ [])
 
 -- the level of a call before the others
-pub level_added : (d e : Definition) (statement : ℕ) (vs : Variables) (ws : List Value) (olds news : List Level) → d ≡ e → ws ≡ values_now (names_of d.prototype) vs
+pub level_added : (d e : Definition) (statement : ℕ) (vs : Variables) (ws : List Value) (olds news : List CallFrame) → d ≡ e → ws ≡ values_now (names_of d.prototype) vs
     → news ≡ olds ++ record { name = d.prototype.name; saved = paired (names_of d.prototype) ws; statement = statement } ∷ [] → reverse news ≡ level_with e statement vs ∷ reverse olds
 level_added d e statement vs ws olds news same is added =
-    ap (λ (ls : List Level). reverse ls) added
+    ap (λ (ls : List CallFrame). reverse ls) added
     ∙ reverse_added olds (record { name = d.prototype.name; saved = paired (names_of d.prototype) ws; statement = statement })
-    ∙ ap (λ (l : Level). l ∷ reverse olds) (level_begun d statement vs ws is ∙ ap (λ (f : Definition). level_with f statement vs) same)
+    ∙ ap (λ (l : CallFrame). l ∷ reverse olds) (level_begun d statement vs ws is ∙ ap (λ (f : Definition). level_with f statement vs) same)
 
 pub ruleset beginning = (values_fit, values_still_fit, call_assigned, level_begun)
 

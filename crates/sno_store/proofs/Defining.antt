@@ -4,7 +4,7 @@ use Rattle.std.specs.Prelude.{◌||◌, if◌then◌else◌}
 use Rattle.std.specs.Map.{lookup}
 use Rattle.std.specs.Cmp.Lexicographic.{pointwise, bytes_decides}
 use Rattle.indexmap.specs.IndexMap.{insert_entry}
-use Rattle.sno_prototype.specs.declared.definition.Definition.{Definition}
+use Rattle.sno_declarations.specs.declared.definition.Definition.{Definition}
 use Rattle.sno_store.specs.Callees.{is_built_in, any_built_in}
 use Rattle.sno_variables.proofs.Looking.{same}
 

@@ -1,14 +1,14 @@
 -- The innermost call ends.
 use Rattle.std.proofs.Common.{◌≡◌, ℕ, List, [], ◌∷◌, drop, None, Some, refl, sym, ap}
 use Rattle.sno_value.specs.Values.{null}
-use Rattle.sno_store.specs.Levels.{Level}
+use Rattle.sno_store.specs.CallFrames.{CallFrame}
 use Rattle.sno_store.specs.declared.store.Store.{Store as State}
 use Rattle.sno_variables.specs.Variables.{Variables}
 use Rattle.sno_store.specs.Keywords.{at_statement}
 use Rattle.sno_variables.specs.Bindings.{assigned}
 use Rattle.sno_store.specs.Calls.{saved_by, statement_of, left_by, call_left, value_given, given_back}
 
-left_to : (s : State) (levels : List Level) (n : ℕ) → Some n ≡ statement_of levels
+left_to : (s : State) (levels : List CallFrame) (n : ℕ) → Some n ≡ statement_of levels
     → record s { variables = assigned (saved_by levels) s.variables; keywords = at_statement n s.keywords; levels = drop 1 levels } ≡ left_by levels s
 left_to s [] n e = cc
 left_to s (level ∷ levels) n e =
@@ -19,15 +19,15 @@ pub left_one : (s : State) (n : ℕ) → Some n ≡ statement_of s.levels
     → record s { variables = assigned (saved_by s.levels) s.variables; keywords = at_statement n s.keywords; levels = drop 1 s.levels } ≡ call_left s
 left_one s n e = left_to s s.levels n e
 
-none_to : (s : State) (levels : List Level) → s.levels ≡ levels → None ≡ statement_of levels
+none_to : (s : State) (levels : List CallFrame) → s.levels ≡ levels → None ≡ statement_of levels
     → record s { variables = assigned (saved_by levels) s.variables; levels = drop 1 levels } ≡ left_by levels s
-none_to s [] at e = ap (λ (ls : List Level). let t : State = record s { levels = ls } in t) (sym at)
+none_to s [] at e = ap (λ (ls : List CallFrame). let t : State = record s { levels = ls } in t) (sym at)
 none_to s (level ∷ levels) at e = cc
 
 pub left_none : (s : State) → None ≡ statement_of s.levels → record s { variables = assigned (saved_by s.levels) s.variables; levels = drop 1 s.levels } ≡ call_left s
 left_none s e = none_to s s.levels refl e
 
-none_given : (levels : List Level) (vs : Variables) → None ≡ statement_of levels → null ≡ value_given levels vs
+none_given : (levels : List CallFrame) (vs : Variables) → None ≡ statement_of levels → null ≡ value_given levels vs
 none_given [] vs e = refl
 none_given (level ∷ levels) vs e = cc
 

@@ -5,10 +5,10 @@ use Rattle.sno_text.specs.declared.fault.Fault.{Fault}
 use Rattle.sno_value.specs.Values.{number_of}
 use Rattle.sno_value.specs.declared.value.Value.{Value}
 use Rattle.sno_text.specs.declared.fault.Fault.TheVariants as fault
-use Rattle.sno_prototype.specs.Arguments.{go_on, or_fault, name_in, input_in, output_in}
-use Rattle.sno_prototype.specs.Definitions.{definition_in}
+use Rattle.sno_declarations.specs.Arguments.{go_on, or_fault, name_in, input_in, output_in}
+use Rattle.sno_declarations.specs.Definitions.{definition_in}
 use Rattle.sno_store.specs.declared.keyword.Keyword.{Keyword}
-use Rattle.sno_store.specs.Levels.{Level}
+use Rattle.sno_store.specs.CallFrames.{CallFrame}
 use Rattle.sno_store.specs.declared.store.Store.{Store as State}
 use Rattle.sno_store.specs.Keywords.{is_settable, with_keyword}
 use Rattle.sno_store.specs.States.{with_keywords, with_keyword_set}
@@ -38,7 +38,7 @@ levels_stay s = (
   λ keyword v. keyword_set s keyword v,
 )
 
-fewer : (s : State) (levels : List Level) → s.levels ≡ levels → (left_by levels s).levels ≡ drop 1 levels
+fewer : (s : State) (levels : List CallFrame) → s.levels ≡ levels → (left_by levels s).levels ≡ drop 1 levels
 fewer s [] h = h
 fewer s (level ∷ levels) h = refl
 

@@ -1,6 +1,6 @@
 -- What a call saved is there again.
 use Rattle.std.proofs.Common.{ap, ◌∙◌}
-use Rattle.sno_prototype.specs.Prototypes.{names_of}
+use Rattle.sno_declarations.specs.Prototypes.{names_of}
 use Rattle.sno_variables.specs.Variables.{value_of}
 use Rattle.sno_variables.proofs.Assigned.{restores, leaves}
 use Rattle.sno_store.specs.Calls.{left_by}

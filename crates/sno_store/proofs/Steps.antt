@@ -5,10 +5,10 @@ use Rattle.std.specs.Cmp.Lexicographic.{pointwise}
 use Rattle.indexmap.specs.IndexMap.{insert_entry}
 use Rattle.sno_text.specs.declared.fault.Fault.{Fault}
 use Rattle.sno_value.specs.declared.value.Value.{Value}
-use Rattle.sno_prototype.specs.declared.definition.Definition.{Definition}
+use Rattle.sno_declarations.specs.declared.definition.Definition.{Definition}
 use Rattle.sno_store.specs.declared.store.Store.{Store as State}
-use Rattle.sno_prototype.specs.Arguments.{go_on}
-use Rattle.sno_prototype.specs.Definitions.{definition_in}
+use Rattle.sno_declarations.specs.Arguments.{go_on}
+use Rattle.sno_declarations.specs.Definitions.{definition_in}
 use Rattle.sno_store.specs.States.{with_function}
 
 pub defined : (prototype entry : Value) (s : State) (d f : Definition) (name : List ℕ) (fs : List (List ℕ × Definition)) → definition_in prototype entry ≡ Ok d

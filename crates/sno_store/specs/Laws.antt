@@ -4,8 +4,8 @@ use Rattle.std.specs.List.{list_any}
 use Rattle.std.specs.Cmp.Lexicographic.{pointwise}
 use Rattle.sno_value.specs.declared.value.Value.{Value}
 use Rattle.sno_text.specs.declared.fault.Fault.{Fault}
-use Rattle.sno_prototype.specs.Prototypes.{names_of}
-use Rattle.sno_prototype.specs.declared.definition.Definition.{Definition}
+use Rattle.sno_declarations.specs.Prototypes.{names_of}
+use Rattle.sno_declarations.specs.declared.definition.Definition.{Definition}
 use Rattle.sno_store.specs.declared.store.Store.{Store as State}
 use Rattle.sno_variables.specs.Variables.{value_of}
 use Rattle.sno_store.specs.declared.keyword.Keyword.{Keyword}

@@ -1,7 +1,7 @@
 pub mod Keywords
 pub mod Callees
 pub mod States
-pub mod Levels
+pub mod CallFrames
 pub mod Calls
 pub mod Memory
 pub mod Laws

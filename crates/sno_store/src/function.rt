@@ -7,9 +7,8 @@ ghost use Rattle.indexmap.specs.IndexMap.{insert_entry};
 
 use crate::callee::{Callee, is_built_in};
 use indexmap::IndexMap;
-use sno_prototype::Function;
-use sno_seed::Seed;
-use sno_text::{Name, Named};
+use sno_declarations::Function;
+use sno_text::{Name, Named, Seed};
 use std::alloc::{AllocError, Global};
 use std::marker::Model;
 
@@ -26,7 +25,7 @@ impl Model for Functions {
     ghost use Rattle.std.specs.List.{IsDistinct};
     ghost use Rattle.std.specs.Map.{keys_of};
     ghost use Rattle.std.specs.Cmp.Lexicographic.{pointwise};
-    ghost use Rattle.sno_prototype.specs.declared.definition.Definition.{Definition};
+    ghost use Rattle.sno_declarations.specs.declared.definition.Definition.{Definition};
     ghost use Rattle.sno_store.specs.Callees.{any_built_in};
 
     ghost Value = { List (List ℕ × Definition) };

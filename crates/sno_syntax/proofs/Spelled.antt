@@ -8,7 +8,7 @@ use Rattle.sno_cards.specs.declared.refusal.SyntaxError.{SyntaxError}
 use Rattle.sno_cards.specs.Texts.{Placed}
 use Rattle.sno_lexer.specs.Listed.{TokenList}
 use Rattle.sno_statement.specs.Statements.{Statement}
-use Rattle.sno_statement.specs.Told.{statement_of}
+use Rattle.sno_statement.specs.Abstraction.{statement_of}
 use Rattle.sno_statement.specs.declared.statement.Statement.{Statement as AStatement}
 use Rattle.sno_syntax.specs.Labels.{LabelList}
 use Rattle.sno_syntax.specs.Refusals.{label_of, tokens_of, label_first, fault_refusal, stage_refusal, statement_refusal, with_label, statements_refusal, labels_from}

@@ -7,7 +7,7 @@ use Rattle.sno_lexer.specs.Listed.{TokenList}
 use Rattle.sno_statement.specs.Statements.{Statement, StatementHasLevels}
 use Rattle.sno_statement.specs.Spelling.{Spells}
 use Rattle.sno_statement.specs.Lacking.{StatementHasVariables}
-use Rattle.sno_statement.specs.Told.{statement_of}
+use Rattle.sno_statement.specs.Abstraction.{statement_of}
 use Rattle.sno_syntax.specs.declared.program.Program.{Program as AProgram}
 use Rattle.sno_syntax.specs.declared.start.Start.{Start}
 use Rattle.sno_syntax.specs.Labels.{LabelList, label_fault}

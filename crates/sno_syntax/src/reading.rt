@@ -1,7 +1,7 @@
 //! From the texts of statements to a program.
 ghost use Rattle.std.specs.Prelude.{◌≡◌, [], ◌∷◌, ◌++◌, map, Some, None, IfOk, IfErr, OnOk};
 ghost use Rattle.sno_cards.specs.Answers.{IfRefused};
-ghost use Rattle.sno_statement.specs.Told.{statement_of};
+ghost use Rattle.sno_statement.specs.Abstraction.{statement_of};
 ghost use Rattle.sno_syntax.specs.Refusals.{label_of, statement_refusal, with_label, labels_in, statements_refusal, syntax_refusal};
 ghost use Rattle.sno_syntax.specs.Programs.{program_of, SpellFrom, IsProgram};
 ghost use Rattle.sno_syntax.specs.inner.Lasts.{SpellsLast};
@@ -12,8 +12,8 @@ use crate::start::{bad_end, start_of};
 use crate::statement::{note_label, read_statement};
 use mon_text::Stop;
 use sno_cards::{ProgramCards, StatementText, SyntaxError};
-use sno_seed::Seed;
 use sno_statement::Statement;
+use sno_text::Seed;
 use std::alloc::{AllocError, Global};
 
 // All statements, and where their labels stand.

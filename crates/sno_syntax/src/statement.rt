@@ -1,7 +1,7 @@
 //! A statement's text, to the statement or its refusal.
 ghost use Rattle.std.specs.Prelude.{◌≡◌, Some, Ok, Err, IfOk, IfErr, OnOk};
 ghost use Rattle.sno_cards.specs.Answers.{IfRefused};
-ghost use Rattle.sno_statement.specs.Told.{statement_of};
+ghost use Rattle.sno_statement.specs.Abstraction.{statement_of};
 ghost use Rattle.sno_syntax.specs.Refusals.{code_of_fault, token_place, fault_refusal, label_of, tokens_of, stage_refusal, statement_refusal, with_label};
 ghost use Rattle.sno_syntax.specs.Programs.{TextSpells, SpellsBehind};
 

@@ -1,7 +1,7 @@
 //! Code is made where memory is there: no clause can say that it is.
-use sno_code::{Instr, code_of, code_of_name};
-use sno_token::Characters;
-use sno_tree::{BinaryOperator, Expression, Operands, UnaryOperator};
+use sno_bytecode::{Instr, code_of, code_of_name};
+use sno_expression::{BinaryOperator, Expression, Operands, UnaryOperator};
+use sno_lexer::Characters;
 use std::alloc::Global;
 
 fn variable(alloc: Global) -> Option<Expression> {

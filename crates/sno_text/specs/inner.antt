@@ -1,1 +1,4 @@
 pub mod Words
+pub mod Codes
+pub mod Reaching
+pub mod Classes

@@ -2,7 +2,7 @@
 use Rattle.std.proofs.Common.{◌≡◌, [], ◌∷◌, refl, pos, negsuc, codes}
 use Rattle.std.specs.Prelude.{Some, None}
 use Rattle.std.specs.Fmt.{digits}
-use Rattle.sno_nodes.specs.Patterns as pattern
+use Rattle.sno_text.specs.Patterns as pattern
 use Rattle.sno_text.specs.declared.fault.Fault.TheVariants.{WrongType, Arithmetic, Null, Negative, Length}
 use Rattle.sno_value.specs.declared.value.Value.TheVariants.{Text, Integer, Pattern, Unevaluated}
 use Rattle.sno_value.specs.declared.outcome.Outcome.TheVariants.{Gives, Fails, Faults}

@@ -5,3 +5,4 @@ mod Strings
 mod Replacing
 mod Lawful
 pub mod Refusing
+mod TableLawful

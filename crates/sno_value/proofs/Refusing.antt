@@ -3,7 +3,7 @@ use Rattle.std.proofs.Common.{arith, ◌≡◌, ℕ, ◌+◌, refl, Bool, true, 
 use Rattle.std.specs.Prelude.{Option, Some, None, is_some, nat_le, if◌then◌else◌}
 use Rattle.std.proofs.lemmas.Bool.Decides.{nat_tests}
 use Rattle.sno_text.specs.declared.fault.Fault.TheVariants.{WrongType, Depth}
-use Rattle.sno_nodes.specs.Patterns.{Pattern, Cat, Alt, Arbno, larger, depth, most_depth}
+use Rattle.sno_text.specs.Patterns.{Pattern, Cat, Alt, Arbno, larger, depth, most_depth}
 use Rattle.sno_value.specs.declared.outcome.Outcome.TheVariants.{Faults}
 use Rattle.sno_value.specs.Outcomes.{pattern_with, pattern_with_both}
 use Rattle.sno_value.specs.Memory.{is_deepest, is_given}

@@ -4,3 +4,7 @@ pub mod Operators
 pub mod Primitives
 pub mod Memory
 pub mod Laws
+pub mod Keys
+pub mod Tables
+pub mod TableLaws
+pub mod inner

@@ -1,6 +1,6 @@
 -- Where values take memory (own).
 use Rattle.std.specs.Prelude.{Bool, true, false, nat_lt, nat_le, length, Option, Some, None}
-use Rattle.sno_nodes.specs.Patterns as patterns
+use Rattle.sno_text.specs.Patterns as patterns
 use Rattle.sno_value.specs.declared.value.Value.{Value}
 use Rattle.sno_value.specs.declared.value.Value.TheVariants.{Text, Integer, Pattern, Unevaluated, Table}
 use Rattle.sno_value.specs.declared.outcome.Outcome.{Outcome}

@@ -1,7 +1,7 @@
 //! What keeps values from becoming parts of a pattern: a table stands for none, and a pattern may be too deep. It is found out
 //! before any memory is taken.
 ghost use Rattle.std.specs.Prelude.{◌≡◌, true, None, IfSome};
-ghost use Rattle.sno_nodes.specs.Patterns.{Cat, Alt, Arbno};
+ghost use Rattle.sno_text.specs.Patterns.{Cat, Alt, Arbno};
 ghost use Rattle.sno_value.specs.Values.{pattern_of};
 ghost use Rattle.sno_value.specs.Outcomes.{pattern_with, pattern_with_both};
 ghost use Rattle.sno_value.specs.Memory.{is_given};

@@ -2,13 +2,12 @@
 ghost use Rattle.std.specs.Prelude.{◌≡◌, Result, IfOk, IsErrOf, OnErr};
 ghost use Rattle.mon_text.specs.Stops.{Gives};
 ghost use Rattle.sno_text.specs.declared.fault.Fault.{Fault};
-ghost use Rattle.sno_nodes.specs.Patterns.{Pattern};
+ghost use Rattle.sno_text.specs.Patterns.{Pattern};
 ghost use Rattle.sno_value.specs.Outcomes.{predicate, formed};
 
 use crate::value::Value;
 use mon_text::Stop;
-use sno_nodes::Pat;
-use sno_text::Fault;
+use sno_text::{Fault, Pat};
 use std::alloc::AllocError;
 
 /// What an operator or a primitive function gives.

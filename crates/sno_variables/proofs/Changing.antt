@@ -5,8 +5,8 @@ use Rattle.std.specs.Map.{lookup}
 use Rattle.std.specs.Cmp.Lexicographic.{pointwise}
 use Rattle.sno_value.specs.declared.value.Value.{Value}
 use Rattle.sno_value.specs.Values.{null}
-use Rattle.sno_prototype.specs.declared.association.Input.{Input}
-use Rattle.sno_prototype.specs.declared.association.Output.{Output}
+use Rattle.sno_declarations.specs.declared.association.Input.{Input}
+use Rattle.sno_declarations.specs.declared.association.Output.{Output}
 use Rattle.sno_variables.specs.declared.variable.Variable.{Variable}
 use Rattle.sno_variables.specs.Variables.{Variables, holding, variable_of, is_named, put, given, reading, writing, detached, noted}
 use Rattle.sno_variables.proofs.Looking.{same}

@@ -9,8 +9,8 @@ use Rattle.std.specs.Cmp.Lexicographic.{pointwise, nat_list_eq_equiv}
 use Rattle.std.proofs.lemmas.Bool.Decides.{nat_tests}
 use Rattle.sno_value.specs.declared.value.Value.{Value}
 use Rattle.sno_value.specs.Values.{null}
-use Rattle.sno_prototype.specs.declared.prototype.Prototype.{Prototype}
-use Rattle.sno_prototype.specs.Prototypes.{names_of, are_different}
+use Rattle.sno_declarations.specs.declared.prototype.Prototype.{Prototype}
+use Rattle.sno_declarations.specs.Prototypes.{names_of, are_different}
 use Rattle.sno_variables.specs.declared.variable.Variable.{Variable}
 use Rattle.sno_variables.specs.Variables.{Variables, holding, variable_of, is_named, value_of, put, given}
 use Rattle.sno_variables.specs.Bindings.{Bindings, paired, saved, assigned}

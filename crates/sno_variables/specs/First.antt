@@ -1,6 +1,6 @@
 -- The variables that have something at first (the SNOBOL4 book, chapters 1 and 2; units and lengths are own).
 use Rattle.std.specs.Prelude.{ℕ, false, List, [], codes}
-use Rattle.sno_nodes.specs.Patterns as patterns
+use Rattle.sno_text.specs.Patterns as patterns
 use Rattle.sno_value.specs.declared.value.Value.TheVariants.{Pattern}
 use Rattle.sno_variables.specs.Variables.{Variables, given, reading, writing}
 

@@ -8,8 +8,8 @@ use Rattle.indexmap.specs.IndexMap.{insert_entry}
 use Rattle.sno_value.specs.declared.value.Value.{Value}
 use Rattle.sno_value.specs.Values.{null}
 use Rattle.sno_variables.specs.declared.variable.Variable.{Variable}
-use Rattle.sno_prototype.specs.declared.association.Input.{Input}
-use Rattle.sno_prototype.specs.declared.association.Output.{Output}
+use Rattle.sno_declarations.specs.declared.association.Input.{Input}
+use Rattle.sno_declarations.specs.declared.association.Output.{Output}
 use Rattle.sno_variables.specs.declared.variable.Found.{Found}
 use Rattle.sno_variables.specs.declared.variable.Found.TheVariants as found
 

@@ -1,18 +1,17 @@
 //! The values of a function's variables, exchanged for others where they stand.
 ghost use Rattle.std.specs.Prelude.{◌≡◌, ◌<◌, ◌≤◌, [], length, slice_index_or};
-ghost use Rattle.sno_prototype.specs.Prototypes.{names_of};
+ghost use Rattle.sno_declarations.specs.Prototypes.{names_of};
 ghost use Rattle.sno_variables.specs.Variables.{is_named};
 ghost use Rattle.sno_variables.specs.Bindings.{paired, assigned};
 ghost use Rattle.sno_variables.specs.inner.Places.{AreDistinct};
 ghost use Rattle.sno_variables.specs.inner.Exchanging.{with_value_at, value_at, after, before, taken_by, undone};
 
-use crate::assigning::place_of;
+use crate::lookup::place_of;
 use crate::recent::Recent;
 use crate::variable::Variable;
 use indexmap::IndexMap;
-use sno_prototype::Prototype;
-use sno_seed::Seed;
-use sno_text::{Name, Named};
+use sno_declarations::Prototype;
+use sno_text::{Name, Named, Seed};
 use sno_value::Value;
 use std::mem;
 

@@ -1,15 +1,13 @@
 //! The variables that there are at first.
 ghost use Rattle.std.specs.Prelude.{◌≡◌, ◌≤◌, false, codes, IfOk, OnOk};
 ghost use Rattle.mon_text.specs.Lines.{IsLine};
-ghost use Rattle.sno_nodes.specs.Patterns as patterns;
+ghost use Rattle.sno_text.specs.Patterns as patterns;
 ghost use Rattle.sno_variables.specs.First.{holding_pattern, with_patterns, first_variables};
 ghost use Rattle.sno_variables.specs.Variables.{reading, writing};
 
 use crate::variables::Variables;
-use sno_nodes::Pat;
-use sno_prototype::{Format, Input, Output};
-use sno_seed::Seed;
-use sno_text::{Named, Text};
+use sno_declarations::{Format, Input, Output};
+use sno_text::{Named, Pat, Seed, Text};
 use sno_value::Value;
 use std::alloc::{AllocError, Global};
 

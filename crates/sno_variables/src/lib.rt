@@ -3,10 +3,10 @@
 //! It knows no function and no call: those stand above it, in the state of a job.
 #![tactic(auto)]
 
-mod assigning;
 mod exchanging;
 mod first;
 pub mod laws;
+mod lookup;
 mod recent;
 pub mod variable;
 pub mod variables;

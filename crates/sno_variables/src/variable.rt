@@ -2,7 +2,7 @@
 ghost use Rattle.std.specs.Prelude.{◌≡◌};
 ghost use Rattle.sno_variables.specs.Variables.{holding};
 
-use sno_prototype::{Input, Output};
+use sno_declarations::{Input, Output};
 use sno_value::Value;
 
 /// A variable: its value, and what it is associated with.

@@ -8,23 +8,22 @@ ghost use Rattle.std.specs.Cmp.Lexicographic.{pointwise};
 ghost use Rattle.sno_variables.specs.Variables.{variable_of, value_of, use_of, seen, is_named, put, given, reading, writing, detached, noted};
 ghost use Rattle.sno_variables.specs.inner.Lending.{LendsVariable};
 ghost use Rattle.sno_value.specs.Values.{null};
-ghost use Rattle.sno_prototype.specs.Prototypes.{names_of, are_different};
+ghost use Rattle.sno_declarations.specs.Prototypes.{names_of, are_different};
 ghost use Rattle.sno_variables.specs.Bindings.{paired};
 ghost use Rattle.sno_variables.specs.Bindings.{assigned};
 ghost use Rattle.sno_variables.specs.inner.Exchanging.{values_now};
 
-use crate::assigning::{assign_all, place_of, place_of_text};
 use crate::exchanging::{exchange_known, take_back};
+use crate::lookup::{assign_all, place_of, place_of_text};
 use crate::recent::Recent;
 use crate::variable::{Found, Variable};
 use indexmap::IndexMap;
-use sno_prototype::{Bindings, Input, Output, Prototype};
-use sno_seed::Seed;
-use sno_text::{Name, Named, Text};
+use sno_declarations::{Bindings, Input, Output, Prototype};
+use sno_text::{Name, Named, Seed, Text};
 use sno_value::Value;
+use std::mem;
 use std::alloc::{AllocError, Global};
 use std::marker::Model;
-use std::mem;
 
 /// Variables in the order in which they were first named, no two of one name. None is ever taken out, so that a place stays.
 #[derive(Drop)]
@@ -36,7 +35,7 @@ pub struct Variables {
 impl Model for Variables {
     ghost use Rattle.std.specs.Prelude.{ℕ, List};
     ghost use Rattle.std.specs.Coded.{codes};
-    ghost use Rattle.sno_nodes.specs.inner.Codes.{pattern_code};
+    ghost use Rattle.sno_text.specs.inner.Codes.{pattern_code};
     ghost use Rattle.sno_variables.specs.declared.variable.Variable.{Variable};
     ghost use Rattle.sno_variables.specs.inner.Places.{AreDistinct};
 

@@ -3,7 +3,7 @@ use Rattle.std.proofs.Common.{◌≡◌, ◌∙◌, ◌≤◌, ℕ, inl, inr, Bo
 use Rattle.std.specs.Prelude.{◌↔◌}
 use Rattle.clap.specs.Takes.{takes}
 use Rattle.clap.proofs.OnLiterals.{clap_on_literals}
-use Rattle.mon_feed.specs.declared.options.Options.{Options}
+use Rattle.deck_driver.specs.declared.options.Options.{Options}
 use Rattle.snomon.specs.CommandLine.{Asks, Gives, apart, joined, left_out, snomon}
 use Rattle.snomon.proofs.Matched.{one_meaning, taken}
 use Rattle.snomon.proofs.Numbers.{passed}

@@ -15,7 +15,7 @@ use Rattle.clap.specs.declared.parser.matches.ArgMatches.{ArgMatches}
 use Rattle.clap.specs.Kinds.{Kinds, or_else}
 use Rattle.clap.proofs.FaultLemmas.{leaf_fault}
 use Rattle.clap.proofs.WalkLemmas.{one_text-rows}
-use Rattle.mon_feed.specs.declared.options.Options.{Options}
+use Rattle.deck_driver.specs.declared.options.Options.{Options}
 use Rattle.clap.proofs.OnLiterals.{clap_on_literals}
 use Rattle.snomon.specs.CommandLine.{Asks, Gives, GivesNumber, SlotsOption, Writes, apart, check_words, end_words, joined, left_out, slots_words, snomon}
 use Rattle.snomon.proofs.Numbers.{no_end, no_long, no_short, passed, passes, passing, without_minus_is}

@@ -1,13 +1,13 @@
 //! The words of the command line, and the options that they give.
 ghost use Rattle.std.specs.Prelude.{◌≡◌, ◌≤◌, ◌⊎◌, ℕ, List, None, Some, codes, map, IfOk, IfErr};
 ghost use Rattle.clap.specs.Words.{app_of, found_of, kind_of, one_text};
-ghost use Rattle.mon_feed.specs.declared.options.Options.{Options};
+ghost use Rattle.deck_driver.specs.declared.options.Options.{Options};
 ghost use Rattle.snomon.specs.CommandLine.{Gives, Writes, snomon};
 
-use clap::error::ErrorKind;
 use clap::{Arg, ArgAction, ArgMatches, Command, Error};
-use mon_feed::{Options, Slots};
-use sno_seed::Seed;
+use clap::error::ErrorKind;
+use deck_driver::{Options, Slots};
+use sno_text::Seed;
 use std::alloc::{AllocError, Global};
 use std::convert::AsStr;
 

@@ -1,20 +1,20 @@
 //! What the program does, over any streams of std: from its words and three streams to what stands in these and the exit status.
 ghost use Rattle.std.specs.Prelude.{◌≡◌, ◌⊎◌, map, IfOk, IfErr, IsOkAnd, Err, None};
 ghost use Rattle.clap.specs.Words.{kind_of};
-ghost use Rattle.mon_feed.specs.declared.options.Options.{Options};
-ghost use Rattle.mon_shell.specs.Streams.{told_since};
-ghost use Rattle.mon_shell.specs.Endings.{Ends, Tells};
+ghost use Rattle.deck_driver.specs.declared.options.Options.{Options};
+ghost use Rattle.snomon.specs.Streams.{told_since};
+ghost use Rattle.snomon.specs.Endings.{Ends, Tells};
 ghost use Rattle.snomon.specs.CommandLine.{Gives};
 
-use crate::options::{no_text, read_options};
 use clap::Error;
 use clap::error::ErrorKind;
-use mon_feed::{Options, RunError};
-use mon_shell::{Ended, finish, refuse, run_options};
-use sno_seed::Seed;
+use crate::options::{no_text, read_options};
+use crate::shell::{Ended, finish, refuse, run_options};
+use deck_driver::{Options, RunError};
+use sno_text::Seed;
+use std::io;
 use std::alloc::{AllocError, Global};
 use std::convert::AsStr;
-use std::io;
 use std::io::{Read, Write};
 
 /// Runs the deck that comes from one stream as these words say, writes its output to another, and tells on a third what went wrong.

@@ -1,9 +1,9 @@
 -- What is seen of a run: a line for each request, and a last one for how the job ended (own).
 use Rattle.std.specs.Prelude.{ℕ, List, ◌++◌, codes, decimal}
 use Rattle.sno_text.specs.Faults.{fault_name}
-use Rattle.sno_ask.specs.declared.request.Act.{Act}
-use Rattle.sno_ask.specs.declared.request.Act.TheVariants.{Read, Write, Endfile, Rewind}
-use Rattle.sno_ask.specs.declared.request.Request.{Request}
+use Rattle.interaction.specs.declared.request.Act.{Act}
+use Rattle.interaction.specs.declared.request.Act.TheVariants.{Read, Write, Endfile, Rewind}
+use Rattle.interaction.specs.declared.request.Request.{Request}
 use Rattle.sno_run.specs.declared.ending.Ending.{Ending}
 use Rattle.sno_run.specs.declared.ending.Ending.TheVariants.{Normal, StatementLimit, MatchLimit, Fault, Memory}
 

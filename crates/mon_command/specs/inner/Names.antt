@@ -2,7 +2,7 @@
 use Rattle.std.specs.Prelude.{ℕ, List, [], ◌∷◌, Option, None, Some}
 use Rattle.mon_access.specs.declared.account.Account.{Account}
 use Rattle.mon_catalogue.specs.Sets.{Sets}
-use Rattle.mon_guard.specs.Lending.{NamePart, name_lent}
+use Rattle.mon_guard.specs.Views.{NamePart, name_lent}
 
 abbrev pub one_or_none : Option NamePart → List NamePart
 one_or_none None = []

@@ -5,7 +5,7 @@ use Rattle.mon_text.specs.declared.stop.Stop.TheVariants.{Refused, Memory}
 use Rattle.sno_cards.specs.declared.refusal.SyntaxError.{SyntaxError}
 use Rattle.sno_cards.specs.Codes.{code_symbol}
 use Rattle.sno_statement.specs.declared.statement.Statement.{Statement}
-use Rattle.sno_statement.specs.Told.{statement_of}
+use Rattle.sno_statement.specs.Abstraction.{statement_of}
 use Rattle.sno_syntax.specs.declared.program.Program.{Program}
 use Rattle.sno_syntax.specs.declared.start.Start.{Start}
 use Rattle.sno_syntax.specs.declared.start.Start.TheVariants as start

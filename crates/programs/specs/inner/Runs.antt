@@ -1,7 +1,7 @@
 -- How a run of operators is written.
 use Rattle.std.specs.Prelude.{ℕ, List, [], ◌∷◌, ◌++◌, codes}
-use Rattle.sno_tree.specs.declared.tree.Pending.{Pending}
-use Rattle.sno_tree.specs.Told.{expression_of}
+use Rattle.sno_expression.specs.declared.tree.Pending.{Pending}
+use Rattle.sno_expression.specs.Abstraction.{expression_of}
 use Rattle.programs.specs.inner.Trees.{operator_text, expression_text}
 
 -- an operator with its left operand

@@ -1,7 +1,7 @@
 -- How statements are written: label, subject, pattern, object and goto, with `-` for what a statement has not (own).
 use Rattle.std.specs.Prelude.{ℕ, List, ◌++◌, codes, Option, Some, None}
-use Rattle.sno_tree.specs.declared.tree.UnaryOperator.TheVariants.{Indirect}
-use Rattle.sno_tree.specs.Expressions.{Expression, Unary}
+use Rattle.sno_expression.specs.declared.tree.UnaryOperator.TheVariants.{Indirect}
+use Rattle.sno_expression.specs.Expressions.{Expression, Unary}
 use Rattle.sno_statement.specs.Statements.{Target, To, Computed, Goto, NoGoto, Always, OnSuccess, OnFailure, OnBoth, Object, NoObject, NullObject, ValueObject, Body, NoBody, Does, Statement, Says}
 use Rattle.programs.specs.inner.Trees.{expression_text}
 

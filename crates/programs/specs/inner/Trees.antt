@@ -1,13 +1,13 @@
 -- How expressions are written: each before its operands, in parentheses (own).
 use Rattle.std.specs.Prelude.{ℕ, List, [], ◌++◌, codes}
 use Rattle.std.specs.Fmt.{signed_decimal}
-use Rattle.sno_token.specs.declared.Constant.{Constant as Value}
-use Rattle.sno_token.specs.declared.Constant.TheVariants.{Literal, Integer}
-use Rattle.sno_tree.specs.declared.tree.BinaryOperator.{BinaryOperator}
-use Rattle.sno_tree.specs.declared.tree.BinaryOperator.TheVariants as operator
-use Rattle.sno_tree.specs.declared.tree.UnaryOperator.{UnaryOperator}
-use Rattle.sno_tree.specs.declared.tree.UnaryOperator.TheVariants as unary
-use Rattle.sno_tree.specs.Expressions.{Expression, Arguments, Identifier, Constant, Keyword, Unevaluated, Group, Call, TableItem, Unary, Binary, NoArguments, Omitted, Argument}
+use Rattle.sno_lexer.specs.declared.token.Constant.{Constant as Value}
+use Rattle.sno_lexer.specs.declared.token.Constant.TheVariants.{Literal, Integer}
+use Rattle.sno_expression.specs.declared.tree.BinaryOperator.{BinaryOperator}
+use Rattle.sno_expression.specs.declared.tree.BinaryOperator.TheVariants as operator
+use Rattle.sno_expression.specs.declared.tree.UnaryOperator.{UnaryOperator}
+use Rattle.sno_expression.specs.declared.tree.UnaryOperator.TheVariants as unary
+use Rattle.sno_expression.specs.Expressions.{Expression, Arguments, Identifier, Constant, Keyword, Unevaluated, Group, Call, TableItem, Unary, Binary, NoArguments, Omitted, Argument}
 
 abbrev pub operator_text : BinaryOperator → List ℕ
 operator_text operator.Concatenation = codes "cat"

@@ -1,8 +1,8 @@
 -- What holds of walks and readings.
 use Rattle.std.specs.Prelude.{◌≡◌, ◌↔◌, Bool, true, false, List, [], ◌∷◌, Option, Some, None}
-use Rattle.sno_token.specs.declared.Token.{Token}
-use Rattle.sno_tree.specs.Expressions.{Expression, HasLevels}
-use Rattle.sno_tree.specs.Spelling.{SpellsTo, Spells}
+use Rattle.sno_lexer.specs.declared.token.Token.{Token}
+use Rattle.sno_expression.specs.Expressions.{Expression, HasLevels}
+use Rattle.sno_expression.specs.Spelling.{SpellsTo, Spells}
 use Rattle.sno_expression.specs.inner.Walks.{Walk, take, begins, may_end}
 use Rattle.sno_expression.specs.inner.Reading.{Suits, Read, reading, Stops}
 

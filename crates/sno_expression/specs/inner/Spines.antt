@@ -1,11 +1,11 @@
 -- What holds of an open spine, which is a list of operators with their left operands, the innermost last.
 use Rattle.std.specs.Prelude.{Bool, true, false, List, [], ◌∷◌, ◌&&◌}
 use Rattle.std.specs.List.{list_all}
-use Rattle.sno_tree.specs.declared.tree.BinaryOperator.{BinaryOperator}
-use Rattle.sno_tree.specs.declared.tree.Expression.{Expression}
-use Rattle.sno_tree.specs.declared.tree.Expression.TheVariants as tree
-use Rattle.sno_tree.specs.declared.tree.Pending.{Pending}
-use Rattle.sno_tree.specs.Expressions.{binds_into_right}
+use Rattle.sno_expression.specs.declared.tree.BinaryOperator.{BinaryOperator}
+use Rattle.sno_expression.specs.declared.tree.Expression.{Expression}
+use Rattle.sno_expression.specs.declared.tree.Expression.TheVariants as tree
+use Rattle.sno_expression.specs.declared.tree.Pending.{Pending}
+use Rattle.sno_expression.specs.Expressions.{binds_into_right}
 
 -- may the operator stand right under each of these
 abbrev pub is_under_all : BinaryOperator → List Pending → Bool

@@ -1,6 +1,6 @@
 -- A walk over the tokens of one expression.
 use Rattle.std.specs.Prelude.{Bool, List, [], ◌∷◌, Option, Some, None}
-use Rattle.sno_token.specs.declared.Token.{Token}
+use Rattle.sno_lexer.specs.declared.token.Token.{Token}
 use Rattle.sno_expression.specs.declared.walking.Paren.{Paren}
 use Rattle.sno_expression.specs.declared.walking.Position.{Position}
 use Rattle.sno_expression.specs.declared.walking.Position.TheVariants.{AtStart}

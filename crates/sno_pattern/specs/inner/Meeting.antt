@@ -1,7 +1,7 @@
 -- What comes of a pattern when it is met: whether it asks, has parts, and which part is met right after it.
 use Rattle.std.specs.Prelude.{Option, Some, None}
-use Rattle.sno_nodes.specs.Patterns.{Pattern}
-use Rattle.sno_nodes.specs.Patterns as pattern
+use Rattle.sno_text.specs.Patterns.{Pattern}
+use Rattle.sno_text.specs.Patterns as pattern
 
 -- a pattern that asks the host nothing when it is taken
 abbrev pub IsQuiet : Pattern → Type 0

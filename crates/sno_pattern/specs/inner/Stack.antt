@@ -1,22 +1,22 @@
 -- Goals, choices and turns of the program, by the definitions.
 use Rattle.std.specs.Prelude.{◌≡◌, ℕ, ◌+◌, ◌-◌, ◌*◌, ◌<◌, ◌≤◌, List, [], ◌∷◌, length, map}
 use Rattle.std.specs.List.{range_with_len}
-use Rattle.sno_talk.specs.Talks.{Asks}
-use Rattle.sno_talk.specs.Holding.{Held, Cut}
-use Rattle.sno_nodes.specs.Nodes.{pattern_of}
-use Rattle.sno_nodes.specs.Patterns.{Pattern}
-use Rattle.sno_nodes.specs.Patterns as pattern
-use Rattle.sno_nodes.specs.Balance.{part, balanced_ends}
+use Rattle.interaction.specs.Interactions.{Asks}
+use Rattle.interaction.specs.Holding.{RunsTo, StopsIn}
+use Rattle.sno_text.specs.Nodes.{pattern_of}
+use Rattle.sno_text.specs.Patterns.{Pattern}
+use Rattle.sno_text.specs.Patterns as pattern
+use Rattle.sno_text.specs.Balance.{part, balanced_ends}
 use Rattle.sno_pattern.specs.declared.trail.Goal.{Goal as AGoal}
 use Rattle.sno_pattern.specs.declared.trail.Role.{Role}
 use Rattle.sno_pattern.specs.declared.trail.Role.TheVariants as role
 use Rattle.sno_pattern.specs.declared.trail.Waiting.{Waiting}
 use Rattle.sno_pattern.specs.declared.trail.Kind.{Kind}
 use Rattle.sno_pattern.specs.declared.trail.Kind.TheVariants as kind
-use Rattle.sno_pattern.specs.declared.choices.Turn.{Turn}
-use Rattle.sno_pattern.specs.declared.choices.Turn.TheVariants as turn
-use Rattle.sno_pattern.specs.declared.choices.Ended.{Ended}
-use Rattle.sno_pattern.specs.declared.choices.Ended.TheVariants as ended
+use Rattle.sno_pattern.specs.declared.choice_points.Turn.{Turn}
+use Rattle.sno_pattern.specs.declared.choice_points.Turn.TheVariants as turn
+use Rattle.sno_pattern.specs.declared.choice_points.Ended.{Ended}
+use Rattle.sno_pattern.specs.declared.choice_points.Ended.TheVariants as ended
 use Rattle.sno_pattern.specs.declared.ending.Pending.{Pending}
 use Rattle.sno_pattern.specs.declared.host.Taken.{Taken}
 use Rattle.sno_pattern.specs.Looks.{Look, LookUp, Assign, Told, Fits}
@@ -126,8 +126,8 @@ pub record Led (text : List ℕ) (old : List Choice) (t : Trying) (n : ℕ) (tur
 -- before, from s
 pub record Moved {S : Type 0} (tells : S → Look → Told → S → Type 0) (broken : S → Look → S → Type 0) (text : List ℕ) (s : S) (old : List Choice)
     (t : Trying) (n : ℕ) (u : S) (turn : Turn) (new : Ahead) (m : ℕ) : Type 0 where
-  pub held : (b : Outcome) (v : S) → Held tells Fits (resume text new.opens (turned text new turn m)) u b v → Held tells Fits (resume text old t) s b v
-  pub cut : (v : S) → Cut tells Fits broken (resume text new.opens (turned text new turn m)) u v → Cut tells Fits broken (resume text old t) s v
+  pub held : (b : Outcome) (v : S) → RunsTo tells Fits (resume text new.opens (turned text new turn m)) u b v → RunsTo tells Fits (resume text old t) s b v
+  pub cut : (v : S) → StopsIn tells Fits broken (resume text new.opens (turned text new turn m)) u v → StopsIn tells Fits broken (resume text old t) s v
   pub fewer : m ≤ n
   pub all : AllWithin (length text) new.opens
   pub here : TurnWithin text new turn

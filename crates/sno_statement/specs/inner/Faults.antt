@@ -1,10 +1,10 @@
 -- The fault that a walk over a statement's tokens finds, which is the leftmost (`IsFault`, by a law).
 use Rattle.std.specs.Prelude.{ℕ, ◌+◌, nat_le, Bool, true, false, List, [], ◌∷◌, Option, Some, None, ◌||◌, not, if◌then◌else◌}
-use Rattle.sno_token.specs.declared.Mark.TheVariants.{Dollar, Ampersand}
-use Rattle.sno_token.specs.declared.Token.{Token}
-use Rattle.sno_token.specs.declared.TokenKind.{TokenKind}
-use Rattle.sno_token.specs.declared.TokenKind.TheVariants as token
-use Rattle.sno_tree.specs.Spelling.{spaced}
+use Rattle.sno_lexer.specs.declared.token.Mark.TheVariants.{Dollar, Ampersand}
+use Rattle.sno_lexer.specs.declared.token.Token.{Token}
+use Rattle.sno_lexer.specs.declared.token.TokenKind.{TokenKind}
+use Rattle.sno_lexer.specs.declared.token.TokenKind.TheVariants as token
+use Rattle.sno_expression.specs.Spelling.{spaced}
 use Rattle.sno_expression.specs.inner.Walking.{is_misfit, misfit_index}
 use Rattle.sno_statement.specs.declared.fault.FaultKind.{FaultKind}
 use Rattle.sno_statement.specs.declared.fault.FaultKind.TheVariants.{MissingBlank, Unfit, NoVariable}

@@ -1,6 +1,6 @@
 -- What holds of what a walk notes.
 use Rattle.std.specs.Prelude.{◌≡◌, ◌↔◌, List, None}
-use Rattle.sno_token.specs.declared.Token.{Token}
+use Rattle.sno_lexer.specs.declared.token.Token.{Token}
 use Rattle.sno_statement.specs.Statements.{Statement, StatementHasLevels}
 use Rattle.sno_statement.specs.Lacking.{StatementHasVariables}
 use Rattle.sno_statement.specs.Spelling.{Spells}

@@ -1,6 +1,6 @@
 -- The values of the walk and of the reading by the definitions.
 use Rattle.std.specs.Prelude.{◌≡◌, List, [], ◌∷◌, Option, Some, None, Result, Ok, Err}
-use Rattle.sno_token.specs.declared.Token.{Token}
+use Rattle.sno_lexer.specs.declared.token.Token.{Token}
 use Rattle.sno_expression.specs.declared.walking.Paren.{Paren}
 use Rattle.sno_statement.specs.declared.fault.FaultKind.{FaultKind}
 use Rattle.sno_statement.specs.declared.statement.Goto.{Goto as AGoto}
@@ -9,11 +9,11 @@ use Rattle.sno_statement.specs.declared.statement.Statement.{Statement as AState
 use Rattle.sno_statement.specs.declared.walking.Parens.{Parens}
 use Rattle.sno_statement.specs.declared.walking.Parens.TheVariants as parens
 use Rattle.sno_statement.specs.declared.walking.Walk.{Walk as AWalk}
-use Rattle.sno_statement.specs.declared.reading.Aim.{Aim as AnAim}
+use Rattle.sno_statement.specs.declared.parser.Aim.{Aim as AnAim}
 use Rattle.sno_statement.specs.Statements.{Goto, Statement}
 use Rattle.sno_statement.specs.inner.Walking.{Walk, At, take}
 use Rattle.sno_statement.specs.inner.Faults.{refused_as}
-use Rattle.sno_statement.specs.Told.{target_of, goto_of, statement_of}
+use Rattle.sno_statement.specs.Abstraction.{target_of, goto_of, statement_of}
 use Rattle.sno_statement.specs.inner.Reading.{Aim, Missed, Aimed}
 
 abbrev pub parens_of : Parens → List Paren

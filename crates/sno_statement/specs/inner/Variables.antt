@@ -1,7 +1,7 @@
 -- Whether a statement lacks a variable, as a test.
 use Rattle.std.specs.Prelude.{Bool, false, ◌||◌, Option, Some, None, if◌then◌else◌}
-use Rattle.sno_tree.specs.Expressions.{Expression}
-use Rattle.sno_tree.specs.inner.Variables.{lacks}
+use Rattle.sno_expression.specs.Expressions.{Expression}
+use Rattle.sno_expression.specs.inner.Variables.{lacks}
 use Rattle.sno_statement.specs.Statements.{Target, To, Computed, Goto, NoGoto, Always, OnSuccess, OnFailure, OnBoth, Object, NoObject, NullObject, ValueObject, Body, NoBody, Does, Statement, Says}
 use Rattle.sno_statement.specs.Lacking.{is_wrong}
 

@@ -2,7 +2,7 @@
 use Rattle.std.specs.Prelude.{ℕ, zero, suc, List, [], ◌∷◌, ◌++◌, length}
 use Rattle.sno_value.specs.declared.value.Value.{Value}
 use Rattle.sno_value.specs.Values.{null}
-use Rattle.sno_prototype.specs.declared.prototype.Prototype.{Prototype}
+use Rattle.sno_declarations.specs.declared.prototype.Prototype.{Prototype}
 
 -- so many values: those that are missing are null, and further ones are dropped
 abbrev pub fitted : ℕ → List Value → List Value

@@ -2,7 +2,7 @@
 use Rattle.std.specs.Prelude.{◌≡◌, List, [], ◌∷◌, ◌++◌}
 use Rattle.sno_cards.specs.Texts.{Placed}
 use Rattle.sno_statement.specs.declared.statement.Statement.{Statement}
-use Rattle.sno_statement.specs.Told.{statement_of}
+use Rattle.sno_statement.specs.Abstraction.{statement_of}
 use Rattle.sno_syntax.specs.Labels.{LabelList}
 use Rattle.sno_syntax.specs.Programs.{SpellsBehind}
 

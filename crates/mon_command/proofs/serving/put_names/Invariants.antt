@@ -1,7 +1,7 @@
 -- The names of the sets before this one that are shown were appended and counted.
 use Rattle.std.proofs.Common.{◌≡◌, ◌≤◌, ◌++◌, length, take}
 use Rattle.std.specs.List.{flat_map}
-use Rattle.mon_guard.specs.Lending.{names_lent}
+use Rattle.mon_guard.specs.Views.{names_lent}
 use Rattle.mon_command.specs.Printouts.{name_line}
 use Rattle.mon_command.proofs.serving.put_names.Given as goal
 

@@ -1,7 +1,7 @@
 -- The printouts so far are put.
 use Rattle.std.proofs.Common.{take}
 use Rattle.std.specs.List.{flat_map}
-use Rattle.mon_job.specs.Printouts.{printout}
+use Rattle.scheduler.specs.Printouts.{printout}
 use Rattle.mon_device.specs.Putting.{Puts}
 use Rattle.mon_monitor.proofs.printed.print_ends.Given as goal
 

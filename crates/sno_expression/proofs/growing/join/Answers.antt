@@ -1,10 +1,10 @@
 -- A run of none.
 use Rattle.std.proofs.Common.{◌∙◌, ap, List}
-use Rattle.sno_tree.specs.declared.tree.Pending.{Pending}
-use Rattle.sno_tree.specs.Expressions.{Binary}
-use Rattle.sno_tree.specs.Told.{expression_of}
-use Rattle.sno_tree.specs.inner.Runs.{spread_all}
-use Rattle.sno_tree.proofs.Runs.{binary_is, made}
+use Rattle.sno_expression.specs.declared.tree.Pending.{Pending}
+use Rattle.sno_expression.specs.Expressions.{Binary}
+use Rattle.sno_expression.specs.Abstraction.{expression_of}
+use Rattle.sno_expression.specs.inner.Runs.{spread_all}
+use Rattle.sno_expression.proofs.Runs.{binary_is, made}
 use Rattle.sno_expression.proofs.growing.join.Goals as goal
 
 pub returns : goal.returns

@@ -1,4 +1,4 @@
-use Rattle.sno_talk.proofs.Runs.{alike_first}
+use Rattle.interaction.proofs.InteractionRuns.{alike_first}
 use Rattle.sno_pattern.specs.Looks.{Fits}
 use Rattle.sno_pattern.specs.Steps.{match_of}
 use Rattle.sno_pattern.proofs.laws.matches_alike.Goals as goal

@@ -1,4 +1,4 @@
-use Rattle.sno_talk.proofs.Broken.{broken_goes_on}
+use Rattle.interaction.proofs.Broken.{broken_goes_on}
 use Rattle.sno_pattern.specs.Looks.{Fits}
 use Rattle.sno_pattern.specs.Steps.{match_of}
 use Rattle.sno_pattern.proofs.Firsts.{may_fail}

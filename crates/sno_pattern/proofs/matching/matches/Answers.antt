@@ -1,5 +1,5 @@
 use Rattle.std.proofs.Common.{length}
-use Rattle.sno_nodes.specs.Nodes.{pattern_of}
+use Rattle.sno_text.specs.Nodes.{pattern_of}
 use Rattle.sno_pattern.specs.Looks.{Fits}
 use Rattle.sno_pattern.specs.Steps.{match_of}
 use Rattle.sno_pattern.specs.Places.{MatchesWithin}

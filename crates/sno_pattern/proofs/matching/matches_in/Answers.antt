@@ -1,10 +1,10 @@
 use Rattle.std.proofs.Common.{◌≡◌, ◌+◌, length, refl, sym, ◌∙◌, subst}
 use Rattle.std.specs.Prelude.{if◌then◌else◌}
-use Rattle.sno_talk.specs.Talks.{Talk}
-use Rattle.sno_talk.specs.Holding.{Held}
-use Rattle.sno_talk.proofs.Held.{cut_here}
+use Rattle.interaction.specs.Interactions.{Interaction}
+use Rattle.interaction.specs.Holding.{RunsTo}
+use Rattle.interaction.proofs.Held.{cut_here}
 use Rattle.sno_pattern.specs.Steps.{match_of}
-use Rattle.sno_nodes.specs.Nodes.{pattern_of}
+use Rattle.sno_text.specs.Nodes.{pattern_of}
 use Rattle.sno_pattern.specs.declared.ending.MatchEnd.{MatchEnd}
 use Rattle.sno_pattern.specs.declared.ending.MatchEnd.TheVariants.{NoMatch}
 use Rattle.sno_pattern.specs.Looks.{Look, Told, Fits}
@@ -21,7 +21,7 @@ returns-then-first-starts-clause-held g c =
     let whole = match_is text p c.args.anchored c.args.limit c.if-anchored.starts c.skip_starts-first.result c.skip_starts-first.new.left all
     (rw c.deref-node.ensures at c.skip_starts-first.ensures.same) in
     let none = no_start text p c.if-anchored.starts c.skip_starts-first.result c.skip_starts-first.new.left c.if-first-starts.true in
-    subst (λ (z : Talk Look Told MatchEnd). Held g.H.MatchHost.tells Fits z c.args.host.now NoMatch c.args.host.now) (sym (whole ∙ none)) (refl, refl)
+    subst (λ (z : Interaction Look Told MatchEnd). RunsTo g.H.MatchHost.tells Fits z c.args.host.now NoMatch c.args.host.now) (sym (whole ∙ none)) (refl, refl)
 
 pub returns-in-Err-clause-cut : goal.returns-in-Err-clause-cut
 returns-in-Err-clause-cut g c =

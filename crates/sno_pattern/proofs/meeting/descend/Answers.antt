@@ -1,5 +1,5 @@
 use Rattle.std.proofs.Common.{rules, ◌∷◌, refl, sym, ap, ◌∙◌, arith}
-use Rattle.sno_nodes.specs.Nodes.{pattern_of}
+use Rattle.sno_text.specs.Nodes.{pattern_of}
 use Rattle.sno_pattern.specs.Steps.{Meet, outcome}
 use Rattle.sno_pattern.specs.inner.Stack.{waiting_of}
 use Rattle.sno_pattern.proofs.Reaches.{nowhere_of}

@@ -1,6 +1,6 @@
 use Rattle.std.proofs.Common.{[], ◌∷◌}
-use Rattle.sno_talk.proofs.Held.{cut_here}
-use Rattle.sno_nodes.specs.Nodes.{pattern_of}
+use Rattle.interaction.proofs.Held.{cut_here}
+use Rattle.sno_text.specs.Nodes.{pattern_of}
 use Rattle.sno_pattern.specs.Looks.{Fits}
 use Rattle.sno_pattern.specs.Steps.{Meet, outcome}
 use Rattle.sno_pattern.proofs.Run.{on_cut, on_success, err_holds}

@@ -1,5 +1,5 @@
 use Rattle.std.proofs.Common.{[], ◌∷◌}
-use Rattle.sno_nodes.specs.Nodes.{pattern_of}
+use Rattle.sno_text.specs.Nodes.{pattern_of}
 use Rattle.sno_pattern.specs.Steps.{Meet, outcome}
 use Rattle.sno_pattern.specs.inner.Stack.{rank}
 use Rattle.sno_pattern.proofs.Run.{On}

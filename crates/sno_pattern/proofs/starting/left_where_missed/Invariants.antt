@@ -1,4 +1,4 @@
-use Rattle.sno_nodes.specs.Nodes.{pattern_of}
+use Rattle.sno_text.specs.Nodes.{pattern_of}
 use Rattle.sno_pattern.proofs.Missing.{LeadsTo}
 use Rattle.sno_pattern.proofs.starting.left_where_missed.Given as goal
 

@@ -1,5 +1,5 @@
 use Rattle.std.proofs.Common.{◌-◌, ◌≡◌, ◌≤◌}
-use Rattle.sno_nodes.specs.Nodes.{pattern_of}
+use Rattle.sno_text.specs.Nodes.{pattern_of}
 use Rattle.sno_pattern.specs.Steps.{from_starts}
 use Rattle.sno_pattern.proofs.starting.skip_starts.Given as goal
 

@@ -1,7 +1,7 @@
 use Rattle.std.proofs.Common.{Some, refl, ◌∙◌}
 use Rattle.sno_run.specs.declared.ending.Ending.TheVariants.{Memory}
 use Rattle.sno_run.specs.declared.ending.Step.TheVariants.{Ended}
-use Rattle.sno_run.specs.Told.{job_of}
+use Rattle.sno_run.specs.Abstraction.{job_of}
 use Rattle.sno_run.specs.inner.Turning.{turned_of}
 use Rattle.sno_run.proofs.Turns.{stepped_mid, turn_told, turn_broken}
 use Rattle.sno_run.proofs.turning.statement_turn.Goals as goal

@@ -1,6 +1,6 @@
 use Rattle.std.proofs.Common.{◌+◌, ◌∙◌, sym, ap, ◌∷◌, drop}
 use Rattle.std.specs.Prelude.{Some}
-use Rattle.sno_token.specs.declared.Token.{Token}
+use Rattle.sno_lexer.specs.declared.token.Token.{Token}
 use Rattle.sno_statement.specs.declared.walking.SubjectKind.{SubjectKind}
 use Rattle.sno_statement.specs.inner.Faults.{FaultAt, refusal, noted, least, noted_at, subject_kind}
 use Rattle.sno_statement.specs.inner.Told.{walk_of}

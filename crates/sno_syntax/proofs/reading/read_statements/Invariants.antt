@@ -1,7 +1,7 @@
 use Rattle.std.proofs.Common.{◌≡◌, List, [], ◌++◌, drop}
 use Rattle.std.specs.Prelude.{map}
 use Rattle.sno_statement.specs.Statements.{Statement}
-use Rattle.sno_statement.specs.Told.{statement_of}
+use Rattle.sno_statement.specs.Abstraction.{statement_of}
 use Rattle.sno_syntax.specs.Refusals.{statements_refusal, labels_from}
 use Rattle.sno_syntax.specs.Programs.{SpellFrom}
 use Rattle.sno_syntax.proofs.reading.read_statements.Given as goal

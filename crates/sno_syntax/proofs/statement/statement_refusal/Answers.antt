@@ -1,5 +1,5 @@
 use Rattle.std.proofs.Common.{sym}
-use Rattle.sno_statement.specs.Told.{statement_of}
+use Rattle.sno_statement.specs.Abstraction.{statement_of}
 use Rattle.sno_syntax.proofs.Spelled.{no_refusal}
 use Rattle.sno_syntax.proofs.statement.statement_refusal.Goals as goal
 

@@ -1,5 +1,5 @@
 use Rattle.std.proofs.Common.{◌≡◌, ◌≤◌, ◌++◌, ◌-◌, length, take, drop}
-use Rattle.sno_prototype.specs.Prototypes.{names_of}
+use Rattle.sno_declarations.specs.Prototypes.{names_of}
 use Rattle.sno_variables.specs.Bindings.{paired, assigned}
 use Rattle.sno_variables.specs.inner.Places.{AreDistinct}
 use Rattle.sno_variables.specs.inner.Exchanging.{taken_by, undone}

@@ -1,5 +1,5 @@
 use Rattle.std.proofs.Common.{◌≡◌, ◌≤◌, length}
-use Rattle.sno_prototype.specs.Prototypes.{names_of}
+use Rattle.sno_declarations.specs.Prototypes.{names_of}
 use Rattle.sno_variables.specs.inner.Places.{AreDistinct}
 use Rattle.sno_variables.specs.inner.Exchanging.{undone}
 use Rattle.sno_variables.proofs.exchanging.take_back.Given as goal

@@ -1,5 +1,5 @@
 use Rattle.std.proofs.Common.{rules}
-use Rattle.mon_guard.specs.Rows.{RowsFit}
+use Rattle.mon_guard.specs.Cache.{CacheFits}
 use Rattle.mon_guard.proofs.Fitting.{kept_left, left_changed}
 use Rattle.mon_guard.proofs.guard.Guard.end.Goals as goal
 
@@ -10,6 +10,6 @@ returns-clause-sets c =
 
 pub returns-clause-fit : goal.returns-clause-fit
 returns-clause-fit c =
-    let fit : RowsFit c.self.inside.rows c.args.catalogue.now = rw c.self.view_is c.requires.fit in
+    let fit : CacheFits c.self.inside.rows c.args.catalogue.now = rw c.self.view_is c.requires.fit in
     kept_left c.args.account.now c.args.name.now _ c.in-Some.set.now _ c.args.catalogue.now _ _
     c.remember.ensures c.end_by-answered.ensures.set c.in-Some.ensures.found fit

@@ -1,20 +1,20 @@
 use Rattle.std.proofs.Common.{◌≡◌, ◌++◌, ℕ, List, Err, refl, ap, ◌∙◌}
-use Rattle.mon_job.specs.Printouts.{refusal_text}
-use Rattle.mon_monitor.specs.Told.{world_of}
+use Rattle.scheduler.specs.Printouts.{refusal_text}
+use Rattle.mon_monitor.specs.Abstraction.{system_of}
 use Rattle.mon_monitor.specs.Played.{loading}
 use Rattle.mon_monitor.proofs.Playing.{on_ok, load_done, load_refused, refused_is}
 use Rattle.mon_monitor.proofs.monitor.Monitor.put_load.Goals as goal
 
 pub returns-in-Ok : goal.returns-in-Ok
 returns-in-Ok c =
-    load_done c.args.deck (world_of c.args.self.now) (world_of c.load.new.self) c.in-Ok.field-0 c.args.out.now.items c.args.out.now.items c.in-Ok.ensures.loaded refl
+    load_done c.args.deck (system_of c.args.self.now) (system_of c.load.new.self) c.in-Ok.field-0 c.args.out.now.items c.args.out.now.items c.in-Ok.ensures.loaded refl
 
 pub returns-in-Err-Refused : goal.returns-in-Err-Refused
 returns-in-Err-Refused c =
-    let w = world_of c.args.self.now in
+    let w = system_of c.args.self.now in
     let refusal = c.in-Err-Refused.refusal in
     let is : loading c.args.deck w ≡ (Err refusal, w) = refused_is c.args.deck w c.in-Err-Refused.field-0 refusal c.in-Err-Refused.field-0-is c.in-Err-Refused.ensures.refused in
     on_ok c.put_refusal.result
-    (λ put. load_refused c.args.deck w (world_of c.load.new.self) refusal c.args.out.now.items c.put_refusal.new.out.items is c.in-Err-Refused.ensures.unchanged
+    (λ put. load_refused c.args.deck w (system_of c.load.new.self) refusal c.args.out.now.items c.put_refusal.new.out.items is c.in-Err-Refused.ensures.unchanged
     (put ∙ ap (λ (a : List ℕ). c.args.out.now.items ++ refusal_text c.args.deck.number a refusal) c.copy-account.ensures))
     c.put_refusal.ensures.printed

@@ -1,15 +1,15 @@
 use Rattle.std.proofs.Common.{subst}
 use Rattle.std.specs.Prelude.{IfOk}
 use Rattle.mon_catalogue.specs.Sets.{Sets}
-use Rattle.mon_slots.specs.Floors.{floor}
-use Rattle.mon_slots.specs.Told.{slots_in}
-use Rattle.mon_slots.specs.Turning.{MarkedIs}
+use Rattle.scheduler.specs.States.{scheduler}
+use Rattle.scheduler.specs.Abstraction.{slots_in}
+use Rattle.scheduler.specs.Turning.{MarkedIs}
 use Rattle.mon_monitor.proofs.Schedules.{turns_any_order}
 use Rattle.mon_monitor.proofs.monitor.Monitor.turns.Goals as goal
 
 pub returns-clause-any_order : goal.returns-clause-any_order
 returns-clause-any_order c =
     let slots = slots_in c.args.self.now.slots in
-    let left = floor c.turns.new.catalogue (slots_in c.turns.new.self) in
-    turns_any_order c.turns.result c.args.order.now (floor c.args.self.now.catalogue.value slots) left
-    (subst (λ (sets : Sets). IfOk c.turns.result (λ ends. MarkedIs c.args.order.now (floor sets slots) ends.items left)) c.in-Some.ensures.value c.turns.ensures.marked)
+    let left = scheduler c.turns.new.catalogue (slots_in c.turns.new.self) in
+    turns_any_order c.turns.result c.args.order.now (scheduler c.args.self.now.catalogue.value slots) left
+    (subst (λ (sets : Sets). IfOk c.turns.result (λ ends. MarkedIs c.args.order.now (scheduler sets slots) ends.items left)) c.in-Some.ensures.value c.turns.ensures.marked)

@@ -1,0 +1,200 @@
+-- What a card asks for, before those that are still to come.
+use Rattle.std.proofs.Common.{◌≡◌, ℕ, suc, ◌+◌, Bool, true, false, List, [], ◌∷◌, ◌++◌, refl, sym, ap, ◌∙◌, arith, append_assoc, append-nil}
+use Rattle.mon_catalogue.specs.Sets.{Sets}
+use Rattle.scheduler.specs.Marks.{Marks}
+use Rattle.mon_command.specs.declared.command.Command.{Command}
+use Rattle.deck_syntax.specs.declared.job_deck.JobDeck.{JobDeck}
+use Rattle.deck_syntax.specs.declared.job.OpenJob.{OpenJob}
+use Rattle.mon_monitor.specs.SystemStates.{SystemState}
+use Rattle.mon_monitor.specs.Events.{Event, Serve, Load, Give, Drain}
+use Rattle.mon_monitor.specs.Printouts.{Printout, printout_text, printouts_text}
+use Rattle.mon_monitor.specs.Played.{Played, played, happened, and_played}
+use Rattle.mon_monitor.specs.Happening.{Happens, Closes}
+use Rattle.deck_syntax.specs.Decks.{Asked, Commands, Enters, Gives, Drains, Cards, Ending, Stopped, Refused}
+use Rattle.deck_syntax.specs.Sections.{asked_then}
+use Rattle.deck_syntax.specs.Jobs.{job_deck_of}
+use Rattle.deck_driver.specs.declared.options.Counts.{Counts}
+use Rattle.deck_driver.specs.RunStates.{over, events_of, events_in, at_end, nothing_counted, both_counted, one_counted, all_counted}
+use Rattle.deck_driver.specs.Printouts.{closing, verdict}
+use Rattle.deck_driver.specs.Feeds.{outcome_of, behind, more, concluded, Conclusion, Good, Bad, Outcome}
+use Rattle.deck_driver.specs.inner.Lines.{Served, Stopping}
+
+-- COUNTS
+
+counts_are : (a b c d : ℕ) → a ≡ c → b ≡ d → ◌≡◌ {A = Counts} (record { jobs = a; commands = b }) (record { jobs = c; commands = d })
+counts_are a b c d x y = ap (λ i. record { jobs = i; commands = b }) x ∙ ap (λ j. record { jobs = c; commands = j }) y
+
+pub both_both : (a b c : Counts) → both_counted a (both_counted b c) ≡ both_counted (both_counted a b) c
+both_both a b c = counts_are _ _ _ _ (omega arith) (omega arith)
+
+pub and_nothing : (a : Counts) → both_counted a nothing_counted ≡ a
+and_nothing a = counts_are (a.jobs + 0) (a.commands + 0) a.jobs a.commands (omega arith) (omega arith)
+
+pub nothing_and : (a : Counts) → both_counted nothing_counted a ≡ a
+nothing_and a = counts_are (0 + a.jobs) (0 + a.commands) a.jobs a.commands (omega arith) (omega arith)
+
+-- an outcome behind two texts
+more_more : (j k : Counts) (c : Conclusion) → more j (more k c) ≡ more (both_counted j k) c
+more_more j k (Good counts sets) = ap (λ (i : Counts). Good i sets) (both_both j k counts)
+more_more j k (Bad n code) = refl
+
+pub behind_behind : (t s : List ℕ) (j k : Counts) (o : Outcome) → behind t j (behind s k o) ≡ behind (t ++ s) (both_counted j k) o
+behind_behind t s j k o =
+    ap (λ w. record { written = w; conclusion = more j (more k o.conclusion) }) (sym (append_assoc t s o.written))
+    ∙ ap (λ (c : Conclusion). record { written = (t ++ s) ++ o.written; conclusion = c }) (more_more j k o.conclusion)
+
+counted_first : (ending : Ending) (one : Asked) (asked : List Asked) (sets : Sets)
+    → concluded (all_counted (one ∷ asked)) sets ending ≡ more (one_counted one) (concluded (all_counted asked) sets ending)
+counted_first Stopped one asked sets = refl
+counted_first (Refused n code) one asked sets = refl
+
+-- EVENTS
+
+printouts_further : (ps qs : List Printout) → printouts_text (ps ++ qs) ≡ printouts_text ps ++ printouts_text qs
+printouts_further [] qs = refl
+printouts_further (p ∷ ps) qs = ap (λ t. printout_text p ++ t) (printouts_further ps qs) ∙ sym (append_assoc (printout_text p) (printouts_text ps) (printouts_text qs))
+
+-- what a card asks for, where the next job has number k
+abbrev pub event_of : ℕ → Asked → Event
+event_of k (Commands command) = Serve command
+event_of k (Enters job) = Load (job_deck_of k job)
+event_of k (Gives turn) = Give turn.slot turn.count
+event_of k Drains = Drain
+
+events_first : (k : ℕ) (one : Asked) (asked : List Asked) → events_of (suc k) (one ∷ asked) ≡ event_of (suc k) one ∷ events_of (suc (k + (one_counted one).jobs)) asked
+events_first k (Commands command) asked = let e : k ≡ k + 0 = omega arith in ap (λ i. Serve command ∷ events_of (suc i) asked) e
+events_first k (Enters job) asked = let e : suc (suc k) ≡ suc (k + 1) = omega arith in ap (λ i. Load (job_deck_of (suc k) job) ∷ events_of i asked) e
+events_first k (Gives turn) asked = let e : k ≡ k + 0 = omega arith in ap (λ i. Give turn.slot turn.count ∷ events_of (suc i) asked) e
+events_first k Drains asked = let e : k ≡ k + 0 = omega arith in ap (λ i. Drain ∷ events_of (suc i) asked) e
+
+played_is : (p : Played) (printouts : List Printout) (w : SystemState) (m : Marks) → p.printouts ≡ printouts → p.after ≡ w → p.marks ≡ m → p ≡ record { printouts = printouts; after = w; marks = m }
+played_is p printouts w m x y z =
+    ap (λ ps. record { printouts = ps; after = p.after; marks = p.marks }) x
+    ∙ ap (λ (v : SystemState). record { printouts = printouts; after = v; marks = p.marks }) y
+    ∙ ap (λ n. record { printouts = printouts; after = w; marks = n }) z
+
+-- what is told of events
+abbrev told_of : Ending → Counts → Played → Outcome
+told_of ending counts p = record { written = printouts_text p.printouts ++ closing p.after.scheduler.sets ending; conclusion = concluded counts p.after.scheduler.sets ending }
+
+-- the first event, and then the others
+module _ (jobs : ℕ) (one : Asked) (m rest : Marks) (w w' : SystemState) (text : List ℕ) (others : Cards)
+    (printed : printouts_text (happened (event_of (suc jobs) one) m w).printouts ≡ text)
+    (left : (happened (event_of (suc jobs) one) m w).after ≡ w')
+    (marks : (happened (event_of (suc jobs) one) m w).marks ≡ rest) where
+  abbrev next : ℕ
+  next = jobs + (one_counted one).jobs
+
+  abbrev then : Played
+  then = played (events_in next (over w' others)) rest w'
+
+  first_played : played (events_in jobs (over w (asked_then one others))) m w ≡ and_played (happened (event_of (suc jobs) one) m w).printouts then
+  first_played =
+      let all = happened (event_of (suc jobs) one) m w in
+      ap (λ (E : List Event). played (E ++ at_end others.ending) m w) (events_first jobs one others.asked)
+      ∙ ap (λ (v : SystemState). and_played all.printouts (played (events_in next (over v others)) all.marks v)) left
+      ∙ ap (λ k. and_played all.printouts (played (events_in next (over w' others)) k w')) marks
+
+  pub first_served : outcome_of false jobs m (over w (asked_then one others)) ≡ behind text (one_counted one) (outcome_of false next rest (over w' others))
+  first_served =
+      let all = happened (event_of (suc jobs) one) m w in
+      let sets = then.after.scheduler.sets in
+      ap (told_of others.ending (all_counted (one ∷ others.asked))) first_played
+      ∙ ap (λ t. record { written = t ++ closing sets others.ending; conclusion = concluded (all_counted (one ∷ others.asked)) sets others.ending })
+      (printouts_further all.printouts then.printouts ∙ ap (λ t. t ++ printouts_text then.printouts) printed)
+      ∙ ap (λ t. record { written = t; conclusion = concluded (all_counted (one ∷ others.asked)) sets others.ending })
+      (append_assoc text (printouts_text then.printouts) (closing sets others.ending))
+      ∙ ap (λ (c : Conclusion). record { written = text ++ (printouts_text then.printouts ++ closing sets others.ending); conclusion = c })
+      (counted_first others.ending one others.asked sets)
+
+first_counted : (jobs next : ℕ) (m rest : Marks) (one : Asked) (w : SystemState) (others : Cards)
+    → outcome_of true jobs m (over w (asked_then one others)) ≡ behind [] (one_counted one) (outcome_of true next rest (over w others))
+first_counted jobs next m rest one w others =
+    ap (λ (c : Conclusion). record { written = verdict others.ending; conclusion = c }) (counted_first others.ending one others.asked w.scheduler.sets)
+
+module _ (one : Asked) (w : SystemState) (before : List ℕ) (counts counts' : Counts) (counted : counts' ≡ both_counted counts (one_counted one)) where
+  -- it happened, and what it printed was put behind what there was
+  pub one_served : (w' : SystemState) (text after : List ℕ) (marks : Marks) → after ≡ before ++ text
+      → ((rest : Marks) → printouts_text (happened (event_of (suc counts.jobs) one) (marks ++ rest) w).printouts ≡ text)
+      → ((rest : Marks) → (happened (event_of (suc counts.jobs) one) (marks ++ rest) w).after ≡ w')
+      → ((rest : Marks) → (happened (event_of (suc counts.jobs) one) (marks ++ rest) w).marks ≡ rest)
+      → Served false one w before counts w' after counts'
+  one_served w' text after marks put printed left kept = record {
+    marks = marks;
+    is = λ rest others.
+        let then = outcome_of false (counts.jobs + (one_counted one).jobs) rest (over w' others) in
+        ap (λ (c : Counts). behind after c (outcome_of false c.jobs rest (over w' others))) counted
+        ∙ ap (λ t. behind t (both_counted counts (one_counted one)) then) put
+        ∙ sym (behind_behind before text counts (one_counted one) then)
+        ∙ ap (behind before counts) (sym (first_served counts.jobs one (marks ++ rest) rest w w' text others (printed rest) (left rest) (kept rest)));
+  }
+
+  -- it was only counted
+  one_counted_only : Served true one w before counts w before counts'
+  one_counted_only = record {
+    marks = [];
+    is = λ rest others.
+        let then = outcome_of true (counts.jobs + (one_counted one).jobs) rest (over w others) in
+        ap (λ (c : Counts). behind before c (outcome_of true c.jobs rest (over w others))) counted
+        ∙ ap (λ t. behind t (both_counted counts (one_counted one)) then) (sym (append-nil before))
+        ∙ sym (behind_behind before [] counts (one_counted one) then)
+        ∙ ap (behind before counts) (sym (first_counted counts.jobs (counts.jobs + (one_counted one).jobs) rest rest one w others));
+  }
+
+  pub counted_when : (check : Bool) → check ≡ true → Served check one w before counts w before counts'
+  counted_when true e = one_counted_only
+  counted_when false e = cc
+
+pub served_when : (check : Bool) → check ≡ false → (one : Asked) (w w' : SystemState) (before after : List ℕ) (counts counts' : Counts)
+    → Served false one w before counts w' after counts' → Served check one w before counts w' after counts'
+served_when false e one w w' before after counts counts' served = served
+served_when true e one w w' before after counts counts' served = cc
+
+pub happens_served : (check : Bool) → check ≡ false → (one : Asked) (event : Event) (w w' : SystemState) (before after : List ℕ) (counts counts' : Counts)
+    → event ≡ event_of (suc counts.jobs) one → counts' ≡ both_counted counts (one_counted one)
+    → Happens event w before w' after → Served check one w before counts w' after counts'
+happens_served check unchecked one event w w' before after counts counts' is counted happens =
+    served_when check unchecked one w w' before after counts counts'
+    (one_served one w before counts counts' counted w' (printouts_text happens.printouts) after happens.marks happens.printed
+    (λ rest. ap (λ (e : Event). printouts_text (happened e (happens.marks ++ rest) w).printouts) (sym is) ∙ ap (λ (p : Played). printouts_text p.printouts) (happens.is rest))
+    (λ rest. ap (λ (e : Event). (happened e (happens.marks ++ rest) w).after) (sym is) ∙ ap (λ (p : Played). p.after) (happens.is rest))
+    (λ rest. ap (λ (e : Event). (happened e (happens.marks ++ rest) w).marks) (sym is) ∙ ap (λ (p : Played). p.marks) (happens.is rest)))
+
+-- counted by hand
+
+pub command_counted : (counts : Counts) (command : Command) → ◌≡◌ {A = Counts} (record { jobs = counts.jobs; commands = counts.commands + 1 }) (both_counted counts (one_counted (Commands command)))
+command_counted counts command = counts_are counts.jobs (counts.commands + 1) (counts.jobs + 0) (counts.commands + 1) (omega arith) refl
+
+pub job_counted : (counts : Counts) (job : OpenJob) → ◌≡◌ {A = Counts} (record { jobs = counts.jobs + 1; commands = counts.commands }) (both_counted counts (one_counted (Enters job)))
+job_counted counts job = counts_are (counts.jobs + 1) counts.commands (counts.jobs + 1) (counts.commands + 0) refl (omega arith)
+
+pub job_numbered : (counts : Counts) (job : OpenJob) (deck : JobDeck) → deck ≡ job_deck_of (counts.jobs + 1) job → Load deck ≡ event_of (suc counts.jobs) (Enters job)
+job_numbered counts job deck is = let e : counts.jobs + 1 ≡ suc counts.jobs = omega arith in ap (λ (d : JobDeck). Load d) (is ∙ ap (λ n. job_deck_of n job) e)
+
+-- `$STOP`
+
+pub checked_when : (check : Bool) → check ≡ true → (jobs : ℕ) (w : SystemState) (before after : List ℕ) (left : Sets) → left ≡ w.scheduler.sets → after ≡ before ++ verdict Stopped
+    → Stopping check jobs w before left after
+checked_when true e jobs w before after left same put = record { marks = []; written = λ rest. put; sets = λ rest. same }
+checked_when false e jobs w before after left same put = cc
+
+pub stopped_when : (check : Bool) → check ≡ false → (jobs : ℕ) (w : SystemState) (left : Sets) (before after : List ℕ) → Stopping false jobs w before left after → Stopping check jobs w before left after
+stopped_when false e jobs w left before after stopping = stopping
+stopped_when true e jobs w left before after stopping = cc
+
+-- the slots were emptied, and then the catalogue was given back
+pub closed : (jobs : ℕ) (w : SystemState) (left : Sets) (before after : List ℕ) → Closes w before left after → Stopping false jobs w before left after
+closed jobs w left before after closes =
+    let happens = closes.drained in
+    let end = closing left Stopped in
+    record {
+      marks = happens.marks;
+      written = λ rest.
+          closes.printed
+          ∙ ap (λ t. t ++ end) happens.printed
+          ∙ append_assoc before (printouts_text happens.printouts) end
+          ∙ ap (λ ps. before ++ (printouts_text ps ++ end)) (sym (append-nil happens.printouts))
+          ∙ ap (λ (sets : Sets). before ++ (printouts_text (happens.printouts ++ []) ++ closing sets Stopped)) closes.same
+          ∙ ap (λ (p : Played). before ++ (printouts_text (p.printouts ++ []) ++ closing p.after.scheduler.sets Stopped)) (sym (happens.is rest));
+      sets = λ rest. closes.same ∙ ap (λ (p : Played). p.after.scheduler.sets) (sym (happens.is rest));
+    }

@@ -1,0 +1,50 @@
+use Rattle.std.proofs.Common.{arith, refl, sym, ap, ◌∙◌, ◌+◌, ◌≡◌, ◌≤◌, Err, List, ℕ, length, drop}
+use Rattle.std.proofs.lemmas.List.{take_rest, length-drop}
+use Rattle.std.proofs.lemmas.Result.{err_from_is_err_and}
+use Rattle.mon_text.proofs.Cutting.{nothing_kept}
+use Rattle.deck_driver.proofs.Beginnings.{begins_further}
+use Rattle.deck_driver.proofs.Pieces.{took_more, took_all, begun_so_far, begun_more, took_answer, took_stopped}
+use Rattle.deck_driver.proofs.feed.DeckFeed.feed.Goals as goal
+
+pub returns-in-Stopped-clause-told : goal.returns-in-Stopped-clause-told
+returns-in-Stopped-clause-told c = took_stopped c.args.out.now c.args.self.now _ c.args.piece.now c.in-Stopped.field-0 c.in-Stopped.is refl refl
+
+pub returns-in_err-used-clause-appends : goal.returns-in_err-used-clause-appends
+returns-in_err-used-clause-appends c = begins_further c.args.out.now c.lines.out c.feed_line.new.out c.lines.invariant.appends c.feed_line.ensures.appends
+
+pub returns-in_err-used-clause-begun : goal.returns-in_err-used-clause-begun
+returns-in_err-used-clause-begun c =
+    begun_more c.args.out.now c.args.self.now c.args.piece.now c.lines.out c.lines.self c.lines.rest.now c.lines.invariant.told c.feed_line.new.out c.feed_line.ensures.begun
+
+pub returns-in_err-used-clause-told : goal.returns-in_err-used-clause-told
+returns-in_err-used-clause-told c =
+    let answer = err_from_is_err_and c.from_residual.result c.from_residual.ensures.1 in
+    took_answer c.args.out.now c.args.self.now c.args.piece.now c.lines.out c.lines.self c.lines.rest.now c.lines.invariant.told c.feed_line.new.out c.feed_line.new.self
+    c.from_residual.result c.in_err-used.field-0.0 (answer.1 ∙ ap Err answer.2) c.in_err-used.ensures.refused
+
+pub returns-clause-told : goal.returns-clause-told
+returns-clause-told c =
+    took_all c.args.out.now c.args.self.now c.args.piece.now c.lines.out c.lines.self c.lines.rest.now c.lines.invariant.told (nothing_kept c.lines.rest.now (sym c.is_empty.ensures ∙ c.lines-test.false))
+
+pub returns-clause-begun : goal.returns-clause-begun
+returns-clause-begun c = begun_so_far c.args.out.now c.args.self.now c.args.piece.now c.lines.out c.lines.self c.lines.rest.now c.lines.invariant.told
+
+pub lines-preserved : goal.lines-preserved
+lines-preserved c =
+    let rest = c.lines.rest.now in
+    let used = c.in_ok-used.used in
+    let feed = c.feed_line.new.self in
+    let there : feed.fed + length (drop used rest) ≡ c.args.self.now.fed + length c.args.piece.now =
+    omega (arith, c.in_ok-used.ensures.used.1, c.in_ok-used.ensures.used.2, length-drop used rest, c.lines.invariant.fed) in
+    let less : length (drop used rest) ≤ length c.args.piece.now = omega (arith, length-drop used rest, c.lines.invariant.within) in
+    record {
+      told =
+          rw (c.let_go.ensures)
+          (took_more c.args.out.now c.args.self.now c.args.piece.now c.lines.out c.lines.self rest c.lines.invariant.told
+          c.feed_line.new.out feed used _ (take_rest rest used) c.in_ok-used.ensures.told);
+      appends = rw (c.let_go.ensures) (begins_further c.args.out.now c.lines.out c.feed_line.new.out c.lines.invariant.appends c.feed_line.ensures.appends);
+      fed = ap (λ (v : List ℕ). feed.fed + length v) (take_rest rest used) ∙ there;
+      within = rw (take_rest rest used) less;
+      reads_back = λ back. c.in_ok-used.ensures.reads_back (c.lines.invariant.reads_back back);
+      options = c.feed_line.ensures.options ∙ c.lines.invariant.options;
+    }

@@ -1,0 +1,27 @@
+use Rattle.std.proofs.Common.{◌+◌, ◌++◌, [], List, ℕ, sym, ap, subst, ◌∙◌, append-nil}
+use Rattle.std.specs.Str.Lines.{lines}
+use Rattle.deck_driver.specs.Feeds.{Bad}
+use Rattle.deck_driver.specs.Abstraction.{last_lines}
+use Rattle.deck_driver.specs.inner.Lines.{Ended, EndBegun}
+use Rattle.deck_driver.proofs.Telling.{comes_so}
+use Rattle.deck_driver.proofs.feed.DeckFeed.finish.Goals as goal
+
+pub returns-clause-begun : goal.returns-clause-begun
+returns-clause-begun c =
+    let f = c.args.self in
+    let same = ap last_lines (c.deref.ensures.value ∙ c.rest-last.ensures.value) ∙ sym c.rest-last.ensures.lines ∙ ap lines (sym (append-nil f.line)) in
+    let begun = subst (λ (ls : List (List ℕ)). EndBegun f.options f.state (f.lines_taken + 1) ls c.args.out.now f.counts c.end.new.out) same c.end.ensures.begun in
+    (begun.marks, begun.is)
+
+pub returns-clause-ended : goal.returns-clause-ended
+returns-clause-ended c =
+    let f = c.args.self in
+    let same = ap last_lines (c.deref.ensures.value ∙ c.rest-last.ensures.value) ∙ sym c.rest-last.ensures.lines ∙ ap lines (sym (append-nil f.line)) in
+    comes_so f.options f.state (f.lines_taken + 1) (last_lines c.deref.result.now) (lines (f.line ++ [])) c.args.out.now f.counts c.end.new.out c.end.result same c.end.ensures.ended
+
+pub returns-clause-refused : goal.returns-clause-refused
+returns-clause-refused c = λ n code error.
+    let f = c.args.self in
+    let same = ap last_lines (c.deref.ensures.value ∙ c.rest-last.ensures.value) ∙ sym c.rest-last.ensures.lines ∙ ap lines (sym (append-nil f.line)) in
+    let ended = subst (λ (ls : List (List ℕ)). Ended f.options f.state (f.lines_taken + 1) ls c.args.out.now f.counts c.end.new.out (Bad n code)) same (c.end.ensures.refused n code error) in
+    (ended.marks, ended.is)

@@ -1,0 +1,63 @@
+-- What happens in a deck (own): its stream's cards ask for events, over a system.
+use Rattle.std.specs.Prelude.{ℕ, suc, ◌+◌, List, [], ◌∷◌, ◌++◌}
+use Rattle.mon_catalogue.specs.Sets.{Sets}
+use Rattle.scheduler.specs.Marks.{Marks}
+use Rattle.mon_monitor.specs.SystemStates.{SystemState, first_system}
+use Rattle.mon_monitor.specs.Events.{Event, Serve, Load, Give, Drain}
+use Rattle.mon_monitor.specs.Played.{Played, played}
+use Rattle.deck_syntax.specs.Decks.{Deck, Cards, Asked, Commands, Enters, Gives, Drains, Ending, Stopped, Refused}
+use Rattle.deck_syntax.specs.Jobs.{job_deck_of}
+use Rattle.deck_driver.specs.declared.options.Counts.{Counts}
+
+-- a deck from its stream on: the system, and the cards that are still to come
+pub record RunState : Type 0 where
+  pub system : SystemState
+  pub cards : Cards
+
+abbrev pub over : SystemState → Cards → RunState
+over w cards = record { system = w; cards = cards }
+
+-- a deck's stream begins over its accounts and its catalogue, with so many slots
+abbrev pub opening : ℕ → Deck → RunState
+opening slots deck = over (first_system slots deck.accounts deck.catalogue) deck.cards
+
+-- what the cards ask for, where the next job has number k
+abbrev pub events_of : ℕ → List Asked → List Event
+events_of k [] = []
+events_of k (Commands command ∷ asked) = Serve command ∷ events_of k asked
+events_of k (Enters job ∷ asked) = Load (job_deck_of k job) ∷ events_of (suc k) asked
+events_of k (Gives turn ∷ asked) = Give turn.slot turn.count ∷ events_of k asked
+events_of k (Drains ∷ asked) = Drain ∷ events_of k asked
+
+-- `$STOP` gives all turns that there are to give; a refusal gives none
+abbrev pub at_end : Ending → List Event
+at_end Stopped = Drain ∷ []
+at_end (Refused n code) = []
+
+-- all events of a run_state, behind so many jobs
+abbrev pub events_in : ℕ → RunState → List Event
+events_in jobs s = events_of (suc jobs) s.cards.asked ++ at_end s.cards.ending
+
+abbrev pub played_run_state : ℕ → Marks → RunState → Played
+played_run_state jobs m s = played (events_in jobs s) m s.system
+
+-- the data sets after them
+abbrev pub sets_after : ℕ → Marks → RunState → Sets
+sets_after jobs m s = let p = played_run_state jobs m s in p.after.scheduler.sets
+
+-- how many jobs and commands there are
+
+abbrev pub nothing_counted : Counts
+nothing_counted = record { jobs = 0; commands = 0 }
+
+abbrev pub both_counted : Counts → Counts → Counts
+both_counted a b = record { jobs = a.jobs + b.jobs; commands = a.commands + b.commands }
+
+abbrev pub one_counted : Asked → Counts
+one_counted (Commands command) = record { jobs = 0; commands = 1 }
+one_counted (Enters job) = record { jobs = 1; commands = 0 }
+one_counted asked = nothing_counted
+
+abbrev pub all_counted : List Asked → Counts
+all_counted [] = nothing_counted
+all_counted (a ∷ asked) = both_counted (one_counted a) (all_counted asked)

@@ -1,0 +1,11 @@
+-- A piece that was taken in part.
+use Rattle.std.specs.Prelude.{◌≡◌, ℕ, List, ◌++◌}
+use Rattle.scheduler.specs.Marks.{Marks}
+use Rattle.deck_driver.specs.declared.feed.DeckFeed.{DeckFeed}
+use Rattle.deck_driver.specs.Abstraction.{told}
+
+-- with some marks for the turns in it, what was put out and what the feed stands for are, with what is left of the piece, what
+-- they were with all of it
+pub record TookUpTo (before : List ℕ) (f : DeckFeed) (piece after : List ℕ) (g : DeckFeed) (left : List ℕ) : Type 0 where
+  pub marks : Marks
+  pub is : (rest : Marks) → (bytes : List ℕ) → told rest after g (left ++ bytes) ≡ told (marks ++ rest) before f (piece ++ bytes)

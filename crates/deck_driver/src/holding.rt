@@ -1,0 +1,26 @@
+//! Which job holds most, as far as a deck was read.
+ghost use Rattle.std.specs.Prelude.{◌≡◌};
+ghost use Rattle.deck_driver.specs.Holding.{most_at};
+
+use crate::feed::DeckFeed;
+use crate::section::{DeckState, Section};
+use mon_monitor::Holder;
+
+impl DeckFeed {
+    /// How many commands were counted.
+    pub fn commands(&self) -> u64
+        ensures { result ≡ self.now.counts.commands }
+    {
+        self.counts.commands
+    }
+
+    /// Notes which job in a slot holds most of its printout, where a card of the stream is due. Before a further line of a
+    /// permission list or of a job what was noted stays, since within these no job has a turn. It takes no memory.
+    pub fn note_most(&self, noted: &mut Option<Holder>)
+        ensures { noted.new ≡ most_at self.now.state noted.old }
+    {
+        if let DeckState::Reading(Section::Stream(monitor)) = &self.state {
+            *noted = monitor.holds_most();
+        }
+    }
+}

@@ -1,0 +1,190 @@
+//! A line of a deck that is still read: what was collected goes on where it stands, or the line ends its section.
+ghost use Rattle.std.specs.Prelude.{◌≡◌, ℕ, true, false, List, ◌+◌, ◌<◌, ◌≤◌, ◌^◌, [], ◌∷◌, if◌then◌else◌, IfOk, IfErr, OnErr};
+ghost use Rattle.mon_access.specs.declared.account.Account.{Account};
+ghost use Rattle.mon_catalogue.specs.Progress.{SetDue};
+ghost use Rattle.deck_syntax.specs.Decks.{Commands};
+ghost use Rattle.deck_syntax.specs.Requests.{opened, set_acl_of};
+ghost use Rattle.deck_syntax.specs.Sections.{Closed, InList, asked_then, stream_section, refused_on_line};
+ghost use Rattle.deck_syntax.specs.inner.Stops.{IfRefused};
+ghost use Rattle.mon_monitor.specs.declared.monitor.Monitor.{Monitor as AnyMonitor};
+ghost use Rattle.deck_driver.specs.declared.section.Section.TheVariants as stages;
+ghost use Rattle.deck_driver.specs.declared.section.DeckState.TheVariants as states;
+ghost use Rattle.deck_driver.specs.Feeds.{run_state_from, refused_from, lines_loaded};
+ghost use Rattle.deck_driver.specs.inner.Lines.{TookLine, EndsSection, IsStream};
+
+use crate::listing::listing_on;
+use crate::options::{Counts, Options};
+use crate::section::Section;
+use crate::serving::{put_command, put_drain, put_turns};
+use deck_syntax::{DeckError, OpenJob, OpenList, Request, ends_list, opens_accounts, put_account_line, put_catalogue_line, read_request};
+use mon_catalogue::{Loading, Version};
+use mon_monitor::{Monitor, Printed};
+use mon_text::{Name, Stop};
+use std::mem;
+use std::alloc::{AllocError, Global};
+
+impl Section {
+    /// Takes a line, where what was collected stands: whether it ends its section or the deck. Then nothing has changed, and
+    /// what comes of that is left to `State::follow`.
+    ///
+    /// # Errors
+    ///
+    /// The line's refusal; memory. Nothing was appended then.
+    #[tactic(auto, using(crate::proofs::Taking::unmoved))]
+    pub(crate) fn take(
+        &mut self,
+        alloc: Global,
+        options: Options,
+        text: &[u8],
+        counts: &mut Counts,
+        out: &mut Printed,
+    ) -> Result<bool, Stop<DeckError>>
+        requires few { counts.old.jobs + counts.old.commands < 2 ^ 63 }
+        requires within { lines_loaded (states.Reading self.old) < 2 ^ 63 }
+        ensures taken { IfOk result (λ ends. ends ≡ false → TookLine options (states.Reading self.old) text.now out.old counts.old (states.Reading self.new) out.new counts.new) }
+        ensures left { IfOk result (λ ends. ends ≡ true → (self.new ≡ self.old) × (out.new ≡ out.old) × (counts.new ≡ counts.old)) }
+        ensures ends { IfOk result (λ ends. ends ≡ true → EndsSection options.slots.number self.old text.now) }
+        ensures within { lines_loaded (states.Reading self.new) ≤ lines_loaded (states.Reading self.old) + 1 }
+        ensures counted { counts.new.jobs + counts.new.commands ≤ counts.old.jobs + counts.old.commands + 1 }
+        ensures refused { IfErr result (IfRefused (λ code. (n : ℕ) (ls : List (List ℕ)) → run_state_from options.slots.number self.old n (text.now ∷ ls) ≡ refused_from options.slots.number self.old n code)) }
+        ensures nothing { OnErr result (out.new ≡ out.old) }
+    {
+        match self {
+            Section::Opening => Ok(opens_accounts(alloc, text)?),
+            Section::Accounts(accounts) => match put_account_line(alloc, accounts, text)? {
+                Some(version) => {
+                    self.open_catalogue(alloc, version);
+                    Ok(false)
+                }
+                None => Ok(false),
+            },
+            Section::Catalogue(_, loading) => Ok(put_catalogue_line(alloc, loading, text)?),
+            Section::Stream(monitor) => {
+                if take_listing(alloc, options, monitor, text, counts, out)? {
+                    return Ok(false);
+                }
+                self.take_card(alloc, options, text, counts, out)
+            }
+            Section::List(_, list) => Ok(take_list_line(alloc, list, text)?),
+            Section::Job(_, job) => Ok(job.take_line(alloc, text)?),
+        }
+    }
+
+    // Takes a line of the stream as `take` does, whatever its card is. It stays a call, since the room for a request is cleared
+    // where this stands.
+    #[inline(never)]
+    fn take_card(
+        &mut self,
+        alloc: Global,
+        options: Options,
+        text: &[u8],
+        counts: &mut Counts,
+        out: &mut Printed,
+    ) -> Result<bool, Stop<DeckError>>
+        requires few { counts.old.jobs + counts.old.commands < 2 ^ 63 }
+        requires stream { IsStream self.old }
+        ensures taken { IfOk result (λ ends. ends ≡ false → TookLine options (states.Reading self.old) text.now out.old counts.old (states.Reading self.new) out.new counts.new) }
+        ensures left { IfOk result (λ ends. ends ≡ true → (self.new ≡ self.old) × (out.new ≡ out.old) × (counts.new ≡ counts.old)) }
+        ensures ends { IfOk result (λ ends. ends ≡ true → EndsSection options.slots.number self.old text.now) }
+        ensures within { lines_loaded (states.Reading self.new) ≡ 0 }
+        ensures counted { counts.new.jobs + counts.new.commands ≤ counts.old.jobs + counts.old.commands + 1 }
+        ensures refused { IfErr result (IfRefused (λ code. (n : ℕ) (ls : List (List ℕ)) → run_state_from options.slots.number self.old n (text.now ∷ ls) ≡ refused_from options.slots.number self.old n code)) }
+        ensures nothing { OnErr result (out.new ≡ out.old) }
+    {
+        let Section::Stream(monitor) = self else {
+            unreachable!();
+        };
+        match read_request(alloc, text)? {
+            Request::Nothing => Ok(false),
+            Request::Asks(command) => {
+                put_command(alloc, options.check, monitor, command, counts, out)?;
+                Ok(false)
+            }
+            Request::Turns(turn) => {
+                put_turns(alloc, options.check, monitor, turn, out)?;
+                Ok(false)
+            }
+            Request::Drains => {
+                put_drain(alloc, options.check, monitor, out)?;
+                Ok(false)
+            }
+            Request::OpensList(account, name) => {
+                self.open_list(alloc, account, name);
+                Ok(false)
+            }
+            Request::OpensJob(job) => {
+                self.open_job(job);
+                Ok(false)
+            }
+            Request::Stops => Ok(true),
+        }
+    }
+
+    // Behind the accounts the catalogue follows. This and the next two stay calls, since the room for a stage is cleared where
+    // they stand.
+    #[inline(never)]
+    fn open_catalogue(&mut self, alloc: Global, version: Version)
+        ensures { (accounts : List Account) → self.old ≡ stages.Accounts accounts → self.new ≡ stages.Catalogue accounts (SetDue version 0 []) }
+    {
+        if let Section::Accounts(accounts) = mem::replace(self, Section::Opening) {
+            *self = Section::Catalogue(accounts, Loading::new(alloc, version));
+        }
+    }
+
+    // The lines of a permission list follow.
+    #[inline(never)]
+    fn open_list(&mut self, alloc: Global, account: Name, name: Name)
+        ensures { (w : AnyMonitor) → self.old ≡ stages.Stream w → self.new ≡ stages.List w (opened account name) }
+    {
+        if let Section::Stream(monitor) = mem::replace(self, Section::Opening) {
+            *self = Section::List(monitor, OpenList::new(alloc, account, name));
+        }
+    }
+
+    // The lines of a job follow.
+    #[inline(never)]
+    fn open_job(&mut self, job: OpenJob)
+        ensures { (w : AnyMonitor) → self.old ≡ stages.Stream w → self.new ≡ stages.Job w job }
+    {
+        if let Section::Stream(monitor) = mem::replace(self, Section::Opening) {
+            *self = Section::Job(monitor, job);
+        }
+    }
+}
+
+// Takes a card that lists records, where its words stand each behind one blank: whether it is one. Else nothing has changed.
+fn take_listing(
+    alloc: Global,
+    options: Options,
+    monitor: &mut Monitor,
+    text: &[u8],
+    counts: &mut Counts,
+    out: &mut Printed,
+) -> Result<bool, AllocError>
+    requires { counts.old.jobs + counts.old.commands < 2 ^ 63 }
+    ensures taken { IfOk result (λ taken. taken ≡ true → TookLine options (states.Reading (stages.Stream monitor.old)) text.now out.old counts.old (states.Reading (stages.Stream monitor.new)) out.new counts.new) }
+    ensures left { IfOk result (λ taken. taken ≡ false → (monitor.new ≡ monitor.old) × (out.new ≡ out.old) × (counts.new ≡ counts.old)) }
+    ensures counted { counts.new.jobs + counts.new.commands ≤ counts.old.jobs + counts.old.commands + 1 }
+    ensures nothing { OnErr result (out.new ≡ out.old) }
+{
+    match listing_on(text) {
+        Some(command) => {
+            put_command(alloc, options.check, monitor, command, counts, out)?;
+            Ok(true)
+        }
+        None => Ok(false),
+    }
+}
+
+// Takes a line where a permission list is open: whether it ends the list.
+fn take_list_line(alloc: Global, list: &mut OpenList, text: &[u8]) -> Result<bool, Stop<DeckError>>
+    ensures goes { IfOk result (λ ends. (n : ℕ) (ls : List (List ℕ)) → stream_section n (InList list.old) (text.now ∷ ls) ≡ (if ends then asked_then (Commands (set_acl_of list.old)) (stream_section (n + 1) Closed ls) else stream_section (n + 1) (InList list.new) ls)) }
+    ensures left { IfOk result (λ ends. ends ≡ true → list.new ≡ list.old) }
+    ensures refused { IfErr result (IfRefused (λ code. (n : ℕ) (ls : List (List ℕ)) → stream_section n (InList list.old) (text.now ∷ ls) ≡ refused_on_line n code)) }
+{
+    if ends_list(alloc, text)? {
+        return Ok(true);
+    }
+    list.text.push_line(text)?;
+    Ok(false)
+}

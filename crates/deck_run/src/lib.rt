@@ -1,0 +1,16 @@
+//! From a deck's bytes to the bytes of its output: what `snomon` does, over any reader and writer.
+#![tactic(auto)]
+
+pub mod laws;
+mod output;
+pub mod run;
+pub mod shortage;
+
+pub use deck_syntax::DeckError;
+pub use mon_device::{
+    DeckDevices, DeckReader, DeckWriter, Devices, Failed, MemReader, MemWriter, StdReader,
+    StdWriter, Telling,
+};
+pub use deck_driver::{Counts, DeckFeed, Holder, Options, RunError, Slots};
+pub use run::{exit_status, put_fault, run_deck, run_deck_noting};
+pub use shortage::{Shortage, put_shortage};

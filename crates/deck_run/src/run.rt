@@ -1,0 +1,361 @@
+//! A whole run: a deck is read piece by piece, and answered card by card.
+ghost use Rattle.std.specs.Prelude.{◌≡◌, ◌++◌, ◌<◌, ◌≤◌, ◌+◌, ◌^◌, take, ◌⊎◌, ℕ, List, [], None, true, false, length, vec_len, is_err, IfSome, IfOk, OnOk, OnErr};
+ghost use Rattle.deck_syntax.specs.declared.deck_error.DeckError.{DeckError, DeckError as AnyCode};
+ghost use Rattle.mon_catalogue.specs.Sets.{Sets};
+ghost use Rattle.scheduler.specs.Marks.{Marks};
+ghost use Rattle.deck_syntax.specs.Decks.{Stopped, Refused};
+ghost use Rattle.mon_device.specs.declared.transfer.TheConstants.{MOST_READS, READ_SIZE};
+ghost use Rattle.mon_device.specs.Devices.{IsAtEnd, HasRead, holding};
+ghost use Rattle.deck_driver.specs.Feeds.{Good, refused_at, error_at, is_reading, used_by, IsReadBack};
+ghost use Rattle.deck_driver.specs.Abstraction.{outcome_from};
+ghost use Rattle.deck_driver.specs.inner.Counting.{lines_ended};
+ghost use Rattle.deck_driver.specs.Printouts.{ReadsBack};
+ghost use Rattle.deck_run.specs.inner.Writing.{holds, HasGrown, Serves, Refuses, Starts, Begun, Runs, Stands, IsDue, BrokeOffAt, BrokeAt};
+ghost use Rattle.deck_run.specs.Runs.{deck_ending, counts_of, HoldsBeginning, HasWritten, HasRun, HasBegun, HasPrinted, HasBrokenOff, HasBrokenOffAt};
+ghost use Rattle.deck_run.specs.Faults.{status_of, fault_line};
+
+use crate::output::{Output, write_out};
+use crate::shortage::Shortage;
+use mon_device::{DeckDevices, Failed, MOST_READS, READ_SIZE, WRITE_SIZE};
+use deck_driver::{Counts, DeckFeed, Options, RunError};
+use mon_text::put_number;
+use std::alloc::{AllocError, Global};
+
+/// Runs a deck: reads all of it, serves its commands and runs its jobs as its cards say, and writes the printout of each,
+/// as it is served or has ended, and then the catalogue as it stands. Where the deck is only to be checked, none of this is
+/// done, and `DECK OK` is written in place of it.
+///
+/// Memory may break off turns of jobs; the run goes on then. The marks say where it did.
+///
+/// The reader and the writer come as one, of which no call is made once one has failed.
+///
+/// # Errors
+///
+/// `DeckRefused` at the first line that is refused: what the cards before it print was written, unless the
+/// deck was only to be checked, and no catalogue. `ReadFault` where the reader failed, or where 4,294,967,295 reads did not
+/// come to its end: the output of all lines that were read whole was written. `WriteFault` where the writer failed; `Memory`
+/// where a growth was refused: the output of the lines before that was written.
+pub fn run_deck<D: DeckDevices>(
+    alloc: Global,
+    devices: &mut D,
+    options: Options,
+) -> Result<Counts, RunError>
+    requires sound { (D.read_failed devices.old ≡ false) × (D.write_failed devices.old ≡ false) }
+
+    // A good deck was read to its end, and its output was written, whose catalogue can be read again.
+    ensures at_end { OnOk result (IsAtEnd (D.remaining devices.new)) }
+    ensures stopped { OnOk result (IfSome (D.remaining devices.old) (λ bytes. deck_ending bytes ≡ Stopped)) }
+    ensures output { OnOk result (IfSome (D.remaining devices.old) (λ bytes. HasRun options (D.written devices.old) (D.written devices.new) bytes)) }
+    ensures counts { IfOk result (λ counts. IfSome (D.remaining devices.old) (λ bytes. counts ≡ counts_of bytes)) }
+
+    // A refused deck is refused at its first refusal, and what came before that was written.
+    ensures refused { (line : ℕ) (code : DeckError) → result ≡ Err (RunError.DeckRefused line code) →
+        IfSome (D.remaining devices.old) (λ bytes. deck_ending bytes ≡ Refused line code) }
+    ensures refused_output { (line : ℕ) (code : DeckError) → result ≡ Err (RunError.DeckRefused line code) →
+        IfSome (D.remaining devices.old) (λ bytes. HasWritten options (D.written devices.old) (D.written devices.new) bytes) }
+
+    // Whatever is answered, what was written is a beginning of the output.
+    ensures begun { HasBegun options (D.remaining devices.old) (D.remaining devices.new) (D.written devices.old) (D.written devices.new) }
+
+    // Where the reader failed, all lines that were read whole have been answered, and none was refused. They had been before
+    // that read, since nothing may be written after it.
+    ensures due { result ≡ Err RunError.ReadFault → HasPrinted options (D.remaining devices.old) (D.remaining devices.new) (D.written devices.old) (D.written devices.new) }
+
+    // Where memory ran out, it did at a line of the last read: those before it have been answered, none was refused, and no
+    // `$STOP` was among them.
+    ensures short { result ≡ Err RunError.Memory → HasBrokenOff options (D.remaining devices.old) (D.remaining devices.new) (D.written devices.old) (D.written devices.new) }
+
+    // Where a device failed, that is told; and only there.
+    ensures faults { (D.read_failed devices.new ≡ true → result ≡ Err RunError.ReadFault) × (D.write_failed devices.new ≡ true → result ≡ Err RunError.WriteFault) }
+    ensures read_fault { result ≡ Err RunError.ReadFault →
+        (D.read_failed devices.new ≡ true) ⊎ HasRead MOST_READS (D.reads devices.old) (D.reads devices.new) }
+    ensures write_fault { result ≡ Err RunError.WriteFault → D.write_failed devices.new ≡ true }
+{
+    let mut shortage = Shortage::new();
+    run_deck_noting(alloc, devices, options, &mut shortage)
+}
+
+/// Runs a deck as `run_deck` does, and notes how far it has come, to be told where memory runs out.
+///
+/// # Errors
+///
+/// As `run_deck`.
+pub fn run_deck_noting<D: DeckDevices>(
+    alloc: Global,
+    devices: &mut D,
+    options: Options,
+    shortage: &mut Shortage,
+) -> Result<Counts, RunError>
+    requires sound { (D.read_failed devices.old ≡ false) × (D.write_failed devices.old ≡ false) }
+
+    // A good deck was read to its end, and its output was written, whose catalogue can be read again.
+    ensures at_end { OnOk result (IsAtEnd (D.remaining devices.new)) }
+    ensures stopped { OnOk result (IfSome (D.remaining devices.old) (λ bytes. deck_ending bytes ≡ Stopped)) }
+    ensures output { OnOk result (IfSome (D.remaining devices.old) (λ bytes. HasRun options (D.written devices.old) (D.written devices.new) bytes)) }
+    ensures counts { IfOk result (λ counts. IfSome (D.remaining devices.old) (λ bytes. counts ≡ counts_of bytes)) }
+
+    // A refused deck is refused at its first refusal, and what came before that was written.
+    ensures refused { (line : ℕ) (code : DeckError) → result ≡ Err (RunError.DeckRefused line code) →
+        IfSome (D.remaining devices.old) (λ bytes. deck_ending bytes ≡ Refused line code) }
+    ensures refused_output { (line : ℕ) (code : DeckError) → result ≡ Err (RunError.DeckRefused line code) →
+        IfSome (D.remaining devices.old) (λ bytes. HasWritten options (D.written devices.old) (D.written devices.new) bytes) }
+
+    // Whatever is answered, what was written is a beginning of the output.
+    ensures begun { HasBegun options (D.remaining devices.old) (D.remaining devices.new) (D.written devices.old) (D.written devices.new) }
+
+    // Where the reader failed, all lines that were read whole have been answered, and none was refused. They had been before
+    // that read, since nothing may be written after it.
+    ensures due { result ≡ Err RunError.ReadFault → HasPrinted options (D.remaining devices.old) (D.remaining devices.new) (D.written devices.old) (D.written devices.new) }
+
+    // Where memory ran out, it did at a line of the last read: those before it have been answered, none was refused, and no
+    // `$STOP` was among them.
+    ensures short { result ≡ Err RunError.Memory → HasBrokenOff options (D.remaining devices.old) (D.remaining devices.new) (D.written devices.old) (D.written devices.new) }
+
+    // Where a device failed, that is told; and only there.
+    ensures faults { (D.read_failed devices.new ≡ true → result ≡ Err RunError.ReadFault) × (D.write_failed devices.new ≡ true → result ≡ Err RunError.WriteFault) }
+    ensures read_fault { result ≡ Err RunError.ReadFault →
+        (D.read_failed devices.new ≡ true) ⊎ HasRead MOST_READS (D.reads devices.old) (D.reads devices.new) }
+    ensures write_fault { result ≡ Err RunError.WriteFault → D.write_failed devices.new ≡ true }
+
+    // Where memory ran out, the line that is noted is the one behind those that were read whole.
+    ensures line { result ≡ Err RunError.Memory → HasBrokenOffAt options shortage.new.line (D.remaining devices.old) (D.remaining devices.new) (D.written devices.old) (D.written devices.new) }
+{
+    *shortage = Shortage::new();
+    let mut feed = DeckFeed::new(alloc, options);
+    let mut out = Output::new(alloc)?;
+    match feed_all(alloc, devices, &mut feed, &mut out, shortage) {
+        Ok(()) => finish(alloc, feed, &mut out, devices),
+        Err(error) => Err(error),
+    }
+}
+
+// Feeds all that is read, read by read, and writes what is printed.
+fn feed_all<D: DeckDevices>(
+    alloc: Global,
+    devices: &mut D,
+    feed: &mut DeckFeed,
+    out: &mut Output,
+    shortage: &mut Shortage,
+) -> Result<(), RunError>
+    requires sound { (D.read_failed devices.old ≡ false) × (D.write_failed devices.old ≡ false) }
+    requires start { feed.old.fed ≡ 0 }
+    requires first { shortage.old.line ≡ 1 }
+    requires reading { is_reading feed.old.state ≡ true }
+    requires empty { out.old.printed ≡ [] }
+    ensures runs { OnOk result ((given : List ℕ) × Runs (D.remaining devices.old) (D.remaining devices.new) (D.written devices.old) (D.written devices.new) feed.old feed.new given
+        × IsDue 1 shortage.new.line feed.new given) }
+    ensures begun { OnErr result ((given : List ℕ) × Begun (D.remaining devices.old) (D.remaining devices.new) (D.written devices.old) (D.written devices.new) feed.old given) }
+    ensures due { result ≡ Err RunError.ReadFault → (given : List ℕ) × Runs (D.remaining devices.old) (D.remaining devices.new) (D.written devices.old) (D.written devices.new) feed.old feed.new given }
+    ensures short { result ≡ Err RunError.Memory → (given : List ℕ) × BrokeAt (D.remaining devices.old) (D.remaining devices.new) (D.written devices.old) (D.written devices.new) feed.old given 1 shortage.new.line }
+    ensures at_end { OnOk result (IsAtEnd (D.remaining devices.new)) }
+    ensures empty { OnOk result (out.new.printed ≡ []) }
+    ensures reads_back { IsReadBack feed.old.options.check feed.old.state → OnOk result (IsReadBack feed.new.options.check feed.new.state) }
+    ensures options { feed.new.options ≡ feed.old.options }
+    ensures refused { (n : ℕ) (code : AnyCode) → result ≡ Err (RunError.DeckRefused n code) →
+        IfSome (D.remaining devices.old) (λ bytes. (marks : Marks) × (holds (D.written devices.new) (refused_at n code) ≡ holds (D.written devices.old) (outcome_from marks feed.old bytes))) }
+    ensures sound { OnOk result ((D.read_failed devices.new ≡ false) × (D.write_failed devices.new ≡ false)) }
+    ensures faults { (D.read_failed devices.new ≡ true → result ≡ Err RunError.ReadFault) × (D.write_failed devices.new ≡ true → result ≡ Err RunError.WriteFault) }
+    ensures read_fault { result ≡ Err RunError.ReadFault →
+        (D.read_failed devices.new ≡ true) ⊎ HasRead MOST_READS (D.reads devices.old) (D.reads devices.new) }
+    ensures write_fault { result ≡ Err RunError.WriteFault → D.write_failed devices.new ≡ true }
+{
+    let mut buffer = buffer_of(alloc, READ_SIZE)?;
+    for _read in 0..MOST_READS {
+        match devices.read(&mut buffer) {
+            Err(Failed) => return Err(RunError::ReadFault),
+            Ok(0) => return Ok(()),
+            Ok(count) => match serve(alloc, feed, &buffer[..count], out, devices, shortage) {
+                Ok(()) => {}
+                Err(error) => return Err(error),
+            },
+        }
+    }
+    Err(RunError::ReadFault)
+}
+
+// A buffer for reads, of so many bytes.
+fn buffer_of(alloc: Global, size: usize) -> Result<Vec<u8>, AllocError>
+    ensures { IfOk result (λ buffer. vec_len buffer ≡ size) }
+{
+    Ok(vec![in alloc; 0; size]?)
+}
+
+// Feeds what a read gave, line by line, and writes what is printed.
+fn serve<D: DeckDevices>(
+    alloc: Global,
+    feed: &mut DeckFeed,
+    piece: &[u8],
+    out: &mut Output,
+    devices: &mut D,
+    shortage: &mut Shortage,
+) -> Result<(), RunError>
+    requires sound { (D.read_failed devices.old ≡ false) × (D.write_failed devices.old ≡ false) }
+    requires few { feed.old.fed + length piece.now < 2 ^ 63 }
+    requires lines { shortage.old.line ≤ feed.old.fed + 1 }
+    requires reading { error_at feed.old.state ≡ None }
+    requires empty { out.old.printed ≡ [] }
+    ensures served { OnOk result (Stands (D.written devices.old) (D.written devices.new) [] feed.old feed.new piece.now) }
+    ensures refused { (n : ℕ) (code : AnyCode) → result ≡ Err (RunError.DeckRefused n code) →
+        Refuses (D.written devices.old) (D.written devices.new) [] feed.old piece.now n code }
+    ensures begun { Starts (D.written devices.old) (D.written devices.new) [] feed.old piece.now }
+    ensures short { result ≡ Err RunError.Memory → BrokeOffAt (D.written devices.old) (D.written devices.new) feed.old piece.now shortage.old.line shortage.new.line }
+    ensures due { OnOk result (IsDue shortage.old.line shortage.new.line feed.new piece.now) }
+    ensures lines { OnOk result (shortage.new.line ≤ feed.new.fed + 1) }
+    ensures empty { OnOk result (out.new.printed ≡ []) }
+    ensures fed { OnOk result (feed.new.fed ≡ feed.old.fed + length piece.now) }
+    ensures reads_back { IsReadBack feed.old.options.check feed.old.state → OnOk result (IsReadBack feed.new.options.check feed.new.state) }
+    ensures options { feed.new.options ≡ feed.old.options }
+    ensures apart { (D.remaining devices.new ≡ D.remaining devices.old) × (D.reads devices.new ≡ D.reads devices.old) × (D.read_failed devices.new ≡ false) }
+    ensures sound { OnOk result (D.write_failed devices.new ≡ false) }
+    ensures faults { D.write_failed devices.new ≡ true → result ≡ Err RunError.WriteFault }
+    ensures read_fault { result ≡ Err RunError.ReadFault → ⊥ }
+    ensures write_fault { result ≡ Err RunError.WriteFault → D.write_failed devices.new ≡ true }
+{
+    let mut rest = piece;
+    'lines: while !rest.is_empty() {
+        let commands = feed.commands();
+        let used = serve_line(alloc, feed, rest, out, devices)?;
+        shortage.look(feed, commands);
+        shortage.pass(&rest[..used]);
+        rest = &rest[used..];
+    }
+    match flush(out, devices) {
+        Ok(()) => Ok(()),
+        Err(_) => Err(RunError::WriteFault),
+    }
+}
+
+// Feeds up to the first line end, and writes what is gathered if it is much, or if the deck is refused there.
+fn serve_line<D: DeckDevices>(
+    alloc: Global,
+    feed: &mut DeckFeed,
+    piece: &[u8],
+    out: &mut Output,
+    devices: &mut D,
+) -> Result<usize, RunError>
+    requires sound { (D.read_failed devices.old ≡ false) × (D.write_failed devices.old ≡ false) }
+    requires full { 0 < length piece.now }
+    requires few { feed.old.fed + length piece.now < 2 ^ 63 }
+    requires reading { error_at feed.old.state ≡ None }
+    ensures used { IfOk result (λ used. (0 < used) × (used ≤ length piece.now) × (feed.new.fed ≡ feed.old.fed + used)) }
+    ensures line { IfOk result (λ used. used ≡ used_by feed.old.state piece.now) }
+    ensures served { IfOk result (λ used. Serves (D.written devices.old) (D.written devices.new) out.old.printed feed.old (take used piece.now) out.new.printed feed.new) }
+    ensures refused { (n : ℕ) (code : AnyCode) → result ≡ Err (RunError.DeckRefused n code) →
+        Refuses (D.written devices.old) (D.written devices.new) out.old.printed feed.old piece.now n code }
+    ensures begun { Starts (D.written devices.old) (D.written devices.new) out.old.printed feed.old piece.now }
+    ensures short { result ≡ Err RunError.Memory → (is_reading feed.old.state ≡ true) × (D.written devices.new ≡ holding (D.written devices.old) out.old.printed) }
+    ensures counted { IfOk result (λ used. is_reading feed.new.state ≡ true → (is_reading feed.old.state ≡ true) × (feed.old.lines_taken + lines_ended (take used piece.now) ≤ feed.new.lines_taken)) }
+    ensures reading { OnOk result (error_at feed.new.state ≡ None) }
+    ensures grown { HasGrown (D.written devices.old) (D.written devices.new) }
+    ensures reads_back { IsReadBack feed.old.options.check feed.old.state → OnOk result (IsReadBack feed.new.options.check feed.new.state) }
+    ensures options { feed.new.options ≡ feed.old.options }
+    ensures apart { (D.remaining devices.new ≡ D.remaining devices.old) × (D.reads devices.new ≡ D.reads devices.old) × (D.read_failed devices.new ≡ false) }
+    ensures sound { OnOk result (D.write_failed devices.new ≡ false) }
+    ensures faults { D.write_failed devices.new ≡ true → result ≡ Err RunError.WriteFault }
+    ensures read_fault { result ≡ Err RunError.ReadFault → ⊥ }
+    ensures write_fault { result ≡ Err RunError.WriteFault → D.write_failed devices.new ≡ true }
+{
+    match feed.feed_line(alloc, piece, &mut out.printed) {
+        Ok(used) => match flush_large(out, devices) {
+            Ok(()) => Ok(used),
+            Err(_) => Err(RunError::WriteFault),
+        },
+        Err(error) => match write_out(out, devices) {
+            Ok(()) => Err(error),
+            Err(_) => Err(RunError::WriteFault),
+        },
+    }
+}
+
+// Writes what is gathered, if it is much.
+fn flush_large<D: DeckDevices>(out: &mut Output, devices: &mut D) -> Result<(), Failed>
+    requires sound { (D.read_failed devices.old ≡ false) × (D.write_failed devices.old ≡ false) }
+    ensures put { OnOk result (holding (D.written devices.new) out.new.printed ≡ holding (D.written devices.old) out.old.printed) }
+    ensures begun { HoldsBeginning (D.written devices.old) (D.written devices.new) out.old.printed }
+    ensures failed { D.write_failed devices.new ≡ is_err result }
+    ensures apart { (D.remaining devices.new ≡ D.remaining devices.old) × (D.reads devices.new ≡ D.reads devices.old) × (D.read_failed devices.new ≡ false) }
+{
+    if out.printed.is_more_than(WRITE_SIZE) {
+        return flush(out, devices);
+    }
+    Ok(())
+}
+
+// The reader is at its end.
+fn finish<D: DeckDevices>(
+    alloc: Global,
+    feed: DeckFeed,
+    out: &mut Output,
+    devices: &mut D,
+) -> Result<Counts, RunError>
+    requires sound { (D.read_failed devices.old ≡ false) × (D.write_failed devices.old ≡ false) }
+    requires reading { error_at feed.state ≡ None }
+    requires empty { out.old.printed ≡ [] }
+    ensures ended { IfOk result (λ counts. (marks : Marks) × (sets : Sets)
+        × (holds (D.written devices.new) (record { written = []; conclusion = Good counts sets }) ≡ holds (D.written devices.old) (outcome_from marks feed []))
+        × (IsReadBack feed.options.check feed.state → feed.options.check ≡ false → ReadsBack sets)) }
+    ensures refused { (n : ℕ) (code : AnyCode) → result ≡ Err (RunError.DeckRefused n code) →
+        (marks : Marks) × (holds (D.written devices.new) (refused_at n code) ≡ holds (D.written devices.old) (outcome_from marks feed [])) }
+    ensures begun { (marks : Marks) × ((rest : Marks) → HoldsBeginning (D.written devices.old) (D.written devices.new) (outcome_from (marks ++ rest) feed []).written) }
+    ensures short { result ≡ Err RunError.Memory → (is_reading feed.state ≡ true) × (D.written devices.new ≡ D.written devices.old) }
+    ensures apart { (D.remaining devices.new ≡ D.remaining devices.old) × (D.reads devices.new ≡ D.reads devices.old) × (D.read_failed devices.new ≡ false) }
+    ensures faults { D.write_failed devices.new ≡ true → result ≡ Err RunError.WriteFault }
+    ensures read_fault { result ≡ Err RunError.ReadFault → ⊥ }
+    ensures write_fault { result ≡ Err RunError.WriteFault → D.write_failed devices.new ≡ true }
+{
+    let answer = feed.finish(alloc, &mut out.printed);
+    match write_out(out, devices) {
+        Ok(()) => answer,
+        Err(_) => Err(RunError::WriteFault),
+    }
+}
+
+// Writes what is gathered.
+#[tactic(auto, using(mon_device::proofs::Holding::holds))]
+fn flush<D: DeckDevices>(out: &mut Output, devices: &mut D) -> Result<(), Failed>
+    requires sound { (D.read_failed devices.old ≡ false) × (D.write_failed devices.old ≡ false) }
+    ensures written { OnOk result (D.written devices.new ≡ holding (D.written devices.old) out.old.printed) }
+    ensures put { OnOk result (holding (D.written devices.new) out.new.printed ≡ holding (D.written devices.old) out.old.printed) }
+    ensures begun { HoldsBeginning (D.written devices.old) (D.written devices.new) out.old.printed }
+    ensures empty { OnOk result (out.new.printed ≡ []) }
+    ensures failed { D.write_failed devices.new ≡ is_err result }
+    ensures apart { (D.remaining devices.new ≡ D.remaining devices.old) × (D.reads devices.new ≡ D.reads devices.old) × (D.read_failed devices.new ≡ false) }
+{
+    write_out(out, devices)?;
+    out.printed.clear();
+    Ok(())
+}
+
+/// The exit status of the program: 0, 1 where the deck is refused, 3 where something failed.
+pub fn exit_status(outcome: &Result<Counts, RunError>) -> u8
+    ensures { result ≡ status_of outcome.now }
+{
+    match outcome {
+        Ok(_) => 0,
+        Err(RunError::DeckRefused(..)) => 1,
+        Err(RunError::ReadFault | RunError::WriteFault | RunError::Memory) => 3,
+    }
+}
+
+/// Appends the line of standard error for a fault.
+///
+/// # Errors
+///
+/// Where a growth was refused; a part of the line may have been appended.
+pub fn put_fault(fault: &RunError, out: &mut Vec<u8>) -> Result<(), AllocError>
+    ensures { OnOk result (out.new.items ≡ out.old.items ++ fault_line fault.now) }
+{
+    out.extend_from_slice(b"snomon: ")?;
+    match fault {
+        RunError::DeckRefused(line, code) => {
+            out.extend_from_slice(b"line ")?;
+            put_number(*line, out)?;
+            out.extend_from_slice(b": ")?;
+            out.extend_from_slice(code.text().as_bytes())?;
+        }
+        RunError::ReadFault => out.extend_from_slice(b"read fault")?,
+        RunError::WriteFault => out.extend_from_slice(b"write fault")?,
+        RunError::Memory => out.extend_from_slice(b"out of memory")?,
+    }
+    out.extend_from_slice(b"\n")
+}

@@ -1,0 +1,25 @@
+//! A deck's syntax: bytes are cut into lines, lines belong to sections, and each is refused or adds to the deck.
+#![tactic(auto)]
+
+pub mod card;
+pub mod deck_error;
+pub mod job;
+pub mod job_deck;
+pub mod job_limits;
+mod job_options;
+pub mod laws;
+pub mod list;
+pub mod reading;
+pub mod request;
+pub mod turn;
+mod words;
+
+pub use deck_error::DeckError;
+pub use job::OpenJob;
+pub use job_deck::{JobDeck, UnitCard, UnitCards};
+pub use job_limits::JobLimits;
+pub use list::OpenList;
+pub use reading::{finish_catalogue, opens_accounts, put_account_line, put_catalogue_line};
+pub use request::{Request, ends_list, read_request};
+pub use turn::Turn;
+pub use words::from_blank;

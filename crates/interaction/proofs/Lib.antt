@@ -1,0 +1,10 @@
+pub mod Answering
+pub mod Runs
+pub mod Counting
+pub mod Binds
+pub mod Held
+pub mod InteractionRuns
+pub mod Hosts
+pub mod Enough
+pub mod Broken
+pub mod Told

@@ -1,0 +1,10 @@
+pub mod Fitting
+pub mod Asking
+pub mod Counting
+pub mod Scripts
+pub mod Laws
+pub mod Interactions
+pub mod Exchanges
+pub mod Holding
+pub mod Endings
+pub mod InteractionLaws

@@ -1,0 +1,48 @@
+//! What answers the requests of a program.
+ghost use Rattle.std.specs.Prelude.{◌≡◌, IfOk, OnErr};
+ghost use Rattle.interaction.specs.Fitting.{Fits, IsShort};
+
+use crate::answer::Answer;
+use crate::request::Request;
+use std::alloc::AllocError;
+
+/// Whoever answers the requests of a program.
+pub trait Service {
+    ghost use Rattle.interaction.specs.declared.request.Request.{Request};
+    ghost use Rattle.interaction.specs.declared.answer.Answer.{Answer};
+
+    /// What holds before and after each request.
+    ghost ready: { Self → Type 0 };
+
+    /// What the service means: in the first state it may give this answer to the request, and is in the second then.
+    ghost answers: { Self → Request → Answer → Self → Type 0 };
+
+    /// Answers a request. A line that is to be written has at most 1,024 characters.
+    ///
+    /// # Errors
+    ///
+    /// Where a growth was refused. Nothing has changed then.
+    fn ask(&mut self, request: &Request) -> Result<Answer, AllocError>
+        requires ready { ready self.old }
+        requires short { IsShort request.now.act }
+        ensures answered { IfOk result (λ answer. answers self.old request.now answer self.new) }
+        ensures fits { IfOk result (λ answer. Fits request.now answer) }
+        ensures unchanged { OnErr result (self.new ≡ self.old) }
+        ensures ready { ready self.new };
+
+    /// Answers a request that is not needed again, so that its line may become the record.
+    ///
+    /// # Errors
+    ///
+    /// Where a growth was refused. Nothing has changed then.
+    fn ask_once(&mut self, request: Request) -> Result<Answer, AllocError>
+        requires ready { ready self.old }
+        requires short { IsShort request.act }
+        ensures answered { IfOk result (λ answer. answers self.old request answer self.new) }
+        ensures fits { IfOk result (λ answer. Fits request answer) }
+        ensures unchanged { OnErr result (self.new ≡ self.old) }
+        ensures ready { ready self.new }
+    {
+        self.ask(&request)
+    }
+}

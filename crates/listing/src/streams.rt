@@ -1,0 +1,102 @@
+//! A review from one stream to another.
+
+use crate::review::Review;
+use deck_lint::Tally;
+use std::alloc::{AllocError, Global};
+use std::io::{ErrorKind, Read, Write};
+
+/// How often a read that a signal interrupts is tried.
+const MOST_ATTEMPTS: u64 = 4_294_967_295;
+
+/// How many bytes are read at once.
+const PIECE: usize = 65_536;
+
+/// Why a review was not made, or not all of it.
+#[derive(Clone, Copy)]
+pub enum ReviewFault {
+    /// The reader failed.
+    Read,
+    /// The writer failed.
+    Write,
+    /// A growth was refused.
+    Memory,
+}
+
+impl From<AllocError> for ReviewFault {
+    ghost use Rattle.std.specs.Prelude.{◌≡◌};
+    ghost use Rattle.listing.specs.declared.streams.ReviewFault.TheVariants.{Memory};
+
+    ghost from_gives = { λ _ fault. fault ≡ Memory };
+
+    fn from(_: AllocError) -> ReviewFault {
+        ReviewFault::Memory
+    }
+}
+
+/// Reviews the deck that comes from one stream, and writes to another what is told of it: how much was found.
+///
+/// # Errors
+///
+/// Where the reader or the writer failed, or a growth was refused. A beginning may have been written then.
+pub fn review_streams<R: Read, W: Write>(
+    alloc: Global,
+    quiet: bool,
+    input: &mut R,
+    output: &mut W,
+) -> Result<Tally, ReviewFault> {
+    let mut review = Review::new(alloc, quiet);
+    let mut buffer = buffer_of(alloc)?;
+    let mut out = Vec::new(alloc);
+    for _ in 0..u64::MAX {
+        let count = read_piece(input, &mut buffer)?;
+        if count == 0 {
+            break;
+        }
+        feed_piece(alloc, &mut review, &buffer, count, &mut out)?;
+        write_out(output, &mut out)?;
+    }
+    let tally = review.finish(alloc, &mut out)?;
+    write_out(output, &mut out)?;
+    Ok(tally)
+}
+
+// A buffer for reads.
+fn buffer_of(alloc: Global) -> Result<Vec<u8>, AllocError> {
+    Ok(vec![in alloc; 0; PIECE]?)
+}
+
+// Reads some bytes: how many; none at the end.
+fn read_piece<R: Read>(input: &mut R, buffer: &mut [u8]) -> Result<usize, ReviewFault> {
+    for _ in 0..MOST_ATTEMPTS {
+        match input.read(buffer) {
+            Ok(count) => return Ok(count),
+            Err(error) if error.kind() == ErrorKind::Interrupted => {}
+            Err(_) => return Err(ReviewFault::Read),
+        }
+    }
+    Err(ReviewFault::Read)
+}
+
+fn feed_piece(
+    alloc: Global,
+    review: &mut Review,
+    buffer: &[u8],
+    count: usize,
+    out: &mut Vec<u8>,
+) -> Result<(), AllocError> {
+    match buffer.get(..count) {
+        Some(piece) => review.feed(alloc, piece, out),
+        None => Ok(()),
+    }
+}
+
+// Writes what was gathered, and gathers anew.
+fn write_out<W: Write>(output: &mut W, out: &mut Vec<u8>) -> Result<(), ReviewFault> {
+    match output.write_all(out.as_slice()) {
+        Ok(()) => {
+            out.clear();
+            Ok(())
+        }
+        Err(_) => Err(ReviewFault::Write),
+    }
+}

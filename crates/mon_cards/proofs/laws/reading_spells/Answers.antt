@@ -1,6 +1,0 @@
-use Rattle.mon_cards.proofs.Complete.{deck_taken}
-use Rattle.mon_cards.proofs.Sound.{deck_spelled}
-use Rattle.mon_cards.proofs.laws.reading_spells.Goals as goal
-
-pub returns : goal.returns
-returns c = λ ls deck. (λ is. (deck_taken ls deck is, is.ends), λ same. deck_spelled ls deck same.0 same.1)

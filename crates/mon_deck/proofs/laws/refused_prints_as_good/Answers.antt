@@ -1,5 +1,0 @@
-use Rattle.mon_deck.proofs.Beginning.{refused_prints_as_good}
-use Rattle.mon_deck.proofs.laws.refused_prints_as_good.Goals as goal
-
-pub returns : goal.returns
-returns c = refused_prints_as_good c.card_by_card.ensures

@@ -1,2 +1,0 @@
-pub mod Printable
-pub mod Standing

@@ -1,0 +1,28 @@
+-- What is printed (own): a printout for each command, for each job that has ended, and for each that was not loaded.
+use Rattle.std.specs.Prelude.{ℕ, List, [], ◌∷◌, Result, Ok, Err}
+use Rattle.std.specs.List.{flat_map}
+use Rattle.deck_syntax.specs.declared.job_deck.JobDeck.{JobDeck}
+use Rattle.scheduler.specs.declared.job_end.JobEnd.{JobEnd}
+use Rattle.scheduler.specs.declared.refusal.LoadError.{LoadError}
+use Rattle.scheduler.specs.Printouts.{printout, refusal_text}
+
+pub data Printout : Type 0 where
+  -- of a command: its printout
+  OfCommand : List ℕ → Printout
+  -- of a job that has ended
+  OfJob : JobEnd → Printout
+  -- of a job that is not loaded: its number, its account, and why
+  OfRefused : ℕ → List ℕ → LoadError → Printout
+
+abbrev pub printout_text : Printout → List ℕ
+printout_text (OfCommand text) = text
+printout_text (OfJob end) = printout end
+printout_text (OfRefused n account refusal) = refusal_text n account refusal
+
+abbrev pub printouts_text : List Printout → List ℕ
+printouts_text printouts = flat_map printout_text printouts
+
+-- of a job that was to be loaded
+abbrev pub of_load : JobDeck → Result ℕ LoadError → List Printout
+of_load deck (Ok slot) = []
+of_load deck (Err refusal) = OfRefused deck.number deck.account refusal ∷ []

@@ -1,2 +1,0 @@
-mod Moved
-mod Telling

@@ -1,7 +1,0 @@
-use Rattle.std.proofs.Common.{◌∙◌, ap, arith, ℕ, None, replicate}
-use Rattle.mon_slots.specs.Told.{seats_of}
-use Rattle.mon_slots.proofs.Seats.{empty_seats}
-use Rattle.mon_slots.proofs.slots.Slots.new.Goals as goal
-
-pub returns : goal.returns
-returns c = ap seats_of (c.loop.invariant ∙ ap (λ (n : ℕ). replicate n None) (omega arith)) ∙ empty_seats c.args.count

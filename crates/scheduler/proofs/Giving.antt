@@ -1,0 +1,94 @@
+-- Turns of one slot, until it is empty.
+use Rattle.std.proofs.Common.{◌≡◌, ℕ, zero, suc, ◌+◌, ◌-◌, ◌<◌, List, [], ◌∷◌, ◌++◌, Option, Some, None, replicate, refl, ap, sym, ◌∙◌, subst, arith, append_assoc}
+use Rattle.std.specs.Prelude.{slice_get, slice_set}
+use Rattle.std.specs.Option.{option_flatten}
+use Rattle.sno_run.specs.declared.ending.Step.{Step}
+use Rattle.sno_run.specs.declared.ending.Step.TheVariants as step
+use Rattle.scheduler.specs.declared.job_end.JobEnd.{JobEnd}
+use Rattle.scheduler.specs.declared.turned.Turned.{Turned}
+use Rattle.scheduler.specs.declared.turned.Turned.TheVariants.{Empty, Goes, Ended}
+use Rattle.scheduler.specs.States.{SlotState, SchedulerState, seat_at, with_seat, job_in}
+use Rattle.scheduler.specs.Turns.{after_turn, job_end, seat, told, ends_by}
+use Rattle.scheduler.specs.Marks.{Mark, Marks, ran_as, nothing, ends_then, until, never}
+use Rattle.scheduler.specs.Turning.{TurnOr, UntilIs, MarkedIs}
+use Rattle.scheduler.specs.inner.Rounding.{Ahead}
+use Rattle.scheduler.proofs.Rounding.{passed, begin, ahead_more}
+use Rattle.scheduler.proofs.Shorthand.{turn_as_by}
+
+not_empty : (st : Step) (slot : SlotState) → told st slot ≡ Empty → ⊥
+not_empty step.Goes slot h = let k : Goes ≡ Empty = h in cc (k)
+not_empty (step.Ended e) slot h = let k : Ended (job_end slot e) ≡ Empty = h in cc (k)
+
+-- a turn that finds no job changes nothing
+empty_by : (m : Option Mark) (s : ℕ) (w w' : SchedulerState) (o : Option SlotState) → turn_as_by m s o w ≡ (Empty, w') → (o ≡ None) × (w' ≡ w)
+empty_by m s w w' None h = (refl, sym (ap (λ (p : Turned × SchedulerState). p.1) h))
+empty_by m s w w' (Some slot) h =
+    let r = ran_as m slot w.sets in
+    absurd (not_empty r.0.0 (after_turn slot r) (ap (λ (p : Turned × SchedulerState). p.0) h))
+
+set_none : (slots : List (Option SlotState)) (i : ℕ) → option_flatten (slice_get (slice_set slots i None) i) ≡ None
+set_none [] i = refl
+set_none (x ∷ slots) zero = refl
+set_none (x ∷ slots) (suc i) = set_none slots i
+
+emptied : (s : ℕ) (slots : List (Option SlotState)) → seat_at s (with_seat s None slots) ≡ None
+emptied zero slots = refl
+emptied (suc i) slots = set_none slots i
+
+unseated : (s : ℕ) (st : Step) (slot : SlotState) (slots : List (Option SlotState)) (e : JobEnd) → told st slot ≡ Ended e
+    → seat_at s (with_seat s (seat st slot) slots) ≡ None
+unseated s step.Goes slot slots e h = absurd (let k : Goes ≡ Ended e = h in cc (k))
+unseated s (step.Ended ending) slot slots e h = emptied s slots
+
+-- and one that ends the job leaves the slot empty
+ended_by : (m : Option Mark) (s : ℕ) (w w' : SchedulerState) (o : Option SlotState) (e : JobEnd) → turn_as_by m s o w ≡ (Ended e, w') → job_in s w' ≡ None
+ended_by m s w w' None e h = absurd (let k : Empty ≡ Ended e = ap (λ (p : Turned × SchedulerState). p.0) h in cc (k))
+ended_by m s w w' (Some slot) e h =
+    let r = ran_as m slot w.sets in
+    subst (λ (v : SchedulerState). job_in s v ≡ None) (ap (λ (p : Turned × SchedulerState). p.1) h)
+    (unseated s r.0.0 (after_turn slot r) w.slots e (ap (λ (p : Turned × SchedulerState). p.0) h))
+
+-- turns of an empty slot take marks that say none
+idle : (s n : ℕ) (rest : Marks) (w : SchedulerState) → job_in s w ≡ None → until never (replicate n s) (replicate n None ++ rest) w ≡ nothing rest w
+idle s zero rest w h = refl
+idle s (suc n) rest w h =
+    ap (λ (o : Option SlotState). let t = turn_as_by None s o w in ends_then (ends_by s t.0) (until never (replicate n s) (replicate n None ++ rest) t.1)) h
+    ∙ ap (ends_then []) (idle s n rest w h)
+
+rest_idle : (E : List ℕ) (w : SchedulerState) (ends : List JobEnd) (s n : ℕ) (now : SchedulerState) → job_in s now ≡ None
+    → Ahead never E w ends (replicate n s) now → UntilIs never E w ends now
+rest_idle E w ends s n now none h = record {
+  marks = h.marks ++ replicate n None;
+  is = λ rest. passed h.numbered ends now rest (until never E ((h.marks ++ replicate n None) ++ rest) w) h.ended
+      (ap (λ (m : Marks). until never E m w) (append_assoc h.marks (replicate n None) rest) ∙ h.is (replicate n None ++ rest)
+      ∙ ap (ends_then h.numbered) (idle s n rest now none));
+}
+
+module _ (s count : ℕ) (w : SchedulerState) where
+  pub giving_begins : Ahead never (replicate count s) w [] (replicate (count - 0) s) w
+  giving_begins =
+      let e : count ≡ count - 0 = omega arith in
+      subst (λ (n : ℕ). Ahead never (replicate count s) w [] (replicate n s) w) e (begin never (replicate count s) w)
+
+  module _ (i : ℕ) (now now' : SchedulerState) (t : Turned) (h : Ahead never (replicate count s) w [] (replicate (count - i) s) now) (one : TurnOr s now t now') where
+    next : i < count → Ahead never (replicate count s) w [] (s ∷ replicate (count - (i + 1)) s) now
+    next few =
+        let e : count - i ≡ suc (count - (i + 1)) = omega (arith, few) in
+        subst (λ (n : ℕ). Ahead never (replicate count s) w [] (replicate n s) now) e h
+
+    pub giving_goes : i < count → t ≡ Goes → Ahead never (replicate count s) w [] (replicate (count - (i + 1)) s) now'
+    giving_goes few goes =
+        let turn : TurnOr s now Goes now' = subst (λ (u : Turned). TurnOr s now u now') goes one in
+        ahead_more never (replicate count s) w [] [] s (replicate (count - (i + 1)) s) now now' Goes refl (next few) turn refl
+
+    pub giving_empty : t ≡ Empty → MarkedIs (replicate count s) w [] now'
+    giving_empty none =
+        let e = empty_by one.mark s now now' (job_in s now) (subst (λ (u : Turned). turn_as_by one.mark s (job_in s now) now ≡ (u, now')) none one.is) in
+        subst (λ (v : SchedulerState). MarkedIs (replicate count s) w [] v) (sym e.1) (rest_idle (replicate count s) w [] s (count - i) now e.0 h)
+
+    pub giving_ended : i < count → (e : JobEnd) → t ≡ Ended e → MarkedIs (replicate count s) w (e ∷ []) now'
+    giving_ended few e ended =
+        let turn : TurnOr s now (Ended e) now' = subst (λ (u : Turned). TurnOr s now u now') ended one in
+        let none = ended_by turn.mark s now now' (job_in s now) e turn.is in
+        rest_idle (replicate count s) w (e ∷ []) s (count - (i + 1)) now' none
+        (ahead_more never (replicate count s) w [] (e ∷ []) s (replicate (count - (i + 1)) s) now now' (Ended e) refl (next few) turn refl)

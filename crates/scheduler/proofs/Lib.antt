@@ -1,0 +1,14 @@
+pub mod Shorthand
+pub mod Seats
+pub mod Seating
+pub mod Begun
+pub mod Past
+pub mod Rounding
+pub mod Giving
+pub mod Calls
+pub mod Alone
+pub mod Loads
+mod Shared
+mod Apart
+mod Carding
+mod Examples

@@ -1,0 +1,5 @@
+use Rattle.scheduler.proofs.Past.{drain_empties}
+use Rattle.scheduler.proofs.laws.drain_empties.Goals as goal
+
+pub returns : goal.returns
+returns c = drain_empties

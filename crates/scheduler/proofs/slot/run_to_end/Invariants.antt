@@ -1,0 +1,15 @@
+use Rattle.std.proofs.Common.{Some}
+use Rattle.mon_guard.specs.Cache.{CacheFits}
+use Rattle.scheduler.specs.Abstraction.{slot_of}
+use Rattle.scheduler.specs.inner.Alone.{GoesOn}
+use Rattle.scheduler.proofs.Shorthand.{turns_ahead}
+use Rattle.scheduler.proofs.slot.run_to_end.Given as goal
+
+abbrev pub invariant-turns : goal.invariant-turns
+invariant-turns l = record {
+  on : GoesOn (slot_of l.fn.slot) l.fn.catalogue (slot_of l.slot) l.catalogue;
+  fit : CacheFits l.guard l.catalogue;
+}
+
+abbrev pub decreases-turns : goal.decreases-turns
+decreases-turns l = turns_ahead (Some (slot_of l.slot))

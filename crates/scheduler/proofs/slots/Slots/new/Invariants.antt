@@ -1,0 +1,5 @@
+use Rattle.std.proofs.Common.{◌≡◌, None, replicate}
+use Rattle.scheduler.proofs.slots.Slots.new.Given as goal
+
+abbrev pub invariant-loop : goal.invariant-loop
+invariant-loop l = l.items.items ≡ replicate l.counter None

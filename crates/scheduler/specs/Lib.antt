@@ -1,0 +1,12 @@
+pub mod States
+pub mod Abstraction
+pub mod Turns
+pub mod Marks
+pub mod Rounds
+pub mod Turning
+pub mod Loads
+pub mod Memory
+pub mod Ties
+pub mod Holding
+pub mod Printouts
+pub mod inner

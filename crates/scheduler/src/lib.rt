@@ -1,0 +1,35 @@
+//! Slots: jobs that take turns over one guarded catalogue.
+//!
+//! A slot holds a job with its units, or none. `load` puts a job into the lowest free slot, or tells why not. A turn gives the
+//! job of one slot one statement; `turns`, `drain` and `room` give turns in an order. What turns do is a function of the data
+//! sets, of the jobs in the slots, and of where memory broke turns off; `laws` says what holds of it.
+//!
+//! Jobs as the deck gives them and as they end: what is loaded, why a load is refused, and what each prints.
+//!
+//! `printout` and `refusal_text` in specs/ say what is printed; `print_end` and `print_refusal` put exactly that
+//! to a sink; `put_printout` and `put_refusal` append it, or nothing.
+#![tactic(auto)]
+
+pub mod holder;
+mod holding;
+pub mod job_end;
+pub mod laws;
+mod loading;
+mod lone;
+pub mod printing;
+pub mod refusal;
+mod reserve;
+mod rounds;
+mod sharing;
+mod slot;
+pub mod slots;
+pub mod turned;
+mod words;
+
+pub use holder::Holder;
+pub use job_end::JobEnd;
+pub use deck_syntax::{JobDeck, JobLimits, UnitCard, UnitCards};
+pub use printing::{print_end, put_printout};
+pub use refusal::{LoadError, print_refusal, put_refusal};
+pub use slots::Slots;
+pub use turned::Turned;

@@ -1,0 +1,124 @@
+//! A job in a slot, and its turns.
+ghost use Rattle.std.specs.Prelude.{◌≡◌, Some, None, IsSome};
+ghost use Rattle.mon_guard.specs.Cache.{CacheFits};
+ghost use Rattle.scheduler.specs.States.{SlotState};
+ghost use Rattle.scheduler.specs.Abstraction.{slot_of, seat_of};
+ghost use Rattle.scheduler.specs.Turns.{job_end};
+ghost use Rattle.scheduler.specs.inner.Stepping.{Stepped, SeatStep};
+ghost use Rattle.scheduler.specs.inner.Alone.{GoesToEnd, SeatEnds};
+
+use crate::job_end::JobEnd;
+use mon_access::Account;
+use mon_catalogue::Catalogue;
+use mon_guard::Guard;
+use mon_unit::{UnitService, Units};
+use sno_run::{Ending, Job, Step, statement_turn};
+use std::mem;
+use std::alloc::Global;
+
+/// A job in a slot: its number, the account that it is for, the job itself, and its units.
+#[derive(Drop)]
+pub struct Slot {
+    pub number: u64,
+    pub account: Account,
+    pub job: Job,
+    pub units: Units,
+}
+
+// One turn of the job in a slot.
+#[inline(always)]
+fn turn_of(alloc: Global, guard: &mut Guard, catalogue: &mut Catalogue, slot: &mut Slot) -> Step
+    requires fit { CacheFits guard.old catalogue.old }
+    ensures step { Stepped (slot_of slot.old) catalogue.old result (slot_of slot.new) catalogue.new }
+    ensures fit { CacheFits guard.new catalogue.new }
+{
+    let mut service = UnitService {
+        alloc,
+        account: &slot.account,
+        guard: &mut *guard,
+        catalogue: &mut *catalogue,
+        units: &mut slot.units,
+    };
+    statement_turn(alloc, &mut slot.job, &mut service)
+}
+
+// What is left of a job that has ended.
+fn end_of(slot: Slot, ending: Ending) -> JobEnd
+    ensures { result ≡ job_end (slot_of slot) ending }
+{
+    let account = slot.account.name.copy();
+    let statements = slot.job.statements();
+    let (spool, notes) = slot.units.into_parts();
+    JobEnd {
+        number: slot.number,
+        account,
+        spool,
+        notes,
+        ending,
+        statements,
+    }
+}
+
+// A job that has ended leaves its seat.
+pub(crate) fn leave(seat: &mut Option<Slot>, ending: Ending) -> JobEnd
+    requires { IsSome seat.old }
+    ensures end { (slot : SlotState) → seat_of seat.old ≡ Some slot → result ≡ job_end slot ending }
+    ensures empty { seat_of seat.new ≡ None }
+{
+    let slot = mem::replace(seat, None).unwrap();
+    end_of(slot, ending)
+}
+
+// One turn of what a slot holds, if it holds a job. One that has ended stays in its seat until it leaves.
+#[inline(always)]
+pub(crate) fn step_at(
+    alloc: Global,
+    guard: &mut Guard,
+    catalogue: &mut Catalogue,
+    seat: &mut Option<Slot>,
+) -> Option<Step>
+    requires fit { CacheFits guard.old catalogue.old }
+    ensures step { SeatStep (seat_of seat.old) catalogue.old result (seat_of seat.new) catalogue.new }
+    ensures fit { CacheFits guard.new catalogue.new }
+{
+    match seat {
+        None => None,
+        Some(slot) => Some(turn_of(alloc, guard, catalogue, slot)),
+    }
+}
+
+// Turns of a job, until it has ended.
+fn run_to_end(
+    alloc: Global,
+    guard: &mut Guard,
+    catalogue: &mut Catalogue,
+    slot: &mut Slot,
+) -> Ending
+    requires fit { CacheFits guard.old catalogue.old }
+    ensures goes { GoesToEnd (slot_of slot.old) catalogue.old result (slot_of slot.new) catalogue.new }
+    ensures fit { CacheFits guard.new catalogue.new }
+{
+    'turns: loop {
+        match turn_of(alloc, guard, catalogue, slot) {
+            Step::Goes => (),
+            Step::Ended(ending) => return ending,
+        }
+    }
+}
+
+// Turns of what a slot holds, if it holds a job, until that has ended. It stays in its seat until it leaves.
+pub(crate) fn run_at(
+    alloc: Global,
+    guard: &mut Guard,
+    catalogue: &mut Catalogue,
+    seat: &mut Option<Slot>,
+) -> Option<Ending>
+    requires fit { CacheFits guard.old catalogue.old }
+    ensures ended { SeatEnds (seat_of seat.old) catalogue.old result (seat_of seat.new) catalogue.new }
+    ensures fit { CacheFits guard.new catalogue.new }
+{
+    match seat {
+        None => None,
+        Some(slot) => Some(run_to_end(alloc, guard, catalogue, slot)),
+    }
+}

@@ -1,3 +1,0 @@
-pub mod Answering
-pub mod Runs
-pub mod Counting

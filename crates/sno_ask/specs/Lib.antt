@@ -1,5 +1,0 @@
-pub mod Fitting
-pub mod Asking
-pub mod Counting
-pub mod Scripts
-pub mod Laws

@@ -1,5 +1,0 @@
-use Rattle.sno_code.proofs.Performing.{act_does}
-use Rattle.sno_code.proofs.laws.code_means_act.Goals as goal
-
-pub returns : goal.returns
-returns g c = λ keeping called act st. act_does keeping called act st

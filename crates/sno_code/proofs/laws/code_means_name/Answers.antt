@@ -1,5 +1,0 @@
-use Rattle.sno_code.proofs.Coded.{run_name}
-use Rattle.sno_code.proofs.laws.code_means_name.Goals as goal
-
-pub returns : goal.returns
-returns g c = λ setting t st. run_name setting t st

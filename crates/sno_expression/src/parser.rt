@@ -1,0 +1,732 @@
+//! The walk with the trees that it makes.
+
+ghost use Rattle.std.specs.Prelude.{◌≡◌, ◌≤◌, IfOk, length, drop, true, false, Some, None};
+ghost use Rattle.sno_expression.specs.Marks.{operator_of, prefix_of};
+ghost use Rattle.sno_expression.specs.inner.Walking.{inner_of};
+ghost use Rattle.sno_expression.specs.Expressions as expressions;
+ghost use Rattle.sno_expression.specs.inner.Spines.{is_element};
+ghost use Rattle.sno_expression.specs.inner.Reading.{fill, prefixed, joined, begin, close, close_angle, comma, first, go_on, closed, after, due, omitted, omitted_last, after_prefix, opened, named, read, ended, result as result_of, parens, Read, reading};
+ghost use Rattle.sno_expression.specs.inner.Reading as states;
+ghost use Rattle.sno_expression.specs.Abstraction.{expression_of, arguments_of, expressions_of};
+ghost use Rattle.sno_expression.specs.inner.Told.{spine_tree, hole_of, stack_of, frame_of, state_of, stepped, step_of, Next, End};
+
+use crate::growing::{add_argument, omit_argument, tree_of, with_prefix};
+use crate::pushing::{alone, closed as closed_tree, push};
+use crate::spine::Spine;
+use crate::tree::{Arguments, BinaryOperator, Call, Expression, IdentifierPrefix, Prefix, TableItem, UnaryOperator, operator_of, prefix_of};
+use crate::walking::{Paren, opens_bracket, stops};
+use sno_lexer::{Characters, Constant, Mark, Token, TokenKind, Word};
+use std::alloc::{AllocError, Global};
+
+/// What waits for an operand.
+#[derive(Drop)]
+pub(crate) enum Hole {
+    Begin,
+    After(Spine, BinaryOperator),
+    Under(UnaryOperator, Box<Hole>),
+}
+
+/// The open parentheses.
+#[derive(Drop)]
+#[cycle(stack)]
+pub(crate) enum Stack {
+    Bottom,
+    Above(Box<Frame>),
+}
+
+/// The innermost open parenthesis with what waits for it, and those around it.
+#[derive(Drop)]
+#[cycle(stack)]
+pub(crate) enum Frame {
+    InGroup(Hole, Stack),
+    InCall(Characters, Arguments, Hole, Stack),
+    InItem(Characters, Hole, Stack),
+}
+
+/// What stands innermost.
+#[derive(Drop)]
+pub(crate) enum Spot {
+    /// An operand is due.
+    Due(Hole),
+    /// The identifier of a keyword or of an unevaluated expression is due.
+    Prefixed(Hole, IdentifierPrefix),
+    /// An identifier, which may yet open a call.
+    Named(Hole, Characters),
+    /// A whole operand.
+    Whole(Spine),
+}
+
+/// How far an expression has been read.
+#[derive(Drop)]
+pub(crate) struct State {
+    stack: Stack,
+    spot: Spot,
+}
+
+/// What one more token leads to.
+#[derive(Drop)]
+pub(crate) enum Step {
+    Next(State),
+    /// It is not taken: the tree, where one is complete.
+    End(Option<Expression>),
+}
+
+/// An expression that was read.
+#[derive(Drop)]
+pub struct Found {
+    /// The tree, where one was complete.
+    pub tree: Option<Expression>,
+    /// The index of the first token that was not taken, or of the end.
+    pub next: usize,
+}
+
+fn fill(alloc: Global, hole: Hole, operand: Expression) -> Result<Spine, AllocError>
+    requires { is_element operand ≡ true }
+    ensures { IfOk result (λ s. spine_tree s ≡ fill (hole_of hole) (expression_of operand)) }
+{
+    match hole {
+        Hole::Begin => Ok(alone(alloc, operand)),
+        Hole::After(spine, operator) => push(alloc, operator, operand, spine),
+        Hole::Under(unary, rest) => {
+            let operand = Box::new(alloc, operand)?;
+            fill(
+                alloc,
+                Box::into_inner(rest),
+                Expression::Unary(unary, operand),
+            )
+        }
+    }
+}
+
+// A whole operand, in its place.
+#[inline(always)]
+fn whole(alloc: Global, stack: Stack, hole: Hole, operand: Expression) -> Result<Step, AllocError>
+    requires { is_element operand ≡ true }
+    ensures { IfOk result (λ s. step_of s ≡ Next (states.At (stack_of stack) (states.Whole (fill (hole_of hole) (expression_of operand))))) }
+{
+    let spine = fill(alloc, hole, operand)?;
+    Ok(Step::Next(State {
+        stack,
+        spot: Spot::Whole(spine),
+    }))
+}
+
+// The tree, where one is complete.
+#[inline(always)]
+fn complete(alloc: Global, stack: Stack, spine: Spine) -> Result<Option<Expression>, AllocError>
+    ensures { IfOk result (λ t. expressions_of t ≡ ended (stack_of stack) (spine_tree spine)) }
+{
+    match stack {
+        Stack::Bottom => {
+            let tree = closed_tree(alloc, spine)?;
+            Ok(Some(tree))
+        }
+        Stack::Above(frame) => match Box::into_inner(frame) {
+            Frame::InGroup(_, _) => Ok(None),
+            Frame::InCall(_, _, _, _) => Ok(None),
+            Frame::InItem(_, _, _) => Ok(None),
+        },
+    }
+}
+
+// A token that is not taken after a whole operand.
+#[inline(always)]
+fn stop(alloc: Global, stack: Stack, spine: Spine) -> Result<Step, AllocError>
+    ensures { IfOk result (λ s. step_of s ≡ End (ended (stack_of stack) (spine_tree spine))) }
+{
+    let tree = complete(alloc, stack, spine)?;
+    Ok(Step::End(tree))
+}
+
+#[inline(always)]
+fn identifier_begins(
+    alloc: Global,
+    stack: Stack,
+    hole: Hole,
+    name: &Word,
+) -> Result<Step, AllocError>
+    ensures { IfOk result (λ s. step_of s ≡ Next (states.At (stack_of stack) (states.Named (hole_of hole) name.now))) }
+{
+    let name = name.characters(alloc)?;
+    Ok(Step::Next(State {
+        stack,
+        spot: Spot::Named(hole, name),
+    }))
+}
+
+#[inline(always)]
+fn constant_begins(
+    alloc: Global,
+    stack: Stack,
+    hole: Hole,
+    constant: &Constant,
+) -> Result<Step, AllocError>
+    ensures { IfOk result (λ s. step_of s ≡ Next (states.At (stack_of stack) (states.Whole (fill (hole_of hole) (expressions.Constant constant.now))))) }
+{
+    let constant = tree_of(alloc, constant)?;
+    whole(alloc, stack, hole, constant)
+}
+
+#[inline(always)]
+fn group_begins(alloc: Global, stack: Stack, hole: Hole) -> Result<Step, AllocError>
+    ensures { IfOk result (λ s. step_of s ≡ Next (states.At (states.InGroup (hole_of hole) (stack_of stack)) (states.Due states.Begin))) }
+{
+    let frame = Box::new(alloc, Frame::InGroup(hole, stack))?;
+    Ok(Step::Next(State {
+        stack: Stack::Above(frame),
+        spot: Spot::Due(Hole::Begin),
+    }))
+}
+
+#[inline(always)]
+fn prefix_begins(
+    alloc: Global,
+    stack: Stack,
+    hole: Hole,
+    prefix: Prefix,
+) -> Result<Step, AllocError>
+    ensures { IfOk result (λ s. step_of s ≡ stepped (prefixed (stack_of stack) (hole_of hole) (Some prefix)) None) }
+{
+    match prefix {
+        Prefix::OfOperand(unary) => {
+            let hole = Box::new(alloc, hole)?;
+            Ok(Step::Next(State {
+                stack,
+                spot: Spot::Due(Hole::Under(unary, hole)),
+            }))
+        }
+        Prefix::OfIdentifier(prefix) => Ok(Step::Next(State {
+            stack,
+            spot: Spot::Prefixed(hole, prefix),
+        })),
+    }
+}
+
+#[inline(always)]
+fn mark_begins(alloc: Global, stack: Stack, hole: Hole, mark: Mark) -> Result<Step, AllocError>
+    ensures { IfOk result (λ s. step_of s ≡ stepped (prefixed (stack_of stack) (hole_of hole) (prefix_of mark)) None) }
+{
+    match prefix_of(mark) {
+        Some(prefix) => prefix_begins(alloc, stack, hole, prefix),
+        None => Ok(Step::End(None)),
+    }
+}
+
+// An operand begins, where one is due.
+#[inline(always)]
+fn begin(
+    alloc: Global,
+    stack: Stack,
+    hole: Hole,
+    after: bool,
+    kind: &TokenKind,
+) -> Result<Step, AllocError>
+    ensures { IfOk result (λ s. step_of s ≡ stepped (begin (stack_of stack) (hole_of hole) after kind.now) None) }
+{
+    match kind {
+        TokenKind::Identifier(name) => identifier_begins(alloc, stack, hole, name),
+        TokenKind::Constant(constant) => constant_begins(alloc, stack, hole, constant),
+        TokenKind::Mark(mark) => {
+            if after {
+                Ok(Step::End(None))
+            } else {
+                mark_begins(alloc, stack, hole, *mark)
+            }
+        }
+        TokenKind::Open => group_begins(alloc, stack, hole),
+        TokenKind::Close
+        | TokenKind::OpenAngle
+        | TokenKind::CloseAngle
+        | TokenKind::Comma
+        | TokenKind::Part(_) => Ok(Step::End(None)),
+    }
+}
+
+fn close(alloc: Global, stack: Stack, spine: Spine) -> Result<Step, AllocError>
+    ensures { IfOk result (λ s. step_of s ≡ stepped (close (stack_of stack) (spine_tree spine)) (ended (stack_of stack) (spine_tree spine))) }
+{
+    let tree = closed_tree(alloc, spine)?;
+    match stack {
+        Stack::Bottom => Ok(Step::End(Some(tree))),
+        Stack::Above(frame) => match Box::into_inner(frame) {
+            Frame::InGroup(hole, below) => {
+                let tree = Box::new(alloc, tree)?;
+                whole(alloc, below, hole, Expression::Group(tree))
+            }
+            Frame::InCall(name, arguments, hole, below) => {
+                let arguments = add_argument(alloc, arguments, tree)?;
+                let call = Box::new(alloc, Call { name, arguments })?;
+                whole(alloc, below, hole, Expression::Call(call))
+            }
+            Frame::InItem(_, _, _) => Ok(Step::End(None)),
+        },
+    }
+}
+
+fn close_angle(alloc: Global, stack: Stack, spine: Spine) -> Result<Step, AllocError>
+    ensures { IfOk result (λ s. step_of s ≡ stepped (close_angle (stack_of stack) (spine_tree spine)) (ended (stack_of stack) (spine_tree spine))) }
+{
+    let tree = closed_tree(alloc, spine)?;
+    match stack {
+        Stack::Bottom => Ok(Step::End(Some(tree))),
+        Stack::Above(frame) => match Box::into_inner(frame) {
+            Frame::InGroup(_, _) => Ok(Step::End(None)),
+            Frame::InCall(_, _, _, _) => Ok(Step::End(None)),
+            Frame::InItem(name, hole, below) => {
+                let item = Box::new(alloc, TableItem { name, key: tree })?;
+                whole(alloc, below, hole, Expression::TableItem(item))
+            }
+        },
+    }
+}
+
+fn comma(alloc: Global, stack: Stack, spine: Spine) -> Result<Step, AllocError>
+    ensures { IfOk result (λ s. step_of s ≡ stepped (comma (stack_of stack) (spine_tree spine)) (ended (stack_of stack) (spine_tree spine))) }
+{
+    let tree = closed_tree(alloc, spine)?;
+    match stack {
+        Stack::Bottom => Ok(Step::End(Some(tree))),
+        Stack::Above(frame) => match Box::into_inner(frame) {
+            Frame::InGroup(_, _) => Ok(Step::End(None)),
+            Frame::InCall(name, arguments, hole, below) => {
+                let arguments = add_argument(alloc, arguments, tree)?;
+                let frame = Box::new(alloc, Frame::InCall(name, arguments, hole, below))?;
+                Ok(Step::Next(State {
+                    stack: Stack::Above(frame),
+                    spot: Spot::Due(Hole::Begin),
+                }))
+            }
+            Frame::InItem(_, _, _) => Ok(Step::End(None)),
+        },
+    }
+}
+
+// An argument is empty, and a comma follows.
+fn empty_before_comma(alloc: Global, stack: Stack) -> Result<Step, AllocError>
+    ensures { IfOk result (λ s. step_of s ≡ stepped (omitted (stack_of stack)) None) }
+{
+    match stack {
+        Stack::Bottom => Ok(Step::End(None)),
+        Stack::Above(frame) => match Box::into_inner(frame) {
+            Frame::InGroup(_, _) => Ok(Step::End(None)),
+            Frame::InCall(name, arguments, hole, below) => {
+                let arguments = omit_argument(alloc, arguments)?;
+                let frame = Box::new(alloc, Frame::InCall(name, arguments, hole, below))?;
+                Ok(Step::Next(State {
+                    stack: Stack::Above(frame),
+                    spot: Spot::Due(Hole::Begin),
+                }))
+            }
+            Frame::InItem(_, _, _) => Ok(Step::End(None)),
+        },
+    }
+}
+
+// An argument is empty, and the last.
+fn empty_at_end(alloc: Global, stack: Stack) -> Result<Step, AllocError>
+    ensures { IfOk result (λ s. step_of s ≡ stepped (omitted_last (stack_of stack)) None) }
+{
+    match stack {
+        Stack::Bottom => Ok(Step::End(None)),
+        Stack::Above(frame) => match Box::into_inner(frame) {
+            Frame::InGroup(_, _) => Ok(Step::End(None)),
+            Frame::InCall(name, arguments, hole, below) => {
+                let arguments = omit_argument(alloc, arguments)?;
+                let call = Box::new(alloc, Call { name, arguments })?;
+                whole(alloc, below, hole, Expression::Call(call))
+            }
+            Frame::InItem(_, _, _) => Ok(Step::End(None)),
+        },
+    }
+}
+
+// An expression or an argument begins, or an argument is empty.
+#[inline(always)]
+fn first(alloc: Global, stack: Stack, after: bool, kind: &TokenKind) -> Result<Step, AllocError>
+    ensures { IfOk result (λ s. step_of s ≡ stepped (first (stack_of stack) after kind.now) None) }
+{
+    match kind {
+        TokenKind::Comma => empty_before_comma(alloc, stack),
+        TokenKind::Close => empty_at_end(alloc, stack),
+        TokenKind::Identifier(_)
+        | TokenKind::Constant(_)
+        | TokenKind::Mark(_)
+        | TokenKind::Open
+        | TokenKind::OpenAngle
+        | TokenKind::CloseAngle
+        | TokenKind::Part(_) => begin(alloc, stack, Hole::Begin, after, kind),
+    }
+}
+
+#[inline(always)]
+fn operator_follows(
+    alloc: Global,
+    stack: Stack,
+    spine: Spine,
+    mark: Mark,
+) -> Result<Step, AllocError>
+    ensures { IfOk result (λ s. step_of s ≡ stepped (joined (stack_of stack) (spine_tree spine) (operator_of mark)) (ended (stack_of stack) (spine_tree spine))) }
+{
+    match operator_of(mark) {
+        Some(operator) => Ok(Step::Next(State {
+            stack,
+            spot: Spot::Due(Hole::After(spine, operator)),
+        })),
+        None => stop(alloc, stack, spine),
+    }
+}
+
+#[inline(always)]
+fn prefix_follows(alloc: Global, stack: Stack, spine: Spine, mark: Mark) -> Result<Step, AllocError>
+    ensures { IfOk result (λ s. step_of s ≡ stepped (prefixed (stack_of stack) (states.After (spine_tree spine) BinaryOperator.Concatenation) (prefix_of mark)) (ended (stack_of stack) (spine_tree spine))) }
+{
+    match prefix_of(mark) {
+        Some(Prefix::OfOperand(unary)) => prefix_begins(
+            alloc,
+            stack,
+            Hole::After(spine, BinaryOperator::Concatenation),
+            Prefix::OfOperand(unary),
+        ),
+        Some(Prefix::OfIdentifier(prefix)) => prefix_begins(
+            alloc,
+            stack,
+            Hole::After(spine, BinaryOperator::Concatenation),
+            Prefix::OfIdentifier(prefix),
+        ),
+        None => stop(alloc, stack, spine),
+    }
+}
+
+// A mark after an operand and a blank.
+#[inline(always)]
+fn mark_follows(
+    alloc: Global,
+    stack: Stack,
+    spine: Spine,
+    after: bool,
+    mark: Mark,
+) -> Result<Step, AllocError>
+    ensures { IfOk result (λ s. step_of s ≡ stepped (go_on (stack_of stack) (spine_tree spine) true after (TokenKind.Mark mark)) (ended (stack_of stack) (spine_tree spine))) }
+{
+    if after {
+        operator_follows(alloc, stack, spine, mark)
+    } else {
+        prefix_follows(alloc, stack, spine, mark)
+    }
+}
+
+// After an operand and a blank.
+#[inline(always)]
+fn follow(
+    alloc: Global,
+    stack: Stack,
+    spine: Spine,
+    after: bool,
+    kind: &TokenKind,
+) -> Result<Step, AllocError>
+    ensures { IfOk result (λ s. step_of s ≡ stepped (go_on (stack_of stack) (spine_tree spine) true after kind.now) (ended (stack_of stack) (spine_tree spine))) }
+{
+    match kind {
+        TokenKind::Mark(mark) => mark_follows(alloc, stack, spine, after, *mark),
+        TokenKind::Identifier(name) => identifier_begins(
+            alloc,
+            stack,
+            Hole::After(spine, BinaryOperator::Concatenation),
+            name,
+        ),
+        TokenKind::Constant(constant) => {
+            constant_begins(
+                alloc,
+                stack,
+                Hole::After(spine, BinaryOperator::Concatenation),
+                constant,
+            )
+        }
+        TokenKind::Open => group_begins(
+            alloc,
+            stack,
+            Hole::After(spine, BinaryOperator::Concatenation),
+        ),
+        TokenKind::Close => close(alloc, stack, spine),
+        TokenKind::Comma => comma(alloc, stack, spine),
+        TokenKind::CloseAngle => close_angle(alloc, stack, spine),
+        TokenKind::OpenAngle | TokenKind::Part(_) => stop(alloc, stack, spine),
+    }
+}
+
+// After an operand, with no blank between.
+#[inline(always)]
+fn touch(
+    alloc: Global,
+    stack: Stack,
+    spine: Spine,
+    after: bool,
+    kind: &TokenKind,
+) -> Result<Step, AllocError>
+    ensures { IfOk result (λ s. step_of s ≡ stepped (go_on (stack_of stack) (spine_tree spine) false after kind.now) (ended (stack_of stack) (spine_tree spine))) }
+{
+    match kind {
+        TokenKind::Close => close(alloc, stack, spine),
+        TokenKind::Comma => comma(alloc, stack, spine),
+        TokenKind::CloseAngle => close_angle(alloc, stack, spine),
+        TokenKind::Identifier(_)
+        | TokenKind::Constant(_)
+        | TokenKind::Mark(_)
+        | TokenKind::Open
+        | TokenKind::OpenAngle
+        | TokenKind::Part(_) => stop(alloc, stack, spine),
+    }
+}
+
+#[inline(always)]
+fn paren_of(frame: &Frame) -> Paren
+    ensures { Some result ≡ inner_of (parens (frame_of frame.now)) }
+{
+    match frame {
+        Frame::InGroup(_, _) => Paren::OfGroup,
+        Frame::InCall(_, _, _, _) => Paren::OfCall,
+        Frame::InItem(_, _, _) => Paren::OfItem,
+    }
+}
+
+#[inline(always)]
+fn inner(stack: &Stack) -> Option<Paren>
+    ensures { result ≡ inner_of (parens (stack_of stack.now)) }
+{
+    match stack {
+        Stack::Bottom => None,
+        Stack::Above(frame) => Some(paren_of(frame)),
+    }
+}
+
+// Whether nothing is taken after an operand there.
+#[inline(always)]
+fn closed(alone: bool, stack: &Stack) -> bool
+    ensures { result ≡ closed alone (stack_of stack.now) }
+{
+    stops(alone, inner(stack))
+}
+
+#[inline(always)]
+fn after(
+    alloc: Global,
+    alone: bool,
+    stack: Stack,
+    spine: Spine,
+    token: &Token,
+) -> Result<Step, AllocError>
+    ensures { IfOk result (λ s. step_of s ≡ stepped (after alone (stack_of stack) (spine_tree spine) token.now.blank_before token.now.blank_after token.now.kind) (ended (stack_of stack) (spine_tree spine))) }
+{
+    if closed(alone, &stack) {
+        stop(alloc, stack, spine)
+    } else if token.blank_before {
+        follow(alloc, stack, spine, token.blank_after, &token.kind)
+    } else {
+        touch(alloc, stack, spine, token.blank_after, &token.kind)
+    }
+}
+
+#[inline(always)]
+fn due(alloc: Global, stack: Stack, hole: Hole, token: &Token) -> Result<Step, AllocError>
+    ensures { IfOk result (λ s. step_of s ≡ stepped (due (stack_of stack) (hole_of hole) token.now.blank_before token.now.blank_after token.now.kind) None) }
+{
+    let after = token.blank_after;
+    match hole {
+        Hole::Begin => first(alloc, stack, after, &token.kind),
+        Hole::After(spine, operator) => {
+            if token.blank_before {
+                begin(
+                    alloc,
+                    stack,
+                    Hole::After(spine, operator),
+                    after,
+                    &token.kind,
+                )
+            } else {
+                Ok(Step::End(None))
+            }
+        }
+        Hole::Under(unary, rest) => {
+            if token.blank_before {
+                Ok(Step::End(None))
+            } else {
+                begin(alloc, stack, Hole::Under(unary, rest), after, &token.kind)
+            }
+        }
+    }
+}
+
+#[inline(always)]
+fn prefix_ends(
+    alloc: Global,
+    stack: Stack,
+    hole: Hole,
+    prefix: IdentifierPrefix,
+    name: &Word,
+) -> Result<Step, AllocError>
+    ensures { IfOk result (λ s. step_of s ≡ Next (states.At (stack_of stack) (states.Whole (fill (hole_of hole) (states.with_prefix prefix name.now))))) }
+{
+    let name = name.characters(alloc)?;
+    whole(alloc, stack, hole, with_prefix(prefix, name))
+}
+
+#[inline(always)]
+fn after_prefix(
+    alloc: Global,
+    stack: Stack,
+    hole: Hole,
+    prefix: IdentifierPrefix,
+    before: bool,
+    kind: &TokenKind,
+) -> Result<Step, AllocError>
+    ensures { IfOk result (λ s. step_of s ≡ stepped (after_prefix (stack_of stack) (hole_of hole) prefix before kind.now) None) }
+{
+    match kind {
+        TokenKind::Identifier(name) => {
+            if before {
+                Ok(Step::End(None))
+            } else {
+                prefix_ends(alloc, stack, hole, prefix, name)
+            }
+        }
+        TokenKind::Constant(_)
+        | TokenKind::Mark(_)
+        | TokenKind::Open
+        | TokenKind::Close
+        | TokenKind::OpenAngle
+        | TokenKind::CloseAngle
+        | TokenKind::Comma
+        | TokenKind::Part(_) => Ok(Step::End(None)),
+    }
+}
+
+// What a bracket opens that touches an identifier.
+fn opened(stack: Stack, hole: Hole, name: Characters, kind: &TokenKind) -> Frame
+    ensures { frame_of result ≡ opened name (hole_of hole) (stack_of stack) kind.now }
+{
+    match kind {
+        TokenKind::OpenAngle => Frame::InItem(name, hole, stack),
+        _ => Frame::InCall(name, Arguments::NoArguments, hole, stack),
+    }
+}
+
+#[inline(always)]
+fn bracket_begins(
+    alloc: Global,
+    stack: Stack,
+    hole: Hole,
+    name: Characters,
+    kind: &TokenKind,
+) -> Result<Step, AllocError>
+    ensures { IfOk result (λ s. step_of s ≡ Next (states.At (opened name (hole_of hole) (stack_of stack) kind.now) (states.Due states.Begin))) }
+{
+    let frame = Box::new(alloc, opened(stack, hole, name, kind))?;
+    Ok(Step::Next(State {
+        stack: Stack::Above(frame),
+        spot: Spot::Due(Hole::Begin),
+    }))
+}
+
+#[inline(always)]
+fn identifier_ends(
+    alloc: Global,
+    alone: bool,
+    stack: Stack,
+    hole: Hole,
+    name: Characters,
+    token: &Token,
+) -> Result<Step, AllocError>
+    ensures { IfOk result (λ s. step_of s ≡ stepped (after alone (stack_of stack) (fill (hole_of hole) (expressions.Identifier name)) token.now.blank_before token.now.blank_after token.now.kind) (ended (stack_of stack) (fill (hole_of hole) (expressions.Identifier name)))) }
+{
+    let spine = fill(alloc, hole, Expression::Identifier(name))?;
+    after(alloc, alone, stack, spine, token)
+}
+
+#[inline(always)]
+fn named(
+    alloc: Global,
+    alone: bool,
+    stack: Stack,
+    hole: Hole,
+    name: Characters,
+    token: &Token,
+) -> Result<Step, AllocError>
+    ensures { IfOk result (λ s. step_of s ≡ stepped (named alone (stack_of stack) (hole_of hole) name token.now.blank_before token.now.blank_after token.now.kind) (ended (stack_of stack) (fill (hole_of hole) (expressions.Identifier name)))) }
+{
+    if opens_bracket(token.blank_before, &token.kind) {
+        bracket_begins(alloc, stack, hole, name, &token.kind)
+    } else {
+        identifier_ends(alloc, alone, stack, hole, name, token)
+    }
+}
+
+// One more token.
+#[inline(always)]
+fn read(alloc: Global, alone: bool, state: State, token: &Token) -> Result<Step, AllocError>
+    ensures { IfOk result (λ s. step_of s ≡ stepped (read alone (state_of state) token.now) (result_of (state_of state))) }
+{
+    let State { stack, spot } = state;
+    match spot {
+        Spot::Due(hole) => due(alloc, stack, hole, token),
+        Spot::Prefixed(hole, prefix) => after_prefix(
+            alloc,
+            stack,
+            hole,
+            prefix,
+            token.blank_before,
+            &token.kind,
+        ),
+        Spot::Named(hole, name) => named(alloc, alone, stack, hole, name, token),
+        Spot::Whole(spine) => after(alloc, alone, stack, spine, token),
+    }
+}
+
+// The tree at the end of the tokens, where one is complete.
+fn finish(alloc: Global, state: State) -> Result<Option<Expression>, AllocError>
+    ensures { IfOk result (λ t. expressions_of t ≡ result_of (state_of state)) }
+{
+    let State { stack, spot } = state;
+    match spot {
+        Spot::Due(_) => Ok(None),
+        Spot::Prefixed(_, _) => Ok(None),
+        Spot::Named(hole, name) => {
+            let spine = fill(alloc, hole, Expression::Identifier(name))?;
+            complete(alloc, stack, spine)
+        }
+        Spot::Whole(spine) => complete(alloc, stack, spine),
+    }
+}
+
+/// Reads one expression from the tokens, from the one at `from` on, or where it stands `alone` one element.
+///
+/// It ends before the first token that is not taken, or at the end of the tokens.
+///
+/// # Errors
+///
+/// Where a growth was refused.
+pub fn read_expression(
+    alloc: Global,
+    alone: bool,
+    tokens: &[Token],
+    from: usize,
+) -> Result<Found, AllocError>
+    ensures reads { IfOk result (λ found. Read (expressions_of found.tree) (drop found.next tokens.now) ≡ reading alone (drop from tokens.now)) }
+    ensures within { IfOk result (λ found. found.next ≤ length tokens.now) }
+    ensures onward { IfOk result (λ found. from ≤ length tokens.now → from ≤ found.next) }
+{
+    let mut state = State {
+        stack: Stack::Bottom,
+        spot: Spot::Due(Hole::Begin),
+    };
+    for i in from..tokens.len() {
+        match read(alloc, alone, state, &tokens[i])? {
+            Step::Next(next) => state = next,
+            Step::End(tree) => return Ok(Found { tree, next: i }),
+        }
+    }
+    let tree = finish(alloc, state)?;
+    Ok(Found {
+        tree,
+        next: tokens.len(),
+    })
+}

@@ -1,6 +1,0 @@
-pub mod Counting
-pub mod Tallying
-pub mod Ending
-pub mod Loans
-pub mod Writing
-pub mod Looking

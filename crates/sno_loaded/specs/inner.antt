@@ -1,3 +1,0 @@
-pub mod Resting
-pub mod Loaded
-pub mod Counting

@@ -1,9 +1,0 @@
-pub mod Naming
-pub mod Stepping
-pub mod Moved
-pub mod Parts
-pub mod Standing
-pub mod Begins
-pub mod Assigning
-pub mod Splicing
-pub mod Staying

@@ -1,5 +1,0 @@
-pub mod Patterns
-pub mod Nodes
-pub mod Sets
-pub mod Balance
-pub mod inner

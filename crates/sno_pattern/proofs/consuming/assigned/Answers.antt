@@ -1,0 +1,48 @@
+use Rattle.std.proofs.Common.{refl, arith}
+use Rattle.sno_pattern.specs.Looks.{Given, Refused, Faulty}
+use Rattle.sno_pattern.specs.Steps.{outcome}
+use Rattle.sno_pattern.specs.inner.Stack.{waiting_of, assigning}
+use Rattle.sno_pattern.proofs.Pushing.{goes_on, faults, asked, asked_cut, asked_broken}
+use Rattle.sno_pattern.proofs.Run.{err_holds}
+use Rattle.sno_pattern.proofs.consuming.assigned.Goals as goal
+
+pub returns-in_err-back-in-Err-Fail-clause-cut : goal.returns-in_err-back-in-Err-Fail-clause-cut
+returns-in_err-back-in-Err-Fail-clause-cut g c =
+    let a = c.args.trail.now in
+    err_holds _ (asked_cut g.H.MatchHost.tells g.H.MatchHost.broken c.args.text.now c.args.host.now a.opens
+    (assigning c.args.text.now c.args.variable.now c.args.taken a.goals c.args.at
+    (waiting_of c.args.text.now a.waits) c.args.left.now) c.args.left.now _ _ refl _ Refused (rw c.in-Err-Fail.field-0-is at c.in-Err-Fail.ensures.told) tt)
+
+pub returns-in-Ok-clause-moved : goal.returns-in-Ok-clause-moved
+returns-in-Ok-clause-moved g c =
+    let a = c.args.trail.now in
+    asked g.H.MatchHost.tells g.H.MatchHost.broken c.args.text.now c.args.host.now a.opens
+    (assigning c.args.text.now c.args.variable.now c.args.taken a.goals c.args.at
+    (waiting_of c.args.text.now a.waits) c.args.left.now) c.args.left.now _ _ refl Given c.in-Ok.ensures.told tt
+    (goes_on c.args.text.now a.opens (outcome c.args.text.now a.goals c.args.at
+    (waiting_of c.args.text.now a.waits) c.args.left.now) c.args.left.now a.goals c.args.at a.waits c.args.left.now refl
+    (omega arith) c.requires.all c.requires.cursor)
+
+pub returns-in_ok-back-in-Err-Fail-clause-moved : goal.returns-in_ok-back-in-Err-Fail-clause-moved
+returns-in_ok-back-in-Err-Fail-clause-moved g c =
+    let a = c.args.trail.now in
+    asked g.H.MatchHost.tells g.H.MatchHost.broken c.args.text.now c.args.host.now a.opens
+    (assigning c.args.text.now c.args.variable.now c.args.taken a.goals c.args.at
+    (waiting_of c.args.text.now a.waits) c.args.left.now) c.args.left.now _ _ refl Refused
+    (rw c.in-Err-Fail.field-0-is at c.in-Err-Fail.ensures.told) tt c.in_ok-back-in-Err-Fail.ensures
+
+pub returns-in-Err-Fault-clause-moved : goal.returns-in-Err-Fault-clause-moved
+returns-in-Err-Fault-clause-moved g c =
+    let a = c.args.trail.now in
+    asked g.H.MatchHost.tells g.H.MatchHost.broken c.args.text.now c.args.host.now a.opens
+    (assigning c.args.text.now c.args.variable.now c.args.taken a.goals c.args.at
+    (waiting_of c.args.text.now a.waits) c.args.left.now) c.args.left.now _ _ refl (Faulty c.in-Err-Fault.fault)
+    (rw c.in-Err-Fault.field-0-is at c.in-Err-Fault.ensures.told) tt
+    (faults c.args.text.now a.goals c.args.at a.waits a.opens c.requires.all c.args.left.now c.in-Err-Fault.fault)
+
+pub returns-in-Err-Memory-clause-cut : goal.returns-in-Err-Memory-clause-cut
+returns-in-Err-Memory-clause-cut g c =
+    let a = c.args.trail.now in
+    asked_broken g.H.MatchHost.tells g.H.MatchHost.broken c.args.text.now c.args.host.now a.opens
+    (assigning c.args.text.now c.args.variable.now c.args.taken a.goals c.args.at
+    (waiting_of c.args.text.now a.waits) c.args.left.now) c.args.left.now _ _ refl _ (rw c.in-Err-Memory.field-0-is at c.in-Err-Memory.ensures.told)

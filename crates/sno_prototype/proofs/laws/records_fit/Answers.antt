@@ -1,5 +1,0 @@
-use Rattle.sno_prototype.proofs.Cutting.{records_fit}
-use Rattle.sno_prototype.proofs.laws.records_fit.Goals as goal
-
-pub returns : goal.returns
-returns c = records_fit

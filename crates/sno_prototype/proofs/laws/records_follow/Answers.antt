@@ -1,5 +1,0 @@
-use Rattle.sno_prototype.proofs.Cutting.{records_follow}
-use Rattle.sno_prototype.proofs.laws.records_follow.Goals as goal
-
-pub returns : goal.returns
-returns c = records_follow

@@ -1,0 +1,7 @@
+pub mod Counting
+pub mod Tallying
+pub mod Ending
+pub mod Loans
+pub mod Writing
+pub mod Looking
+pub mod Counted

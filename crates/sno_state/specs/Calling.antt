@@ -1,0 +1,27 @@
+-- Statements that begin, and calls of functions that the program defined (the SNOBOL4 book, chapter 4; the limits, and in which
+-- order they are tried, are own).
+use Rattle.std.specs.Prelude.{ℕ, nat_lt, List, length, Option, Some, None, if◌then◌else◌}
+use Rattle.std.specs.Option.{option_map_or}
+use Rattle.sno_text.specs.declared.fault.Fault.TheVariants.{Depth}
+use Rattle.sno_value.specs.declared.value.Value.{Value}
+use Rattle.sno_semantics.specs.Keeping.{Entered, Undefined, Enters, Refused}
+use Rattle.sno_declarations.specs.declared.definition.Definition.{Definition}
+use Rattle.sno_store.specs.declared.store.Store.{Store as State}
+use Rattle.sno_store.specs.States.{function_of, may_begin, with_statement}
+use Rattle.sno_store.specs.Calls as calls
+
+-- the statement of this number begins, if one more may in a job that may begin so many
+abbrev pub begun : ℕ → ℕ → State → Option State
+begun limit number s = if may_begin limit s then Some (with_statement number s) else None
+
+-- at most 200 calls are in one another, which is tried before the label of the entry is sought
+abbrev pub called : Definition → List Value → State → Entered State
+called d vs s = if nat_lt (length s.levels) 200 then Enters d.entry (calls.call_entered d vs s) else Refused Depth
+
+-- the function of this name is called with these values
+abbrev pub entered : List ℕ → List Value → State → Entered State
+entered f vs s = option_map_or (λ d. called d vs s) (function_of f s) Undefined
+
+-- the innermost call is left, with its value
+abbrev pub left : State → Value × State
+left s = (calls.given_back s, calls.call_left s)

@@ -1,0 +1,36 @@
+-- Items of tables (own): they have no associations.
+use Rattle.std.specs.Prelude.{Bool, false, not, ◌&&◌, Option, Some, None, Result, Ok, Err}
+use Rattle.sno_text.specs.declared.fault.Fault.{Fault as AFault}
+use Rattle.sno_value.specs.declared.value.Value.{Value}
+use Rattle.sno_value.specs.Values.{null}
+use Rattle.sno_value.specs.declared.outcome.Outcome.{Outcome}
+use Rattle.sno_value.specs.declared.outcome.Outcome.TheVariants as outcome
+use Rattle.sno_value.specs.Memory.{has_shared}
+use Rattle.sno_value.specs.declared.key.Place.{Place}
+use Rattle.sno_value.specs.Tables.{is_set, has_room}
+use Rattle.sno_semantics.specs.declared.got.Evaluated.{Evaluated}
+use Rattle.sno_store.specs.declared.store.Store.{Store as State}
+use Rattle.sno_store.specs.States as states
+use Rattle.sno_state.specs.Asking.{changed_by}
+
+abbrev pub outcome_given : Result Value AFault → Outcome
+outcome_given (Ok v) = outcome.Gives v
+outcome_given (Err f) = outcome.Faults f
+
+-- an item, by what is a table and what is a key
+abbrev pub item : Value → Value → State → Outcome
+item table key s = outcome_given (states.item table key s)
+
+-- it is set
+abbrev pub item_set : Value → Value → Value → State → Evaluated × State
+item_set table key v s = changed_by null (states.with_item_set table key v s) s
+
+-- Where reading an item may take memory, and where setting one may: its value is shared; it was not set before, and there is room.
+abbrev pub gives_shared : Outcome → Bool
+gives_shared (outcome.Gives v) = has_shared v
+gives_shared outcome.Fails = false
+gives_shared (outcome.Faults f) = false
+
+abbrev pub may_grow : Option Place → State → Bool
+may_grow None s = false
+may_grow (Some place) s = not (is_set place s.tables) && has_room place s.tables

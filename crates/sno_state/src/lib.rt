@@ -1,0 +1,28 @@
+//! What statements do to the state of a job, over whatever answers their requests.
+//!
+//! A variable that is used or assigned to may read or write records; a match uses and assigns to variables meanwhile. All
+//! of it is told without the service: the definitions say what is asked, for whatever is answered.
+//!
+//! Programs with the code of their statements, what this rests on, and what is done at once.
+#![tactic(auto)]
+
+mod calling;
+pub mod compiled;
+pub mod fast_path;
+mod host;
+mod items;
+mod keywords;
+pub mod laws;
+mod matching;
+mod primitives;
+pub mod resting;
+mod using;
+
+pub use calling::{Entry, MOST_CALLS, begin, enter};
+pub use compiled::CompiledProgram;
+pub use items::{held_item, item, set_item};
+pub use keywords::{keyword, set_keyword};
+pub use matching::matched;
+pub use primitives::primitive;
+pub use sno_cards::Limits;
+pub use using::{assigned, replaced, used};

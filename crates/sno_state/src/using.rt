@@ -1,0 +1,206 @@
+//! A variable used, and assigned a value.
+ghost use Rattle.std.specs.Prelude.{◌≡◌, ◌≤◌, true, false, length, IfOk, OnErr};
+ghost use Rattle.interaction.specs.Interactions.{Returns, ask};
+ghost use Rattle.sno_value.specs.Values.{null, text_of};
+ghost use Rattle.sno_value.specs.declared.value.Value.TheVariants as value;
+ghost use Rattle.interaction.specs.Asking.{RunsTo, Executes};
+ghost use Rattle.interaction.specs.declared.request.Act.TheVariants.{Write as Writing};
+ghost use Rattle.sno_declarations.specs.Formats.{records};
+ghost use Rattle.sno_variables.specs.Variables.{Reads};
+ghost use Rattle.sno_store.specs.States.{kept_of};
+ghost use Rattle.sno_state.specs.Asking.{request};
+ghost use Rattle.sno_state.specs.Using.{stored, used_by, used, write_all, write_text, assigned};
+
+use mon_text::Line;
+use interaction::{Act, Answer, Request, Service};
+use sno_semantics::{Evaluated, Halt};
+use sno_declarations::laws::records_follow;
+use sno_declarations::{Input, Output};
+use sno_store::{Found, Store};
+use sno_text::{Fault, Named, Text};
+use sno_value::Value;
+use std::alloc::{AllocError, Global};
+
+/// Stores what is kept of a record, and gives it.
+fn store_record(
+    alloc: Global,
+    name: &Named,
+    input: Input,
+    line: Line,
+    state: &mut Store,
+) -> Result<Evaluated, AllocError>
+    ensures stored { IfOk result (λ got. (got, state.new) ≡ stored name.now (value.Text (kept_of input state.old.keywords line)) state.old) }
+    ensures counted { state.new.keywords.begun ≡ state.old.keywords.begun }
+{
+    let text = state.kept(alloc, input, line)?;
+    let copy = text.copy()?;
+    state.set(name, Value::Text(copy))?;
+    Ok(Evaluated::Gives(Value::Text(text)))
+}
+
+/// Reads a record for a variable.
+#[tactic(auto, using(interaction::proofs::Held::talking))]
+fn read<S: Service>(
+    alloc: Global,
+    name: &Named,
+    input: Input,
+    state: &mut Store,
+    service: &mut S,
+) -> Result<Evaluated, AllocError>
+    requires { S.ready service.old }
+    ensures runs { Executes S.answers (used_by name.now (Reads input) state.old) service.old result (λ got. (got, state.new)) service.new }
+    ensures counted { state.new.keywords.begun ≡ state.old.keywords.begun }
+    ensures ready { S.ready service.new }
+{
+    let request = Request {
+        statement: state.statement(),
+        act: Act::Read(input.unit),
+    };
+    match service.ask(&request)? {
+        Answer::Got(line) => store_record(alloc, name, input, line, state),
+        _ => Ok(Evaluated::Fails),
+    }
+}
+
+/// Uses the value of a variable: a record is read, where it is associated with a unit.
+///
+/// # Errors
+///
+/// Where a growth was refused, and the record may have been read then; or where as many share the value as can be counted.
+#[tactic(auto, using(interaction::proofs::Held::talking))]
+pub fn used<S: Service>(
+    alloc: Global,
+    name: &Named,
+    state: &mut Store,
+    service: &mut S,
+) -> Result<Evaluated, AllocError>
+    requires { S.ready service.old }
+    ensures runs { Executes S.answers (used name.now state.old) service.old result (λ got. (got, state.new)) service.new }
+    ensures counted { state.new.keywords.begun ≡ state.old.keywords.begun }
+    ensures ready { S.ready service.new }
+{
+    let input = match state.get(name) {
+        Found::Null => return Ok(Evaluated::Gives(Value::null())),
+        Found::Plain(value) => return Ok(Evaluated::Gives(value.copy()?)),
+        Found::Reads(input) => input,
+    };
+    match read(alloc, name, input, state, service) {
+        Ok(got) => Ok(got),
+        Err(e) => Err(e),
+    }
+}
+
+/// Writes a record, and tells the answer.
+fn write<S: Service>(
+    unit: u64,
+    line: Line,
+    state: &Store,
+    service: &mut S,
+) -> Result<Answer, AllocError>
+    requires ready { S.ready service.old }
+    requires short { length line ≤ 1024 }
+    ensures held { IfOk result (λ answer. RunsTo S.answers (ask (request (Writing unit line) state.now)) service.old answer service.new) }
+    ensures cut { OnErr result (service.new ≡ service.old) }
+    ensures ready { S.ready service.new }
+{
+    let request = Request {
+        statement: state.statement(),
+        act: Act::Write(unit, line),
+    };
+    match service.ask_once(request) {
+        Ok(answer) => Ok(answer),
+        Err(e) => Err(e),
+    }
+}
+
+/// Writes the records of a text in their order, up to the first that is not written.
+#[tactic(auto, using(interaction::proofs::Held::talking))]
+fn write_records<S: Service>(
+    alloc: Global,
+    output: Output,
+    text: &Text,
+    state: &Store,
+    service: &mut S,
+) -> Result<Evaluated, AllocError>
+    requires { S.ready service.old }
+    ensures runs { Executes S.answers (write_all output.unit (records output.format text.now) state.now) service.old result (λ got. (got, state.now)) service.new }
+    ensures ready { S.ready service.new }
+{
+    records_follow();
+    let characters = output.format.characters() as usize;
+    let mut from = 0;
+    loop {
+        let line = output.format.record(alloc, text, from)?;
+        match write(output.unit, line, state, service)? {
+            Answer::Done => {}
+            _ => return Ok(Evaluated::Fails),
+        }
+        if text.len() - from <= characters {
+            return Ok(Evaluated::Gives(Value::null()));
+        }
+        from += characters;
+    }
+}
+
+/// Writes a value, which has to have a text.
+#[tactic(auto, using(interaction::proofs::Held::talking))]
+fn write_value<S: Service>(
+    alloc: Global,
+    output: Output,
+    value: &Value,
+    state: &Store,
+    service: &mut S,
+) -> Result<Evaluated, AllocError>
+    requires { S.ready service.old }
+    ensures runs { Executes S.answers (write_text output (text_of value.now) state.now) service.old result (λ got. (got, state.now)) service.new }
+    ensures ready { S.ready service.new }
+{
+    match value.to_text(alloc)? {
+        Some(text) => match write_records(alloc, output, &text, state, service) {
+            Ok(got) => Ok(got),
+            Err(e) => Err(e),
+        },
+        None => Ok(Evaluated::Halts(Halt::Fault(Fault::WrongType))),
+    }
+}
+
+/// Assigns a value to a variable where nothing is written, and tells whether so it is; what the variable had takes the value's
+/// place. Otherwise nothing has changed. It takes no memory.
+#[inline(always)]
+pub fn replaced(name: &Named, value: &mut Value, state: &mut Store) -> bool
+    ensures assigned { result ≡ true → assigned name.now value.old state.old ≡ Returns (Evaluated.Gives null, state.new) }
+    ensures unchanged { result ≡ false → (state.new ≡ state.old) × (value.new ≡ value.old) }
+    ensures counted { state.new.keywords.begun ≡ state.old.keywords.begun }
+{
+    state.replace(name, value)
+}
+
+/// Assigns a value to a variable: it is stored, and its records are written where the variable is associated with a unit.
+///
+/// It fails where a record is not written, and those behind it are not tried; the variable has the value then too.
+///
+/// # Errors
+///
+/// Where a growth was refused; some records may have been written then.
+#[tactic(auto, using(interaction::proofs::Held::talking))]
+pub fn assigned<S: Service>(
+    alloc: Global,
+    name: &Named,
+    value: Value,
+    state: &mut Store,
+    service: &mut S,
+) -> Result<Evaluated, AllocError>
+    requires { S.ready service.old }
+    ensures runs { Executes S.answers (assigned name.now value state.old) service.old result (λ got. (got, state.new)) service.new }
+    ensures counted { state.new.keywords.begun ≡ state.old.keywords.begun }
+    ensures ready { S.ready service.new }
+{
+    let kept = value.copy()?;
+    match state.set(name, value)? {
+        Some(output) => match write_value(alloc, output, &kept, state, service) {
+            Ok(got) => Ok(got),
+            Err(e) => Err(e),
+        },
+        None => Ok(Evaluated::Gives(Value::null())),
+    }
+}

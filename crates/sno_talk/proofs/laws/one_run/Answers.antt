@@ -1,5 +1,0 @@
-use Rattle.sno_talk.proofs.Runs.{one_run}
-use Rattle.sno_talk.proofs.laws.one_run.Goals as goal
-
-pub returns : goal.returns
-returns g c = λ one t s x y a b u v h p k q. one_run _ _ one t s x y a b u v h p k q

@@ -1,5 +1,0 @@
-use Rattle.sno_talk.proofs.Runs.{alike_first}
-use Rattle.sno_talk.proofs.laws.runs_alike.Goals as goal
-
-pub returns : goal.returns
-returns g c = λ t x y more others a b h k same. alike_first _ t x y more others a b h k same
