@@ -16,12 +16,15 @@ use crate::listing::listing_on;
 use crate::options::{Counts, Options};
 use crate::section::Section;
 use crate::serving::{put_command, put_drain, put_turns};
-use deck_syntax::{DeckError, OpenJob, OpenList, Request, ends_list, opens_accounts, put_account_line, put_catalogue_line, read_request};
+use deck_syntax::{
+    DeckError, OpenJob, OpenList, Request, ends_list, opens_accounts, put_account_line,
+    put_catalogue_line, read_request,
+};
 use mon_catalogue::{Loading, Version};
 use mon_monitor::{Monitor, Printed};
 use mon_text::{Name, Stop};
-use std::mem;
 use std::alloc::{AllocError, Global};
+use std::mem;
 
 impl Section {
     /// Takes a line, where what was collected stands: whether it ends its section or the deck. Then nothing has changed, and

@@ -13,8 +13,8 @@ ghost use Rattle.deck_driver.specs.Feeds.{outcome, refused_at, lines_loaded, is_
 
 use crate::options::{Counts, Options};
 use crate::serving::{close, put_command, put_job};
-use mon_access::Accounts;
 use deck_syntax::{DeckError, OpenJob, OpenList, finish_catalogue};
+use mon_access::Accounts;
 use mon_catalogue::{Catalogue, Loading};
 use mon_monitor::{Monitor, Printed};
 use mon_text::Stop;

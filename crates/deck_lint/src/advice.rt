@@ -1,7 +1,7 @@
 //! Codes in words.
 
-use mon_acl::{AclError, Tag};
 use deck_syntax::DeckError;
+use mon_acl::{AclError, Tag};
 use mon_text::put_number;
 use sno_syntax::SyntaxCode;
 use std::alloc::AllocError;

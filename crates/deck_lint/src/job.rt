@@ -8,9 +8,9 @@ use crate::refusals::all_refusals;
 use crate::reporter::Reporter;
 use crate::rows::put_rows;
 use crate::source_span::{NO_COLUMN, SourceSpan};
-use scheduler::{JobDeck, LoadError, UnitCard};
 use mon_text::put_number;
 use mon_unit::UnitError;
+use scheduler::{JobDeck, LoadError, UnitCard};
 use sno_syntax::SyntaxError;
 use std::alloc::{AllocError, Global};
 
@@ -135,7 +135,11 @@ fn tell_refusal(
     }
 }
 
-fn tell_no_account(desk: &mut Reporter, case: &JobCase, out: &mut Vec<u8>) -> Result<(), AllocError> {
+fn tell_no_account(
+    desk: &mut Reporter,
+    case: &JobCase,
+    out: &mut Vec<u8>,
+) -> Result<(), AllocError> {
     if !case.is_good {
         return Ok(());
     }

@@ -4,9 +4,12 @@ ghost use Rattle.sno_cards.specs.Statements.{statements_of};
 ghost use Rattle.sno_syntax.specs.Refusals.{label_of, with_label, labels_in, statement_refusal};
 ghost use Rattle.deck_lint.specs.Refused.{syntax_listed, statements_refused, end_refused, end_start, cards_refused, program_refused};
 
-use scheduler::LoadError;
 use mon_text::{Line, Stop};
-use sno_syntax::{Labels, ProgramCards, StatementText, SyntaxError, end_refusal, note_label, statement_refusal, statements};
+use scheduler::LoadError;
+use sno_syntax::{
+    Labels, ProgramCards, StatementText, SyntaxError, end_refusal, note_label, statement_refusal,
+    statements,
+};
 use sno_text::Seed;
 use std::alloc::{AllocError, Global};
 

@@ -1,8 +1,8 @@
 //! The cards of a program, also where some of them are refused.
 
 use crate::program::put_cards;
-use scheduler::LoadError;
 use mon_text::{Line, Stop, read_line};
+use scheduler::LoadError;
 use sno_syntax::{ProgramCards, SyntaxCode, SyntaxError, statements};
 use std::alloc::{AllocError, Global};
 

@@ -7,8 +7,8 @@ ghost use Rattle.deck_lint.specs.Refused.{account_refused, deck_refused, first_o
 use crate::program::put_program;
 use crate::ties::put_ties;
 use mon_access::Accounts;
-use scheduler::{JobDeck, LoadError};
 use mon_text::Name;
+use scheduler::{JobDeck, LoadError};
 use std::alloc::{AllocError, Global};
 
 // Puts that there is no account of this name, if there is none.

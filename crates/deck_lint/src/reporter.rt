@@ -3,9 +3,9 @@
 use crate::advice::{cause_of, put_cause, put_list_cause};
 use crate::column::column_of;
 use crate::source_span::{SourceSpan, put_told};
+use deck_syntax::DeckError;
 use mon_access::Accounts;
 use mon_acl::AclError;
-use deck_syntax::DeckError;
 use mon_text::Name;
 use std::alloc::{AllocError, Global};
 

@@ -3,8 +3,8 @@ ghost use Rattle.std.specs.Prelude.{◌≡◌, ◌++◌, ◌<◌, None, false, r
 ghost use Rattle.scheduler.specs.inner.Carding.{refused_by};
 ghost use Rattle.deck_lint.specs.Refused.{tie_listed, tied_after, ties_refused};
 
-use scheduler::{LoadError, UnitCard};
 use mon_unit::UnitError;
+use scheduler::{LoadError, UnitCard};
 use std::alloc::AllocError;
 
 // Why a unit can't be tied, if it can't, by which are tied already.

@@ -8,8 +8,10 @@ ghost use Rattle.deck_syntax.specs.declared.deck_error.DeckError.{DeckError as A
 ghost use Rattle.deck_report.specs.Fronts.{deck_from, refused_from, lines_loaded, deck_after, refusal_at, IfMore, ReachesStream, IsRefusedEarly};
 
 use crate::lines::first_line;
+use deck_syntax::{
+    DeckError, finish_catalogue, opens_accounts, put_account_line, put_catalogue_line,
+};
 use mon_access::Accounts;
-use deck_syntax::{DeckError, finish_catalogue, opens_accounts, put_account_line, put_catalogue_line};
 use mon_catalogue::{Catalogue, Loading};
 use mon_text::Stop;
 use std::alloc::Global;

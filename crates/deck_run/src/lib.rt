@@ -6,11 +6,11 @@ mod output;
 pub mod run;
 pub mod shortage;
 
+pub use deck_driver::{Counts, DeckFeed, Holder, Options, RunError, Slots};
 pub use deck_syntax::DeckError;
 pub use mon_device::{
     DeckDevices, DeckReader, DeckWriter, Devices, Failed, MemReader, MemWriter, StdReader,
     StdWriter, Telling,
 };
-pub use deck_driver::{Counts, DeckFeed, Holder, Options, RunError, Slots};
 pub use run::{exit_status, put_fault, run_deck, run_deck_noting};
 pub use shortage::{Shortage, put_shortage};

@@ -16,8 +16,8 @@ ghost use Rattle.deck_run.specs.Faults.{status_of, fault_line};
 
 use crate::output::{Output, write_out};
 use crate::shortage::Shortage;
-use mon_device::{DeckDevices, Failed, MOST_READS, READ_SIZE, WRITE_SIZE};
 use deck_driver::{Counts, DeckFeed, Options, RunError};
+use mon_device::{DeckDevices, Failed, MOST_READS, READ_SIZE, WRITE_SIZE};
 use mon_text::put_number;
 use std::alloc::{AllocError, Global};
 

@@ -16,7 +16,9 @@ use crate::deck_error::DeckError;
 use crate::job_deck::{JobDeck, UnitCard, UnitCards};
 use crate::job_limits::JobLimits;
 use crate::job_options::{option_number, sets_statements, sets_steps, with_option};
-use crate::words::{MOST_LINE_CHARACTERS, Words, begins_with_dollar, check_line, line_of, name_of, number_of};
+use crate::words::{
+    MOST_LINE_CHARACTERS, Words, begins_with_dollar, check_line, line_of, name_of, number_of,
+};
 use mon_text::{Line, Lines, Name, Stop};
 use std::alloc::{AllocError, Global};
 

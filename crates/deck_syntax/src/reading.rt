@@ -13,7 +13,9 @@ ghost use Rattle.std.specs.Option.{option_or};
 
 use crate::card::Card;
 use crate::deck_error::{DeckError, stop_of_account, stop_of_catalogue};
-use crate::words::{MOST_LINE_CHARACTERS, Words, begins_with_dollar, check_line, is_blank, name_of};
+use crate::words::{
+    MOST_LINE_CHARACTERS, Words, begins_with_dollar, check_line, is_blank, name_of,
+};
 use mon_access::{Account, Accounts, Groups};
 use mon_catalogue::{Catalogue, Loading, Version};
 use mon_text::Stop;
@@ -103,7 +105,11 @@ fn put_account(accounts: &mut Accounts, account: Account) -> Result<(), Stop<Dec
 }
 
 // Puts the account that these words give last in the table.
-fn add_account(alloc: Global, accounts: &mut Accounts, words: &Words<'_>) -> Result<(), Stop<DeckError>>
+fn add_account(
+    alloc: Global,
+    accounts: &mut Accounts,
+    words: &Words<'_>,
+) -> Result<(), Stop<DeckError>>
     ensures answers { Answers (account_refusal accounts.old words.now) result }
     ensures added { OnOk result (accounts.new ≡ accounts.old ++ account_on words.now ∷ []) }
     ensures unchanged { OnErr result (accounts.new ≡ accounts.old) }

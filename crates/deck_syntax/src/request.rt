@@ -17,7 +17,10 @@ use crate::card::Card;
 use crate::deck_error::DeckError;
 use crate::job::{OpenJob, read_job};
 use crate::turn::{Turn, read_turn};
-use crate::words::{MOST_LINE_CHARACTERS, Words, begins_with_dollar, check_line, from_blank, from_word, is_blank, name_of};
+use crate::words::{
+    MOST_LINE_CHARACTERS, Words, begins_with_dollar, check_line, from_blank, from_word, is_blank,
+    name_of,
+};
 use mon_acl::{AclText, Bytes};
 use mon_catalogue::{Mode, read_mode};
 use mon_command::Command;

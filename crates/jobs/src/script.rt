@@ -1,7 +1,7 @@
 //! Programs and answers, from the lines of a case.
 use anyhow::{Context, Result};
-use mon_text::{Line, LineError, Stop, read_line};
 use interaction::{Answer, Reason};
+use mon_text::{Line, LineError, Stop, read_line};
 use sno_syntax::{Program, parse, statements};
 use sno_text::Seed;
 use std::alloc::{AllocError, Global};

@@ -3,8 +3,8 @@ ghost use Rattle.std.specs.Prelude.{◌≡◌, ◌++◌, codes, decimal, OnOk};
 ghost use Rattle.std.specs.List.{flat_map};
 ghost use Rattle.jobs.specs.inner.Seen.{act_text, request_line, ending_text, end_line};
 
-use mon_text::put_number;
 use interaction::{Act, Request};
+use mon_text::put_number;
 use sno_run::Ending;
 use std::alloc::AllocError;
 

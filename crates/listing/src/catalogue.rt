@@ -1,10 +1,10 @@
 //! The catalogue of a deck, line by line. Of a data set no record is kept.
 
 use crate::stage::{Due, SetHead, Sets, Stage};
-use mon_acl::Acl;
-use deck_syntax::{DeckError, put_catalogue_line};
-use mon_catalogue::{Loading, Version};
 use deck_lint::{Reporter, first_card, is_line_code, words_of};
+use deck_syntax::{DeckError, put_catalogue_line};
+use mon_acl::Acl;
+use mon_catalogue::{Loading, Version};
 use mon_text::{LineError, Name, Stop, put_number, read_count, read_line, read_name};
 use std::alloc::{AllocError, Global};
 
@@ -258,7 +258,11 @@ fn put_within(last: &Option<SetHead>, out: &mut Vec<u8>) -> Result<(), AllocErro
 }
 
 // Appends which data set is before a line that is no card, or none that may stand there.
-fn put_behind(code: DeckError, last: &Option<SetHead>, out: &mut Vec<u8>) -> Result<(), AllocError> {
+fn put_behind(
+    code: DeckError,
+    last: &Option<SetHead>,
+    out: &mut Vec<u8>,
+) -> Result<(), AllocError> {
     match last {
         Some(head) if is_no_set(code) => {
             out.extend_from_slice(b"    behind data set ")?;

@@ -2,10 +2,10 @@
 
 use crate::catalogue::opened;
 use crate::stage::Stage;
+use deck_lint::{Reporter, first_card, is_line_code, is_stream_card};
 use deck_syntax::card::Card;
 use deck_syntax::{DeckError, opens_accounts, put_account_line};
 use mon_catalogue::Version;
-use deck_lint::{Reporter, first_card, is_line_code, is_stream_card};
 use mon_text::Stop;
 use std::alloc::{AllocError, Global};
 

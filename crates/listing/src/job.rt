@@ -2,9 +2,9 @@
 
 use crate::front::MOST_CHARACTERS;
 use crate::stage::{JobDraft, Stage};
+use deck_lint::{JobCase, Reporter, first_card, is_line_code, is_stream_card, tell_job};
 use deck_syntax::DeckError;
 use deck_syntax::card::Card;
-use deck_lint::{JobCase, Reporter, first_card, is_line_code, is_stream_card, tell_job};
 use mon_text::Stop;
 use std::alloc::{AllocError, Global};
 

@@ -3,10 +3,10 @@
 use crate::front::MOST_CHARACTERS;
 use crate::stage::Stage;
 use crate::stream::tell_list;
-use mon_acl::AclText;
+use deck_lint::{Reporter, first_card, is_line_code, is_stream_card};
 use deck_syntax::card::Card;
 use deck_syntax::{DeckError, OpenList, ends_list};
-use deck_lint::{Reporter, first_card, is_line_code, is_stream_card};
+use mon_acl::AclText;
 use mon_text::Stop;
 use std::alloc::{AllocError, Global};
 

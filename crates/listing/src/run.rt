@@ -2,15 +2,15 @@
 ghost use Rattle.std.specs.Prelude.{◌≡◌, IfSome};
 ghost use Rattle.deck_report.specs.Reports.{ReportedTo, status_of};
 
-use clap::Error;
-use clap::error::ErrorKind;
 use crate::options::{Asked, no_text, read_asked};
 use crate::streams::{ReviewFault, review_streams};
-use deck_report::{Fault, Question, report_streams};
+use clap::Error;
+use clap::error::ErrorKind;
 use deck_lint::Tally;
-use std::io;
+use deck_report::{Fault, Question, report_streams};
 use std::alloc::{AllocError, Global};
 use std::convert::AsStr;
+use std::io;
 use std::io::{Read, Write};
 
 /// The exit status where the words ask nothing.

@@ -2,13 +2,13 @@
 
 use crate::front::MOST_CHARACTERS;
 use crate::stage::{JobDraft, Stage};
-use mon_acl::AclText;
-use deck_syntax::{OpenJob, OpenList, Request, read_request};
-use deck_syntax::card::Card;
-use mon_command::Command;
 use deck_lint::{Reporter, SourceSpan, first_card, word_column, words_of};
-use scheduler::JobLimits;
+use deck_syntax::card::Card;
+use deck_syntax::{OpenJob, OpenList, Request, read_request};
+use mon_acl::AclText;
+use mon_command::Command;
 use mon_text::{Name, Stop, read_name};
+use scheduler::JobLimits;
 use std::alloc::{AllocError, Global};
 
 /// What is due behind a line of the stream.
@@ -130,7 +130,11 @@ fn open_job(
 }
 
 // What is due behind a card that is refused: the lines of a job or of a permission list may follow it all the same.
-fn after_refused_card(desk: &mut Reporter, alloc: Global, text: &[u8]) -> Result<Stage, AllocError> {
+fn after_refused_card(
+    desk: &mut Reporter,
+    alloc: Global,
+    text: &[u8],
+) -> Result<Stage, AllocError> {
     match first_card(alloc, text)? {
         Some(Card::Job) => {
             let account = name_on(alloc, text)?;

@@ -4,9 +4,9 @@ ghost use Rattle.mon_device.specs.Putting.{Puts};
 ghost use Rattle.mon_command.specs.Replies.{reason_text, reply_text, reply_line};
 
 use crate::printing::put_list_refusal;
+use interaction::Reason;
 use mon_acl::{AclError, Entry, Perms};
 use mon_device::{Sink, TextSink};
-use interaction::Reason;
 use std::alloc::AllocError;
 
 /// What a command is told in one line: that it is done, or why it is not.

@@ -19,11 +19,13 @@ ghost use Rattle.mon_guard.specs.Answers.{guard_answer, acl_answer};
 use crate::answer::{AclAnswer, Answered, Decided, guard_answer, reason_of};
 use crate::cache::DecisionCache;
 use crate::views::{AclView, NameView};
+use interaction::{Answer, Reason};
 use mon_access::{Account, Decision, check};
 use mon_acl::{Acl, AclError, AclText, Perms};
-use mon_catalogue::{Catalogue, CreateError, DataSet, MOST_RECORD_CHARACTERS, Mode, NoSet, Records, SetFull};
+use mon_catalogue::{
+    Catalogue, CreateError, DataSet, MOST_RECORD_CHARACTERS, Mode, NoSet, Records, SetFull,
+};
 use mon_text::{Line, Name, Stop};
-use interaction::{Answer, Reason};
 use std::alloc::{AllocError, Global};
 use std::marker::Model;
 

@@ -14,6 +14,6 @@ pub mod views;
 pub use answer::{AclAnswer, Answered, Decided};
 pub use cache::{CachedDecision, MOST_CACHED_DECISIONS};
 pub use guard::Guard;
-pub use mon_acl::AclText;
 pub use interaction::{Answer as GuardAnswer, Reason};
+pub use mon_acl::AclText;
 pub use views::{AclView, NameView};

@@ -14,8 +14,8 @@ use crate::monitor::Monitor;
 use crate::printed::{Piece, Printed};
 use mon_catalogue::Catalogue;
 use mon_command::Command;
-use scheduler::{JobDeck, put_refusal};
 use mon_text::{Name, Stop};
+use scheduler::{JobDeck, put_refusal};
 use std::alloc::{AllocError, Global};
 use std::rc::Rc;
 

@@ -14,6 +14,6 @@ pub mod monitor;
 pub mod printed;
 
 pub use mon_command::{Command, Printout};
-pub use scheduler::{Holder, JobDeck, JobEnd, LoadError, Turned, put_printout, put_refusal};
 pub use monitor::Monitor;
 pub use printed::Printed;
+pub use scheduler::{Holder, JobDeck, JobEnd, LoadError, Turned, put_printout, put_refusal};

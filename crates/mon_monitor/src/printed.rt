@@ -8,8 +8,8 @@ ghost use Rattle.mon_monitor.specs.Printed.{given_back, piece_text, pieces_text}
 use crate::listing::print_listing;
 use mon_catalogue::Catalogue;
 use mon_device::{Sink, TextSink};
-use scheduler::{JobEnd, print_end};
 use mon_text::Name;
+use scheduler::{JobEnd, print_end};
 use std::alloc::{AllocError, Global};
 use std::marker::Model;
 use std::rc::Rc;

@@ -8,9 +8,9 @@ use mon_acl::{Perms, Tag};
 use mon_catalogue::Version;
 use mon_guard::{Decided, GuardAnswer, Reason};
 use mon_monitor::{Monitor, Turned};
-use scheduler::{JobDeck, JobEnd, JobLimits, LoadError, UnitCard, UnitCards, put_printout};
 use mon_text::{Name, Stop, read_name};
 use mon_unit::Lines;
+use scheduler::{JobDeck, JobEnd, JobLimits, LoadError, UnitCard, UnitCards, put_printout};
 use sno_text::Seed;
 use std::alloc::Global;
 

@@ -1,7 +1,10 @@
 //! Whole runs over memory: worked decks in pieces, with each call that fails, cut anywhere; and decks that are refused.
 ghost use Rattle.std.specs.Prelude.{◌≡◌, None, false};
 
-use deck_run::{Counts, DeckError, DeckFeed, Devices, Holder, MemReader, MemWriter, Options, RunError, Shortage, exit_status, put_fault, put_shortage, run_deck};
+use deck_run::{
+    Counts, DeckError, DeckFeed, Devices, Holder, MemReader, MemWriter, Options, RunError,
+    Shortage, exit_status, put_fault, put_shortage, run_deck,
+};
 use mon_device::{DeckReader, DeckWriter, Failed, TextSink};
 use mon_monitor::Printed;
 use mon_text::{Name, read_name};
@@ -495,14 +498,26 @@ static REFUSALS: [(&[u8], u64, DeckError); 33] = [
     (b"$ACCOUNTS\n2anna admin\n", 2, DeckError::BadName),
     (b"$ACCOUNTS\nanna\tadmin\n", 2, DeckError::BadCharacter),
     (b"$ACCOUNTS\nanna\radmin\n", 2, DeckError::BadCharacter),
-    (b"$ACCOUNTS\nanna admin\nanna admin 9g\n", 3, DeckError::BadName),
-    (b"$ACCOUNTS\nanna admin\nanna ops\n", 3, DeckError::AccountTwice),
+    (
+        b"$ACCOUNTS\nanna admin\nanna admin 9g\n",
+        3,
+        DeckError::BadName,
+    ),
+    (
+        b"$ACCOUNTS\nanna admin\nanna ops\n",
+        3,
+        DeckError::AccountTwice,
+    ),
     (
         b"$ACCOUNTS\nanna admin g g g g g g g g g g g g g g g g g\n",
         2,
         DeckError::TooManyGroups,
     ),
-    (b"$ACCOUNTS\nanna admin\n$ACCOUNTS\n", 3, DeckError::OutOfPlace),
+    (
+        b"$ACCOUNTS\nanna admin\n$ACCOUNTS\n",
+        3,
+        DeckError::OutOfPlace,
+    ),
     (
         b"$ACCOUNTS\nanna admin\n$CATALOGUE\nSET X anna admin 0\n",
         4,

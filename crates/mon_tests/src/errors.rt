@@ -1,9 +1,9 @@
 //! What each error says of itself: the words of its code in docs/REFERENCE.md, without what a printout adds to them. `K2` and
 //! the fault of a device stand there in no table, since no deck brings them about.
+use deck_run::DeckError;
 use mon_access::AccountError;
 use mon_acl::{AclError, Tag};
 use mon_catalogue::{CatalogueError, CreateError, NoSet, SetFull};
-use deck_run::DeckError;
 use mon_device::Failed;
 use mon_text::{BadName, BadNumber, LineError};
 use mon_unit::UnitError;

@@ -6,16 +6,16 @@
 pub mod count;
 pub mod ended_line;
 pub mod line;
-pub mod lines;
 pub mod line_feed;
+pub mod lines;
 pub mod name;
 pub mod stop;
 mod words;
 
 pub use count::{BadNumber, put_number, read_count};
 pub use ended_line::EndedLine;
-pub use lines::Lines;
 pub use line::{Line, LineError, read_line, split_words};
 pub use line_feed::{LineFeed, MOST_KEPT_BYTES, first_line_end};
+pub use lines::Lines;
 pub use name::{BadName, Name, read_name};
 pub use stop::Stop;

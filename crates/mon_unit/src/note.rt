@@ -1,7 +1,7 @@
 //! What is noted of a job: what it was denied, and where there was no room.
 
-use mon_text::Name;
 use interaction::Reason;
+use mon_text::Name;
 
 /// What was asked.
 #[derive(Clone, Copy)]

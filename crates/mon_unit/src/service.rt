@@ -9,11 +9,11 @@ ghost use Rattle.mon_unit.specs.inner.Settling.{reach, asked, settled, target_of
 use crate::note::NoteAct;
 use crate::tie::Target;
 use crate::units::Units;
+use interaction::{Act, Answer, Reason, Request, Service};
 use mon_access::Account;
 use mon_catalogue::{Catalogue, MOST_RECORD_CHARACTERS};
 use mon_guard::{Answered, Guard};
 use mon_text::Line;
-use interaction::{Act, Answer, Reason, Request, Service};
 use std::alloc::{AllocError, Global};
 
 /// Answers an account's requests from the data sets and the units that it is lent.

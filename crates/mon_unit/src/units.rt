@@ -10,10 +10,10 @@ ghost use Rattle.mon_unit.specs.inner.Settling.{placed, settled, target_of, IsNo
 use crate::lists::Notes;
 use crate::note::{Note, NoteAct, NoteTarget, Why};
 use crate::tie::{Target, Tie};
+use interaction::{Answer, Reason};
 use mon_catalogue::PackedLines;
 use mon_guard::Answered;
 use mon_text::{Line, Lines, Name};
-use interaction::{Answer, Reason};
 use std::alloc::{AllocError, Global};
 use std::marker::Model;
 use thiserror::Error;

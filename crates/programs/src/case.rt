@@ -1,13 +1,13 @@
 //! A worked case: its cards, and what must come out.
 
-use anyhow::{Context, Result};
 use crate::answer::{put_program, put_statements_of, put_verdict};
+use anyhow::{Context, Result};
 use differences::first_difference;
 use mon_text::{Line, LineError, Stop, read_line};
 use sno_syntax::{Program, SyntaxError, parse, statements};
 use sno_text::Seed;
-use std::fs;
 use std::alloc::{AllocError, Global};
+use std::fs;
 use std::rt::Files;
 
 /// How many characters a card has at the most.

@@ -1,7 +1,9 @@
 //! A deck that is cut anywhere, or whose reader fails there: what the whole lines before that print is out, and no more.
 ghost use Rattle.std.specs.Prelude.{◌≡◌, ◌<◌, false};
 
-use deck_run::{Counts, DeckError, DeckFeed, Devices, MemReader, MemWriter, Options, RunError, run_deck};
+use deck_run::{
+    Counts, DeckError, DeckFeed, Devices, MemReader, MemWriter, Options, RunError, run_deck,
+};
 use mon_device::TextSink;
 use mon_monitor::Printed;
 use std::alloc::{AllocError, Global};

@@ -26,9 +26,9 @@ pub mod slots;
 pub mod turned;
 mod words;
 
+pub use deck_syntax::{JobDeck, JobLimits, UnitCard, UnitCards};
 pub use holder::Holder;
 pub use job_end::JobEnd;
-pub use deck_syntax::{JobDeck, JobLimits, UnitCard, UnitCards};
 pub use printing::{print_end, put_printout};
 pub use refusal::{LoadError, print_refusal, put_refusal};
 pub use slots::Slots;

@@ -14,8 +14,8 @@ ghost use Rattle.scheduler.specs.inner.Carding.{refused_by};
 
 use crate::refusal::LoadError;
 use crate::slot::Slot;
-use mon_access::{Account, Accounts};
 use deck_syntax::{JobDeck, UnitCard, UnitCards};
+use mon_access::{Account, Accounts};
 use mon_text::{Line, Stop};
 use mon_unit::{Lines, UnitError, Units};
 use sno_run::Job;

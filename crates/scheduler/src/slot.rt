@@ -13,8 +13,8 @@ use mon_catalogue::Catalogue;
 use mon_guard::Guard;
 use mon_unit::{UnitService, Units};
 use sno_run::{Ending, Job, Step, statement_turn};
-use std::mem;
 use std::alloc::Global;
+use std::mem;
 
 /// A job in a slot: its number, the account that it is for, the job itself, and its units.
 #[derive(Drop)]

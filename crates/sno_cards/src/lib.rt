@@ -4,10 +4,10 @@
 //! statement can say where it refuses it.
 #![tactic(auto)]
 
-pub mod limits;
 pub mod card;
 pub mod cutting;
 pub mod laws;
+pub mod limits;
 pub mod lines;
 pub mod program;
 pub mod reading;

@@ -13,7 +13,10 @@ ghost use Rattle.sno_expression.specs.inner.Told.{spine_tree, hole_of, stack_of,
 use crate::growing::{add_argument, omit_argument, tree_of, with_prefix};
 use crate::pushing::{alone, closed as closed_tree, push};
 use crate::spine::Spine;
-use crate::tree::{Arguments, BinaryOperator, Call, Expression, IdentifierPrefix, Prefix, TableItem, UnaryOperator, operator_of, prefix_of};
+use crate::tree::{
+    Arguments, BinaryOperator, Call, Expression, IdentifierPrefix, Prefix, TableItem,
+    UnaryOperator, operator_of, prefix_of,
+};
 use crate::walking::{Paren, opens_bracket, stops};
 use sno_lexer::{Characters, Constant, Mark, Token, TokenKind, Word};
 use std::alloc::{AllocError, Global};

@@ -11,8 +11,8 @@ ghost use Rattle.sno_pattern.specs.inner.Stack.{waiting_of, AllWithin, Led};
 
 use crate::trail::{Kind, Role, Trail};
 use memchr::memchr;
-use sno_text::{Fault, Node};
 use sno_text::reach::{misses, next_balanced};
+use sno_text::{Fault, Node};
 use std::alloc::AllocError;
 use std::rc::Rc;
 

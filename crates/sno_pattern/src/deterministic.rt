@@ -7,8 +7,8 @@ ghost use Rattle.sno_pattern.specs.Steps.{Goal as Aim, Meet, Success, ends, outc
 
 use crate::consuming::part_of;
 use crate::ending::Pending;
-use sno_text::{Node, Text};
 use sno_text::reach::{Reach, reached};
+use sno_text::{Node, Text};
 use std::alloc::{AllocError, Global};
 
 /// Where a part of a pattern ends, and the steps that are left.

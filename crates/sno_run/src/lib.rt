@@ -18,7 +18,7 @@ mod machine;
 mod turning;
 
 pub use ending::{Ending, Step};
-pub use machine::run_line;
 pub use interaction::{Act, Answer, Request, Script, Service};
+pub use machine::run_line;
 pub use sno_state::Limits;
 pub use turning::{Job, statement_turn};

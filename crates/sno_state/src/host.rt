@@ -9,8 +9,8 @@ ghost use Rattle.sno_state.specs.inner.Telling.{Looks, StateTells, StateBroken};
 
 use crate::using::{assigned, used};
 use interaction::Service;
-use sno_semantics::{Evaluated, Halt};
 use sno_pattern::{Looked, MatchHost, Stop, Taken};
+use sno_semantics::{Evaluated, Halt};
 use sno_store::{Found, Store};
 use sno_text::{Fault, Named, Text};
 use sno_value::Value;

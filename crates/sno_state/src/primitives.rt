@@ -12,10 +12,10 @@ ghost use Rattle.sno_state.specs.Asking.{asked, changed_by};
 ghost use Rattle.sno_store.specs.States.{new_table, with_new_table};
 ghost use Rattle.sno_state.specs.Primitives.{state_changed, on_unit, state_function_done, on_values, primitive};
 
-use mon_text::Stop;
 use interaction::{Act, Answer, Request, Service};
-use sno_semantics::{Evaluated, Halt, got_of};
+use mon_text::Stop;
 use sno_declarations::unit_in;
+use sno_semantics::{Evaluated, Halt, got_of};
 use sno_store::{Callee, Change, StateFunction, Store};
 use sno_text::Fault;
 use sno_value::Value;
@@ -101,7 +101,11 @@ fn ask_for<S: Service>(act: Act, state: &Store, service: &mut S) -> Result<Evalu
 
 /// Asks for an act on the unit that an argument tells.
 #[tactic(auto, using(interaction::proofs::Held::talking))]
-fn endfile<S: Service>(unit: &Value, state: &Store, service: &mut S) -> Result<Evaluated, AllocError>
+fn endfile<S: Service>(
+    unit: &Value,
+    state: &Store,
+    service: &mut S,
+) -> Result<Evaluated, AllocError>
     requires { S.ready service.old }
     ensures runs { Executes S.answers (on_unit Ending (unit_in unit.now) state.now) service.old result (λ got. (got, state.now)) service.new }
     ensures ready { S.ready service.new }

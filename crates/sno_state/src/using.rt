@@ -11,11 +11,11 @@ ghost use Rattle.sno_store.specs.States.{kept_of};
 ghost use Rattle.sno_state.specs.Asking.{request};
 ghost use Rattle.sno_state.specs.Using.{stored, used_by, used, write_all, write_text, assigned};
 
-use mon_text::Line;
 use interaction::{Act, Answer, Request, Service};
-use sno_semantics::{Evaluated, Halt};
+use mon_text::Line;
 use sno_declarations::laws::records_follow;
 use sno_declarations::{Input, Output};
+use sno_semantics::{Evaluated, Halt};
 use sno_store::{Found, Store};
 use sno_text::{Fault, Named, Text};
 use sno_value::Value;

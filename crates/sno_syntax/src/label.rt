@@ -9,8 +9,8 @@ ghost use Rattle.sno_syntax.specs.Labels.{is_bad_label, is_end, is_kept, label_f
 use indexmap::IndexMap;
 use sno_cards::SyntaxCode;
 use sno_text::Seed;
-use std::array;
 use std::alloc::{AllocError, Global};
+use std::array;
 use std::cell::Cell;
 use std::marker::Model;
 

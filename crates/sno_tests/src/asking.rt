@@ -1,6 +1,6 @@
 //! A script answers in its order, where memory is there: no clause can say that it is.
-use mon_text::{Line, read_line};
 use interaction::{Act, Answer, Request, Script, Service};
+use mon_text::{Line, read_line};
 use std::alloc::Global;
 
 fn line_of(alloc: Global, text: &[u8]) -> Option<Line> {

@@ -25,6 +25,8 @@ pub use calculating::{Operation, affirm, arith, negate};
 pub use joining::{alternate, concat};
 pub use key::{Key, Place, place_of};
 pub use outcome::Outcome;
-pub use primitive::{CharacterPattern, Comparison, NumberPattern, Primitive, argument, primitive_named};
+pub use primitive::{
+    CharacterPattern, Comparison, NumberPattern, Primitive, argument, primitive_named,
+};
 pub use tables::{MOST_ITEMS, MOST_TABLES, Tables};
 pub use value::Value;

@@ -21,9 +21,9 @@ use indexmap::IndexMap;
 use sno_declarations::{Bindings, Input, Output, Prototype};
 use sno_text::{Name, Named, Seed, Text};
 use sno_value::Value;
-use std::mem;
 use std::alloc::{AllocError, Global};
 use std::marker::Model;
+use std::mem;
 
 /// Variables in the order in which they were first named, no two of one name. None is ever taken out, so that a place stays.
 #[derive(Drop)]

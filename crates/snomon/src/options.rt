@@ -4,8 +4,8 @@ ghost use Rattle.clap.specs.Words.{app_of, found_of, kind_of, one_text};
 ghost use Rattle.deck_driver.specs.declared.options.Options.{Options};
 ghost use Rattle.snomon.specs.CommandLine.{Gives, Writes, snomon};
 
-use clap::{Arg, ArgAction, ArgMatches, Command, Error};
 use clap::error::ErrorKind;
+use clap::{Arg, ArgAction, ArgMatches, Command, Error};
 use deck_driver::{Options, Slots};
 use sno_text::Seed;
 use std::alloc::{AllocError, Global};

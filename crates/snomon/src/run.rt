@@ -6,15 +6,15 @@ ghost use Rattle.snomon.specs.Streams.{told_since};
 ghost use Rattle.snomon.specs.Endings.{Ends, Tells};
 ghost use Rattle.snomon.specs.CommandLine.{Gives};
 
-use clap::Error;
-use clap::error::ErrorKind;
 use crate::options::{no_text, read_options};
 use crate::shell::{Ended, finish, refuse, run_options};
+use clap::Error;
+use clap::error::ErrorKind;
 use deck_driver::{Options, RunError};
 use sno_text::Seed;
-use std::io;
 use std::alloc::{AllocError, Global};
 use std::convert::AsStr;
+use std::io;
 use std::io::{Read, Write};
 
 /// Runs the deck that comes from one stream as these words say, writes its output to another, and tells on a third what went wrong.

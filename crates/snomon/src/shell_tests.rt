@@ -2,8 +2,8 @@
 //! is told, since a stream may fail; nor that one is answered only where a stream failed.
 use crate::shell::{finish, refuse, run_options};
 use deck_run::{Options, RunError, Shortage};
-use std::io;
 use std::alloc::Global;
+use std::io;
 use std::io::{ErrorKind, Read, Write};
 
 /// The shortest good deck.
