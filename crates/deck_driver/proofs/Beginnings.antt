@@ -20,8 +20,8 @@ begins_further a b c x y = (x.0 ++ y.0, y.1 ∙ ap (λ v. v ++ y.0) x.1 ∙ appe
 
 -- no line is printed where none is left
 pub nothing_printed : (options : Options) (jobs : ℕ) (m : Marks) (s : DeckState) (n : ℕ) → (outcome options jobs m s n []).written ≡ []
-nothing_printed options jobs m (state.Reading stage) n =
-    ap (λ (o : Outcome). o.written) (ap (outcome_of options.check jobs m) (ends_here options.slots.number stage n) ∙ outcome_refused options.check options.slots.number jobs m stage n Truncated)
+nothing_printed options jobs m (state.Reading section) n =
+    ap (λ (o : Outcome). o.written) (ap (outcome_of options.check jobs m) (ends_here options.slots.number section n) ∙ outcome_refused options.check options.slots.number jobs m section n Truncated)
 nothing_printed options jobs m (state.Stopped w) n = refl
 nothing_printed options jobs m (state.Refused k code) n = refl
 nothing_printed options jobs m state.NoMemory n = refl

@@ -17,7 +17,7 @@ use Rattle.deck_syntax.specs.declared.request.Request.{Request}
 use Rattle.deck_syntax.specs.Sections.{Closed, InList, InJob, refused_early, requested, asked_then, stream_section}
 use Rattle.deck_driver.specs.declared.options.Options.{Options}
 use Rattle.deck_driver.specs.declared.section.Section.{Section}
-use Rattle.deck_driver.specs.declared.section.Section.TheVariants as stage
+use Rattle.deck_driver.specs.declared.section.Section.TheVariants as section
 use Rattle.deck_driver.specs.declared.section.DeckState.{DeckState}
 use Rattle.deck_driver.specs.declared.section.DeckState.TheVariants as state
 use Rattle.deck_driver.specs.RunStates.{over, opening}
@@ -26,28 +26,28 @@ use Rattle.std.specs.Option.{option_or}
 use Rattle.deck_syntax.proofs.Shorthand.{goes_on, deck_goes_on}
 
 -- a deck that is refused where nothing was asked
-pub outcome_refused : (check : Bool) (slots jobs : ℕ) (m : Marks) (stage : Section) (n : ℕ) (code : DeckError) → outcome_of check jobs m (refused_from slots stage n code) ≡ refused_at n code
-outcome_refused true slots jobs m stage.Opening n code = refl
-outcome_refused true slots jobs m (stage.Accounts accounts) n code = refl
-outcome_refused true slots jobs m (stage.Catalogue accounts progress) n code = refl
-outcome_refused true slots jobs m (stage.Stream w) n code = refl
-outcome_refused true slots jobs m (stage.List w list) n code = refl
-outcome_refused true slots jobs m (stage.Job w job) n code = refl
-outcome_refused false slots jobs m stage.Opening n code = refl
-outcome_refused false slots jobs m (stage.Accounts accounts) n code = refl
-outcome_refused false slots jobs m (stage.Catalogue accounts progress) n code = refl
-outcome_refused false slots jobs m (stage.Stream w) n code = refl
-outcome_refused false slots jobs m (stage.List w list) n code = refl
-outcome_refused false slots jobs m (stage.Job w job) n code = refl
+pub outcome_refused : (check : Bool) (slots jobs : ℕ) (m : Marks) (section : Section) (n : ℕ) (code : DeckError) → outcome_of check jobs m (refused_from slots section n code) ≡ refused_at n code
+outcome_refused true slots jobs m section.Opening n code = refl
+outcome_refused true slots jobs m (section.Accounts accounts) n code = refl
+outcome_refused true slots jobs m (section.Catalogue accounts progress) n code = refl
+outcome_refused true slots jobs m (section.Stream w) n code = refl
+outcome_refused true slots jobs m (section.List w list) n code = refl
+outcome_refused true slots jobs m (section.Job w job) n code = refl
+outcome_refused false slots jobs m section.Opening n code = refl
+outcome_refused false slots jobs m (section.Accounts accounts) n code = refl
+outcome_refused false slots jobs m (section.Catalogue accounts progress) n code = refl
+outcome_refused false slots jobs m (section.Stream w) n code = refl
+outcome_refused false slots jobs m (section.List w list) n code = refl
+outcome_refused false slots jobs m (section.Job w job) n code = refl
 
 -- the deck ends here
-pub ends_here : (slots : ℕ) (stage : Section) (n : ℕ) → run_state_from slots stage n [] ≡ refused_from slots stage n Truncated
-ends_here slots stage.Opening n = refl
-ends_here slots (stage.Accounts accounts) n = refl
-ends_here slots (stage.Catalogue accounts progress) n = refl
-ends_here slots (stage.Stream w) n = refl
-ends_here slots (stage.List w list) n = refl
-ends_here slots (stage.Job w job) n = refl
+pub ends_here : (slots : ℕ) (section : Section) (n : ℕ) → run_state_from slots section n [] ≡ refused_from slots section n Truncated
+ends_here slots section.Opening n = refl
+ends_here slots (section.Accounts accounts) n = refl
+ends_here slots (section.Catalogue accounts progress) n = refl
+ends_here slots (section.Stream w) n = refl
+ends_here slots (section.List w list) n = refl
+ends_here slots (section.Job w job) n = refl
 
 -- a line that is longer than any may be
 pub too_long : (limit : ℕ) (line : List ℕ) → limit < 5001 → 5000 < length line → line_refusal limit line ≡ Some LineTooLong
@@ -74,16 +74,16 @@ stops_at : (slots : ℕ) (refusal later : Option DeckError) (code : DeckError) (
     → refusal ≡ Some code → opening slots (deck_goes_on (option_or refusal later) n accounts rest) ≡ opening slots (refused_early n code accounts)
 stops_at slots refusal later code n accounts rest e = ap (λ r. opening slots (deck_goes_on (option_or r later) n accounts rest)) e
 
-pub long_refused : (slots : ℕ) (stage : Section) (n : ℕ) (line : List ℕ) (ls : List (List ℕ)) → 5000 < length line → run_state_from slots stage n (line ∷ ls) ≡ refused_from slots stage n LineTooLong
-long_refused slots stage.Opening n line ls long = stops_at slots _ _ LineTooLong n _ _ (too_long 200 line (omega arith) long)
-long_refused slots (stage.Accounts accounts) n line ls long = stops_at slots _ _ LineTooLong n _ _ (too_long 200 line (omega arith) long)
-long_refused slots (stage.Catalogue accounts progress) n line ls long = stops_at slots _ _ LineTooLong n _ _ (too_long 5000 line (omega arith) long)
-long_refused slots (stage.Stream w) n line ls long =
+pub long_refused : (slots : ℕ) (section : Section) (n : ℕ) (line : List ℕ) (ls : List (List ℕ)) → 5000 < length line → run_state_from slots section n (line ∷ ls) ≡ refused_from slots section n LineTooLong
+long_refused slots section.Opening n line ls long = stops_at slots _ _ LineTooLong n _ _ (too_long 200 line (omega arith) long)
+long_refused slots (section.Accounts accounts) n line ls long = stops_at slots _ _ LineTooLong n _ _ (too_long 200 line (omega arith) long)
+long_refused slots (section.Catalogue accounts progress) n line ls long = stops_at slots _ _ LineTooLong n _ _ (too_long 5000 line (omega arith) long)
+long_refused slots (section.Stream w) n line ls long =
     ap (λ r. over (system_of w) (goes_on (option_or r (stream_refusal line)) n (requested (request_on line) (λ pending. stream_section (n + 1) pending ls)))) (too_long 200 line (omega arith) long)
-long_refused slots (stage.List w list) n line ls long =
+long_refused slots (section.List w list) n line ls long =
     ap (λ r. over (system_of w) (goes_on r n (if is_dollar_line line then asked_then (Commands (set_acl_of list)) (stream_section (n + 1) Closed ls) else stream_section (n + 1) (InList (with_line list line)) ls)))
     (list_too_long line long)
-long_refused slots (stage.Job w job) n line ls long =
+long_refused slots (section.Job w job) n line ls long =
     ap (λ r. over (system_of w) (goes_on r n (if ends_job line then asked_then (Enters job) (stream_section (n + 1) Closed ls) else stream_section (n + 1) (InJob (after_job_line job line)) ls)))
     (first_refused _ _ LineTooLong (too_long 200 line (omega arith) long))
 
@@ -93,10 +93,10 @@ alike options jobs m s n xs ys (inl same) = ap (outcome options jobs m s n) same
 alike options jobs m (state.Stopped w) n xs ys (inr long) = refl
 alike options jobs m (state.Refused k code) n xs ys (inr long) = refl
 alike options jobs m state.NoMemory n xs ys (inr long) = refl
-alike options jobs m (state.Reading stage) n [] ys (inr long) = absurd long
-alike options jobs m (state.Reading stage) n (x ∷ xs) [] (inr long) = absurd long
-alike options jobs m (state.Reading stage) n (x ∷ xs) (y ∷ ys) (inr long) =
-    ap (outcome_of options.check jobs m) (long_refused options.slots.number stage n x xs long.0 ∙ sym (long_refused options.slots.number stage n y ys long.1))
+alike options jobs m (state.Reading section) n [] ys (inr long) = absurd long
+alike options jobs m (state.Reading section) n (x ∷ xs) [] (inr long) = absurd long
+alike options jobs m (state.Reading section) n (x ∷ xs) (y ∷ ys) (inr long) =
+    ap (outcome_of options.check jobs m) (long_refused options.slots.number section n x xs long.0 ∙ sym (long_refused options.slots.number section n y ys long.1))
 
 -- what a good line of the stream asks for
 pub line_asks : (n : ℕ) (line : List ℕ) (ls : List (List ℕ)) (r : Request) → option_or (line_refusal 200 line) (stream_refusal line) ≡ None → r ≡ request_on line

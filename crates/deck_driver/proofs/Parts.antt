@@ -187,7 +187,7 @@ some_taken (Ok taken) piece full is = some_used piece taken.0 full is
 some_taken (Err e) piece full is = tt
 
 -- a line has ended, and what was taken told none: then it is longer than any may be
-module _ (options : Options) (jobs : ℕ) (m : Marks) (stage : Section) (n : ℕ) (old front new : List ℕ) (used : ℕ)
+module _ (options : Options) (jobs : ℕ) (m : Marks) (section : Section) (n : ℕ) (old front new : List ℕ) (used : ℕ)
     (open_old : has_no_end old ≡ true) (open_new : has_no_end new ≡ true) (open_front : has_no_end front ≡ true) where
   ended_line : (bytes : List ℕ) → lines (old ++ ((front ++ 10 ∷ []) ++ bytes)) ≡ strip_carriage_return (old ++ front) ∷ lines bytes
   ended_line bytes =
@@ -210,24 +210,24 @@ module _ (options : Options) (jobs : ℕ) (m : Marks) (stage : Section) (n : ℕ
       by (inr both) = both.1
 
   late : Takes old (front ++ 10 ∷ []) used None new → (bytes : List ℕ)
-      → outcome options jobs m (state.Reading stage) n (lines (old ++ ((front ++ 10 ∷ []) ++ bytes))) ≡ refused_at n LineTooLong
+      → outcome options jobs m (state.Reading section) n (lines (old ++ ((front ++ 10 ∷ []) ++ bytes))) ≡ refused_at n LineTooLong
   late taken bytes =
-      ap (outcome options jobs m (state.Reading stage) n) (ended_line bytes)
-      ∙ ap (outcome_of options.check jobs m) (long_refused options.slots.number stage n (strip_carriage_return (old ++ front)) (lines bytes) (long taken))
-      ∙ outcome_refused options.check options.slots.number jobs m stage n LineTooLong
+      ap (outcome options jobs m (state.Reading section) n) (ended_line bytes)
+      ∙ ap (outcome_of options.check jobs m) (long_refused options.slots.number section n (strip_carriage_return (old ++ front)) (lines bytes) (long taken))
+      ∙ outcome_refused options.check options.slots.number jobs m section n LineTooLong
 
 -- and so the deck is refused, whatever follows
-pub told_late : (options : Options) (m : Marks) (stage : Section) (s : DeckState) (n : ℕ) (counts : Counts) (out old piece new : List ℕ) (u k : ℕ)
-    → s ≡ state.Reading stage → has_no_end old ≡ true → has_no_end new ≡ true → Part (take u piece) → (has_no_end (take u piece) ≡ true → ⊥) → Takes old (take u piece) k None new
+pub told_late : (options : Options) (m : Marks) (section : Section) (s : DeckState) (n : ℕ) (counts : Counts) (out old piece new : List ℕ) (u k : ℕ)
+    → s ≡ state.Reading section → has_no_end old ≡ true → has_no_end new ≡ true → Part (take u piece) → (has_no_end (take u piece) ≡ true → ⊥) → Takes old (take u piece) k None new
     → (bytes : List ℕ) → behind out counts (refused_at n LineTooLong) ≡ behind out counts (outcome options counts.jobs m s n (lines (old ++ (piece ++ bytes))))
-told_late options m stage s n counts out old piece new u k is open_old open_new part ended taken bytes =
+told_late options m section s n counts out old piece new u k is open_old open_new part ended taken bytes =
     by part
     ∙ ap (λ (v : DeckState). behind out counts (outcome options counts.jobs m v n (lines (old ++ (take u piece ++ (drop u piece ++ bytes)))))) (sym is)
     ∙ ap (λ v. behind out counts (outcome options counts.jobs m s n (lines (old ++ v)))) (rejoined u piece bytes)
   where
-    by : Part (take u piece) → behind out counts (refused_at n LineTooLong) ≡ behind out counts (outcome options counts.jobs m (state.Reading stage) n (lines (old ++ (take u piece ++ (drop u piece ++ bytes)))))
+    by : Part (take u piece) → behind out counts (refused_at n LineTooLong) ≡ behind out counts (outcome options counts.jobs m (state.Reading section) n (lines (old ++ (take u piece ++ (drop u piece ++ bytes)))))
     by (Open open_part) = absurd (ended open_part)
     by (Ended front are open_front) =
         let taken_so = subst (λ (v : List ℕ). Takes old v k None new) are taken in
-        ap (behind out counts) (sym (late options counts.jobs m stage n old front new k open_old open_new open_front taken_so (drop u piece ++ bytes)))
-        ∙ ap (λ v. behind out counts (outcome options counts.jobs m (state.Reading stage) n (lines (old ++ (v ++ (drop u piece ++ bytes)))))) (sym are)
+        ap (behind out counts) (sym (late options counts.jobs m section n old front new k open_old open_new open_front taken_so (drop u piece ++ bytes)))
+        ∙ ap (λ v. behind out counts (outcome options counts.jobs m (state.Reading section) n (lines (old ++ (v ++ (drop u piece ++ bytes)))))) (sym are)

@@ -13,7 +13,7 @@ use Rattle.deck_syntax.specs.Sections.{Closed, asked_then, stopped, requested, s
 use Rattle.deck_driver.specs.declared.options.Counts.{Counts}
 use Rattle.deck_driver.specs.declared.options.Options.{Options}
 use Rattle.deck_driver.specs.declared.section.Section.{Section}
-use Rattle.deck_driver.specs.declared.section.Section.TheVariants as stage
+use Rattle.deck_driver.specs.declared.section.Section.TheVariants as section
 use Rattle.deck_driver.specs.declared.section.DeckState.{DeckState}
 use Rattle.deck_driver.specs.declared.section.DeckState.TheVariants as state
 use Rattle.deck_driver.specs.RunStates.{RunState, over, nothing_counted, both_counted}
@@ -33,7 +33,7 @@ unmoved options s s' line out counts same = record {
 }
 
 -- what a good line of the stream asks for
-pub asks_in : (slots : ℕ) (s : Section) (w : Monitor) (line : List ℕ) (q r : Request) → s ≡ stage.Stream w → option_or (line_refusal 200 line) (stream_refusal line) ≡ None → q ≡ request_on line → q ≡ r
+pub asks_in : (slots : ℕ) (s : Section) (w : Monitor) (line : List ℕ) (q r : Request) → s ≡ section.Stream w → option_or (line_refusal 200 line) (stream_refusal line) ≡ None → q ≡ request_on line → q ≡ r
     → (n : ℕ) → (ls : List (List ℕ)) → run_state_from slots s n (line ∷ ls) ≡ over (system_of w) (requested r (λ pending. stream_section (n + 1) pending ls))
 asks_in slots s w line q r here good is same n ls = ap (λ (v : Section). run_state_from slots v n (line ∷ ls)) here ∙ ap (over (system_of w)) (line_asks n line ls r good (sym same ∙ is))
 
@@ -41,7 +41,7 @@ asks_in slots s w line q r here good is same n ls = ap (λ (v : Section). run_st
 pub card_taken : (options : Options) (s : Section) (w w' : Monitor) (line before after : List ℕ) (counts counts' : Counts) (one : Asked)
     → ((n : ℕ) → (ls : List (List ℕ)) → run_state_from options.slots.number s n (line ∷ ls) ≡ over (system_of w) (asked_then one (stream_section (n + 1) Closed ls)))
     → Served options.check one (system_of w) before counts (system_of w') after counts'
-    → TookLine options (state.Reading s) line before counts (state.Reading (stage.Stream w')) after counts'
+    → TookLine options (state.Reading s) line before counts (state.Reading (section.Stream w')) after counts'
 card_taken options s w w' line before after counts counts' one asks served = record {
   marks = served.marks;
   is = λ rest n ls.
@@ -67,7 +67,7 @@ moved options s t t' out counts here same = record {
 }
 
 -- `$STOP` came
-pub stopped_on : (options : Options) (s : DeckState) (w : Monitor) (sets : Rc Sets Global) (before after : List ℕ) (counts : Counts) → s ≡ state.Reading (stage.Stream w)
+pub stopped_on : (options : Options) (s : DeckState) (w : Monitor) (sets : Rc Sets Global) (before after : List ℕ) (counts : Counts) → s ≡ state.Reading (section.Stream w)
     → Stopping options.check counts.jobs (system_of w) before sets.value after
     → MovedOn options s before counts (state.Stopped sets) after counts
 stopped_on options s w sets before after counts here stopping = record {

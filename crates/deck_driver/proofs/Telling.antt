@@ -54,11 +54,11 @@ abbrev pub of_answer : Result Counts RunError → Outcome
 of_answer (Err (DeckRefused n code)) = refused_at n code
 of_answer _ = refused_at 0 Truncated
 
-pub reading_ends : (options : Options) (jobs : ℕ) (marks : Marks) (stage : Section) (n m : ℕ) (code : DeckError) (answer : Result Counts RunError)
-    → answer ≡ Err (DeckRefused n Truncated) → answer ≡ Err (DeckRefused m code) → outcome options jobs marks (state.Reading stage) n [] ≡ refused_at m code
-reading_ends options jobs marks stage n m code answer is refused =
-    ap (outcome_of options.check jobs marks) (ends_here options.slots.number stage n)
-    ∙ outcome_refused options.check options.slots.number jobs marks stage n Truncated
+pub reading_ends : (options : Options) (jobs : ℕ) (marks : Marks) (section : Section) (n m : ℕ) (code : DeckError) (answer : Result Counts RunError)
+    → answer ≡ Err (DeckRefused n Truncated) → answer ≡ Err (DeckRefused m code) → outcome options jobs marks (state.Reading section) n [] ≡ refused_at m code
+reading_ends options jobs marks section n m code answer is refused =
+    ap (outcome_of options.check jobs marks) (ends_here options.slots.number section n)
+    ∙ outcome_refused options.check options.slots.number jobs marks section n Truncated
     ∙ ap of_answer (sym is ∙ refused)
 
 pub behind_refused : (out : List ℕ) (counts : Counts) (n : ℕ) (code : DeckError) → behind out counts (refused_at n code) ≡ record { written = out; conclusion = Bad n code }

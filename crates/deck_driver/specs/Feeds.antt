@@ -1,4 +1,4 @@
--- What comes of a deck from the middle of it on: what was read so far is a stage, and the lines that are left are a deck
+-- What comes of a deck from the middle of it on: what was read so far is a section, and the lines that are left are a deck
 -- by the same sections, over the system as it stands.
 use Rattle.std.specs.Prelude.{◌≡◌, ℕ, ◌==◌, Bool, true, false, not, List, [], ◌++◌, length, Option, Some, None, Result, Ok, Err, if◌then◌else◌}
 use Rattle.mon_catalogue.specs.Sets.{Sets}
@@ -14,7 +14,7 @@ use Rattle.mon_text.specs.Feeding.{taken_of}
 use Rattle.mon_text.specs.declared.stop.Stop.{Stop}
 use Rattle.mon_text.specs.declared.stop.Stop.TheVariants as stop
 use Rattle.deck_driver.specs.declared.section.Section.{Section}
-use Rattle.deck_driver.specs.declared.section.Section.TheVariants as stage
+use Rattle.deck_driver.specs.declared.section.Section.TheVariants as section
 use Rattle.deck_driver.specs.declared.section.DeckState.{DeckState}
 use Rattle.deck_driver.specs.declared.section.DeckState.TheVariants as state
 use Rattle.deck_syntax.specs.Decks.{Ending, Stopped, Refused}
@@ -24,21 +24,21 @@ use Rattle.deck_driver.specs.Printouts.{answer_to, ReadsBack}
 
 -- the state of the run that the lines from number n on make, where there are so many slots
 abbrev pub run_state_from : ℕ → Section → ℕ → List (List ℕ) → RunState
-run_state_from slots stage.Opening n ls = opening slots (opening_section n ls)
-run_state_from slots (stage.Accounts accounts) n ls = opening slots (accounts_section n accounts ls)
-run_state_from slots (stage.Catalogue accounts progress) n ls = opening slots (catalogue_section n accounts progress ls)
-run_state_from slots (stage.Stream w) n ls = over (system_of w) (stream_section n Closed ls)
-run_state_from slots (stage.List w list) n ls = over (system_of w) (stream_section n (InList list) ls)
-run_state_from slots (stage.Job w job) n ls = over (system_of w) (stream_section n (InJob job) ls)
+run_state_from slots section.Opening n ls = opening slots (opening_section n ls)
+run_state_from slots (section.Accounts accounts) n ls = opening slots (accounts_section n accounts ls)
+run_state_from slots (section.Catalogue accounts progress) n ls = opening slots (catalogue_section n accounts progress ls)
+run_state_from slots (section.Stream w) n ls = over (system_of w) (stream_section n Closed ls)
+run_state_from slots (section.List w list) n ls = over (system_of w) (stream_section n (InList list) ls)
+run_state_from slots (section.Job w job) n ls = over (system_of w) (stream_section n (InJob job) ls)
 
 -- the state of the run that line n ends by a refusal
 abbrev pub refused_from : ℕ → Section → ℕ → DeckError → RunState
-refused_from slots stage.Opening n code = opening slots (refused_early n code [])
-refused_from slots (stage.Accounts accounts) n code = opening slots (refused_early n code accounts)
-refused_from slots (stage.Catalogue accounts progress) n code = opening slots (refused_early n code accounts)
-refused_from slots (stage.Stream w) n code = over (system_of w) (refused_on_line n code)
-refused_from slots (stage.List w list) n code = over (system_of w) (refused_on_line n code)
-refused_from slots (stage.Job w job) n code = over (system_of w) (refused_on_line n code)
+refused_from slots section.Opening n code = opening slots (refused_early n code [])
+refused_from slots (section.Accounts accounts) n code = opening slots (refused_early n code accounts)
+refused_from slots (section.Catalogue accounts progress) n code = opening slots (refused_early n code accounts)
+refused_from slots (section.Stream w) n code = over (system_of w) (refused_on_line n code)
+refused_from slots (section.List w list) n code = over (system_of w) (refused_on_line n code)
+refused_from slots (section.Job w job) n code = over (system_of w) (refused_on_line n code)
 
 -- how a deck came out: so many jobs and commands and these data sets, or refused at a line
 pub data Conclusion : Type 0 where
@@ -79,12 +79,12 @@ error_at _ = None
 
 -- whether a deck is still read
 abbrev pub is_reading : DeckState → Bool
-is_reading (state.Reading stage) = true
+is_reading (state.Reading section) = true
 is_reading _ = false
 
 -- whether these bytes may take memory: none may behind `$STOP` or a refusal, and want of memory is told again
 abbrev pub may_grow : DeckState → List ℕ → Bool
-may_grow (state.Reading stage) bytes = not (length bytes == 0)
+may_grow (state.Reading section) bytes = not (length bytes == 0)
 may_grow (state.Stopped sets) bytes = false
 may_grow (state.Refused n code) bytes = false
 may_grow state.NoMemory bytes = true
@@ -107,7 +107,7 @@ fault_at n stop.Memory = Memory
 
 -- what comes of the lines from number n on, behind so many jobs
 abbrev pub outcome : Options → ℕ → Marks → DeckState → ℕ → List (List ℕ) → Outcome
-outcome options jobs m (state.Reading stage) n ls = outcome_of options.check jobs m (run_state_from options.slots.number stage n ls)
+outcome options jobs m (state.Reading section) n ls = outcome_of options.check jobs m (run_state_from options.slots.number section n ls)
 outcome options jobs m (state.Stopped sets) n ls = record { written = []; conclusion = Good nothing_counted sets.value }
 outcome options jobs m (state.Refused k code) n ls = refused_at k code
 outcome options jobs m state.NoMemory n ls = record { written = []; conclusion = Good nothing_counted [] }
@@ -132,7 +132,7 @@ OnAnswer (Err _) P = Unit {0}
 
 -- how many lines of the catalogue were taken, where it is still read
 abbrev pub lines_loaded : DeckState → ℕ
-lines_loaded (state.Reading (stage.Catalogue accounts progress)) = lines_taken progress
+lines_loaded (state.Reading (section.Catalogue accounts progress)) = lines_taken progress
 lines_loaded _ = 0
 
 -- a deck that was run to its end has written data sets that are read back

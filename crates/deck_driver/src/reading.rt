@@ -7,7 +7,7 @@ ghost use Rattle.deck_syntax.specs.Requests.{opened, set_acl_of};
 ghost use Rattle.deck_syntax.specs.Sections.{Closed, InList, asked_then, stream_section, refused_on_line};
 ghost use Rattle.deck_syntax.specs.inner.Stops.{IfRefused};
 ghost use Rattle.mon_monitor.specs.declared.monitor.Monitor.{Monitor as AnyMonitor};
-ghost use Rattle.deck_driver.specs.declared.section.Section.TheVariants as stages;
+ghost use Rattle.deck_driver.specs.declared.section.Section.TheVariants as sections;
 ghost use Rattle.deck_driver.specs.declared.section.DeckState.TheVariants as states;
 ghost use Rattle.deck_driver.specs.Feeds.{run_state_from, refused_from, lines_loaded};
 ghost use Rattle.deck_driver.specs.inner.Lines.{TookLine, EndsSection, IsStream};
@@ -123,11 +123,11 @@ impl Section {
         }
     }
 
-    // Behind the accounts the catalogue follows. This and the next two stay calls, since the room for a stage is cleared where
+    // Behind the accounts the catalogue follows. This and the next two stay calls, since the room for a section is cleared where
     // they stand.
     #[inline(never)]
     fn open_catalogue(&mut self, alloc: Global, version: Version)
-        ensures { (accounts : List Account) → self.old ≡ stages.Accounts accounts → self.new ≡ stages.Catalogue accounts (SetDue version 0 []) }
+        ensures { (accounts : List Account) → self.old ≡ sections.Accounts accounts → self.new ≡ sections.Catalogue accounts (SetDue version 0 []) }
     {
         if let Section::Accounts(accounts) = mem::replace(self, Section::Opening) {
             *self = Section::Catalogue(accounts, Loading::new(alloc, version));
@@ -137,7 +137,7 @@ impl Section {
     // The lines of a permission list follow.
     #[inline(never)]
     fn open_list(&mut self, alloc: Global, account: Name, name: Name)
-        ensures { (w : AnyMonitor) → self.old ≡ stages.Stream w → self.new ≡ stages.List w (opened account name) }
+        ensures { (w : AnyMonitor) → self.old ≡ sections.Stream w → self.new ≡ sections.List w (opened account name) }
     {
         if let Section::Stream(monitor) = mem::replace(self, Section::Opening) {
             *self = Section::List(monitor, OpenList::new(alloc, account, name));
@@ -147,7 +147,7 @@ impl Section {
     // The lines of a job follow.
     #[inline(never)]
     fn open_job(&mut self, job: OpenJob)
-        ensures { (w : AnyMonitor) → self.old ≡ stages.Stream w → self.new ≡ stages.Job w job }
+        ensures { (w : AnyMonitor) → self.old ≡ sections.Stream w → self.new ≡ sections.Job w job }
     {
         if let Section::Stream(monitor) = mem::replace(self, Section::Opening) {
             *self = Section::Job(monitor, job);
@@ -165,7 +165,7 @@ fn take_listing(
     out: &mut Printed,
 ) -> Result<bool, AllocError>
     requires { counts.old.jobs + counts.old.commands < 2 ^ 63 }
-    ensures taken { IfOk result (λ taken. taken ≡ true → TookLine options (states.Reading (stages.Stream monitor.old)) text.now out.old counts.old (states.Reading (stages.Stream monitor.new)) out.new counts.new) }
+    ensures taken { IfOk result (λ taken. taken ≡ true → TookLine options (states.Reading (sections.Stream monitor.old)) text.now out.old counts.old (states.Reading (sections.Stream monitor.new)) out.new counts.new) }
     ensures left { IfOk result (λ taken. taken ≡ false → (monitor.new ≡ monitor.old) × (out.new ≡ out.old) × (counts.new ≡ counts.old)) }
     ensures counted { counts.new.jobs + counts.new.commands ≤ counts.old.jobs + counts.old.commands + 1 }
     ensures nothing { OnErr result (out.new ≡ out.old) }

@@ -55,7 +55,7 @@ pub enum DeckState {
 impl Drop for DeckState {
     fn drop(self) {
         match self {
-            DeckState::Reading(_stage) => {}
+            DeckState::Reading(_section) => {}
             DeckState::Stopped(_sets) => {}
             DeckState::Refused(_, _) => {}
             DeckState::NoMemory => {}
@@ -90,8 +90,8 @@ impl DeckState {
         ensures sound { OnOk result (error_at self.new ≡ error_at self.old) }
     {
         match self {
-            DeckState::Reading(stage) => {
-                if !stage.take(alloc, options, text, counts, out)? {
+            DeckState::Reading(section) => {
+                if !section.take(alloc, options, text, counts, out)? {
                     return Ok(());
                 }
                 self.follow(alloc, options, counts, out)?;
@@ -101,13 +101,13 @@ impl DeckState {
         }
     }
 
-    // The stage of a deck that is still read.
-    fn into_stage(self) -> Section
+    // The section of a deck that is still read.
+    fn into_section(self) -> Section
         requires { Leaves self }
         ensures { self ≡ states.Reading result }
     {
         match self {
-            DeckState::Reading(stage) => stage,
+            DeckState::Reading(section) => section,
             _ => unreachable!(),
         }
     }
@@ -131,7 +131,7 @@ impl DeckState {
         ensures counted { counts.new.jobs + counts.new.commands ≤ counts.old.jobs + counts.old.commands + 1 }
         ensures nothing { OnErr result (out.new ≡ out.old) }
     {
-        match mem::replace(self, DeckState::NoMemory).into_stage() {
+        match mem::replace(self, DeckState::NoMemory).into_section() {
             Section::Opening => {
                 *self = DeckState::Reading(Section::Accounts(Accounts::new(alloc)));
                 Ok(())

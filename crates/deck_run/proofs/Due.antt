@@ -265,22 +265,22 @@ place_in (Bad n code) = n
 abbrev of_line : Options → ℕ → Marks → DeckState → ℕ → List ℕ → Outcome
 of_line options jobs m s k line = outcome options jobs m s k (line ∷ [])
 
-refused_at_line : (options : Options) (jobs : ℕ) (m : Marks) (stage : Section) (k : ℕ) (line : List ℕ) → 5000 < length line → (of_line options jobs m (state.Reading stage) k line).conclusion ≡ Bad k LineTooLong
-refused_at_line options jobs m stage k line over =
+refused_at_line : (options : Options) (jobs : ℕ) (m : Marks) (section : Section) (k : ℕ) (line : List ℕ) → 5000 < length line → (of_line options jobs m (state.Reading section) k line).conclusion ≡ Bad k LineTooLong
+refused_at_line options jobs m section k line over =
     ap (λ (o : Outcome). o.conclusion)
-    (ap (outcome_of options.check jobs m) (long_refused options.slots.number stage k line [] over) ∙ outcome_refused options.check options.slots.number jobs m stage k LineTooLong)
+    (ap (outcome_of options.check jobs m) (long_refused options.slots.number section k line [] over) ∙ outcome_refused options.check options.slots.number jobs m section k LineTooLong)
 
 refused_there : (options : Options) (jobs : ℕ) (m : Marks) (s : DeckState) (k : ℕ) (line : List ℕ) → 5000 < length line → error_at s ≡ None → (n : ℕ) (code : DeckError)
     → (of_line options jobs m s k line).conclusion ≡ Bad n code → (is_reading s ≡ true) × (n ≡ k)
-refused_there options jobs m (state.Reading stage) k line over sound n code bad = (refl, ap place_in (sym bad ∙ refused_at_line options jobs m stage k line over))
+refused_there options jobs m (state.Reading section) k line over sound n code bad = (refl, ap place_in (sym bad ∙ refused_at_line options jobs m section k line over))
 refused_there options jobs m (state.Stopped w) k line over sound n code bad = cc
 refused_there options jobs m (state.Refused i other) k line over sound n code bad = cc
 refused_there options jobs m state.NoMemory k line over sound n code bad = cc
 
 never_good : (options : Options) (jobs : ℕ) (m : Marks) (s : DeckState) (k : ℕ) (line : List ℕ) → 5000 < length line → is_reading s ≡ true → (counts others : Counts) (sets : Sets)
     → after counts (of_line options jobs m s k line).conclusion ≡ Good others sets → ⊥
-never_good options jobs m (state.Reading stage) k line over reading counts others sets good =
-    let never : Bad k LineTooLong ≡ Good others sets = sym (ap (after counts) (refused_at_line options jobs m stage k line over)) ∙ good in cc
+never_good options jobs m (state.Reading section) k line over reading counts others sets good =
+    let never : Bad k LineTooLong ≡ Good others sets = sym (ap (after counts) (refused_at_line options jobs m section k line over)) ∙ good in cc
 never_good options jobs m (state.Stopped w) k line over reading counts others sets good = cc
 never_good options jobs m (state.Refused i code) k line over reading counts others sets good = cc
 never_good options jobs m state.NoMemory k line over reading counts others sets good = cc
@@ -310,9 +310,9 @@ module _ (more : List ℕ) (inside : has_no_end more ≡ true) (long : 5000 < le
 
   -- and a feed prints nothing of it
   silent_line : (options : Options) (jobs : ℕ) (m : Marks) (s : DeckState) (n : ℕ) (line : List ℕ) → 5000 < length line → (of_line options jobs m s n line).written ≡ []
-  silent_line options jobs m (state.Reading stage) n line over =
+  silent_line options jobs m (state.Reading section) n line over =
       ap (λ (o : Outcome). o.written)
-      (ap (outcome_of options.check jobs m) (long_refused options.slots.number stage n line [] over) ∙ outcome_refused options.check options.slots.number jobs m stage n LineTooLong)
+      (ap (outcome_of options.check jobs m) (long_refused options.slots.number section n line [] over) ∙ outcome_refused options.check options.slots.number jobs m section n LineTooLong)
   silent_line options jobs m (state.Stopped w) n line over = refl
   silent_line options jobs m (state.Refused i code) n line over = refl
   silent_line options jobs m state.NoMemory n line over = refl

@@ -113,21 +113,21 @@ all_told held now before f piece written = record {
 -- ---- where a feed stands
 
 pub no_error : (s : DeckState) → is_reading s ≡ true → error_at s ≡ None
-no_error (state.Reading stage) reading = refl
+no_error (state.Reading section) reading = refl
 no_error (state.Stopped w) reading = cc
 no_error (state.Refused n code) reading = cc
 no_error state.NoMemory reading = cc
 
 -- where memory ran out, the deck was still read
 pub still_read : (s : DeckState) (bytes : List ℕ) → error_at s ≡ None → may_grow s bytes ≡ true → is_reading s ≡ true
-still_read (state.Reading stage) bytes sound grows = refl
+still_read (state.Reading section) bytes sound grows = refl
 still_read (state.Stopped w) bytes sound grows = cc
 still_read (state.Refused n code) bytes sound grows = cc
 still_read state.NoMemory bytes sound grows = cc
 
 -- where a deck is still read, a line is taken at once
 pub taken_where_read : (s : DeckState) (piece : List ℕ) → is_reading s ≡ true → used_by s piece ≡ taken_of piece
-taken_where_read (state.Reading stage) piece reading = refl
+taken_where_read (state.Reading section) piece reading = refl
 taken_where_read (state.Stopped w) piece reading = cc
 taken_where_read (state.Refused n code) piece reading = cc
 taken_where_read state.NoMemory piece reading = cc

@@ -11,7 +11,7 @@ use Rattle.deck_syntax.specs.Sections.{Closed, asked_then, stopped, accounts_sec
 use Rattle.deck_driver.specs.declared.options.Counts.{Counts}
 use Rattle.deck_driver.specs.declared.options.Options.{Options}
 use Rattle.deck_driver.specs.declared.section.Section.{Section}
-use Rattle.deck_driver.specs.declared.section.Section.TheVariants as stage
+use Rattle.deck_driver.specs.declared.section.Section.TheVariants as section
 use Rattle.deck_driver.specs.declared.section.DeckState.{DeckState}
 use Rattle.deck_driver.specs.declared.section.DeckState.TheVariants as state
 use Rattle.deck_driver.specs.RunStates.{RunState, over, opening}
@@ -26,26 +26,26 @@ pub record TookLine (options : Options) (s : DeckState) (line before : List ℕ)
 
 -- the state of the run that the lines from number n on make, behind one that ended the section before them or the deck
 abbrev pub run_state_behind : ℕ → Section → ℕ → List (List ℕ) → RunState
-run_state_behind slots stage.Opening n ls = opening slots (accounts_section n [] ls)
-run_state_behind slots (stage.Accounts accounts) n ls = opening slots (accounts_section n accounts ls)
-run_state_behind slots (stage.Catalogue accounts progress) n ls = opening slots (record { accounts = accounts; catalogue = sets_of progress; cards = stream_section n Closed ls })
-run_state_behind slots (stage.Stream w) n ls = over (system_of w) stopped
-run_state_behind slots (stage.List w list) n ls = over (system_of w) (asked_then (Commands (set_acl_of list)) (stream_section n Closed ls))
-run_state_behind slots (stage.Job w job) n ls = over (system_of w) (asked_then (Enters job) (stream_section n Closed ls))
+run_state_behind slots section.Opening n ls = opening slots (accounts_section n [] ls)
+run_state_behind slots (section.Accounts accounts) n ls = opening slots (accounts_section n accounts ls)
+run_state_behind slots (section.Catalogue accounts progress) n ls = opening slots (record { accounts = accounts; catalogue = sets_of progress; cards = stream_section n Closed ls })
+run_state_behind slots (section.Stream w) n ls = over (system_of w) stopped
+run_state_behind slots (section.List w list) n ls = over (system_of w) (asked_then (Commands (set_acl_of list)) (stream_section n Closed ls))
+run_state_behind slots (section.Job w job) n ls = over (system_of w) (asked_then (Enters job) (stream_section n Closed ls))
 
 abbrev pub outcome_behind : Options → ℕ → Marks → DeckState → ℕ → List (List ℕ) → Outcome
-outcome_behind options jobs m (state.Reading stage) n ls = outcome_of options.check jobs m (run_state_behind options.slots.number stage n ls)
+outcome_behind options jobs m (state.Reading section) n ls = outcome_of options.check jobs m (run_state_behind options.slots.number section n ls)
 outcome_behind options jobs m s n ls = outcome options jobs m s n ls
 
 -- a line may end this section: a catalogue is whole then
 abbrev pub Leaves : DeckState → Type 0
-Leaves (state.Reading (stage.Accounts accounts)) = ⊥
-Leaves (state.Reading (stage.Catalogue accounts progress)) = is_due progress ≡ true
-Leaves (state.Reading stage) = Unit {0}
+Leaves (state.Reading (section.Accounts accounts)) = ⊥
+Leaves (state.Reading (section.Catalogue accounts progress)) = is_due progress ≡ true
+Leaves (state.Reading section) = Unit {0}
 Leaves _ = ⊥
 
 abbrev pub IsStream : Section → Type 0
-IsStream (stage.Stream w) = Unit {0}
+IsStream (section.Stream w) = Unit {0}
 IsStream _ = ⊥
 
 -- a line ends the section

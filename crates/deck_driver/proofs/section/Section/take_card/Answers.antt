@@ -2,7 +2,7 @@ use Rattle.std.proofs.Common.{refl, sym}
 use Rattle.deck_syntax.specs.declared.request.Request.TheVariants as request
 use Rattle.deck_syntax.specs.Decks.{Gives, Drains}
 use Rattle.deck_syntax.specs.Requests.{opened}
-use Rattle.deck_driver.specs.declared.section.Section.TheVariants as stage
+use Rattle.deck_driver.specs.declared.section.Section.TheVariants as section
 use Rattle.deck_driver.proofs.Taking.{asks_in, card_taken, opens, unmoved}
 use Rattle.deck_driver.proofs.section.Section.take_card.Goals as goal
 
@@ -11,7 +11,7 @@ returns-in-Nothing-clause-taken c = λ _.
     let asked = c.in_ok-read_request in
     let w = c.in-Stream.monitor in
     let asks = asks_in c.args.options.slots.number c.args.self.now w c.args.text.now asked.field-0 request.Nothing c.in-Stream.is asked.ensures.answers asked.ensures.value c.in-Nothing.is in
-    unmoved c.args.options c.args.self.now (stage.Stream w) c.args.text.now c.args.out.now c.args.counts.now (λ n ls. sym (asks n ls))
+    unmoved c.args.options c.args.self.now (section.Stream w) c.args.text.now c.args.out.now c.args.counts.now (λ n ls. sym (asks n ls))
 
 pub returns-in_ok-put_turns-in-Turns-clause-taken : goal.returns-in_ok-put_turns-in-Turns-clause-taken
 returns-in_ok-put_turns-in-Turns-clause-taken c = λ _.
@@ -34,7 +34,7 @@ returns-in-OpensList-clause-taken c = λ _.
     let asked = c.in_ok-read_request in
     let w = c.in-Stream.monitor in
     let asks = asks_in c.args.options.slots.number c.args.self.now w c.args.text.now asked.field-0 (request.OpensList c.in-OpensList.account c.in-OpensList.name) c.in-Stream.is asked.ensures.answers asked.ensures.value c.in-OpensList.is in
-    opens c.args.options c.args.self.now c.open_list.new.self (stage.List w (opened c.in-OpensList.account c.in-OpensList.name)) c.args.text.now c.args.out.now c.args.counts.now
+    opens c.args.options c.args.self.now c.open_list.new.self (section.List w (opened c.in-OpensList.account c.in-OpensList.name)) c.args.text.now c.args.out.now c.args.counts.now
     (c.open_list.ensures w refl) asks
 
 pub returns-in-OpensJob-clause-taken : goal.returns-in-OpensJob-clause-taken
@@ -42,4 +42,4 @@ returns-in-OpensJob-clause-taken c = λ _.
     let asked = c.in_ok-read_request in
     let w = c.in-Stream.monitor in
     let asks = asks_in c.args.options.slots.number c.args.self.now w c.args.text.now asked.field-0 (request.OpensJob c.in-OpensJob.job) c.in-Stream.is asked.ensures.answers asked.ensures.value c.in-OpensJob.is in
-    opens c.args.options c.args.self.now c.open_job.new.self (stage.Job w c.in-OpensJob.job) c.args.text.now c.args.out.now c.args.counts.now (c.open_job.ensures w refl) asks
+    opens c.args.options c.args.self.now c.open_job.new.self (section.Job w c.in-OpensJob.job) c.args.text.now c.args.out.now c.args.counts.now (c.open_job.ensures w refl) asks
