@@ -1,10 +1,8 @@
 //! What is told of a deck: mistakes and warnings, each with its line, text and column, and the listing of a job.
 //!
-//! A program as a source listing: which statements begin on which card, and which names in them lead nowhere.
-//!
-//! Why a job is not loaded: each reason, and not only the first.
-//!
-//! `deck_refused` in specs/ lists them, over the definitions by which a job is loaded; `all_refusals` answers exactly that list.
+//! A listing shows a program's source: which statements begin on which card, and which names in them lead nowhere. Why a job is not
+//! loaded is told with each reason, and not only the first: `deck_refused` in specs/ lists them, over the definitions by which a job
+//! is loaded, and `all_refusals` answers exactly that list.
 #![tactic(auto)]
 
 mod advice;

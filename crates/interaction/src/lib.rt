@@ -2,10 +2,8 @@
 //!
 //! A program knows no catalogue and no permission. It puts requests to a `Service`, and goes on as the answers say.
 //!
-//! Interactions: what someone asks of another, told without the other; and the laws that hold of every interaction.
-//!
-//! What a request for a record is answered, and why it is denied: by the guard of the data sets, and by whoever else keeps records
-//! for programs.
+//! An interaction is what someone asks of another, told without the other; `interaction_laws` says what holds of every one. What
+//! a request for a record is answered, and why it is denied, is the same for all who keep records.
 #![tactic(auto)]
 
 pub mod answer;

@@ -4,10 +4,8 @@
 //! job of one slot one statement; `turns`, `drain` and `room` give turns in an order. What turns do is a function of the data
 //! sets, of the jobs in the slots, and of where memory broke turns off; `laws` says what holds of it.
 //!
-//! Jobs as the deck gives them and as they end: what is loaded, why a load is refused, and what each prints.
-//!
-//! `printout` and `refusal_text` in specs/ say what is printed; `print_end` and `print_refusal` put exactly that
-//! to a sink; `put_printout` and `put_refusal` append it, or nothing.
+//! A job as it ends, and a load that is refused, are printed: `printout` and `refusal_text` in specs/ say what, `print_end` and
+//! `print_refusal` put exactly that to a sink, and `put_printout` and `put_refusal` append it, or nothing.
 #![tactic(auto)]
 
 pub mod holder;

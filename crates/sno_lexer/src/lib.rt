@@ -3,8 +3,6 @@
 //! How tokens are written is said in `specs/Written.antt`; how they follow one another, and the faults, in
 //! `specs/Following.antt`. `laws` says that what is read of a text is that, and nothing else.
 //!
-//! The tokens of a statement, as the token stage gives them and the grammar takes them.
-//!
 //! Blanks have a meaning in SNOBOL4: they tell a binary operator from a unary one, and alone they concatenate. So a token
 //! knows whether a blank stands before it, and whether a blank or the end of the statement follows it.
 #![tactic(auto)]

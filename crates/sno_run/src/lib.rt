@@ -2,10 +2,6 @@
 //!
 //! A job is a program with the state that its statements change. A turn is one statement with all calls in it. No
 //! statement is evaluated by recursion over its tree: a loop goes over its code, and only calls of functions nest.
-//!
-//! The machine that runs programs, over whoever answers what they ask.
-//!
-//! No statement is evaluated by recursion over its tree: a loop goes over its code, and only calls of functions nest.
 #![tactic(auto)]
 
 mod acting;

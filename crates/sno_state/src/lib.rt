@@ -3,7 +3,7 @@
 //! A variable that is used or assigned to may read or write records; a match uses and assigns to variables meanwhile. All
 //! of it is told without the service: the definitions say what is asked, for whatever is answered.
 //!
-//! Programs with the code of their statements, what this rests on, and what is done at once.
+//! A program stands here with the code of its statements (`compiled`), and with what of it is done at once (`fast_path`).
 #![tactic(auto)]
 
 mod calling;

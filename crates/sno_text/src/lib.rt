@@ -1,10 +1,7 @@
-//! Texts that are shared, names with a hint of their place, and the faults that end a job.
+//! What values are made of: texts that are shared, names with a hint of their place, patterns, and the faults that end a job.
 //!
-//! The seed of the hash by which names and keys are found, so that whoever picks them can't make them collide.
-//!
-//! Patterns as values: their rows, how deep they are, and where those end that end in one place or nowhere.
-//!
-//! Parts are shared: a pattern that becomes part of another is not copied.
+//! A pattern that becomes part of another is shared too. It knows how deep it is, and whether it ends in one place or nowhere. Names
+//! and keys are found by a hash of a seed, so that whoever picks them can't make them collide.
 #![tactic(auto)]
 
 mod class;

@@ -2,8 +2,7 @@
 //!
 //! It knows no variable and no statement. A call answers what it gives: a value, failure or a fault. Memory is no part of
 //! that: a call that takes some may be refused it, and says so apart; one that takes none has no answer for it.
-//!
-//! The tables of a job: their items by table and key.
+//! The tables of a job are kept apart from its values: their items stand by table and key.
 #![tactic(auto)]
 
 pub mod calculating;
