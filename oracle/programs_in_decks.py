@@ -2,8 +2,8 @@
 """programs_in_decks.py KIND COUNT SEED PROGRAM: programs as the jobs of decks, beside what monitor.py says of these decks.
 
 KIND is programs, matches, texts or statements, for random ones as random_KIND.py makes them; or worked, for all that are
-worked by hand for the crates `jobs` and `programs` (COUNT and SEED are then not looked at), of which those that are refused
-are compared with what was worked out too. What a case is answered is made the job's data; its units are tied to data sets
+worked by hand for the crate `programs` (COUNT and SEED are then not looked at), of which those that are refused are
+compared with what was worked out too. What a case is answered is made the job's data; its units are tied to data sets
 that it may read, write, both or not, by chance. Tells what differs, and then has the status 1."""
 import glob
 import multiprocessing
@@ -76,7 +76,7 @@ KINDS = {'programs': of_programs, 'matches': of_matches, 'texts': of_texts, 'sta
 
 
 def of_file(path):
-    """The cases of a file of `jobs`."""
+    """The cases of a file of programs that run."""
     with open(path) as file:
         for name, options, cards, answers, _ in check.cases(file.read()):
             yield name, (cards, answers, int(options.get('ST', 50000)), int(options.get('MATCH', 1000000)))
@@ -88,7 +88,7 @@ def read(*names):
 
 
 def of_folder(folder):
-    """The cases of a folder of `programs`, each run for a few statements only. In `statements` each card is a program."""
+    """The cases of a folder of programs that are read, each run for a few statements only. In `statements` each card is a program."""
     for name in sorted(os.listdir(folder)):
         cards = read(folder, name, 'cards').splitlines()
         for program in [[card, 'END'] for card in cards] if os.path.basename(folder) == 'statements' else [cards]:
@@ -180,7 +180,7 @@ def refused(program):
 def shares_of(kind, count, seed, program):
     if kind != 'worked':
         return [(kind, AT_A_TIME, seed + 1000 * part, program) for part in range(count // AT_A_TIME)]
-    files = glob.glob(os.path.join(CRATES, 'jobs', 'data', '*.cases'))
+    files = glob.glob(os.path.join(CRATES, 'programs', 'data', '*.cases'))
     folders = [os.path.join(CRATES, 'programs', 'data', name) for name in ('verdicts', 'trees', 'statements')]
     return [(path, 0, 0, program) for path in sorted(files) + folders]
 

@@ -76,9 +76,8 @@ def main():
         if len(one) <= 190 and "''" not in one and '""' not in one:
             cards.append(one)
     os.makedirs(folder + '/statements/random')
-    for name, names in (('statements', 'random\n'), ('trees', ''), ('verdicts', '')):
-        with open('%s/%s.txt' % (folder, name), 'w') as f:
-            f.write(names)
+    with open(folder + '/statements.txt', 'w') as f:
+        f.write('random\n')
     with open(folder + '/statements/random/cards', 'w') as f, open(folder + '/statements/random/wanted', 'w') as g:
         for one in cards:
             f.write(one + '\n')

@@ -1,7 +1,7 @@
 //! What is seen of a run: a line for each request, and a last one for how the job ended.
 ghost use Rattle.std.specs.Prelude.{◌≡◌, ◌++◌, codes, decimal, OnOk};
 ghost use Rattle.std.specs.List.{flat_map};
-ghost use Rattle.jobs.specs.inner.Seen.{act_text, request_line, ending_text, end_line};
+ghost use Rattle.programs.specs.inner.Seen.{act_text, request_line, ending_text, end_line};
 
 use interaction::{Act, Request};
 use mon_text::put_number;

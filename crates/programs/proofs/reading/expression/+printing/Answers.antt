@@ -1,6 +1,6 @@
 -- The parts of a run are its text.
 use Rattle.programs.proofs.Runs.{run_put}
-use Rattle.programs.proofs.expression.+printing.Goals as goal
+use Rattle.programs.proofs.reading.expression.+printing.Goals as goal
 
 pub put_run-returns : goal.put_run-returns
 put_run-returns t c =

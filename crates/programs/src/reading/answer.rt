@@ -5,14 +5,15 @@ ghost use Rattle.sno_statement.specs.Abstraction.{statement_of};
 ghost use Rattle.programs.specs.inner.Statements.{statement_text};
 ghost use Rattle.programs.specs.inner.Answers.{own_label, passed, statements_from, verdict_text, program_answer, statement_answer, statements_text, start_text, stop_text, refusal_text};
 
-use crate::expression::put;
-use crate::statement::put_statement;
+use crate::reading::expression::put;
+use crate::reading::statement::put_statement;
 use mon_text::{Stop, put_number};
 use sno_statement::Statement;
 use sno_syntax::{Labels, Program, Start, SyntaxError};
 use std::alloc::AllocError;
 
-type Answer = Result<Program, Stop<SyntaxError>>;
+/// A program, or why there is none.
+pub type Answer = Result<Program, Stop<SyntaxError>>;
 
 /// Appends a line: `parsed`, or where the program is refused.
 pub fn put_verdict(answer: &Answer, out: &mut Vec<u8>) -> Result<(), AllocError>

@@ -3,7 +3,7 @@ use Rattle.std.proofs.Common.{◌≡◌, ◌∙◌, ◌-◌, ◌+◌, ℕ, suc, 
 use Rattle.std.specs.Prelude.{codes}
 use Rattle.programs.specs.inner.Runs.{ends_text}
 use Rattle.programs.proofs.Runs.{one_end}
-use Rattle.programs.proofs.expression.put_ends.Goals as goal
+use Rattle.programs.proofs.reading.expression.put_ends.Goals as goal
 
 pub loop-left-preserved : goal.loop-left-preserved
 loop-left-preserved c =

@@ -1,7 +1,7 @@
 -- What is written so far and the statements that are left make the whole.
 use Rattle.std.proofs.Common.{◌≡◌, ◌++◌, ◌≤◌, drop}
 use Rattle.programs.specs.inner.Answers.{statements_from}
-use Rattle.programs.proofs.answer.put_each.Given as goal
+use Rattle.programs.proofs.reading.answer.put_each.Given as goal
 
 abbrev pub invariant-loop-index : goal.invariant-loop-index
 invariant-loop-index l = record {

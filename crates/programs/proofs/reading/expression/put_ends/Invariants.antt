@@ -1,7 +1,7 @@
 -- The end of each behind the one that comes next has been put.
 use Rattle.std.proofs.Common.{◌≡◌, ◌≤◌, ◌++◌, drop, length}
 use Rattle.programs.specs.inner.Runs.{ends_text}
-use Rattle.programs.proofs.expression.put_ends.Given as goal
+use Rattle.programs.proofs.reading.expression.put_ends.Given as goal
 
 abbrev pub invariant-loop-left : goal.invariant-loop-left
 invariant-loop-left l = record {

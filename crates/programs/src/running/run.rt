@@ -1,9 +1,9 @@
 //! The run of a case.
 ghost use Rattle.sno_cards.specs.Limits.{AreLimits};
 
-use crate::case::Case;
-use crate::script::{answers_of, program_of};
-use crate::seen::{End, put_end, put_requests};
+use crate::running::case::Case;
+use crate::running::script::{answers_of, program_of};
+use crate::running::seen::{End, put_end, put_requests};
 use anyhow::{Context, Result};
 use interaction::Script;
 use sno_run::{Job, Step, statement_turn};

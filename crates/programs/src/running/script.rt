@@ -1,24 +1,18 @@
 //! Programs and answers, from the lines of a case.
+use crate::cards::{self, cards_of, line_of};
 use anyhow::{Context, Result};
 use interaction::{Answer, Reason};
-use mon_text::{Line, LineError, Stop, read_line};
-use sno_syntax::{Program, parse, statements};
-use sno_text::Seed;
+use mon_text::Line;
+use sno_syntax::Program;
 use std::alloc::{AllocError, Global};
-
-/// How many characters a card has at the most.
-const CARD_LIMIT: usize = 200;
 
 /// How many characters a record has at the most.
 const RECORD_LIMIT: usize = 1_024;
 
 /// Reads the program of these cards.
-pub fn program_of(alloc: Global, cards: &str) -> Result<Program> {
-    let lines = lines_of(alloc, cards)?;
-    let cards = statements(alloc, &lines)
-        .ok()
-        .context("its cards are refused")?;
-    parse(alloc, Seed::fixed(), &cards)
+pub fn program_of(alloc: Global, text: &str) -> Result<Program> {
+    let lines = cards_of(alloc, text)?;
+    cards::program_of(alloc, &lines)
         .ok()
         .context("its program is refused")
 }
@@ -49,22 +43,5 @@ fn record_of(alloc: Global, line: &str) -> Result<Line> {
     } else {
         line.strip_prefix("GOT ").context("an unknown answer")?
     };
-    Ok(line_of(alloc, record, RECORD_LIMIT)??)
-}
-
-fn lines_of(alloc: Global, cards: &str) -> Result<Vec<Line>> {
-    let mut lines = Vec::new(alloc);
-    for card in cards.lines() {
-        let line = line_of(alloc, card, CARD_LIMIT)??;
-        lines.push(line).map_err(AllocError::from)?;
-    }
-    Ok(lines)
-}
-
-fn line_of(alloc: Global, text: &str, limit: usize) -> Result<Result<Line, LineError>, AllocError> {
-    match read_line(alloc, text.as_bytes(), limit) {
-        Ok(line) => Ok(Ok(line)),
-        Err(Stop::Refused(error)) => Ok(Err(error)),
-        Err(Stop::Memory) => Err(AllocError),
-    }
+    line_of(alloc, record, RECORD_LIMIT)
 }

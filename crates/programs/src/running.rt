@@ -1,5 +1,4 @@
-//! Runs the worked programs of `data/`, and prints a line for each where what it asks or how it ends is not as was worked
-//! out by hand, and then how many there were.
+//! Programs that run.
 //!
 //! `files.txt` names the files. Behind a title each has its cases, with blank lines between them:
 //!
@@ -20,7 +19,6 @@
 //! not fit what is asked waits; where none is left a read meets the end of file, and anything else is done. What is wanted is
 //! a line for each request, with the statement that asks, and a last one: how the job ends, how many statements had begun,
 //! at every level, and how many turns there were.
-#![tactic(auto)]
 
 ghost use Rattle.sno_cards.specs.Limits.{AreLimits};
 
@@ -29,27 +27,30 @@ mod run;
 mod script;
 mod seen;
 
+use crate::lists::list_of;
+use crate::tally::Tally;
 use anyhow::{Context, Result};
 use case::{Case, HEAD};
 use differences::first_difference;
 use run::seen_of;
 use std::fs::{self, Files};
-use std::process::ExitCode;
 
-/// How many cases there were, and how many of them failed.
-#[derive(Clone, Copy)]
-struct Tally {
-    cases: u64,
-    failed: u64,
+/// Runs the cases of all files, and prints a line for each where what it asks or how it ends is not as wanted.
+pub fn run_all<R: Files + Print + AllocGlobal>(rt: &R, tally: &mut Tally) -> Result<()> {
+    let files = list_of(rt, "files.txt")?;
+    for file in files.lines() {
+        run_file(rt, file, tally)?;
+    }
+    Ok(())
 }
 
-impl Tally {
-    fn note(&mut self, holds: bool) {
-        self.cases = self.cases.saturating_add(1);
-        if !holds {
-            self.failed = self.failed.saturating_add(1);
-        }
+fn run_file<R: Files + Print + AllocGlobal>(rt: &R, file: &str, tally: &mut Tally) -> Result<()> {
+    let text = fs::read_to_string(rt, file).context(format_args!("reading {file}"))?;
+    for part in text.split(HEAD).skip(1) {
+        let case = Case::read(part).context(format_args!("{file} has a bad case"))?;
+        tally.note(holds(rt, &case)?);
     }
+    Ok(())
 }
 
 fn holds<R: Print + AllocGlobal>(rt: &R, case: &Case<'_>) -> Result<bool>
@@ -70,31 +71,4 @@ fn holds<R: Print + AllocGlobal>(rt: &R, case: &Case<'_>) -> Result<bool>
         }
         None => Ok(true),
     }
-}
-
-fn run_file<R: Files + Print + AllocGlobal>(rt: &R, file: &str, tally: &mut Tally) -> Result<()> {
-    let text = fs::read_to_string(rt, file).context(format_args!("reading {file}"))?;
-    for part in text.split(HEAD).skip(1) {
-        let case = Case::read(part).context(format_args!("{file} has a bad case"))?;
-        tally.note(holds(rt, &case)?);
-    }
-    Ok(())
-}
-
-fn main(rt: HostRuntime) -> Result<ExitCode> {
-    let mut tally = Tally {
-        cases: 0,
-        failed: 0,
-    };
-    let files = fs::read_to_string(&rt, "files.txt")?;
-    for file in files.lines() {
-        run_file(&rt, file, &mut tally)?;
-    }
-    let Tally { cases, failed } = tally;
-    println!(rt; "{cases} cases, {failed} failed")?;
-    Ok(if failed == 0 {
-        ExitCode::SUCCESS
-    } else {
-        ExitCode::FAILURE
-    })
 }
