@@ -1,10 +1,7 @@
-//! Tests of the crates of the language, above them all, so that none of these is proved again for its tests.
+//! Tests of the crates of the language, above them all, so that none of these is proved again for its tests. What a program
+//! brings about is a case of the program `programs`.
 #![tactic(auto)]
 
-#[cfg(test)]
-mod asking;
-#[cfg(test)]
-mod coding;
 #[cfg(test)]
 mod matching;
 #[cfg(test)]
