@@ -14,7 +14,13 @@ use std::rt::Files;
 const ROOM: usize = 131_072;
 
 /// How many bytes a read and a write move at the most. Each case is run once with each of these pairs.
-const PIECES: [(usize, usize); 3] = [(usize::MAX, usize::MAX), (1, 1), (7, 3)];
+const PIECES: [(usize, usize); 5] = [
+    (usize::MAX, usize::MAX),
+    (1, 1),
+    (7, 3),
+    (1, usize::MAX),
+    (usize::MAX, 1),
+];
 
 /// What a run shows to the outside.
 #[derive(Drop)]
@@ -45,33 +51,74 @@ impl Case {
         })
     }
 
-    /// Runs the deck, and prints a line on how it went: `ok NAME`, or the first line that is not as wanted.
+    /// Runs the deck, and prints a line on how it went: `ok NAME`, or what is not as wanted.
     pub fn holds<R: Print + AllocGlobal>(&self, rt: &R, name: &str) -> Result<bool> {
+        let holds = self.is_shown_in_pieces(rt, name)?
+            && self.is_only_checked(rt, name)?
+            && self.is_cut_anywhere(rt, name)?;
+        if holds {
+            println!(rt; "ok {name}")?;
+        }
+        Ok(holds)
+    }
+
+    // Whether all is shown as wanted, in whatever pieces it comes and goes.
+    fn is_shown_in_pieces<R: Print + AllocGlobal>(&self, rt: &R, name: &str) -> Result<bool> {
         for (most_read, most_written) in PIECES {
-            let seen = self.run(rt.alloc(), most_read, most_written)?;
+            let seen = self.run(rt.alloc(), self.options, most_read, most_written)?;
             if let Some(difference) = first_difference(&self.wanted, &seen) {
                 println!(rt; "FAILED {name}: {difference}")?;
                 return Ok(false);
             }
         }
-        if let Some(end) = first_bad_cut(rt.alloc(), self.deck.as_slice(), self.options)? {
-            println!(rt; "FAILED {name}: cut behind {end} bytes")?;
-            return Ok(false);
-        }
-        println!(rt; "ok {name}")?;
         Ok(true)
+    }
+
+    // Whether a run that only checks the deck shows that it is good, or nothing but its refusal.
+    fn is_only_checked<R: Print + AllocGlobal>(&self, rt: &R, name: &str) -> Result<bool> {
+        let mut options = self.options;
+        options.check = true;
+        let seen = self.run(rt.alloc(), options, usize::MAX, usize::MAX)?;
+        let is_checked = self.is_verdict(&seen);
+        if !is_checked {
+            println!(rt; "FAILED {name}: --check")?;
+        }
+        Ok(is_checked)
+    }
+
+    fn is_verdict(&self, seen: &Outcome) -> bool {
+        let verdict = if self.wanted.status == 0 {
+            b"DECK OK\n".as_slice()
+        } else {
+            b"".as_slice()
+        };
+        seen.stdout.as_slice() == verdict
+            && seen.stderr.as_slice() == self.wanted.stderr.as_slice()
+            && seen.status == self.wanted.status
+    }
+
+    // Whether the deck cut anywhere, or read by a reader that fails there, shows what its whole lines print.
+    fn is_cut_anywhere<R: Print + AllocGlobal>(&self, rt: &R, name: &str) -> Result<bool> {
+        match first_bad_cut(rt.alloc(), self.deck.as_slice(), self.options)? {
+            Some(end) => {
+                println!(rt; "FAILED {name}: cut behind {end} bytes")?;
+                Ok(false)
+            }
+            None => Ok(true),
+        }
     }
 
     fn run(
         &self,
         alloc: Global,
+        options: Options,
         most_read: usize,
         most_written: usize,
     ) -> Result<Outcome, AllocError> {
         let reader = MemReader::in_pieces(self.deck.as_slice(), most_read);
         let writer = MemWriter::in_pieces(alloc, ROOM, most_written)?;
         let mut devices = Devices::new(reader, writer);
-        let counts = run_deck(alloc, &mut devices, self.options);
+        let counts = run_deck(alloc, &mut devices, options);
         let mut stderr = Vec::new(alloc);
         if let Err(fault) = &counts {
             put_fault(fault, &mut stderr)?;

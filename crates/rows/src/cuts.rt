@@ -12,7 +12,8 @@ use std::alloc::{AllocError, Global};
 const ROOM: usize = 131_072;
 
 /// About how many bytes the cuts of one deck have together, at which it is run. A deck of up to 1,731 bytes is run cut at each
-/// of them, a longer one at as many places as this allows; what is out behind each byte is looked at of every deck.
+/// of them, a longer one at as many places as this allows, and at its end, where no read but the last can fail; what is out
+/// behind each byte is looked at of every deck.
 const MOST_CUT_BYTES: usize = 1_500_000;
 
 /// More bytes than any deck has here, and fewer than a feed may be given.
@@ -46,8 +47,9 @@ pub fn first_bad_cut(
         return Ok(Some(end));
     }
     let step = step_of(deck.len());
-    for end in 0..deck.len() {
-        if end % step == 0 && !shows_what_is_due(alloc, deck, end, options, &whole)? {
+    for end in 0..=deck.len() {
+        let is_cut = end % step == 0 || end == deck.len();
+        if is_cut && !shows_what_is_due(alloc, deck, end, options, &whole)? {
             return Ok(Some(end));
         }
     }

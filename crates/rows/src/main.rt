@@ -1,6 +1,6 @@
 //! Runs the worked decks of `data/` through `run_deck`, from memory to memory, and prints a line for each: whether
 //! the output, the line for standard error and the exit status are those that were worked out by hand, in pieces of any size;
-//! and whether the deck cut anywhere shows a beginning of that.
+//! whether the deck is refused alike where it is only checked; and whether the deck cut anywhere shows a beginning of that.
 #![tactic(auto)]
 
 mod case;
