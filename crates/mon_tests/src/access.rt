@@ -1,6 +1,6 @@
 //! The access check on lists worked by hand from acl(5).
 use mon_access::Decision::{Denied, Granted};
-use mon_access::{Account, Decider as By, Decision, Groups, check};
+use mon_access::{Account, Accounts, Decider as By, Decision, Groups, check};
 use mon_acl::{Acl, Perms};
 use mon_text::{Name, read_name};
 use std::alloc::Global;
@@ -278,6 +278,14 @@ pub(crate) fn account(alloc: Global, (name, primary, further): Names) -> Option<
         primary,
         groups,
     })
+}
+
+/// Whether an account is added to those that are known.
+pub(crate) fn is_known(alloc: Global, accounts: &mut Accounts, names: Names) -> bool {
+    match account(alloc, names) {
+        Some(account) => accounts.add(account).is_ok(),
+        None => false,
+    }
 }
 
 /// An account's name, its primary group, and a further one, or nothing.

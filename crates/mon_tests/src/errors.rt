@@ -1,11 +1,11 @@
 //! What each error says of itself: the words of its code in docs/REFERENCE.md, without what a printout adds to them. `K2` and
-//! the fault of a device stand there in no table, since no deck brings them about.
-use deck_run::DeckError;
+//! the fault of a device stand there in no table, since no deck brings them about. And the line that a run's fault has.
+use deck_run::{DeckError, Holder, RunError, Shortage, exit_status, put_fault, put_shortage};
 use mon_access::AccountError;
 use mon_acl::{AclError, Tag};
 use mon_catalogue::{CatalogueError, CreateError, NoSet, SetFull};
 use mon_device::Failed;
-use mon_text::{BadName, BadNumber, LineError};
+use mon_text::{BadName, BadNumber, LineError, Name, read_name};
 use mon_unit::UnitError;
 use std::alloc::Global;
 use std::fmt::Display;
@@ -82,4 +82,55 @@ fn errors_say_their_words(rt: HostRuntime) {
         decks_say(alloc),
     ];
     assert!(rt; said == [true; 8]);
+}
+
+fn faults_say(alloc: Global, fault: RunError, line: &[u8], status: u8) -> bool {
+    let mut out = Vec::new(alloc);
+    put_fault(&fault, &mut out).is_ok()
+        && out.as_slice() == line
+        && exit_status(&Err(fault)) == status
+}
+
+#[test]
+fn faults_have_a_line_and_a_status(rt: HostRuntime) {
+    let faults: [(RunError, &[u8], u8); 4] = [
+        (
+            RunError::DeckRefused(14, DeckError::Truncated),
+            b"snomon: line 14: E4 TRUNCATED\n",
+            1,
+        ),
+        (RunError::ReadFault, b"snomon: read fault\n", 3),
+        (RunError::WriteFault, b"snomon: write fault\n", 3),
+        (RunError::Memory, b"snomon: out of memory\n", 3),
+    ];
+    for (fault, line, status) in faults {
+        assert!(rt; faults_say(rt.alloc(), fault, line, status));
+    }
+}
+
+// How far a run had come, with a job that holds most.
+fn held_by(account: Name) -> Shortage {
+    let mut shortage = Shortage::new();
+    shortage.line = 1_234;
+    shortage.job = Some(Holder {
+        number: 3,
+        account,
+        bytes: 52_428_800,
+    });
+    shortage
+}
+
+fn tells_how_far(alloc: Global) -> bool {
+    let Ok(lisa) = read_name(b"lisa") else {
+        return false;
+    };
+    let shortage = held_by(lisa);
+    let mut out = Vec::new(alloc);
+    let told = b"snomon: at line 1234; job 3 of lisa holds most: 52428800 bytes of printout\n";
+    put_shortage(&shortage, &mut out).is_ok() && out.as_slice() == told.as_slice()
+}
+
+#[test]
+fn a_lack_of_memory_has_a_line_and_a_job(rt: HostRuntime) {
+    assert!(rt; tells_how_far(rt.alloc()));
 }

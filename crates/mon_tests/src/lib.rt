@@ -10,14 +10,14 @@ mod calls;
 #[cfg(test)]
 mod catalogue;
 #[cfg(test)]
-mod deck;
-#[cfg(test)]
 mod device;
 #[cfg(test)]
 mod errors;
 #[cfg(test)]
+mod failing;
+#[cfg(test)]
+mod feeding;
+#[cfg(test)]
 mod guard;
 #[cfg(test)]
 mod monitor;
-#[cfg(test)]
-mod schedules;

@@ -1,19 +1,11 @@
 //! A growth that is refused. The worked commands are decks, which the program `rows` runs.
-use crate::access::account;
+use crate::access::is_known;
 use mon_access::Accounts;
 use mon_catalogue::{Catalogue, Mode};
 use mon_command::{Command, serve};
 use mon_guard::Guard;
 use mon_text::read_name;
 use std::alloc::Global;
-
-// One account.
-fn accounts_of(alloc: Global) -> Option<Accounts> {
-    let anna = account(alloc, (b"anna", b"admin", b""))?;
-    let mut accounts = Accounts::new(alloc);
-    accounts.add(anna).ok()?;
-    Some(accounts)
-}
 
 fn create() -> Option<Command> {
     let account = read_name(b"anna").ok()?;
@@ -37,14 +29,11 @@ fn is_created(alloc: Global, accounts: &Accounts, catalogue: &mut Catalogue) -> 
 
 // Where the growth that is refused was that of a command, nothing has changed, and it is done when it is given again.
 fn is_served_again(alloc: Global) -> bool {
-    match accounts_of(alloc) {
-        Some(accounts) => {
-            let mut catalogue = Catalogue::new(alloc);
-            is_created(alloc, &accounts, &mut catalogue)
-                || is_created(alloc, &accounts, &mut catalogue)
-        }
-        None => false,
-    }
+    let mut accounts = Accounts::new(alloc);
+    let mut catalogue = Catalogue::new(alloc);
+    is_known(alloc, &mut accounts, (b"anna", b"admin", b""))
+        && (is_created(alloc, &accounts, &mut catalogue)
+            || is_created(alloc, &accounts, &mut catalogue))
 }
 
 /// Under `rt try --test --fail-alloc N` the Nth growth is refused.
