@@ -14,8 +14,6 @@ mod device;
 #[cfg(test)]
 mod errors;
 #[cfg(test)]
-mod failing;
-#[cfg(test)]
 mod feeding;
 #[cfg(test)]
 mod guard;
