@@ -5,7 +5,9 @@ ghost use Rattle.rows.specs.Words.{words_for, slots_words};
 use crate::cuts::first_bad_cut;
 use crate::difference::first_difference;
 use anyhow::{Context, Result};
-use deck_run::{Devices, MemReader, MemWriter, Options, Slots, exit_status, put_fault, run_deck};
+use deck_run::{
+    Counts, Devices, MemReader, MemWriter, Options, RunError, Slots, exit_status, put_fault, run_deck,
+};
 use std::alloc::{AllocError, Global};
 use std::fs;
 use std::rt::Files;
@@ -40,14 +42,13 @@ pub struct Case {
 impl Case {
     /// Reads the files of a case: `args`, `deck`, `stdout`, `stderr` and `status`, in its own folder of `cases/`.
     pub fn read<R: Files + AllocGlobal>(rt: &R, name: &str) -> Result<Case> {
+        let options = read_args(rt, name)?;
+        let wanted = read_outcome(rt, name)?;
+        let deck = read_part(rt, name, "deck")?;
         Ok(Case {
-            options: read_args(rt, name)?,
-            deck: read_part(rt, name, "deck")?,
-            wanted: Outcome {
-                stdout: read_part(rt, name, "stdout")?,
-                stderr: read_part(rt, name, "stderr")?,
-                status: read_status(rt, name)?,
-            },
+            options,
+            deck,
+            wanted,
         })
     }
 
@@ -99,7 +100,7 @@ impl Case {
 
     // Whether the deck cut anywhere, or read by a reader that fails there, shows what its whole lines print.
     fn is_cut_anywhere<R: Print + AllocGlobal>(&self, rt: &R, name: &str) -> Result<bool> {
-        match first_bad_cut(rt.alloc(), self.deck.as_slice(), self.options)? {
+        match first_bad_cut(rt.alloc(), self.deck.as_slice(), self.options) {
             Some(end) => {
                 println!(rt; "FAILED {name}: cut behind {end} bytes")?;
                 Ok(false)
@@ -119,21 +120,43 @@ impl Case {
         let writer = MemWriter::in_pieces(alloc, ROOM, most_written)?;
         let mut devices = Devices::new(reader, writer);
         let counts = run_deck(alloc, &mut devices, options);
-        let mut stderr = Vec::new(alloc);
-        if let Err(fault) = &counts {
-            put_fault(fault, &mut stderr)?;
-        }
-        Ok(Outcome {
-            stdout: Vec::from_slice(alloc, devices.writer.as_bytes())?,
-            stderr,
-            status: exit_status(&counts),
-        })
+        outcome_of(alloc, &counts, devices.writer.as_bytes())
     }
+}
+
+// What a run that answered so and wrote this shows.
+fn outcome_of(
+    alloc: Global,
+    counts: &Result<Counts, RunError>,
+    written: &[u8],
+) -> Result<Outcome, AllocError> {
+    let stdout = Vec::from_slice(alloc, written)?;
+    let mut stderr = Vec::new(alloc);
+    if let Err(fault) = counts {
+        put_fault(fault, &mut stderr)?;
+    }
+    let status = exit_status(counts);
+    Ok(Outcome {
+        stdout,
+        stderr,
+        status,
+    })
 }
 
 fn read_part<R: Files + AllocGlobal>(rt: &R, name: &str, part: &str) -> Result<Vec<u8>> {
     let path = format!(in rt.alloc(); "cases/{name}/{part}")?;
     fs::read(rt, path.as_str()).context(format_args!("reading {path}"))
+}
+
+fn read_outcome<R: Files + AllocGlobal>(rt: &R, name: &str) -> Result<Outcome> {
+    let status = read_status(rt, name)?;
+    let stdout = read_part(rt, name, "stdout")?;
+    let stderr = read_part(rt, name, "stderr")?;
+    Ok(Outcome {
+        stdout,
+        stderr,
+        status,
+    })
 }
 
 fn read_status<R: Files + AllocGlobal>(rt: &R, name: &str) -> Result<u8> {

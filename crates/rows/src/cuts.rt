@@ -37,23 +37,25 @@ fn run_of(alloc: Global, reader: MemReader<'_>, options: Options) -> Result<Run,
 }
 
 /// The place of the first cut at which a run shows something else than it must, if there is one.
-pub fn first_bad_cut(
-    alloc: Global,
-    deck: &[u8],
-    options: Options,
-) -> Result<Option<usize>, AllocError> {
-    let whole = run_of(alloc, MemReader::new(deck), options)?;
-    if let Some(end) = first_bad_byte(alloc, deck, options, &whole) {
-        return Ok(Some(end));
+pub fn first_bad_cut(alloc: Global, deck: &[u8], options: Options) -> Option<usize> {
+    match run_of(alloc, MemReader::new(deck), options) {
+        Ok(whole) => match first_bad_byte(alloc, deck, options, &whole) {
+            Some(end) => Some(end),
+            None => first_bad_end(alloc, deck, options, &whole),
+        },
+        Err(_) => Some(0),
     }
+}
+
+fn first_bad_end(alloc: Global, deck: &[u8], options: Options, whole: &Run) -> Option<usize> {
     let step = step_of(deck.len());
     for end in 0..=deck.len() {
         let is_cut = end % step == 0 || end == deck.len();
-        if is_cut && !shows_what_is_due(alloc, deck, end, options, &whole)? {
-            return Ok(Some(end));
+        if is_cut && !shows_what_is_due(alloc, deck, end, options, whole) {
+            return Some(end);
         }
     }
-    Ok(None)
+    None
 }
 
 // Whether runs of a deck that is cut there, or whose read fails there, show what they must.
@@ -63,17 +65,19 @@ fn shows_what_is_due(
     end: usize,
     options: Options,
     whole: &Run,
-) -> Result<bool, AllocError> {
+) -> bool {
     let cut = &deck[..end.min(deck.len())];
     let lines = whole_lines(cut);
     let number = lines.iter().filter(|byte| **byte == b'\n').count() as u64;
-    let due = run_of(alloc, MemReader::new(lines), options)?;
-    Ok(
-        is_begun(&due, whole, number)
-            && ends_there(alloc, cut, options, &due, number)?
-            && fails_there(alloc, deck, end, 1, options, &due, number)?
-            && fails_there(alloc, deck, end, 7, options, &due, number)?,
-    )
+    match run_of(alloc, MemReader::new(lines), options) {
+        Ok(due) => {
+            is_begun(&due, whole, number)
+                && ends_there(alloc, cut, options, &due, number)
+                && fails_there(alloc, deck, end, 1, options, &due, number)
+                && fails_there(alloc, deck, end, 7, options, &due, number)
+        }
+        Err(_) => false,
+    }
 }
 
 // Feeds a byte: how many were fed then. What is printed is appended.
@@ -100,34 +104,60 @@ fn gather(printed: &mut Printed, out: &mut Vec<u8>) -> Result<(), AllocError> {
     Ok(())
 }
 
-// The place of the first byte behind which a deck that is fed byte by byte shows something else than it must: something is
-// printed only where a line ends, all of it is what the whole run wrote, and the deck comes out as it did there.
-fn first_bad_byte(alloc: Global, deck: &[u8], options: Options, whole: &Run) -> Option<usize> {
-    let mut feed = DeckFeed::new(alloc, options);
-    let Ok(mut printed) = Printed::new(alloc) else {
-        return Some(0);
-    };
-    let mut out = Vec::new(alloc);
+/// How a deck was fed byte by byte.
+enum Fed {
+    /// Each byte was taken as it must be.
+    All,
+    /// The deck came out at a byte, as it did as a whole.
+    Out,
+    /// Something else was shown behind this byte.
+    Wrong(usize),
+}
+
+// Feeds all bytes: something is printed only where a line ends, and all of it is what the whole run wrote.
+fn feed_all(
+    alloc: Global,
+    feed: &mut DeckFeed,
+    deck: &[u8],
+    whole: &Run,
+    printed: &mut Printed,
+    out: &mut Vec<u8>,
+) -> Fed {
     for at in 0..deck.len() {
         let before = out.len();
-        match feed_byte(alloc, &mut feed, deck[at], &mut printed, &mut out) {
+        match feed_byte(alloc, feed, deck[at], printed, out) {
             Ok(fed) => {
-                if fed != at as u64 + 1 || !goes_on(whole, &out, before, deck[at] == b'\n') {
-                    return Some(at);
+                if fed != at as u64 + 1 || !goes_on(whole, out, before, deck[at] == b'\n') {
+                    return Fed::Wrong(at);
                 }
             }
-            Err(error) => return if came_out(whole, &Err(error), &out) {
-                None
+            Err(error) => return if came_out(whole, &Err(error), out) {
+                Fed::Out
             } else {
-                Some(at)
+                Fed::Wrong(at)
             },
         }
     }
-    let outcome = feed.finish(alloc, &mut printed);
-    if gather(&mut printed, &mut out).is_ok() && came_out(whole, &outcome, &out) {
-        None
-    } else {
-        Some(deck.len())
+    Fed::All
+}
+
+// The place of the first byte behind which a deck that is fed byte by byte shows something else than it must, or does not come
+// out as it did as a whole.
+fn first_bad_byte(alloc: Global, deck: &[u8], options: Options, whole: &Run) -> Option<usize> {
+    let Ok(mut printed) = Printed::new(alloc) else {
+        return Some(0);
+    };
+    let mut feed = DeckFeed::new(alloc, options);
+    let mut out = Vec::new(alloc);
+    match feed_all(alloc, &mut feed, deck, whole, &mut printed, &mut out) {
+        Fed::All => {
+            let outcome = feed.finish(alloc, &mut printed);
+            let is_as_whole =
+                gather(&mut printed, &mut out).is_ok() && came_out(whole, &outcome, &out);
+            if is_as_whole { None } else { Some(deck.len()) }
+        }
+        Fed::Out => None,
+        Fed::Wrong(at) => Some(at),
     }
 }
 
@@ -183,25 +213,25 @@ fn is_begun(due: &Run, whole: &Run, lines: u64) -> bool {
 }
 
 // Whether the deck that ends there is refused in the line of the cut, or behind it, or ends with `$STOP`.
-fn ends_there(
-    alloc: Global,
-    cut: &[u8],
-    options: Options,
-    due: &Run,
-    lines: u64,
-) -> Result<bool, AllocError> {
-    let seen = run_of(alloc, MemReader::new(cut), options)?;
+fn ends_there(alloc: Global, cut: &[u8], options: Options, due: &Run, lines: u64) -> bool {
+    match run_of(alloc, MemReader::new(cut), options) {
+        Ok(seen) => is_end(&seen, cut, due, lines),
+        Err(_) => false,
+    }
+}
+
+fn is_end(seen: &Run, cut: &[u8], due: &Run, lines: u64) -> bool {
     if !is_cut_behind(due, lines) {
-        return Ok(is_same(&seen, due));
+        return is_same(seen, due);
     }
     let is_refused =
         matches!(seen.outcome, Err(RunError::DeckRefused(line, _)) if line == lines.saturating_add(1));
     if is_refused {
-        return Ok(seen.writer.as_bytes() == due.writer.as_bytes());
+        return seen.writer.as_bytes() == due.writer.as_bytes();
     }
     let begins = seen.writer.as_bytes().starts_with(due.writer.as_bytes());
     let is_stopped = seen.outcome.is_ok() && cut.trim_ascii_end().ends_with(b"$STOP");
-    Ok((is_cut_behind(&seen, lines.saturating_add(1)) || is_stopped) && begins)
+    (is_cut_behind(seen, lines.saturating_add(1)) || is_stopped) && begins
 }
 
 // Whether what is due is out where reads give so many bytes, and the one fails that would give what stands there.
@@ -213,15 +243,17 @@ fn fails_there(
     options: Options,
     due: &Run,
     lines: u64,
-) -> Result<bool, AllocError>
+) -> bool
     requires { 0 < most }
 {
     if end % most != 0 {
-        return Ok(true);
+        return true;
     }
     let reader = MemReader::failing_at(deck, most, (end / most) as u64);
-    let seen = run_of(alloc, reader, options)?;
-    Ok(is_told(&seen, due, lines))
+    match run_of(alloc, reader, options) {
+        Ok(seen) => is_told(&seen, due, lines),
+        Err(_) => false,
+    }
 }
 
 // A read fault is told, unless the deck was refused before.
