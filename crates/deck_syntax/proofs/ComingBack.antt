@@ -159,7 +159,7 @@ both_fit : (ls ms : List (List ℕ)) → AllByRecursion (IsLineWithin 5000) ls �
 both_fit [] ms these others = others
 both_fit (l ∷ ls) ms (is, these) others = (is, both_fit ls ms these others)
 
-lines_fit : (sets : Sets) → AllByRecursion IsStoredSet sets → AllByRecursion IsLine (catalogue_lines sets) → AllByRecursion (IsLineWithin 5000) (catalogue_lines sets)
+pub lines_fit : (sets : Sets) → AllByRecursion IsStoredSet sets → AllByRecursion IsLine (catalogue_lines sets) → AllByRecursion (IsLineWithin 5000) (catalogue_lines sets)
 lines_fit [] stored shown = tt
 lines_fit (named ∷ sets) (is, stored) (head, (list, rest)) =
     let parts = all_of named.1.records (catalogue_lines sets) rest in (

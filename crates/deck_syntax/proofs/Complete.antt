@@ -218,7 +218,7 @@ stream_card line more n accounts version k sets is =
 
 -- ---- the stream
 
-stream_blanks : (blanks more : List (List ℕ)) (n : ℕ) → AreBlank blanks → (m : ℕ) × (stream_section n Closed (blanks ++ more) ≡ stream_section m Closed more)
+pub stream_blanks : (blanks more : List (List ℕ)) (n : ℕ) → AreBlank blanks → (m : ℕ) × (stream_section n Closed (blanks ++ more) ≡ stream_section m Closed more)
 stream_blanks [] more n are = (n, refl)
 stream_blanks (line ∷ blanks) more n (is, are) =
     let rest = stream_blanks blanks more (n + 1) are in (
@@ -278,7 +278,7 @@ list_end list line more n is dollar =
     ∙ ap (λ r. goes_on r n (asked_then (Commands (set_acl_of list)) (stream_section (n + 1) Closed more))) fine
 
 -- the lines of what is asked
-abbrev Takes : List ℕ → List (List ℕ) → Asked → ℕ → List (List ℕ) → Type 0
+abbrev pub Takes : List ℕ → List (List ℕ) → Asked → ℕ → List (List ℕ) → Type 0
 Takes line more one n rest = (m : ℕ) × (stream_section n Closed (line ∷ more ++ rest) ≡ asked_then one (stream_section m Closed rest))
 
 long_taken : (line : List ℕ) (more : List (List ℕ)) (account name text : List ℕ) (n : ℕ) (rest : List (List ℕ))
@@ -360,13 +360,13 @@ turn_taken line turn n rest is = (
       ∙ ap (λ (t : Turn). asked_then (Gives t) (stream_section (n + 1) Closed rest)) (turn_asked is.card_is.word line turn is),
 )
 
-asked_taken : (line : List ℕ) (more : List (List ℕ)) (one : Asked) (n : ℕ) (rest : List (List ℕ)) → SpellsAsked line more one → Takes line more one n rest
+pub asked_taken : (line : List ℕ) (more : List (List ℕ)) (one : Asked) (n : ℕ) (rest : List (List ℕ)) → SpellsAsked line more one → Takes line more one n rest
 asked_taken line more (Commands asked) n rest is = command_taken line more asked n rest is
 asked_taken line more (Enters job) n rest is = job_taken line more job n rest is
 asked_taken line more (Gives turn) n rest (is, none) = one_line line more (Gives turn) n rest none (turn_taken line turn n rest is)
 asked_taken line more Drains n rest (is, none) = one_line line more Drains n rest none (n + 1, card_taken card.Drain [] line rest n is refl)
 
-stream_taken : (asked : List Asked) (stream : List (List ℕ)) (stop_card : List ℕ) (unread : List (List ℕ)) (n : ℕ) → SpellsStream stream asked → IsCard 200 card.Stop [] stop_card
+pub stream_taken : (asked : List Asked) (stream : List (List ℕ)) (stop_card : List ℕ) (unread : List (List ℕ)) (n : ℕ) → SpellsStream stream asked → IsCard 200 card.Stop [] stop_card
     → stream_section n Closed (stream ++ stop_card ∷ unread) ≡ record { asked = asked; ending = Stopped }
 stream_taken [] stream stop_card unread n are stop =
     let blanks = stream_blanks stream (stop_card ∷ unread) n are in

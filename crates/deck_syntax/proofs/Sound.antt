@@ -323,16 +323,16 @@ loaded (line ∷ lines) n accounts p deck good is =
 
 -- ---- the stream
 
-record Stream (lines : List (List ℕ)) (cards : Cards) : Type 0 where
-  stream : List (List ℕ)
-  line : List ℕ
-  unread : List (List ℕ)
-  are : lines ≡ stream ++ line ∷ unread
-  stream_is : SpellsStream stream cards.asked
-  card_is : IsCard 200 card.Stop [] line
+pub record Stream (lines : List (List ℕ)) (cards : Cards) : Type 0 where
+  pub stream : List (List ℕ)
+  pub line : List ℕ
+  pub unread : List (List ℕ)
+  pub are : lines ≡ stream ++ line ∷ unread
+  pub stream_is : SpellsStream stream cards.asked
+  pub card_is : IsCard 200 card.Stop [] line
 
 -- the lines of a list that is open, and what follows its end
-record Listed (account name text : List ℕ) (lines : List (List ℕ)) (cards : Cards) : Type 0 where
+pub record Listed (account name text : List ℕ) (lines : List (List ℕ)) (cards : Cards) : Type 0 where
   list : List (List ℕ)
   line : List ℕ
   rest : List (List ℕ)
@@ -345,7 +345,7 @@ record Listed (account name text : List ℕ) (lines : List (List ℕ)) (cards : 
   stream : Stream rest later
 
 -- the lines of a job that is open, and what follows its end
-record Jobbed (job : OpenJob) (lines : List (List ℕ)) (cards : Cards) : Type 0 where
+pub record Jobbed (job : OpenJob) (lines : List (List ℕ)) (cards : Cards) : Type 0 where
   whole : OpenJob
   rest : List (List ℕ)
   later : Cards
@@ -353,7 +353,7 @@ record Jobbed (job : OpenJob) (lines : List (List ℕ)) (cards : Cards) : Type 0
   cards_are : asked_then (Enters whole) later ≡ cards
   stream : Stream rest later
 
-abbrev Streams : Open → List (List ℕ) → Cards → Type 0
+abbrev pub Streams : Open → List (List ℕ) → Cards → Type 0
 Streams Closed lines cards = Stream lines cards
 Streams (InList list) lines cards = Listed list.account list.name list.text lines cards
 Streams (InJob job) lines cards = Jobbed job lines cards
@@ -672,7 +672,7 @@ module _ (line : List ℕ) (lines : List (List ℕ)) (n : ℕ) (cards : Cards) (
     job_line (Some code) e same later = absurd (not_stopped cards n code good same)
     job_line None e same later = in_job (took job line e) same later
 
-streams : (lines : List (List ℕ)) (n : ℕ) (pending : Open) (cards : Cards) → cards.ending ≡ Stopped → stream_section n pending lines ≡ cards
+pub streams : (lines : List (List ℕ)) (n : ℕ) (pending : Open) (cards : Cards) → cards.ending ≡ Stopped → stream_section n pending lines ≡ cards
     → Streams pending lines cards
 streams [] n Closed cards good is = absurd (not_stopped cards n Truncated good is)
 streams [] n (InList list) cards good is = absurd (not_stopped cards n Truncated good is)
