@@ -6,7 +6,8 @@ use crate::cuts::first_bad_cut;
 use crate::difference::first_difference;
 use anyhow::{Context, Result};
 use deck_run::{
-    Counts, Devices, MemReader, MemWriter, Options, RunError, Slots, exit_status, put_fault, run_deck,
+    Counts, Devices, MemReader, MemWriter, Options, RunError, Slots, exit_status, put_fault,
+    run_deck,
 };
 use std::alloc::{AllocError, Global};
 use std::fs;

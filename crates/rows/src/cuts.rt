@@ -152,8 +152,8 @@ fn first_bad_byte(alloc: Global, deck: &[u8], options: Options, whole: &Run) -> 
     match feed_all(alloc, &mut feed, deck, whole, &mut printed, &mut out) {
         Fed::All => {
             let outcome = feed.finish(alloc, &mut printed);
-            let is_as_whole =
-                gather(&mut printed, &mut out).is_ok() && came_out(whole, &outcome, &out);
+            let is_as_whole = gather(&mut printed, &mut out).is_ok()
+                && came_out(whole, &outcome, &out);
             if is_as_whole { None } else { Some(deck.len()) }
         }
         Fed::Out => None,
