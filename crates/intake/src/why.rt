@@ -3,7 +3,6 @@ ghost use Rattle.std.specs.Prelude.{◌≡◌};
 ghost use Rattle.intake.specs.Whys.{why_text};
 
 use deck_syntax::DeckError;
-use std::fmt;
 
 /// Why a text is not admitted.
 #[derive(Clone, Copy)]
@@ -29,12 +28,6 @@ impl Why {
             Why::Stops => "I2 STOP CARD",
             Why::Unfinished => "I3 UNFINISHED",
         }
-    }
-}
-
-impl fmt::Display for Why {
-    fn fmt<W: fmt::Write>(&self, f: &mut fmt::Formatter<W>) -> fmt::Result {
-        f.write_str(self.text())
     }
 }
 
