@@ -131,7 +131,7 @@ one_account line more n done account is new =
     ∙ ap (λ r. deck_goes_on r n done (accounts_section (n + 1) (done ++ account_on (words line) ∷ []) more)) (account_taken line done account is new)
     ∙ ap (λ (ws : List (List ℕ)). accounts_section (n + 1) (done ++ account_on ws ∷ []) more) is.words_are
 
-table_taken : (accounts done : List Account) (table more : List (List ℕ)) (n : ℕ) → SpellsAccounts table accounts → HaveDifferentNames (done ++ accounts)
+pub table_taken : (accounts done : List Account) (table more : List (List ℕ)) (n : ℕ) → SpellsAccounts table accounts → HaveDifferentNames (done ++ accounts)
     → (m : ℕ) × (accounts_section n done (table ++ more) ≡ accounts_section m (done ++ accounts) more)
 table_taken [] done table more n are differ =
     let rest = table_blanks table more n done are in
@@ -195,7 +195,7 @@ text_taken (line ∷ text) more n accounts p version k sets (fits, fit) is =
     (rest.0, text_line p line (text ++ more) n accounts fits (leads (step p line) text version k sets is) ∙ rest.1)
 
 -- whole sets
-due : (p : Progress) (sets : Sets) → finished p ≡ Ok sets → (version : Version) × (k : ℕ) × (p ≡ progress.SetDue version k sets)
+pub due : (p : Progress) (sets : Sets) → finished p ≡ Ok sets → (version : Version) × (k : ℕ) × (p ≡ progress.SetDue version k sets)
 due (progress.SetDue version k sets') sets is = let same : sets' ≡ sets = cc in (version, k, ap (progress.SetDue version k) same)
 due (progress.ListDue version n sets' head) sets is = cc
 due (progress.RecordsDue version n sets' name set left) sets is = cc
