@@ -79,7 +79,7 @@ pub both_writable : (ls ms : List (List ℕ)) → AllByRecursion IsWritable ls �
 both_writable [] ms these others = others
 both_writable (l ∷ ls) ms (is, these) others = (is, both_writable ls ms these others)
 
-all_weaker : (ls : List (List ℕ)) → AllByRecursion IsLine ls → AllByRecursion IsWritable ls
+pub all_weaker : (ls : List (List ℕ)) → AllByRecursion IsLine ls → AllByRecursion IsWritable ls
 all_weaker [] are = tt
 all_weaker (l ∷ ls) (is, are) = (weaker l is, all_weaker ls are)
 
@@ -138,12 +138,12 @@ stream_writable (one ∷ asked) ls (blanks, line, more, rest, are, blanks_are, i
     (both_writable blanks (line ∷ more ++ rest) (blanks_writable blanks blanks_are)
     (both_writable (line ∷ more) rest (asked_writable line more one is) (stream_writable asked rest others)))
 
-texts_all : (texts : List Handed) → AreHanded texts → AllByRecursion IsWritable (stream_lines texts)
+pub texts_all : (texts : List Handed) → AreHanded texts → AllByRecursion IsWritable (stream_lines texts)
 texts_all [] are = tt
 texts_all (text ∷ texts) (is, are) =
     both_writable text.lines (codes "$DRAIN" ∷ stream_lines texts) (stream_writable text.asked text.lines is.spelled) (refl, texts_all texts are)
 
-table_writable : (accounts : List Account) (table : List (List ℕ)) → SpellsAccounts table accounts → AllByRecursion IsWritable table
+pub table_writable : (accounts : List Account) (table : List (List ℕ)) → SpellsAccounts table accounts → AllByRecursion IsWritable table
 table_writable [] table are = blanks_writable table are
 table_writable (account ∷ accounts) table (blanks, line, rest, are, blanks_are, is, others) =
     subst (AllByRecursion IsWritable) (sym are)
