@@ -6,3 +6,4 @@ pub mod Beginnings
 pub mod Parts
 pub mod Pieces
 pub mod CardWords
+pub mod LineEnds

@@ -1,6 +1,6 @@
 -- What comes of a deck from the middle of it on: what was read so far is a section, and the lines that are left are a deck
 -- by the same sections, over the system as it stands.
-use Rattle.std.specs.Prelude.{◌≡◌, ℕ, ◌==◌, Bool, true, false, not, List, [], ◌++◌, length, Option, Some, None, Result, Ok, Err, if◌then◌else◌}
+use Rattle.std.specs.Prelude.{◌≡◌, ℕ, ◌==◌, Bool, true, false, not, List, [], ◌∷◌, ◌++◌, length, Option, Some, None, Result, Ok, Err, if◌then◌else◌}
 use Rattle.mon_catalogue.specs.Sets.{Sets}
 use Rattle.mon_catalogue.specs.Progress.{lines_taken}
 use Rattle.scheduler.specs.Marks.{Marks}
@@ -123,6 +123,10 @@ behind text counts later = record { written = text ++ later.written; conclusion 
 -- a text begins with this one
 abbrev pub Begins : List ℕ → List ℕ → Type 0
 Begins front text = (rest : List ℕ) × (text ≡ front ++ rest)
+
+-- the last of these bytes ends a line
+abbrev pub EndsLine : List ℕ → Type 0
+EndsLine bytes = (front : List ℕ) × (bytes ≡ front ++ 10 ∷ [])
 
 -- it was answered: memory did not run out
 abbrev pub OnAnswer : {T : Type 0} → Result T RunError → Type 0 → Type 0

@@ -1,5 +1,5 @@
 //! Feeding a deck: each card's event happens when the card is complete.
-ghost use Rattle.std.specs.Prelude.{◌≡◌, ℕ, List, ◌+◌, ◌-◌, ◌<◌, ◌≤◌, ◌^◌, [], ◌++◌, Bool, true, false, None, length, take, Ok, Err, IfOk, IfErr, OnOk, OnErr, IsTrue};
+ghost use Rattle.std.specs.Prelude.{◌≡◌, ◌⊎◌, ℕ, List, ◌+◌, ◌-◌, ◌<◌, ◌≤◌, ◌^◌, [], ◌++◌, Bool, true, false, None, length, take, Ok, Err, IfOk, IfErr, OnOk, OnErr, IsTrue};
 ghost use Rattle.std.specs.Str.Lines.{lines};
 ghost use Rattle.mon_catalogue.specs.Sets.{Sets};
 ghost use Rattle.scheduler.specs.Marks.{Marks};
@@ -11,7 +11,7 @@ ghost use Rattle.deck_driver.specs.declared.options.Options.{Options as AnyOptio
 ghost use Rattle.deck_driver.specs.declared.section.DeckState.TheVariants as states;
 ghost use Rattle.deck_driver.specs.RunStates.{opening, nothing_counted};
 ghost use Rattle.deck_driver.specs.Printouts.{ReadsBack};
-ghost use Rattle.deck_driver.specs.Feeds.{outcome, outcome_of, behind, refused_at, Good, Bad, Begins, OnAnswer, lines_loaded, is_reading, may_grow, used_by, IsReadBack, IsOwn, stopped_by, error_at, fault_at};
+ghost use Rattle.deck_driver.specs.Feeds.{outcome, outcome_of, behind, refused_at, Good, Bad, Begins, EndsLine, OnAnswer, lines_loaded, is_reading, may_grow, used_by, IsReadBack, IsOwn, stopped_by, error_at, fault_at};
 ghost use Rattle.deck_driver.specs.Abstraction.{told, outcome_from, Took, Begun, last_lines};
 ghost use Rattle.deck_driver.specs.inner.Counting.{lines_ended};
 ghost use Rattle.deck_driver.specs.inner.Lines.{Ended, EndBegun};
@@ -63,7 +63,7 @@ impl DeckFeed {
     ///
     /// `DeckRefused` where a card is refused; `Memory` where a growth was refused, which takes at least one byte before
     /// `$STOP`. After an error each further call answers the same and appends nothing.
-    #[tactic(auto, using(crate::proofs::Beginnings::begins_further, crate::proofs::Pieces::begun_same, crate::proofs::Pieces::took_refused))]
+    #[tactic(auto, using(crate::proofs::Beginnings::begins_further, crate::proofs::LineEnds::all_left, crate::proofs::Pieces::begun_same, crate::proofs::Pieces::took_refused))]
     pub fn feed(&mut self, alloc: Global, piece: &[u8], out: &mut Printed) -> Result<(), RunError>
         requires { self.old.fed + length piece.now < 2 ^ 63 }
         ensures appends { Begins out.old out.new }
@@ -78,6 +78,8 @@ impl DeckFeed {
         ensures options { self.new.options ≡ self.old.options }
         ensures fed { (self.old.fed ≤ self.new.fed) × (self.new.fed ≤ self.old.fed + length piece.now) }
         ensures all { OnOk result (self.new.fed ≡ self.old.fed + length piece.now) }
+        // Where the deck is still read, a piece that ends with a line end leaves nothing of a line behind.
+        ensures ended { EndsLine piece.now → OnOk result (is_reading self.new.state ≡ true → self.new.line ≡ []) }
     {
         match &self.state {
             DeckState::Refused(n, code) => return Err(RunError::DeckRefused(*n, *code)),
@@ -142,6 +144,7 @@ impl DeckFeed {
         ensures nothing { OnErr result (out.new ≡ out.old) }
         ensures sound { OnOk result (error_at self.new.state ≡ None) }
         ensures counted { IfOk result (λ used. is_reading self.new.state ≡ true → (is_reading self.old.state ≡ true) × (self.old.lines_taken + lines_ended (take used piece.now) ≤ self.new.lines_taken)) }
+        ensures kept { IfOk result (λ used. is_reading self.new.state ≡ true → (has_no_end (take used piece.now) ≡ true) ⊎ (self.new.line ≡ [])) }
     {
         match &self.state {
             DeckState::Refused(n, code) => return Err(RunError::DeckRefused(*n, *code)),

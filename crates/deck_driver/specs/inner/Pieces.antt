@@ -1,7 +1,8 @@
 -- A piece that was taken in part.
-use Rattle.std.specs.Prelude.{◌≡◌, ℕ, List, ◌++◌}
+use Rattle.std.specs.Prelude.{◌≡◌, ◌⊎◌, ℕ, true, List, [], ◌++◌}
 use Rattle.scheduler.specs.Marks.{Marks}
 use Rattle.deck_driver.specs.declared.feed.DeckFeed.{DeckFeed}
+use Rattle.deck_driver.specs.Feeds.{EndsLine, is_reading}
 use Rattle.deck_driver.specs.Abstraction.{told}
 
 -- with some marks for the turns in it, what was put out and what the feed stands for are, with what is left of the piece, what
@@ -9,3 +10,7 @@ use Rattle.deck_driver.specs.Abstraction.{told}
 pub record TookUpTo (before : List ℕ) (f : DeckFeed) (piece after : List ℕ) (g : DeckFeed) (left : List ℕ) : Type 0 where
   pub marks : Marks
   pub is : (rest : Marks) → (bytes : List ℕ) → told rest after g (left ++ bytes) ≡ told (marks ++ rest) before f (piece ++ bytes)
+
+-- what is left of a piece ends with a line end; or nothing is left, and nothing of a line is kept, where the deck is still read
+abbrev pub LeavesNothing : List ℕ → DeckFeed → Type 0
+LeavesNothing left f = EndsLine left ⊎ ((left ≡ []) × (is_reading f.state ≡ true → f.line ≡ []))

@@ -1,8 +1,11 @@
-use Rattle.std.proofs.Common.{arith, refl, sym, ap, ◌∙◌, ◌+◌, ◌≡◌, ◌≤◌, Err, List, ℕ, length, drop}
+use Rattle.std.proofs.Common.{arith, refl, true≢false, sym, ap, subst, ◌∙◌, ◌+◌, ◌≡◌, ◌≤◌, ◌<◌, Err, List, ℕ, length, drop}
 use Rattle.std.proofs.lemmas.List.{take_rest, length-drop}
 use Rattle.std.proofs.lemmas.Result.{err_from_is_err_and}
 use Rattle.mon_text.proofs.Cutting.{nothing_kept}
+use Rattle.deck_driver.specs.Feeds.{is_reading}
+use Rattle.deck_driver.specs.inner.Pieces.{LeavesNothing}
 use Rattle.deck_driver.proofs.Beginnings.{begins_further}
+use Rattle.deck_driver.proofs.LineEnds.{line_taken, none_left}
 use Rattle.deck_driver.proofs.Pieces.{took_more, took_all, begun_so_far, begun_more, took_answer, took_stopped}
 use Rattle.deck_driver.proofs.feed.DeckFeed.feed.Goals as goal
 
@@ -26,6 +29,12 @@ pub returns-clause-told : goal.returns-clause-told
 returns-clause-told c =
     took_all c.args.out.now c.args.self.now c.args.piece.now c.lines.out c.lines.self c.lines.rest.now c.lines.invariant.told (nothing_kept c.lines.rest.now (sym c.is_empty.ensures ∙ c.lines-test.false))
 
+pub returns-clause-ended : goal.returns-clause-ended
+returns-clause-ended c = λ ends. none_left c.lines.rest.now c.lines.self (nothing_kept c.lines.rest.now (sym c.is_empty.ensures ∙ c.lines-test.false)) (c.lines.invariant.ended ends)
+
+pub returns-in-Stopped-clause-ended : goal.returns-in-Stopped-clause-ended
+returns-in-Stopped-clause-ended c = λ ends reading. absurd (true≢false (sym reading ∙ ap is_reading c.in-Stopped.is))
+
 pub returns-clause-begun : goal.returns-clause-begun
 returns-clause-begun c = begun_so_far c.args.out.now c.args.self.now c.args.piece.now c.lines.out c.lines.self c.lines.rest.now c.lines.invariant.told
 
@@ -36,6 +45,7 @@ lines-preserved c =
     let feed = c.feed_line.new.self in
     let there : feed.fed + length (drop used rest) ≡ c.args.self.now.fed + length c.args.piece.now =
     omega (arith, c.in_ok-used.ensures.used.1, c.in_ok-used.ensures.used.2, length-drop used rest, c.lines.invariant.fed) in
+    let some : 0 < length rest = omega (arith, c.in_ok-used.ensures.used.0, c.in_ok-used.ensures.used.1) in
     let less : length (drop used rest) ≤ length c.args.piece.now = omega (arith, length-drop used rest, c.lines.invariant.within) in
     record {
       told =
@@ -47,4 +57,7 @@ lines-preserved c =
       within = rw (take_rest rest used) less;
       reads_back = λ back. c.in_ok-used.ensures.reads_back (c.lines.invariant.reads_back back);
       options = c.feed_line.ensures.options ∙ c.lines.invariant.options;
+      ended = λ ends.
+          subst (λ (v : List ℕ). LeavesNothing v feed) (sym (take_rest rest used))
+          (line_taken rest used c.lines.self feed some c.in_ok-used.ensures.kept (c.lines.invariant.ended ends));
     }

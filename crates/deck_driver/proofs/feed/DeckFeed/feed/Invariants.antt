@@ -1,7 +1,7 @@
 -- What was told so far, and the rest of the piece, tell what all of the piece tells.
 use Rattle.std.proofs.Common.{◌≡◌, ◌≤◌, ◌+◌, length}
-use Rattle.deck_driver.specs.Feeds.{Begins, IsReadBack}
-use Rattle.deck_driver.specs.inner.Pieces.{TookUpTo}
+use Rattle.deck_driver.specs.Feeds.{Begins, EndsLine, IsReadBack}
+use Rattle.deck_driver.specs.inner.Pieces.{TookUpTo, LeavesNothing}
 use Rattle.deck_driver.proofs.feed.DeckFeed.feed.Given as goal
 
 abbrev pub invariant-lines : goal.invariant-lines
@@ -12,6 +12,7 @@ invariant-lines l = record {
   within : length l.rest ≤ length l.fn.piece;
   reads_back : IsReadBack l.fn.self.options.check l.fn.self.state → IsReadBack l.self.options.check l.self.state;
   options : l.self.options ≡ l.fn.self.options;
+  ended : EndsLine l.fn.piece → LeavesNothing l.rest l.self;
 }
 
 abbrev pub decreases-lines : goal.decreases-lines

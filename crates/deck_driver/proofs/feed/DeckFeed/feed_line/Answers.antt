@@ -1,4 +1,4 @@
-use Rattle.std.proofs.Common.{refl, sym, ap, subst, arith, [], ◌∷◌, ◌++◌, ◌∙◌, Option, List, ℕ, ◌+◌, take, None}
+use Rattle.std.proofs.Common.{refl, true≢false, inl, inr, sym, ap, subst, arith, [], ◌∷◌, ◌++◌, ◌∙◌, Option, List, ℕ, ◌+◌, take, None}
 use Rattle.std.specs.Option.{option_map}
 use Rattle.std.specs.Str.Lines.{lines}
 use Rattle.mon_text.specs.declared.ended_line.EndedLine.{EndedLine}
@@ -114,3 +114,20 @@ returns-in-Err-answer-clause-begun c = begun_same c.args.out.now c.take_line-ans
 
 pub returns-in-Stopped-clause-told : goal.returns-in-Stopped-clause-told
 returns-in-Stopped-clause-told c = took_stopped c.args.out.now c.args.self.now _ _ c.in-Stopped.field-0 c.in-Stopped.is refl refl
+
+pub returns-else-contains-clause-kept : goal.returns-else-contains-clause-kept
+returns-else-contains-clause-kept c = λ reading.
+    let before = c.args.self.now in
+    let used = c.in-Ok-default-None.used in
+    let taken = subst (λ (o : Option EndedLine). Takes before.line c.args.piece.now used (option_map text_of o) c.take_part.new.line) c.in-Ok-default-None.field-0-1-is c.in-Ok-default-None.ensures.taken in
+    inl (ap has_no_end (all_taken c.args.piece.now used taken.0) ∙ open_where c.args.piece.now _ c.contains.ensures.value c.if-contains.false)
+
+pub returns-in-Ok-clause-kept : goal.returns-in-Ok-clause-kept
+returns-in-Ok-clause-kept c = λ reading.
+    let before = c.args.self.now in
+    let used = c.in-Ok-default-Some.used in
+    let taken = subst (λ (o : Option EndedLine). Takes before.line c.args.piece.now used (option_map text_of o) c.take_part.new.line) c.in-Ok-default-Some.field-0-1-is c.in-Ok-default-Some.ensures.taken in
+    inr (c.reuse.ensures ∙ taken.2)
+
+pub returns-in-Stopped-clause-kept : goal.returns-in-Stopped-clause-kept
+returns-in-Stopped-clause-kept c = λ reading. absurd (true≢false (sym reading ∙ ap is_reading c.in-Stopped.is))
