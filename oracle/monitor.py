@@ -464,11 +464,16 @@ class Deck:
         self.job[5].append(line[1:] if line[:2] == '$$' else line)
 
 
-def run(data, slots=4):
-    """(output, standard error, exit status)"""
+def lines_of(data):
+    """A CR before the LF belongs to the line's end; the last line may lack its end."""
     lines = data.split(b'\n')
     last = lines.pop()
-    lines = [l[:-1] if l.endswith(b'\r') else l for l in lines] + ([last] if last else [])
+    return [l[:-1] if l.endswith(b'\r') else l for l in lines] + ([last] if last else [])
+
+
+def run(data, slots=4):
+    """(output, standard error, exit status)"""
+    lines = lines_of(data)
     monitor = Monitor(slots)
     deck = Deck(monitor)
     try:

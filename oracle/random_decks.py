@@ -86,15 +86,19 @@ def card(r, slots):
     return ['$%s %s %s%s' % (word, who, name, mode)]
 
 
-def deck(r, slots):
+def catalogue(r):
     version = r.choice([1, 2, 2])
-    lines = ['$ACCOUNTS'] + [' '.join([a] + g) for a, g in ACCOUNTS.items()] + ['$CATALOGUE' + ' 2' * (version == 2)]
+    lines = ['$CATALOGUE' + ' 2' * (version == 2)]
     for name in SETS[:r.randint(2, 4)]:
         records = r.choices(TEXTS, k=r.randint(0, 5))
         mode = ' ' + r.choice(['SEQ', 'APPEND']) if version == 2 else ''
         lines += ['$SET %s %s %s%s %d' % (name, r.choice(sorted(ACCOUNTS)), r.choice(GROUPS), mode, len(records)), ','.join(acl(r))]
         lines += records
-    lines.append('$STREAM')
+    return lines
+
+
+def deck(r, slots):
+    lines = ['$ACCOUNTS'] + [' '.join([a] + g) for a, g in ACCOUNTS.items()] + catalogue(r) + ['$STREAM']
     for _ in range(r.randint(1, 12)):
         lines += card(r, slots)
     return '\n'.join(lines + ['$STOP', ''])

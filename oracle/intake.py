@@ -1,0 +1,84 @@
+"""Which texts an account may hand in, what they ask for, and in which order a round takes them: written from the rules alone.
+
+python3 intake.py ACCOUNT < text       prints the text's verdict
+
+What a line of the stream says, and why a deck is refused at it, is asked of monitor.py, which reads decks."""
+import sys
+from monitor import Deck, Refused, lines_of
+
+FOREIGN, STOPS, UNFINISHED = 'I1 FOREIGN ACCOUNT', 'I2 STOP CARD', 'I3 UNFINISHED'
+
+
+class Noted:
+    """In the monitor's place: what cards ask for is noted, and nothing is done."""
+
+    def __init__(self):
+        self.jobs, self.slots, self.loaded, self.creates = 0, [], [], 0
+
+    def load(self, job):
+        self.loaded.append(job)
+
+    def command(self, word, *_):
+        self.creates += word == 'CREATE'
+
+    def turn(self, slot):
+        pass
+
+    def drain(self):
+        pass
+
+
+def examine(own, text):
+    """(what is noted of the text, None) where it is admitted; else (None, (the line that settles it, why))."""
+    deck = Deck(Noted())
+    deck.section = deck.stream
+    lines = lines_of(text)
+    for number, line in enumerate(lines, 1):
+        is_card = deck.job is None and deck.list is None
+        try:
+            deck.take(line)
+        except Refused as code:
+            return None, (number, str(code))
+        except EOFError:
+            return None, (number, STOPS)
+        words = line.decode().split()
+        if is_card and words and words[0] not in ('$TURN', '$DRAIN') and words[1] != own:
+            return None, (number, FOREIGN)
+    if deck.job is not None or deck.list is not None:
+        return None, (len(lines) + 1, UNFINISHED)
+    return deck.monitor, None
+
+
+def tally(text, noted):
+    """Of a text that is admitted. Its lines count as they stand in a round: each ends with LF alone."""
+    statements = [job[2] for job in noted.loaded]
+    work = [job[2] * job[3] for job in noted.loaded]
+    return {'jobs': len(noted.loaded), 'statements': sum(statements), 'largest': max(work, default=0), 'work': sum(work),
+            'creates': noted.creates, 'bytes': sum(len(line) + 1 for line in lines_of(text))}
+
+
+def verdict(own, text):
+    noted, refusal = examine(own, text)
+    if refusal:
+        return 'REFUSED %d %s' % refusal
+    return 'ADMITTED ' + ' '.join('%s=%d' % one for one in tally(text, noted).items())
+
+
+def first_broken(limits, owned, tallies):
+    """Which limit the texts of an account break first, or None; owned are, when the round starts, its data sets and their bytes."""
+    total = {name: sum(one[name] for one in tallies) for name in ('bytes', 'jobs', 'statements', 'work', 'creates')}
+    there = {'texts': len(tallies), 'bytes': total['bytes'], 'jobs': total['jobs'], 'statements': total['statements'],
+             'largest': max((one['largest'] for one in tallies), default=0), 'work': total['work'],
+             'data sets': owned[0] + total['creates'], 'records': owned[1]}
+    return next((name for name in there if there[name] > limits[name]), None)
+
+
+def in_turns(number, queues):
+    """The first text of each account, then the second of each, and so on. Each round begins with the next account."""
+    first = number % len(queues) if queues else 0
+    rotated = queues[first:] + queues[:first]
+    return [queue[k] for k in range(max(map(len, queues), default=0)) for queue in rotated if k < len(queue)]
+
+
+if __name__ == '__main__':
+    print(verdict(sys.argv[1], sys.stdin.buffer.read()))
