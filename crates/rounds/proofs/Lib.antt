@@ -1,0 +1,12 @@
+pub mod Queues
+pub mod Turns
+pub mod Fairness
+pub mod Taking
+pub mod Empty
+pub mod Delivering
+pub mod Telling
+pub mod Heads
+pub mod Reaching
+pub mod Parts
+pub mod GoingOn
+pub mod Composed

@@ -1,0 +1,4 @@
+pub mod Order
+pub mod Delivery
+pub mod Compositions
+pub mod Laws

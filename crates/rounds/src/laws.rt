@@ -1,0 +1,57 @@
+//! Laws over rounds: each function's contract is one.
+ghost use Rattle.rounds.specs.Order.{FairOrder};
+ghost use Rattle.rounds.specs.Laws.{EachAlone, Delivers, EachTells, EachItsPart, GoesOn};
+
+/// The order of a round is fair: each text has its place in it, each account's stand in their own order, and nowhere is an
+/// account ahead of another, that has texts left, by more than one.
+pub fn fair_order<T>()
+    ensures { FairOrder T }
+{}
+
+/// A text leaves all slots empty: the next one finds nothing of it except the data sets.
+pub fn each_alone()
+    ensures { EachAlone }
+{
+    mon_monitor::laws::card_by_card();
+    mon_monitor::laws::drain_empties();
+    mon_monitor::laws::accounts_stay();
+    mon_monitor::laws::slots_stay();
+}
+
+/// What a round writes is what each text prints, run alone over the data sets that the text before it left, in order, and then
+/// the catalogue that the last of them left.
+pub fn delivers()
+    ensures { Delivers }
+{
+    intake::laws::never_refused();
+    mon_monitor::laws::card_by_card();
+    mon_monitor::laws::drain_empties();
+    mon_monitor::laws::accounts_stay();
+    mon_monitor::laws::slots_stay();
+}
+
+/// Each text has a history of its own, which tells all of it: its cards, its jobs, what was granted and denied, what it prints.
+pub fn each_tells()
+    ensures { EachTells }
+{
+    mon_monitor::laws::history_tells();
+}
+
+/// Cut where the printouts of its texts end, the output of a round has the printout of each text, whole and alone, and behind the
+/// last the catalogue.
+pub fn each_its_part()
+    ensures { EachItsPart }
+{
+    intake::laws::never_refused();
+    mon_monitor::laws::card_by_card();
+    mon_monitor::laws::drain_empties();
+    mon_monitor::laws::accounts_stay();
+    mon_monitor::laws::slots_stay();
+}
+
+/// A round's deck is never refused, and what a round leaves is good for the next: for ever.
+pub fn goes_on()
+    ensures { GoesOn }
+{
+    intake::laws::never_refused();
+}

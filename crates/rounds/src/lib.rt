@@ -1,0 +1,10 @@
+//! A round: texts that were handed in are put in order, and run as one deck, each as if it were alone; and each is given what it
+//! printed.
+#![tactic(auto)]
+
+pub mod composing;
+pub mod laws;
+pub mod order;
+
+pub use composing::{compose, compose_head};
+pub use order::in_turns;
