@@ -10,3 +10,5 @@ pub mod Reaching
 pub mod Parts
 pub mod GoingOn
 pub mod Composed
+pub mod Served
+pub mod Standing

@@ -2,3 +2,4 @@ pub mod Order
 pub mod Delivery
 pub mod Compositions
 pub mod Laws
+pub mod Serving

@@ -5,6 +5,8 @@
 pub mod composing;
 pub mod laws;
 pub mod order;
+pub mod running;
 
 pub use composing::{compose, compose_head};
 pub use order::in_turns;
+pub use running::{Round, RoundError, run_round};

@@ -1,0 +1,129 @@
+-- A round, served piece by piece.
+use Rattle.std.proofs.Common.{◌≡◌, ℕ, ◌+◌, Bool, true, false, List, [], ◌∷◌, ◌++◌, length, flat_map, refl, sym, ap, ap₂, ◌∙◌, append_assoc, append-nil}
+use Rattle.std.specs.Str.Lines.{lines}
+use Rattle.std.proofs.lemmas.List.Concat.{flat_map-append}
+use Rattle.mon_catalogue.specs.Sets.{Sets}
+use Rattle.scheduler.specs.Marks.{Marks}
+use Rattle.deck_syntax.specs.declared.deck_error.DeckError.{DeckError}
+use Rattle.deck_syntax.specs.Decks.{Ending, Stopped, Refused}
+use Rattle.deck_driver.specs.declared.feed.DeckFeed.{DeckFeed}
+use Rattle.deck_driver.specs.declared.options.Counts.{Counts}
+use Rattle.deck_driver.specs.declared.options.Options.{Options}
+use Rattle.deck_driver.specs.declared.section.DeckState.{DeckState}
+use Rattle.deck_driver.specs.declared.section.DeckState.TheVariants as state
+use Rattle.deck_driver.specs.Feeds.{Outcome, Good, Bad, outcome, behind, concluded, sets_left, is_reading, more}
+use Rattle.deck_driver.specs.Abstraction.{told, Took}
+use Rattle.deck_driver.specs.Printouts.{output_of}
+use Rattle.deck_driver.proofs.Beginnings.{nothing_printed}
+use Rattle.deck_run.specs.Runs.{deck_ending, run_state_of, counts_of, catalogue_after}
+use Rattle.intake.specs.declared.submission.Submission.{Submission}
+use Rattle.rounds.specs.Compositions.{with_fence, front_text, ends_of}
+use Rattle.rounds.specs.Serving.{whole, IsBad}
+
+-- ---- one piece
+
+-- what was put out stands behind what was put out before
+pub behind_both : (m : Marks) (a b : List ℕ) (f : DeckFeed) (bytes : List ℕ)
+    → told m (a ++ b) f bytes ≡ record { written = a ++ (told m b f bytes).written; conclusion = (told m b f bytes).conclusion }
+behind_both m a b f bytes =
+    let later = outcome f.options f.counts.jobs m f.state (f.lines_taken + 1) (lines (f.line ++ bytes)) in
+    ap (λ (t : List ℕ). (let o : Outcome = record { written = t; conclusion = more f.counts later.conclusion } in o)) (append_assoc a b later.written)
+
+pub took_behind : (before out : List ℕ) (f g : DeckFeed) (piece : List ℕ) → Took [] f piece out g → Took before f piece (before ++ out) g
+took_behind before out f g piece took = record {
+  marks = took.marks;
+  is = λ rest bytes.
+      behind_both rest before out g bytes
+      ∙ ap (λ (o : Outcome). (let r : Outcome = record { written = before ++ o.written; conclusion = o.conclusion } in r)) (took.is rest bytes)
+      ∙ sym (behind_both (took.marks ++ rest) before [] f (piece ++ bytes))
+      ∙ ap (λ (t : List ℕ). told (took.marks ++ rest) t f (piece ++ bytes)) (append-nil before);
+}
+
+pub took_both : (a b c : List ℕ) (f g h : DeckFeed) (piece other : List ℕ) → Took a f piece b g → Took b g other c h → Took a f (piece ++ other) c h
+took_both a b c f g h piece other first second = record {
+  marks = first.marks ++ second.marks;
+  is = λ rest bytes.
+      second.is rest bytes ∙ first.is (second.marks ++ rest) (other ++ bytes)
+      ∙ ap₂ (λ (m : Marks) (t : List ℕ). told m a f t) (sym (append_assoc first.marks second.marks rest)) (sym (append_assoc piece other bytes));
+}
+
+-- the piece was refused
+pub bad_piece : (before out : List ℕ) (f g : DeckFeed) (piece : List ℕ) (n : ℕ) (code : DeckError) → g.state ≡ state.Refused n code → Took [] f piece out g → IsBad n code before f piece
+bad_piece before out f g piece n code is took = record {
+  marks = took.marks;
+  is = λ rest bytes.
+      ap (λ (o : Outcome). o.conclusion) (sym (took.is rest bytes))
+      ∙ ap (λ (s : DeckState). (behind out g.counts (outcome g.options g.counts.jobs rest s (g.lines_taken + 1) (lines (g.line ++ bytes)))).conclusion) is;
+}
+
+pub bad_first : (before : List ℕ) (f : DeckFeed) (piece other : List ℕ) (n : ℕ) (code : DeckError) → IsBad n code before f piece → IsBad n code before f (piece ++ other)
+bad_first before f piece other n code bad = record {
+  marks = bad.marks;
+  is = λ rest bytes. ap (λ (t : List ℕ). (told (bad.marks ++ rest) before f t).conclusion) (append_assoc piece other bytes) ∙ bad.is rest (other ++ bytes);
+}
+
+pub bad_then : (a b : List ℕ) (f g : DeckFeed) (piece other : List ℕ) (n : ℕ) (code : DeckError) → Took a f piece b g → IsBad n code b g other → IsBad n code a f (piece ++ other)
+bad_then a b f g piece other n code took bad = record {
+  marks = took.marks ++ bad.marks;
+  is = λ rest bytes.
+      ap₂ (λ (m : Marks) (t : List ℕ). (told m a f t).conclusion) (append_assoc took.marks bad.marks rest) (append_assoc piece other bytes)
+      ∙ ap (λ (o : Outcome). o.conclusion) (sym (took.is (bad.marks ++ rest) (other ++ bytes)))
+      ∙ bad.is rest bytes;
+}
+
+-- ---- what was put out
+
+-- where nothing of a line is kept, nothing more is printed
+pub nothing_more : (m : Marks) (text : List ℕ) (f : DeckFeed) → (is_reading f.state ≡ true → f.line ≡ []) → (told m text f []).written ≡ text
+nothing_more m text f settled = by f.state refl
+  where
+    none : (s : DeckState) → (outcome f.options f.counts.jobs m s (f.lines_taken + 1) (lines (f.line ++ []))).written ≡ [] → f.state ≡ s → (told m text f []).written ≡ text
+    none s empty is =
+        ap (λ (t : DeckState). text ++ (outcome f.options f.counts.jobs m t (f.lines_taken + 1) (lines (f.line ++ []))).written) is
+        ∙ ap (λ (t : List ℕ). text ++ t) empty ∙ append-nil text
+
+    by : (s : DeckState) → f.state ≡ s → (told m text f []).written ≡ text
+    by (state.Reading section) is =
+        none (state.Reading section)
+        (ap (λ (t : List ℕ). (outcome f.options f.counts.jobs m (state.Reading section) (f.lines_taken + 1) (lines (t ++ []))).written) (settled (ap is_reading is))
+        ∙ nothing_printed f.options f.counts.jobs m (state.Reading section) (f.lines_taken + 1)) is
+    by (state.Stopped sets) is = none (state.Stopped sets) refl is
+    by (state.Refused n code) is = none (state.Refused n code) refl is
+    by state.NoMemory is = none state.NoMemory refl is
+
+-- where the printout of one text more ends
+pub ends_more : (options : Options) (m : Marks) (head : List ℕ) (done : List Submission) (one : Submission)
+    → ends_of options m head (done ++ one ∷ []) ≡ ends_of options m head done ++ length (output_of options m (front_text head (done ++ one ∷ []))) ∷ []
+ends_more options m head [] one = ap (λ (t : List ℕ). length (output_of options m t) ∷ []) (ap (λ (t : List ℕ). head ++ t) (sym (append-nil (with_fence one))))
+ends_more options m head (first ∷ done) one =
+    ap (λ (ends : List ℕ). length (output_of options m (head ++ with_fence first)) ∷ ends) (
+    ends_more options m (head ++ with_fence first) done one
+    ∙ ap (λ (t : List ℕ). ends_of options m (head ++ with_fence first) done ++ length (output_of options m t) ∷ [])
+    (append_assoc head (with_fence first) (flat_map with_fence (done ++ one ∷ [])))
+    )
+
+pub front_more : (head : List ℕ) (done : List Submission) (one : Submission) → front_text head (done ++ one ∷ []) ≡ front_text head done ++ with_fence one
+front_more head done one =
+    ap (λ (t : List ℕ). head ++ t) (flat_map-append with_fence done (one ∷ []) ∙ ap (λ (t : List ℕ). flat_map with_fence done ++ t) (append-nil (with_fence one)))
+    ∙ sym (append_assoc head (flat_map with_fence done) (with_fence one))
+
+-- ---- how a deck comes out
+
+good_sets : (ending : Ending) (k counts : Counts) (left sets : Sets) → concluded k left ending ≡ Good counts sets → left ≡ sets
+good_sets Stopped k counts left sets same = cc
+good_sets (Refused n code) k counts left sets same = cc
+
+bad_ending : (ending : Ending) (k : Counts) (left : Sets) (n : ℕ) (code : DeckError) → concluded k left ending ≡ Bad n code → ending ≡ Refused n code
+bad_ending Stopped k left n code same = cc
+bad_ending (Refused m other) k left n code same = let number : m ≡ n = cc in let why : other ≡ code = cc in ap₂ Refused number why
+
+module _ (options : Options) (m : Marks) (bytes : List ℕ) where
+  -- a deck that comes out as refused is refused
+  pub ends_bad : (n : ℕ) (code : DeckError) → (whole options m bytes).conclusion ≡ Bad n code → deck_ending bytes ≡ Refused n code
+  ends_bad n code is = bad_ending (deck_ending bytes) (counts_of bytes) (sets_left options.check 0 m (run_state_of options bytes)) n code is
+
+  -- one that comes out as good leaves its data sets
+  pub ends_good : (counts : Counts) (sets : Sets) → options.check ≡ false → (whole options m bytes).conclusion ≡ Good counts sets → catalogue_after options m bytes ≡ sets
+  ends_good counts sets run is =
+      sym (ap (λ (b : Bool). sets_left b 0 m (run_state_of options bytes)) run)
+      ∙ good_sets (deck_ending bytes) (counts_of bytes) counts (sets_left options.check 0 m (run_state_of options bytes)) sets is
