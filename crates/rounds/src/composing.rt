@@ -1,5 +1,5 @@
 //! Composing the deck of a round.
-ghost use Rattle.std.specs.Prelude.{◌≡◌, ◌++◌, IfOk, OnOk};
+ghost use Rattle.std.specs.Prelude.{◌≡◌, ◌++◌, codes, IfOk, OnOk};
 ghost use Rattle.std.specs.List.{flat_map};
 ghost use Rattle.mon_catalogue.specs.Text.{catalogue_text};
 ghost use Rattle.mon_monitor.specs.Printed.{given_back};
@@ -26,7 +26,7 @@ pub fn compose(
 {
     let mut deck = compose_head(alloc, table, catalogue)?;
     put_texts(&mut deck, texts)?;
-    deck.extend_from_slice(b"$STOP\n")?;
+    put_stop(&mut deck)?;
     Ok(deck)
 }
 
@@ -76,10 +76,25 @@ fn put_texts(out: &mut Vec<u8>, texts: &[Submission]) -> Result<(), AllocError>
     Ok(())
 }
 
-// Appends a text with its fence.
-fn put_text(out: &mut Vec<u8>, text: &Submission) -> Result<(), AllocError>
+/// Appends a text with a `$DRAIN` card behind it.
+///
+/// # Errors
+///
+/// Where a growth was refused.
+pub fn put_text(out: &mut Vec<u8>, text: &Submission) -> Result<(), AllocError>
     ensures { OnOk result (out.new.items ≡ out.old.items ++ with_fence text.now) }
 {
     out.extend_from_slice(&text.text)?;
     out.extend_from_slice(b"$DRAIN\n")
+}
+
+/// Appends the end of a deck.
+///
+/// # Errors
+///
+/// Where a growth was refused.
+pub fn put_stop(out: &mut Vec<u8>) -> Result<(), AllocError>
+    ensures { OnOk result (out.new.items ≡ out.old.items ++ codes "$STOP\n") }
+{
+    out.extend_from_slice(b"$STOP\n")
 }

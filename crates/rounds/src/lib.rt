@@ -7,6 +7,6 @@ pub mod laws;
 pub mod order;
 pub mod running;
 
-pub use composing::{compose, compose_head};
+pub use composing::{compose, compose_head, put_stop, put_text};
 pub use order::in_turns;
 pub use running::{Round, RoundError, run_round};

@@ -54,7 +54,7 @@ pub(crate) struct Running {
 
 /// Serves a round: the texts are run as one deck, behind a head of accounts and a catalogue, each as if it were alone.
 ///
-/// Fewer than 2^63 bytes may be served in all.
+/// Fewer than 2^63 bytes may be served in all. The head's memory is let go once it is served.
 ///
 /// # Errors
 ///
@@ -62,13 +62,13 @@ pub(crate) struct Running {
 pub fn run_round(
     alloc: Global,
     options: Options,
-    head: &[u8],
+    head: Vec<u8>,
     texts: &[Submission],
 ) -> Result<Round, RoundError>
-    requires { length (round_text head.now texts.now) < 2 ^ 63 }
-    ensures served { IfOk result (λ round. (marks : Marks) × IsServed options marks head.now texts.now round) }
-    ensures refused { (n : ℕ) (code : AnyCode) → result ≡ Err (RoundError.Refused n code) → deck_ending (round_text head.now texts.now) ≡ Refused n code }
-    ensures never { (table : List (List ℕ)) (accounts : List Account) (sets : Sets) (handed : List Handed) → IsGoodRound head.now texts.now table accounts sets handed
+    requires { length (round_text head.items texts.now) < 2 ^ 63 }
+    ensures served { IfOk result (λ round. (marks : Marks) × IsServed options marks head.items texts.now round) }
+    ensures refused { (n : ℕ) (code : AnyCode) → result ≡ Err (RoundError.Refused n code) → deck_ending (round_text head.items texts.now) ≡ Refused n code }
+    ensures never { (table : List (List ℕ)) (accounts : List Account) (sets : Sets) (handed : List Handed) → IsGoodRound head.items texts.now table accounts sets handed
         → (n : ℕ) (code : AnyCode) → result ≡ Err (RoundError.Refused n code) → ⊥ }
     ensures memory { (k : ℕ) → result ≡ Err (RoundError.Memory k) → k ≤ length texts.now + 1 }
 {
@@ -81,12 +81,12 @@ pub fn run_round(
 fn serve_round(
     alloc: Global,
     options: Options,
-    head: &[u8],
+    head: Vec<u8>,
     texts: &[Submission],
 ) -> Result<Round, RoundError>
-    requires { length (round_text head.now texts.now) < 2 ^ 63 }
-    ensures ended { IfOk result (λ round. (marks : Marks) × HasEnded options marks head.now texts.now round) }
-    ensures refused { (n : ℕ) (code : AnyCode) → result ≡ Err (RoundError.Refused n code) → deck_ending (round_text head.now texts.now) ≡ Refused n code }
+    requires { length (round_text head.items texts.now) < 2 ^ 63 }
+    ensures ended { IfOk result (λ round. (marks : Marks) × HasEnded options marks head.items texts.now round) }
+    ensures refused { (n : ℕ) (code : AnyCode) → result ≡ Err (RoundError.Refused n code) → deck_ending (round_text head.items texts.now) ≡ Refused n code }
     ensures memory { (k : ℕ) → result ≡ Err (RoundError.Memory k) → k ≤ length texts.now + 1 }
 {
     match begin(alloc, options, head) {
@@ -141,14 +141,14 @@ fn start(alloc: Global, options: Options) -> Result<Running, AllocError>
     })
 }
 
-// The head of a round is served.
-fn begin(alloc: Global, options: Options, head: &[u8]) -> Result<Running, RunError>
-    requires { length head.now < 2 ^ 63 }
-    ensures stands { IfOk result (Stands options head.now []) }
-    ensures refused { (n : ℕ) (code : AnyCode) → result ≡ Err (RunError.DeckRefused n code) → (bytes : List ℕ) → deck_ending (head.now ++ bytes) ≡ Refused n code }
+// The head of a round is served, and let go.
+fn begin(alloc: Global, options: Options, head: Vec<u8>) -> Result<Running, RunError>
+    requires { length head.items < 2 ^ 63 }
+    ensures stands { IfOk result (Stands options head.items []) }
+    ensures refused { (n : ℕ) (code : AnyCode) → result ≡ Err (RunError.DeckRefused n code) → (bytes : List ℕ) → deck_ending (head.items ++ bytes) ≡ Refused n code }
 {
     let mut running = start(alloc, options)?;
-    serve(&mut running, alloc, head)?;
+    serve(&mut running, alloc, &head)?;
     Ok(running)
 }
 

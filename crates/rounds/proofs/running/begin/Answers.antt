@@ -1,18 +1,26 @@
-use Rattle.std.proofs.Common.{[], arith}
+use Rattle.std.proofs.Common.{◌≡◌, ◌++◌, ℕ, List, [], subst, arith}
 use Rattle.std.proofs.lemmas.Result.{err_from_is_err_and}
+use Rattle.deck_syntax.specs.Decks.{Refused}
+use Rattle.deck_run.specs.Runs.{deck_ending}
+use Rattle.rounds.specs.Serving.{Stands}
 use Rattle.rounds.proofs.Standing.{head_stands, refused_there, passed_up}
 use Rattle.rounds.proofs.running.begin.Goals as goal
 
 pub serve-requires : goal.serve-requires
-serve-requires c = record { few = omega (arith, c.in_ok-running.ensures.fed, c.requires); empty = c.in_ok-running.ensures.empty }
+serve-requires c = record {
+  few = (let same = c.deref.ensures.value in let short = c.requires in rw same (omega (arith, c.in_ok-running.ensures.fed, short)));
+  empty = c.in_ok-running.ensures.empty;
+}
 
 pub returns-in_err-serve-clause-refused : goal.returns-in_err-serve-clause-refused
 returns-in_err-serve-clause-refused c = λ n code same bytes.
     let answer = err_from_is_err_and c.from_residual-in_err-serve.result c.from_residual-in_err-serve.ensures.1 in
-    refused_there c.args.options [] [] c.in_ok-running.running c.args.head.now bytes n code c.in_ok-running.ensures
-    (c.in_err-serve.ensures.refused n code (passed_up c.from_residual-in_err-serve.result _ answer.0 _ answer.1 answer.2 same))
+    subst (λ (head : List ℕ). deck_ending (head ++ bytes) ≡ Refused n code) c.deref.ensures.value
+    (refused_there c.args.options [] [] c.in_ok-running.running c.deref.result.now bytes n code c.in_ok-running.ensures
+    (c.in_err-serve.ensures.refused n code (passed_up c.from_residual-in_err-serve.result _ answer.0 _ answer.1 answer.2 same)))
 
 pub returns-clause-stands : goal.returns-clause-stands
 returns-clause-stands c =
-    head_stands c.args.options c.args.head.now c.in_ok-running.running c.serve.new.running c.in_ok-running.ensures c.in_ok-serve.ensures.told c.serve.ensures.ends
-    c.in_ok-serve.ensures.empty c.in_ok-serve.ensures.fed c.serve.ensures.options (c.in_ok-serve.ensures.reads_back c.in_ok-running.ensures.back)
+    subst (λ (head : List ℕ). Stands c.args.options head [] c.serve.new.running) c.deref.ensures.value
+    (head_stands c.args.options c.deref.result.now c.in_ok-running.running c.serve.new.running c.in_ok-running.ensures c.in_ok-serve.ensures.told c.serve.ensures.ends
+    c.in_ok-serve.ensures.empty c.in_ok-serve.ensures.fed c.serve.ensures.options (c.in_ok-serve.ensures.reads_back c.in_ok-running.ensures.back))

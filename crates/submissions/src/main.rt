@@ -1,0 +1,134 @@
+//! Tries the worked cases of `data/` on what takes in texts and runs rounds of them: prints a line for each where not what was
+//! worked out by hand comes out, and then how many there were.
+//!
+//! `files.txt` names the files. Behind a title each has its cases, with blank lines between them. A line that is given or
+//! wanted has a blank before it; the last line of a text has a `-` in its place where it lacks its line end.
+//!
+//! ```text
+//! $CASE TEXT a-name lisa
+//!  $LIST lisa PAYROLL
+//! $WANTED
+//!  ADMITTED jobs=0 statements=0 largest=0 work=0 creates=0 bytes=19
+//!
+//! $CASE LIMITS a-name
+//!  2 1000 5 200000 50000000000 200000000000 10 4096
+//!  3 120
+//!  1 50000 50000000000 50000000000 0 87
+//! $WANTED
+//!  NONE
+//!
+//! $CASE ORDER a-name 1
+//!  a1 a2
+//!  b1
+//! $WANTED
+//!  b1
+//!  a1
+//!  a2
+//!
+//! $CASE ROUND a-name 4
+//!  lisa staff
+//! $SETS
+//! $OF lisa
+//!  $CATALOG lisa
+//! $WANTED
+//!  $OF lisa
+//!  CATALOG lisa
+//!  NAMES 0
+//!  $LEFT
+//!  $CATALOGUE 2
+//! ```
+//!
+//! | Kind | Given | Wanted |
+//! |---|---|---|
+//! | `TEXT` | an account, and its text | its tally; or `REFUSED`, a line, and why |
+//! | `LIMITS` | the limits, as `Limits` has them; how many data sets an account owns, and the bytes of their records; a line for each text, as `Tally` has them | the first limit that is broken, or `NONE` |
+//! | `ORDER` | the number of a round, and a line for each account, with its texts | the texts in the round's order |
+//! | `ROUND` | how many slots; accounts; behind `$SETS` data sets; behind `$OF` each text, with its account | the part of each text, and the catalogue that is left; and that the deck of the round prints the same |
+#![tactic(auto)]
+
+mod block;
+mod case;
+mod limits;
+mod order;
+mod round;
+mod text;
+
+use anyhow::{Context, Result, bail};
+use block::text_of;
+use case::{Case, HEAD};
+use differences::first_difference;
+use std::alloc::Global;
+use std::fs::{self, Files};
+use std::process::ExitCode;
+
+/// How many cases there were, and how many of them failed.
+#[derive(Clone, Copy)]
+struct Counts {
+    cases: u64,
+    failed: u64,
+}
+
+impl Counts {
+    fn note(&mut self, holds: bool) {
+        self.cases = self.cases.saturating_add(1);
+        if !holds {
+            self.failed = self.failed.saturating_add(1);
+        }
+    }
+}
+
+fn seen_of(alloc: Global, case: &Case<'_>) -> Result<Vec<u8>> {
+    match case.kind {
+        "TEXT" => text::seen_of(alloc, case.further, case.given),
+        "LIMITS" => limits::seen_of(alloc, case.given),
+        "ORDER" => order::seen_of(alloc, case.further, case.given),
+        "ROUND" => round::seen_of(alloc, case.further, case.given),
+        _ => bail!("its kind is unknown"),
+    }
+}
+
+fn holds<R: Print + AllocGlobal>(rt: &R, case: &Case<'_>) -> Result<bool> {
+    let name = case.name;
+    let wanted = text_of(rt.alloc(), case.wanted)?;
+    let seen = match seen_of(rt.alloc(), case) {
+        Ok(seen) => seen,
+        Err(error) => {
+            println!(rt; "FAILED {name}: {error}")?;
+            return Ok(false);
+        }
+    };
+    match first_difference(&wanted, &seen) {
+        Some(difference) => {
+            println!(rt; "FAILED {name}: {difference}")?;
+            Ok(false)
+        }
+        None => Ok(true),
+    }
+}
+
+fn run_file<R: Files + Print + AllocGlobal>(rt: &R, file: &str, counts: &mut Counts) -> Result<()> {
+    let text = fs::read_to_string(rt, file).context(format_args!("reading {file}"))?;
+    for part in text.split(HEAD).skip(1) {
+        let case = Case::read(part).context(format_args!("{file} has a bad case"))?;
+        counts.note(holds(rt, &case)?);
+    }
+    Ok(())
+}
+
+fn main(rt: HostRuntime) -> Result<ExitCode> {
+    let mut counts = Counts {
+        cases: 0,
+        failed: 0,
+    };
+    let files = fs::read_to_string(&rt, "files.txt")?;
+    for file in files.lines() {
+        run_file(&rt, file, &mut counts)?;
+    }
+    let Counts { cases, failed } = counts;
+    println!(rt; "{cases} cases, {failed} failed")?;
+    Ok(if failed == 0 {
+        ExitCode::SUCCESS
+    } else {
+        ExitCode::FAILURE
+    })
+}

@@ -1,0 +1,40 @@
+//! In which order a round takes its texts.
+
+use crate::block::put_line;
+use anyhow::Result;
+use rounds::in_turns;
+use std::alloc::{AllocError, Global};
+use std::collections::VecDeque;
+
+/// The names of texts in the order of the round of this number. A line has those of an account.
+pub fn seen_of(alloc: Global, number: &str, given: &str) -> Result<Vec<u8>> {
+    let number = number.parse::<u64>()?;
+    let queues = queues_of(alloc, given)?;
+    let order = in_turns(alloc, number, queues)?;
+    let mut out = Vec::new(alloc);
+    for text in &order {
+        put_line(text.as_bytes(), &mut out)?;
+    }
+    Ok(out)
+}
+
+fn queues_of<'a>(alloc: Global, given: &'a str) -> Result<Vec<VecDeque<&'a str>>, AllocError> {
+    let mut queues = Vec::new(alloc);
+    for line in given.lines() {
+        let queue = queue_of(alloc, line)?;
+        queues.push(queue).map_err(AllocError::from)?;
+    }
+    Ok(queues)
+}
+
+fn queue_of<'a>(alloc: Global, line: &'a str) -> Result<VecDeque<&'a str>, AllocError> {
+    let mut queue = VecDeque::new(alloc);
+    for word in line.split_whitespace() {
+        put_last(word, &mut queue)?;
+    }
+    Ok(queue)
+}
+
+fn put_last<'a>(word: &'a str, queue: &mut VecDeque<&'a str>) -> Result<(), AllocError> {
+    queue.push_back(word).map_err(AllocError::from)
+}
