@@ -1,0 +1,7 @@
+mod Going
+mod Giving
+mod Acting
+mod Paying
+mod Committing
+mod Back
+mod Remembering

@@ -1,0 +1,23 @@
+//! Laws over rounds and crashes: each function's contract is one.
+ghost use Rattle.site_folder.specs.Laws.{Settles, Commits, StaysSettled, ReadsBack};
+
+/// Whatever a crash left while a round was settled, to settle it comes to the same files as without the crash.
+pub fn settles()
+    ensures { Settles }
+{}
+
+/// Whatever a crash left while a round was committed: where its output stands, to settle it comes to the same files as without the
+/// crash.
+pub fn commits()
+    ensures { Commits }
+{}
+
+/// To settle what is settled changes nothing.
+pub fn stays_settled()
+    ensures { StaysSettled }
+{}
+
+/// What `put_part` and `put_removal` append is read as what was appended.
+pub fn reads_back()
+    ensures { ReadsBack }
+{}
