@@ -1,0 +1,56 @@
+//! `site check`: what a text would be told. `site verify`: a round is run again.
+use crate::fault::{Fault, Wrong};
+use crate::keeper::file;
+use crate::place::{Place, System, read_there};
+use crate::serving::{part_deck_of, parts_of, plan_there, run_parted};
+use intake::examine;
+use mon_text::{Name, Stop};
+use rounds::{Round, RoundError};
+use site_folder::round_name;
+use site_plan::{Plan, Reason, reply, shown_name};
+
+/// What the user of an account would be told of a file, if its text is refused.
+pub fn check_file<R: System>(rt: &R, path: &str, account: &Name) -> Result<Option<Vec<u8>>, Fault> {
+    let text = read_there(rt, path)?;
+    match examine(rt.alloc(), account, &text) {
+        Ok(_) => Ok(None),
+        Err(Stop::Refused(refusal)) => {
+            let file = shown_name(last_part(path));
+            let told = reply(rt.alloc(), file, account, Reason::Line(refusal), &text)?;
+            Ok(Some(told))
+        }
+        Err(Stop::Memory) => Err(Fault::Memory),
+    }
+}
+
+// What stands behind the last slash of a path.
+fn last_part(path: &str) -> &[u8] {
+    let bytes = path.as_bytes();
+    match bytes.iter().rposition(|byte| *byte == b'/') {
+        Some(slash) => &bytes[slash + 1..],
+        None => bytes,
+    }
+}
+
+/// Runs a round again, from its deck, and tells whether its output is the same, and its parts.
+pub fn verify<R: System>(rt: R, top: String, n: u64) -> Result<bool, Fault> {
+    let place = Place::new(rt, top);
+    let plan = plan_there(&place, n)?;
+    let parted = part_deck_of(&place, n, &plan)?;
+    match run_parted(place.rt.alloc(), parted) {
+        Ok(round) => is_same(&place, n, &plan, &round),
+        Err(RoundError::Memory { .. }) => Err(Fault::Memory),
+        Err(RoundError::Refused(line, code)) => {
+            let name = round_name(place.rt.alloc(), n, b".deck")?;
+            Err(place.wrong(&name, Wrong::Line(line, code.text())))
+        }
+    }
+}
+
+fn is_same<R: System>(place: &Place<R>, n: u64, plan: &Plan, round: &Round) -> Result<bool, Fault> {
+    let alloc = place.rt.alloc();
+    let output = file(place, &round_name(alloc, n, b".out")?)?;
+    let parts = file(place, &round_name(alloc, n, b".parts")?)?;
+    let due = parts_of(alloc, plan, round)?;
+    Ok(output.as_slice() == round.output.as_slice() && parts.as_slice() == due.as_slice())
+}

@@ -1,0 +1,105 @@
+//! `site`: runs what the users of a system drop into a folder, in rounds, and gives each what is his.
+#![tactic(auto)]
+
+mod checking;
+mod claiming;
+mod fault;
+mod keeper;
+mod making;
+mod options;
+mod place;
+mod planning;
+mod running;
+mod serving;
+mod status;
+mod telling;
+
+use checking::{check_file, verify};
+use clap::Error;
+use clap::error::ErrorKind;
+use fault::Fault;
+use making::make_site;
+use options::{Asked, no_text, read_asked};
+use place::joined;
+use running::{Report, run_site};
+use std::alloc::{AllocError, Global};
+use std::fs::{File, OpenOptions, TryLockError};
+use std::os::unix::fs::OpenOptionsExt;
+use std::process::ExitCode;
+use std::rt::Env;
+use std::{env, io};
+use telling::{tell_check, tell_fault, tell_made, tell_run, tell_status, tell_verified};
+
+/// The exit status where the words ask nothing.
+const NOTHING_ASKED: u8 = 2;
+
+fn main(rt: HostRuntime) -> ExitCode {
+    let status = match given_words(&rt) {
+        Ok(asked) => serve(&rt, asked),
+        Err(error) if error.kind() == ErrorKind::OutOfMemory => tell_fault(&rt, &Fault::Memory),
+        Err(error) => {
+            let _told = eprint!(rt; "{error}");
+            NOTHING_ASKED
+        }
+    };
+    ExitCode::from(status)
+}
+
+// What the words ask that the program was started with.
+fn given_words(rt: &HostRuntime) -> Result<Asked, Error> {
+    match words(rt) {
+        Ok(words) => read_asked(rt.alloc(), words.as_slice()),
+        Err(error) if error.kind() == io::ErrorKind::InvalidData => Err(no_text(rt.alloc())?),
+        Err(_) => Err(Error::from(AllocError)),
+    }
+}
+
+fn words<R: Env + AllocGlobal>(rt: &R) -> io::Result<Vec<String>> {
+    Ok(env::args(rt)?.collect(rt.alloc())?)
+}
+
+// Does what is asked, and gives the exit status.
+fn serve(rt: &HostRuntime, asked: Asked) -> u8 {
+    match asked {
+        Asked::Init(init) => tell_made(rt, make_site(*rt, &init)),
+        Asked::Run(top) => run(rt, top),
+        Asked::Status(top) => tell_status(rt, top),
+        Asked::Check(file, account) => tell_check(rt, check_file(rt, &file, &account)),
+        Asked::Verify(top, n) => tell_verified(rt, n, verify(*rt, top, n)),
+    }
+}
+
+// Runs a site, if no other run holds its lock.
+fn run(rt: &HostRuntime, top: String) -> u8 {
+    let mut report = Report {
+        served: Vec::new(rt.alloc()),
+        passed: Vec::new(rt.alloc()),
+    };
+    let ended = match lock(rt, &top) {
+        Ok(_held) => run_site(*rt, top, &mut report),
+        Err(fault) => Err(fault),
+    };
+    tell_run(rt, &report, ended)
+}
+
+// Holds the lock of a site as long as the file is open.
+fn lock(rt: &HostRuntime, top: &str) -> Result<File, Fault> {
+    let path = joined(rt.alloc(), top, "lock")?;
+    match open_lock(rt, &path) {
+        Ok(file) => match file.try_lock() {
+            Ok(()) => Ok(file),
+            Err(TryLockError::WouldBlock) => Err(Fault::Held(path)),
+            Err(TryLockError::Error(error)) => Err(Fault::failed(rt.alloc(), &path, error)),
+        },
+        Err(error) => Err(Fault::failed(rt.alloc(), &path, error)),
+    }
+}
+
+fn open_lock(rt: &HostRuntime, path: &str) -> io::Result<File> {
+    OpenOptions::new()
+        .write(true)
+        .create(true)
+        .truncate(false)
+        .mode(0o600)
+        .open(rt, path)
+}

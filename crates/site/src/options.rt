@@ -1,0 +1,243 @@
+//! The words of the command line, and what they ask.
+use clap::error::ErrorKind;
+use clap::{Arg, ArgAction, ArgMatches, Command, Error};
+use mon_text::{Name, read_count, read_name};
+use std::alloc::{AllocError, Global};
+use std::convert::AsStr;
+
+/// What is asked of a site.
+#[derive(Drop)]
+pub enum Asked {
+    /// To make the folder of a site.
+    Init(Init),
+    /// To run what users dropped.
+    Run(String),
+    /// What stands, and what is wrong.
+    Status(String),
+    /// What a text would be told.
+    Check(String, Name),
+    /// To run a round again, and to compare.
+    Verify(String, u64),
+}
+
+/// What a site is made of.
+#[derive(Drop)]
+pub struct Init {
+    /// The path of the folder.
+    pub top: String,
+    /// A file of accounts.
+    pub accounts: String,
+    /// A file of users; none in a demonstration.
+    pub users: Option<String>,
+    /// A file of limits.
+    pub limits: Option<String>,
+    /// A file with a catalogue.
+    pub catalogue: Option<String>,
+}
+
+/// What the words of a command line ask. The first word is the program's name.
+///
+/// # Errors
+///
+/// Where the words ask nothing. The text of the error, which is that of the help and the version too, is `clap`'s. Its kind is
+/// `OutOfMemory` where a growth was refused.
+pub fn read_asked<S: AsStr>(alloc: Global, words: &[S]) -> Result<Asked, Error> {
+    let matches = command(alloc)?.try_get_matches_from(words)?;
+    match matches.subcommand() {
+        Some(("init", of)) => read_init(alloc, of),
+        Some(("check", of)) => read_check(alloc, of),
+        Some(("verify", of)) => read_verify(alloc, of),
+        Some(("status", of)) => Ok(Asked::Status(text_of(alloc, of, "DIR")?)),
+        Some((_, of)) => Ok(Asked::Run(text_of(alloc, of, "DIR")?)),
+        None => Err(nothing(alloc)?),
+    }
+}
+
+fn read_init(alloc: Global, of: &ArgMatches) -> Result<Asked, Error> {
+    let users = maybe(alloc, of, "users")?;
+    if users.is_some() == of.get_flag("demonstration") {
+        return Err(one_of_two(alloc)?);
+    }
+    Ok(Asked::Init(Init {
+        top: text_of(alloc, of, "DIR")?,
+        accounts: text_of(alloc, of, "accounts")?,
+        users,
+        limits: maybe(alloc, of, "limits")?,
+        catalogue: maybe(alloc, of, "catalogue")?,
+    }))
+}
+
+fn read_check(alloc: Global, of: &ArgMatches) -> Result<Asked, Error> {
+    let file = text_of(alloc, of, "FILE")?;
+    let account = text_of(alloc, of, "account")?;
+    match read_name(account.as_bytes()) {
+        Ok(account) => Ok(Asked::Check(file, account)),
+        Err(_) => Err(no_name(alloc)?),
+    }
+}
+
+fn read_verify(alloc: Global, of: &ArgMatches) -> Result<Asked, Error> {
+    let top = text_of(alloc, of, "DIR")?;
+    let number = text_of(alloc, of, "N")?;
+    match read_count(number.as_bytes()) {
+        Ok(number) => Ok(Asked::Verify(top, number)),
+        Err(_) => Err(no_number(alloc)?),
+    }
+}
+
+// The text of a word that has to be there.
+fn text_of(alloc: Global, of: &ArgMatches, id: &str) -> Result<String, AllocError> {
+    String::from_str(alloc, of.get_str(id).unwrap_or(""))
+}
+
+fn maybe(alloc: Global, of: &ArgMatches, id: &str) -> Result<Option<String>, AllocError> {
+    match of.get_str(id) {
+        Some(text) => Ok(Some(String::from_str(alloc, text)?)),
+        None => Ok(None),
+    }
+}
+
+fn nothing(alloc: Global) -> Result<Error, AllocError> {
+    command(alloc)?.error(
+        ErrorKind::MissingSubcommand,
+        "one of init, run, status, check and verify is wanted",
+    )
+}
+
+fn one_of_two(alloc: Global) -> Result<Error, AllocError> {
+    command(alloc)?.error(
+        ErrorKind::ArgumentConflict,
+        "one of --users and --demonstration is wanted",
+    )
+}
+
+fn no_name(alloc: Global) -> Result<Error, AllocError> {
+    command(alloc)?.error(
+        ErrorKind::ValueValidation,
+        "a name is 1 to 31 characters: a letter, then letters, digits, `.`, `_` or `-`",
+    )
+}
+
+fn no_number(alloc: Global) -> Result<Error, AllocError> {
+    command(alloc)?.error(ErrorKind::ValueValidation, "a round has a number")
+}
+
+/// The error for a word that is no text, and so no option.
+///
+/// # Errors
+///
+/// Where a growth was refused.
+pub fn no_text(alloc: Global) -> Result<Error, AllocError> {
+    command(alloc)?.error(ErrorKind::UnknownArgument, "a word is no text in UTF-8")
+}
+
+// What follows the list of commands in the help.
+const AFTER_HELP: &str = "A keeper makes a site once, and starts `site run` by a timer:
+
+  site init /srv/site --accounts accounts --users users
+  site run /srv/site
+
+Exit status: 0 where all was done; 1 where a text was refused or put off and all else done, or
+where a round's bytes are others; 2 where the words ask nothing, or ask for this help or the
+version, which go to standard error; 3 where reading, writing or memory failed, or the folder is
+not as it must be; 4 where another run holds the lock.
+";
+
+// The program's commands, as `clap` knows them.
+fn command<'a>(alloc: Global) -> Result<Command<'a>, AllocError> {
+    Command::new(alloc, "site")
+        .version("0.1.0")
+        .about(
+            "Runs what the users of a system drop into a folder, in rounds, and gives each what is his",
+        )
+        .after_help(AFTER_HELP)
+        .subcommand(init_command(alloc)?)?
+        .subcommand(of_folder(alloc, "run", "Runs what was dropped")?)?
+        .subcommand(of_folder(
+            alloc,
+            "status",
+            "Tells what stands, and what is not as it must be",
+        )?)?
+        .subcommand(check_command(alloc)?)?
+        .subcommand(verify_command(alloc)?)
+}
+
+fn of_folder<'a>(alloc: Global, name: &'a str, about: &'a str) -> Result<Command<'a>, AllocError> {
+    Command::new(alloc, name)
+        .about(about)
+        .arg(place(alloc, "DIR", "The folder of the site"))
+}
+
+fn init_command<'a>(alloc: Global) -> Result<Command<'a>, AllocError> {
+    of_folder(alloc, "init", "Makes the folder of a site")?
+        .arg(named(
+            alloc,
+            "accounts",
+            "The accounts: lines as behind $ACCOUNTS in a deck",
+        )
+        .required(true))?
+        .arg(named(
+            alloc,
+            "users",
+            "The users: a number of the system and an account a line",
+        ))?
+        .arg(named(
+            alloc,
+            "limits",
+            "What an account may hand in; usual limits where it is not given",
+        ))?
+        .arg(named(
+            alloc,
+            "catalogue",
+            "The catalogue; an empty one where it is not given",
+        ))?
+        .arg(flag(
+            alloc,
+            "demonstration",
+            "All accounts are those of who makes the site",
+        ))
+}
+
+fn check_command<'a>(alloc: Global) -> Result<Command<'a>, AllocError> {
+    Command::new(alloc, "check")
+        .about("Tells whether a text would be admitted")
+        .arg(place(alloc, "FILE", "The text"))?
+        .arg(
+            named(alloc, "account", "Whose text it is")
+                .value_name("NAME")
+                .required(true),
+        )
+}
+
+fn verify_command<'a>(alloc: Global) -> Result<Command<'a>, AllocError> {
+    of_folder(alloc, "verify", "Runs a round again, and compares")?.arg(place(
+        alloc,
+        "N",
+        "The number of the round",
+    ))
+}
+
+// A word that has to be there.
+fn place<'a>(alloc: Global, name: &'a str, help: &'a str) -> Arg<'a> {
+    Arg::new(alloc, name)
+        .required(true)
+        .action(ArgAction::Set)
+        .help(help)
+}
+
+// An option that gives a file.
+fn named<'a>(alloc: Global, name: &'a str, help: &'a str) -> Arg<'a> {
+    Arg::new(alloc, name)
+        .long(name)
+        .action(ArgAction::Set)
+        .value_name("FILE")
+        .help(help)
+}
+
+// An option that is given or not.
+fn flag<'a>(alloc: Global, name: &'a str, help: &'a str) -> Arg<'a> {
+    Arg::new(alloc, name)
+        .long(name)
+        .action(ArgAction::SetTrue)
+        .help(help)
+}

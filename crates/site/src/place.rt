@@ -1,0 +1,419 @@
+//! The folder of a site, over the files of the system.
+ghost use Rattle.std.specs.Prelude.{None};
+
+use crate::fault::{Fault, Wrong};
+use mon_text::read_name;
+use site_folder::{Folder, FolderError};
+use site_plan::User;
+use site_plan::users::uid_of_account;
+use std::alloc::{AllocError, Global};
+use std::fs::{DirBuilder, File, Metadata, OpenFile, OpenOptions, Permissions};
+use std::io::{ErrorKind, Read, Write};
+use std::os::unix::fs::{DirBuilderExt, MetadataExt, OpenOptionsExt, PermissionsExt, lchown};
+use std::rt::Files;
+use std::{fs, io, mem, str};
+
+/// What the program asks of the system.
+pub trait System: Files + AllocGlobal + Clone + Drop {}
+
+impl<R: Files + AllocGlobal + Clone + Drop> System for R {}
+
+/// The folder of a site.
+#[derive(Drop)]
+pub struct Place<R: System> {
+    /// The system.
+    pub rt: R,
+    /// The path of the folder.
+    pub top: String,
+    // Whose the answers are.
+    users: Vec<User>,
+    // The folders that were changed since the last time that all was on the disk.
+    changed: Vec<String>,
+    // The last fault that was told as `Failed`.
+    fault: Option<Fault>,
+}
+
+impl<R: System> Place<R> {
+    /// The folder at this path, of no users.
+    pub fn new(rt: R, top: String) -> Place<R> {
+        let alloc = rt.alloc();
+        Place {
+            rt,
+            top,
+            users: Vec::new(alloc),
+            changed: Vec::new(alloc),
+            fault: None,
+        }
+    }
+
+    /// The path of a name.
+    pub fn path(&self, name: &[u8]) -> Result<String, Fault> {
+        match str::from_utf8(name) {
+            Ok(name) => Ok(joined(self.rt.alloc(), &self.top, name)?),
+            Err(_) => Err(Fault::wrong(
+                self.rt.alloc(),
+                &self.top,
+                Wrong::Words("a name that is no text"),
+            )),
+        }
+    }
+
+    /// The bytes of a file, if it is there.
+    pub fn read(&self, name: &[u8]) -> Result<Option<Vec<u8>>, Fault> {
+        let path = self.path(name)?;
+        match fs::read(&self.rt, path.as_str()) {
+            Ok(bytes) => Ok(Some(bytes)),
+            Err(error) if error.kind() == ErrorKind::NotFound => Ok(None),
+            Err(error) => Err(self.failed(&path, error)),
+        }
+    }
+
+    /// Appends the bytes of a file that has to be there.
+    pub fn append(&self, name: &[u8], out: &mut Vec<u8>) -> Result<(), Fault> {
+        let path = self.path(name)?;
+        match append_file(&self.rt, &path, out) {
+            Ok(()) => Ok(()),
+            Err(error) => Err(self.failed(&path, error)),
+        }
+    }
+
+    /// Puts a file whole in the place of the one of this name.
+    pub fn write(&mut self, name: &[u8], bytes: &[u8]) -> Result<(), Fault> {
+        let path = self.path(name)?;
+        let owner = self.reader_of(name);
+        match put_whole(&self.rt, &path, bytes, owner) {
+            Ok(()) => self.change(name),
+            Err(error) => Err(self.failed(&path, error)),
+        }
+    }
+
+    /// Removes a file, if it is there.
+    pub fn erase(&mut self, name: &[u8]) -> Result<(), Fault> {
+        let path = self.path(name)?;
+        match take_away(&self.rt, &path) {
+            Ok(()) => self.change(name),
+            Err(error) => Err(self.failed(&path, error)),
+        }
+    }
+
+    /// Gives a file another name, if it is there.
+    pub fn rename(&mut self, from: &[u8], to: &[u8]) -> Result<bool, Fault> {
+        let old = self.path(from)?;
+        let new = self.path(to)?;
+        match fs::rename(&self.rt, old.as_str(), new.as_str()) {
+            Ok(()) => {
+                self.change(from)?;
+                self.change(to)?;
+                Ok(true)
+            }
+            Err(error) if error.kind() == ErrorKind::NotFound => Ok(false),
+            Err(error) => Err(self.failed(&old, error)),
+        }
+    }
+
+    /// Who runs the program: the owner of a file that it makes.
+    pub fn own_uid(&self) -> Result<u32, Fault> {
+        let path = self.path(b"rounds/owner.tmp")?;
+        match uid_of_new(&self.rt, &path) {
+            Ok(uid) => Ok(uid),
+            Err(error) => Err(self.failed(&path, error)),
+        }
+    }
+
+    /// After it, all that was changed is on the disk.
+    pub fn settle_disk(&mut self) -> Result<(), Fault> {
+        for folder in self.changed.iter() {
+            if let Err(error) = sync_folder(&self.rt, folder) {
+                return Err(Fault::failed(self.rt.alloc(), folder, error));
+            }
+        }
+        self.changed.clear();
+        Ok(())
+    }
+
+    /// The names in a folder, in the order of their bytes. A name that is no text is passed over.
+    pub fn names(&self, folder: &[u8]) -> Result<Vec<Vec<u8>>, Fault> {
+        let path = self.path(folder)?;
+        match sorted_names(&self.rt, &path) {
+            Ok(names) => Ok(names),
+            Err(error) => Err(self.failed(&path, error)),
+        }
+    }
+
+    /// What the system says of a name, if it is there; a link is not followed.
+    pub fn look(&self, name: &[u8]) -> Result<Option<Metadata>, Fault> {
+        let path = self.path(name)?;
+        match fs::symlink_metadata(&self.rt, path.as_str()) {
+            Ok(seen) => Ok(Some(seen)),
+            Err(error) if error.kind() == ErrorKind::NotFound => Ok(None),
+            Err(error) => Err(self.failed(&path, error)),
+        }
+    }
+
+    /// Makes a folder. Its mode is this one, whatever the process's mask is.
+    pub fn make_folder(&self, name: &[u8], mode: u32) -> Result<(), Fault> {
+        let path = self.path(name)?;
+        match make_with_mode(&self.rt, &path, mode) {
+            Ok(()) => Ok(()),
+            Err(error) => Err(self.failed(&path, error)),
+        }
+    }
+
+    /// Sets the mode of a file or a folder.
+    pub fn set_mode(&self, name: &[u8], mode: u32) -> Result<(), Fault> {
+        let path = self.path(name)?;
+        match fs::set_permissions(&self.rt, path.as_str(), Permissions::from_mode(mode)) {
+            Ok(()) => Ok(()),
+            Err(error) => Err(self.failed(&path, error)),
+        }
+    }
+
+    /// Gives a file or a folder to a user or to a group.
+    pub fn give(&self, name: &[u8], uid: Option<u32>, gid: Option<u32>) -> Result<(), Fault> {
+        let path = self.path(name)?;
+        match lchown(&self.rt, path.as_str(), uid, gid) {
+            Ok(()) => Ok(()),
+            Err(error) => Err(self.failed(&path, error)),
+        }
+    }
+
+    /// That something is wrong with a name.
+    pub fn wrong(&self, name: &[u8], wrong: Wrong) -> Fault {
+        match self.path(name) {
+            Ok(path) => Fault::Wrong(path, wrong),
+            Err(fault) => fault,
+        }
+    }
+
+    /// The fault that a call of `Folder` told, which was about this name if it kept none.
+    pub fn fault_of(&mut self, error: FolderError, name: &[u8]) -> Fault {
+        match error {
+            FolderError::Memory => Fault::Memory,
+            FolderError::Failed => match mem::replace(&mut self.fault, None) {
+                Some(fault) => fault,
+                None => self.wrong(name, Wrong::Words("cannot be read")),
+            },
+        }
+    }
+
+    /// Whose the answers are.
+    pub fn set_users(&mut self, users: Vec<User>) {
+        self.users = users;
+    }
+
+    /// The users.
+    pub fn users(&self) -> &[User] {
+        self.users.as_slice()
+    }
+
+    fn failed(&self, path: &String, error: io::Error) -> Fault {
+        Fault::failed(self.rt.alloc(), path, error)
+    }
+
+    // That the folder in which a name stands was changed.
+    fn change(&mut self, name: &[u8]) -> Result<(), Fault> {
+        let path = self.path(folder_of(name))?;
+        if !self.changed.contains(&path) {
+            self.changed.push(path)?;
+        }
+        Ok(())
+    }
+
+    // Who is to read a file: one of the users, or the keeper alone.
+    fn reader_of(&self, name: &[u8]) -> Option<u32> {
+        let rest = name.strip_prefix(b"out/")?;
+        let account = read_name(folder_of(rest)).ok()?;
+        uid_of_account(&self.users, &account)
+    }
+
+    // Keeps a fault, and tells that there is one.
+    fn told(&mut self, fault: Fault) -> FolderError {
+        match fault {
+            Fault::Memory => FolderError::Memory,
+            other => {
+                self.fault = Some(other);
+                FolderError::Failed
+            }
+        }
+    }
+}
+
+impl<R: System> Folder for Place<R> {
+    ghost tells = { ⊥ };
+
+    ghost seen = { λ place name. None };
+
+    ghost may_leave = { λ place files. Unit {0} };
+
+    ghost moment = { λ place. 0 };
+
+    ghost left_since = { λ place moment files. Unit {0} };
+
+    ghost counts_now = { λ tells place moment files later may. tt };
+
+    ghost only_now = { λ tells place files left. tt };
+
+    fn get(&self, alloc: Global, name: &[u8]) -> Result<Option<Vec<u8>>, FolderError> {
+        match self.read(name) {
+            Ok(got) => Ok(got),
+            Err(Fault::Memory) => Err(FolderError::Memory),
+            Err(_) => Err(FolderError::Failed),
+        }
+    }
+
+    fn put(&mut self, name: &[u8], bytes: &[u8]) -> Result<(), FolderError> {
+        match self.write(name, bytes) {
+            Ok(()) => Ok(()),
+            Err(fault) => Err(self.told(fault)),
+        }
+    }
+
+    fn remove(&mut self, name: &[u8]) -> Result<(), FolderError> {
+        match self.erase(name) {
+            Ok(()) => Ok(()),
+            Err(fault) => Err(self.told(fault)),
+        }
+    }
+
+    fn sync(&mut self) -> Result<(), FolderError> {
+        match self.settle_disk() {
+            Ok(()) => Ok(()),
+            Err(fault) => Err(self.told(fault)),
+        }
+    }
+}
+
+/// A path of a folder and a name in it.
+pub fn joined(alloc: Global, folder: &str, name: &str) -> Result<String, AllocError> {
+    let mut path = String::from_str(alloc, folder)?;
+    if !name.is_empty() {
+        path.push_str("/")?;
+        path.push_str(name)?;
+    }
+    Ok(path)
+}
+
+// The folder in which a name stands: what is before its last slash.
+fn folder_of(name: &[u8]) -> &[u8] {
+    match name.iter().rposition(|byte| *byte == b'/') {
+        Some(slash) => &name[..slash],
+        None => b"",
+    }
+}
+
+// The owner of a file that is made for it, and removed.
+fn uid_of_new<R: System>(rt: &R, path: &String) -> io::Result<u32> {
+    let uid = create_own(rt, path)?.metadata()?.uid();
+    fs::remove_file(rt, path.as_str())?;
+    Ok(uid)
+}
+
+fn make_with_mode<R: System>(rt: &R, path: &String, mode: u32) -> io::Result<()> {
+    DirBuilder::new().mode(0o700).create(rt, path.as_str())?;
+    fs::set_permissions(rt, path.as_str(), Permissions::from_mode(mode))
+}
+
+/// The bytes of the file at a path, which has to be there.
+pub fn read_there<R: System>(rt: &R, path: &str) -> Result<Vec<u8>, Fault> {
+    match fs::read(rt, path) {
+        Ok(bytes) => Ok(bytes),
+        Err(error) => Err(Fault::failed(rt.alloc(), path, error)),
+    }
+}
+
+fn append_file<R: System>(rt: &R, path: &String, out: &mut Vec<u8>) -> io::Result<()> {
+    let mut file = File::open(rt, path.as_str())?;
+    file.read_to_end(out)?;
+    Ok(())
+}
+
+// Puts a file whole: it is written beside its place, brought to the disk, and takes the place by one call.
+fn put_whole<R: System>(
+    rt: &R,
+    path: &String,
+    bytes: &[u8],
+    reader: Option<u32>,
+) -> io::Result<()> {
+    let mut beside = path.clone()?;
+    beside.push_str(".tmp")?;
+    write_beside(rt, &beside, bytes, reader)?;
+    fs::rename(rt, beside.as_str(), path.as_str())
+}
+
+fn write_beside<R: System>(
+    rt: &R,
+    beside: &String,
+    bytes: &[u8],
+    reader: Option<u32>,
+) -> io::Result<()> {
+    let mut file = create_own(rt, beside)?;
+    file.write_all(bytes)?;
+    give_away(rt, &file, beside, reader)?;
+    file.sync_all()
+}
+
+// A new file that is for its owner alone. One that is there, as a crash leaves it, is no longer.
+fn create_own<R: System>(rt: &R, path: &String) -> io::Result<R::File> {
+    match fs::remove_file(rt, path.as_str()) {
+        Err(error) if error.kind() != ErrorKind::NotFound => Err(error),
+        _ => create_new(rt, path),
+    }
+}
+
+fn create_new<R: System>(rt: &R, path: &String) -> io::Result<R::File> {
+    OpenOptions::new()
+        .write(true)
+        .create_new(true)
+        .mode(0o600)
+        .open(rt, path.as_str())
+}
+
+// An answer is for its user: it is given to him by root, and else its folder's group may read it.
+fn give_away<R: System>(
+    rt: &R,
+    file: &R::File,
+    path: &String,
+    reader: Option<u32>,
+) -> io::Result<()> {
+    let Some(uid) = reader else {
+        return Ok(());
+    };
+    if file.metadata()?.uid() == 0 {
+        lchown(rt, path.as_str(), Some(uid), None)
+    } else {
+        file.set_permissions(Permissions::from_mode(0o640))
+    }
+}
+
+// Removes a file, or a folder that a user has put in its place.
+fn take_away<R: System>(rt: &R, path: &String) -> io::Result<()> {
+    match fs::remove_file(rt, path.as_str()) {
+        Ok(()) => Ok(()),
+        Err(error) if error.kind() == ErrorKind::NotFound => Ok(()),
+        Err(error) => {
+            if fs::symlink_metadata(rt, path.as_str())?.is_dir() {
+                fs::remove_dir_all(rt, path.as_str())
+            } else {
+                Err(error)
+            }
+        }
+    }
+}
+
+fn sync_folder<R: System>(rt: &R, path: &String) -> io::Result<()> {
+    let folder = File::open(rt, path.as_str())?;
+    folder.sync_all()
+}
+
+fn sorted_names<R: System>(rt: &R, path: &String) -> io::Result<Vec<Vec<u8>>> {
+    let mut names = Vec::new(rt.alloc());
+    for entry in fs::read_dir(rt, path.as_str())? {
+        match entry {
+            Ok(entry) => names.push(Vec::from_slice(rt.alloc(), entry.file_name().as_bytes())?)?,
+            Err(error) if error.kind() == ErrorKind::InvalidFilename => {}
+            Err(error) => return Err(error),
+        }
+    }
+    names.sort_unstable();
+    Ok(names)
+}

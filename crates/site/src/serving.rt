@@ -1,0 +1,225 @@
+//! Serving a round that is planned: its texts are run, and each is given what is its own.
+use crate::fault::{Fault, Wrong};
+use crate::keeper::file;
+use crate::place::{Place, System};
+use crate::planning::{fix, plan_of, unfix};
+use deck_driver::Options;
+use deck_syntax::DeckError;
+use mon_text::Stop;
+use rounds::{Round, RoundError, run_round};
+use site_deck::{Parted, Planned, part_deck, parts_text, without_text};
+use site_folder::{Standing, commit, round_name, settle};
+use site_plan::{Plan, Verdict};
+use std::alloc::{AllocError, Global};
+
+/// What a round came to.
+#[derive(Clone, Copy)]
+pub struct Tally {
+    /// How many texts ran.
+    pub run: u64,
+    /// How many were refused.
+    pub refused: u64,
+    /// How many were put off.
+    pub put_off: u64,
+}
+
+// How the run of a planned round ended.
+#[derive(Drop)]
+enum Ran {
+    Whole(Round),
+    // A growth was refused while the text of this place was served, counted from 0.
+    Short(usize),
+}
+
+/// Runs a round that is planned, and gives each text what is its own. A text in whose part memory ran out is put off, and the others
+/// are run without it.
+pub fn serve<R: System>(place: &mut Place<R>, n: u64) -> Result<Tally, Fault> {
+    let plan = plan_there(place, n)?;
+    let tries = plan.entries.len();
+    for _ in 0..=tries {
+        let plan = plan_there(place, n)?;
+        match run_planned(place, n, &plan)? {
+            Ran::Whole(round) => return deliver(place, n, &plan, round),
+            Ran::Short(text) => put_off(place, n, plan, text)?,
+        }
+    }
+    Err(Fault::Memory)
+}
+
+/// Settles a round that is committed.
+pub fn settle_round<R: System>(place: &mut Place<R>, n: u64) -> Result<Tally, Fault> {
+    let plan = plan_there(place, n)?;
+    settle_on(place, n)?;
+    Ok(tally_of(&plan))
+}
+
+fn settle_on<R: System>(place: &mut Place<R>, n: u64) -> Result<(), Fault> {
+    let alloc = place.rt.alloc();
+    match settle(alloc, place, n) {
+        Ok(Standing::Done) => Ok(()),
+        Ok(Standing::Open) => Err(damaged(place, n, b".out")?),
+        Ok(Standing::Damaged) => Err(damaged(place, n, b".parts")?),
+        Err(error) => {
+            let name = round_name(alloc, n, b".out")?;
+            Err(place.fault_of(error, &name))
+        }
+    }
+}
+
+/// The plan of a round, which has to be there.
+pub fn plan_there<R: System>(place: &Place<R>, n: u64) -> Result<Plan, Fault> {
+    match plan_of(place, n)? {
+        Some(plan) => Ok(plan),
+        None => Err(damaged(place, n, b".plan")?),
+    }
+}
+
+fn damaged<R: System>(place: &Place<R>, n: u64, ending: &[u8]) -> Result<Fault, AllocError> {
+    let name = round_name(place.rt.alloc(), n, ending)?;
+    Ok(place.wrong(&name, Wrong::Words("is damaged")))
+}
+
+// Runs the texts of a round.
+fn run_planned<R: System>(place: &mut Place<R>, n: u64, plan: &Plan) -> Result<Ran, Fault> {
+    let parted = part_deck_of(place, n, plan)?;
+    let count = parted.texts.len() as u64;
+    let lines = lines_before_catalogue(&parted.head);
+    match run_parted(place.rt.alloc(), parted) {
+        Ok(round) => Ok(Ran::Whole(round)),
+        Err(RoundError::Memory { text }) if text > 0 && text <= count => {
+            Ok(Ran::Short(text as usize - 1))
+        }
+        Err(RoundError::Memory { .. }) => Err(Fault::Memory),
+        Err(RoundError::Refused(line, code)) => {
+            unfix(place, n)?;
+            Err(bad_catalogue(place, line, lines, code))
+        }
+    }
+}
+
+/// Runs a deck that was taken apart, as `snomon` does without options.
+pub fn run_parted(alloc: Global, parted: Parted) -> Result<Round, RoundError> {
+    let Parted { head, texts } = parted;
+    run_round(alloc, Options::new(), head, &texts)
+}
+
+// How many lines stand before the catalogue's first.
+fn lines_before_catalogue(head: &[u8]) -> u64 {
+    let mut lines: u64 = 0;
+    for line in head.split(|byte| *byte == b'\n') {
+        if line.starts_with(b"$CATALOGUE") {
+            return lines;
+        }
+        lines = lines.saturating_add(1);
+    }
+    0
+}
+
+fn bad_catalogue<R: System>(place: &Place<R>, line: u64, before: u64, code: DeckError) -> Fault {
+    place.wrong(
+        b"catalogue",
+        Wrong::Line(line.saturating_sub(before), code.text()),
+    )
+}
+
+/// Takes the deck of a round apart, by its plan.
+pub fn part_deck_of<R: System>(place: &Place<R>, n: u64, plan: &Plan) -> Result<Parted, Fault> {
+    let name = round_name(place.rt.alloc(), n, b".deck")?;
+    let deck = file(place, &name)?;
+    match part_deck(place.rt.alloc(), plan, deck) {
+        Ok(parted) => Ok(parted),
+        Err(Stop::Refused(_)) => Err(damaged(place, n, b".deck")?),
+        Err(Stop::Memory) => Err(Fault::Memory),
+    }
+}
+
+/// What each name is given of what a round wrote.
+pub fn parts_of(alloc: Global, plan: &Plan, round: &Round) -> Result<Vec<u8>, AllocError> {
+    parts_text(
+        alloc,
+        plan.entries.as_slice(),
+        &round.ends,
+        round.output.len(),
+    )
+}
+
+// Commits and settles a round that was run.
+fn deliver<R: System>(
+    place: &mut Place<R>,
+    n: u64,
+    plan: &Plan,
+    round: Round,
+) -> Result<Tally, Fault> {
+    let alloc = place.rt.alloc();
+    let replies = file(place, &round_name(alloc, n, b".replies")?)?;
+    let parts = parts_of(alloc, plan, &round)?;
+    commit_on(place, n, &replies, &parts, round)?;
+    settle_on(place, n)?;
+    Ok(tally_of(plan))
+}
+
+fn commit_on<R: System>(
+    place: &mut Place<R>,
+    n: u64,
+    replies: &[u8],
+    parts: &[u8],
+    round: Round,
+) -> Result<(), Fault> {
+    let alloc = place.rt.alloc();
+    match commit(alloc, place, n, replies, parts, &round.output) {
+        Ok(true) => Ok(()),
+        Ok(false) => Err(damaged(place, n, b".replies")?),
+        Err(error) => {
+            let name = round_name(alloc, n, b".out")?;
+            Err(place.fault_of(error, &name))
+        }
+    }
+}
+
+/// How many texts a plan says ran, were refused, were put off.
+pub fn tally_of(plan: &Plan) -> Tally {
+    let mut tally = Tally {
+        run: 0,
+        refused: 0,
+        put_off: 0,
+    };
+    for entry in plan.entries.iter() {
+        tally = counted(tally, entry.verdict);
+    }
+    tally
+}
+
+fn counted(tally: Tally, verdict: Verdict) -> Tally {
+    let mut after = tally;
+    match verdict {
+        Verdict::Runs { .. } => after.run = after.run.saturating_add(1),
+        Verdict::Refused { .. } => after.refused = after.refused.saturating_add(1),
+        Verdict::PutOff { .. } => after.put_off = after.put_off.saturating_add(1),
+    }
+    after
+}
+
+// Plans a round anew, without the text of this place: it is put off, or refused where it was run alone.
+fn put_off<R: System>(place: &mut Place<R>, n: u64, plan: Plan, text: usize) -> Result<(), Fault> {
+    let planned = planned_of(place, n, plan)?;
+    match without_text(place.rt.alloc(), planned, text) {
+        Ok(planned) => {
+            unfix(place, n)?;
+            fix(place, n, &planned)
+        }
+        Err(Stop::Refused(_)) => Err(damaged(place, n, b".deck")?),
+        Err(Stop::Memory) => Err(Fault::Memory),
+    }
+}
+
+// What stands of a round that is planned.
+fn planned_of<R: System>(place: &Place<R>, n: u64, plan: Plan) -> Result<Planned, Fault> {
+    let alloc = place.rt.alloc();
+    let replies = file(place, &round_name(alloc, n, b".replies")?)?;
+    let deck = file(place, &round_name(alloc, n, b".deck")?)?;
+    Ok(Planned {
+        plan,
+        deck,
+        replies,
+    })
+}

@@ -1,0 +1,167 @@
+//! What the program tells, and its exit status.
+use crate::claiming::all_taken;
+use crate::fault::{FAILED, Fault};
+use crate::keeper::{Keeper, open_site};
+use crate::place::{Place, System};
+use crate::running::{Report, Served, last_round, stands};
+use crate::status::faults_of;
+use mon_text::Name;
+use site_deck::box_name;
+use std::{io, str};
+
+/// The exit status where a text was refused, or put off, and all else was done; or where the bytes of a round are others.
+const REFUSED: u8 = 1;
+
+/// What a telling asks of the system.
+pub trait Teller: System + Print + Eprint {}
+
+impl<R: System + Print + Eprint> Teller for R {}
+
+/// Tells a fault, and gives its exit status.
+pub fn tell_fault<R: Eprint>(rt: &R, fault: &Fault) -> u8 {
+    let _told = eprintln!(rt; "site: {fault}");
+    fault.status()
+}
+
+// The exit status where something was told; 3 where that could not be written.
+fn status_of(told: io::Result<()>, status: u8) -> u8 {
+    match told {
+        Ok(()) => status,
+        Err(_) => FAILED,
+    }
+}
+
+/// Tells how a site was made.
+pub fn tell_made<R: Eprint>(rt: &R, made: Result<(), Fault>) -> u8 {
+    match made {
+        Ok(()) => 0,
+        Err(fault) => tell_fault(rt, &fault),
+    }
+}
+
+/// Tells the rounds that were served, what is wrong with boxes that were passed over, and the fault that ended the run, if one did.
+pub fn tell_run<R: Print + Eprint>(rt: &R, report: &Report, ended: Result<(), Fault>) -> u8 {
+    let told = tell_rounds(rt, &report.served);
+    tell_faults(rt, &report.passed);
+    match ended {
+        Ok(()) if report.passed.is_empty() => status_of(told, status_of_rounds(&report.served)),
+        Ok(()) => FAILED,
+        Err(fault) => tell_fault(rt, &fault),
+    }
+}
+
+fn tell_rounds<R: Print>(rt: &R, served: &[Served]) -> io::Result<()> {
+    for round in served {
+        tell_round(rt, round)?;
+    }
+    Ok(())
+}
+
+fn tell_round<R: Print>(rt: &R, round: &Served) -> io::Result<()> {
+    let n = round.n;
+    let run = round.tally.run;
+    let refused = round.tally.refused;
+    let put_off = round.tally.put_off;
+    if put_off == 0 {
+        println!(rt; "round {n}: {run} run, {refused} refused")
+    } else {
+        println!(rt; "round {n}: {run} run, {refused} refused, {put_off} put off")
+    }
+}
+
+fn status_of_rounds(served: &[Served]) -> u8 {
+    let whole = served.iter().all(|round| round.tally.refused == 0 && round.tally.put_off == 0);
+    if whole { 0 } else { REFUSED }
+}
+
+/// Tells what a text would be told.
+pub fn tell_check<R: Print + Eprint>(rt: &R, checked: Result<Option<Vec<u8>>, Fault>) -> u8 {
+    match checked {
+        Ok(None) => status_of(println!(rt; "ADMITTED"), 0),
+        Ok(Some(reply)) => status_of(tell_text(rt, &reply), REFUSED),
+        Err(fault) => tell_fault(rt, &fault),
+    }
+}
+
+fn tell_text<R: Print>(rt: &R, text: &[u8]) -> io::Result<()> {
+    let text = str::from_utf8(text).unwrap_or("");
+    print!(rt; "{text}")
+}
+
+/// Tells whether a round that was run again has the same bytes.
+pub fn tell_verified<R: Print + Eprint>(rt: &R, n: u64, same: Result<bool, Fault>) -> u8 {
+    match same {
+        Ok(true) => status_of(println!(rt; "round {n}: the same bytes"), 0),
+        Ok(false) => status_of(eprintln!(rt; "site: round {n}: other bytes"), REFUSED),
+        Err(fault) => tell_fault(rt, &fault),
+    }
+}
+
+/// Tells what stands in a site, and what is wrong with it.
+pub fn tell_status<R: Teller>(rt: &R, top: String) -> u8 {
+    match rt.clone() {
+        Ok(own) => match open_site(own, top) {
+            Ok((place, keeper)) => match tell_standing(rt, &place, &keeper) {
+                Ok(status) => status,
+                Err(fault) => tell_fault(rt, &fault),
+            },
+            Err(fault) => tell_fault(rt, &fault),
+        },
+        Err(_) => tell_fault(rt, &Fault::Memory),
+    }
+}
+
+fn tell_standing<R: Teller>(rt: &R, place: &Place<R>, keeper: &Keeper) -> Result<u8, Fault> {
+    let faults = faults_of(place, keeper)?;
+    tell_faults(rt, &faults.boxes);
+    tell_faults(rt, &faults.grave);
+    if !faults.grave.is_empty() {
+        return Ok(FAILED);
+    }
+    tell_last(rt, place)?;
+    tell_boxes(rt, place, keeper)?;
+    Ok(if faults.boxes.is_empty() { 0 } else { FAILED })
+}
+
+fn tell_faults<R: Eprint>(rt: &R, faults: &[Fault]) {
+    for fault in faults {
+        let _status = tell_fault(rt, fault);
+    }
+}
+
+// Tells where the last round stands, and how many claimed files there are.
+fn tell_last<R: Teller>(rt: &R, place: &Place<R>) -> Result<(), Fault> {
+    let n = last_round(place)?;
+    let claimed = all_taken(place)?.len();
+    let word = if n == 0 {
+        "there was none"
+    } else if stands(place, n, b".done")? {
+        "is done"
+    } else {
+        "is not done"
+    };
+    let _told = println!(rt; "ok round {n} {word}");
+    let _told = println!(rt; "ok claimed {claimed}");
+    Ok(())
+}
+
+fn tell_boxes<R: Teller>(rt: &R, place: &Place<R>, keeper: &Keeper) -> Result<(), Fault> {
+    for index in 0..keeper.accounts.len() {
+        if let Some(account) = keeper.accounts.at(index) {
+            tell_box(rt, place, &account.name)?;
+        }
+    }
+    Ok(())
+}
+
+// Tells how many names stand in a box.
+fn tell_box<R: Teller>(rt: &R, place: &Place<R>, account: &Name) -> Result<(), Fault> {
+    let folder = box_name(place.rt.alloc(), account)?;
+    let Ok(names) = place.names(&folder) else {
+        return Ok(());
+    };
+    let waiting = names.len();
+    let name = str::from_utf8(account.as_bytes()).unwrap_or("");
+    let _told = println!(rt; "ok waiting {waiting} {name}");
+    Ok(())
+}

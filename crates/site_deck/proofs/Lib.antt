@@ -1,0 +1,2 @@
+mod Mapping
+mod Joined

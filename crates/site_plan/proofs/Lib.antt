@@ -1,0 +1,4 @@
+mod Firsts
+mod Walking
+mod Weighed
+mod Reaching

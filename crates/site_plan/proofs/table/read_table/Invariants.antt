@@ -1,0 +1,14 @@
+use Rattle.std.proofs.Common.{◌≡◌, ◌+◌, ◌≤◌, length}
+use Rattle.std.specs.Str.Lines.{lines}
+use Rattle.site_plan.specs.Walks.{walked}
+use Rattle.site_plan.specs.Tables.{after_line, table_of}
+use Rattle.site_plan.proofs.table.read_table.Given as goal
+
+abbrev pub invariant-lines : goal.invariant-lines
+invariant-lines l = record {
+  so_far : walked after_line l.number l.accounts (lines l.rest) ≡ table_of l.fn.text;
+  few : l.number + length l.rest ≤ 1 + length l.fn.text;
+}
+
+abbrev pub decreases-lines : goal.decreases-lines
+decreases-lines l = length l.rest

@@ -1,0 +1,16 @@
+use Rattle.std.proofs.Common.{◌≡◌, ◌+◌, ℕ, List, length, sym, ap, ◌∙◌, arith}
+use Rattle.std.specs.Str.Lines.{lines}
+use Rattle.mon_text.proofs.Cutting.{nothing_kept}
+use Rattle.site_plan.specs.Walks.{walked, at_line}
+use Rattle.site_plan.specs.Terms.{after_line, terms_in}
+use Rattle.site_plan.proofs.Walking.{walk_on, walk_ends, stopped_there, stopped_before}
+use Rattle.site_plan.proofs.terms.read_terms.Goals as goal
+
+pub lines-preserved : goal.lines-preserved
+lines-preserved c = record {
+  so_far =
+      walk_on after_line c.lines.number c.lines.said.items c.take_line.new.said.items c.lines.rest.now c.first_line.result.0.now c.first_line.result.1.now
+      _ c.lines.invariant.so_far c.first_line.ensures.parts c.in-Ok.ensures.taken;
+  counted = let parts = ap length c.first_line.ensures.parts in omega (arith, parts, c.lines.invariant.counted);
+  few = omega (arith, c.first_line.ensures.less, c.lines.invariant.few);
+}

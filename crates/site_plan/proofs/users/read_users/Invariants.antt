@@ -1,0 +1,14 @@
+use Rattle.std.proofs.Common.{◌≡◌, ◌+◌, ◌≤◌, length}
+use Rattle.std.specs.Str.Lines.{lines}
+use Rattle.site_plan.specs.Walks.{walked}
+use Rattle.site_plan.specs.Users.{after_line, users_of}
+use Rattle.site_plan.proofs.users.read_users.Given as goal
+
+abbrev pub invariant-lines : goal.invariant-lines
+invariant-lines l = record {
+  so_far : walked (after_line l.fn.demonstration) l.number l.users.items (lines l.rest) ≡ users_of l.fn.demonstration l.fn.text;
+  few : l.number + length l.rest ≤ 1 + length l.fn.text;
+}
+
+abbrev pub decreases-lines : goal.decreases-lines
+decreases-lines l = length l.rest

@@ -1,0 +1,19 @@
+-- The account table of a site (own): the lines that stand in a deck behind `$ACCOUNTS`, each ended by a line feed.
+use Rattle.std.specs.Prelude.{ℕ, ◌+◌, List, [], ◌∷◌, length, slice_index, ◌-◌, ◌==◌, ◌||◌, Bool, Result, Ok, Err, if◌then◌else◌}
+use Rattle.std.specs.Option.{option_or, option_map_or}
+use Rattle.std.specs.Str.Lines.{lines}
+use Rattle.mon_access.specs.declared.account.Account.{Account}
+use Rattle.deck_syntax.specs.Refusing.{line_refusal, is_dollar_line}
+use Rattle.deck_syntax.specs.Sections.{accounts_refusal, table_after}
+use Rattle.site_plan.specs.declared.table.TableFault.{TableFault}
+use Rattle.site_plan.specs.declared.table.TableFault.TheVariants.{Line, Heading}
+use Rattle.site_plan.specs.Walks.{walked}
+
+abbrev pub after_line : List Account → List ℕ → Result (List Account) TableFault
+after_line accounts line =
+    option_map_or (λ code. Err (Line code)) (option_or (line_refusal 200 line) (accounts_refusal accounts line))
+    (if is_dollar_line line then Err Heading else Ok (table_after accounts line))
+
+-- the accounts of a table, or its first line that is wrong, and why
+abbrev pub table_of : List ℕ → Result (List Account) (ℕ × TableFault)
+table_of text = walked after_line 1 [] (lines text)

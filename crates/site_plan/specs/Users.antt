@@ -1,0 +1,51 @@
+-- The users of a site (own): a number of the system and an account on each line.
+use Rattle.std.specs.Prelude.{ℕ, ◌-◌, ◌^◌, ◌==◌, Bool, not, ◌&&◌, nat_lt, List, [], ◌∷◌, ◌++◌, Option, Some, None, option_map, option_and_then, Result, Ok, Err, if◌then◌else◌, bytes_eq}
+use Rattle.std.specs.Option.{option_map_or}
+use Rattle.std.specs.List.{list_any}
+use Rattle.std.specs.Str.Lines.{lines}
+use Rattle.mon_text.specs.Lines.{words}
+use Rattle.mon_text.specs.Names.{is_name}
+use Rattle.mon_text.specs.Counts.{is_count, value_of}
+use Rattle.site_plan.specs.declared.users.User.{User}
+use Rattle.site_plan.specs.declared.users.UsersFault.{UsersFault}
+use Rattle.site_plan.specs.declared.users.UsersFault.TheVariants.{BadLine, UidTwice, AccountTwice}
+use Rattle.site_plan.specs.Walks.{is_skipped, walked}
+
+-- a number of 32 bits, but the largest, which is nobody's
+abbrev pub uid_on : List ℕ → Option ℕ
+uid_on word = if (is_count word && nat_lt (value_of word) (2 ^ 32 - 1)) then Some (value_of word) else None
+
+abbrev pub name_on : List ℕ → Option (List ℕ)
+name_on word = if is_name word then Some word else None
+
+abbrev pub user_with : List ℕ → List ℕ → Option User
+user_with uid account = option_and_then (λ uid. option_map (λ account. record { uid = uid; account = account }) (name_on account)) (uid_on uid)
+
+abbrev pub user_on : List (List ℕ) → Option User
+user_on (uid ∷ account ∷ []) = user_with uid account
+user_on _ = None
+
+abbrev pub has_uid : ℕ → List User → Bool
+has_uid uid users = list_any (λ user. user.uid == uid) users
+
+abbrev pub has_account : List ℕ → List User → Bool
+has_account account users = list_any (λ user. bytes_eq user.account account) users
+
+-- no number twice, unless a user may have several accounts; and no account twice
+abbrev pub with_user : Bool → List User → User → Result (List User) UsersFault
+with_user several users user =
+    if (not several && has_uid user.uid users) then Err UidTwice
+    else (if has_account user.account users then Err AccountTwice else Ok (users ++ user ∷ []))
+
+abbrev pub after_line : Bool → List User → List ℕ → Result (List User) UsersFault
+after_line several users line =
+    if is_skipped line then Ok users else option_map_or (with_user several users) (user_on (words line)) (Err BadLine)
+
+-- the users that a text gives, or its first line that is wrong, and why
+abbrev pub users_of : Bool → List ℕ → Result (List User) (ℕ × UsersFault)
+users_of several text = walked (after_line several) 1 [] (lines text)
+
+-- whose number stands with an account
+abbrev pub uid_of : List ℕ → List User → Option ℕ
+uid_of account [] = None
+uid_of account (user ∷ users) = if bytes_eq user.account account then Some user.uid else uid_of account users

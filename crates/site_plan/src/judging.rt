@@ -1,0 +1,183 @@
+//! Which of the claimed texts run, and why the others do not.
+ghost use Rattle.std.specs.Prelude.{◌≡◌, OnOk, IfOk, ◌∷◌, [], ◌++◌};
+
+use crate::claimed::{Claimed, Found};
+use crate::desk::Desk;
+use crate::owning::Holding;
+use crate::reason::Reason;
+use crate::replies::reply;
+use crate::runs::Runs;
+use crate::taken::Taken;
+use intake::{Limits, Submission, examine};
+use mon_access::Accounts;
+use mon_text::{Name, Stop};
+use std::alloc::{AllocError, Global};
+
+/// A text that does not run.
+#[derive(Drop)]
+pub struct Refused {
+    /// The file.
+    pub taken: Taken,
+    /// The name that it had, as it is shown.
+    pub file: Vec<u8>,
+    /// What its user is told.
+    pub reply: Vec<u8>,
+}
+
+/// What is made of claimed files.
+#[derive(Drop)]
+pub struct Judged {
+    /// The texts that run, for each account of the table, in its order.
+    pub desks: Vec<Desk>,
+    /// The texts that do not, in the order in which they were claimed.
+    pub refused: Vec<Refused>,
+}
+
+impl Judged {
+    /// Before the first claimed file of a round.
+    ///
+    /// # Errors
+    ///
+    /// Where a growth was refused.
+    pub fn new(
+        alloc: Global,
+        accounts: &Accounts,
+        limits: &Limits,
+        held: &[Holding],
+    ) -> Result<Judged, AllocError> {
+        let desks = empty_desks(alloc, accounts, limits, held)?;
+        Ok(Judged {
+            desks,
+            refused: Vec::new(alloc),
+        })
+    }
+
+    /// Judges the next claimed file: its text runs if its account may hand it in, and breaks no limit by it.
+    ///
+    /// # Errors
+    ///
+    /// Where a growth was refused.
+    pub fn judge(&mut self, alloc: Global, claimed: Claimed) -> Result<(), AllocError> {
+        let Claimed { taken, file, found } = claimed;
+        match text_of(alloc, &taken.account, &found)? {
+            Ok(submission) => judge_text(alloc, self, &found, taken, file, submission),
+            Err(reason) => refuse(alloc, self, taken, file, &found, reason),
+        }
+    }
+}
+
+// The desks of the accounts of a table, before the first text.
+fn empty_desks(
+    alloc: Global,
+    accounts: &Accounts,
+    limits: &Limits,
+    held: &[Holding],
+) -> Result<Vec<Desk>, AllocError> {
+    let mut desks = Vec::new(alloc);
+    for (place, holding) in held.iter().enumerate() {
+        if let Some(account) = accounts.at(place) {
+            add_desk(&mut desks, alloc, &account.name, limits, *holding)?;
+        }
+    }
+    Ok(desks)
+}
+
+fn add_desk(
+    desks: &mut Vec<Desk>,
+    alloc: Global,
+    account: &Name,
+    limits: &Limits,
+    held: Holding,
+) -> Result<(), AllocError> {
+    match desks.push(Desk::new(alloc, account.copy(), *limits, held)) {
+        Ok(()) => Ok(()),
+        Err(_) => Err(AllocError),
+    }
+}
+
+// The text of a file that its account may hand in, or why there is none.
+fn text_of(
+    alloc: Global,
+    account: &Name,
+    found: &Found,
+) -> Result<Result<Submission, Reason>, AllocError>
+    ensures { IfOk result (λ text. IfOk text (λ submission. submission.account ≡ account.now)) }
+{
+    match text_in(found) {
+        Ok(text) => match examine(alloc, account, text) {
+            Ok(submission) => Ok(Ok(submission)),
+            Err(Stop::Refused(refusal)) => Ok(Err(Reason::Line(refusal))),
+            Err(Stop::Memory) => Err(AllocError),
+        },
+        Err(reason) => Ok(Err(reason)),
+    }
+}
+
+// The bytes of a file, or why there are none.
+fn text_in(found: &Found) -> Result<&[u8], Reason> {
+    match found {
+        Found::Text(text) => Ok(text.as_slice()),
+        Found::NotOwn => Err(Reason::NotOwn),
+        Found::TooLong => Err(Reason::TooLong),
+        Found::NotReadable => Err(Reason::NotReadable),
+    }
+}
+
+// A text that its account may hand in runs, unless a limit stops it.
+fn judge_text(
+    alloc: Global,
+    judged: &mut Judged,
+    found: &Found,
+    taken: Taken,
+    file: Vec<u8>,
+    submission: Submission,
+) -> Result<(), AllocError> {
+    let runs = Runs {
+        taken,
+        file,
+        submission,
+    };
+    match put_text(&mut judged.desks, runs)? {
+        None => Ok(()),
+        Some((runs, reason)) => refuse(alloc, judged, runs.taken, runs.file, found, reason),
+    }
+}
+
+// Puts a text to its account's desk. Where a limit stops it, or there is no such desk, it comes back, with why.
+fn put_text(desks: &mut [Desk], runs: Runs) -> Result<Option<(Runs, Reason)>, AllocError> {
+    for desk in desks.iter_mut() {
+        if desk.account == runs.submission.account {
+            return take_text(desk, runs);
+        }
+    }
+    Ok(Some((runs, Reason::NotOwn)))
+}
+
+fn take_text(desk: &mut Desk, runs: Runs) -> Result<Option<(Runs, Reason)>, AllocError>
+    requires { runs.submission.account ≡ desk.old.account }
+{
+    match desk.weigh(&runs.submission.tally) {
+        None => {
+            desk.take(runs)?;
+            Ok(None)
+        }
+        Some(reason) => Ok(Some((runs, reason))),
+    }
+}
+
+// A file does not run; its user is told why.
+fn refuse(
+    alloc: Global,
+    judged: &mut Judged,
+    taken: Taken,
+    file: Vec<u8>,
+    found: &Found,
+    reason: Reason,
+) -> Result<(), AllocError> {
+    let text = text_in(found).unwrap_or(b"");
+    let reply = reply(alloc, &file, &taken.account, reason, text)?;
+    match judged.refused.push(Refused { taken, file, reply }) {
+        Ok(()) => Ok(()),
+        Err(_) => Err(AllocError),
+    }
+}

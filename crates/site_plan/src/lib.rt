@@ -1,0 +1,30 @@
+//! What a site does with its files, as functions over what stands in them: who its users are and what they may hand in, which of the
+//! claimed texts run and in which order, which are refused and why, and what each is told.
+#![tactic(auto)]
+
+pub mod claimed;
+pub mod desk;
+pub mod judging;
+mod lines;
+pub mod owning;
+pub mod plan;
+pub mod reason;
+pub mod replies;
+pub mod runs;
+pub mod table;
+pub mod taken;
+pub mod terms;
+pub mod users;
+
+pub use claimed::{Claimed, Found, shown_name};
+pub use desk::Desk;
+pub use judging::{Judged, Refused};
+pub use owning::{Holding, holdings};
+pub use plan::{Entry, Plan, Verdict, plan_text, read_plan};
+pub use reason::Reason;
+pub use replies::{put_off_reply, reply};
+pub use runs::Runs;
+pub use table::{TableFault, read_table};
+pub use taken::{Taken, put_id};
+pub use terms::{Terms, TermsFault, limit_name, read_terms};
+pub use users::{User, UsersFault, read_users};

@@ -1,0 +1,82 @@
+//! The lines of a text, and the words of a line.
+ghost use Rattle.std.specs.Prelude.{◌≡◌, ◌∷◌, ◌++◌, ◌<◌, length, map, replicate, IfOk, OnOk};
+ghost use Rattle.std.specs.Str.Lines.{lines, strip_carriage_return};
+ghost use Rattle.mon_text.specs.Lines.{words, is_blank_line};
+ghost use Rattle.site_plan.specs.Walks.{is_remark, is_skipped, stop_at};
+
+use mon_text::{Stop, first_line_end};
+use std::alloc::{AllocError, Global};
+
+// The first line of a text, without its line end, and the bytes behind that.
+pub(crate) fn first_line(text: &[u8]) -> (&[u8], &[u8])
+    requires { 0 < length text.now }
+    ensures parts { lines text.now ≡ result.0.now ∷ lines result.1.now }
+    ensures less { length result.1.now < length text.now }
+{
+    match first_line_end(text) {
+        Some(end) => {
+            let line = without_carriage_return(&text[..end]);
+            (line, &text[end + 1..])
+        }
+        None => (text, &text[text.len()..]),
+    }
+}
+
+// A CR before the LF belongs to the line end.
+fn without_carriage_return(line: &[u8]) -> &[u8]
+    ensures { result.now ≡ strip_carriage_return line.now }
+{
+    if line.last() == Some(&b'\r') {
+        &line[..line.len() - 1]
+    } else {
+        line
+    }
+}
+
+// The words of a line: its pieces between blanks, without the empty ones.
+pub(crate) fn words_of(alloc: Global, line: &[u8]) -> Result<Vec<&[u8]>, AllocError>
+    ensures { IfOk result (λ found. map (λ word. word.now) found.items ≡ words line.now) }
+{
+    line.split(|byte| *byte == b' ')
+        .filter(|word| !word.is_empty())
+        .collect(alloc)
+}
+
+// Whether a line of a keeper's file says nothing.
+pub(crate) fn is_skipped(line: &[u8]) -> bool
+    ensures { result ≡ is_skipped line.now }
+{
+    is_remark(line) || is_blank(line)
+}
+
+fn is_remark(line: &[u8]) -> bool
+    ensures { result ≡ is_remark line.now }
+{
+    line.first() == Some(&b'#')
+}
+
+fn is_blank(line: &[u8]) -> bool
+    ensures { result ≡ is_blank_line line.now }
+{
+    line.iter().all(|byte| *byte == b' ')
+}
+
+// Why a call stopped, with the number of the line for which it did.
+pub(crate) fn stop_at<W: Drop>(line: u64, stop: Stop<W>) -> Stop<(u64, W)>
+    ensures { result ≡ stop_at line stop }
+{
+    match stop {
+        Stop::Refused(why) => Stop::Refused((line, why)),
+        Stop::Memory => Stop::Memory,
+    }
+}
+
+// Appends a byte so many times.
+pub(crate) fn put_times(out: &mut Vec<u8>, byte: u8, count: usize) -> Result<(), AllocError>
+    ensures { OnOk result (out.new.items ≡ out.old.items ++ replicate count byte) }
+{
+    for _ in 0..count {
+        out.push(byte)?;
+    }
+    Ok(())
+}

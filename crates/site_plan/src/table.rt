@@ -1,0 +1,65 @@
+//! The account table of a site.
+ghost use Rattle.std.specs.Prelude.{◌≡◌, Ok, Err, IfErr, OnOk};
+ghost use Rattle.mon_text.specs.Stops.{Gives};
+ghost use Rattle.intake.specs.Submissions.{IfStopped};
+ghost use Rattle.site_plan.specs.Tables.{after_line, table_of};
+
+use crate::lines::{first_line, stop_at};
+use deck_syntax::{DeckError, put_account_line};
+use mon_access::Accounts;
+use mon_text::Stop;
+use std::alloc::Global;
+
+/// Why a line of the account table is refused.
+#[derive(Clone, Copy)]
+pub enum TableFault {
+    /// A deck would be refused at this line, with this code.
+    Line(DeckError),
+    /// The line would end the table of a deck.
+    Heading,
+}
+
+impl TableFault {
+    /// What is wrong, in words.
+    pub fn text(self) -> &'static str {
+        match self {
+            TableFault::Line(code) => code.text(),
+            TableFault::Heading => "a card that ends the account table",
+        }
+    }
+}
+
+/// The accounts of a table: lines as those behind `$ACCOUNTS`.
+///
+/// # Errors
+///
+/// The number of the first line that is wrong, counted from 1, and why; `Memory` where a growth was refused.
+pub fn read_table(alloc: Global, text: &[u8]) -> Result<Accounts, Stop<(u64, TableFault)>>
+    ensures { Gives (λ accounts. accounts) result (table_of text.now) }
+{
+    let mut accounts = Accounts::new(alloc);
+    let mut number: u64 = 1;
+    let mut rest = text;
+    'lines: while !rest.is_empty() {
+        let (line, behind) = first_line(rest);
+        match take_line(alloc, &mut accounts, line) {
+            Ok(()) => {}
+            Err(stop) => return Err(stop_at(number, stop)),
+        }
+        number += 1;
+        rest = behind;
+    }
+    Ok(accounts)
+}
+
+fn take_line(alloc: Global, accounts: &mut Accounts, line: &[u8]) -> Result<(), Stop<TableFault>>
+    ensures taken { OnOk result (after_line accounts.old line.now ≡ Ok accounts.new) }
+    ensures refused { IfErr result (IfStopped (λ why. after_line accounts.old line.now ≡ Err why)) }
+{
+    match put_account_line(alloc, accounts, line) {
+        Ok(None) => Ok(()),
+        Ok(Some(_)) => Err(Stop::Refused(TableFault::Heading)),
+        Err(Stop::Refused(code)) => Err(Stop::Refused(TableFault::Line(code))),
+        Err(Stop::Memory) => Err(Stop::Memory),
+    }
+}
