@@ -18,6 +18,7 @@ printf '#!/bin/sh\\necho "$@"; cat\\n' >out/snomon
 chmod +x out/snomon
 '''
 PROGRAM = 'crates/snomon/out/snomon'
+PROGRAMS = ('snomon', 'listing', 'site')
 BY_HAND = b'#!/bin/sh\necho by hand\n'
 OF_THE_GATE = b'#!/bin/sh\necho of the gate "$@"\n'
 RELEASED = b'#!/bin/sh\necho released "$@"\n'
@@ -36,16 +37,16 @@ def without_rt():
 class Checkout(Trying):
     def setUp(self):
         super().setUp()
-        for name in ('tools', 'examples', 'bin', 'crates/snomon/src', 'crates/listing/src',
+        for name in ('tools', 'examples', 'bin', 'crates/snomon/src', 'crates/listing/src', 'crates/site/src',
                      'crates/mon_low/specs', 'crates/other/src'):
             os.makedirs(self.path(name))
-        for name in ('run', 'listing', 'install', 'tools/proved', 'tools/release', 'tools/deck', 'examples/payroll.deck'):
+        for name in ('run', 'listing', 'site', 'install', 'tools/proved', 'tools/release', 'tools/deck', 'examples/payroll.deck'):
             shutil.copy(os.path.join(TOP, name), self.path(name))
-        for name in ('tools/decks', 'docs/man'):
+        for name in ('tools/decks', 'docs/man', 'examples/site'):
             shutil.copytree(os.path.join(TOP, name), self.path(name))
-        self.write('crates.txt', b'# crates\nmon_low: thiserror\nsnomon: mon_low clap\nlisting: mon_low\nother: mon_low\n')
+        self.write('crates.txt', b'# crates\nmon_low: thiserror\nsnomon: mon_low clap\nlisting: mon_low\nsite: mon_low\nother: mon_low\n')
         self.write('HANDLES', b'Handles allowed: none.\n')
-        for name in ('crates/snomon/src/main.rt', 'crates/listing/src/main.rt', 'crates/mon_low/specs/Low.antt', 'crates/other/src/lib.rt'):
+        for name in ('crates/snomon/src/main.rt', 'crates/listing/src/main.rt', 'crates/site/src/main.rt', 'crates/mon_low/specs/Low.antt', 'crates/other/src/lib.rt'):
             self.write(name, b'one\n')
         self.write('version', b'kit 1\n')
         self.script('bin/rt', RT.encode())
@@ -72,10 +73,10 @@ class Checkout(Trying):
         return self.read('said').count(b'built') if 'said' in self.names() else 0
 
     def release(self):
-        for name in ('snomon', 'listing'):
+        for name in PROGRAMS:
             self.script(f'release/{name}', RELEASED)
-        self.write('release/SHA256SUMS', ''.join(f'{sha256(RELEASED)}  {name}\n' for name in ('snomon', 'listing')).encode())
-        self.write('release/SOURCES', f'commit 1234\ntoolchain kit 1\nsnomon {self.sum()}\nlisting {self.sum("listing")}\n'.encode())
+        self.write('release/SHA256SUMS', ''.join(f'{sha256(RELEASED)}  {name}\n' for name in PROGRAMS).encode())
+        self.write('release/SOURCES', ('commit 1234\ntoolchain kit 1\n' + ''.join(f'{name} {self.sum(name)}\n' for name in PROGRAMS)).encode())
 
     def stamp(self, name, content):
         """As the gate does with a program that it has built."""

@@ -2,6 +2,7 @@
 import os
 import re
 import shutil
+import sys
 from trying import BOTH, PRINTOUTS, SNOMON, TOP, Trying, run, snomon
 from test_2_split import HEAD, job, sets
 
@@ -10,10 +11,32 @@ class Pages(Trying):
     def test_man_pages_are_set_without_a_warning(self):
         if not shutil.which('groff'):
             self.skipTest('there is no groff')
-        for page in ('snomon.1', 'listing.1', 'snomon-deck.5'):
+        for page in ('snomon.1', 'listing.1', 'deck.1', 'snomon-deck.5'):
             done = run(['groff', '-mdoc', '-Tascii', '-ww', os.path.join(TOP, 'docs', 'man', page)])
             self.assertEqual((done.status, done.err), (0, ''))
             self.assertIn(b'DESCRIPTION', re.sub(b'.\x08', b'', done.out))
+
+    def test_the_page_of_deck_is_what_its_help_says(self):
+        done = run([os.path.join(TOP, 'tools', 'manual'), '--check'])
+        self.assertEqual((done.status, done.out), (0, b"ok docs/man/deck.1 is what deck --help says\n"))
+
+    def test_the_first_change_of_CODE_can_be_laid_over(self):
+        if not shutil.which('git'):
+            self.skipTest('there is no git')
+        patch = os.path.join(TOP, 'docs', 'first-change.patch')
+        with open(patch, encoding='utf-8') as file:
+            names = re.findall(r'^\+\+\+ b/(.*)$', file.read(), re.M)
+        shutil.copytree(os.path.join(TOP, 'oracle'), self.path('oracle'), ignore=shutil.ignore_patterns('__pycache__'))
+        for name in names:
+            os.makedirs(os.path.dirname(self.path(name)), exist_ok=True)
+            shutil.copy(os.path.join(TOP, name), self.path(name))
+        done = run(['git', 'apply', patch], cwd=self.room, env={**os.environ, 'GIT_CEILING_DIRECTORIES': os.path.dirname(self.room)})
+        self.assertEqual((done.status, done.err), (0, ''))
+        cases = next(name for name in names if name.endswith('.cases'))
+        self.assertIn(b'LLT', self.read(cases))
+        done = run([sys.executable, self.path('oracle/check.py'), self.path(cases)])
+        self.assertEqual(done.status, 0, done.out)
+        self.assertRegex(done.out, rb'agree, 0 differ')
 
 
 class Rounds(Trying):

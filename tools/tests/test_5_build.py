@@ -3,7 +3,7 @@ import os
 import signal
 import subprocess
 import time
-from checkout import BY_HAND, OF_THE_GATE, PROGRAM, RELEASED, Checkout, sha256
+from checkout import BY_HAND, OF_THE_GATE, PROGRAM, PROGRAMS, RELEASED, Checkout, sha256
 from trying import run
 
 
@@ -20,7 +20,7 @@ class Built(Checkout):
     def test_what_no_build_reads_builds_nothing(self):
         self.ran()
         self.write('crates/other/src/lib.rt', b'two\n')
-        self.write('crates.txt', b'# crates\nmon_low: thiserror\nsnomon: mon_low clap\nlisting: mon_low\nother:\nnew: mon_low\n')
+        self.write('crates.txt', b'# crates\nmon_low: thiserror\nsnomon: mon_low clap\nlisting: mon_low\nsite: mon_low\nother:\nnew: mon_low\n')
         self.assertEqual((self.ran().err, self.builds()), ('', 1))
         self.write('crates/mon_low/specs/Low.antt', b'two\n')
         self.assertIn('min the last time', self.ran().err)
@@ -136,7 +136,7 @@ class Built(Checkout):
         for words in ((), ('other',), ('--sum', 'other', 'kit 1'), ('../snomon',)):
             done = self.proved(*words)
             self.assertEqual((done.status, done.out, self.builds()), (2, b'', 0))
-            self.assertIn('the programs are snomon and listing', done.err)
+            self.assertIn('the programs are snomon, listing and site', done.err)
 
     def test_a_checkout_that_cannot_be_written_says_so(self):
         self.write('out', b'')
@@ -181,6 +181,7 @@ class Built(Checkout):
         self.assertIn('no gate has passed', self.released_by().err)
         self.stamp('snomon', OF_THE_GATE)
         self.stamp('listing', BY_HAND)
+        self.stamp('site', BY_HAND)
         self.assertEqual(self.released_by('--passed').status, 0)
         self.assertEqual(self.released_by('--check').status, 1)
         self.assertEqual(self.released_by().status, 0)
@@ -188,23 +189,24 @@ class Built(Checkout):
         os.remove(self.path(PROGRAM))
         self.assertEqual(self.ran('a', with_rt=False).out, b'of the gate a\n')
         done = run(['sha256sum', '--check', 'SHA256SUMS'], cwd=self.path('release'))
-        self.assertEqual((done.status, done.out), (0, b'snomon: OK\nlisting: OK\n'))
+        self.assertEqual((done.status, done.out), (0, b'snomon: OK\nlisting: OK\nsite: OK\n'))
         self.write('crates/mon_low/specs/Low.antt', b'two\n')
         self.assertEqual(self.released_by('--check').status, 1)
         self.assertIn('other sources', self.released_by().err)
 
     def test_a_release_is_compared_with_what_the_gate_built(self):
-        for name in ('snomon', 'listing'):
+        for name in PROGRAMS:
             self.stamp(name, RELEASED)
         self.released_by('--passed')
         self.released_by()
-        self.assertEqual(self.released_by('--compare').out, b'ok release/snomon is what was built\nok release/listing is what was built\n2 passed, 0 failed\n')
+        self.assertEqual(self.released_by('--compare').out, b''.join(b'ok release/%s is what was built\n' % name.encode() for name in PROGRAMS) + b'3 passed, 0 failed\n')
         self.stamp('snomon', BY_HAND)
         done = self.released_by('--compare')
-        self.assertEqual((done.status, done.out.splitlines()[-1]), (1, b'1 passed, 1 failed'))
+        self.assertEqual((done.status, done.out.splitlines()[-1]), (1, b'2 passed, 1 failed'))
         self.write('crates/mon_low/specs/Low.antt', b'two\n')
         self.stamp('snomon', BY_HAND)
         self.stamp('listing', BY_HAND)
+        self.stamp('site', BY_HAND)
         done = self.released_by('--compare')
         self.assertEqual((done.status, done.out.splitlines()[-1]), (0, b'0 passed, 0 failed'))
         self.assertIn(b'moved on', done.out)

@@ -25,7 +25,7 @@ class Installed(Checkout):
         for name in done.out.decode().split():
             self.assertTrue(os.path.isfile(name), name)
         self.assertEqual(sorted(os.listdir(self.there)), ['bin', 'lib', 'share'])
-        self.assertEqual(sorted(os.listdir(os.path.join(self.there, 'bin'))), ['deck', 'listing', 'snomon'])
+        self.assertEqual(sorted(os.listdir(os.path.join(self.there, 'bin'))), ['deck', 'listing', 'site', 'snomon'])
         self.assertEqual(sorted(name for _, _, names in os.walk(self.path('there/share/man')) for name in names), PAGES)
         self.assertFalse([name for name in self.files() if os.path.basename(name).startswith('.')])
         self.assertEqual(run([self.path('there/bin/snomon'), 'a']).out, b'released a\n')
@@ -34,6 +34,13 @@ class Installed(Checkout):
         self.assertEqual((done.status, done.out, done.err), (0, PRINTOUTS, ''))
         self.assertNotIn('__pycache__', os.listdir(self.path('there/lib/snomon/decks')))
         self.assertEqual(self.install(self.there).status, 0)
+
+    def test_the_units_name_what_is_installed(self):
+        self.install(self.there)
+        unit = self.read('there/lib/systemd/system/snomon-site.service').decode()
+        self.assertIn(f'\nExecStart={os.path.realpath(self.there)}/bin/site run /srv/snomon\n', unit)
+        self.assertNotIn('/usr/local', unit)
+        self.assertIn('lib/systemd/system/snomon-site.timer', self.files())
 
     def test_it_is_open_to_all_under_any_umask(self):
         self.install(self.there, umask=0o077)
