@@ -1,6 +1,7 @@
 """A plain, slow monitor: whole decks, with owner commands and jobs, written from their rules alone.
 
-python3 monitor.py [--slots N] < deck       prints what snomon has to print
+python3 monitor.py [--slots N] [--audit FILE] < deck    prints what snomon has to print, and writes to a file who asked for what: a
+                                                       line for each entry of the history, as mon_audit says it
 
 Programs are run by snobol.py; refusals.py says which are refused, and where."""
 import re
@@ -91,6 +92,10 @@ def shown(perms):
     return ''.join(c if c in perms else '-' for c in 'rwx')
 
 
+def short_line(entries):
+    return ','.join('%s:%s:%s' % (tag, who, shown(entries[tag, who])) for tag, who in canonical(entries))
+
+
 def long_lines(entries):
     for tag, who in canonical(entries):
         perms, line = entries[tag, who], '%s:%s:' % (tag, who)
@@ -120,6 +125,20 @@ def decider(account, data_set, request):
     return None if request in entries['other', ''] else 'other::'
 
 
+def grantor(account, data_set, request):
+    """The entry that grants, where the request is granted."""
+    name, groups = account
+    entries = data_set.acl
+    if name == data_set.owner:
+        return 'user::'
+    if ('user', name) in entries:
+        return 'user:%s:' % name
+    matching = [e for e in canonical(entries) if e[0] == 'group' and (e[1] or data_set.group) in groups]
+    if matching:
+        return '%s:%s:' % next(e for e in matching if request in entries[e])
+    return 'other::'
+
+
 # ---- data sets and units ----------------------------------------------------------------------------------------
 
 MODES = ('SEQ', 'APPEND')
@@ -142,12 +161,38 @@ class Running(snobol.Job):
         super().__init__(program, (), statements, steps)
         self.monitor, self.number, self.account, self.data, self.units = monitor, number, account, data, units
         self.spool, self.notes, self.point = [], [], program.start
+        self.why = ''
 
     def denied(self, act, target, why):
         self.notes.append('DENIED STATEMENT %d %s %s %s' % (self.stno, act, target, why))
+        self.why = ' ' + why
         return 'DENIED'
 
     def ask(self, act, number, text=None):
+        asked = self.asked(act, number)
+        answer = self.answer(act, number, text)
+        outcome = answer.split(' ')[0]
+        self.audit('ASKED %s %s%s' % (asked[0], outcome, self.why if outcome == 'DENIED' else asked[1]))
+        return answer
+
+    def audit(self, what):
+        self.monitor.audit.append('JOB %d %s %s' % (self.number, self.account[0], what))
+
+    def asked(self, act, number):
+        """What the audit says of a request, and by which entry it is granted if it is, as things stand before it."""
+        unit, granted = self.units.get(number), ''
+        target = '.NONE' if unit is None else unit.name if unit.kind == 'set' else '.' + unit.kind.upper()
+        place = 0 if unit is None else unit.position
+        data_set = self.monitor.sets.get(target) if act != 'REWIND' else None
+        if data_set is not None:
+            request = 'r' if act == 'READ' else 'w'
+            if act == 'WRITE' and data_set.mode == 'APPEND':
+                place = len(data_set.records)
+            if decider(self.account, data_set, request) is None:
+                granted = ' BY ' + grantor(self.account, data_set, request)
+        return '%d %s %d %s %d' % (self.stno, act, number, target, place), granted
+
+    def answer(self, act, number, text=None):
         unit = self.units.get(number)
         if unit is None:
             return self.denied(act, 'UNIT %d' % number, 'NO UNIT')
@@ -217,12 +262,13 @@ class Running(snobol.Job):
 class Monitor:
     def __init__(self, slots):
         self.accounts, self.sets, self.slots = {}, {}, [None] * slots
-        self.out, self.jobs = [], 0
+        self.out, self.jobs, self.audit = [], 0, []
 
     def turn(self, s):
         if s < len(self.slots) and self.slots[s] is not None:
             ending = self.slots[s].turn()
             if ending is not None:
+                self.slots[s].audit('ENDED %s AFTER %d' % (ending, self.slots[s].stcount))
                 self.out += self.slots[s].printout(ending)
                 self.slots[s] = None
 
@@ -240,28 +286,41 @@ class Monitor:
         self.rounds(lambda: None in self.slots)
         number, account, statements, steps, ties, lines = job
         head = 'JOB %d %s' % (number, account)
+
+        def refuse(said):
+            self.out += [head, said]
+            self.audit.append('%s %s' % (head, said))
+
         if account not in self.accounts:
-            self.out += [head, 'REFUSED M2 NO ACCOUNT']
+            refuse('REFUSED M2 NO ACCOUNT')
             return
         units = {5: Unit('data'), 6: Unit('spool')}
         for u, name in ties:
             code = 'U2' if not 1 <= u <= 99 else 'U1' if u in units and units[u].kind == 'set' else None
             if code:
-                self.out += [head, 'REFUSED %s UNIT %d' % (code, u)]
+                refuse('REFUSED %s UNIT %d' % (code, u))
                 return
             units[u] = Unit('set', name)
         end = next((i for i, line in enumerate(lines) if line[:1] != '*' and snobol.is_end_line(line)), len(lines))
         try:
             program = snobol.Program(lines[:end + 1])
         except SyntaxError as said:
-            self.out += [head, str(said)]
+            refuse(str(said))
             return
+        self.audit.append(head + ' LOADED')
         self.slots[self.slots.index(None)] = Running(
             self, number, (account, self.accounts[account]), program, lines[end + 1:], units, statements, steps)
 
     def command(self, word, account, name, further):
         self.out.append(' '.join([word, account] + ([name] if name else [])))
-        self.out += self.served(word, account, name, further)
+        reply = self.served(word, account, name, further)
+        self.out += reply
+        line = ' '.join(['COMMAND 0', account, word] + ([name] if name else []) + reply[-1:])
+        if reply == ['DONE'] and word == 'CREATE':
+            line += ' ' + further
+        elif reply == ['DONE'] and word == 'SETACL':
+            line += ' ' + short_line(self.sets[name].acl)
+        self.audit.append(line)
 
     def served(self, word, account, name, further):
         """What is further on the card: of CREATE the mode, of SETACL the list, to be read."""
@@ -304,7 +363,7 @@ class Monitor:
         out = ['$CATALOGUE 2']
         for name, s in self.sets.items():
             out.append('$SET %s %s %s %s %d' % (name, s.owner, s.group, s.mode, len(s.records)))
-            out.append(','.join('%s:%s:%s' % (t, q, shown(s.acl[t, q])) for t, q in canonical(s.acl)))
+            out.append(short_line(s.acl))
             out += s.records
         return out
 
@@ -471,10 +530,12 @@ def lines_of(data):
     return [l[:-1] if l.endswith(b'\r') else l for l in lines] + ([last] if last else [])
 
 
-def run(data, slots=4):
-    """(output, standard error, exit status)"""
+def run(data, slots=4, audit=None):
+    """(output, standard error, exit status); a list that is given gets the lines of the audit"""
     lines = lines_of(data)
     monitor = Monitor(slots)
+    if audit is not None:
+        monitor.audit = audit
     deck = Deck(monitor)
     try:
         for n, line in enumerate(lines):
@@ -490,9 +551,13 @@ def run(data, slots=4):
 def main():
     words = sys.argv[1:]
     slots = int(words[words.index('--slots') + 1]) if '--slots' in words else 4
-    out, err, status = in_a_large_stack(lambda: run(sys.stdin.buffer.read(), slots))
+    audit = []
+    out, err, status = in_a_large_stack(lambda: run(sys.stdin.buffer.read(), slots, audit))
     if '--check' in words:
         out = 'DECK OK\n' if status == 0 else ''
+    elif '--audit' in words:
+        with open(words[words.index('--audit') + 1], 'w') as file:
+            file.writelines(line + '\n' for line in audit)
     sys.stdout.write(out)
     sys.stderr.write(err)
     sys.exit(status)

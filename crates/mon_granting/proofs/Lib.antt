@@ -1,0 +1,3 @@
+mod Meanings
+mod Rightness
+mod Examples

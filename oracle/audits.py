@@ -1,0 +1,116 @@
+"""Audits of random decks beside what is printed: each says what the other must.
+
+python3 audits.py COUNT SEED    runs monitor.py on random decks, and has status 1 where an audit and an output do not fit
+
+In the audit's order stand the commands with their replies, and the jobs that end or are refused; in its job's lines each denial, each FULL
+and each line for the spool. Each request on a data set that was granted names an entry, and no other does. A line is one of LINE: so no
+record's text is in it."""
+import random
+import re
+import sys
+import monitor
+import random_decks
+from snobol import in_a_large_stack
+
+NAME = r'[A-Za-z][A-Za-z0-9._-]{0,30}'
+ENTRY = r'(?:user|group|mask|other):(?:%s)?:' % NAME
+REASON = r'BY %s|NO DATA SET|NOT OWNER|NO UNIT|IN STREAM|SPOOL UNIT|MODE' % ENTRY
+LINE = re.compile(
+    r'JOB (?P<n>\d+) (?P<account>%(name)s) (?:LOADED|REFUSED (?P<refused>[A-Z][0-9A-Z ]+)|ENDED (?P<ended>[A-Z0-9 ]+)'
+    r'|ASKED (?P<st>\d+) (?P<act>READ|WRITE|ENDFILE|REWIND) (?P<unit>\d+) (?P<target>%(name)s|\.DATA|\.SPOOL|\.NONE) (?P<place>\d+) '
+    r'(?P<outcome>GOT|DONE|EOF|FULL|DENIED)(?: (?P<by>%(reason)s))?)'
+    r'|COMMAND 0 (?P<who>%(name)s) (?P<card>CREATE|DELETE|SETACL|SHOWACL|LIST|CATALOG)(?: (?P<set>%(name)s))? '
+    r'(?P<reply>DONE(?: (?P<new>SEQ|APPEND|[a-zA-Z0-9._:,-]+))?|(?:RECORDS|ENTRIES|NAMES) \d+|DENIED (?:%(reason)s)|REFUSED [A-Z0-9: a-z]+)'
+    % {'name': NAME, 'reason': REASON})
+
+
+class Unfit(Exception):
+    pass
+
+
+def blocks(lines):
+    """What is printed of each command, and of each job that ended or was refused."""
+    block = []
+    for line in lines:
+        block.append(line)
+        is_job = block[0].startswith('JOB ')
+        if len(block) > 1 and (line.startswith(('END ', 'REFUSED ')) if is_job else line[:1] != ' ' and not line.startswith('OWNER ')):
+            yield block
+            block = []
+    if block:
+        raise Unfit('the output is cut off in %r' % block[0])
+
+
+def note(said):
+    """What the printout of its job has of a request that was denied, or that found no room."""
+    target = said['target'] if said['target'][0] != '.' else 'UNIT ' + said['unit']
+    words = 'STATEMENT %s %s %s' % (said['st'], said['act'], target)
+    return 'FULL ' + words if said['outcome'] == 'FULL' else 'DENIED %s %s' % (words, said['by'])
+
+
+def named_rightly(said):
+    """A grant is named exactly of what a data set's list granted."""
+    if said['outcome'] == 'DENIED':
+        return said['by'] is not None
+    on_a_set = said['target'][0] != '.' and said['act'] != 'REWIND'
+    return on_a_set == (said['by'] is not None and said['by'].startswith('BY '))
+
+
+def printed(audit):
+    """What has to be printed, by the audit alone, but for texts: for each block its first line, its notes, how many lines are spooled
+    (or None), and its last line."""
+    notes, spooled = {}, {}
+    for line in audit:
+        said = LINE.fullmatch(line)
+        if said is None:
+            raise Unfit('no line of an audit: %r' % line)
+        if said['card']:
+            reply = 'DONE' if said['new'] else said['reply']
+            yield ' '.join(filter(None, [said['card'], said['who'], said['set']])), [], None, reply
+            continue
+        head = 'JOB %s %s' % (said['n'], said['account'])
+        if said['refused']:
+            yield head, [], 0, 'REFUSED ' + said['refused']
+        elif said['ended']:
+            yield head, notes.pop(head, []), spooled.pop(head, 0), 'END ' + said['ended']
+        elif said['act']:
+            if not named_rightly(said):
+                raise Unfit('it does not name the entry that granted, or names one: %r' % line)
+            if said['outcome'] in ('DENIED', 'FULL'):
+                notes.setdefault(head, []).append(note(said))
+            elif said['target'] == '.SPOOL' and said['act'] == 'WRITE':
+                spooled[head] = spooled.get(head, 0) + 1
+
+
+def fit(out, audit):
+    lines = out.split('\n')
+    found = list(blocks(lines[:lines.index('$CATALOGUE 2')]))
+    wanted = list(printed(audit))
+    for block, (head, notes, spooled, last) in zip(found, wanted):
+        inner = block[1:-1]
+        if spooled is not None and (len(inner) != spooled + len(notes) or inner[spooled:] != notes):
+            raise Unfit('%r notes %r, and the audit %r' % (head, inner[spooled:], notes))
+        if (block[0], block[-1]) != (head, last):
+            raise Unfit('%r, %r are printed, and the audit has %r, %r' % (block[0], block[-1], head, last))
+    if len(found) != len(wanted):
+        raise Unfit('%d are printed, and the audit has %d' % (len(found), len(wanted)))
+
+
+def run(count, seed):
+    r, unfit, lines = random.Random(seed), 0, 0
+    for n in range(count):
+        text, audit = random_decks.deck(r, 1 + n % 4), []
+        out, _, status = monitor.run(text.encode(), 1 + n % 4, audit)
+        lines += len(audit)
+        try:
+            if status == 0:
+                fit(out, audit)
+        except Unfit as why:
+            unfit += 1
+            print('UNFIT deck %d of seed %d: %s' % (n, seed, why))
+    print('%d audits with %d lines, %d unfit' % (count, lines, unfit))
+    return 1 if unfit or not lines else 0
+
+
+if __name__ == '__main__':
+    sys.exit(in_a_large_stack(lambda: run(int(sys.argv[1]), int(sys.argv[2]))))
