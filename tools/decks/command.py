@@ -7,7 +7,7 @@ import signal
 import sys
 from typing import Callable, Optional, Sequence
 
-from . import join, page, printed, rounds, split
+from . import join, page, printed, rounds, split, trial
 from .catalogue import MODES
 from .cards import SLOTS_LIMIT
 from .files import say, written
@@ -17,7 +17,7 @@ from .text import Fault, Refused, is_name
 
 STATUS_REFUSED, STATUS_WORDS, STATUS_FAULT = 1, 2, 3
 ABOUT = ('Makes the next deck for snomon from what a run has printed, tells what failed in it and what was printed for whom, '
-         'cuts a deck into several, and makes a page of who may do what.')
+         'makes a deck of one program, cuts a deck into several, and makes a page of who may do what.')
 STATUSES = ('The status is 0; or 1 if a file is not what it should be, 2 if the words of the command are not, 3 if reading or '
             'writing fails. Then nothing was written, except to a pipe or device that broke.')
 FAILED_STATUSES = ('The status is 0 if nothing failed; 1 if something did, or the output was cut off; 2 if the words of the '
@@ -68,6 +68,7 @@ def _options() -> argparse.ArgumentParser:
     _add_printed(kind)
     _add_sets(kind)
     _add_new(kind)
+    _add_try(kind)
     _add_split(kind)
     _add_page(kind)
     return parser
@@ -136,9 +137,19 @@ def _add_new(kind: Kind) -> None:
     made.add_argument('--group', required=True, type=_name, metavar='GROUP', help='the group of each data set')
     made.add_argument('--list', type=_list, default=NEW_LIST, metavar='LIST',
                       help='the permission list of each data set, in the short form; %(default)s where it is not given')
-    made.add_argument('--mode', choices=[os.fsdecode(mode) for mode in MODES],
-                      help='the mode of each data set; the catalogue is then one of version 2')
+    made.add_argument('--mode', choices=[os.fsdecode(mode) for mode in MODES], metavar='MODE',
+                      help='the mode of each data set, SEQ or APPEND; the catalogue is then one of version 2')
     _gives(made, 'the catalogue')
+
+
+def _add_try(kind: Kind) -> None:
+    made = kind('try', _try, 'make a deck of one program, to try it',
+                'It has one account, me, and no data set. Tabs become blanks, up to each eighth column, and a line that begins with '
+                '$ gets another. What stands behind the program\'s END line is data. So: deck try PROGRAM | snomon, and, to '
+                'see its mistakes, deck try PROGRAM | listing.')
+    made.add_argument('program', metavar='PROGRAM', help='a file with a SNOBOL4 program')
+    made.add_argument('data', nargs='?', metavar='DATA', help='a file with the lines that it reads')
+    _gives(made, 'the deck')
 
 
 def _add_split(kind: Kind) -> None:
@@ -256,6 +267,11 @@ def _new(options: argparse.Namespace) -> None:
     common = rounds.NewSets(options.owner, options.group, options.list, None if options.mode is None else os.fsencode(options.mode))
     with written(options.target) as file:
         rounds.new_catalogue(options.folder, common, file)
+
+
+def _try(options: argparse.Namespace) -> None:
+    with written(options.target) as file:
+        trial.deck_of_program(options.program, options.data, file)
 
 
 def _split(options: argparse.Namespace) -> None:
