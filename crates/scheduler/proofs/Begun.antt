@@ -1,6 +1,7 @@
 -- A turn ends its job, or begins one of the statements that are left.
 use Rattle.std.proofs.Common.{◌≡◌, ℕ, suc, ◌+◌, ◌<◌, ◌≤◌, Option, Some, None, refl, sym, ap, ◌∙◌, subst, inl, inr, arith}
 use Rattle.std.specs.Prelude.{◌⊎◌, slice_get}
+use Rattle.std.specs.Option.{option_map_or}
 use Rattle.interaction.specs.Interactions.{Interaction, Returns, Asks, ◌>>=◌}
 use Rattle.interaction.specs.Endings.{EndsIn}
 use Rattle.interaction.proofs.Enough.{ends_in_then, each_ends}
@@ -11,11 +12,12 @@ use Rattle.interaction.specs.Counting.{Counted, plain}
 use Rattle.interaction.proofs.Counting.{plain_then, plain_ends}
 use Rattle.sno_expression.specs.Expressions.{Expression}
 use Rattle.sno_store.specs.declared.store.Store.{Store as State}
+use Rattle.sno_semantics.specs.declared.got.Halt.TheVariants.{Normal, StatementLimit}
 use Rattle.sno_semantics.specs.declared.got.Evaluated.{Evaluated}
 use Rattle.sno_semantics.specs.Evaluation.{evaluate, name_of}
 use Rattle.sno_semantics.specs.Execution.{Jump, On, Over}
 use Rattle.sno_semantics.specs.Lines.{Line, Lines, Point, At, End, Return, FailureReturn}
-use Rattle.sno_semantics.specs.Running.{Turned, Goes, Ended, stands_at, executed, run as runs, settled, turn_begun, turn_line, turn}
+use Rattle.sno_semantics.specs.Running.{Turned, Goes, Ended, executed, if_begun, run as runs, settled, turn_line, turn}
 use Rattle.sno_semantics.proofs.Depth.{same_runs, executed_same}
 use Rattle.sno_cards.specs.declared.limits.Limits.{Limits}
 use Rattle.sno_state.specs.State.{keeping, allowed}
@@ -47,7 +49,7 @@ module _ (limits : Limits) (program : Lines Expression Expression) where
   abbrev Left : State → Jump × State → Type 0
   Left after r = allowed limits r.1 ≤ allowed limits after
 
-  stands_fewer : (st s : State) (index : ℕ) (o : Option (Line Expression Expression)) → allowed limits s < allowed limits st → Fewer limits st (stands_at (At index) o, s)
+  stands_fewer : (st s : State) (index : ℕ) (o : Option (Line Expression Expression)) → allowed limits s < allowed limits st → Fewer limits st (option_map_or (λ _. Goes (At index)) o (Ended Normal), s)
   stands_fewer st s index None h = tt
   stands_fewer st s index (Some line) h = h
 
@@ -59,7 +61,7 @@ module _ (limits : Limits) (program : Lines Expression Expression) where
   settled_fewer st (Over h1, s) h = tt
 
   begun_fewer : (index : ℕ) (line : Line Expression Expression) (st : State) (o : Option State) → (keeping limits).begun (index + 1) st ≡ o
-      → EndsIn (Fewer limits st) (turn_begun (keeping limits) evaluate name_of program o st (λ st1. executed (keeping limits) evaluate name_of program go line index st1 >>= (λ next. Returns (settled (keeping limits) evaluate name_of program next))))
+      → EndsIn (Fewer limits st) (if_begun (keeping limits) evaluate name_of program (Ended StatementLimit) o st (λ st1. executed (keeping limits) evaluate name_of program go line index st1 >>= (λ next. Returns (settled (keeping limits) evaluate name_of program next))))
   begun_fewer index line st None is = tt
   begun_fewer index line st (Some after) is =
       let less : allowed limits after < allowed limits st = (state_counts limits).begun (index + 1) st after is in

@@ -5,12 +5,14 @@ use Rattle.interaction.specs.Interactions.{Interaction, Returns, Asks, ◌>>=◌
 use Rattle.interaction.specs.Endings.{EndsIn}
 use Rattle.interaction.proofs.Enough.{ends_in_then, same_then, ends_in_weaker}
 use Rattle.sno_expression.specs.Expressions.{Expression}
+use Rattle.sno_semantics.specs.declared.got.Halt.TheVariants.{StatementLimit}
 use Rattle.sno_semantics.specs.declared.got.Evaluated.{Evaluated}
+use Rattle.sno_semantics.specs.declared.got.Evaluated.TheVariants.{Halts}
 use Rattle.sno_semantics.specs.Evaluation.{evaluate, name_of}
 use Rattle.sno_semantics.specs.Keeping.{Keeping}
 use Rattle.sno_semantics.specs.Lines.{Point, At, End, Return, FailureReturn, Line, Lines}
 use Rattle.sno_semantics.specs.Execution.{Jump}
-use Rattle.sno_semantics.specs.Running.{executed, passed, if_begun, run_line, run_none, run, settled, turn_begun, turn_line, turn}
+use Rattle.sno_semantics.specs.Running.{Ended, executed, passed, if_begun, run_line, run_none, run, settled, turn_line, turn}
 use Rattle.sno_semantics.specs.Limits.{Counts}
 use Rattle.sno_semantics.proofs.Relating.{Keeps, executed_alike, passed_alike}
 
@@ -90,7 +92,7 @@ module _ {Q R K : Type 0} (allowed : K → ℕ) (keeping : Keeping Q R K) (count
 
   -- where it begins
   abbrev begins : Go → Line Expression Expression → ℕ → Option K → K → Interaction Q R (Evaluated × K)
-  begins go line i o st = if_begun keeping evaluate name_of program o st (λ st1. follows go line i st1)
+  begins go line i o st = if_begun keeping evaluate name_of program (Halts StatementLimit) o st (λ st1. follows go line i st1)
 
   abbrev none_left : Option (Line Expression Expression) → K → Interaction Q R (Evaluated × K)
   none_left o st = run_none keeping evaluate name_of program o st
@@ -180,8 +182,8 @@ module _ {Q R K : Type 0} (allowed : K → ℕ) (keeping : Keeping Q R K) (count
   exact_run n m p st le le' = (same_runs n m (allowed st) le le' p st (omega arith)).0
 
   turn_begun_same : (n m i : ℕ) (line : Line Expression Expression) (st : K) → allowed st ≤ n → allowed st ≤ m → (o : Option K) → keeping.begun (i + 1) st ≡ o
-      → turn_begun keeping evaluate name_of program o st (λ st1. does (goes n) line i st1 >>= (λ next. Returns (settled keeping evaluate name_of program next)))
-      ≡ turn_begun keeping evaluate name_of program o st (λ st1. does (goes m) line i st1 >>= (λ next. Returns (settled keeping evaluate name_of program next)))
+      → if_begun keeping evaluate name_of program (Ended StatementLimit) o st (λ st1. does (goes n) line i st1 >>= (λ next. Returns (settled keeping evaluate name_of program next)))
+      ≡ if_begun keeping evaluate name_of program (Ended StatementLimit) o st (λ st1. does (goes m) line i st1 >>= (λ next. Returns (settled keeping evaluate name_of program next)))
   turn_begun_same n m i line st le le' None is = refl
   turn_begun_same n m i line st le le' (Some after) is =
       let less : allowed after < allowed st = counts.begun (i + 1) st after is in

@@ -9,6 +9,7 @@ use Rattle.sno_expression.specs.declared.tree.UnaryOperator.TheVariants as unary
 use Rattle.sno_expression.specs.Expressions.{Expression, Identifier, Constant, Call, Unary, Binary, NoArguments, Omitted}
 use Rattle.sno_statement.specs.Statements.{Says, Does, NoBody, ValueObject, Always}
 use Rattle.sno_statement.specs.Statements as statement
+use Rattle.sno_pattern.specs.declared.ending.MatchEnd.TheVariants as end
 use Rattle.sno_value.specs.declared.value.Value.{Value}
 use Rattle.sno_value.specs.declared.value.Value.TheVariants.{Text, Integer}
 use Rattle.sno_value.specs.declared.outcome.Outcome.TheVariants as outcome
@@ -17,7 +18,7 @@ use Rattle.sno_semantics.specs.declared.got.Halt.TheVariants.{Normal, StatementL
 use Rattle.sno_semantics.specs.declared.got.Evaluated.{Evaluated}
 use Rattle.sno_semantics.specs.declared.got.Evaluated.TheVariants.{Gives, Fails, Halts}
 use Rattle.sno_semantics.specs.Evaluation.{evaluate, name_of}
-use Rattle.sno_semantics.specs.Keeping.{Setting, Keeping, NoMatch, Undefined, Enters, setting_of}
+use Rattle.sno_semantics.specs.Keeping.{Setting, Keeping, Undefined, Enters, setting_of}
 use Rattle.sno_semantics.specs.Lines.{Lines, At, lines_of}
 use Rattle.sno_semantics.specs.Running.{Turned, Goes, Ended, turn}
 
@@ -35,7 +36,7 @@ small_keeping = record {
   keyword = λ name st. outcome.Faults fault.Keyword;
   keyword_set = λ name v st. (Halts (Fault fault.Keyword), st);
   most = λ st. 5000;
-  matched = λ text p st. Returns (NoMatch, st);
+  matched = λ text p st. Returns (end.NoMatch, st);
   begun = λ number st. if nat_lt st.begun 2 then Some (record st { begun = st.begun + 1 }) else None;
   noted = Returns tt;
   entered = λ f vs st. if bytes_eq f (codes "F") then Enters f st else Undefined;

@@ -3,13 +3,16 @@ use Rattle.std.proofs.Common.{◌≡◌, ℕ, zero, suc, ◌+◌, List, Option, 
 use Rattle.std.specs.Prelude.{slice_get}
 use Rattle.interaction.specs.Interactions.{Interaction, Returns, ◌>>=◌}
 use Rattle.sno_expression.specs.Expressions.{Expression}
+use Rattle.sno_pattern.specs.declared.ending.MatchEnd.{MatchEnd}
 use Rattle.sno_value.specs.declared.value.Value.{Value}
+use Rattle.sno_semantics.specs.declared.got.Halt.TheVariants.{StatementLimit}
 use Rattle.sno_semantics.specs.declared.got.Evaluated.{Evaluated}
+use Rattle.sno_semantics.specs.declared.got.Evaluated.TheVariants.{Halts}
 use Rattle.sno_semantics.specs.Evaluation.{evaluate, name_of}
-use Rattle.sno_semantics.specs.Keeping.{Keeping, Matched, Enters}
+use Rattle.sno_semantics.specs.Keeping.{Keeping, Enters}
 use Rattle.sno_semantics.specs.Lines.{Point, At, End, Return, FailureReturn, Line, Lines}
 use Rattle.sno_semantics.specs.Execution.{Jump, On, Over}
-use Rattle.sno_semantics.specs.Running.{Turned, executed, passed, if_begun, run_line, run_none, run, settled, turn_begun, turn_line, turn}
+use Rattle.sno_semantics.specs.Running.{Turned, Ended, executed, passed, if_begun, run_line, run_none, run, settled, turn_line, turn}
 use Rattle.sno_semantics.proofs.Relating.{Keeps, executed_alike, passed_alike}
 
 module _ {Q R K : Type 0} (begun : K → ℕ) (P : (A : Type 0) → ℕ → Interaction Q R (A × K) → Type 0)
@@ -22,7 +25,7 @@ module _ {Q R K : Type 0} (begun : K → ℕ) (P : (A : Type 0) → ℕ → Inte
     pub assigned : (name : List ℕ) (v : Value) (st : K) → P Evaluated (begun st) (keeping.assigned name v st)
     pub keyword_set : (name : List ℕ) (v : Value) (st : K) → begun (keeping.keyword_set name v st).1 ≡ begun st
     pub item_set : (t k v : Value) (st : K) → begun (keeping.item_set t k v st).1 ≡ begun st
-    pub matched : (text : List ℕ) (p : Value) (st : K) → P Matched (begun st) (keeping.matched text p st)
+    pub matched : (text : List ℕ) (p : Value) (st : K) → P MatchEnd (begun st) (keeping.matched text p st)
     pub noted : (A : Type 0) (number : ℕ) (st after : K) (t : Interaction Q R (A × K)) → keeping.begun number st ≡ Some after
         → P A (begun after) t → P A (begun st) (keeping.noted >>= (λ _. t))
     pub entered : (f : List ℕ) (vs : List Value) (entry : List ℕ) (st inside : K) → keeping.entered f vs st ≡ Enters entry inside → begun inside ≡ begun st
@@ -79,7 +82,7 @@ module _ {Q R K : Type 0} (begun : K → ℕ) (P : (A : Type 0) → ℕ → Inte
       holds_none (Some line) st = done _ _
 
       holds_begun : (go : Go) → Holds go → (i : ℕ) (line : Line Expression Expression) (st : K) (o : Option K) → keeping.begun (i + 1) st ≡ o
-          → P Evaluated (begun st) (if_begun keeping evaluate name_of program o st (λ st1. does go line i st1 >>= passed keeping evaluate name_of program go))
+          → P Evaluated (begun st) (if_begun keeping evaluate name_of program (Halts StatementLimit) o st (λ st1. does go line i st1 >>= passed keeping evaluate name_of program go))
       holds_begun go g i line st None is = done _ _
       holds_begun go g i line st (Some after) is = grows.noted _ (i + 1) st after _ is (then _ _ _ _ _ (holds_executed go g line i after) (holds_passed go g))
 
@@ -106,7 +109,7 @@ module _ {Q R K : Type 0} (begun : K → ℕ) (P : (A : Type 0) → ℕ → Inte
       holds_settled (Over e, st) = done _ _
 
       turn_begins : (n i : ℕ) (line : Line Expression Expression) (st : K) (o : Option K) → keeping.begun (i + 1) st ≡ o
-          → P Turned (begun st) (turn_begun keeping evaluate name_of program o st (λ st1.
+          → P Turned (begun st) (if_begun keeping evaluate name_of program (Ended StatementLimit) o st (λ st1.
           does (goes n) line i st1 >>= (λ next. Returns (settled keeping evaluate name_of program next))))
       turn_begins n i line st None is = done _ _
       turn_begins n i line st (Some after) is =

@@ -2,27 +2,32 @@
 -- with itself, and the calls of the one run with those of the other.
 use Rattle.std.proofs.Common.{◌≡◌, ℕ, Bool, true, false, cond, List, [], ◌∷◌, ◌++◌, Option, Some, None, refl}
 use Rattle.std.specs.Prelude.{take, drop}
+use Rattle.std.specs.Option.{option_map_or}
 use Rattle.interaction.specs.Interactions.{Interaction, Returns, ◌>>=◌}
 use Rattle.sno_expression.specs.declared.tree.UnaryOperator.TheVariants as unary
 use Rattle.sno_expression.specs.Marks.{needs_variable}
 use Rattle.sno_expression.specs.Expressions.{Expression, Identifier, Constant, Keyword, Unevaluated, Group, Call, TableItem, Unary, Binary}
 use Rattle.sno_expression.specs.Expressions.{Arguments, NoArguments, Omitted, Argument}
 use Rattle.sno_syntax.specs.Labels.{LabelList}
+use Rattle.sno_pattern.specs.declared.ending.Pending.{Pending}
+use Rattle.sno_pattern.specs.declared.ending.MatchEnd.{MatchEnd}
+use Rattle.sno_pattern.specs.declared.ending.MatchEnd.TheVariants as end
 use Rattle.sno_value.specs.declared.value.Value.{Value}
 use Rattle.sno_value.specs.declared.value.Value.TheVariants as value
-use Rattle.sno_value.specs.Values.{text_of}
+use Rattle.sno_text.specs.declared.fault.Fault.TheVariants.{WrongType}
+use Rattle.sno_value.specs.declared.outcome.Outcome.TheVariants as outcome
+use Rattle.sno_value.specs.Values.{null, text_of}
 use Rattle.sno_value.specs.Outcomes.{string}
 use Rattle.sno_semantics.specs.declared.got.Evaluated.{Evaluated}
 use Rattle.sno_semantics.specs.declared.got.Evaluated.TheVariants.{Gives, Fails, Halts}
-use Rattle.sno_semantics.specs.Outcomes.{got_of, with_value, with_name_in}
+use Rattle.sno_semantics.specs.Outcomes.{got_of, Doing, with_value, comes_to, if_name, with_name}
 use Rattle.sno_semantics.specs.Operators.{table, key}
-use Rattle.sno_semantics.specs.Evaluation.{negated, Given, Values, Failing, Halting, with_values, one_more, given_too}
-use Rattle.sno_semantics.specs.Evaluation.{evaluate, name_of, evaluate_all}
-use Rattle.sno_semantics.specs.Keeping.{Setting, Keeping, Matched, Between, NoMatch, Stopped, Entered, Undefined, Enters, Refused, setting_of}
+use Rattle.sno_semantics.specs.Evaluation.{negated, evaluate, name_of, evaluate_all}
+use Rattle.sno_semantics.specs.Keeping.{Setting, Keeping, Entered, Undefined, Enters, Refused, setting_of}
 use Rattle.sno_semantics.specs.Lines.{Destination, Variable, ItemAt, Act, Nothing, Uses, SetsKeyword, Assigns, Matches, Replaces}
 use Rattle.sno_semantics.specs.Lines.{Point, At, End, Return, FailureReturn, Target, Following, To, Computed, Line, Lines, point_of}
-use Rattle.sno_semantics.specs.Execution.{Jump, On, Over, with_text_in, with_match, computed_by, object_of, assign_all, match_then}
-use Rattle.sno_semantics.specs.Execution.{Place, OfName, OfItem, put_in_place, held, put_string, named_then, item_then, place_then, perform, followed, goto_after, execute}
+use Rattle.sno_semantics.specs.Execution.{Jump, On, Over, computed_by, Place, OfName, OfItem, assign_all, put_in_place, held, put_string, with_match}
+use Rattle.sno_semantics.specs.Execution.{object_of, match_then, place_then, perform, followed, goto_after, execute}
 use Rattle.sno_semantics.specs.Running.{returned, go_from, call_by, executed, passed}
 
 module _ {Q R K : Type 0} (Related : (A : Type 0) → K → Interaction Q R (A × K) → Interaction Q R (A × K) → Type 0)
@@ -40,54 +45,34 @@ module _ {Q R K : Type 0} (Related : (A : Type 0) → K → Interaction Q R (A �
   of_value (Fails, st) g = done Evaluated (Fails, st)
   of_value (Halts e, st) g = done Evaluated (Halts e, st)
 
-  of_name : (o : Option (List ℕ)) (st : K) {k k' : List ℕ → Interaction Q R (Evaluated × K)} → ((n : List ℕ) → Related Evaluated st (k n) (k' n))
-      → Related Evaluated st (with_name_in o st k) (with_name_in o st k')
-  of_name None st g = done _ _
-  of_name (Some []) st g = done _ _
-  of_name (Some (c ∷ cs)) st g = g (c ∷ cs)
+  of_name : (st : K) (k k' : List ℕ → Doing Q R K) → ((n : List ℕ) → Related Evaluated st (k n st) (k' n st)) → (n : List ℕ)
+      → Related Evaluated st (if_name k n st) (if_name k' n st)
+  of_name st k k' g [] = done _ _
+  of_name st k k' g (c ∷ cs) = g (c ∷ cs)
 
-  of_text : (o : Option (List ℕ)) (st : K) {k k' : List ℕ → Interaction Q R (Evaluated × K)} → ((n : List ℕ) → Related Evaluated st (k n) (k' n))
-      → Related Evaluated st (with_text_in o st k) (with_text_in o st k')
-  of_text None st g = done _ _
-  of_text (Some text) st g = g text
+  of_text : (o : Option (List ℕ)) (st : K) (k k' : List ℕ → Doing Q R K) → ((n : List ℕ) → Related Evaluated st (k n st) (k' n st))
+      → Related Evaluated st (option_map_or k o (comes_to (outcome.Faults WrongType)) st) (option_map_or k' o (comes_to (outcome.Faults WrongType)) st)
+  of_text None st k k' g = done _ _
+  of_text (Some text) st k k' g = g text
 
-  of_values : (r : Given × K) {k k' : List Value → K → Interaction Q R (Evaluated × K)} → ((vs : List Value) (st : K) → Related Evaluated st (k vs st) (k' vs st))
-      → Related Evaluated r.1 (with_values r k) (with_values r k')
-  of_values (Values vs, st) g = g vs st
-  of_values (Failing, st) g = done Evaluated (Fails, st)
-  of_values (Halting e, st) g = done Evaluated (Halts e, st)
-
-  of_more : (r : Given × K) {k k' : List Value → K → Interaction Q R (Given × K)} → ((vs : List Value) (st : K) → Related Given st (k vs st) (k' vs st))
-      → Related Given r.1 (one_more r k) (one_more r k')
-  of_more (Values vs, st) g = g vs st
-  of_more (Failing, st) g = done Given (Failing, st)
-  of_more (Halting e, st) g = done Given (Halting e, st)
-
-  of_match : (r : Matched × K) {k k' : ℕ → ℕ → List (List ℕ × List ℕ) → K → Interaction Q R (Evaluated × K)}
-      → ((from to : ℕ) (pending : List (List ℕ × List ℕ)) (st : K) → Related Evaluated st (k from to pending st) (k' from to pending st))
-      → Related Evaluated r.1 (with_match r k) (with_match r k')
-  of_match (Between from to pending, st) g = g from to pending st
-  of_match (NoMatch, st) g = done Evaluated (Fails, st)
-  of_match (Stopped e, st) g = done Evaluated (Halts e, st)
+  of_named : (v : Value) (st : K) (k k' : List ℕ → Doing Q R K) → ((n : List ℕ) → Related Evaluated st (k n st) (k' n st))
+      → Related Evaluated st (with_name v k st) (with_name v k' st)
+  of_named v st k k' g = of_text (text_of v) st (if_name k) (if_name k') (of_name st k k' g)
 
   of_negated : (r : Evaluated × K) → Related Evaluated r.1 (Returns (negated r)) (Returns (negated r))
   of_negated (Gives v, st) = done _ _
   of_negated (Fails, st) = done _ _
   of_negated (Halts e, st) = done _ _
 
-  of_given : (vs : List Value) (r : Evaluated × K) → Related Given r.1 (Returns (given_too vs r)) (Returns (given_too vs r))
-  of_given vs (Gives v, st) = done _ _
-  of_given vs (Fails, st) = done _ _
-  of_given vs (Halts e, st) = done _ _
-
   of_computed : (labels : LabelList) (r : Evaluated × K) → Related Jump r.1 (Returns (computed_by labels r)) (Returns (computed_by labels r))
   of_computed labels (Gives v, st) = done _ _
   of_computed labels (Fails, st) = done _ _
   of_computed labels (Halts e, st) = done _ _
 
-  either : (v : Bool) (st : K) {s s' t t' : Interaction Q R (Evaluated × K)} → Related Evaluated st s s' → Related Evaluated st t t' → Related Evaluated st (cond v s t) (cond v s' t')
-  either true st h g = h
-  either false st h g = g
+  either : (v : Bool) (st : K) (m m' n n' : Doing Q R K) → Related Evaluated st (m st) (m' st) → Related Evaluated st (n st) (n' st)
+      → Related Evaluated st (cond v m n st) (cond v m' n' st)
+  either true st m m' n n' h g = h
+  either false st m m' n n' h g = g
 
   -- all that statements do to a job's state is related with itself
   pub record Keeps (keeping : Keeping Q R K) : Type 0 where
@@ -96,7 +81,7 @@ module _ {Q R K : Type 0} (Related : (A : Type 0) → K → Interaction Q R (A �
     pub keyword_set : (name : List ℕ) (v : Value) (st : K)
         → Related Evaluated st (Returns (keeping.keyword_set name v st)) (Returns (keeping.keyword_set name v st))
     pub item_set : (t k v : Value) (st : K) → Related Evaluated st (Returns (keeping.item_set t k v st)) (Returns (keeping.item_set t k v st))
-    pub matched : (text : List ℕ) (p : Value) (st : K) → Related Matched st (keeping.matched text p st) (keeping.matched text p st)
+    pub matched : (text : List ℕ) (p : Value) (st : K) → Related MatchEnd st (keeping.matched text p st) (keeping.matched text p st)
     pub entered : (f : List ℕ) (vs : List Value) (entry : List ℕ) (st inside : K) → keeping.entered f vs st ≡ Enters entry inside
         → (t t' : Interaction Q R (Evaluated × K)) → Related Evaluated inside t t' → Related Evaluated st t t'
     pub left : (got : Evaluated) (st : K) → Related Evaluated st (Returns (got, (keeping.left st).1)) (Returns (got, (keeping.left st).1))
@@ -112,6 +97,9 @@ module _ {Q R K : Type 0} (Related : (A : Type 0) → K → Interaction Q R (A �
       abbrev s' : Setting Q R K
       s' = setting_of keeping c'
 
+      abbrev named_by : List ℕ → Doing Q R K
+      named_by name = comes_to (outcome.Gives (value.Text name))
+
       mutual
         pub evaluates : (t : Expression) (st : K) → Related Evaluated st (evaluate s t st) (evaluate s' t st)
         evaluates (Identifier n) st = keeps.used n st
@@ -119,70 +107,68 @@ module _ {Q R K : Type 0} (Related : (A : Type 0) → K → Interaction Q R (A �
         evaluates (Keyword n) st = done _ _
         evaluates (Unevaluated n) st = done _ _
         evaluates (Group t) st = evaluates t st
-        evaluates (Call f args) st = after (all_evaluate args st) (λ r. of_values r (λ vs st1. calls f vs st1))
+        evaluates (Call f args) st = all_evaluate args (calls f) st
         evaluates (TableItem n t) st =
             after (after (keeps.used n st) (λ r. of_value r (λ v st1. done _ _))) (λ r. of_value r (λ v st1.
             after (evaluates t st1) (λ r2. of_value r2 (λ u st2. done _ _))))
         evaluates (Unary unary.Plus t) st = after (evaluates t st) (λ r. of_value r (λ v st1. done _ _))
         evaluates (Unary unary.Minus t) st = after (evaluates t st) (λ r. of_value r (λ v st1. done _ _))
         evaluates (Unary unary.Indirect t) st =
-            after (evaluates t st) (λ r. of_value r (λ v st1. of_name (text_of v) st1 (λ name. keeps.used name st1)))
+            after (evaluates t st) (λ r. of_value r (λ v st1. of_named v st1 keeping.used keeping.used (λ name. keeps.used name st1)))
         evaluates (Unary unary.Name t) st = names t st
         evaluates (Unary unary.Cursor t) st = after (names t st) (λ r. of_value r (λ v st1. done _ _))
         evaluates (Unary unary.Not t) st = after (evaluates t st) of_negated
         evaluates (Unary unary.Query t) st = after (evaluates t st) (λ r. of_value r (λ v st1. done _ _))
         evaluates (Binary o a e) st =
             after (evaluates a st) (λ r. of_value r (λ v st1.
-            after (either (needs_variable o) st1 (names e st1) (evaluates e st1)) (λ r2. of_value r2 (λ u st2. done _ _))))
+            after (either (needs_variable o) st1 _ _ _ _ (names e st1) (evaluates e st1)) (λ r2. of_value r2 (λ u st2. done _ _))))
 
         pub names : (t : Expression) (st : K) → Related Evaluated st (name_of s t st) (name_of s' t st)
         names (Identifier n) st = done _ _
         names (Unary unary.Indirect t) st =
-            after (evaluates t st) (λ r. of_value r (λ v st1. of_name (text_of v) st1 (λ name. done _ _)))
+            after (evaluates t st) (λ r. of_value r (λ v st1. of_named v st1 named_by named_by (λ name. done _ (Gives (value.Text name), st1))))
         names _ st = done _ _
 
-        pub all_evaluate : (a : Arguments) (st : K) → Related Given st (evaluate_all s a st) (evaluate_all s' a st)
-        all_evaluate NoArguments st = done _ _
-        all_evaluate (Omitted args) st = after (all_evaluate args st) (λ r. of_more r (λ vs st1. done _ _))
-        all_evaluate (Argument args t) st =
-            after (all_evaluate args st) (λ r. of_more r (λ vs st1. after (evaluates t st1) (of_given vs)))
+        pub all_evaluate : (a : Arguments) {go go' : List Value → Doing Q R K}
+            → ((vs : List Value) (st : K) → Related Evaluated st (go vs st) (go' vs st)) → (st : K)
+            → Related Evaluated st (evaluate_all s a go st) (evaluate_all s' a go' st)
+        all_evaluate NoArguments g st = g [] st
+        all_evaluate (Omitted args) g st = all_evaluate args (λ vs st1. g (vs ++ null ∷ []) st1) st
+        all_evaluate (Argument args t) g st =
+            all_evaluate args (λ vs st1. after (evaluates t st1) (λ r. of_value r (λ v st2. g (vs ++ v ∷ []) st2))) st
 
     -- statements, where expressions are related
     module _ {E N : Type 0} (ev ev' : E → K → Interaction Q R (Evaluated × K)) (nm nm' : N → K → Interaction Q R (Evaluated × K))
         (of_ev : (e : E) (st : K) → Related Evaluated st (ev e st) (ev' e st)) (of_nm : (v : N) (st : K) → Related Evaluated st (nm v st) (nm' v st)) where
+      all_assigned : (ps : List Pending) (st : K) → Related Evaluated st (assign_all keeping ps st) (assign_all keeping ps st)
+      all_assigned [] st = done _ _
+      all_assigned (p ∷ ps) st = after (keeps.assigned p.variable (value.Text p.text) st) (λ r. of_value r (λ v st1. all_assigned ps st1))
+
+      of_match : (r : MatchEnd × K) {go go' : ℕ → ℕ → Doing Q R K} → ((from to : ℕ) (st : K) → Related Evaluated st (go from to st) (go' from to st))
+          → Related Evaluated r.1 (with_match keeping go r) (with_match keeping go' r)
+      of_match (end.Matched from to pending, st) g = after (all_assigned pending st) (λ r. of_value r (λ v st1. g from to st1))
+      of_match (end.NoMatch, st) g = done _ _
+      of_match (end.Limit, st) g = done _ _
+      of_match (end.Fault fault, st) g = done _ _
+
       objects : (o : Option E) (st : K) → Related Evaluated st (object_of keeping ev nm o st) (object_of keeping ev' nm' o st)
       objects None st = done _ _
       objects (Some e) st = of_ev e st
 
-      all_assigned : (ps : List (List ℕ × List ℕ)) (st : K) → Related Evaluated st (assign_all keeping ps st) (assign_all keeping ps st)
-      all_assigned [] st = done _ _
-      all_assigned (p ∷ ps) st = after (keeps.assigned p.0 (value.Text p.1) st) (λ r. of_value r (λ v st1. all_assigned ps st1))
-
-      matched_then : (text : List ℕ) (e : E) (st : K) {go go' : ℕ → ℕ → K → Interaction Q R (Evaluated × K)}
+      matched_then : (text : List ℕ) (e : E) (st : K) {go go' : ℕ → ℕ → Doing Q R K}
           → ((from to : ℕ) (st1 : K) → Related Evaluated st1 (go from to st1) (go' from to st1))
-          → Related Evaluated st (match_then keeping ev nm text e st go) (match_then keeping ev' nm' text e st go')
-      matched_then text e st g =
-          after (of_ev e st) (λ r. of_value r (λ p st1.
-          after (keeps.matched text p st1) (λ m. of_match m (λ from to pending st2.
-          after (all_assigned pending st2) (λ r2. of_value r2 (λ v st3. g from to st3))))))
+          → Related Evaluated st (match_then keeping ev nm text e go st) (match_then keeping ev' nm' text e go' st)
+      matched_then text e st g = after (of_ev e st) (λ r. of_value r (λ p st1. after (keeps.matched text p st1) (λ m. of_match m g)))
 
-      named : (v : N) (st : K) {go go' : List ℕ → K → Interaction Q R (Evaluated × K)} → ((name : List ℕ) (st1 : K) → Related Evaluated st1 (go name st1) (go' name st1))
-          → Related Evaluated st (named_then keeping ev nm v st go) (named_then keeping ev' nm' v st go')
-      named v st g = after (of_nm v st) (λ r. of_value r (λ u st1. of_name (text_of u) st1 (λ name. g name st1)))
-
-      -- the table and the key of an item
-      items : (t k : E) (st : K) {go go' : Value → Value → K → Interaction Q R (Evaluated × K)}
-          → ((v u : Value) (st1 : K) → Related Evaluated st1 (go v u st1) (go' v u st1))
-          → Related Evaluated st (item_then keeping ev nm t k st go) (item_then keeping ev' nm' t k st go')
-      items t k st g =
-          after (of_ev t st) (λ r. of_value r (λ v st1. of_value (got_of (table v), st1) (λ holder st2.
-          after (of_ev k st2) (λ r2. of_value r2 (λ u st3. of_value (got_of (key u), st3) (λ by st4. g holder by st4))))))
-
-      placed : (d : Destination E N) (st : K) {go go' : Place → K → Interaction Q R (Evaluated × K)}
+      placed : (d : Destination E N) (st : K) {go go' : Place → Doing Q R K}
           → ((place : Place) (st1 : K) → Related Evaluated st1 (go place st1) (go' place st1))
-          → Related Evaluated st (place_then keeping ev nm d st go) (place_then keeping ev' nm' d st go')
-      placed (Variable v) st g = named v st (λ name st1. g (OfName name) st1)
-      placed (ItemAt t k) st g = items t k st (λ v u st1. g (OfItem v u) st1)
+          → Related Evaluated st (place_then keeping ev nm d go st) (place_then keeping ev' nm' d go' st)
+      placed (Variable v) st {go} {go'} g =
+          after (of_nm v st) (λ r. of_value r (λ u st1.
+          of_named u st1 (λ name. go (OfName name)) (λ name. go' (OfName name)) (λ name. g (OfName name) st1)))
+      placed (ItemAt t k) st g =
+          after (of_ev t st) (λ r. of_value r (λ v st1. of_value (got_of (table v), st1) (λ holder st2.
+          after (of_ev k st2) (λ r2. of_value r2 (λ u st3. of_value (got_of (key u), st3) (λ by st4. g (OfItem holder by) st4))))))
 
       puts : (place : Place) (v : Value) (st : K) → Related Evaluated st (put_in_place keeping place v st) (put_in_place keeping place v st)
       puts (OfName name) v st = keeps.assigned name v st
@@ -203,13 +189,13 @@ module _ {Q R K : Type 0} (Related : (A : Type 0) → K → Interaction Q R (A �
           placed destination st (λ place st1. after (objects object st1) (λ r. of_value r (λ v st2. puts place v st2)))
       performs (Matches subject pattern) st =
           after (of_ev subject st) (λ r. of_value r (λ v st1.
-          of_text (text_of v) st1 (λ text. matched_then text pattern st1 (λ from to st2. done _ _))))
+          of_text (text_of v) st1 _ _ (λ text. matched_then text pattern st1 (λ from to st2. done _ _))))
       performs (Replaces destination pattern object) st =
           placed destination st (λ place st1.
           after (holds place st1) (λ r. of_value r (λ v st2.
-          of_text (text_of v) st2 (λ text. matched_then text pattern st2 (λ from to st3.
+          of_text (text_of v) st2 _ _ (λ text. matched_then text pattern st2 (λ from to st3.
           after (objects object st3) (λ r4. of_value r4 (λ w st4.
-          of_text (text_of w) st4 (λ part. strings place (take from text ++ (part ++ drop to text)) st4))))))))
+          of_text (text_of w) st4 _ _ (λ part. strings place (take from text ++ (part ++ drop to text)) st4))))))))
 
       follows : (labels : LabelList) (t : Target E) (i : ℕ) (st : K)
           → Related Jump st (followed keeping ev nm labels t i st) (followed keeping ev' nm' labels t i st)

@@ -2,9 +2,10 @@
 use Rattle.std.specs.Prelude.{◌≡◌, ℕ, ◌≤◌, ◌<◌, List, Some}
 use Rattle.interaction.specs.Endings.{EndsIn}
 use Rattle.sno_expression.specs.Expressions.{Expression}
+use Rattle.sno_pattern.specs.declared.ending.MatchEnd.{MatchEnd}
 use Rattle.sno_value.specs.declared.value.Value.{Value}
 use Rattle.sno_semantics.specs.declared.got.Evaluated.{Evaluated}
-use Rattle.sno_semantics.specs.Keeping.{Keeping, Matched, Enters}
+use Rattle.sno_semantics.specs.Keeping.{Keeping, Enters}
 use Rattle.sno_semantics.specs.Evaluation.{evaluate, name_of}
 use Rattle.sno_semantics.specs.Lines.{Lines, Point}
 use Rattle.sno_semantics.specs.Running.{run, turn}
@@ -15,7 +16,7 @@ pub record Counts {Q R K : Type 0} (keeping : Keeping Q R K) (allowed : K → �
   pub assigned : (name : List ℕ) (v : Value) (st : K) → EndsIn (λ (r : Evaluated × K). allowed r.1 ≤ allowed st) (keeping.assigned name v st)
   pub keyword_set : (name : List ℕ) (v : Value) (st : K) → allowed (keeping.keyword_set name v st).1 ≤ allowed st
   pub item_set : (table key v : Value) (st : K) → allowed (keeping.item_set table key v st).1 ≤ allowed st
-  pub matched : (text : List ℕ) (p : Value) (st : K) → EndsIn (λ (r : Matched × K). allowed r.1 ≤ allowed st) (keeping.matched text p st)
+  pub matched : (text : List ℕ) (p : Value) (st : K) → EndsIn (λ (r : MatchEnd × K). allowed r.1 ≤ allowed st) (keeping.matched text p st)
   pub begun : (number : ℕ) (st after : K) → keeping.begun number st ≡ Some after → allowed after < allowed st
   pub entered : (f : List ℕ) (vs : List Value) (entry : List ℕ) (st inside : K) → keeping.entered f vs st ≡ Enters entry inside → allowed inside ≤ allowed st
   pub left : (st : K) → allowed (keeping.left st).1 ≤ allowed st

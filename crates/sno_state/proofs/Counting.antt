@@ -3,7 +3,7 @@ use Rattle.std.proofs.Common.{◌≡◌, ℕ, ℤ, pos, negsuc, ◌≤◌, ◌<�
 use Rattle.std.specs.Prelude.{if◌then◌else◌}
 use Rattle.std.specs.Option.{option_map_or}
 use Rattle.std.proofs.lemmas.Bool.Decides.{nat_tests}
-use Rattle.interaction.specs.Interactions.{Returns, ◌>>=◌, interpreted}
+use Rattle.interaction.specs.Interactions.{Returns, interpreted}
 use Rattle.interaction.specs.Endings.{EndsIn}
 use Rattle.interaction.proofs.Enough.{ends_in_then, ends_in_weaker}
 use Rattle.interaction.proofs.Hosts.{through_ends}
@@ -23,7 +23,7 @@ use Rattle.sno_value.specs.Primitives.{argument, primitive_named}
 use Rattle.sno_value.specs.declared.primitive.Primitive.{Primitive}
 use Rattle.sno_pattern.specs.Looks.{Look, LookUp, Assign, Told, Given}
 use Rattle.sno_pattern.specs.Steps.{match_of}
-use Rattle.sno_pattern.specs.declared.ending.MatchEnd.{MatchEnd}
+use Rattle.sno_pattern.specs.declared.ending.MatchEnd.TheVariants as end
 use Rattle.sno_declarations.specs.Arguments.{go_on, or_fault, name_in, input_in, output_in, unit_in}
 use Rattle.sno_declarations.specs.Definitions.{definition_in}
 use Rattle.sno_declarations.specs.Formats.{records}
@@ -33,7 +33,7 @@ use Rattle.sno_declarations.specs.declared.definition.Definition.{Definition}
 use Rattle.sno_semantics.specs.declared.got.Evaluated.{Evaluated}
 use Rattle.sno_semantics.specs.declared.got.Evaluated.TheVariants.{Halts}
 use Rattle.sno_semantics.specs.declared.got.Halt.TheVariants.{Fault}
-use Rattle.sno_semantics.specs.Keeping.{Matched, Stopped, Entered, Undefined, Enters, Refused}
+use Rattle.sno_semantics.specs.Keeping.{Entered, Undefined, Enters, Refused}
 use Rattle.sno_semantics.specs.Limits.{Counts}
 use Rattle.sno_store.specs.declared.keyword.Keyword.{Keyword}
 use Rattle.sno_store.specs.declared.keyword.Keyword.TheVariants.{Anchor, FullScan, Trim, StatementLimit, MaximumLength, StatementCount, StatementNumber, FunctionLevel}
@@ -56,8 +56,8 @@ use Rattle.sno_store.specs.declared.callee.StateFunction.TheVariants.{Changes, E
 use Rattle.sno_state.specs.Asking.{if_done, asked, changed_by}
 use Rattle.sno_state.specs.Keywords.{keyword_set}
 use Rattle.sno_state.specs.Using.{stored_of, used_by, used, write_all, write_text, written, assigned}
-use Rattle.sno_state.specs.Matching.{value_taken, looked_at, told_by, looking, is_anchored, ended_by, matched}
-use Rattle.sno_state.specs.Calling.{begun, called, entered, left}
+use Rattle.sno_state.specs.Matching.{value_taken, looked_at, told_by, looking, is_anchored, matched}
+use Rattle.sno_state.specs.Calling.{begun, called, entered}
 use Rattle.sno_store.specs.Callees.{state_function_named}
 use Rattle.sno_state.specs.Primitives.{state_changed, on_unit, state_function_done, on_values, primitive}
 use Rattle.sno_state.specs.State.{keeping, allowed}
@@ -131,12 +131,9 @@ module _ (n : ℕ) where
       (assigned_stays variable (value_taken taken) s h) (λ r g. g)
 
   matched_by_stays : (steps : ℕ) (text : List ℕ) (o : Option patterns.Pattern) (s : State) → Stays s
-      → EndsIn After (option_map_or (λ p. interpreted looking (match_of text p (is_anchored s) steps) s >>= λ after. Returns (ended_by after.0, after.1)) o (Returns (Stopped (Fault WrongType), s)))
+      → EndsIn After (option_map_or (λ p. interpreted looking (match_of text p (is_anchored s) steps) s) o (Returns (end.Fault WrongType, s)))
   matched_by_stays steps text None s h = h
-  matched_by_stays steps text (Some p) s h =
-      ends_in_then (λ (r : MatchEnd × State). Stays r.1) (λ (r : Matched × State). Stays r.1) (interpreted looking (match_of text p (is_anchored s) steps) s)
-      (λ after. Returns (ended_by after.0, after.1))
-      (through_ends Stays looking looking_stays (match_of text p (is_anchored s) steps) s h) (λ r g. g)
+  matched_by_stays steps text (Some p) s h = through_ends Stays looking looking_stays (match_of text p (is_anchored s) steps) s h
 
   pub matched_stays : (steps : ℕ) (text : List ℕ) (p : Value) (s : State) → Stays s → EndsIn After (matched steps text p s)
   matched_stays steps text p s h = matched_by_stays steps text (pattern_of p) s h
@@ -254,7 +251,7 @@ module _ (n : ℕ) where
   left_by_stays [] s h = h
   left_by_stays (level ∷ levels) s h = h
 
-  pub left_stays : (s : State) → Stays s → Stays (left s).1
+  pub left_stays : (s : State) → Stays s → Stays (calls.call_left s)
   left_stays s h = left_by_stays s.levels s h
 
 -- what a change, or an assignment to a keyword, leaves
@@ -308,6 +305,6 @@ state_counts limits = record {
   matched = λ text p s. all_within limits s (matched limits.steps text p s) (matched_stays s.keywords.begun limits.steps text p s refl);
   begun = λ number s after e. fewer_of limits s after (begun limits.statements number s) (begun_fewer limits number s) e;
   entered = λ f vs entry s inside e. within limits s inside (inside_of s.keywords.begun entry inside (entered f vs s) (entered_stays s.keywords.begun f vs s refl) e);
-  left = λ s. within limits s (left s).1 (left_stays s.keywords.begun s refl);
+  left = λ s. within limits s (calls.call_left s) (left_stays s.keywords.begun s refl);
   primitive = λ f vs s. all_within limits s (primitive f vs s) (primitive_stays s.keywords.begun f vs s refl);
 }

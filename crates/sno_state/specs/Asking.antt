@@ -25,9 +25,7 @@ if_done _ s go = Returns (Fails, s)
 
 -- an act that gives null where it is done
 abbrev pub asked : Act → State → Asking (Evaluated × State)
-asked act s = do
-  answer ← ask (request act s)
-  if_done answer s (Returns (Gives null, s))
+asked act s = ask (request act s) >>= λ answer. if_done answer s (Returns (Gives null, s))
 
 -- this value, in the state that there is then; or a fault, and nothing has changed
 abbrev pub changed_by : Value → Result State AFault → State → Evaluated × State

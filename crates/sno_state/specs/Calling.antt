@@ -21,7 +21,3 @@ called d vs s = if nat_lt (length s.levels) 200 then Enters d.entry (calls.call_
 -- the function of this name is called with these values
 abbrev pub entered : List ℕ → List Value → State → Entered State
 entered f vs s = option_map_or (λ d. called d vs s) (function_of f s) Undefined
-
--- the innermost call is left, with its value
-abbrev pub left : State → Value × State
-left s = (calls.given_back s, calls.call_left s)

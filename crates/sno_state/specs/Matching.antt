@@ -1,5 +1,5 @@
 -- A match within a statement: what it looks up and assigns meanwhile is done to the state of the job (own).
-use Rattle.std.specs.Prelude.{ℕ, ◌^◌, ℤ, pos, nat_lt, List, map, Bool, not, if◌then◌else◌}
+use Rattle.std.specs.Prelude.{ℕ, ◌^◌, ℤ, pos, nat_lt, List, Bool, not, if◌then◌else◌}
 use Rattle.std.specs.Fmt.{signed_decimal}
 use Rattle.std.specs.Option.{option_map_or}
 use Rattle.std.specs.Ordering.{int_eq}
@@ -17,10 +17,9 @@ use Rattle.sno_text.specs.declared.fault.Fault.TheVariants.{WrongType}
 use Rattle.sno_value.specs.declared.value.Value.{Value}
 use Rattle.sno_value.specs.declared.value.Value.TheVariants.{Text, Integer, Pattern, Unevaluated, Table}
 use Rattle.sno_value.specs.Values.{pattern_of}
-use Rattle.sno_semantics.specs.declared.got.Halt.TheVariants.{MatchLimit, Fault}
+use Rattle.sno_semantics.specs.declared.got.Halt.TheVariants.{Fault}
 use Rattle.sno_semantics.specs.declared.got.Evaluated.{Evaluated}
 use Rattle.sno_semantics.specs.declared.got.Evaluated.TheVariants.{Gives, Halts}
-use Rattle.sno_semantics.specs.Keeping.{Matched, Between, NoMatch, Stopped}
 use Rattle.sno_store.specs.declared.store.Store.{Store as State}
 use Rattle.sno_state.specs.Using.{used, assigned}
 
@@ -49,25 +48,14 @@ told_by tells _ = Refused
 
 -- a variable that is looked up is used, and one that is assigned to is written as any other
 abbrev pub looking : Look → State → Asking (Told × State)
-looking (LookUp variable) s = do
-  got ← used variable s
-  Returns (told_by looked_at got.0, got.1)
-looking (Assign variable taken) s = do
-  got ← assigned variable (value_taken taken) s
-  Returns (told_by (λ _. Given) got.0, got.1)
+looking (LookUp variable) s = used variable s >>= λ got. Returns (told_by looked_at got.0, got.1)
+looking (Assign variable taken) s = assigned variable (value_taken taken) s >>= λ got. Returns (told_by (λ _. Given) got.0, got.1)
 
 -- where &ANCHOR is not 0, a match begins at the first character
 abbrev pub is_anchored : State → Bool
 is_anchored s = not (int_eq s.keywords.anchor (pos 0))
 
-abbrev pub ended_by : MatchEnd → Matched
-ended_by (end.Matched from to pending) = Between from to (map (λ p. (p.variable, p.text)) pending)
-ended_by end.NoMatch = NoMatch
-ended_by end.Limit = Stopped MatchLimit
-ended_by (end.Fault f) = Stopped (Fault f)
-
 -- a text is matched by what a value stands for as a pattern, within so many steps
-abbrev pub matched : ℕ → List ℕ → Value → State → Asking (Matched × State)
+abbrev pub matched : ℕ → List ℕ → Value → State → Asking (MatchEnd × State)
 matched steps text v s =
-    option_map_or (λ p. interpreted looking (match_of text p (is_anchored s) steps) s >>= λ after. Returns (ended_by after.0, after.1)) (pattern_of v)
-    (Returns (Stopped (Fault WrongType), s))
+    option_map_or (λ p. interpreted looking (match_of text p (is_anchored s) steps) s) (pattern_of v) (Returns (end.Fault WrongType, s))

@@ -5,12 +5,13 @@ use Rattle.interaction.specs.Counting.{Moment, Beginning, lifted}
 use Rattle.interaction.specs.declared.answer.Answer.{Answer}
 use Rattle.sno_semantics.specs.Keeping.{Keeping}
 use Rattle.sno_store.specs.declared.store.Store.{Store as State}
+use Rattle.sno_store.specs.Calls.{given_back, call_left}
 use Rattle.sno_cards.specs.declared.limits.Limits.{Limits}
 use Rattle.sno_state.specs.Using.{used, assigned}
 use Rattle.sno_state.specs.Items.{item, item_set}
 use Rattle.sno_state.specs.Keywords.{keyword, keyword_set}
 use Rattle.sno_state.specs.Matching.{matched}
-use Rattle.sno_state.specs.Calling.{begun, entered, left}
+use Rattle.sno_state.specs.Calling.{begun, entered}
 use Rattle.sno_state.specs.Primitives.{primitive}
 
 -- in a job of these limits
@@ -27,7 +28,7 @@ keeping limits = record {
   begun = begun limits.statements;
   noted = Asks Beginning (λ _. Returns tt);
   entered = entered;
-  left = left;
+  left = λ s. (given_back s, call_left s);
   primitive = λ f vs s. lifted (primitive f vs s);
 }
 

@@ -36,9 +36,7 @@ stored_of name input _ s = (Fails, s)
 
 abbrev pub used_by : List ℕ → Use → State → Asking (Evaluated × State)
 used_by name (variables.Gives v) s = Returns (Gives v, s)
-used_by name (variables.Reads input) s = do
-  answer ← ask (request (Read input.unit) s)
-  Returns (stored_of name input answer s)
+used_by name (variables.Reads input) s = ask (request (Read input.unit) s) >>= λ answer. Returns (stored_of name input answer s)
 
 -- the value of a variable is used: a record is read, where it is associated with a unit
 abbrev pub used : List ℕ → State → Asking (Evaluated × State)
@@ -49,9 +47,7 @@ used name s = used_by name (use_of (variable_of name s.variables)) s
 -- in their order; the first that is not written makes it fail, and the rest are not tried
 abbrev pub write_all : ℕ → List (List ℕ) → State → Asking (Evaluated × State)
 write_all unit [] s = Returns (Gives null, s)
-write_all unit (line ∷ lines) s = do
-  answer ← ask (request (Write unit line) s)
-  if_done answer s (write_all unit lines s)
+write_all unit (line ∷ lines) s = ask (request (Write unit line) s) >>= λ answer. if_done answer s (write_all unit lines s)
 
 abbrev pub write_text : Output → Option (List ℕ) → State → Asking (Evaluated × State)
 write_text output text s = option_map_or (λ t. write_all output.unit (records output.format t) s) text (Returns (Halts (Fault WrongType), s))

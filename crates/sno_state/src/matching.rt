@@ -4,7 +4,7 @@ ghost use Rattle.interaction.specs.Interactions.{interpreted};
 ghost use Rattle.interaction.specs.Asking.{Executes};
 ghost use Rattle.sno_pattern.specs.Places.{MatchesWithin};
 ghost use Rattle.sno_pattern.specs.Steps.{match_of};
-ghost use Rattle.sno_state.specs.Matching.{looking, is_anchored, ended_by, matched};
+ghost use Rattle.sno_state.specs.Matching.{looking, is_anchored, matched};
 
 use crate::host::Host;
 use interaction::Service;
@@ -64,7 +64,7 @@ pub fn matched<S: Service>(
     service: &mut S,
 ) -> Result<MatchEnd, AllocError>
     requires { S.ready service.old }
-    ensures runs { Executes S.answers (matched steps text.now pattern.now state.old) service.old result (λ end. (ended_by end, state.new)) service.new }
+    ensures runs { Executes S.answers (matched steps text.now pattern.now state.old) service.old result (λ end. (end, state.new)) service.new }
     ensures within { IfOk result (MatchesWithin (length text.now)) }
     ensures counted { state.new.keywords.begun ≡ state.old.keywords.begun }
     ensures ready { S.ready service.new }
