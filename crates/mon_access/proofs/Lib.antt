@@ -1,9 +1,9 @@
 mod Tables
-mod Places
+pub mod Places
 mod Halves
 mod Together
-mod Meanings
-mod Cases
+pub mod Meanings
+pub mod Cases
 mod Orders
 mod Smaller
 mod Outcomes

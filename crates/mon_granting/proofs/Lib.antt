@@ -1,3 +1,2 @@
-mod Meanings
 mod Rightness
 mod Examples

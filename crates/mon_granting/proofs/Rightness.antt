@@ -17,7 +17,9 @@ use Rattle.mon_access.specs.declared.access.Decision.TheVariants.{Granted, Denie
 use Rattle.mon_access.specs.Matches.{is_for_user, is_for_group, some_holds}
 use Rattle.mon_access.specs.AccessCheck.{Case, Owner, NamedUser, InGroup, Others, case_of, grants, decider, decision_in, decision}
 use Rattle.mon_access.specs.FourCases.{IsOf, IsForUser, IsForGroup, Holds, SomeHolds, Grants}
-use Rattle.mon_granting.proofs.Meanings.{refuted, fails, any_Decides, has_tag-Decides, is_for_user-Decides, is_for_group-Decides, some_holds-Decides, applies_once, position-Some, position-None}
+use Rattle.mon_access.proofs.Meanings.{refuted, fails, any_Decides, has_tag-Decides, is_for_user-Decides, is_for_group-Decides, some_holds-Decides}
+use Rattle.mon_access.proofs.Places.{position-Some, position-None}
+use Rattle.mon_access.proofs.Cases.{applies_once}
 use Rattle.mon_access.specs.Laws.{GrantsByItsCase}
 use Rattle.mon_granting.specs.Granting.{may_grant, holder, if_granted, granting}
 use Rattle.mon_granting.specs.Laws.{IsFirstToHold, IsRightGrantor, GrantsByTheEntry, NamedWhereGranted, NamesAnEntry}

@@ -129,8 +129,8 @@ impl Units {
         shares_in(&self.ties, &other.ties)
     }
 
-    // The tie of a unit. Where there is no such unit there is none, which is as if it were tied to nothing.
-    pub(crate) fn tie_at(&self, unit: u64) -> Option<&Tie>
+    /// The tie of a unit. Where there is no such unit there is none, which is as if it were tied to nothing. It takes no memory.
+    pub fn tie_at(&self, unit: u64) -> Option<&Tie>
         ensures { option_copied result ≡ slice_get self.now.ties unit }
     {
         self.ties.get(unit as usize)
