@@ -148,7 +148,7 @@ HEAD = b'''<!DOCTYPE html>
 <head>
 <meta charset="utf-8"/>
 <meta http-equiv="Content-Security-Policy" content="default-src 'none'; style-src 'unsafe-inline'"/>
-<meta name="viewport" content="width=device-width"/>
+<meta name="viewport" content="width=device-width, initial-scale=1"/>
 <title>Who may do what</title>
 <style>
 :root { color-scheme: light dark; --page: #fff; --text: #1a1a1a; --line: #b5b5b5; --head: #ececec; --part: #fff3cf; --none: #fbdfda }
