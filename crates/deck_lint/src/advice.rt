@@ -42,6 +42,9 @@ pub(crate) fn syntax_cause(code: SyntaxCode) -> &'static str {
     }
 }
 
+/// What is said of a square bracket.
+pub(crate) const BRACKETS: &str = "there are no square brackets: an item is T<E>";
+
 /// Appends a code with what it says.
 ///
 /// # Errors

@@ -1,15 +1,67 @@
-//! Tokens that name a function.
+//! How identifiers are used, and which of them the language has.
 
-use sno_lexer::{Constant, Token, TokenKind};
-use sno_store::StateFunction;
+use sno_lexer::{Constant, Mark, Token, TokenKind};
+use sno_store::{Keyword, StateFunction};
 use sno_value::primitive_named;
 use std::alloc::{AllocError, Global};
+
+/// How an identifier is used.
+#[derive(Clone, Copy)]
+pub(crate) enum Usage {
+    /// `F(..)`
+    Call,
+    /// `T<..>`
+    Item,
+    /// `&K`
+    Keyword,
+    /// Otherwise.
+    Variable,
+}
 
 /// Whether a parenthesis that opens follows the token at an index with no blank between.
 pub(crate) fn is_called(tokens: &[Token], index: usize) -> bool {
     match tokens.get(index.saturating_add(1)) {
         Some(next) => !next.blank_before && matches!(&next.kind, TokenKind::Open),
         None => false,
+    }
+}
+
+// Whether a `<` follows the token at an index with no blank between.
+fn is_item(tokens: &[Token], index: usize) -> bool {
+    match tokens.get(index.saturating_add(1)) {
+        Some(next) => !next.blank_before && matches!(&next.kind, TokenKind::OpenAngle),
+        None => false,
+    }
+}
+
+// Whether a `&` stands before the identifier at an index with no blank between.
+fn is_keyword(tokens: &[Token], index: usize) -> bool {
+    match tokens.get(index.saturating_sub(1)) {
+        Some(mark) => !mark.blank_after && matches!(&mark.kind, TokenKind::Mark(Mark::Ampersand)),
+        None => false,
+    }
+}
+
+/// How the identifier at an index is used.
+pub(crate) fn usage_at(tokens: &[Token], index: usize) -> Usage {
+    if is_called(tokens, index) {
+        Usage::Call
+    } else if is_item(tokens, index) {
+        Usage::Item
+    } else if is_keyword(tokens, index) {
+        Usage::Keyword
+    } else {
+        Usage::Variable
+    }
+}
+
+/// Whether the language has a name for what is used so: a function, a keyword, or a variable that reads or writes.
+pub(crate) fn is_named(name: &[u8], usage: Usage) -> bool {
+    match usage {
+        Usage::Call => is_built_in(name),
+        Usage::Keyword => Keyword::named(name).is_some(),
+        Usage::Variable => matches!(name, b"INPUT" | b"OUTPUT" | b"PUNCH"),
+        Usage::Item => false,
     }
 }
 

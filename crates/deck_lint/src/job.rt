@@ -1,6 +1,6 @@
 //! What is told of a job: its source listing, and then what is wrong with it.
 
-use crate::advice::{put_cause, syntax_cause};
+use crate::advice::{BRACKETS, put_cause, syntax_cause};
 use crate::column::word_column;
 use crate::loose::{LooseKind, LooseName, loose_names};
 use crate::reading::{Source, read_source};
@@ -11,7 +11,7 @@ use crate::source_span::{NO_COLUMN, SourceSpan};
 use mon_text::put_number;
 use mon_unit::UnitError;
 use scheduler::{JobDeck, LoadError, UnitCard};
-use sno_syntax::SyntaxError;
+use sno_syntax::{SyntaxCode, SyntaxError};
 use std::alloc::{AllocError, Global};
 
 /// A job whose lines are all there, and where its cards stand.
@@ -237,10 +237,18 @@ fn tell_syntax(
     error: SyntaxError,
     out: &mut Vec<u8>,
 ) -> Result<(), AllocError> {
-    let mut what = Vec::new(alloc);
-    put_cause(error.code.text(), syntax_cause(error.code), &mut what)?;
     let spot = spot_on(case, error.place.card, error.place.column);
+    let mut what = Vec::new(alloc);
+    put_cause(error.code.text(), cause_at(spot, error.code), &mut what)?;
     desk.mistake(spot, &what, out)
+}
+
+// What a code says of a program, whose text there may be a square bracket.
+fn cause_at(spot: SourceSpan<'_>, code: SyntaxCode) -> &'static str {
+    match spot.text.get(spot.column.saturating_sub(1) as usize) {
+        Some(byte) if matches!(*byte, b'[' | b']') => BRACKETS,
+        _ => syntax_cause(code),
+    }
 }
 
 // A place in a job's program, whose cards are counted from 1. Behind the last card there is no text.
@@ -296,7 +304,7 @@ fn tell_missing_set(
     )
 }
 
-// Tells which labels and functions the program names that are not there.
+// Tells which names in the program lead nowhere.
 fn tell_loose(
     desk: &mut Reporter,
     alloc: Global,
@@ -323,20 +331,28 @@ fn tell_name(
 ) -> Result<(), AllocError> {
     let spot = spot_on(case, name.place.card, name.place.column);
     let mut what = Vec::new(alloc);
+    put_name(name, &mut what)?;
     match name.kind {
-        LooseKind::Label => {
-            put_named(b"NO LABEL ", name, b": no statement has it", &mut what)?;
-            desk.mistake(spot, &what, out)
-        }
+        LooseKind::Label => desk.mistake(spot, &what, out),
+        _ => desk.warning(spot, &what, out),
+    }
+}
+
+fn put_name(name: &LooseName, out: &mut Vec<u8>) -> Result<(), AllocError> {
+    match name.kind {
+        LooseKind::Label => put_named(b"NO LABEL ", name, b": no statement has it", out),
         LooseKind::Function => {
-            put_named(
-                b"NO FUNCTION ",
-                name,
-                b": no literal of DEFINE has it",
-                &mut what,
-            )?;
-            desk.warning(spot, &what, out)
+            put_named(b"NO FUNCTION ", name, b": no literal of DEFINE has it", out)
         }
+        LooseKind::SmallLetters => {
+            put_named(
+                b"SMALL LETTERS ",
+                name,
+                b": the language's name is in capitals",
+                out,
+            )
+        }
+        LooseKind::NoTable => put_named(b"NO TABLE ", name, b": no statement calls TABLE", out),
     }
 }
 

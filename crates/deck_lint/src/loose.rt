@@ -1,7 +1,7 @@
-//! Names in a program that lead nowhere: labels that a goto names and no statement has, and functions that are called and
-//! that nobody defines.
+//! Names in a program that lead nowhere: labels that a goto names and no statement has, functions that are called and that
+//! nobody defines, names of the language in small letters, and items where there is no table.
 
-use crate::calls::{defined_by, is_built_in, is_called};
+use crate::calls::{Usage, defined_by, is_built_in, is_called, is_named, usage_at};
 use crate::starts::place_at;
 use mon_text::{Line, Stop};
 use sno_lexer::{Part, Token, TokenKind, Word};
@@ -16,6 +16,10 @@ pub enum LooseKind {
     Label,
     /// A function that is neither there without a program nor given to DEFINE as a literal.
     Function,
+    /// A name with small letters, where the language has that name in capitals.
+    SmallLetters,
+    /// What an item is of, where no statement calls TABLE.
+    NoTable,
 }
 
 /// A name that leads nowhere, and where it stands.
@@ -31,6 +35,8 @@ pub struct LooseName {
 struct Known {
     labels: Labels,
     functions: Labels,
+    /// Whether a statement calls TABLE.
+    has_tables: bool,
 }
 
 /// The names in a program's statements that lead nowhere, in their order. A statement whose tokens can't be read has none.
@@ -51,10 +57,11 @@ fn known_names(alloc: Global, cards: &ProgramCards) -> Result<Known, AllocError>
     let mut known = Known {
         labels: Labels::new(alloc, Seed::fixed()),
         functions: Labels::new(alloc, Seed::fixed()),
+        has_tables: false,
     };
     for (index, text) in cards.statements().iter().enumerate() {
         put_label(alloc, &mut known.labels, text, index)?;
-        put_definitions(alloc, &mut known.functions, text, index)?;
+        put_calls(alloc, &mut known, text, index)?;
     }
     Ok(known)
 }
@@ -68,36 +75,40 @@ fn put_label(
     labels.insert(alloc, label_in(text.as_bytes()), index)
 }
 
-// Notes the functions that a statement gives to DEFINE as literals.
-fn put_definitions(
+// Notes whether a statement calls TABLE, and the functions that it gives to DEFINE as literals.
+fn put_calls(
     alloc: Global,
-    functions: &mut Labels,
+    known: &mut Known,
     text: &StatementText,
     index: usize,
 ) -> Result<(), AllocError> {
     match lex(alloc, text) {
-        Ok(tokens) => put_defined(alloc, functions, tokens.tokens(), index),
+        Ok(tokens) => put_called(alloc, known, tokens.tokens(), index),
         Err(Stop::Refused(_)) => Ok(()),
         Err(Stop::Memory) => Err(AllocError),
     }
 }
 
-fn put_defined(
+fn put_called(
     alloc: Global,
-    functions: &mut Labels,
+    known: &mut Known,
     tokens: &[Token],
     index: usize,
 ) -> Result<(), AllocError> {
     for (at, token) in tokens.iter().enumerate() {
-        if is_call_of_define(alloc, token, tokens, at)? {
-            put_defined_at(alloc, functions, tokens, at, index)?;
+        if is_call_of(alloc, b"TABLE", token, tokens, at)? {
+            known.has_tables = true;
+        }
+        if is_call_of(alloc, b"DEFINE", token, tokens, at)? {
+            put_defined_at(alloc, &mut known.functions, tokens, at, index)?;
         }
     }
     Ok(())
 }
 
-fn is_call_of_define(
+fn is_call_of(
     alloc: Global,
+    function: &[u8],
     token: &Token,
     tokens: &[Token],
     at: usize,
@@ -105,7 +116,7 @@ fn is_call_of_define(
     match &token.kind {
         TokenKind::Identifier(word) if is_called(tokens, at) => {
             let name = word.line(alloc)?;
-            Ok(name.as_bytes() == b"DEFINE".as_slice())
+            Ok(name.as_bytes() == function)
         }
         _ => Ok(false),
     }
@@ -155,8 +166,8 @@ fn put_loose_tokens(
 ) -> Result<(), AllocError> {
     for (at, token) in tokens.iter().enumerate() {
         let place = token_place(text, offsets, at);
-        let is_call = is_called(tokens, at);
-        put_loose_token(alloc, known, token, is_call, place, loose)?;
+        let usage = usage_at(tokens, at);
+        put_loose_token(alloc, known, token, usage, place, loose)?;
     }
     Ok(())
 }
@@ -172,13 +183,13 @@ fn put_loose_token(
     alloc: Global,
     known: &Known,
     token: &Token,
-    is_call: bool,
+    usage: Usage,
     place: Place,
     loose: &mut Vec<LooseName>,
 ) -> Result<(), AllocError> {
     match &token.kind {
         TokenKind::Part(Part::Label(word)) => put_goto(alloc, known, word, place, loose),
-        TokenKind::Identifier(word) if is_call => put_call(alloc, known, word, place, loose),
+        TokenKind::Identifier(word) => put_identifier(alloc, known, word, usage, place, loose),
         _ => Ok(()),
     }
 }
@@ -202,18 +213,44 @@ fn is_label(known: &Known, name: &[u8]) -> bool {
     matches!(name, b"END" | b"RETURN" | b"FRETURN") || known.labels.find(name).is_some()
 }
 
-fn put_call(
+fn put_identifier(
     alloc: Global,
     known: &Known,
     word: &Word<'_>,
+    usage: Usage,
     place: Place,
     loose: &mut Vec<LooseName>,
 ) -> Result<(), AllocError> {
     let name = word.line(alloc)?;
-    if is_built_in(name.as_bytes()) || known.functions.find(name.as_bytes()).is_some() {
-        return Ok(());
+    let capitals = name.as_bytes().to_ascii_uppercase(alloc)?;
+    match loose_kind(known, name.as_bytes(), &capitals, usage) {
+        Some(kind) => push(kind, name, place, loose),
+        None => Ok(()),
     }
-    push(LooseKind::Function, name, place, loose)
+}
+
+// How an identifier that is used so leads nowhere, if it does.
+fn loose_kind(known: &Known, name: &[u8], capitals: &[u8], usage: Usage) -> Option<LooseKind> {
+    if is_known(known, name, usage) {
+        return None;
+    }
+    if is_named(capitals, usage) {
+        return Some(LooseKind::SmallLetters);
+    }
+    match usage {
+        Usage::Call => Some(LooseKind::Function),
+        Usage::Item => Some(LooseKind::NoTable),
+        Usage::Keyword | Usage::Variable => None,
+    }
+}
+
+// Whether an identifier that is used so means what the language or the program says of it.
+fn is_known(known: &Known, name: &[u8], usage: Usage) -> bool {
+    match usage {
+        Usage::Call => is_built_in(name) || known.functions.find(name).is_some(),
+        Usage::Item => known.has_tables,
+        Usage::Keyword | Usage::Variable => is_named(name, usage),
+    }
 }
 
 fn push(
