@@ -4,6 +4,8 @@
 //! line is tested without a way out. An account's groups are a set of bits, and what a check reads of a list's entries lies in
 //! eight bytes of each. A user is found by halving, and no group of a list is looked at twice. Numbers are written by hand.
 //!
+//! Jobs run by `plain_jobs.rs`, which is a part of this program.
+//!
 //! Reads a whole deck from standard input, writes the printouts and the catalogue, and tells of the first refusal as
 //! `snomon` does; it takes no options. `docs/REFERENCE.md` has the rules that both follow.
 
@@ -12,6 +14,10 @@ use std::fmt;
 use std::hash::{BuildHasherDefault, Hasher};
 use std::io::{self, BufWriter, Read, Write};
 use std::process::ExitCode;
+
+#[path = "plain_jobs.rs"]
+mod plain_jobs;
+use plain_jobs::Text;
 
 /// The longest line, in characters, in the catalogue section and elsewhere.
 const CATALOGUE_LINE: usize = 5_000;
@@ -23,7 +29,7 @@ const SETS: usize = 1_000;
 const NAMED_ENTRIES: usize = 100;
 const FURTHER_GROUPS: usize = 16;
 
-const CARDS: [&[u8]; 12] = [
+const CARDS: [&[u8]; 14] = [
     b"$ACCOUNTS",
     b"$CATALOGUE",
     b"$SET",
@@ -35,6 +41,8 @@ const CARDS: [&[u8]; 12] = [
     b"$SHOWACL",
     b"$LIST",
     b"$CATALOG",
+    b"$JOB",
+    b"$DRAIN",
     b"$STOP",
 ];
 
@@ -182,6 +190,14 @@ impl Hasher for NameHasher {
 
     fn write_usize(&mut self, length: usize) {
         self.mix(length as u64);
+    }
+
+    fn write_i64(&mut self, number: i64) {
+        self.mix(number as u64);
+    }
+
+    fn write_isize(&mut self, variant: isize) {
+        self.mix(variant as u64);
     }
 
     fn finish(&self) -> u64 {
@@ -544,7 +560,75 @@ struct DataSet<'a> {
     owner_number: u32,
     group_number: u32,
     acl: Acl<'a>,
-    records: Vec<&'a [u8]>,
+    records: Records<'a>,
+}
+
+/// Records: pieces of the deck, as long as no job has written one that is none.
+enum Records<'a> {
+    Loaded(Vec<&'a [u8]>),
+    Written(Vec<Text<'a>>),
+}
+
+impl<'a> Records<'a> {
+    fn len(&self) -> usize {
+        match self {
+            Records::Loaded(records) => records.len(),
+            Records::Written(records) => records.len(),
+        }
+    }
+
+    fn get(&self, index: usize) -> Option<Text<'a>> {
+        match self {
+            Records::Loaded(records) => records.get(index).map(|record| Text::Slice(record)),
+            Records::Written(records) => records.get(index).cloned(),
+        }
+    }
+
+    fn truncate(&mut self, length: usize) {
+        match self {
+            Records::Loaded(records) => records.truncate(length),
+            Records::Written(records) => records.truncate(length),
+        }
+    }
+
+    fn push(&mut self, text: &Text<'a>) {
+        match (&mut *self, text) {
+            (Records::Loaded(records), Text::Slice(record)) => records.push(record),
+            (Records::Loaded(records), Text::Shared(_)) => {
+                let mut written: Vec<_> =
+                    records.iter().map(|record| Text::Slice(record)).collect();
+                written.push(text.clone());
+                *self = Records::Written(written);
+            }
+            (Records::Written(records), _) => records.push(text.clone()),
+        }
+    }
+
+    /// Writes each record a line, after a blank where `INDENTED` says so.
+    fn write<const INDENTED: bool>(&self, out: &mut impl Write) -> io::Result<()> {
+        match self {
+            Records::Loaded(records) => {
+                for record in records {
+                    write_record::<INDENTED>(record, out)?;
+                }
+            }
+            Records::Written(records) => {
+                for record in records {
+                    write_record::<INDENTED>(record.bytes(), out)?;
+                }
+            }
+        }
+        Ok(())
+    }
+}
+
+#[inline(always)]
+fn write_record<const INDENTED: bool>(record: &[u8], out: &mut impl Write) -> io::Result<()> {
+    if INDENTED {
+        out.write_all(b" ")?;
+    }
+    out.write_all(record)?;
+    out.write_all(b"\n")
 }
 
 impl DataSet<'_> {
@@ -608,11 +692,7 @@ impl DataSet<'_> {
         write_count(self.records.len(), out)?;
         self.acl.write_short(out)?;
         out.write_all(b"\n")?;
-        for record in &self.records {
-            out.write_all(record)?;
-            out.write_all(b"\n")?;
-        }
-        Ok(())
+        self.records.write::<false>(out)
     }
 }
 
@@ -621,6 +701,8 @@ impl DataSet<'_> {
 struct Catalogue<'a> {
     sets: Vec<DataSet<'a>>,
     places: Names<'a, usize>,
+    /// How many jobs were served.
+    jobs: usize,
 }
 
 impl<'a> Catalogue<'a> {
@@ -683,6 +765,9 @@ enum Request<'a> {
     /// A command that names a data set.
     Of(Act<'a>, &'a [u8]),
     Catalog,
+    Job(Box<plain_jobs::Job<'a>>),
+    /// Jobs run when they are loaded, so nothing is left to be done.
+    Drain,
 }
 
 struct Command<'a> {
@@ -812,7 +897,7 @@ impl<'a> Deck<'a> {
             owner_number: self.numbers.of(owner),
             group_number: self.numbers.of(group),
             acl,
-            records: taken,
+            records: Records::Loaded(taken),
         });
         Ok(())
     }
@@ -835,13 +920,31 @@ fn command<'a>(line: &'a [u8], lines: &mut Lines<'a>) -> Result<Option<Command<'
                 request: Request::Catalog,
             }));
         }
-        _ => return Ok(None),
+        Some(b"$JOB") => return job_command(line, lines).map(Some),
+        _ => return Ok(drain_command(line)),
     };
     let [_, account, set] = words_of(line).ok_or(Code::BadCard)?;
     Ok(Some(Command {
         account: name(account)?,
         request: Request::Of(act, name(set)?),
     }))
+}
+
+#[inline(never)]
+fn job_command<'a>(line: &'a [u8], lines: &mut Lines<'a>) -> Result<Command<'a>, Code> {
+    let job = plain_jobs::job(line, lines)?;
+    Ok(Command {
+        account: job.account,
+        request: Request::Job(Box::new(job)),
+    })
+}
+
+#[inline(never)]
+fn drain_command(line: &[u8]) -> Option<Command<'_>> {
+    (line == b"$DRAIN").then_some(Command {
+        account: b"",
+        request: Request::Drain,
+    })
 }
 
 fn create_command(line: &[u8]) -> Result<Command<'_>, Code> {
@@ -906,6 +1009,8 @@ impl<'a> Catalogue<'a> {
     ) -> io::Result<()> {
         match &command.request {
             Request::Catalog => self.write_names(account, out),
+            Request::Job(job) => plain_jobs::serve(job, account, self, out),
+            Request::Drain => Ok(()),
             &Request::Of(Act::Create(mode), name) => match self.room_for(name) {
                 Err(code) => writeln!(out, "REFUSED {code}"),
                 Ok(()) => {
@@ -920,7 +1025,7 @@ impl<'a> Catalogue<'a> {
                         owner_number: account.number,
                         group_number: account.primary_number,
                         acl,
-                        records: Vec::new(),
+                        records: Records::Loaded(Vec::new()),
                     });
                     out.write_all(b"DONE\n")
                 }
@@ -1005,11 +1110,7 @@ fn write_list(set: &DataSet<'_>, out: &mut impl Write) -> io::Result<()> {
 }
 
 fn write_records(set: &DataSet<'_>, out: &mut impl Write) -> io::Result<()> {
-    for record in &set.records {
-        out.write_all(b" ")?;
-        out.write_all(record)?;
-        out.write_all(b"\n")?;
-    }
+    set.records.write::<true>(out)?;
     out.write_all(b"RECORDS ")?;
     write_count(set.records.len(), out)
 }
@@ -1017,6 +1118,7 @@ fn write_records(set: &DataSet<'_>, out: &mut impl Write) -> io::Result<()> {
 /// Writes the first line of a command's printout.
 fn write_command(command: &Command<'_>, out: &mut impl Write) -> io::Result<()> {
     let (card, set) = match &command.request {
+        Request::Job(..) | Request::Drain => return Ok(()),
         Request::Catalog => ("CATALOG", None),
         Request::Of(Act::Create(_), set) => ("CREATE", Some(set)),
         Request::Of(Act::Delete, set) => ("DELETE", Some(set)),
@@ -1080,6 +1182,7 @@ fn main() -> io::Result<ExitCode> {
             Some(account) => deck
                 .catalogue
                 .serve(command, account, &mut deck.numbers, &mut out)?,
+            None if matches!(command.request, Request::Drain) => {}
             None => writeln!(out, "REFUSED M2 NO ACCOUNT")?,
         }
     }

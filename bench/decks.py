@@ -203,13 +203,13 @@ def program(statements):
 
 
 CASES = {
-    "cards": lambda halves: many_sets(sets=500 * halves, records=5, cards=10_000 * halves, length=40),
-    "records": lambda halves: one_set(records=50_000 * halves, cards=20, length=80),
-    "catalogue": lambda halves: many_sets(sets=500 * halves, records=1_000, cards=0, length=40),
-    "commands": lambda halves: mixed(sets=500 * halves, commands=10_000 * halves),
-    "names": lambda halves: names(sets=500 * halves, cards=400),
-    "lists": lambda halves: drawn_lists(sets=500 * halves, commands=20_000),
-    "stream": lambda halves: one_set(records=1, cards=500_000 * halves, length=10),
+    "cards": lambda halves: many_sets(sets=int(500 * halves), records=5, cards=int(10_000 * halves), length=40),
+    "records": lambda halves: one_set(records=int(50_000 * halves), cards=20, length=80),
+    "catalogue": lambda halves: many_sets(sets=int(500 * halves), records=1_000, cards=0, length=40),
+    "commands": lambda halves: mixed(sets=int(500 * halves), commands=int(10_000 * halves)),
+    "names": lambda halves: names(sets=int(500 * halves), cards=400),
+    "lists": lambda halves: drawn_lists(sets=int(500 * halves), commands=20_000),
+    "stream": lambda halves: one_set(records=1, cards=int(500_000 * halves), length=10),
 }
 
 

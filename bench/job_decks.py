@@ -26,6 +26,15 @@ The cases, at their whole size:
   many_names      20,000 $CATALOG over 1,000 data sets of 100 named entries; a list is set anew now and then
   joined          1,000 statements of 996 joined names, read and refused at the END line, so that nothing runs
   statements      100,000 statements of a card each, read and refused at the END line
+  table_int       100,000 items by integers that are spread, set and read again
+  table_text      100,000 items by texts of five to ten characters, formed, set, formed again and read
+  small_jobs      20,000 jobs of three statements and a line of spool; a job ends before the fifth behind it is loaded
+  copy_and_spool  100,000 records read by a variable, written from there to another data set, and printed
+  arguments       500,000 calls of a function of three arguments and a local, one a statement, two statements a call
+  operands        1,500,000 statements whose objects have two or three operands, all of them integers
+  concatenation   400,000 statements, of which three of four join two, three and four texts; one text grows to 3,000 characters
+  replacing       600,000 statements, of which one of three is a REPLACE and one a DUPL, on texts of 44 characters
+  set_lists       5,000 $SETACL with a list of 100 named entries each, over 100 data sets, and 5,000 with lists on the card
 """
 
 import random
@@ -214,6 +223,7 @@ def items(size):
     ]
     return job("$JOB lisa ST=300000", program)
 
+
 def lists(size):
     return decks.drawn_lists(int(1_000 * size), 20_000)
 
@@ -263,6 +273,114 @@ def statements(size):
     return refused(f"  N{i % 500} = N{(i * 3) % 500} + {i}" for i in range(int(100_000 * size)))
 
 
+def table_items(size, key, read_key):
+    count = int(100_000 * size)
+    program = [
+        "  T = TABLE()",
+        f"L N = LT(N,{count}) N + 1 :F(M)",
+        f"  T<{key}> = N :(L)",
+        f"M I = LT(I,{count}) I + 1 :F(E)",
+        f"  S = S + T<{read_key}> :(M)",
+        "E OUTPUT = S",
+        "END",
+    ]
+    return job("$JOB lisa ST=500000", program)
+
+
+def table_int(size):
+    return table_items(size, "N * 7919", "I * 7919")
+
+
+def table_text(size):
+    return table_items(size, "'KEY.' N", "'KEY.' I")
+
+
+def small_jobs(size):
+    yield from opening()
+    for i in range(1, int(20_000 * size) + 1):
+        yield from ("$JOB lisa", f"  N = {i}", "  M = N * 2 + 1", "  OUTPUT = 'JOB ' N ' GIVES ' M", "END", "$EOJ")
+        if i % 4 == 0:
+            yield "$DRAIN"
+    yield "$STOP"
+
+
+def copy_and_spool(size):
+    sets = [*records(int(100_000 * size)), "$SET OUT anna admin 0", PAYROLL_LIST]
+    program = ["  INPUT('R',8); OUTPUT('W',9)", "L X = R :F(END)", "  W = X", "  OUTPUT = X :(L)", "END"]
+    return job("$JOB lisa ST=500000", ["$UNIT 8 BIG", "$UNIT 9 OUT", *program], sets)
+
+
+def arguments(size):
+    program = [
+        "  DEFINE('F(A,B,C)D') :(GO)",
+        "F D = A + B; F = D * C :(RETURN)",
+        f"GO N = LT(N,{int(500_000 * size)}) N + 1 :F(END)",
+        "  X = F(N,2,3) - N :(GO)",
+        "END",
+    ]
+    return job("$JOB lisa ST=5000000", program)
+
+
+def operands(size):
+    program = [
+        f"L I = LT(I,{int(500_000 * size)}) I + 1 :F(E)",
+        "  A = I + 2; B = A - I * 3; C = A * B - I :(L)",
+        "E OUTPUT = A ' ' B ' ' C",
+        "END",
+    ]
+    return job("$JOB lisa ST=5000000", program)
+
+
+def concatenation(size):
+    program = [
+        "  &MAXLNGTH = 100000; A = 'ONE'; B = 'TWO'",
+        f"G R = LT(R,{int(100 * size)}) R + 1 :F(E)",
+        "  I = 0; S = ''",
+        "L I = LT(I,1000) I + 1 :F(G)",
+        "  S = S A; C = A ' ' B; D = I A '-' B :(L)",
+        "E OUTPUT = SIZE(S) ' ' C ' ' D",
+        "END",
+    ]
+    return job("$JOB lisa ST=5000000", program)
+
+
+def replacing(size):
+    program = [
+        "  S = 'THE QUICK BROWN FOX JUMPS OVER THE LAZY DOGS'",
+        "  A = 'ABCDEFGHIJKLMNOPQRSTUVWXYZ'; B = 'NOPQRSTUVWXYZABCDEFGHIJKLM'",
+        f"L N = LT(N,{int(200_000 * size)}) N + 1 :F(E)",
+        "  S = REPLACE(S,A,B); D = DUPL('ABCD',11) :(L)",
+        "E OUTPUT = S ' ' D",
+        "END",
+    ]
+    return job("$JOB lisa ST=5000000", program)
+
+
+def set_lists(size):
+    accounts, count = [f"user{i:03}" for i in range(200)], int(5_000 * size)
+    letters = ["r--", "rw-", "---", "r-x", "rwx"]
+
+    def entries(i):
+        yield from ("user::rwx", "group::r--", "mask::rwx", "other::---")
+        yield from (f"user:{accounts[(i * 7 + k * 3) % 200]}:{letters[(i + k) % 5]}" for k in range(60))
+        yield from (f"group:team{(i * 3 + k) % 100:02}:{letters[(i + k) % 5]}" for k in range(40))
+
+    yield "$ACCOUNTS"
+    yield from (f"{account} team{i % 100:02}" for i, account in enumerate(accounts))
+    yield "$CATALOGUE"
+    for i in range(100):
+        yield f"$SET DATA{i:02} user{i:03} team{i:02} 0"
+        yield "user::rwx,group::r--,other::---"
+    yield "$STREAM"
+    for i in range(count):
+        yield f"$SETACL user{i % 100:03} DATA{i % 100:02}"
+        yield from entries(i)
+        yield "$ENDACL"
+        other = (i + 50) % 100
+        yield f"$SETACL user{other:03} DATA{other:02} u::rwx,u:{accounts[i % 200]}:rw,g::r,g:team{i % 100:02}:x,m::rwx,o::"
+    yield "$STOP"
+
+
 CASES = {
     write.__name__: write
     for write in (
@@ -288,6 +406,15 @@ CASES = {
         many_names,
         joined,
         statements,
+        table_int,
+        table_text,
+        small_jobs,
+        copy_and_spool,
+        arguments,
+        operands,
+        concatenation,
+        replacing,
+        set_lists,
     )
 }
 

@@ -4,7 +4,7 @@
 //! place the program is refused (and not why). What it reads is what `crates/sno_syntax` reads, and what it makes is the
 //! same: a program that outlives its cards, so each name, label and literal of a tree is a text of its own. Tokens are
 //! slices of the joined cards, in one list that is used again for each statement, and places are found by one segment a
-//! card.
+//! card. `plain_jobs.rs` runs what it reads.
 
 use std::collections::HashMap;
 use std::hint::black_box;
@@ -16,7 +16,7 @@ const MOST_TOKENS: usize = 1_000;
 const MOST_OPEN: usize = 100;
 
 #[derive(Clone, Copy, PartialEq)]
-enum Mark {
+pub enum Mark {
     Power,
     Star,
     Slash,
@@ -39,6 +39,8 @@ enum Kind<'a> {
     Mark(Mark),
     Open,
     Close,
+    Less,
+    Greater,
     Comma,
     Equals,
     Colon,
@@ -56,7 +58,7 @@ struct Token<'a> {
 }
 
 #[derive(Clone, Copy)]
-enum Operator {
+pub enum Operator {
     Alternation,
     Concatenation,
     Minus,
@@ -105,11 +107,11 @@ impl Operator {
 }
 
 /// A name, label or literal of a tree. It is a text of its own, since the program outlives its cards.
-type Text = Box<[u8]>;
+pub type Text = Box<[u8]>;
 
 // Nothing here goes over the trees once they are made.
 #[allow(dead_code)]
-enum Expression {
+pub enum Expression {
     Identifier(Text),
     Literal(Text),
     Integer(i64),
@@ -117,6 +119,7 @@ enum Expression {
     Unevaluated(Text),
     Group(Box<Expression>),
     Call(Text, Vec<Option<Expression>>),
+    Item(Text, Box<Expression>),
     Unary(Mark, Box<Expression>),
     Binary(Operator, Box<Expression>, Box<Expression>),
 }
@@ -128,13 +131,13 @@ impl Expression {
 }
 
 #[allow(dead_code)]
-enum Target {
+pub enum Target {
     Label(Text),
     Computed(Expression),
 }
 
 #[allow(dead_code)]
-enum Object {
+pub enum Object {
     Nothing,
     Null,
     Value(Expression),
@@ -142,23 +145,23 @@ enum Object {
 
 #[derive(Default)]
 #[allow(dead_code)]
-struct Goto {
-    always: Option<Target>,
-    success: Option<Target>,
-    failure: Option<Target>,
+pub struct Goto {
+    pub always: Option<Target>,
+    pub success: Option<Target>,
+    pub failure: Option<Target>,
 }
 
 #[allow(dead_code)]
-struct Statement {
-    subject: Option<Expression>,
-    pattern: Option<Expression>,
-    object: Object,
-    goto: Option<Box<Goto>>,
+pub struct Statement {
+    pub subject: Option<Expression>,
+    pub pattern: Option<Expression>,
+    pub object: Object,
+    pub goto: Option<Box<Goto>>,
 }
 
 /// The statements' text: each line joined with its continuations, and where each card's part of it begins.
 #[derive(Default)]
-struct Joined {
+pub struct Joined {
     text: Vec<u8>,
     /// The offset and the number of each card; column 1 is its first character.
     segments: Vec<(usize, usize)>,
@@ -179,10 +182,10 @@ impl Joined {
 }
 
 /// What comes first on the cards, or the card that is refused.
-struct Cards {
+pub struct Cards {
     joined: Joined,
     /// What stands behind END, and its card.
-    end: (Vec<u8>, usize),
+    pub end: (Vec<u8>, usize),
 }
 
 fn is_control(rest: &[u8]) -> bool {
@@ -194,7 +197,7 @@ fn is_end(line: &[u8]) -> bool {
     line.starts_with(b"END") && matches!(line.get(3), None | Some(b' ' | b';'))
 }
 
-fn join(cards: &[u8]) -> Result<Cards, (usize, usize)> {
+pub fn join(cards: &[u8]) -> Result<Cards, (usize, usize)> {
     let mut joined = Joined::default();
     let mut begun = false;
     let mut card = 0;
@@ -322,6 +325,8 @@ fn lex<'a>(text: &'a [u8], from: usize, end: usize, tokens: &mut Vec<Token<'a>>)
             }
             b'(' => (Kind::Open, at + 1),
             b')' => (Kind::Close, at + 1),
+            b'<' => (Kind::Less, at + 1),
+            b'>' => (Kind::Greater, at + 1),
             b',' => (Kind::Comma, at + 1),
             b'=' => (Kind::Equals, at + 1),
             b':' => (Kind::Colon, at + 1),
@@ -330,17 +335,17 @@ fn lex<'a>(text: &'a [u8], from: usize, end: usize, tokens: &mut Vec<Token<'a>>)
                 (Kind::Mark(mark), at + if mark == Mark::Power { 2 } else { 1 })
             }
         };
-        let is_open = matches!(kind, Kind::Open);
+        let is_open = matches!(kind, Kind::Open | Kind::Less);
         if tokens.len() == MOST_TOKENS || is_open && open == MOST_OPEN {
             return Err(Refused::At(at));
         }
-        at_target = is_open && in_goto && inside == 0;
+        at_target = matches!(kind, Kind::Open) && in_goto && inside == 0;
         match kind {
-            Kind::Open => {
+            Kind::Open | Kind::Less => {
                 open += 1;
                 inside += usize::from(in_goto);
             }
-            Kind::Close => {
+            Kind::Close | Kind::Greater => {
                 open = open.saturating_sub(1);
                 inside = inside.saturating_sub(1);
             }
@@ -397,6 +402,18 @@ impl<'a> Parser<'a, '_> {
                         }
                         self.at += 1;
                         Expression::Call(name.into(), self.arguments()?)
+                    }
+                    Some(Token { kind: Kind::Less, blank_before: false, .. }) => {
+                        if needs_variable {
+                            self.note(begin);
+                        }
+                        self.at += 1;
+                        let key = self.expression(0)?;
+                        match self.peek() {
+                            Some(Token { kind: Kind::Greater, .. }) => self.at += 1,
+                            _ => return Err(Unfit),
+                        }
+                        Expression::Item(name.into(), Box::new(key))
                     }
                     _ => Expression::Identifier(name.into()),
                 }
@@ -563,7 +580,8 @@ impl<'a> Parser<'a, '_> {
             }
             if self.is_next(is_equals) {
                 let is_keyword = matches!(subject, Expression::Keyword(_)) && statement.pattern.is_none();
-                if !is_keyword && !subject.is_variable() {
+                let is_item = matches!(subject, Expression::Item(..));
+                if !is_keyword && !is_item && !subject.is_variable() {
                     self.note(0);
                 }
                 self.at += 1;
@@ -589,10 +607,10 @@ fn last_of(text: &[u8], from: usize, end: usize) -> usize {
 }
 
 #[allow(dead_code)]
-struct Program {
-    statements: Vec<Statement>,
-    labels: HashMap<Text, usize>,
-    start: Option<usize>,
+pub struct Program {
+    pub statements: Vec<Statement>,
+    pub labels: HashMap<Text, usize>,
+    pub start: Option<usize>,
 }
 
 fn label_of(text: &[u8]) -> Result<Option<&[u8]>, Unfit> {
@@ -632,7 +650,7 @@ fn read_statement<'a>(
     }
 }
 
-fn read(cards: &Cards) -> Result<Program, (usize, usize)> {
+pub fn read(cards: &Cards) -> Result<Program, (usize, usize)> {
     let joined = &cards.joined;
     let (mut statements, mut labels, mut tokens) = (Vec::new(), HashMap::new(), Vec::new());
     let mut from = 0;
