@@ -224,7 +224,7 @@ class Refused(Trying):
         whole = {sum(map(len, lines[:count])) for count in (1, 4, 7, 10, 19)}
         for end in range(len(TWO) + 1):
             try:
-                page.access_page(self.write('report', TWO[:end]), io.BytesIO())
+                page.page_of(self.write('report', TWO[:end]), io.BytesIO())
                 self.assertIn(end, whole)
             except text.Refused as refusal:
                 self.assertNotIn(end, whole)

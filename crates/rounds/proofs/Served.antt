@@ -12,13 +12,14 @@ use Rattle.deck_driver.specs.declared.options.Options.{Options}
 use Rattle.deck_driver.specs.declared.section.DeckState.{DeckState}
 use Rattle.deck_driver.specs.declared.section.DeckState.TheVariants as state
 use Rattle.deck_driver.specs.Feeds.{Outcome, Good, Bad, outcome, behind, concluded, sets_left, is_reading, more}
+use Rattle.mon_device.specs.Putting.{Standing}
 use Rattle.deck_driver.specs.Abstraction.{told, Took}
 use Rattle.deck_driver.specs.Printouts.{output_of}
 use Rattle.deck_driver.proofs.Beginnings.{nothing_printed}
 use Rattle.deck_run.specs.Runs.{deck_ending, run_state_of, counts_of, catalogue_after}
 use Rattle.intake.specs.declared.submission.Submission.{Submission}
 use Rattle.rounds.specs.Compositions.{with_fence, front_text, ends_of}
-use Rattle.rounds.specs.Serving.{whole, IsBad}
+use Rattle.rounds.specs.Serving.{whole, Fed, IsBad}
 
 -- ---- one piece
 
@@ -29,8 +30,8 @@ behind_both m a b f bytes =
     let later = outcome f.options f.counts.jobs m f.state (f.lines_taken + 1) (lines (f.line ++ bytes)) in
     ap (λ (t : List ℕ). (let o : Outcome = record { written = t; conclusion = more f.counts later.conclusion } in o)) (append_assoc a b later.written)
 
-pub took_behind : (before out : List ℕ) (f g : DeckFeed) (piece : List ℕ) → Took [] f piece out g → Took before f piece (before ++ out) g
-took_behind before out f g piece took = record {
+pub took_behind : (before out : List ℕ) (f g : DeckFeed) (piece : List ℕ) (a b : Standing) → Took [] f piece out g a b → Fed before f piece (before ++ out) g
+took_behind before out f g piece a b took = record {
   marks = took.marks;
   is = λ rest bytes.
       behind_both rest before out g bytes
@@ -39,7 +40,7 @@ took_behind before out f g piece took = record {
       ∙ ap (λ (t : List ℕ). told (took.marks ++ rest) t f (piece ++ bytes)) (append-nil before);
 }
 
-pub took_both : (a b c : List ℕ) (f g h : DeckFeed) (piece other : List ℕ) → Took a f piece b g → Took b g other c h → Took a f (piece ++ other) c h
+pub took_both : (a b c : List ℕ) (f g h : DeckFeed) (piece other : List ℕ) → Fed a f piece b g → Fed b g other c h → Fed a f (piece ++ other) c h
 took_both a b c f g h piece other first second = record {
   marks = first.marks ++ second.marks;
   is = λ rest bytes.
@@ -48,8 +49,8 @@ took_both a b c f g h piece other first second = record {
 }
 
 -- the piece was refused
-pub bad_piece : (before out : List ℕ) (f g : DeckFeed) (piece : List ℕ) (n : ℕ) (code : DeckError) → g.state ≡ state.Refused n code → Took [] f piece out g → IsBad n code before f piece
-bad_piece before out f g piece n code is took = record {
+pub bad_piece : (before out : List ℕ) (f g : DeckFeed) (piece : List ℕ) (n : ℕ) (code : DeckError) (a b : Standing) → g.state ≡ state.Refused n code → Took [] f piece out g a b → IsBad n code before f piece
+bad_piece before out f g piece n code a b is took = record {
   marks = took.marks;
   is = λ rest bytes.
       ap (λ (o : Outcome). o.conclusion) (sym (took.is rest bytes))
@@ -62,7 +63,7 @@ bad_first before f piece other n code bad = record {
   is = λ rest bytes. ap (λ (t : List ℕ). (told (bad.marks ++ rest) before f t).conclusion) (append_assoc piece other bytes) ∙ bad.is rest (other ++ bytes);
 }
 
-pub bad_then : (a b : List ℕ) (f g : DeckFeed) (piece other : List ℕ) (n : ℕ) (code : DeckError) → Took a f piece b g → IsBad n code b g other → IsBad n code a f (piece ++ other)
+pub bad_then : (a b : List ℕ) (f g : DeckFeed) (piece other : List ℕ) (n : ℕ) (code : DeckError) → Fed a f piece b g → IsBad n code b g other → IsBad n code a f (piece ++ other)
 bad_then a b f g piece other n code took bad = record {
   marks = took.marks ++ bad.marks;
   is = λ rest bytes.

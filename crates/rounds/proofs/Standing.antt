@@ -3,6 +3,7 @@ use Rattle.std.proofs.Common.{◌≡◌, ℕ, ◌+◌, ◌<◌, ◌≤◌, true,
 use Rattle.std.specs.Prelude.{codes, Result, Ok, Err, IfOk}
 use Rattle.std.proofs.lemmas.List.{drop_more, take_more}
 use Rattle.std.proofs.lemmas.List.Concat.{flat_map-append}
+use Rattle.mon_device.specs.Putting.{Standing, Puts}
 use Rattle.mon_catalogue.specs.Sets.{Sets}
 use Rattle.scheduler.specs.Marks.{Marks}
 use Rattle.deck_syntax.specs.declared.deck_error.DeckError.{DeckError}
@@ -13,7 +14,7 @@ use Rattle.deck_driver.specs.declared.feed.DeckFeed.{DeckFeed}
 use Rattle.deck_driver.specs.declared.options.Counts.{Counts}
 use Rattle.deck_driver.specs.declared.options.Options.{Options}
 use Rattle.deck_driver.specs.Feeds.{Outcome, Good, Bad, IsReadBack, is_reading}
-use Rattle.deck_driver.specs.Abstraction.{told, Took}
+use Rattle.deck_driver.specs.Abstraction.{told, audit_told}
 use Rattle.deck_driver.specs.Printouts.{output_of, ReadsBack}
 use Rattle.deck_run.specs.Runs.{deck_ending}
 use Rattle.intake.specs.declared.submission.Submission.{Submission}
@@ -23,11 +24,11 @@ use Rattle.rounds.specs.declared.running.RoundError.TheVariants as round_error
 use Rattle.rounds.specs.declared.running.Running.{Running}
 use Rattle.rounds.specs.Compositions.{with_fence, front_text, round_text, ends_of, cut_at}
 use Rattle.rounds.specs.Laws.{EachItsPart}
-use Rattle.rounds.specs.Serving.{whole, Stands, IsBad, IsBadAtEnd, Finishes, IsServed, HasEnded}
+use Rattle.rounds.specs.Serving.{whole, Stands, Fed, IsBad, IsBadAtEnd, Finishes, IsServed, HasEnded}
 use Rattle.rounds.proofs.Served.{behind_both, nothing_more, ends_more, front_more, ends_bad, ends_good}
 
 -- the head was served
-pub head_stands : (options : Options) (head : List ℕ) (r r' : Running) → Stands options [] [] r → Took r.output.items r.feed head r'.output.items r'.feed → r'.ends.items ≡ r.ends.items
+pub head_stands : (options : Options) (head : List ℕ) (r r' : Running) → Stands options [] [] r → Fed r.output.items r.feed head r'.output.items r'.feed → r'.ends.items ≡ r.ends.items
     → r'.printed ≡ [] → r'.feed.fed ≡ r.feed.fed + length head → r'.feed.options ≡ r.feed.options → IsReadBack r'.feed.options.check r'.feed.state → Stands options head [] r'
 head_stands options head r r' s took same_ends empty fed options_are back = record {
   marks = s.marks ++ took.marks;
@@ -43,7 +44,7 @@ head_stands options head r r' s took same_ends empty fed options_are back = reco
 
 -- a text and its fence were served
 pub goes_further : (options : Options) (head : List ℕ) (done : List Submission) (one : Submission) (r r' : Running) → Stands options head done r
-    → Took r.output.items r.feed (with_fence one) r'.output.items r'.feed → (is_reading r'.feed.state ≡ true → r'.feed.line ≡ [])
+    → Fed r.output.items r.feed (with_fence one) r'.output.items r'.feed → (is_reading r'.feed.state ≡ true → r'.feed.line ≡ [])
     → r'.ends.items ≡ r.ends.items ++ length r'.output.items ∷ [] → r'.printed ≡ [] → r'.feed.fed ≡ r.feed.fed + length (with_fence one)
     → r'.feed.options ≡ r.feed.options → IsReadBack r'.feed.options.check r'.feed.state → Stands options head (done ++ one ∷ []) r'
 goes_further options head done one r r' s took settled more_ends empty fed options_are back =
@@ -75,7 +76,7 @@ goes_further options head done one r r' s took settled more_ends empty fed optio
 
 -- the end was served: what comes of the deck is what comes of its end
 whole_at_end : (options : Options) (head : List ℕ) (done : List Submission) (r : Running) (out : List ℕ) (g : DeckFeed) (marks : Marks) → Stands options head done r
-    → Took r.output.items r.feed (codes "$STOP\n") out g
+    → Fed r.output.items r.feed (codes "$STOP\n") out g
     → (m : Marks) × (whole options m (round_text head done) ≡ record { written = out ++ (told (marks ++ []) [] g []).written; conclusion = (told (marks ++ []) [] g []).conclusion })
     × (r.ends.items ≡ ends_of options m head done)
 whole_at_end options head done r out g marks s took =
@@ -87,7 +88,7 @@ whole_at_end options head done r out g marks s took =
     )
 
 comes_to_end : (options : Options) (head : List ℕ) (done : List Submission) (r r' : Running) (round : Round) → Stands options head done r
-    → Took r.output.items r.feed (codes "$STOP\n") r'.output.items r'.feed → IsReadBack r'.feed.options.check r'.feed.state → r'.feed.options ≡ r.feed.options
+    → Fed r.output.items r.feed (codes "$STOP\n") r'.output.items r'.feed → IsReadBack r'.feed.options.check r'.feed.state → r'.feed.options ≡ r.feed.options
     → r'.ends.items ≡ r.ends.items → Finishes r' round → round.ends.items ≡ r'.ends.items → (m : Marks) × HasEnded options m head done round
 comes_to_end options head done r r' round s took back options_are same_ends f ends =
     let at = whole_at_end options head done r r'.output.items r'.feed f.marks s took in
@@ -105,29 +106,31 @@ comes_to_end options head done r r' round s took back options_are same_ends f en
 
 -- the end was served, and the deck is refused there
 pub refused_at_end : (options : Options) (head : List ℕ) (done : List Submission) (r r' : Running) (n : ℕ) (code : DeckError) → Stands options head done r
-    → Took r.output.items r.feed (codes "$STOP\n") r'.output.items r'.feed → IsBadAtEnd n code r'.feed → deck_ending (round_text head done) ≡ Refused n code
+    → Fed r.output.items r.feed (codes "$STOP\n") r'.output.items r'.feed → IsBadAtEnd n code r'.feed → deck_ending (round_text head done) ≡ Refused n code
 refused_at_end options head done r r' n code s took bad =
     let at = whole_at_end options head done r r'.output.items r'.feed bad.marks s took in
     ends_bad options at.0 (round_text head done) n code (ap (λ (o : Outcome). o.conclusion) at.1 ∙ bad.is [])
 
 -- what the last call of the feed answers
-pub finishes : (r : Running) (round : Round) (printed printed' : List ℕ) (counts : Counts) → printed ≡ []
+pub finishes : (r : Running) (round : Round) (printed printed' : List ℕ) (counts : Counts) (a b : Standing) → printed ≡ []
     → ((marks : Marks) × (sets : Sets) × ((rest : Marks) → told (marks ++ rest) printed r.feed [] ≡ record { written = printed'; conclusion = Good counts sets })
+    × (audited : List ℕ) × ((rest : Marks) → audit_told (marks ++ rest) r.feed [] ≡ audited) × Puts a b audited
     × (IsReadBack r.feed.options.check r.feed.state → r.feed.options.check ≡ false → ReadsBack sets))
     → round.output.items ≡ r.output.items ++ printed' → Finishes r round
-finishes r round printed printed' counts none ended output = record {
+finishes r round printed printed' counts a b none ended output = record {
   marks = ended.0;
   written = printed';
   counts = counts;
   sets = ended.1;
   is = λ rest. ap (λ (t : List ℕ). told (ended.0 ++ rest) t r.feed []) (sym none) ∙ ended.2 rest;
-  reads_back = ended.3;
+  reads_back = ended.6;
   output = output;
 }
 
-pub bad_at_end : (f : DeckFeed) (printed printed' : List ℕ) (n : ℕ) (code : DeckError) → printed ≡ []
-    → ((marks : Marks) × ((rest : Marks) → told (marks ++ rest) printed f [] ≡ record { written = printed'; conclusion = Bad n code })) → IsBadAtEnd n code f
-bad_at_end f printed printed' n code none bad = record {
+pub bad_at_end : (f : DeckFeed) (printed printed' : List ℕ) (n : ℕ) (code : DeckError) (a b : Standing) → printed ≡ []
+    → ((marks : Marks) × ((rest : Marks) → told (marks ++ rest) printed f [] ≡ record { written = printed'; conclusion = Bad n code })
+    × (audited : List ℕ) × ((rest : Marks) → audit_told (marks ++ rest) f [] ≡ audited) × Puts a b audited) → IsBadAtEnd n code f
+bad_at_end f printed printed' n code a b none bad = record {
   marks = bad.0;
   is = λ rest. ap (λ (o : Outcome). o.conclusion) (ap (λ (t : List ℕ). told (bad.0 ++ rest) t f []) (sym none) ∙ bad.1 rest);
 }
@@ -145,7 +148,7 @@ is_served each_its_part options m head submissions round ended = record {
 
 -- a round that is answered has ended
 pub ends_so : (options : Options) (head : List ℕ) (done : List Submission) (r r' : Running) (result : Result Round RunError) → Stands options head done r
-    → Took r.output.items r.feed (codes "$STOP\n") r'.output.items r'.feed → IsReadBack r'.feed.options.check r'.feed.state → r'.feed.options ≡ r.feed.options
+    → Fed r.output.items r.feed (codes "$STOP\n") r'.output.items r'.feed → IsReadBack r'.feed.options.check r'.feed.state → r'.feed.options ≡ r.feed.options
     → r'.ends.items ≡ r.ends.items → IfOk result (λ round. round.ends.items ≡ r'.ends.items) → IfOk result (Finishes r')
     → IfOk result (λ round. (m : Marks) × HasEnded options m head done round)
 ends_so options head done r r' (Err error) s took back options_are same_ends ends f = tt

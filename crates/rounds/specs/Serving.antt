@@ -51,6 +51,12 @@ pub record Stands (options : Options) (head : List ℕ) (submissions : List Subm
   pub options_are : running.feed.options ≡ options
   pub back : IsReadBack running.feed.options.check running.feed.state
 
+-- A feed was given a piece: with some marks for the turns in it, what was put out and what the feed stands for are, with whatever marks and
+-- bytes follow, what they were with the piece and these. (Nobody listens to the audit of a round.)
+pub record Fed (before : List ℕ) (f : DeckFeed) (piece after : List ℕ) (g : DeckFeed) : Type 0 where
+  pub marks : Marks
+  pub is : (rest : Marks) (bytes : List ℕ) → told rest after g bytes ≡ told (marks ++ rest) before f (piece ++ bytes)
+
 -- with some marks for the turns in it, the deck is refused in this piece, whatever follows
 pub record IsBad (n : ℕ) (code : DeckError) (before : List ℕ) (f : DeckFeed) (piece : List ℕ) : Type 0 where
   pub marks : Marks

@@ -7,14 +7,14 @@ ghost use Rattle.deck_syntax.specs.declared.deck_error.DeckError.{DeckError as A
 ghost use Rattle.deck_syntax.specs.Decks.{Refused};
 ghost use Rattle.deck_driver.specs.declared.options.Options.{Options as AnyOptions};
 ghost use Rattle.deck_driver.specs.Feeds.{EndsLine, IsReadBack, is_reading};
-ghost use Rattle.deck_driver.specs.Abstraction.{Took};
 ghost use Rattle.deck_run.specs.Runs.{deck_ending};
 ghost use Rattle.intake.specs.declared.submission.Submission.{Submission as AnySubmission};
 ghost use Rattle.intake.specs.Rounds.{Handed};
 ghost use Rattle.rounds.specs.Compositions.{with_fence, front_text, round_text, IsGoodRound};
-ghost use Rattle.rounds.specs.Serving.{IsServed, Stands, IsBad, IsBadAtEnd, Finishes, HasEnded};
+ghost use Rattle.rounds.specs.Serving.{IsServed, Stands, Fed, IsBad, IsBadAtEnd, Finishes, HasEnded};
 
 use deck_driver::{DeckFeed, Options, RunError};
+use deck_run::NoAudit;
 use deck_syntax::DeckError;
 use intake::Submission;
 use mon_device::TextSink;
@@ -212,7 +212,8 @@ fn finish_round(running: Running, alloc: Global) -> Result<Round, RunError>
         mut output,
         ends,
     } = running;
-    feed.finish(alloc, &mut printed)?;
+    let mut nobody = NoAudit;
+    feed.finish(alloc, &mut printed, &mut nobody)?;
     move_out(&mut printed, &mut output)?;
     Ok(Round { output, ends })
 }
@@ -221,7 +222,7 @@ fn finish_round(running: Running, alloc: Global) -> Result<Round, RunError>
 fn serve(running: &mut Running, alloc: Global, piece: &[u8]) -> Result<(), RunError>
     requires few { running.old.feed.fed + length piece.now < 2 ^ 63 }
     requires empty { running.old.printed ≡ [] }
-    ensures told { OnOk result (Took running.old.output.items running.old.feed piece.now running.new.output.items running.new.feed) }
+    ensures told { OnOk result (Fed running.old.output.items running.old.feed piece.now running.new.output.items running.new.feed) }
     ensures refused { (n : ℕ) (code : AnyCode) → result ≡ Err (RunError.DeckRefused n code) → IsBad n code running.old.output.items running.old.feed piece.now }
     ensures settled { EndsLine piece.now → OnOk result (is_reading running.new.feed.state ≡ true → running.new.feed.line ≡ []) }
     ensures empty { OnOk result (running.new.printed ≡ []) }
@@ -230,7 +231,10 @@ fn serve(running: &mut Running, alloc: Global, piece: &[u8]) -> Result<(), RunEr
     ensures fed { OnOk result (running.new.feed.fed ≡ running.old.feed.fed + length piece.now) }
     ensures reads_back { IsReadBack running.old.feed.options.check running.old.feed.state → OnOk result (IsReadBack running.new.feed.options.check running.new.feed.state) }
 {
-    running.feed.feed(alloc, piece, &mut running.printed)?;
+    let mut nobody = NoAudit;
+    running
+        .feed
+        .feed(alloc, piece, &mut running.printed, &mut nobody)?;
     move_out(&mut running.printed, &mut running.output)?;
     Ok(())
 }

@@ -3,6 +3,7 @@ use Rattle.std.specs.Prelude.{◌≡◌, ℕ, List, Option, is_some, Result, Err
 use Rattle.deck_syntax.specs.declared.deck_error.DeckError.{DeckError}
 use Rattle.deck_syntax.specs.Decks.{Stopped, Refused}
 use Rattle.mon_device.specs.Devices.{IsAtEnd}
+use Rattle.mon_device.specs.Putting.{Standing}
 use Rattle.mon_device.specs.Telling.{where_told}
 use Rattle.deck_driver.specs.declared.fault.RunError.{RunError}
 use Rattle.deck_driver.specs.declared.fault.RunError.TheVariants.{DeckRefused, ReadFault, Memory}
@@ -15,15 +16,15 @@ use Rattle.deck_run.specs.declared.shortage.Shortage.{Shortage}
 abbrev pub told_since : Option (List ℕ) → Option (List ℕ) → Option (List ℕ)
 told_since first now = where_told (is_some first) now
 
--- How a run of a deck comes out, by what its reader told and has left, what its writer held and holds now, and how far the run had
--- come where memory ran out: what `run_deck_noting` says of its devices.
-pub record Comes (options : Options) (told left held now : Option (List ℕ)) (outcome : Result Counts RunError) (shortage : Shortage) : Type 0 where
+-- How a run of a deck comes out, by what its reader told and has left, what its writer held and holds now, how its audit stood and stands,
+-- and how far the run had come where memory ran out: what `run_deck_noting` says of its devices.
+pub record Comes (options : Options) (told left held now : Option (List ℕ)) (a b : Standing) (outcome : Result Counts RunError) (shortage : Shortage) : Type 0 where
   pub at_end : OnOk outcome (IsAtEnd left)
   pub stopped : OnOk outcome (IfSome told (λ bytes. deck_ending bytes ≡ Stopped))
-  pub output : OnOk outcome (IfSome told (λ bytes. HasRun options held now bytes))
+  pub output : OnOk outcome (IfSome told (λ bytes. HasRun options held now bytes a b))
   pub counts : IfOk outcome (λ counts. IfSome told (λ bytes. counts ≡ counts_of bytes))
   pub refused : (line : ℕ) (code : DeckError) → outcome ≡ Err (DeckRefused line code) → IfSome told (λ bytes. deck_ending bytes ≡ Refused line code)
-  pub refused_output : (line : ℕ) (code : DeckError) → outcome ≡ Err (DeckRefused line code) → IfSome told (λ bytes. HasWritten options held now bytes)
-  pub begun : HasBegun options told left held now
-  pub due : outcome ≡ Err ReadFault → HasPrinted options told left held now
-  pub short : outcome ≡ Err Memory → HasBrokenOffAt options shortage.line told left held now
+  pub refused_output : (line : ℕ) (code : DeckError) → outcome ≡ Err (DeckRefused line code) → IfSome told (λ bytes. HasWritten options held now bytes a b)
+  pub begun : HasBegun options told left held now a b
+  pub due : outcome ≡ Err ReadFault → HasPrinted options told left held now a b
+  pub short : outcome ≡ Err Memory → HasBrokenOffAt options shortage.line told left held now a b

@@ -3,7 +3,7 @@
 use crate::block::{put_line, text_of};
 use crate::text::examined;
 use anyhow::{Context, Result, bail, ensure};
-use deck_run::{Devices, MemReader, MemWriter, Options, Slots, run_deck};
+use deck_run::{Devices, MemReader, MemWriter, NoAudit, Options, Slots, run_deck};
 use intake::Submission;
 use mon_catalogue::{Catalogue, Version, read_text};
 use mon_text::{Line, read_line};
@@ -100,7 +100,7 @@ fn serve(
 fn prints(alloc: Global, options: Options, deck: &[u8], output: &[u8]) -> Result<bool, AllocError> {
     let writer = MemWriter::new(alloc, output.len())?;
     let mut devices = Devices::new(MemReader::new(deck), writer);
-    let is_good = run_deck(alloc, &mut devices, options).is_ok();
+    let is_good = run_deck(alloc, &mut devices, options, &mut NoAudit).is_ok();
     Ok(is_good && devices.writer.as_bytes() == output)
 }
 

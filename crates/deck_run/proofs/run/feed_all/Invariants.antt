@@ -9,7 +9,7 @@ abbrev pub invariant-loop-read : goal.invariant-loop-read
 invariant-loop-read g l = record {
   buffer : vec_len l.buffer ≡ 65536;
   empty : l.out.printed ≡ [];
-  runs : (given : List ℕ) × Runs (g.D.DeckDevices.remaining l.fn.devices) (g.D.DeckDevices.remaining l.devices) (g.D.DeckDevices.written l.fn.devices) (g.D.DeckDevices.written l.devices) l.fn.feed l.feed given
+  runs : (given : List ℕ) × Runs (g.D.DeckDevices.remaining l.fn.devices) (g.D.DeckDevices.remaining l.devices) (g.D.DeckDevices.written l.fn.devices) (g.D.DeckDevices.written l.devices) l.fn.feed l.feed given (g.A.Sink.standing l.fn.audit) (g.A.Sink.standing l.audit)
       × IsDue 1 l.shortage.line l.feed given;
   lines : l.shortage.line ≤ l.feed.fed + 1;
   reads : HasRead l._read (g.D.DeckDevices.reads l.fn.devices) (g.D.DeckDevices.reads l.devices);

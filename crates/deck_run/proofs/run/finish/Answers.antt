@@ -10,27 +10,27 @@ returns-in-Ok-clause-ended g c =
     let held = g.D.DeckDevices.written c.args.devices.now in
     let now = g.D.DeckDevices.written c.write_out.new.devices in
     let all : now ≡ holding held c.finish-answer.new.out = c.in-Ok.ensures.all in
-    finish_ended held now _ c.finish-answer.new.out c.args.feed c.requires.empty all c.finish-answer.result c.finish-answer.ensures.ended
+    finish_ended held now _ c.finish-answer.new.out c.args.feed c.requires.empty _ _ all c.finish-answer.result c.finish-answer.ensures.ended
 
 pub returns-in-Ok-clause-refused : goal.returns-in-Ok-clause-refused
 returns-in-Ok-clause-refused g c = λ n code same.
     let held = g.D.DeckDevices.written c.args.devices.now in
     let now = g.D.DeckDevices.written c.write_out.new.devices in
     let all : now ≡ holding held c.finish-answer.new.out = c.in-Ok.ensures.all in
-    finish_refused held now _ c.finish-answer.new.out c.args.feed c.requires.empty all n code (c.finish-answer.ensures.refused n code same)
+    finish_refused held now _ c.finish-answer.new.out c.args.feed c.requires.empty _ _ all n code (c.finish-answer.ensures.refused n code same)
 
 pub returns-in-Ok-clause-begun : goal.returns-in-Ok-clause-begun
 returns-in-Ok-clause-begun g c =
     let held = g.D.DeckDevices.written c.args.devices.now in
     let now = g.D.DeckDevices.written c.write_out.new.devices in
-    finish_begun held now _ c.finish-answer.new.out c.args.feed c.requires.empty
+    finish_begun held now _ c.finish-answer.new.out c.args.feed c.requires.empty _ _
     c.write_out.ensures.taken c.finish-answer.ensures.begun
 
 pub returns-in-Err-clause-begun : goal.returns-in-Err-clause-begun
 returns-in-Err-clause-begun g c =
     let held = g.D.DeckDevices.written c.args.devices.now in
     let now = g.D.DeckDevices.written c.write_out.new.devices in
-    finish_begun held now _ c.finish-answer.new.out c.args.feed c.requires.empty
+    finish_begun held now _ c.finish-answer.new.out c.args.feed c.requires.empty _ _
     c.write_out.ensures.taken c.finish-answer.ensures.begun
 
 pub returns-in-Ok-clause-short : goal.returns-in-Ok-clause-short
@@ -39,4 +39,6 @@ returns-in-Ok-clause-short g c = λ short. (
   c.in-Ok.ensures.all
       ∙ ap (λ (items : List ℕ). holding (g.D.DeckDevices.written c.args.devices.now) items) (c.finish-answer.ensures.short short ∙ c.requires.empty)
       ∙ holding-nothing (g.D.DeckDevices.written c.args.devices.now),
+  c.finish-answer.ensures.begun.2,
+  c.finish-answer.ensures.begun.4,
 )

@@ -11,34 +11,34 @@ use Rattle.deck_run.proofs.run.serve.Goals as goal
 
 pub returns-in_err-used-clause-begun : goal.returns-in_err-used-clause-begun
 returns-in_err-used-clause-begun g c =
-    starts_far _ (g.D.DeckDevices.written c.lines.devices) c.lines.out.printed _ c.lines.feed _ c.lines.rest.now c.lines.invariant.far
-    (g.D.DeckDevices.written c.serve_line.new.devices) c.lines.invariant.grown c.serve_line.ensures.begun
+    starts_far _ (g.D.DeckDevices.written c.lines.devices) c.lines.out.printed _ c.lines.feed _ c.lines.rest.now _ _ c.lines.invariant.far
+    (g.D.DeckDevices.written c.serve_line.new.devices) _ c.lines.invariant.grown c.serve_line.ensures.begun
 
 pub returns-in_err-used-clause-refused : goal.returns-in_err-used-clause-refused
 returns-in_err-used-clause-refused g c = λ n code same.
     let so : ◌≡◌ {A = Result ℕ RunError} c.serve_line.result (Err (DeckRefused n code)) = search (rules, same) in
-    refuses_far _ (g.D.DeckDevices.written c.lines.devices) c.lines.out.printed _ c.lines.feed _ c.lines.rest.now c.lines.invariant.far _ n code (c.serve_line.ensures.refused n code so)
+    refuses_far _ (g.D.DeckDevices.written c.lines.devices) c.lines.out.printed _ c.lines.feed _ c.lines.rest.now _ _ c.lines.invariant.far _ n code _ (c.serve_line.ensures.refused n code so)
 
 pub returns-in_err-used-clause-short : goal.returns-in_err-used-clause-short
 returns-in_err-used-clause-short g c = λ short.
     let so : ◌≡◌ {A = Result ℕ RunError} c.serve_line.result (Err Memory) = search (rules, short) in
     let at = c.serve_line.ensures.short so in
-    breaks_off _ (g.D.DeckDevices.written c.lines.devices) c.lines.out.printed _ c.lines.feed _ c.lines.rest.now c.lines.invariant.far _
-    c.args.shortage.now.line c.lines.shortage.line at.0 at.1 c.lines.invariant.due
+    breaks_off _ (g.D.DeckDevices.written c.lines.devices) c.lines.out.printed _ c.lines.feed _ c.lines.rest.now _ _ c.lines.invariant.far _
+    c.args.shortage.now.line c.lines.shortage.line _ at.2 at.0 at.1 c.lines.invariant.due at.3
 
 pub returns-in-Ok-clause-begun : goal.returns-in-Ok-clause-begun
 returns-in-Ok-clause-begun g c =
-    starts_far _ (g.D.DeckDevices.written c.lines.devices) c.lines.out.printed _ c.lines.feed _ c.lines.rest.now c.lines.invariant.far
-    (g.D.DeckDevices.written c.flush.new.devices) c.lines.invariant.grown (all_told _ _ c.lines.out.printed c.lines.feed c.lines.rest.now c.flush.ensures.begun)
+    starts_far _ (g.D.DeckDevices.written c.lines.devices) c.lines.out.printed _ c.lines.feed _ c.lines.rest.now _ _ c.lines.invariant.far
+    (g.D.DeckDevices.written c.flush.new.devices) _ c.lines.invariant.grown (all_told _ _ c.lines.out.printed c.lines.feed c.lines.rest.now _ c.flush.ensures.begun)
 
 pub returns-in-Err-clause-begun : goal.returns-in-Err-clause-begun
 returns-in-Err-clause-begun g c =
-    starts_far _ (g.D.DeckDevices.written c.lines.devices) c.lines.out.printed _ c.lines.feed _ c.lines.rest.now c.lines.invariant.far
-    (g.D.DeckDevices.written c.flush.new.devices) c.lines.invariant.grown (all_told _ _ c.lines.out.printed c.lines.feed c.lines.rest.now c.flush.ensures.begun)
+    starts_far _ (g.D.DeckDevices.written c.lines.devices) c.lines.out.printed _ c.lines.feed _ c.lines.rest.now _ _ c.lines.invariant.far
+    (g.D.DeckDevices.written c.flush.new.devices) _ c.lines.invariant.grown (all_told _ _ c.lines.out.printed c.lines.feed c.lines.rest.now _ c.flush.ensures.begun)
 
 pub returns-in-Ok-clause-served : goal.returns-in-Ok-clause-served
 returns-in-Ok-clause-served g c =
-    all_taken _ (g.D.DeckDevices.written c.lines.devices) c.lines.out.printed _ _ _ c.lines.rest.now c.lines.invariant.far _ c.flush.new.out.printed
+    all_taken _ (g.D.DeckDevices.written c.lines.devices) c.lines.out.printed _ _ _ c.lines.rest.now _ _ c.lines.invariant.far _ c.flush.new.out.printed
     (nothing_kept c.lines.rest.now (sym c.is_empty.ensures ∙ c.lines-test.false)) c.in-Ok.ensures.put c.in-Ok.ensures.empty
 
 pub returns-in-Ok-clause-due : goal.returns-in-Ok-clause-due
@@ -48,7 +48,7 @@ returns-in-Ok-clause-due g c = λ reading.
 
 pub lines-init : goal.lines-init
 lines-init g c = record {
-  far = far_at_start _ _ _ _ c.requires.empty c.requires.reading;
+  far = far_at_start _ _ _ _ _ c.requires.empty c.requires.reading;
   grown = not_grown (g.D.DeckDevices.written c.args.devices.now);
   due = λ reading. refl;
   lines = c.requires.lines;
@@ -72,9 +72,9 @@ lines-preserved g c =
     omega (arith, c.in_ok-used.ensures.used.1, c.in_ok-used.ensures.used.2, length-drop used rest, c.lines.invariant.fed) in
     let line : c.pass.new.self.line ≡ c.lines.shortage.line + ended_by (take used rest) = c.pass.ensures.line ∙ ap (λ (n : ℕ). n + ended_by (take used rest)) c.look.ensures.line in
     record {
-      far = subst (λ (v : List ℕ). Far held now c.serve_line.new.out.printed c.args.feed.now feed c.args.piece.now v) (sym (take_rest rest used))
-          (further held (g.D.DeckDevices.written c.lines.devices) c.lines.out.printed c.args.feed.now c.lines.feed c.args.piece.now rest c.lines.invariant.far
-          now c.serve_line.new.out.printed feed used c.in_ok-used.ensures.served c.in_ok-used.ensures.counted c.in_ok-used.ensures.reading);
+      far = subst (λ (v : List ℕ). Far held now c.serve_line.new.out.printed c.args.feed.now feed c.args.piece.now v (g.A.Sink.standing c.args.audit.now) (g.A.Sink.standing c.serve_line.new.audit)) (sym (take_rest rest used))
+          (further held (g.D.DeckDevices.written c.lines.devices) c.lines.out.printed c.args.feed.now c.lines.feed c.args.piece.now rest _ _ c.lines.invariant.far
+          now c.serve_line.new.out.printed feed used _ c.in_ok-used.ensures.served c.in_ok-used.ensures.counted c.in_ok-used.ensures.reading);
       grown = grown_further _ _ _ c.lines.invariant.grown c.serve_line.ensures.grown;
       due = λ reading.
           subst (λ (v : List ℕ). c.pass.new.self.line + lines_ended v ≡ c.args.shortage.now.line + lines_ended c.args.piece.now) (sym (take_rest rest used))

@@ -8,7 +8,8 @@ use Rattle.deck_run.proofs.run.serve.Given as goal
 
 abbrev pub invariant-lines : goal.invariant-lines
 invariant-lines g l = record {
-  far : Far (g.D.DeckDevices.written l.fn.devices) (g.D.DeckDevices.written l.devices) l.out.printed l.fn.feed l.feed l.fn.piece l.rest;
+  far : Far (g.D.DeckDevices.written l.fn.devices) (g.D.DeckDevices.written l.devices) l.out.printed l.fn.feed l.feed l.fn.piece l.rest
+      (g.A.Sink.standing l.fn.audit) (g.A.Sink.standing l.audit);
   grown : HasGrown (g.D.DeckDevices.written l.fn.devices) (g.D.DeckDevices.written l.devices);
   due : is_reading l.feed.state ≡ true → l.shortage.line + lines_ended l.rest ≡ l.fn.shortage.line + lines_ended l.fn.piece;
   lines : l.shortage.line ≤ l.feed.fed + 1;

@@ -6,12 +6,12 @@ use Rattle.deck_driver.specs.declared.section.DeckState.{DeckState}
 use Rattle.deck_driver.specs.Feeds.{behind, outcome, stopped_by}
 use Rattle.deck_driver.proofs.Telling.{refused_so}
 use Rattle.deck_run.proofs.Holdings.{still_read, serves_written, refused_holds, starts_written, has_grown}
-use Rattle.deck_run.proofs.Running.{memory_so}
+use Rattle.deck_run.proofs.Running.{memory_so, silent_put}
 use Rattle.deck_run.proofs.run.serve_line.Goals as goal
 
 pub returns-in-Ok-flush_large-clause-served : goal.returns-in-Ok-flush_large-clause-served
 returns-in-Ok-flush_large-clause-served g c =
-    serves_written (g.D.DeckDevices.written c.args.devices.now) (g.D.DeckDevices.written c.flush_large.new.devices) _ c.feed_line.new.out c.flush_large.new.out.printed _ _ _
+    serves_written (g.D.DeckDevices.written c.args.devices.now) (g.D.DeckDevices.written c.flush_large.new.devices) _ c.feed_line.new.out c.flush_large.new.out.printed _ _ _ _ _
     c.in-Ok.ensures.told c.in-Ok-flush_large.ensures.put
 
 pub returns-in-Ok-write_out-clause-refused : goal.returns-in-Ok-write_out-clause-refused
@@ -26,22 +26,25 @@ returns-in-Ok-write_out-clause-refused g c = λ n code same.
           c.in-Ok-write_out.ensures.all
           (sym (ap (λ (s : DeckState). behind c.feed_line.new.out after.counts (outcome after.options after.counts.jobs rest s (after.lines_taken + 1) (lines (after.line ++ bytes)))) failed)
           ∙ c.feed_line.ensures.refused n code so rest bytes);
+      audit = [];
+      tells = λ rest bytes. ((c.feed_line.ensures.silent n code so).1 rest bytes).1;
+      audited = silent_put _ _ (c.feed_line.ensures.silent n code so).0;
     }
 
 pub returns-in-Ok-flush_large-clause-begun : goal.returns-in-Ok-flush_large-clause-begun
-returns-in-Ok-flush_large-clause-begun g c = starts_written _ _ _ c.feed_line.new.out _ _ c.feed_line.ensures.begun c.flush_large.ensures.begun
+returns-in-Ok-flush_large-clause-begun g c = starts_written _ _ _ c.feed_line.new.out _ _ _ _ c.feed_line.ensures.begun c.flush_large.ensures.begun
 
 pub returns-in-Err-flush_large-clause-begun : goal.returns-in-Err-flush_large-clause-begun
-returns-in-Err-flush_large-clause-begun g c = starts_written _ _ _ c.feed_line.new.out _ _ c.feed_line.ensures.begun c.flush_large.ensures.begun
+returns-in-Err-flush_large-clause-begun g c = starts_written _ _ _ c.feed_line.new.out _ _ _ _ c.feed_line.ensures.begun c.flush_large.ensures.begun
 
 pub returns-in-Ok-write_out-clause-begun : goal.returns-in-Ok-write_out-clause-begun
 returns-in-Ok-write_out-clause-begun g c =
-    starts_written _ _ _ c.feed_line.new.out _ _ c.feed_line.ensures.begun
+    starts_written _ _ _ c.feed_line.new.out _ _ _ _ c.feed_line.ensures.begun
     c.write_out.ensures.taken
 
 pub returns-in-Err-write_out-clause-begun : goal.returns-in-Err-write_out-clause-begun
 returns-in-Err-write_out-clause-begun g c =
-    starts_written _ _ _ c.feed_line.new.out _ _ c.feed_line.ensures.begun
+    starts_written _ _ _ c.feed_line.new.out _ _ _ _ c.feed_line.ensures.begun
     c.write_out.ensures.taken
 
 pub returns-in-Ok-flush_large-clause-grown : goal.returns-in-Ok-flush_large-clause-grown
@@ -61,4 +64,6 @@ returns-in-Ok-write_out-clause-short g c = λ short.
     let so : ◌≡◌ {A = Result ℕ RunError} c.feed_line.result _ = c.in-Err.is ∙ memory_so c.in-Err.error short in (
       still_read c.args.feed.now.state c.args.piece.now c.requires.reading (c.feed_line.ensures.memory so),
       c.in-Ok-write_out.ensures.all ∙ ap (λ (items : List ℕ). holding (g.D.DeckDevices.written c.args.devices.now) items) c.in-Err.ensures.nothing,
+      c.feed_line.ensures.begun.audit,
+      c.feed_line.ensures.begun.audited,
     )

@@ -1,9 +1,8 @@
 use Rattle.std.proofs.Common.{◌++◌, [], ◌∷◌, List, ℕ, Err, length, refl, sym, ap, subst, ap₂, ◌∙◌, arith, length-append}
 use Rattle.std.specs.Prelude.{codes}
 use Rattle.std.proofs.lemmas.Result.{err_from_is_err_and}
-use Rattle.deck_driver.specs.Abstraction.{Took}
 use Rattle.rounds.specs.Compositions.{fence}
-use Rattle.rounds.specs.Serving.{IsBad}
+use Rattle.rounds.specs.Serving.{Fed, IsBad}
 use Rattle.rounds.proofs.Served.{took_both, bad_first, bad_then}
 use Rattle.rounds.proofs.Standing.{goes_further}
 use Rattle.rounds.proofs.running.serve_text.Goals as goal
@@ -30,7 +29,7 @@ returns-in-Ok-clause-stands c = λ options head done s.
     let both =
     took_both c.args.running.now.output.items first.output.items second.output.items c.args.running.now.feed first.feed second.feed c.deref.result.now fence
     c.in_ok-serve.ensures.told c.in_ok-serve-2.ensures.told in
-    let took = subst (λ (piece : List ℕ). Took c.args.running.now.output.items c.args.running.now.feed (piece ++ fence) second.output.items second.feed) c.deref.ensures.value both in
+    let took = subst (λ (piece : List ℕ). Fed c.args.running.now.output.items c.args.running.now.feed (piece ++ fence) second.output.items second.feed) c.deref.ensures.value both in
     goes_further options head done c.args.text.now c.args.running.now _ s took (c.in_ok-serve-2.ensures.settled (codes "$DRAIN", refl))
     (c.in-Ok.ensures.items
     ∙ ap₂ (λ (ends : List ℕ) (long : ℕ). ends ++ long ∷ []) (c.serve-2.ensures.ends ∙ c.serve.ensures.ends) (c.len.ensures ∙ second.output.ok.0))
