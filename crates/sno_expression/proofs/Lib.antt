@@ -7,5 +7,5 @@ pub mod Spines
 pub mod Grammar
 pub mod Loop
 mod Examples
-pub mod Tested
+pub mod Blanks
 pub mod Runs

@@ -3,7 +3,7 @@ use Rattle.std.proofs.Common.{◌≡◌, ℕ, suc, ◌+◌, ◌<◌, length, Lis
 use Rattle.std.specs.Prelude.{Bool, Option, Some, None}
 use Rattle.sno_lexer.specs.declared.token.Token.{Token}
 use Rattle.sno_expression.specs.Expressions.{Expression}
-use Rattle.sno_expression.specs.inner.Reading.{State, read, result, Reading, Read, and_then, answer}
+use Rattle.sno_expression.specs.inner.Reading.{State, read, result, Reading, Read, and_then, answer, Halt, halted, noted, and_halt, halt}
 use Rattle.sno_expression.specs.inner.Told.{Next, End, stepped}
 
 pub more : (ts : List Token) (i : ℕ) (t : Token) → i < length ts → t ≡ get_or ts i t → drop i ts ≡ t ∷ drop (i + 1) ts
@@ -44,3 +44,20 @@ at_end alone s u ts rest a d f e h =
     ap (λ (l : List Token). Read u l) f
     ∙ (ap (λ (o : Option Expression). Read o []) e
     ∙ (sym (ap (answer alone s) d) ∙ sym h))
+
+-- the same of where it halts
+pub halts_next : (alone : Bool) (s v : State) (t : Token) (ts m : List Token) (n o : Option ℕ) (i : ℕ) (h : Halt) → ts ≡ t ∷ m
+    → Next v ≡ stepped (read alone s t) (result s) → o ≡ noted n i s t → h ≡ halt alone n i s ts → h ≡ halt alone o (i + 1) v m
+halts_next alone s v t ts m n o i h d e f g =
+    g ∙ (ap (halt alone n i s) d
+    ∙ (ap (λ (r : Option State). and_halt r (halted n i s) (λ x. halt alone (noted n i s t) (i + 1) x m)) (next_step (read alone s t) (result s) v e)
+    ∙ sym (ap (λ (x : Option ℕ). halt alone x (i + 1) v m) f)))
+
+pub halts_end : (alone : Bool) (s : State) (u : Option Expression) (t : Token) (ts m : List Token) (n : Option ℕ) (i : ℕ) (h : Halt) → ts ≡ t ∷ m
+    → End u ≡ stepped (read alone s t) (result s) → h ≡ halt alone n i s ts → halted n i s ≡ h
+halts_end alone s u t ts m n i h d e g =
+    sym (g ∙ (ap (halt alone n i s) d
+    ∙ ap (λ (r : Option State). and_halt r (halted n i s) (λ x. halt alone (noted n i s t) (i + 1) x m)) (end_step (read alone s t) (result s) u e)))
+
+pub halts_none : (alone : Bool) (s : State) (ts : List Token) (n : Option ℕ) (i : ℕ) (h : Halt) → ts ≡ [] → h ≡ halt alone n i s ts → halted n i s ≡ h
+halts_none alone s ts n i h d g = sym (g ∙ ap (halt alone n i s) d)

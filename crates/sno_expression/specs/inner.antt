@@ -1,9 +1,9 @@
+pub mod Moves
 pub mod Walking
 pub mod Walks
 pub mod Reading
 pub mod Spines
 pub mod Told
 pub mod Laws
-pub mod Variables
 pub mod Runs
 pub mod Levels

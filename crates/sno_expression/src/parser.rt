@@ -1,23 +1,23 @@
-//! The walk with the trees that it makes.
+//! An expression read token by token, with the tree that it makes.
 
-ghost use Rattle.std.specs.Prelude.{◌≡◌, ◌≤◌, IfOk, length, drop, true, false, Some, None};
+ghost use Rattle.std.specs.Prelude.{◌≡◌, IfOk, drop, true, false, Some, None};
 ghost use Rattle.sno_expression.specs.Marks.{operator_of, prefix_of};
 ghost use Rattle.sno_expression.specs.inner.Walking.{inner_of};
 ghost use Rattle.sno_expression.specs.Expressions as expressions;
 ghost use Rattle.sno_expression.specs.inner.Spines.{is_element};
-ghost use Rattle.sno_expression.specs.inner.Reading.{fill, prefixed, joined, begin, close, close_angle, comma, first, go_on, closed, after, due, omitted, omitted_last, after_prefix, opened, named, read, ended, result as result_of, parens, Read, reading};
+ghost use Rattle.sno_expression.specs.inner.Reading.{fill, prefixed, joined, begin, close, close_angle, comma, first, go_on, closed, after, due, omitted, omitted_last, after_prefix, opened, named, read, ended, result as result_of, parens, position, variable_due, Read, reading, start, Halted, halt};
 ghost use Rattle.sno_expression.specs.inner.Reading as states;
 ghost use Rattle.sno_expression.specs.Abstraction.{expression_of, arguments_of, expressions_of};
-ghost use Rattle.sno_expression.specs.inner.Told.{spine_tree, hole_of, stack_of, frame_of, state_of, stepped, step_of, Next, End};
+ghost use Rattle.sno_expression.specs.inner.Told.{spine_tree, hole_of, stack_of, frame_of, spot_of, state_of, stepped, step_of, Next, End};
 
 use crate::growing::{add_argument, omit_argument, tree_of, with_prefix};
 use crate::pushing::{alone, closed as closed_tree, push};
 use crate::spine::Spine;
 use crate::tree::{
     Arguments, BinaryOperator, Call, Expression, IdentifierPrefix, Prefix, TableItem,
-    UnaryOperator, operator_of, prefix_of,
+    UnaryOperator, needs_variable, operand_is_variable, operator_of, prefix_of,
 };
-use crate::walking::{Paren, opens_bracket, stops};
+use crate::walking::{Paren, Position, opens_bracket, stops, with_misfit};
 use sno_lexer::{Characters, Constant, Mark, Token, TokenKind, Word};
 use std::alloc::{AllocError, Global};
 
@@ -81,6 +81,11 @@ pub struct Found {
     pub tree: Option<Expression>,
     /// The index of the first token that was not taken, or of the end.
     pub next: usize,
+    /// The first place so far that lacks a variable.
+    pub noted: Option<usize>,
+    /// The innermost parenthesis that is open at the end, and where the reading stands within.
+    pub inner: Option<Paren>,
+    pub position: Position,
 }
 
 fn fill(alloc: Global, hole: Hole, operand: Expression) -> Result<Spine, AllocError>
@@ -502,6 +507,32 @@ fn inner(stack: &Stack) -> Option<Paren>
     }
 }
 
+// Whether a variable is needed there.
+#[inline(always)]
+fn variable_due(hole: &Hole) -> bool
+    ensures { result ≡ variable_due (hole_of hole.now) }
+{
+    match hole {
+        Hole::Begin => false,
+        Hole::After(_, operator) => needs_variable(*operator),
+        Hole::Under(unary, _) => operand_is_variable(*unary),
+    }
+}
+
+#[inline(always)]
+fn position(spot: &Spot) -> Position
+    ensures { result ≡ position (spot_of spot.now) }
+{
+    match spot {
+        Spot::Due(Hole::Begin) => Position::AtStart,
+        Spot::Due(Hole::After(_, operator)) => Position::AfterBinary(needs_variable(*operator)),
+        Spot::Due(Hole::Under(unary, _)) => Position::AfterUnary(operand_is_variable(*unary)),
+        Spot::Prefixed(_, _) => Position::AfterPrefix,
+        Spot::Named(hole, _) => Position::AfterIdentifier(variable_due(hole)),
+        Spot::Whole(_) => Position::AfterOperand,
+    }
+}
+
 // Whether nothing is taken after an operand there.
 #[inline(always)]
 fn closed(alone: bool, stack: &Stack) -> bool
@@ -702,7 +733,8 @@ fn finish(alloc: Global, state: State) -> Result<Option<Expression>, AllocError>
 
 /// Reads one expression from the tokens, from the one at `from` on, or where it stands `alone` one element.
 ///
-/// It ends before the first token that is not taken, or at the end of the tokens.
+/// It ends before the first token that is not taken, or at the end of the tokens. `noted` is the first place before it that
+/// lacks a variable.
 ///
 /// # Errors
 ///
@@ -712,24 +744,44 @@ pub fn read_expression(
     alone: bool,
     tokens: &[Token],
     from: usize,
+    noted: Option<usize>,
 ) -> Result<Found, AllocError>
     ensures reads { IfOk result (λ found. Read (expressions_of found.tree) (drop found.next tokens.now) ≡ reading alone (drop from tokens.now)) }
-    ensures within { IfOk result (λ found. found.next ≤ length tokens.now) }
-    ensures onward { IfOk result (λ found. from ≤ length tokens.now → from ≤ found.next) }
+    ensures halts { IfOk result (λ found. Halted found.noted found.next found.inner found.position ≡ halt alone noted from start (drop from tokens.now)) }
 {
     let mut state = State {
         stack: Stack::Bottom,
         spot: Spot::Due(Hole::Begin),
     };
-    for i in from..tokens.len() {
-        match read(alloc, alone, state, &tokens[i])? {
-            Step::Next(next) => state = next,
-            Step::End(tree) => return Ok(Found { tree, next: i }),
+    let mut noted = noted;
+    let mut next = from;
+    while next < tokens.len() {
+        let token = &tokens[next];
+        let inner = inner(&state.stack);
+        let position = position(&state.spot);
+        match read(alloc, alone, state, token)? {
+            Step::Next(onward) => state = onward,
+            Step::End(tree) => {
+                return Ok(Found {
+                    tree,
+                    next,
+                    noted,
+                    inner,
+                    position,
+                });
+            }
         }
+        noted = with_misfit(noted, next, position, token.blank_before, &token.kind);
+        next += 1;
     }
+    let inner = inner(&state.stack);
+    let position = position(&state.spot);
     let tree = finish(alloc, state)?;
     Ok(Found {
         tree,
-        next: tokens.len(),
+        next,
+        noted,
+        inner,
+        position,
     })
 }

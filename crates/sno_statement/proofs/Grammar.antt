@@ -11,7 +11,6 @@ use Rattle.sno_statement.specs.Lacking.{lacking_in}
 use Rattle.sno_statement.specs.inner.Walking.{Walk, take, begins, may_end}
 use Rattle.sno_statement.specs.inner.Faults.{FaultAt, refused_as, then_on, refusal_from, refusal, noted, earlier, fault}
 use Rattle.sno_statement.specs.inner.Reading.{statement_in}
-use Rattle.sno_statement.specs.inner.Variables.{fitting}
 use Rattle.sno_statement.specs.Abstraction.{statement_of, Parsed}
 use Rattle.sno_statement.specs.Laws.{OneStatement, Taken}
 use Rattle.sno_statement.specs.inner.Laws.{NotesExactly}
@@ -21,7 +20,6 @@ use Rattle.sno_statement.proofs.Strides.{on_walk, walked}
 use Rattle.sno_statement.proofs.Passing.{statement_walks}
 use Rattle.sno_statement.proofs.Marked.{none_marked, marked_none}
 use Rattle.sno_statement.proofs.Placing.{places_noted}
-use Rattle.sno_statement.proofs.Tested.{fitting_read, fitting_passes}
 
 -- a statement with levels is the only one that its tokens spell
 pub one_statement : OneStatement
@@ -79,16 +77,9 @@ pub not_refused : (o : Option ℕ) (f : Option Fault) → earlier o f ≡ None �
 not_refused None f e = e
 not_refused (Some i) f e = cc
 
--- a statement that is read and has its variables is the one that the tokens spell
-pub parsed_ok : (ts : List Token) (s : AStatement) → fitting (statement_in ts) ≡ Some (statement_of s) → Parsed ts (Ok s)
-parsed_ok ts s e =
-    let r = fitting_read ts (statement_in ts) (statement_of s) e in
-    let q = statement_sound ts (statement_of s) r.0 in
-    (q.0, r.1, q.1, λ u v p. let k = statement_read u ts v p in cc)
-
--- where nothing is at fault one is read that has them
-pub one_fits : (ts : List Token) → fault ts ≡ None → fitting (statement_in ts) ≡ None → ⊥
-one_fits ts e d =
-    let r = some_statement (refusal ts) (statement_in ts) (agrees ts) (not_refused (noted ts) (refusal ts) e) in
-    let q = statement_sound ts r.0 r.1 in
-    fitting_passes ts (statement_in ts) r.0 r.1 ((notes_exactly ts r.0 q.0 q.1).0 (not_noted (noted ts) (refusal ts) e)) d
+-- a statement that is read, where nothing is at fault, is the one that the tokens spell
+pub parsed_ok : (ts : List Token) (s : AStatement) → statement_in ts ≡ Some (statement_of s) → fault ts ≡ None → Parsed ts (Ok s)
+parsed_ok ts s e d =
+    let q = statement_sound ts (statement_of s) e in
+    let h = not_noted (noted ts) (refusal ts) d in
+    (q.0, (notes_exactly ts (statement_of s) q.0 q.1).0 h, q.1, λ u v p. let k = statement_read u ts v p in cc)

@@ -10,7 +10,8 @@ use Rattle.sno_statement.specs.declared.fault.FaultKind.{FaultKind}
 use Rattle.sno_statement.specs.declared.fault.FaultKind.TheVariants.{MissingBlank, Unfit, NoVariable}
 use Rattle.sno_statement.specs.declared.walking.SubjectKind.{SubjectKind}
 use Rattle.sno_statement.specs.inner.Walking.{Walk, take, begins, may_end}
-use Rattle.sno_statement.specs.inner.Faults.{FaultAt, is_taken, refused_as, then_on, refusal_from, refusal, subject_kind, least, noted_here, then_note, noted_from, noted, earlier, fault}
+use Rattle.sno_expression.specs.inner.Walking.{least}
+use Rattle.sno_statement.specs.inner.Faults.{FaultAt, is_taken, refused_as, then_on, refusal_from, refusal, subject_kind, noted_here, then_note, noted_from, noted, earlier, fault}
 use Rattle.sno_statement.specs.Lacking.{lacking_in}
 use Rattle.sno_statement.specs.Faults.{IsSpelled, IsFit, Begins, EndsBefore, GoesOnSpaced, Stops, Lacks, Blames, IsLeftmostFault}
 use Rattle.sno_statement.specs.Laws.{FaultIsLeftmost}

@@ -3,7 +3,8 @@ use Rattle.std.proofs.Common.{arith, ◌≡◌, ℕ, zero, suc, ◌+◌, ◌≤�
 use Rattle.std.specs.Prelude.{Bool, true, false, nat_le, get_or, Option, Some, None, if◌then◌else◌}
 use Rattle.std.specs.List.{list_any}
 use Rattle.std.proofs.lemmas.Bool.{le-leb, lt-leb, leb-false}
-use Rattle.sno_statement.specs.inner.Faults.{note, least}
+use Rattle.sno_expression.specs.inner.Walking.{least}
+use Rattle.sno_statement.specs.inner.Faults.{note}
 
 -- the least of the places marked, and of what comes behind them
 abbrev pub marked : List Bool → (ℕ → Option ℕ) → ℕ → Option ℕ

@@ -15,11 +15,11 @@ use Rattle.sno_expression.specs.declared.tree.BinaryOperator.TheVariants.{Concat
 use Rattle.sno_expression.specs.declared.tree.UnaryOperator.TheVariants.{Indirect}
 use Rattle.sno_expression.specs.declared.tree.UnaryOperator.TheVariants as unary
 use Rattle.sno_expression.specs.declared.walking.Position.TheVariants.{AtStart, AfterUnary, AfterOperand}
-use Rattle.sno_expression.specs.declared.walking.Move.{Move}
-use Rattle.sno_expression.specs.declared.walking.Move.TheVariants as move
+use Rattle.sno_expression.specs.inner.Moves.{Move}
+use Rattle.sno_expression.specs.inner.Moves as move
 use Rattle.sno_expression.specs.Expressions.{Expression, Arguments, Identifier, Constant, Keyword, Unevaluated, Group, Call, TableItem, Unary, Binary, NoArguments, Omitted, Argument, IsOperand, HasLevels, is_variable}
 use Rattle.sno_expression.specs.Spelling.{spaced, Joins, Parts, SpellsTo, SpellTo}
-use Rattle.sno_expression.specs.inner.Walking.{begin, opens_bracket}
+use Rattle.sno_expression.specs.inner.Walking.{begin, opens_bracket, least}
 use Rattle.sno_expression.specs.inner.Reading.{Stops}
 use Rattle.sno_statement.specs.declared.walking.Field.TheVariants.{Subject, Pattern, Object as Given, Target as InComputed}
 use Rattle.sno_statement.specs.declared.walking.Stage.TheVariants.{First, In, AfterEquals, AfterColon, AfterOutcome, InTarget, AfterTarget}
@@ -30,7 +30,7 @@ use Rattle.sno_statement.specs.declared.walking.Role.{Role}
 use Rattle.sno_statement.specs.declared.walking.Field.{Field}
 use Rattle.sno_expression.specs.Marks.{operand_is_variable}
 use Rattle.sno_statement.specs.inner.Walking.{Walk, At, begins, other, role_by, stands, advanced, enter, continued, at_first, after_equals, after_subject}
-use Rattle.sno_statement.specs.inner.Faults.{note, least, noted_from, then_note, noted, is_unset, subject_kind}
+use Rattle.sno_statement.specs.inner.Faults.{note, noted_from, then_note, noted, is_unset, subject_kind}
 use Rattle.sno_expression.specs.Lacking.{lacking}
 use Rattle.sno_statement.specs.Lacking.{is_wrong, lacking_object, lacking_body, lacking_target, lacking_goto, named_first, lacking_in}
 use Rattle.sno_statement.proofs.Roles.{Apart, dollar, kind_spelled}

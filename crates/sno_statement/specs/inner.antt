@@ -1,6 +1,6 @@
+pub mod Advances
 pub mod Walking
 pub mod Faults
 pub mod Reading
-pub mod Told
-pub mod Variables
+pub mod Reports
 pub mod Laws

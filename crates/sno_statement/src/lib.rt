@@ -2,8 +2,6 @@
 #![tactic(auto)]
 
 mod fault;
-mod finding;
-mod fitting;
 pub mod laws;
 mod parser;
 mod parsing;

@@ -1,153 +1,278 @@
-//! A statement read part by part, each part as far as it goes.
+//! A statement read part by part, each part as far as it goes, or the leftmost fault of its tokens.
 
-ghost use Rattle.std.specs.Prelude.{◌≡◌, IfOk, Some, None, true, false, []};
+ghost use Rattle.std.specs.Prelude.{◌≡◌, true, false, [], Err, Some, None, not};
+ghost use Rattle.mon_text.specs.declared.stop.Stop.TheVariants.{Refused};
 ghost use Rattle.sno_expression.specs.Abstraction.{expression_of, expressions_of};
-ghost use Rattle.sno_expression.specs.inner.Reading.{Read, reading};
+ghost use Rattle.sno_expression.specs.inner.Reading.{reading};
+ghost use Rattle.sno_expression.specs.inner.Walking.{with_note};
 ghost use Rattle.sno_statement.specs.Statements as the;
-ghost use Rattle.sno_statement.specs.inner.Reading.{Aimed, closing, indirect, computed, inside, target_in, at_last, always, both, second, on_one, next, chosen, goto_in, going, ending, giving, object_in, pattern_then, matching, subject_then, acting, statement_in};
+ghost use Rattle.sno_statement.specs.Statements.{kind_of, can_be_set};
+ghost use Rattle.sno_statement.specs.inner.Walking.{alone, other};
+ghost use Rattle.sno_statement.specs.inner.Faults.{fault, subject_kind};
+ghost use Rattle.sno_statement.specs.inner.Reading.{Aimed, closing, computed, inside, target_in, at_last, always, both, on_one, next, chosen, goto_in, ending, giving, object_in, pattern_then, matching, subject_then, acting, statement_in};
 ghost use Rattle.sno_statement.specs.Abstraction.{target_of, goto_of, body_of};
-ghost use Rattle.sno_statement.specs.inner.Told.{gotos_of, statements_of, aim_of};
+ghost use Rattle.sno_statement.specs.inner.Reports.{fault_here, whole, tokens_left, at_stage, behind_at, entered_at, ends_at, Reads, Splits, IsStatement, IsGoto, IsAim, IsPiece, IsIndirect, AtDollar, KindIs};
 
+use crate::fault::{Fault, FaultKind};
 use crate::statement::{Body, Goto, Object, Statement, Target};
-use crate::walking::{Role, role_of};
-use sno_expression::{Expression, Found, UnaryOperator, read_expression};
+use crate::walking::{Field, Role, Stage, SubjectKind, alone, other, role_of, why};
+use mon_text::Stop;
+use sno_expression::{
+    Expression, Found, Paren, Position, UnaryOperator, read_expression, with_note,
+};
 use sno_lexer::{Mark, Outcome, Part, Token, TokenKind, Word};
-use std::alloc::{AllocError, Global};
+use std::alloc::Global;
 
-/// What was read as an expression, and the tokens behind it.
+/// How far a statement has been read.
+#[derive(Clone, Copy)]
+pub struct Place<'a, 't> {
+    pub tokens: &'a [Token<'t>],
+    /// The index of the next token.
+    pub next: usize,
+    /// The first place so far that lacks a variable.
+    pub noted: Option<usize>,
+}
+
+/// The next token, what it is between two parts, and the place behind it.
+#[derive(Clone, Copy)]
+pub struct Head<'a, 't> {
+    pub token: &'a Token<'t>,
+    pub role: Role,
+    pub rest: Place<'a, 't>,
+}
+
+/// A part that was read, where its reading stands, and the place behind it.
 #[derive(Drop)]
 pub struct Piece<'a, 't> {
-    pub tree: Option<Expression>,
-    pub rest: &'a [Token<'t>],
+    pub tree: Expression,
+    pub position: Position,
+    pub rest: Place<'a, 't>,
 }
 
-/// A target, if one is there, and the tokens behind it.
+/// A target, and the place behind it.
 #[derive(Drop)]
 pub struct Aim<'a, 't> {
-    pub target: Option<Target>,
-    pub rest: &'a [Token<'t>],
+    pub target: Target,
+    pub rest: Place<'a, 't>,
 }
 
-// An expression, or one element alone, as far as it goes.
-fn read_piece<'a, 't>(
-    alloc: Global,
-    alone: bool,
-    tokens: &'a [Token<'t>],
-) -> Result<Piece<'a, 't>, AllocError>
-    ensures { IfOk result (λ p. reading alone tokens.now ≡ Read (expressions_of p.tree) p.rest.now) }
+#[tactic(auto, using(sno_expression::proofs::Loop::more))]
+fn split<'a, 't>(place: Place<'a, 't>) -> Option<Head<'a, 't>>
+    ensures { Splits place.entry result }
 {
-    let Found { tree, next } = read_expression(alloc, alone, tokens, 0)?;
-    Ok(Piece {
-        tree,
-        rest: &tokens[next..],
+    if place.next >= place.tokens.len() {
+        return None;
+    }
+    let token = &place.tokens[place.next];
+    let rest = Place {
+        tokens: place.tokens,
+        next: place.next + 1,
+        noted: place.noted,
+    };
+    Some(Head {
+        token,
+        role: role_of(token),
+        rest,
     })
 }
 
-fn closing<'a, 't>(target: Target, tokens: &'a [Token<'t>]) -> Aim<'a, 't>
-    ensures { aim_of result ≡ closing (target_of target) tokens.now }
+// What is at fault where a reading can't go on: what was noted, and else the next token, or the end.
+fn fault(place: Place, inner: Option<Paren>, stage: Stage) -> Fault
+    ensures { result ≡ fault_here place.entry.noted place.entry.next inner stage (tokens_left place.entry) }
 {
-    match tokens.split_first() {
-        None => Aim {
-            target: None,
-            rest: tokens,
+    let kind = match split(place) {
+        None => FaultKind::Unfit,
+        Some(head) => why(inner, stage, &head.token.kind),
+    };
+    match place.noted {
+        Some(at) => Fault {
+            at,
+            kind: FaultKind::NoVariable,
         },
-        Some((token, rest)) => match &token.kind {
-            TokenKind::Close => Aim {
-                target: Some(target),
-                rest,
-            },
-            _ => Aim { target: None, rest },
+        None => Fault {
+            at: place.next,
+            kind,
         },
     }
 }
 
+fn stop(place: Place, stage: Stage) -> Stop<Fault>
+    ensures { result ≡ Refused (fault_here place.entry.noted place.entry.next None stage (tokens_left place.entry)) }
+{
+    Stop::Refused(fault(place, None, stage))
+}
+
+// At the end of a statement: where nothing was noted.
+fn finish(place: Place) -> Result<(), Stop<Fault>>
+    ensures { Reads (λ _. whole place.entry.noted ≡ None) (whole place.entry.noted) result }
+{
+    match place.noted {
+        None => Ok(()),
+        Some(at) => Err(Stop::Refused(Fault {
+            at,
+            kind: FaultKind::NoVariable,
+        })),
+    }
+}
+
+// A part that is entered from a stage, as far as it goes.
+#[tactic(auto, using(crate::proofs::Pieces::piece_read, crate::proofs::Pieces::piece_refused, crate::proofs::Pieces::piece_stopped))]
+fn read_piece<'a, 't>(
+    alloc: Global,
+    field: Field,
+    stage: Stage,
+    place: Place<'a, 't>,
+) -> Result<Piece<'a, 't>, Stop<Fault>>
+    ensures { Reads (IsPiece place.entry field (reading (alone field) (tokens_left place.entry)) (entered_at place.entry field stage)) (entered_at place.entry field stage) result }
+{
+    let Found {
+        tree,
+        next,
+        noted,
+        inner,
+        position,
+    } = read_expression(alloc, alone(field), place.tokens, place.next, place.noted)?;
+    let rest = Place {
+        tokens: place.tokens,
+        next,
+        noted,
+    };
+    match tree {
+        Some(tree) => Ok(Piece {
+            tree,
+            position,
+            rest,
+        }),
+        None => {
+            if next == place.next {
+                Err(stop(place, stage))
+            } else {
+                let stage = Stage::In(field, position);
+                Err(Stop::Refused(fault(rest, inner, stage)))
+            }
+        }
+    }
+}
+
+// The parenthesis that ends a target.
+fn closing<'a, 't>(
+    left: Option<Outcome>,
+    target: Target,
+    position: Position,
+    place: Place<'a, 't>,
+) -> Result<Aim<'a, 't>, Stop<Fault>>
+    ensures { Reads (IsAim left (closing (target_of target) (tokens_left place.entry)) (behind_at place.entry (Field.Target left) position)) (behind_at place.entry (Field.Target left) position) result }
+{
+    let stage = Stage::In(Field::Target(left), position);
+    match split(place) {
+        None => Err(stop(place, stage)),
+        Some(head) => match &head.token.kind {
+            TokenKind::Close => Ok(Aim {
+                target,
+                rest: head.rest,
+            }),
+            _ => Err(stop(place, stage)),
+        },
+    }
+}
+
+#[tactic(auto, using(crate::proofs::Strides::label_is_element))]
 fn label_ends<'a, 't>(
     alloc: Global,
+    left: Option<Outcome>,
     label: &Word,
-    tokens: &'a [Token<'t>],
-) -> Result<Aim<'a, 't>, AllocError>
-    ensures { IfOk result (λ a. aim_of a ≡ closing (the.To label.now) tokens.now) }
+    place: Place<'a, 't>,
+) -> Result<Aim<'a, 't>, Stop<Fault>>
+    ensures { Reads (IsAim left (closing (the.To label.now) (tokens_left place.entry)) (at_stage place.entry (Stage.AfterLabel left))) (at_stage place.entry (Stage.AfterLabel left)) result }
 {
     let label = label.line(alloc)?;
-    Ok(closing(Target::Label(label), tokens))
+    closing(left, Target::Label(label), Position::AfterOperand, place)
 }
 
 #[tactic(auto, using(sno_expression::proofs::Runs::binary_is))]
-fn indirect<'a, 't>(tree: Expression, tokens: &'a [Token<'t>]) -> Aim<'a, 't>
-    ensures { aim_of result ≡ indirect (Some (expression_of tree)) tokens.now }
+fn indirect(tree: Expression) -> Option<Expression>
+    ensures { IsIndirect (expression_of tree) result }
 {
     match tree {
-        Expression::Unary(UnaryOperator::Indirect, element) => closing(
-            Target::Computed(Box::into_inner(element)),
-            tokens,
-        ),
-        _ => Aim {
-            target: None,
-            rest: tokens,
-        },
+        Expression::Unary(UnaryOperator::Indirect, element) => Some(Box::into_inner(element)),
+        _ => None,
     }
 }
 
-fn computed<'a, 't>(alloc: Global, tokens: &'a [Token<'t>]) -> Result<Aim<'a, 't>, AllocError>
-    ensures { IfOk result (λ a. aim_of a ≡ computed (reading true tokens.now)) }
+// An element that begins with `$`, and the parenthesis behind it.
+#[tactic(auto, using(crate::proofs::Pieces::dollar_tree))]
+fn computed<'a, 't>(
+    alloc: Global,
+    left: Option<Outcome>,
+    place: Place<'a, 't>,
+) -> Result<Aim<'a, 't>, Stop<Fault>>
+    requires { AtDollar (tokens_left place) }
+    ensures { Reads (IsAim left (computed (reading true (tokens_left place.entry))) (entered_at place.entry (Field.Target left) (Stage.InTarget left))) (entered_at place.entry (Field.Target left) (Stage.InTarget left)) result }
 {
-    let Piece { tree, rest } = read_piece(alloc, true, tokens)?;
-    match tree {
-        None => Ok(Aim { target: None, rest }),
-        Some(tree) => Ok(indirect(tree, rest)),
+    let field = Field::Target(left);
+    let Piece {
+        tree,
+        position,
+        rest,
+    } = read_piece(alloc, field, Stage::InTarget(left), place)?;
+    match indirect(tree) {
+        Some(element) => closing(left, Target::Computed(element), position, rest),
+        None => unreachable!(),
     }
 }
 
 // Behind the parenthesis of a target.
-fn inside<'a, 't>(alloc: Global, tokens: &'a [Token<'t>]) -> Result<Aim<'a, 't>, AllocError>
-    ensures { IfOk result (λ a. aim_of a ≡ inside tokens.now) }
+fn inside<'a, 't>(
+    alloc: Global,
+    left: Option<Outcome>,
+    place: Place<'a, 't>,
+) -> Result<Aim<'a, 't>, Stop<Fault>>
+    ensures { Reads (IsAim left (inside (tokens_left place.entry)) (at_stage place.entry (Stage.InTarget left))) (at_stage place.entry (Stage.InTarget left)) result }
 {
-    match tokens.split_first() {
-        None => Ok(Aim {
-            target: None,
-            rest: tokens,
-        }),
-        Some((token, rest)) => match &token.kind {
-            TokenKind::Part(Part::Label(label)) => label_ends(alloc, label, rest),
-            TokenKind::Mark(Mark::Dollar) => computed(alloc, tokens),
-            _ => Ok(Aim { target: None, rest }),
+    match split(place) {
+        None => Err(stop(place, Stage::InTarget(left))),
+        Some(head) => match &head.token.kind {
+            TokenKind::Part(Part::Label(label)) => label_ends(alloc, left, label, head.rest),
+            TokenKind::Mark(Mark::Dollar) => computed(alloc, left, place),
+            _ => Err(stop(place, Stage::InTarget(left))),
         },
     }
 }
 
-fn target_in<'a, 't>(alloc: Global, tokens: &'a [Token<'t>]) -> Result<Aim<'a, 't>, AllocError>
-    ensures { IfOk result (λ a. aim_of a ≡ target_in tokens.now) }
+fn target_in<'a, 't>(
+    alloc: Global,
+    left: Option<Outcome>,
+    place: Place<'a, 't>,
+) -> Result<Aim<'a, 't>, Stop<Fault>>
+    ensures { Reads (IsAim left (target_in (tokens_left place.entry)) (at_stage place.entry (Stage.AfterOutcome left))) (at_stage place.entry (Stage.AfterOutcome left)) result }
 {
-    match tokens.split_first() {
-        None => Ok(Aim {
-            target: None,
-            rest: tokens,
-        }),
-        Some((token, rest)) => match &token.kind {
-            TokenKind::Open => inside(alloc, rest),
-            _ => Ok(Aim { target: None, rest }),
+    match split(place) {
+        None => Err(stop(place, Stage::AfterOutcome(left))),
+        Some(head) => match &head.token.kind {
+            TokenKind::Open => inside(alloc, left, head.rest),
+            _ => Err(stop(place, Stage::AfterOutcome(left))),
         },
     }
 }
 
 // Behind the last target.
-fn at_last(goto: Goto, tokens: &[Token]) -> Option<Goto>
-    ensures { gotos_of result ≡ at_last (goto_of goto) tokens.now }
+fn at_last(goto: Goto, place: Place) -> Result<Goto, Stop<Fault>>
+    ensures { Reads (IsGoto (at_last (goto_of goto) (tokens_left place.entry)) (at_stage place.entry (Stage.AfterTarget None))) (at_stage place.entry (Stage.AfterTarget None)) result }
 {
-    match tokens.split_first() {
-        None => Some(goto),
-        Some(_) => None,
+    match split(place) {
+        None => {
+            finish(place)?;
+            Ok(goto)
+        }
+        Some(_) => Err(stop(place, Stage::AfterTarget(None))),
     }
 }
 
-fn always(alloc: Global, tokens: &[Token]) -> Result<Option<Goto>, AllocError>
-    ensures { IfOk result (λ g. gotos_of g ≡ always (inside tokens.now)) }
+fn always(alloc: Global, place: Place) -> Result<Goto, Stop<Fault>>
+    ensures { Reads (IsGoto (always (inside (tokens_left place.entry))) (at_stage place.entry (Stage.InTarget None))) (at_stage place.entry (Stage.InTarget None)) result }
 {
-    let Aim { target, rest } = inside(alloc, tokens)?;
-    match target {
-        None => Ok(None),
-        Some(target) => Ok(at_last(Goto::Always(target), rest)),
-    }
+    let Aim { target, rest } = inside(alloc, None, place)?;
+    at_last(Goto::Always(target), rest)
 }
 
 fn on_both(outcome: Outcome, first: Target, second: Target) -> Goto
@@ -159,37 +284,11 @@ fn on_both(outcome: Outcome, first: Target, second: Target) -> Goto
     }
 }
 
-fn both(
-    alloc: Global,
-    outcome: Outcome,
-    first: Target,
-    tokens: &[Token],
-) -> Result<Option<Goto>, AllocError>
-    ensures { IfOk result (λ g. gotos_of g ≡ both outcome (target_of first) (target_in tokens.now)) }
+fn both(alloc: Global, outcome: Outcome, first: Target, place: Place) -> Result<Goto, Stop<Fault>>
+    ensures { Reads (IsGoto (both outcome (target_of first) (target_in (tokens_left place.entry))) (at_stage place.entry (Stage.AfterOutcome None))) (at_stage place.entry (Stage.AfterOutcome None)) result }
 {
-    let Aim { target, rest } = target_in(alloc, tokens)?;
-    match target {
-        None => Ok(None),
-        Some(target) => Ok(at_last(on_both(outcome, first, target), rest)),
-    }
-}
-
-// The second outcome is not the first.
-fn second(
-    alloc: Global,
-    outcome: Outcome,
-    named: Outcome,
-    target: Target,
-    tokens: &[Token],
-) -> Result<Option<Goto>, AllocError>
-    ensures { IfOk result (λ g. gotos_of g ≡ second outcome named (target_of target) tokens.now) }
-{
-    match (outcome, named) {
-        (Outcome::Success, Outcome::Failure) => both(alloc, Outcome::Success, target, tokens),
-        (Outcome::Failure, Outcome::Success) => both(alloc, Outcome::Failure, target, tokens),
-        (Outcome::Success, Outcome::Success) => Ok(None),
-        (Outcome::Failure, Outcome::Failure) => Ok(None),
-    }
+    let Aim { target, rest } = target_in(alloc, None, place)?;
+    at_last(on_both(outcome, first, target), rest)
 }
 
 fn on_one(outcome: Outcome, target: Target) -> Goto
@@ -201,100 +300,93 @@ fn on_one(outcome: Outcome, target: Target) -> Goto
     }
 }
 
-// Behind the target of the first outcome.
-fn next(
-    alloc: Global,
-    outcome: Outcome,
-    target: Target,
-    tokens: &[Token],
-) -> Result<Option<Goto>, AllocError>
-    ensures { IfOk result (λ g. gotos_of g ≡ next outcome (target_of target) tokens.now) }
+// Behind the target of the first outcome: the end, or the second, which is another.
+fn next(alloc: Global, outcome: Outcome, target: Target, place: Place) -> Result<Goto, Stop<Fault>>
+    ensures { Reads (IsGoto (next outcome (target_of target) (tokens_left place.entry)) (at_stage place.entry (Stage.AfterTarget (Some (other outcome))))) (at_stage place.entry (Stage.AfterTarget (Some (other outcome)))) result }
 {
-    match tokens.split_first() {
-        None => Ok(Some(on_one(outcome, target))),
-        Some((token, rest)) => match &token.kind {
-            TokenKind::Part(Part::On(named)) => second(alloc, outcome, *named, target, rest),
-            _ => Ok(None),
+    match split(place) {
+        None => {
+            finish(place)?;
+            Ok(on_one(outcome, target))
+        }
+        Some(head) => match (outcome, &head.token.kind) {
+            (Outcome::Success, TokenKind::Part(Part::On(Outcome::Failure)))
+            | (Outcome::Failure, TokenKind::Part(Part::On(Outcome::Success))) => {
+                both(alloc, outcome, target, head.rest)
+            }
+            _ => Err(stop(place, Stage::AfterTarget(Some(other(outcome))))),
         },
     }
 }
 
-fn chosen(alloc: Global, outcome: Outcome, tokens: &[Token]) -> Result<Option<Goto>, AllocError>
-    ensures { IfOk result (λ g. gotos_of g ≡ chosen outcome (target_in tokens.now)) }
+fn chosen(alloc: Global, outcome: Outcome, place: Place) -> Result<Goto, Stop<Fault>>
+    ensures { Reads (IsGoto (chosen outcome (target_in (tokens_left place.entry))) (at_stage place.entry (Stage.AfterOutcome (Some (other outcome))))) (at_stage place.entry (Stage.AfterOutcome (Some (other outcome)))) result }
 {
-    let Aim { target, rest } = target_in(alloc, tokens)?;
-    match target {
-        None => Ok(None),
-        Some(target) => next(alloc, outcome, target, rest),
-    }
+    let Aim { target, rest } = target_in(alloc, Some(other(outcome)), place)?;
+    next(alloc, outcome, target, rest)
 }
 
 // Behind `:`.
-fn goto_in(alloc: Global, tokens: &[Token]) -> Result<Option<Goto>, AllocError>
-    ensures { IfOk result (λ g. gotos_of g ≡ goto_in tokens.now) }
+fn goto_in(alloc: Global, place: Place) -> Result<Goto, Stop<Fault>>
+    ensures { Reads (IsGoto (goto_in (tokens_left place.entry)) (at_stage place.entry Stage.AfterColon)) (at_stage place.entry Stage.AfterColon) result }
 {
-    match tokens.split_first() {
-        None => Ok(None),
-        Some((token, rest)) => match &token.kind {
-            TokenKind::Open => always(alloc, rest),
-            TokenKind::Part(Part::On(outcome)) => chosen(alloc, *outcome, rest),
-            _ => Ok(None),
+    match split(place) {
+        None => Err(stop(place, Stage::AfterColon)),
+        Some(head) => match &head.token.kind {
+            TokenKind::Open => always(alloc, head.rest),
+            TokenKind::Part(Part::On(outcome)) => chosen(alloc, *outcome, head.rest),
+            _ => Err(stop(place, Stage::AfterColon)),
         },
     }
 }
 
-fn going(
+// Behind all parts: the end, or a goto.
+fn ending(
     alloc: Global,
     body: Option<Body>,
-    tokens: &[Token],
-) -> Result<Option<Statement>, AllocError>
-    ensures { IfOk result (λ s. statements_of s ≡ going (body_of body) (goto_in tokens.now)) }
+    stage: Stage,
+    place: Place,
+) -> Result<Statement, Stop<Fault>>
+    ensures { Reads (IsStatement (ending (body_of body) (tokens_left place.entry)) (ends_at place.entry stage)) (ends_at place.entry stage) result }
 {
-    match goto_in(alloc, tokens)? {
-        None => Ok(None),
-        Some(goto) => Ok(Some(Statement { body, goto })),
-    }
-}
-
-// Behind the object.
-fn ending(alloc: Global, body: Body, tokens: &[Token]) -> Result<Option<Statement>, AllocError>
-    ensures { IfOk result (λ s. statements_of s ≡ ending (body_of (Some body)) tokens.now) }
-{
-    match tokens.split_first() {
-        None => Ok(Some(Statement {
-            body: Some(body),
-            goto: Goto::Next,
-        })),
-        Some((token, rest)) => match role_of(token) {
-            Role::Goes => going(alloc, Some(body), rest),
-            Role::Assigns => Ok(None),
-            Role::Follows => Ok(None),
-            Role::Touches => Ok(None),
+    match split(place) {
+        None => {
+            finish(place)?;
+            Ok(Statement {
+                body,
+                goto: Goto::Next,
+            })
+        }
+        Some(head) => match head.role {
+            Role::Goes => {
+                let goto = goto_in(alloc, head.rest)?;
+                Ok(Statement { body, goto })
+            }
+            Role::Assigns | Role::Follows | Role::Touches => Err(stop(place, stage)),
         },
     }
 }
 
+#[tactic(auto, using(crate::proofs::Strides::object_ends))]
 fn giving(
     alloc: Global,
     subject: Expression,
     pattern: Option<Expression>,
-    tokens: &[Token],
-) -> Result<Option<Statement>, AllocError>
-    ensures { IfOk result (λ s. statements_of s ≡ giving (expression_of subject) (expressions_of pattern) (reading false tokens.now)) }
+    place: Place,
+) -> Result<Statement, Stop<Fault>>
+    ensures { Reads (IsStatement (giving (expression_of subject) (expressions_of pattern) (reading false (tokens_left place.entry))) (entered_at place.entry Field.Object Stage.AfterEquals)) (entered_at place.entry Field.Object Stage.AfterEquals) result }
 {
-    let Piece { tree, rest } = read_piece(alloc, false, tokens)?;
-    match tree {
-        None => Ok(None),
-        Some(object) => ending(
-            alloc,
-            Body {
-                subject,
-                pattern,
-                object: Object::Value(object),
-            },
-            rest,
-        ),
-    }
+    let Piece {
+        tree,
+        position,
+        rest,
+    } = read_piece(alloc, Field::Object, Stage::AfterEquals, place)?;
+    let body = Body {
+        subject,
+        pattern,
+        object: Object::Value(tree),
+    };
+    ending(alloc, Some(body), Stage::In(Field::Object, position), rest)
 }
 
 // Behind `=`.
@@ -302,33 +394,63 @@ fn object_in(
     alloc: Global,
     subject: Expression,
     pattern: Option<Expression>,
-    tokens: &[Token],
-) -> Result<Option<Statement>, AllocError>
-    ensures { IfOk result (λ s. statements_of s ≡ object_in (expression_of subject) (expressions_of pattern) tokens.now) }
+    place: Place,
+) -> Result<Statement, Stop<Fault>>
+    ensures { Reads (IsStatement (object_in (expression_of subject) (expressions_of pattern) (tokens_left place.entry)) (at_stage place.entry Stage.AfterEquals)) (at_stage place.entry Stage.AfterEquals) result }
 {
-    match tokens.split_first() {
-        None => Ok(Some(Statement {
-            body: Some(Body {
+    match split(place) {
+        Some(
+            Head {
+                role: Role::Follows,
+                ..
+            },
+        ) => giving(alloc, subject, pattern, place),
+        _ => {
+            let body = Body {
                 subject,
                 pattern,
                 object: Object::Null,
-            }),
-            goto: Goto::Next,
-        })),
-        Some((token, rest)) => match role_of(token) {
-            Role::Goes => going(
-                alloc,
-                Some(Body {
-                    subject,
-                    pattern,
-                    object: Object::Null,
-                }),
-                rest,
-            ),
-            Role::Follows => giving(alloc, subject, pattern, tokens),
-            Role::Assigns => Ok(None),
-            Role::Touches => Ok(None),
-        },
+            };
+            ending(alloc, Some(body), Stage::AfterEquals, place)
+        }
+    }
+}
+
+// What a subject is to an assignment.
+#[tactic(auto, using(sno_expression::proofs::Runs::binary_is))]
+fn kind_of(subject: &Expression) -> SubjectKind
+    ensures { result ≡ kind_of (expression_of subject.now) }
+{
+    match subject {
+        Expression::Identifier(_)
+        | Expression::TableItem(_)
+        | Expression::Unary(UnaryOperator::Indirect, _) => SubjectKind::Variable,
+        Expression::Keyword(_) => SubjectKind::Keyword,
+        _ => SubjectKind::Other,
+    }
+}
+
+fn can_be_set(kind: SubjectKind, pattern: bool) -> bool
+    ensures { result ≡ can_be_set kind pattern }
+{
+    match kind {
+        SubjectKind::Variable => true,
+        SubjectKind::Keyword => !pattern,
+        SubjectKind::Other => false,
+    }
+}
+
+// A place with what `=` shows: whether the subject, which stands first, may be assigned to.
+fn assigned<'a, 't>(place: Place<'a, 't>, subject: &Expression, pattern: bool) -> Place<'a, 't>
+    ensures tokens { result.tokens ≡ place.entry.tokens }
+    ensures next { result.next ≡ place.entry.next }
+    ensures noted { result.noted ≡ with_note place.entry.noted (not (can_be_set (kind_of (expression_of subject.now)) pattern)) 0 }
+{
+    let fits = can_be_set(kind_of(subject), pattern);
+    Place {
+        tokens: place.tokens,
+        next: place.next,
+        noted: with_note(place.noted, !fits, 0),
     }
 }
 
@@ -337,113 +459,140 @@ fn pattern_then(
     alloc: Global,
     subject: Expression,
     pattern: Expression,
-    tokens: &[Token],
-) -> Result<Option<Statement>, AllocError>
-    ensures { IfOk result (λ s. statements_of s ≡ pattern_then (expression_of subject) (expression_of pattern) tokens.now) }
+    position: Position,
+    place: Place,
+) -> Result<Statement, Stop<Fault>>
+    requires { kind_of (expression_of subject) ≡ subject_kind place.tokens.now }
+    ensures { Reads (IsStatement (pattern_then (expression_of subject) (expression_of pattern) (tokens_left place.entry)) (behind_at place.entry Field.Pattern position)) (behind_at place.entry Field.Pattern position) result }
 {
-    let pattern = Some(pattern);
-    match tokens.split_first() {
-        None => Ok(Some(Statement {
-            body: Some(Body {
-                subject,
-                pattern,
-                object: Object::Nothing,
-            }),
-            goto: Goto::Next,
-        })),
-        Some((token, rest)) => match role_of(token) {
-            Role::Assigns => object_in(alloc, subject, pattern, rest),
-            Role::Goes => going(
-                alloc,
-                Some(Body {
-                    subject,
-                    pattern,
-                    object: Object::Nothing,
-                }),
+    match split(place) {
+        Some(
+            Head {
+                role: Role::Assigns,
                 rest,
-            ),
-            Role::Follows => Ok(None),
-            Role::Touches => Ok(None),
-        },
+                ..
+            },
+        ) => {
+            let rest = assigned(rest, &subject, true);
+            object_in(alloc, subject, Some(pattern), rest)
+        }
+        _ => {
+            let body = Body {
+                subject,
+                pattern: Some(pattern),
+                object: Object::Nothing,
+            };
+            ending(
+                alloc,
+                Some(body),
+                Stage::In(Field::Pattern, position),
+                place,
+            )
+        }
     }
 }
 
 fn matching(
     alloc: Global,
     subject: Expression,
-    tokens: &[Token],
-) -> Result<Option<Statement>, AllocError>
-    ensures { IfOk result (λ s. statements_of s ≡ matching (expression_of subject) (reading false tokens.now)) }
+    position: Position,
+    place: Place,
+) -> Result<Statement, Stop<Fault>>
+    requires { kind_of (expression_of subject) ≡ subject_kind place.tokens.now }
+    ensures { Reads (IsStatement (matching (expression_of subject) (reading false (tokens_left place.entry))) (entered_at place.entry Field.Pattern (Stage.In Field.Subject position))) (entered_at place.entry Field.Pattern (Stage.In Field.Subject position)) result }
 {
-    let Piece { tree, rest } = read_piece(alloc, false, tokens)?;
-    match tree {
-        None => Ok(None),
-        Some(pattern) => pattern_then(alloc, subject, pattern, rest),
-    }
+    let stage = Stage::In(Field::Subject, position);
+    let Piece {
+        tree,
+        position,
+        rest,
+    } = read_piece(alloc, Field::Pattern, stage, place)?;
+    pattern_then(alloc, subject, tree, position, rest)
 }
 
 // Behind the subject.
 fn subject_then(
     alloc: Global,
     subject: Expression,
-    tokens: &[Token],
-) -> Result<Option<Statement>, AllocError>
-    ensures { IfOk result (λ s. statements_of s ≡ subject_then (expression_of subject) tokens.now) }
+    position: Position,
+    place: Place,
+) -> Result<Statement, Stop<Fault>>
+    requires { KindIs (expression_of subject) place }
+    ensures { Reads (IsStatement (subject_then (expression_of subject) (tokens_left place.entry)) (behind_at place.entry Field.Subject position)) (behind_at place.entry Field.Subject position) result }
 {
-    match tokens.split_first() {
-        None => Ok(Some(Statement {
-            body: Some(Body {
+    match split(place) {
+        Some(
+            Head {
+                role: Role::Assigns,
+                rest,
+                ..
+            },
+        ) => {
+            let rest = assigned(rest, &subject, false);
+            object_in(alloc, subject, None, rest)
+        }
+        Some(
+            Head {
+                role: Role::Follows,
+                ..
+            },
+        ) => matching(alloc, subject, position, place),
+        _ => {
+            let body = Body {
                 subject,
                 pattern: None,
                 object: Object::Nothing,
-            }),
-            goto: Goto::Next,
-        })),
-        Some((token, rest)) => match role_of(token) {
-            Role::Assigns => object_in(alloc, subject, None, rest),
-            Role::Goes => going(
+            };
+            ending(
                 alloc,
-                Some(Body {
-                    subject,
-                    pattern: None,
-                    object: Object::Nothing,
-                }),
-                rest,
-            ),
-            Role::Follows => matching(alloc, subject, tokens),
-            Role::Touches => Ok(None),
-        },
+                Some(body),
+                Stage::In(Field::Subject, position),
+                place,
+            )
+        }
     }
 }
 
-fn acting(alloc: Global, tokens: &[Token]) -> Result<Option<Statement>, AllocError>
-    ensures { IfOk result (λ s. statements_of s ≡ acting (reading true tokens.now)) }
+#[tactic(auto, using(crate::proofs::Pieces::kind_known))]
+fn acting(alloc: Global, place: Place) -> Result<Statement, Stop<Fault>>
+    requires { tokens_left place ≡ place.tokens.now }
+    ensures { Reads (IsStatement (acting (reading true (tokens_left place.entry))) (entered_at place.entry Field.Subject Stage.First)) (entered_at place.entry Field.Subject Stage.First) result }
 {
-    let Piece { tree, rest } = read_piece(alloc, true, tokens)?;
-    match tree {
-        None => Ok(None),
-        Some(subject) => subject_then(alloc, subject, rest),
-    }
+    let Piece {
+        tree,
+        position,
+        rest,
+    } = read_piece(alloc, Field::Subject, Stage::First, place)?;
+    subject_then(alloc, tree, position, rest)
 }
 
-/// The statement that the tokens are read as, if they are one; places that need a variable may have another tree.
+/// The statement that the tokens behind a label spell, or their leftmost fault.
 ///
 /// # Errors
 ///
-/// Where a growth was refused.
-pub fn read_statement(alloc: Global, tokens: &[Token]) -> Result<Option<Statement>, AllocError>
-    ensures { IfOk result (λ s. statements_of s ≡ statement_in tokens.now) }
+/// That fault, and `Memory` where a growth was refused.
+#[tactic(auto, using(crate::proofs::Gathering::fault_is))]
+pub fn read_statement(alloc: Global, tokens: &[Token]) -> Result<Statement, Stop<Fault>>
+    ensures { Reads (IsStatement (statement_in tokens.now) (fault tokens.now)) (fault tokens.now) result }
 {
-    match tokens.split_first() {
-        None => Ok(Some(Statement {
-            body: None,
-            goto: Goto::Next,
-        })),
-        Some((token, rest)) => match role_of(token) {
-            Role::Assigns => Ok(None),
-            Role::Goes => going(alloc, None, rest),
-            Role::Follows => acting(alloc, tokens),
-            Role::Touches => acting(alloc, tokens),
-        },
+    let place = Place {
+        tokens,
+        next: 0,
+        noted: None,
+    };
+    match split(place) {
+        Some(
+            Head {
+                role: Role::Follows,
+                ..
+            },
+        ) => acting(alloc, place),
+        Some(
+            Head {
+                role: Role::Touches,
+                ..
+            },
+        ) => acting(alloc, place),
+        _ => ending(alloc, None, Stage::First, place),
     }
 }

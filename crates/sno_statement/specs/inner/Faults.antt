@@ -1,11 +1,11 @@
 -- The fault that a walk over a statement's tokens finds, which is the leftmost (`IsFault`, by a law).
-use Rattle.std.specs.Prelude.{ℕ, ◌+◌, nat_le, Bool, true, false, List, [], ◌∷◌, Option, Some, None, ◌||◌, not, if◌then◌else◌}
+use Rattle.std.specs.Prelude.{ℕ, ◌+◌, Bool, true, false, List, [], ◌∷◌, Option, Some, None, ◌||◌, not, if◌then◌else◌}
 use Rattle.sno_lexer.specs.declared.token.Mark.TheVariants.{Dollar, Ampersand}
 use Rattle.sno_lexer.specs.declared.token.Token.{Token}
 use Rattle.sno_lexer.specs.declared.token.TokenKind.{TokenKind}
 use Rattle.sno_lexer.specs.declared.token.TokenKind.TheVariants as token
 use Rattle.sno_expression.specs.Spelling.{spaced}
-use Rattle.sno_expression.specs.inner.Walking.{is_misfit, misfit_index}
+use Rattle.sno_expression.specs.inner.Walking.{is_misfit, misfit_index, least}
 use Rattle.sno_statement.specs.declared.fault.FaultKind.{FaultKind}
 use Rattle.sno_statement.specs.declared.fault.FaultKind.TheVariants.{MissingBlank, Unfit, NoVariable}
 use Rattle.sno_statement.specs.declared.fault.Fault.{Fault}
@@ -76,11 +76,6 @@ is_unset k _ _ = false
 
 abbrev pub note : Bool → ℕ → Option ℕ
 note b at = if b then Some at else None
-
-abbrev pub least : Option ℕ → Option ℕ → Option ℕ
-least None o = o
-least (Some i) None = Some i
-least (Some i) (Some j) = if nat_le i j then Some i else Some j
 
 -- where, if anywhere, stands what is no variable and should be one, as token i shows: an element of an expression, or the
 -- subject, which stands first

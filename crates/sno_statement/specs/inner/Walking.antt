@@ -9,8 +9,8 @@ use Rattle.sno_lexer.specs.declared.token.TokenKind.{TokenKind}
 use Rattle.sno_lexer.specs.declared.token.TokenKind.TheVariants as token
 use Rattle.sno_expression.specs.declared.walking.Paren.{Paren}
 use Rattle.sno_expression.specs.declared.walking.Position.TheVariants.{AtStart}
-use Rattle.sno_expression.specs.declared.walking.Move.{Move}
-use Rattle.sno_expression.specs.declared.walking.Move.TheVariants as move
+use Rattle.sno_expression.specs.inner.Moves.{Move}
+use Rattle.sno_expression.specs.inner.Moves as move
 use Rattle.sno_expression.specs.Spelling.{spaced}
 use Rattle.sno_expression.specs.inner.Walking.{step, ends, inner_of, outer_of}
 use Rattle.sno_statement.specs.declared.walking.Role.{Role}
@@ -19,8 +19,7 @@ use Rattle.sno_statement.specs.declared.walking.Field.{Field}
 use Rattle.sno_statement.specs.declared.walking.Field.TheVariants.{Subject, Pattern, Object, Target}
 use Rattle.sno_statement.specs.declared.walking.Stage.{Stage}
 use Rattle.sno_statement.specs.declared.walking.Stage.TheVariants.{First, In, AfterEquals, AfterColon, AfterOutcome, InTarget, AfterLabel, AfterTarget}
-use Rattle.sno_statement.specs.declared.walking.Advance.{Advance}
-use Rattle.sno_statement.specs.declared.walking.Advance.TheVariants.{Into, Within, Out}
+use Rattle.sno_statement.specs.inner.Advances.{Advance, Into, Within, Out}
 
 -- what a token is between two parts of a statement: `=` with its blanks, `:` with a blank before it, or any other with or
 -- without a blank before it
