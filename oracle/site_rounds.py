@@ -32,7 +32,7 @@ class Site:
 
     def __init__(self, folder, snomon):
         self.folder, self.snomon = folder, snomon
-        self.table = read(self.path('accounts'))
+        self.table = b''.join(line + b'\n' for line in lines_of(read(self.path('accounts'))))
         self.accounts = [line.split()[0].decode() for line in self.table.split(b'\n') if line.strip()]
         self.users = {account: int(uid) for uid, account in told_lines(self.path('users'))}
         said = told_lines(self.path('limits'))

@@ -406,9 +406,6 @@ class Rounds(SiteTrying):
             self.says(self.site('run', self.folder), 3, 'catalogue')
             self.assertEqual(self.answers('anna'), {})
         self.write('site/catalogue', CATALOGUE)
-        self.write('site/accounts', ACCOUNTS[:-1]) # whose last line then goes on into the catalogue's
-        self.says(self.site('run', self.folder), 3)
-        self.write('site/accounts', ACCOUNTS)
         self.assertEqual(self.site('run', self.folder).status, 0)
         self.assertEqual(self.answers('anna'), {1: 'LIST anna LOG\n first\nRECORDS 1\n'})
 
@@ -431,9 +428,32 @@ class Rounds(SiteTrying):
         self.drop('lisa', 'it', LIST % b'lisa')
         done = self.site('status', self.folder)
         self.assertEqual((done.status, done.err), (0, ''))
-        self.assertIn('waiting 1 anna', done.out.decode())
+        self.assertEqual(done.out.decode().splitlines(), ['last round: none yet', 'files claimed: 0', 'files waiting: 1 of anna', 'files waiting: 1 of lisa',
+                                                          'files waiting: 0 of hugo'])
         self.run_site()
-        self.assertEqual(self.site('status', self.folder).status, 0)
+        done = self.site('status', self.folder)
+        self.assertEqual((done.status, done.err, done.out.decode().splitlines()[:3]), (0, '', ['last round: 1, done', 'files claimed: 0', 'files waiting: 0 of anna']))
+        os.remove(self.folder + '/rounds/1.done')
+        self.assertIn('last round: 1, not done', self.site('status', self.folder).out.decode())
+        self.run_site(rounds=0)
+
+    def test_the_last_account_may_have_no_line_end(self):
+        decks = []
+        for ending in (b'\n', b'', b'\r\n'):
+            with open(self.folder + '/accounts', 'wb') as file:
+                file.write(ACCOUNTS[:-1] + ending)
+            done = self.site('status', self.folder)
+            self.assertEqual((done.status, done.err), (0, ''))
+            self.drop('hugo', 'it', LIST % b'hugo')
+            self.run_site()
+            decks.append(self.of('rounds/%d.deck' % self.last_round()))
+        self.assertEqual(len(set(decks)), 1)
+        with open(self.folder + '/accounts', 'wb') as file:
+            file.write(ACCOUNTS + b'hugo again')
+        self.drop('hugo', 'it', LIST % b'hugo')
+        for command in ('status', 'run'):
+            self.says(self.site(command, self.folder), 3, 'accounts', 'line 4')
+        self.assertEqual((self.waiting('hugo'), os.listdir(self.folder + '/taken')), (['it'], []))
 
     def test_init_makes_the_folder(self):
         accounts = self.write('the-accounts', ACCOUNTS)

@@ -19,7 +19,7 @@ use Rattle.mon_access.specs.AccessCheck.{Case, Owner, NamedUser, InGroup, Others
 use Rattle.mon_access.specs.FourCases.{IsOf, IsForUser, IsForGroup, Holds, SomeHolds, Grants}
 use Rattle.mon_access.proofs.Meanings.{refuted, fails, any_Decides, has_tag-Decides, is_for_user-Decides, is_for_group-Decides, some_holds-Decides}
 use Rattle.mon_access.proofs.Places.{position-Some, position-None}
-use Rattle.mon_access.proofs.Cases.{applies_once}
+use Rattle.mon_access.proofs.Cases.{one_case}
 use Rattle.mon_access.specs.Laws.{GrantsByItsCase}
 use Rattle.mon_granting.specs.Granting.{may_grant, holder, if_granted, granting}
 use Rattle.mon_granting.specs.Laws.{IsFirstToHold, IsRightGrantor, GrantsByTheEntry, NamedWhereGranted, NamesAnEntry}
@@ -157,7 +157,7 @@ module _ (account : Account) (group : List ℕ) (entries : List Entry) (request 
 pub grants_by_entry : GrantsByItsCase → GrantsByTheEntry
 unfolding granting
 grants_by_entry law = λ account owner group entries request case i applies.
-    let is = applies_once account owner group entries case applies in
+    let is = (one_case account owner group entries).2 case applies in
     let granted = law account owner group entries request case applies in
     let named = named_by (decision account owner group entries request) (holder case account group entries request) i in
     let its = right account group entries request case i in

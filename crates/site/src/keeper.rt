@@ -4,13 +4,13 @@ use crate::place::{Place, System};
 use mon_access::Accounts;
 use mon_text::Stop;
 use site_plan::terms::TermsFault;
-use site_plan::{Terms, User, limit_name, read_table, read_terms, read_users};
+use site_plan::{Terms, User, limit_name, read_table, read_terms, read_users, whole_table};
 use std::alloc::Global;
 
 /// What the keeper's files say, but for the users.
 #[derive(Drop)]
 pub struct Keeper {
-    /// The text of the account table.
+    /// The text of the account table, each line ended by LF.
     pub table: Vec<u8>,
     /// The accounts.
     pub accounts: Accounts,
@@ -29,8 +29,9 @@ pub fn open_site<R: System>(rt: R, top: String) -> Result<(Place<R>, Keeper), Fa
 
 fn read_keeper<R: System>(place: &Place<R>) -> Result<Keeper, Fault> {
     let terms = terms_of(place)?;
-    let table = file(place, b"accounts")?;
-    let accounts = accounts_in(place.rt.alloc(), &place.path(b"accounts")?, &table)?;
+    let text = file(place, b"accounts")?;
+    let accounts = accounts_in(place.rt.alloc(), &place.path(b"accounts")?, &text)?;
+    let table = whole_table(place.rt.alloc(), &text)?;
     Ok(Keeper {
         table,
         accounts,

@@ -27,6 +27,8 @@ pub struct Place<R: System> {
     pub top: String,
     // Whose the answers are.
     users: Vec<User>,
+    // Whether root runs the program, once a file was made.
+    is_root: Option<bool>,
     // The folders that were changed since the last time that all was on the disk.
     changed: Vec<String>,
     // The last fault that was told as `Failed`.
@@ -41,6 +43,7 @@ impl<R: System> Place<R> {
             rt,
             top,
             users: Vec::new(alloc),
+            is_root: None,
             changed: Vec::new(alloc),
             fault: None,
         }
@@ -80,10 +83,45 @@ impl<R: System> Place<R> {
     /// Puts a file whole in the place of the one of this name.
     pub fn write(&mut self, name: &[u8], bytes: &[u8]) -> Result<(), Fault> {
         let path = self.path(name)?;
-        let owner = self.reader_of(name);
-        match put_whole(&self.rt, &path, bytes, owner) {
+        let reader = self.reader_of(name);
+        match self.put_whole(&path, bytes, reader) {
             Ok(()) => self.change(name),
             Err(error) => Err(self.failed(&path, error)),
+        }
+    }
+
+    // Puts a file whole: it is written beside its place, brought to the disk, and takes the place by one call.
+    fn put_whole(&mut self, path: &String, bytes: &[u8], reader: Option<u32>) -> io::Result<()> {
+        let mut beside = path.clone()?;
+        beside.push_str(".tmp")?;
+        self.write_beside(&beside, bytes, reader)?;
+        fs::rename(&self.rt, beside.as_str(), path.as_str())
+    }
+
+    fn write_beside(
+        &mut self,
+        beside: &String,
+        bytes: &[u8],
+        reader: Option<u32>,
+    ) -> io::Result<()> {
+        let mut file = create_own(&self.rt, beside)?;
+        file.write_all(bytes)?;
+        if let Some(uid) = reader {
+            let is_root = self.is_root_by(&file)?;
+            give_away(&self.rt, &file, beside, is_root, uid)?;
+        }
+        file.sync_all()
+    }
+
+    // Whether root runs the program: he does where a file that it made is his.
+    fn is_root_by(&mut self, file: &R::File) -> io::Result<bool> {
+        match self.is_root {
+            Some(is_root) => Ok(is_root),
+            None => {
+                let is_root = file.metadata()?.uid() == 0;
+                self.is_root = Some(is_root);
+                Ok(is_root)
+            }
         }
     }
 
@@ -327,36 +365,14 @@ fn append_file<R: System>(rt: &R, path: &String, out: &mut Vec<u8>) -> io::Resul
     Ok(())
 }
 
-// Puts a file whole: it is written beside its place, brought to the disk, and takes the place by one call.
-fn put_whole<R: System>(
-    rt: &R,
-    path: &String,
-    bytes: &[u8],
-    reader: Option<u32>,
-) -> io::Result<()> {
-    let mut beside = path.clone()?;
-    beside.push_str(".tmp")?;
-    write_beside(rt, &beside, bytes, reader)?;
-    fs::rename(rt, beside.as_str(), path.as_str())
-}
-
-fn write_beside<R: System>(
-    rt: &R,
-    beside: &String,
-    bytes: &[u8],
-    reader: Option<u32>,
-) -> io::Result<()> {
-    let mut file = create_own(rt, beside)?;
-    file.write_all(bytes)?;
-    give_away(rt, &file, beside, reader)?;
-    file.sync_all()
-}
-
 // A new file that is for its owner alone. One that is there, as a crash leaves it, is no longer.
 fn create_own<R: System>(rt: &R, path: &String) -> io::Result<R::File> {
-    match fs::remove_file(rt, path.as_str()) {
-        Err(error) if error.kind() != ErrorKind::NotFound => Err(error),
-        _ => create_new(rt, path),
+    match create_new(rt, path) {
+        Err(error) if error.kind() == ErrorKind::AlreadyExists => {
+            fs::remove_file(rt, path.as_str())?;
+            create_new(rt, path)
+        }
+        created => created,
     }
 }
 
@@ -373,12 +389,10 @@ fn give_away<R: System>(
     rt: &R,
     file: &R::File,
     path: &String,
-    reader: Option<u32>,
+    is_root: bool,
+    uid: u32,
 ) -> io::Result<()> {
-    let Some(uid) = reader else {
-        return Ok(());
-    };
-    if file.metadata()?.uid() == 0 {
+    if is_root {
         lchown(rt, path.as_str(), Some(uid), None)
     } else {
         file.set_permissions(Permissions::from_mode(0o640))

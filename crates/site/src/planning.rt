@@ -12,20 +12,20 @@ use std::alloc::{AllocError, Global};
 /// The first line of a deck.
 const FIRST_LINE: &[u8] = b"$ACCOUNTS\n";
 
-/// Plans a round, and fixes it on the disk. Answers whether there is one. Where one claimed file is to run alone, it is the round, and
-/// nothing is claimed. Boxes that are passed over are told.
+/// Plans a round, if there is one, and fixes it on the disk. Where one claimed file is to run alone, it is the round, and nothing is
+/// claimed. Boxes that are passed over are told.
 pub fn plan_round<R: System>(
     place: &mut Place<R>,
     keeper: &Keeper,
     n: u64,
     passed: &mut Vec<Fault>,
-) -> Result<bool, Fault> {
+) -> Result<Option<Planned>, Fault> {
     let Some((drawn, next)) = draw(place, keeper, n, passed)? else {
-        return Ok(false);
+        return Ok(None);
     };
     let planned = make_plan(place, keeper, n, next, drawn)?;
     fix(place, n, &planned)?;
-    Ok(true)
+    Ok(Some(planned))
 }
 
 // The files that a round is about, and the next number; none where there is no file.

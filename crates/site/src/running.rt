@@ -4,7 +4,7 @@ use crate::fault::Fault;
 use crate::keeper::{Keeper, open_site};
 use crate::place::{Place, System};
 use crate::planning::plan_round;
-use crate::serving::{Tally, serve, settle_round};
+use crate::serving::{Tally, serve, serve_there, settle_round};
 use crate::status::refuse_open;
 use mon_text::read_count;
 use site_folder::round_name;
@@ -53,10 +53,10 @@ fn serve_next<R: System>(
     n: u64,
     report: &mut Report,
 ) -> Result<bool, Fault> {
-    if !plan_round(place, keeper, n, &mut report.passed)? {
+    let Some(planned) = plan_round(place, keeper, n, &mut report.passed)? else {
         return Ok(false);
-    }
-    let tally = serve(place, n)?;
+    };
+    let tally = serve(place, n, planned)?;
     report.served.push(Served { n, tally })?;
     Ok(true)
 }
@@ -70,7 +70,7 @@ fn finish_last<R: System>(place: &mut Place<R>, report: &mut Report) -> Result<u
     let tally = if stands(place, n, b".out")? {
         settle_round(place, n)?
     } else if stands(place, n, b".deck")? {
-        serve(place, n)?
+        serve_there(place, n)?
     } else {
         return Ok(n);
     };

@@ -8,7 +8,7 @@ use deck_syntax::DeckError;
 use mon_text::Stop;
 use rounds::{Round, RoundError, run_round};
 use site_deck::{Parted, Planned, part_deck, parts_text, without_text};
-use site_folder::{Standing, commit, round_name, settle};
+use site_folder::{Standing, deliver, round_name, settle};
 use site_plan::{Plan, Verdict};
 use std::alloc::{AllocError, Global};
 
@@ -31,16 +31,25 @@ enum Ran {
     Short(usize),
 }
 
-/// Runs a round that is planned, and gives each text what is its own. A text in whose part memory ran out is put off, and the others
-/// are run without it.
-pub fn serve<R: System>(place: &mut Place<R>, n: u64) -> Result<Tally, Fault> {
-    let plan = plan_there(place, n)?;
-    let tries = plan.entries.len();
-    for _ in 0..=tries {
-        let plan = plan_there(place, n)?;
-        match run_planned(place, n, &plan)? {
-            Ran::Whole(round) => return deliver(place, n, &plan, round),
-            Ran::Short(text) => put_off(place, n, plan, text)?,
+/// Serves a round whose plan and deck stand on the disk.
+pub fn serve_there<R: System>(place: &mut Place<R>, n: u64) -> Result<Tally, Fault> {
+    let planned = planned_there(place, n)?;
+    serve(place, n, planned)
+}
+
+/// Runs a round that is planned and fixed on the disk, and gives each text what is its own. A text in whose part memory ran out is put
+/// off, and the others are run without it.
+pub fn serve<R: System>(place: &mut Place<R>, n: u64, planned: Planned) -> Result<Tally, Fault> {
+    let mut planned = planned;
+    for _ in 0..=planned.plan.entries.len() {
+        let Planned {
+            plan,
+            deck,
+            replies,
+        } = planned;
+        match run_planned(place, n, &plan, deck)? {
+            Ran::Whole(round) => return hand_out(place, n, &plan, &replies, round),
+            Ran::Short(text) => planned = put_off(place, n, text)?,
         }
     }
     Err(Fault::Memory)
@@ -80,8 +89,13 @@ fn damaged<R: System>(place: &Place<R>, n: u64, ending: &[u8]) -> Result<Fault, 
 }
 
 // Runs the texts of a round.
-fn run_planned<R: System>(place: &mut Place<R>, n: u64, plan: &Plan) -> Result<Ran, Fault> {
-    let parted = part_deck_of(place, n, plan)?;
+fn run_planned<R: System>(
+    place: &mut Place<R>,
+    n: u64,
+    plan: &Plan,
+    deck: Vec<u8>,
+) -> Result<Ran, Fault> {
+    let parted = part_of(place, n, plan, deck)?;
     let count = parted.texts.len() as u64;
     let lines = lines_before_catalogue(&parted.head);
     match run_parted(place.rt.alloc(), parted) {
@@ -122,10 +136,19 @@ fn bad_catalogue<R: System>(place: &Place<R>, line: u64, before: u64, code: Deck
     )
 }
 
-/// Takes the deck of a round apart, by its plan.
+/// Takes the deck of a round that stands on the disk apart, by its plan.
 pub fn part_deck_of<R: System>(place: &Place<R>, n: u64, plan: &Plan) -> Result<Parted, Fault> {
     let name = round_name(place.rt.alloc(), n, b".deck")?;
     let deck = file(place, &name)?;
+    part_of(place, n, plan, deck)
+}
+
+fn part_of<R: System>(
+    place: &Place<R>,
+    n: u64,
+    plan: &Plan,
+    deck: Vec<u8>,
+) -> Result<Parted, Fault> {
     match part_deck(place.rt.alloc(), plan, deck) {
         Ok(parted) => Ok(parted),
         Err(Stop::Refused(_)) => Err(damaged(place, n, b".deck")?),
@@ -144,30 +167,17 @@ pub fn parts_of(alloc: Global, plan: &Plan, round: &Round) -> Result<Vec<u8>, Al
 }
 
 // Commits and settles a round that was run.
-fn deliver<R: System>(
+fn hand_out<R: System>(
     place: &mut Place<R>,
     n: u64,
     plan: &Plan,
+    replies: &[u8],
     round: Round,
 ) -> Result<Tally, Fault> {
     let alloc = place.rt.alloc();
-    let replies = file(place, &round_name(alloc, n, b".replies")?)?;
     let parts = parts_of(alloc, plan, &round)?;
-    commit_on(place, n, &replies, &parts, round)?;
-    settle_on(place, n)?;
-    Ok(tally_of(plan))
-}
-
-fn commit_on<R: System>(
-    place: &mut Place<R>,
-    n: u64,
-    replies: &[u8],
-    parts: &[u8],
-    round: Round,
-) -> Result<(), Fault> {
-    let alloc = place.rt.alloc();
-    match commit(alloc, place, n, replies, parts, &round.output) {
-        Ok(true) => Ok(()),
+    match deliver(alloc, place, n, replies, &parts, &round.output) {
+        Ok(true) => Ok(tally_of(plan)),
         Ok(false) => Err(damaged(place, n, b".replies")?),
         Err(error) => {
             let name = round_name(alloc, n, b".out")?;
@@ -200,21 +210,23 @@ fn counted(tally: Tally, verdict: Verdict) -> Tally {
 }
 
 // Plans a round anew, without the text of this place: it is put off, or refused where it was run alone.
-fn put_off<R: System>(place: &mut Place<R>, n: u64, plan: Plan, text: usize) -> Result<(), Fault> {
-    let planned = planned_of(place, n, plan)?;
+fn put_off<R: System>(place: &mut Place<R>, n: u64, text: usize) -> Result<Planned, Fault> {
+    let planned = planned_there(place, n)?;
     match without_text(place.rt.alloc(), planned, text) {
         Ok(planned) => {
             unfix(place, n)?;
-            fix(place, n, &planned)
+            fix(place, n, &planned)?;
+            Ok(planned)
         }
         Err(Stop::Refused(_)) => Err(damaged(place, n, b".deck")?),
         Err(Stop::Memory) => Err(Fault::Memory),
     }
 }
 
-// What stands of a round that is planned.
-fn planned_of<R: System>(place: &Place<R>, n: u64, plan: Plan) -> Result<Planned, Fault> {
+// What stands on the disk of a round that is planned.
+fn planned_there<R: System>(place: &Place<R>, n: u64) -> Result<Planned, Fault> {
     let alloc = place.rt.alloc();
+    let plan = plan_there(place, n)?;
     let replies = file(place, &round_name(alloc, n, b".replies")?)?;
     let deck = file(place, &round_name(alloc, n, b".deck")?)?;
     Ok(Planned {

@@ -133,15 +133,14 @@ fn tell_faults<R: Eprint>(rt: &R, faults: &[Fault]) {
 fn tell_last<R: Teller>(rt: &R, place: &Place<R>) -> Result<(), Fault> {
     let n = last_round(place)?;
     let claimed = all_taken(place)?.len();
-    let word = if n == 0 {
-        "there was none"
+    let _told = if n == 0 {
+        println!(rt; "last round: none yet")
     } else if stands(place, n, b".done")? {
-        "is done"
+        println!(rt; "last round: {n}, done")
     } else {
-        "is not done"
+        println!(rt; "last round: {n}, not done: the next run goes on with it")
     };
-    let _told = println!(rt; "ok round {n} {word}");
-    let _told = println!(rt; "ok claimed {claimed}");
+    let _told = println!(rt; "files claimed: {claimed}");
     Ok(())
 }
 
@@ -162,6 +161,6 @@ fn tell_box<R: Teller>(rt: &R, place: &Place<R>, account: &Name) -> Result<(), F
     };
     let waiting = names.len();
     let name = str::from_utf8(account.as_bytes()).unwrap_or("");
-    let _told = println!(rt; "ok waiting {waiting} {name}");
+    let _told = println!(rt; "files waiting: {waiting} of {name}");
     Ok(())
 }

@@ -51,3 +51,14 @@ module _ {F : Type 0} (moment : F → ℕ) (left_since : F → ℕ → Files →
     each = λ c left. less c (leaves.each c left);
     before = λ t c le left. ⊎_elim (λ was. inl was) (λ now. inr (less c now)) (leaves.before t c le left);
   }
+
+  -- a run, and another one behind it
+  pub leaves_both : (P Q R : Files → Type 0) (old mid new : F) → LeavesOnly moment left_since P old mid → LeavesOnly moment left_since Q mid new
+      → ((c : Files) → P c → R c) → ((c : Files) → Q c → R c) → LeavesOnly moment left_since R old new
+  leaves_both P Q R old mid new first second of_first of_second = record {
+    later = omega (arith, first.later, second.later);
+    each = λ c left. ⊎_elim (λ was. of_first c (first.each c was)) (λ now. of_second c now) (second.before (moment old) c first.later left);
+    before = λ t c le left.
+        ⊎_elim (λ was. ⊎_elim (λ earlier. inl earlier) (λ now. inr (of_first c now)) (first.before t c le was)) (λ now. inr (of_second c now))
+        (second.before t c (omega (arith, le, first.later)) left);
+  }

@@ -5,3 +5,4 @@ mod Paying
 mod Committing
 mod Back
 mod Remembering
+mod Pieces

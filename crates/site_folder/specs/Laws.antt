@@ -3,7 +3,7 @@ use Rattle.std.specs.Prelude.{◌≡◌, ℕ, List, None, Some, is_some, true}
 use Rattle.std.specs.List.{AllByRecursion}
 use Rattle.site_folder.specs.Files.{Files}
 use Rattle.site_folder.specs.Parts.{Act, IsSpellable, parts_text, acts_of}
-use Rattle.site_folder.specs.Rounds.{settled, output_name, committed, IsSettling, IsCommitting}
+use Rattle.site_folder.specs.Rounds.{settled, output_name, committed, IsSettling, IsCommitting, IsDelivering}
 
 -- whatever a crash on the way left, to settle it comes to the same files as without the crash
 abbrev pub Settles : Type 0
@@ -13,6 +13,11 @@ Settles = (n : ℕ) (before after : Files) → IsSettling n before after → set
 -- crash
 abbrev pub Commits : Type 0
 Commits = (n : ℕ) (replies parts output : List ℕ) (before after : Files) → before (output_name n) ≡ None → IsCommitting n replies parts output before after
+    → is_some (after (output_name n)) ≡ true → settled n after ≡ settled n (committed n replies parts output before)
+
+-- the same of a round that was being delivered
+abbrev pub Delivers : Type 0
+Delivers = (n : ℕ) (replies parts output : List ℕ) (before after : Files) → before (output_name n) ≡ None → IsDelivering n replies parts output before after
     → is_some (after (output_name n)) ≡ true → settled n after ≡ settled n (committed n replies parts output before)
 
 -- to settle what is settled changes nothing

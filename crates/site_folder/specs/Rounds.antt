@@ -104,3 +104,9 @@ IsCommitting n replies parts output before after =
     (after ≡ before)
     ⊎ ((before (output_name n) ≡ None) × (AreSomeGiven (staged n replies parts) before after
     ⊎ ((after ≡ committed n replies parts output before) × (is_some (owed_by replies parts output) ≡ true))))
+
+-- The round is being committed; or it is committed, and on its way to being settled.
+abbrev pub IsDelivering : ℕ → List ℕ → List ℕ → List ℕ → Files → Files → Type 0
+IsDelivering n replies parts output before after =
+    IsCommitting n replies parts output before after
+    ⊎ ((before (output_name n) ≡ None) × IsSettling n (committed n replies parts output before) after)

@@ -1,5 +1,5 @@
 //! Laws over rounds and crashes: each function's contract is one.
-ghost use Rattle.site_folder.specs.Laws.{Settles, Commits, StaysSettled, ReadsBack};
+ghost use Rattle.site_folder.specs.Laws.{Settles, Commits, Delivers, StaysSettled, ReadsBack};
 
 /// Whatever a crash left while a round was settled, to settle it comes to the same files as without the crash.
 pub fn settles()
@@ -10,6 +10,12 @@ pub fn settles()
 /// crash.
 pub fn commits()
     ensures { Commits }
+{}
+
+/// Whatever a crash left while a round was delivered: where its output stands, to settle it comes to the same files as without the
+/// crash.
+pub fn delivers()
+    ensures { Delivers }
 {}
 
 /// To settle what is settled changes nothing.

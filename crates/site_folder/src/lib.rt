@@ -13,4 +13,4 @@ pub use folder::{Folder, FolderError};
 pub use memory::MemoryFolder;
 pub use names::round_name;
 pub use parts::{Act, put_part, put_removal, read_parts};
-pub use rounds::{Standing, commit, settle};
+pub use rounds::{Standing, commit, deliver, settle};

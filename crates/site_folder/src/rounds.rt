@@ -1,13 +1,13 @@
 //! A round is committed and settled. The file `N.out` decides: before it stands, nothing that anyone sees was changed; from then on,
 //! settling goes on to the same end whatever a crash left.
-ghost use Rattle.std.specs.Prelude.{◌≡◌, ◌≤◌, ◌+◌, ◌&&◌, ◌==◌, ◌∷◌, [], None, Some, true, false, map, option_map, is_some, is_none, length, drop, IfOk, OnOk, IsErrOf};
+ghost use Rattle.std.specs.Prelude.{◌≡◌, ◌≤◌, ◌+◌, ◌++◌, ◌&&◌, ◌==◌, ◌∷◌, [], None, Some, true, false, map, option_map, is_some, is_none, length, take, drop, IfOk, OnOk, IsErrOf};
 ghost use Rattle.site_folder.specs.Files.{put_of, with_given, with_all, AreSomeGiven};
 ghost use Rattle.site_folder.specs.Crashes.{Only, GoesBy, LeavesOnly};
 ghost use Rattle.site_folder.specs.Parts.{seen_act, acts_of, total, count_of, put_by, puts_of, removal_by, removals_of};
-ghost use Rattle.site_folder.specs.Rounds.{output_name, committed, settled, paid, fitting, owed_of, owed_for, owed_by, standing_of, standing_for, staged, IsPaying, IsSettling, IsCommitting};
+ghost use Rattle.site_folder.specs.Rounds.{output_name, done_name, committed, settled, paid, fitting, owed_of, owed_by, owed, standing_of, standing_for, staged, IsPaying, IsSettling, IsCommitting, IsDelivering};
 ghost use Rattle.site_folder.specs.inner.Found.{IsFound, named, with_output, IsStaging};
 
-use crate::names::RoundNames;
+use crate::names::{RoundNames, round_name};
 use crate::{Act, Folder, FolderError, read_parts};
 use std::alloc::{AllocError, Global};
 
@@ -120,38 +120,104 @@ pub fn settle<F: Folder>(alloc: Global, folder: &mut F, n: u64) -> Result<Standi
         Found::Open => Ok(Standing::Open),
         Found::Done => Ok(Standing::Done),
         Found::Damaged => Ok(Standing::Damaged),
-        Found::Committed(files) => settle_files(alloc, folder, &names.done, &files),
+        Found::Committed(files) => settle_files(
+            alloc,
+            folder,
+            &names.done,
+            &files.replies,
+            &files.parts,
+            &files.output,
+        ),
     }
 }
 
-// Settles a round of which these are the files.
+// Settles a round that is not done, of which these are the files.
 fn settle_files<F: Folder>(
     alloc: Global,
     folder: &mut F,
     done: &[u8],
-    files: &RoundFiles,
+    replies: &[u8],
+    parts: &[u8],
+    output: &[u8],
 ) -> Result<Standing, FolderError>
     requires { F.tells → Only (F.seen folder.old) (F.may_leave folder.old) }
-    ensures settled { F.tells → OnOk result (F.seen folder.new ≡ paid done.now (owed_for (acts_of files.now.parts.items) files.now.bytes.items) (F.seen folder.old)) }
+    ensures settled { F.tells → OnOk result (F.seen folder.new ≡ paid done.now (owed_by replies.now parts.now output.now) (F.seen folder.old)) }
     ensures durable { F.tells → OnOk result (Only (F.seen folder.new) (F.may_leave folder.new)) }
-    ensures told { IfOk result (λ told. told ≡ standing_for (owed_for (acts_of files.now.parts.items) files.now.bytes.items)) }
-    ensures any_moment { F.tells → LeavesOnly F.moment F.left_since (IsPaying done.now (owed_for (acts_of files.now.parts.items) files.now.bytes.items) (F.seen folder.old)) folder.old folder.new }
+    ensures told { IfOk result (λ told. told ≡ standing_for (owed_by replies.now parts.now output.now)) }
+    ensures any_moment { F.tells → LeavesOnly F.moment F.left_since (IsPaying done.now (owed_by replies.now parts.now output.now) (F.seen folder.old)) folder.old folder.new }
     ensures failed { F.tells → IsErrOf result FolderError.Failed → F.can_fail }
 {
-    match fitting_acts(alloc, &files.parts, files.bytes.len(), 0)? {
+    match fitting_acts(alloc, parts, replies.len(), output.len())? {
         None => Ok(Standing::Damaged),
         Some(acts) => {
-            pay(folder, done, &acts, &files.bytes)?;
+            pay(alloc, folder, done, &acts, replies, output)?;
             Ok(Standing::Done)
         }
     }
 }
 
-// The files of a round that is committed: its parts, and its replies with the output behind them.
+/// Commits round `n` and settles it, as `commit` and then `settle` do, without reading again what was put. Answers whether it did, as
+/// `commit` does.
+///
+/// # Errors
+///
+/// As `commit`, and as `settle`.
+pub fn deliver<F: Folder>(
+    alloc: Global,
+    folder: &mut F,
+    n: u64,
+    replies: &[u8],
+    parts: &[u8],
+    output: &[u8],
+) -> Result<bool, FolderError>
+    // What is read is what is on the disk.
+    requires { F.tells → Only (F.seen folder.old) (F.may_leave folder.old) }
+
+    ensures told { F.tells → IfOk result (λ told. told ≡ (is_none (F.seen folder.old (output_name n)) && is_some (owed_by replies.now parts.now output.now))) }
+    ensures delivered { F.tells → IfOk result (λ told. told ≡ true → F.seen folder.new ≡ settled n (committed n replies.now parts.now output.now (F.seen folder.old))) }
+    ensures refused { IfOk result (λ told. told ≡ false → folder.new ≡ folder.old) }
+    ensures durable { F.tells → OnOk result (Only (F.seen folder.new) (F.may_leave folder.new)) }
+
+    // A crash at any moment leaves the round being committed, or committed and on its way.
+    ensures any_moment { F.tells → LeavesOnly F.moment F.left_since (IsDelivering n replies.now parts.now output.now (F.seen folder.old)) folder.old folder.new }
+    ensures failed { F.tells → IsErrOf result FolderError.Failed → F.can_fail }
+{
+    if !commit(alloc, folder, n, replies, parts, output)? {
+        return Ok(false);
+    }
+    settle_known(alloc, folder, n, replies, parts, output)?;
+    Ok(true)
+}
+
+// Settles a round that is committed with these files.
+fn settle_known<F: Folder>(
+    alloc: Global,
+    folder: &mut F,
+    n: u64,
+    replies: &[u8],
+    parts: &[u8],
+    output: &[u8],
+) -> Result<(), FolderError>
+    requires rest { F.tells → Only (F.seen folder.old) (F.may_leave folder.old) }
+    requires known { F.tells → F.seen folder.old (done_name n) ≡ None → owed n (F.seen folder.old) ≡ owed_by replies.now parts.now output.now }
+    ensures settled { F.tells → OnOk result (F.seen folder.new ≡ settled n (F.seen folder.old)) }
+    ensures durable { F.tells → OnOk result (Only (F.seen folder.new) (F.may_leave folder.new)) }
+    ensures any_moment { F.tells → LeavesOnly F.moment F.left_since (IsSettling n (F.seen folder.old)) folder.old folder.new }
+    ensures failed { F.tells → IsErrOf result FolderError.Failed → F.can_fail }
+{
+    let done = round_name(alloc, n, b".done")?;
+    if !stands(alloc, folder, &done)? {
+        settle_files(alloc, folder, &done, replies, parts, output)?;
+    }
+    Ok(())
+}
+
+// The files of a round that is committed.
 #[derive(Drop)]
 pub(crate) struct RoundFiles {
+    replies: Vec<u8>,
     parts: Vec<u8>,
-    bytes: Vec<u8>,
+    output: Vec<u8>,
 }
 
 // What is found of a round.
@@ -179,7 +245,7 @@ fn read_round<F: Folder>(
         return Ok(Found::Done);
     }
     match folder.get(alloc, &names.output)? {
-        Some(output) => read_files(alloc, folder, names, &output),
+        Some(output) => read_files(alloc, folder, names, output),
         None => Ok(Found::Open),
     }
 }
@@ -189,20 +255,20 @@ fn read_files<F: Folder>(
     alloc: Global,
     folder: &F,
     names: &RoundNames,
-    output: &[u8],
+    output: Vec<u8>,
 ) -> Result<Found, FolderError>
-    ensures found { F.tells → F.seen folder.now names.now.done.items ≡ None → F.seen folder.now names.now.output.items ≡ Some output.now
+    ensures found { F.tells → F.seen folder.now names.now.done.items ≡ None → F.seen folder.now names.now.output.items ≡ Some output.items
         → IfOk result (IsFound names.now (F.seen folder.now)) }
     ensures failed { F.tells → IsErrOf result FolderError.Failed → F.can_fail }
 {
     let parts = folder.get(alloc, &names.parts)?;
     let replies = folder.get(alloc, &names.replies)?;
     match (replies, parts) {
-        (Some(replies), Some(parts)) => {
-            let mut bytes = replies;
-            bytes.extend_from_slice(output)?;
-            Ok(Found::Committed(RoundFiles { parts, bytes }))
-        }
+        (Some(replies), Some(parts)) => Ok(Found::Committed(RoundFiles {
+            replies,
+            parts,
+            output,
+        })),
         _ => Ok(Found::Damaged),
     }
 }
@@ -277,58 +343,113 @@ fn put_durably<F: Folder>(folder: &mut F, name: &[u8], bytes: &[u8]) -> Result<(
 
 // Puts what is owed, removes the texts that were taken, and marks the round as done; each once what comes before is on the disk.
 fn pay<F: Folder>(
+    alloc: Global,
     folder: &mut F,
     done: &[u8],
     acts: &[Act<'_>],
-    bytes: &[u8],
+    replies: &[u8],
+    output: &[u8],
 ) -> Result<(), FolderError>
     requires rest { F.tells → Only (F.seen folder.old) (F.may_leave folder.old) }
-    requires room { total (map seen_act acts.now) ≤ length bytes.now }
-    ensures paid { F.tells → OnOk result (F.seen folder.new ≡ paid done.now (Some (owed_of (map seen_act acts.now) bytes.now)) (F.seen folder.old)) }
+    requires room { total (map seen_act acts.now) ≤ length (replies.now ++ output.now) }
+    ensures paid { F.tells → OnOk result (F.seen folder.new ≡ paid done.now (Some (owed_of (map seen_act acts.now) (replies.now ++ output.now))) (F.seen folder.old)) }
     ensures durable { F.tells → OnOk result (Only (F.seen folder.new) (F.may_leave folder.new)) }
-    ensures any_moment { F.tells → LeavesOnly F.moment F.left_since (IsPaying done.now (Some (owed_of (map seen_act acts.now) bytes.now)) (F.seen folder.old)) folder.old folder.new }
+    ensures any_moment { F.tells → LeavesOnly F.moment F.left_since (IsPaying done.now (Some (owed_of (map seen_act acts.now) (replies.now ++ output.now))) (F.seen folder.old)) folder.old folder.new }
     ensures failed { F.tells → IsErrOf result FolderError.Failed → F.can_fail }
 {
-    put_owed(folder, acts, bytes)?;
+    put_owed(alloc, folder, acts, replies, output)?;
     remove_taken(folder, acts)?;
     put_durably(folder, done, &[])
 }
 
 // Puts each file that is owed, and answers once all are on the disk.
-fn put_owed<F: Folder>(folder: &mut F, acts: &[Act<'_>], bytes: &[u8]) -> Result<(), FolderError>
-    requires { total (map seen_act acts.now) ≤ length bytes.now }
-    ensures put { F.tells → OnOk result (F.seen folder.new ≡ with_all (puts_of (map seen_act acts.now) bytes.now) (F.seen folder.old)) }
+fn put_owed<F: Folder>(
+    alloc: Global,
+    folder: &mut F,
+    acts: &[Act<'_>],
+    replies: &[u8],
+    output: &[u8],
+) -> Result<(), FolderError>
+    requires { total (map seen_act acts.now) ≤ length (replies.now ++ output.now) }
+    ensures put { F.tells → OnOk result (F.seen folder.new ≡ with_all (puts_of (map seen_act acts.now) (replies.now ++ output.now)) (F.seen folder.old)) }
     ensures durable { F.tells → OnOk result (Only (F.seen folder.new) (F.may_leave folder.new)) }
-    ensures crash { F.tells → GoesBy F.moment F.left_since F.may_leave (AreSomeGiven (puts_of (map seen_act acts.now) bytes.now)) folder.old folder.new }
+    ensures crash { F.tells → GoesBy F.moment F.left_since F.may_leave (AreSomeGiven (puts_of (map seen_act acts.now) (replies.now ++ output.now))) folder.old folder.new }
     ensures failed { F.tells → IsErrOf result FolderError.Failed → F.can_fail }
 {
-    let mut rest = bytes;
+    let mut first = replies;
+    let mut second = output;
     for act in acts {
-        rest = put_act(folder, act, rest)?;
+        let left = put_act(alloc, folder, act, first, second)?;
+        first = left.0;
+        second = left.1;
     }
     folder.sync()
 }
 
-// Puts what an act puts, and answers the bytes behind it.
+// Puts what an act puts, of bytes in two pieces, and answers what is behind it.
 fn put_act<'a, F: Folder>(
+    alloc: Global,
     folder: &mut F,
     act: &Act<'_>,
-    rest: &'a [u8],
-) -> Result<&'a [u8], FolderError>
-    requires { count_of (seen_act act.now) ≤ length rest.now }
-    ensures behind { IfOk result (λ behind. behind.now ≡ drop (count_of (seen_act act.now)) rest.now) }
-    ensures put { F.tells → OnOk result (F.seen folder.new ≡ with_all (put_by (seen_act act.now) rest.now) (F.seen folder.old)) }
-    ensures crash { F.tells → GoesBy F.moment F.left_since F.may_leave (AreSomeGiven (put_by (seen_act act.now) rest.now)) folder.old folder.new }
+    first: &'a [u8],
+    second: &'a [u8],
+) -> Result<(&'a [u8], &'a [u8]), FolderError>
+    requires { count_of (seen_act act.now) ≤ length (first.now ++ second.now) }
+    ensures behind { IfOk result (λ left. left.0.now ++ left.1.now ≡ drop (count_of (seen_act act.now)) (first.now ++ second.now)) }
+    ensures put { F.tells → OnOk result (F.seen folder.new ≡ with_all (put_by (seen_act act.now) (first.now ++ second.now)) (F.seen folder.old)) }
+    ensures crash { F.tells → GoesBy F.moment F.left_since F.may_leave (AreSomeGiven (put_by (seen_act act.now) (first.now ++ second.now))) folder.old folder.new }
     ensures failed { F.tells → IsErrOf result FolderError.Failed → F.can_fail }
 {
     match act {
-        Act::Put { length, name } => {
-            let (bytes, behind) = rest.split_at(*length);
-            folder.put(name, bytes)?;
-            Ok(behind)
-        }
-        Act::Remove { .. } => Ok(rest),
+        Act::Put { length, name } => put_front(alloc, folder, name, *length, first, second),
+        Act::Remove { .. } => Ok((first, second)),
     }
+}
+
+// Puts so many bytes of two pieces under a name, and answers what is behind them.
+fn put_front<'a, F: Folder>(
+    alloc: Global,
+    folder: &mut F,
+    name: &[u8],
+    count: usize,
+    first: &'a [u8],
+    second: &'a [u8],
+) -> Result<(&'a [u8], &'a [u8]), FolderError>
+    requires { count ≤ length (first.now ++ second.now) }
+    ensures behind { IfOk result (λ left. left.0.now ++ left.1.now ≡ drop count (first.now ++ second.now)) }
+    ensures put { F.tells → OnOk result (F.seen folder.new ≡ with_given (put_of name.now (take count (first.now ++ second.now))) (F.seen folder.old)) }
+    ensures crash { F.tells → GoesBy F.moment F.left_since F.may_leave (AreSomeGiven (put_of name.now (take count (first.now ++ second.now)) ∷ [])) folder.old folder.new }
+    ensures failed { F.tells → IsErrOf result FolderError.Failed → F.can_fail }
+{
+    if count <= first.len() {
+        let (bytes, behind) = first.split_at(count);
+        folder.put(name, bytes)?;
+        Ok((behind, second))
+    } else {
+        let (bytes, behind) = second.split_at(count - first.len());
+        put_joined(alloc, folder, name, first, bytes)?;
+        Ok((b"", behind))
+    }
+}
+
+// Puts two pieces as one file.
+fn put_joined<F: Folder>(
+    alloc: Global,
+    folder: &mut F,
+    name: &[u8],
+    first: &[u8],
+    second: &[u8],
+) -> Result<(), FolderError>
+    ensures put { F.tells → OnOk result (F.seen folder.new ≡ with_given (put_of name.now (first.now ++ second.now)) (F.seen folder.old)) }
+    ensures crash { F.tells → GoesBy F.moment F.left_since F.may_leave (AreSomeGiven (put_of name.now (first.now ++ second.now) ∷ [])) folder.old folder.new }
+    ensures failed { F.tells → IsErrOf result FolderError.Failed → F.can_fail }
+{
+    if first.is_empty() {
+        return folder.put(name, second);
+    }
+    let mut bytes = first.to_vec(alloc)?;
+    bytes.extend_from_slice(second)?;
+    folder.put(name, &bytes)
 }
 
 // Removes each text that was taken, and answers once none is on the disk.

@@ -1,6 +1,7 @@
--- The account table of a site (own): the lines that stand in a deck behind `$ACCOUNTS`, each ended by a line feed.
-use Rattle.std.specs.Prelude.{ℕ, ◌+◌, List, [], ◌∷◌, length, slice_index, ◌-◌, ◌==◌, ◌||◌, Bool, Result, Ok, Err, if◌then◌else◌}
+-- The account table of a site (own): the lines that stand in a deck behind `$ACCOUNTS`, the last one ended or not.
+use Rattle.std.specs.Prelude.{ℕ, ◌+◌, List, [], ◌∷◌, ◌++◌, length, slice_index, ◌-◌, ◌==◌, ◌||◌, Bool, Result, Ok, Err, if◌then◌else◌}
 use Rattle.std.specs.Option.{option_or, option_map_or}
+use Rattle.std.specs.List.{flat_map}
 use Rattle.std.specs.Str.Lines.{lines}
 use Rattle.mon_access.specs.declared.account.Account.{Account}
 use Rattle.deck_syntax.specs.Refusing.{line_refusal, is_dollar_line}
@@ -13,6 +14,10 @@ abbrev pub after_line : List Account → List ℕ → Result (List Account) Tabl
 after_line accounts line =
     option_map_or (λ code. Err (Line code)) (option_or (line_refusal 200 line) (accounts_refusal accounts line))
     (if is_dollar_line line then Err Heading else Ok (table_after accounts line))
+
+-- lines as they stand in a deck, each ended by a line feed
+abbrev pub ended_lines : List (List ℕ) → List ℕ
+ended_lines lines = flat_map (λ line. line ++ 10 ∷ []) lines
 
 -- the accounts of a table, or its first line that is wrong, and why
 abbrev pub table_of : List ℕ → Result (List Account) (ℕ × TableFault)

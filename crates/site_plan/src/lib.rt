@@ -24,7 +24,7 @@ pub use plan::{Entry, Plan, Verdict, plan_text, read_plan};
 pub use reason::Reason;
 pub use replies::{put_off_reply, reply};
 pub use runs::Runs;
-pub use table::{TableFault, read_table};
+pub use table::{TableFault, read_table, whole_table};
 pub use taken::{Taken, put_id};
 pub use terms::{Terms, TermsFault, limit_name, read_terms};
 pub use users::{User, UsersFault, read_users};

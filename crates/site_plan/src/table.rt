@@ -1,14 +1,15 @@
 //! The account table of a site.
-ghost use Rattle.std.specs.Prelude.{◌≡◌, Ok, Err, IfErr, OnOk};
+ghost use Rattle.std.specs.Prelude.{◌≡◌, Ok, Err, IfOk, IfErr, OnOk};
+ghost use Rattle.std.specs.Str.Lines.{lines};
 ghost use Rattle.mon_text.specs.Stops.{Gives};
 ghost use Rattle.intake.specs.Submissions.{IfStopped};
-ghost use Rattle.site_plan.specs.Tables.{after_line, table_of};
+ghost use Rattle.site_plan.specs.Tables.{after_line, table_of, ended_lines};
 
 use crate::lines::{first_line, stop_at};
 use deck_syntax::{DeckError, put_account_line};
 use mon_access::Accounts;
 use mon_text::Stop;
-use std::alloc::Global;
+use std::alloc::{AllocError, Global};
 
 /// Why a line of the account table is refused.
 #[derive(Clone, Copy)]
@@ -50,6 +51,25 @@ pub fn read_table(alloc: Global, text: &[u8]) -> Result<Accounts, Stop<(u64, Tab
         rest = behind;
     }
     Ok(accounts)
+}
+
+/// The text of a table as it stands in a deck: each line ended by LF. The last one may have no line end, as in a deck.
+///
+/// # Errors
+///
+/// Where a growth was refused.
+pub fn whole_table(alloc: Global, text: &[u8]) -> Result<Vec<u8>, AllocError>
+    ensures { IfOk result (λ whole. whole.items ≡ ended_lines (lines text.now)) }
+{
+    let mut whole = Vec::new(alloc);
+    let mut rest = text;
+    'lines: while !rest.is_empty() {
+        let (line, behind) = first_line(rest);
+        whole.extend_from_slice(line)?;
+        whole.push(b'\n')?;
+        rest = behind;
+    }
+    Ok(whole)
 }
 
 fn take_line(alloc: Global, accounts: &mut Accounts, line: &[u8]) -> Result<(), Stop<TableFault>>

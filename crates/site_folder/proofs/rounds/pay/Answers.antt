@@ -1,4 +1,4 @@
-use Rattle.std.proofs.Common.{◌∷◌, [], inl, inr, map, Some, sym, ap, ◌∙◌, subst}
+use Rattle.std.proofs.Common.{◌∷◌, ◌++◌, [], inl, inr, map, Some, sym, ap, ◌∙◌, subst}
 use Rattle.site_folder.specs.Files.{put_of, with_all, AreSomeGiven}
 use Rattle.site_folder.specs.Crashes.{Only}
 use Rattle.site_folder.specs.Parts.{seen_act, puts_of, removals_of}
@@ -11,8 +11,8 @@ pub returns-clause-any_moment : goal.returns-clause-any_moment
 returns-clause-any_moment g c = λ tells.
     let F = g.F.Folder in
     let acts = map seen_act c.args.acts.now in
-    let P = IsPaying c.args.done.now (Some (owed_of acts c.args.bytes.now)) (F.seen c.args.folder.now) in
-    let puts = puts_of acts c.args.bytes.now in
+    let P = IsPaying c.args.done.now (Some (owed_of acts (c.args.replies.now ++ c.args.output.now))) (F.seen c.args.folder.now) in
+    let puts = puts_of acts (c.args.replies.now ++ c.args.output.now) in
     let put = with_all puts (F.seen c.args.folder.now) in
     let removals = removals_of acts in
     let at_start = started F.moment F.left_since F.may_leave P c.args.folder.now
