@@ -5,6 +5,8 @@ ghost use Rattle.mon_acl.specs.Texts.{is_gap, trimmed};
 ghost use Rattle.mon_acl.specs.inner.Building.{parts_behind};
 ghost use Rattle.mon_text.specs.Beginnings.{without_leading};
 
+use memchr::memchr;
+
 /// Whether a byte is a space or a tab.
 pub(crate) fn is_gap(byte: u8) -> bool
     ensures { result ≡ is_gap byte }
@@ -52,6 +54,24 @@ fn first_place(text: &[u8], separator: u8) -> Option<usize>
     ensures { result ≡ position (λ b. b == separator) text.now }
 {
     text.iter().position(|byte| *byte == separator)
+}
+
+/// The same, where it may stand far behind: sixteen bytes are looked at at once.
+fn far_place(text: &[u8], separator: u8) -> Option<usize>
+    ensures { result ≡ position (λ b. b == separator) text.now }
+{
+    memchr(separator, text)
+}
+
+/// What stands before the first separator, and what behind it, where there is one, as `cut` says; it may stand far behind.
+pub(crate) fn cut_far(text: &[u8], separator: u8) -> (&[u8], Option<&[u8]>)
+    ensures parts { slice_split (λ b. b == separator) text.now ≡ result.0.now ∷ parts_behind (λ b. b == separator) (option_copied result.1) }
+    ensures shorter { IfSome result.1 (λ rest. length rest.now < length text.now) }
+{
+    match far_place(text, separator) {
+        Some(i) => (&text[..i], Some(&text[i + 1..])),
+        None => (text, None),
+    }
 }
 
 /// What stands before the first separator, and what behind it, where there is one.

@@ -5,7 +5,7 @@ ghost use Rattle.mon_acl.specs.Texts.{is_gap, without_comment};
 ghost use Rattle.mon_acl.specs.inner.Building.{pieces_left, left};
 ghost use Rattle.mon_acl.specs.declared.pieces.Form.TheVariants as form;
 
-use crate::fields::{cut, is_gap};
+use crate::fields::{cut_far, is_gap};
 
 /// The text forms of a permission list.
 #[derive(Clone, Copy)]
@@ -23,7 +23,7 @@ impl Form {
         ensures shorter { IfSome result (λ p. left (option_copied p.1) < left (option_copied rest.entry)) }
     {
         match self {
-            Form::Short => Some(cut(rest?, b',')),
+            Form::Short => Some(cut_far(rest?, b',')),
             Form::Long => next_filled_line(rest),
         }
     }
@@ -33,7 +33,7 @@ impl Form {
 fn without_comment(line: &[u8]) -> &[u8]
     ensures { result.now ≡ without_comment line.now }
 {
-    let (entry, _comment) = cut(line, b'#');
+    let (entry, _comment) = cut_far(line, b'#');
     entry
 }
 
@@ -51,7 +51,7 @@ fn next_filled_line(lines: Option<&[u8]>) -> Option<(&[u8], Option<&[u8]>)>
 {
     let mut rest = lines;
     while let Some(lines) = rest {
-        let (line, after) = cut(lines, b'\n');
+        let (line, after) = cut_far(lines, b'\n');
         let entry = without_comment(line);
         if !is_blank(entry) {
             return Some((entry, after));

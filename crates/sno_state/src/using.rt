@@ -34,7 +34,11 @@ fn store_record(
 {
     let text = state.kept(alloc, input, line)?;
     let copy = text.copy()?;
-    state.set(name, Value::Text(copy))?;
+    let mut value = Value::Text(copy);
+    // Most variables were named before, and are not to be written too.
+    if !state.replace(name, &mut value) {
+        state.set(name, value)?;
+    }
     Ok(Evaluated::Gives(Value::Text(text)))
 }
 
