@@ -1,16 +1,28 @@
 """Audits of random decks beside what is printed: each says what the other must.
 
-python3 audits.py COUNT SEED    runs monitor.py on random decks, and has status 1 where an audit and an output do not fit
+python3 audits.py COUNT SEED       runs monitor.py on random decks, and has status 1 where an audit and an output do not fit
+python3 audits.py --stored CASES   the same of the worked decks of that folder beside which an audit is stored, which has to be that audit
+python3 audits.py --store CASES    writes these audits
 
 In the audit's order stand the commands with their replies, and the jobs that end or are refused; in its job's lines each denial, each FULL
 and each line for the spool. Each request on a data set that was granted names an entry, and no other does. A line is one of LINE: so no
-record's text is in it."""
+record's text is in it. The last line says how the deck came to its end."""
+import os
 import random
 import re
 import sys
 import monitor
 import random_decks
 from snobol import in_a_large_stack
+
+STORED = '''
+a-command-between-the-turns-of-two-jobs a-fifth-job-waits-for-a-slot a-writer-without-read-tells-no-length
+acts-on-untied-units-and-spool adder-without-read-over-five-records all-slots-full-of-loops append-denied-before-mode
+append-set-made-anew-as-seq copy-set-to-spool create-delete-and-names create-in-full-catalogue denials-of-units
+denied-after-list-change denied-after-set-was-made-anew each-command-of-owners endfile-after-rewind-empties-the-set
+example-auditor example-cleanup example-groups example-refused job-of-unknown-account list-change-refusals-in-order
+list-of-a-hundred-named-users option-slots-eight position-is-kept-over-a-new-set refused-deck-without-stop
+refused-literal-not-closed refused-unit-tied-twice rewind-does-not-look-the-set-up write-by-the-other-of-two-groups'''.split()  # the worked decks beside which an audit is stored
 
 NAME = r'[A-Za-z][A-Za-z0-9._-]{0,30}'
 ENTRY = r'(?:user|group|mask|other):(?:%s)?:' % NAME
@@ -82,10 +94,17 @@ def printed(audit):
                 spooled[head] = spooled.get(head, 0) + 1
 
 
-def fit(out, audit):
+def last_line(err):
+    """How the run came to its end, by standard error."""
+    return 'RUN 0 .NONE ' + (re.sub(r'snomon: line (\d+): (.*)\n', r'REFUSED LINE \1 \2', err) or 'STOPPED')
+
+
+def fit(out, err, audit):
+    if audit[-1:] != [last_line(err)]:
+        raise Unfit('its last line is not %r' % last_line(err))
     lines = out.split('\n')
-    found = list(blocks(lines[:lines.index('$CATALOGUE 2')]))
-    wanted = list(printed(audit))
+    found = list(blocks(lines[:-1] if err else lines[:lines.index('$CATALOGUE 2')]))
+    wanted = list(printed(audit[:-1]))
     for block, (head, notes, spooled, last) in zip(found, wanted):
         inner = block[1:-1]
         if spooled is not None and (len(inner) != spooled + len(notes) or inner[spooled:] != notes):
@@ -100,11 +119,10 @@ def run(count, seed):
     r, unfit, lines = random.Random(seed), 0, 0
     for n in range(count):
         text, audit = random_decks.deck(r, 1 + n % 4), []
-        out, _, status = monitor.run(text.encode(), 1 + n % 4, audit)
+        out, err, _ = monitor.run(text.encode(), 1 + n % 4, audit)
         lines += len(audit)
         try:
-            if status == 0:
-                fit(out, audit)
+            fit(out, err, audit)
         except Unfit as why:
             unfit += 1
             print('UNFIT deck %d of seed %d: %s' % (n, seed, why))
@@ -112,5 +130,43 @@ def run(count, seed):
     return 1 if unfit or not lines else 0
 
 
+def of_case(cases, name):
+    """(output, standard error, the audit) of a worked deck, as monitor.py gives them"""
+    audit = []
+    with open('%s/%s/args' % (cases, name)) as args, open('%s/%s/deck' % (cases, name), 'rb') as deck:
+        words = args.read().split()
+        out, err, _ = monitor.run(deck.read(), int(words[words.index('--slots') + 1]) if '--slots' in words else 4, audit)
+    return out, err, audit
+
+
+def store(cases):
+    for name in STORED:
+        with open('%s/%s/audit' % (cases, name), 'w', newline='') as file:
+            file.writelines(line + '\n' for line in of_case(cases, name)[2])
+    return 0
+
+
+def stored(cases):
+    unfit = 0
+    for name in STORED:
+        out, err, audit = of_case(cases, name)
+        try:
+            with open('%s/%s/audit' % (cases, name), newline='') as file:
+                if file.read() != ''.join(line + '\n' for line in audit):
+                    raise Unfit('another audit is stored')
+            fit(out, err, audit)
+        except (OSError, Unfit) as why:
+            unfit += 1
+            print('UNFIT %s: %s' % (name, why))
+    print('%d stored audits, %d unfit' % (len(STORED), unfit))
+    return 1 if unfit else 0
+
+
+def main():
+    if sys.argv[1] in ('--store', '--stored'):
+        return (store if sys.argv[1] == '--store' else stored)(sys.argv[2])
+    return run(int(sys.argv[1]), int(sys.argv[2]))
+
+
 if __name__ == '__main__':
-    sys.exit(in_a_large_stack(lambda: run(int(sys.argv[1]), int(sys.argv[2]))))
+    sys.exit(in_a_large_stack(main))

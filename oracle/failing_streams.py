@@ -5,12 +5,14 @@ python3 failing_streams.py PROGRAM DECK..    (needs a C compiler; PROGRAM reads 
 Decks are good ones. The k-th call fails, for each k that there is: it and all later ones, or it alone. Calls move as many bytes
 as they are asked to, or 7, or 1. Each such run has to tell the fault and to end with status 3. Where a read failed, it has
 printed what the lines that were read whole cause; where a write failed, a beginning of the output, of calls that move one byte
-exactly as many bytes as calls went before."""
+exactly as many bytes as calls went before. Where a write to the output or to an audit failed, the audit is a beginning of the whole, and
+has the lines of each printout that the output has a byte of."""
 import functools
 import os
 import subprocess
 import sys
 import tempfile
+import audits
 import monitor
 from monitor import Deck, Monitor, in_a_large_stack
 
@@ -47,11 +49,11 @@ ssize_t read(int file, void *into, size_t n) {
 ssize_t write(int file, const void *from, size_t n) {
     static ssize_t (*next)(int, const void *, size_t);
     if (!next) next = dlsym(RTLD_NEXT, "write");
-    if (file != 1) return next(file, from, n);
+    if (file != 1 && file != number("FAIL_FILE")) return next(file, from, n);
     return fails(file) ? -1 : next(file, from, moved(n));
 }
 '''
-FILES = {'read': 0, 'write': 1}
+FILES = {'read': 0, 'write': 1, 'audit': 3}  # an audit is the first file that is opened
 
 
 @functools.lru_cache(maxsize=None)
@@ -66,28 +68,49 @@ def printed(lines):
     return ''.join(line + '\n' for line in deck.monitor.out + end)
 
 
+@functools.lru_cache(maxsize=None)
+def whole_run(data):
+    """The output, the audit, and where each printout begins in the output."""
+    audit, begins, at = [], [], 0
+    whole = monitor.run(data, 4, audit)[0]
+    lines = whole.split('\n')
+    for block in audits.blocks(lines[:lines.index('$CATALOGUE 2')]):
+        begins.append(at)
+        at += sum(len(line) + 1 for line in block)
+    return whole, ''.join(line + '\n' for line in audit), begins
+
+
+def is_ahead(data, out, audit):
+    """Whether the audit was written before what the output shows."""
+    _, whole, begins = whole_run(data)
+    told = audits.printed(line for line in audit.split('\n')[:-1] if not line.startswith('RUN '))
+    return whole.startswith(audit) and sum(1 for _ in told) >= sum(1 for at in begins if at < len(out))
+
+
 def is_due(data, whole, call, k, most, out):
     """Whether this is what stands written where the k-th call fails."""
     moved = (most or len(data)) * (k - 1)
     if call == 'read':
         return out == printed(data[:data.rfind(b'\n', 0, moved) + 1])
-    return whole.startswith(out) and (most != 1 or len(out) == moved)
+    return whole.startswith(out) and (call == 'audit' or most != 1 or len(out) == moved)
 
 
 def failing(program, data, room, call, most, once):
     """(how many calls were made to fail, the numbers of those behind which something else was seen)"""
-    whole, wrong, k = monitor.run(data)[0], [], 0
-    mark = room + '/failed'
+    whole, wrong, k = whole_run(data)[0], [], 0
+    mark, audit = room + '/failed', room + '/audit'
     while True:
         k += 1
-        got = subprocess.run([program], input=data, capture_output=True, timeout=60, env={
+        got = subprocess.run([program] if call == 'read' else [program, '--audit', audit], input=data, capture_output=True, timeout=60, env={
             'LD_PRELOAD': room + '/shim.so', 'FAIL_FILE': str(FILES[call]), 'FAIL_CALL': str(k), 'FAIL_ONCE': str(int(once)),
             'MOST': str(most), 'FAILED': mark})
         if not os.path.islink(mark):
             return k - 1, wrong
         os.unlink(mark)
-        if (got.returncode, got.stderr.decode()) != (3, 'snomon: %s fault\n' % call) or not is_due(
-                data, whole, call, k, most, got.stdout.decode()):
+        out = got.stdout.decode()
+        if (got.returncode, got.stderr.decode()) != (3, 'snomon: %s fault\n' % call) or not is_due(data, whole, call, k, most, out):
+            wrong.append(k)
+        elif call != 'read' and not is_ahead(data, out, open(audit).read()):
             wrong.append(k)
 
 

@@ -1,7 +1,7 @@
 """A plain, slow monitor: whole decks, with owner commands and jobs, written from their rules alone.
 
 python3 monitor.py [--slots N] [--audit FILE] < deck    prints what snomon has to print, and writes to a file who asked for what: a
-                                                       line for each entry of the history, as mon_audit says it
+                                                       line for each entry of the history, as mon_audit says it, and a last one
 
 Programs are run by snobol.py; refusals.py says which are refused, and where."""
 import re
@@ -543,8 +543,10 @@ def run(data, slots=4, audit=None):
         n = len(lines)
         raise Refused('E4 TRUNCATED')
     except EOFError:
+        monitor.audit.append('RUN 0 .NONE STOPPED')
         return ''.join(line + '\n' for line in monitor.out + monitor.catalogue()), '', 0
     except Refused as code:
+        monitor.audit.append('RUN 0 .NONE REFUSED LINE %d %s' % (n + 1, code))
         return ''.join(line + '\n' for line in monitor.out), 'snomon: line %d: %s\n' % (n + 1, code), 1
 
 

@@ -1,6 +1,6 @@
 """Random decks with commands and jobs, and what they have to print.
 
-python3 random_decks.py COUNT SEED FOLDER [SLOTS] writes FOLDER/N.deck, FOLDER/N.stdout and FOLDER/N.status;
+python3 random_decks.py COUNT SEED FOLDER [SLOTS] writes FOLDER/N.deck, N.stdout, N.status and N.audit;
 python3 random_decks.py --compare FOLDER SLOTS COMMAND.. runs the command on each, tells what differs, and then has status 1."""
 import os
 import random
@@ -109,8 +109,9 @@ def write(count, seed, folder, slots):
     os.makedirs(folder, exist_ok=True)
     for n in range(count):
         text = deck(r, slots)
-        out, err, status = monitor.run(text.encode(), slots)
-        for what, it in (('deck', text), ('stdout', out), ('status', '%d\n%s' % (status, err))):
+        audit = []
+        out, err, status = monitor.run(text.encode(), slots, audit)
+        for what, it in (('deck', text), ('stdout', out), ('status', '%d\n%s' % (status, err)), ('audit', '\n'.join(audit + ['']))):
             with open('%s/%d.%s' % (folder, n, what), 'w') as f:
                 f.write(it)
 
@@ -120,9 +121,10 @@ def compare(folder, slots, command):
     different = 0
     for f in decks:
         base = folder + '/' + f[:-5]
-        got = subprocess.run(command + ['--slots', slots], stdin=open(base + '.deck'), capture_output=True, text=True, timeout=60)
-        wanted = open(base + '.stdout').read(), open(base + '.status').read()
-        if (got.stdout, '%d\n%s' % (got.returncode, got.stderr)) != wanted:
+        words = command + ['--slots', slots, '--audit', base + '.seen']
+        got = subprocess.run(words, stdin=open(base + '.deck'), capture_output=True, text=True, timeout=60)
+        wanted = open(base + '.stdout').read(), open(base + '.status').read(), open(base + '.audit').read()
+        if (got.stdout, '%d\n%s' % (got.returncode, got.stderr), open(base + '.seen').read()) != wanted:
             different += 1
             print('DIFFERENT', base)
     print('%d decks, %d different' % (len(decks), different))

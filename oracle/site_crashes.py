@@ -8,7 +8,7 @@ Each n-th call on files fails, and all behind it; and each ends the run as a pow
 moments. While the output of the round does not stand, nothing was shown to anyone. One more run then comes to the files that
 stand where nothing broke off, byte for byte: no text is lost, and none is run twice. `growths` refuses a growth of memory, so many of
 them in even steps: the run ends for want of memory, or a text is put off and run alone, or a job ends early, or nothing differs; behind
-one more run each text has one answer, and each round's deck gives its output again."""
+one more run each text has one answer, and each round's deck gives its output and its audit again."""
 import concurrent.futures
 import os
 import random
@@ -133,10 +133,12 @@ class Crashes:
             return 'claimed files are left'
         for number in range(1, 1 + max(int(name.split('.')[0]) for name in os.listdir(folder + '/rounds'))):
             with open('%s/rounds/%d.deck' % (folder, number), 'rb') as deck:
-                plain = subprocess.run([snomon], stdin=deck, capture_output=True, timeout=60).stdout
+                plain = subprocess.run([snomon, '--audit', folder + '.audit'], stdin=deck, capture_output=True, timeout=60).stdout
             kept = site_rounds.read('%s/rounds/%d.out' % (folder, number))
-            if plain != kept and b'END MEMORY' not in kept:
-                return 'the deck of round %d gives another output' % number
+            is_told = site_rounds.read(folder + '.audit') == site_rounds.read('%s/rounds/%d.audit' % (folder, number))
+            os.remove(folder + '.audit')
+            if (plain != kept or not is_told) and b'END MEMORY' not in kept:
+                return 'the deck of round %d gives another output, or another audit' % number
         shutil.rmtree(folder)
         return None
 

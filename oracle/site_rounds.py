@@ -3,7 +3,7 @@
 python3 site_rounds.py run DIR SNOMON     makes the rounds that `site run DIR` has to make, and leaves the same files
 
 What may be handed in, the limits and the order are asked of intake.py. The printout of a text is what SNOMON prints of it
-alone, over the catalogue as the text before it left it. Nothing here is locked or waits for the disk."""
+alone, over the catalogue as the text before it left it, and so is its part of the audit. Nothing here is locked or waits for the disk."""
 import os
 import re
 import stat
@@ -14,6 +14,7 @@ from intake import FOREIGN, examine, first_broken, in_turns, tally
 from monitor import lines_of
 
 NAMES = ['texts', 'bytes', 'jobs', 'statements', 'largest', 'work', 'data_sets', 'records']
+ENDED = b'RUN 0 .NONE STOPPED\n' # the last line of the audit of a deck that was run
 PLAIN_NAME = re.compile(r'[A-Za-z0-9._-]{1,64}\Z')
 
 
@@ -152,19 +153,24 @@ class Site:
         return b'$ACCOUNTS\n' + self.table + catalogue + b'$STREAM\n' + stream + b'$STOP\n'
 
     def alone(self, catalogue, text):
-        """What a text prints as the only one of a deck, and the catalogue that it leaves."""
-        done = subprocess.run([self.snomon], input=self.deck(catalogue, text), capture_output=True, timeout=60, check=True)
+        """What a text prints as the only one of a deck, what is told of it, and the catalogue that it leaves."""
+        audit = self.path('rounds', 'alone.tmp')
+        done = subprocess.run([self.snomon, '--audit', audit], input=self.deck(catalogue, text), capture_output=True, timeout=60, check=True)
+        told = read(audit)
+        assert told.endswith(ENDED)
+        os.remove(audit)
         at = re.search(rb'^\$CATALOGUE 2$', done.stdout, re.M).start()
-        return done.stdout[:at], done.stdout[at:]
+        return done.stdout[:at], told[:-len(ENDED)], done.stdout[at:]
 
     def printouts(self, catalogue, texts):
-        """What each text is given, with the jobs numbered through the round; and the catalogue behind the last."""
-        jobs, parts = 0, []
+        """What each text is given, and what is told of it, with the jobs numbered through the round; and the catalogue behind the last."""
+        jobs, parts, audits = 0, [], []
         for _, account, text in texts:
-            printed, catalogue = self.alone(catalogue, text)
-            parts.append(re.sub(rb'^JOB (\d+) ', lambda said: b'JOB %d ' % (int(said[1]) + jobs), printed, flags=re.M))
+            printed, told, catalogue = self.alone(catalogue, text)
+            for of_all, own in ((parts, printed), (audits, told)):
+                of_all.append(re.sub(rb'^JOB (\d+) ', lambda said: b'JOB %d ' % (int(said[1]) + jobs), own, flags=re.M))
             jobs += examine(account, text)[0].jobs
-        return parts, catalogue
+        return parts, audits, catalogue
 
     def make_round(self, n, files, names, following):
         catalogue = canonical(self.table, read(self.path('catalogue')))
@@ -172,7 +178,7 @@ class Site:
         texts = in_turns(n, queues)
         deck = self.deck(catalogue, b''.join(text + b'$DRAIN\n' for _, _, text in texts))
         self.put('rounds/%d.plan' % n, plan_of(files, names, replies, texts, len(self.deck(catalogue, b'')) - len(b'$STOP\n'), following))
-        printed, left = self.printouts(catalogue, texts)
+        printed, audits, left = self.printouts(catalogue, texts)
         owed = [('out/%s/%08d.out' % (account, number), reply) for number, (account, reply) in sorted(replies.items())]
         told = b''.join(reply for _, reply in owed)
         owed += [('out/%s/%08d.out' % (account, number), part) for (number, account, _), part in zip(texts, printed)]
@@ -181,6 +187,7 @@ class Site:
         self.put('rounds/%d.replies' % n, told)
         self.put('rounds/%d.deck' % n, deck)
         self.put('rounds/%d.parts' % n, ''.join(lines).encode())
+        self.put('rounds/%d.audit' % n, b''.join(audits) + ENDED)
         self.put('rounds/%d.out' % n, b''.join(printed) + left)
         self.settle(n)
         return len(texts), len(replies)

@@ -1,11 +1,13 @@
 #!/usr/bin/env python3
 """worked_decks.py PROGRAM CASES: runs a program, as it is started at the shell, on each worked deck of that folder, on a native
-stack of 1 MiB, and compares output, standard error and status. Prints what differs; the status is 1 where something does."""
+stack of 1 MiB, and compares output, standard error and status, and the audit where one is stored beside them. Prints what differs;
+the status is 1 where something does."""
 import multiprocessing.pool
 import os
 import resource
 import subprocess
 import sys
+import tempfile
 
 STACK = 1 << 20
 SECONDS = 120
@@ -22,11 +24,16 @@ def of_case(folder, name, otherwise):
 def runs(program, folder):
     """What differs from the case, or None."""
     words = of_case(folder, 'args', b'').decode().split()
-    with open(os.path.join(folder, 'deck'), 'rb') as deck:
+    audit = of_case(folder, 'audit', None)
+    with tempfile.NamedTemporaryFile() as seen, open(os.path.join(folder, 'deck'), 'rb') as deck:
+        if audit is not None:
+            words += ['--audit', seen.name]
         try:
             done = subprocess.run([program, *words], stdin=deck, capture_output=True, timeout=SECONDS)
         except subprocess.TimeoutExpired:
             return f'{folder}: not ended after {SECONDS} seconds'
+        if audit is not None and seen.read() != audit:
+            return f'{folder}: another audit'
     wanted = of_case(folder, 'stdout', b''), of_case(folder, 'stderr', b''), int(of_case(folder, 'status', b'0'))
     differs = [part for part, one, other in zip(('output', 'standard error', 'status'), (done.stdout, done.stderr, done.returncode), wanted) if one != other]
     return f'{folder}: another {" and ".join(differs)}' if differs else None

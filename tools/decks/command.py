@@ -7,7 +7,7 @@ import signal
 import sys
 from typing import Callable, Optional, Sequence
 
-from . import join, page, printed, rounds, split, trial
+from . import audit, join, page, printed, rounds, split, trial
 from .catalogue import MODES
 from .cards import SLOTS_LIMIT
 from .files import say, written
@@ -17,7 +17,8 @@ from .text import Fault, Refused, is_name
 
 STATUS_REFUSED, STATUS_WORDS, STATUS_FAULT = 1, 2, 3
 ABOUT = ('Makes the next deck for snomon from what a run has printed, tells what failed in it and what was printed for whom, '
-         'makes a deck of one program, cuts a deck into several, and makes a page of who may do what.')
+         'makes a deck of one program, cuts a deck into several, tells who did what by an audit, and makes a page of who may do what, or '
+         'of who did.')
 STATUSES = ('The status is 0; or 1 if a file is not what it should be, 2 if the words of the command are not, 3 if reading or '
             'writing fails. Then nothing was written, except to a pipe or device that broke.')
 FAILED_STATUSES = ('The status is 0 if nothing failed; 1 if something did, or the output was cut off; 2 if the words of the '
@@ -70,6 +71,7 @@ def _options() -> argparse.ArgumentParser:
     _add_new(kind)
     _add_try(kind)
     _add_split(kind)
+    _add_audit(kind)
     _add_page(kind)
     return parser
 
@@ -170,11 +172,30 @@ def _add_split(kind: Kind) -> None:
     _gives(made, 'the output')
 
 
+def _add_audit(kind: Kind) -> None:
+    made = kind('audit', _audit, 'list who did what, by the audit of a run',
+                'Each line of the audit that all of the options want is a row; without them each is. Behind its number stand the '
+                'job, 0 for a command, the account and the event; of what is asked of a unit also the data set, the statement, the '
+                'unit and how many records stand before the place; then the answer, and by which entry, why, or what more.')
+    made.add_argument('audit', metavar='AUDIT', help='what snomon --audit has written')
+    made.add_argument('--set', type=_name, metavar='SET', help='only what was asked of the data set of this name')
+    made.add_argument('--account', type=_name, metavar='NAME', help='only what this account did, by its jobs and its commands')
+    made.add_argument('--denied', action='store_true', help='only what was denied')
+    made.add_argument('--lists', action='store_true',
+                      help='only what changed a permission list: a $SETACL, $CREATE or $DELETE that is done')
+    made.add_argument('--from', dest='first', type=_number_of_job, metavar='N', help='from where this job is loaded or refused')
+    made.add_argument('--to', dest='last', type=_number_of_job, metavar='N', help='to where this job has ended or is refused')
+    made.add_argument('--csv', action='store_true', help='write comma-separated values and not a table')
+    made.set_defaults(refuse=made.error)
+    _gives(made, 'the list')
+
+
 def _add_page(kind: Kind) -> None:
-    made = kind('page', _page, 'make a page of HTML of who may do what',
+    made = kind('page', _page, 'make a page of HTML of who may do what, or of who did what',
                 'It has a row for each data set and a column for each account. It stands alone: no script, and nothing from '
                 'outside.')
-    made.add_argument('report', metavar='REPORT', help='what listing --access --csv has written, with the status 0')
+    made.add_argument('report', metavar='REPORT',
+                      help='what listing --access --csv has written, with the status 0; or what snomon --audit has')
     _gives(made, 'the page')
 
 
@@ -291,6 +312,14 @@ def _join(options: argparse.Namespace) -> None:
         join.join_outputs(options.folder, file)
 
 
+def _audit(options: argparse.Namespace) -> None:
+    if options.first is not None and options.last is not None and options.first > options.last:
+        options.refuse('--to is an earlier job than --from')
+    question = audit.Question(options.set, options.account, options.denied, options.lists, options.first, options.last)
+    with written(options.target) as file:
+        audit.answered(options.audit, question, options.csv, file)
+
+
 def _page(options: argparse.Namespace) -> None:
     with written(options.target) as file:
-        page.access_page(options.report, file)
+        page.page_of(options.report, file)

@@ -49,13 +49,14 @@ class SiteTrying(Trying):
         return run([SITE, *words], cwd=self.room, **more)
 
     def run_site(self, status=0, rounds=1):
-        """Runs what is due; each round's deck gives its output by a plain run, and `site verify` says so."""
+        """Runs what is due; each round's deck gives its output and its audit by a plain run, and `site verify` says so."""
         before = self.last_round()
         done = self.site('run', self.folder)
         self.assertEqual((done.status, self.last_round() - before), (status, rounds), done.err)
         for number in range(before + 1, before + rounds + 1):
-            plain = run([SNOMON], given=self.of('rounds/%d.deck' % number))
+            plain = run([SNOMON, '--audit', self.path('audit')], given=self.of('rounds/%d.deck' % number))
             self.assertEqual((plain.status, plain.out), (0, self.of('rounds/%d.out' % number)))
+            self.assertEqual(self.read(self.path('audit')), self.of('rounds/%d.audit' % number))
             self.assertEqual(self.site('verify', self.folder, str(number)).status, 0)
         return done
 
@@ -110,13 +111,30 @@ class Rounds(SiteTrying):
         self.assertEqual(self.answers('anna')[2], 'LIST anna NEW\n mine\nRECORDS 1\n')
         self.assertEqual(self.site('verify', self.folder, '1').status, 0)
 
-    def test_an_output_that_is_changed_is_noticed(self):
+    def test_a_file_that_is_changed_is_noticed(self):
         self.drop('anna', '1', HELLO % b'anna')
         self.run_site()
-        with open(self.folder + '/rounds/1.out', 'ab') as file:
-            file.write(b'\n')
-        self.says(self.site('verify', self.folder, '1'), 1, 'round 1')
+        for ending in ('out', 'parts', 'audit'):
+            path = self.folder + '/rounds/1.' + ending
+            kept = self.read(path)
+            for other in (kept + b'\n', kept[:-1], kept[:5] + b'?' + kept[6:], b''):
+                with open(path, 'wb') as file:
+                    file.write(other)
+                self.says(self.site('verify', self.folder, '1'), 1, 'round 1')
+            os.remove(path)
+            self.says(self.site('verify', self.folder, '1'), 3, path)
+            with open(path, 'wb') as file:
+                file.write(kept)
+            self.assertEqual(self.site('verify', self.folder, '1').status, 0)
         self.says(self.site('verify', self.folder, '7'), 3)
+
+    def test_the_audit_tells_who_asked_for_what(self):
+        self.drop('anna', 'it', LIST % b'anna')
+        self.drop('hugo', 'it', HELLO % b'hugo')
+        self.run_site()
+        self.assertEqual(self.of('rounds/1.audit').decode().splitlines(), [
+            'JOB 1 hugo LOADED', 'JOB 1 hugo ASKED 1 WRITE 6 .SPOOL 0 DONE', 'JOB 1 hugo ENDED NORMAL AFTER 1', 'COMMAND 0 anna LIST LOG RECORDS 1', 'RUN 0 .NONE STOPPED'])
+        self.assertFalse([name for name in os.listdir(self.folder + '/rounds') if name.endswith('.tmp')])
 
     def test_no_text_can_end_the_round_or_speak_for_another(self):
         self.drop('anna', 'a', b'$STOP\n')
@@ -309,6 +327,23 @@ class Rounds(SiteTrying):
         self.assertEqual(self.site('run', self.folder).status, 0)
         self.assertEqual((self.answers('lisa')[3], os.listdir(self.folder + '/taken')), ('JOB 1 lisa\nEND NORMAL AFTER 0\n', []))
 
+    def test_an_audit_that_fits_no_disk_puts_its_text_off(self):
+        # Files have at most 100,000 bytes. Whoever writes more is told so, since the signal for it is not heeded.
+        limits = dict(preexec_fn=lambda: resource.setrlimit(resource.RLIMIT_FSIZE, (100000, resource.RLIM_INFINITY)), restore_signals=False)
+        reads = b"$JOB lisa ST=50000\n$UNIT 8 LOG\n INPUT('R',8)\nLOOP X = R :S(LOOP)\n K = LT(K,9000) K + 1 :F(END)\n REWIND(8) :(LOOP)\nEND\n$EOJ\n"
+        self.drop('lisa', 'reads', reads)
+        self.drop('anna', 'it', LIST % b'anna')
+        done = self.site('run', self.folder, **limits)
+        self.assertEqual((done.status, done.out), (1, b'round 1: 1 run, 0 refused, 1 put off\n'), done.err)
+        self.assertEqual(self.of('rounds/1.audit'), b'COMMAND 0 anna LIST LOG RECORDS 1\nRUN 0 .NONE STOPPED\n')
+        done = self.site('run', self.folder, **limits)
+        self.assertEqual((done.status, done.out), (1, b'round 2: 0 run, 1 refused\n'), done.err)
+        self.assertEqual(list(self.answers('lisa').values()), ['REFUSED -\nOUT OF MEMORY\n'])
+        self.assertFalse([name for name in os.listdir(self.folder + '/rounds') if name.endswith('.tmp')])
+        self.drop('lisa', 'reads', reads)
+        self.run_site()
+        self.assertEqual(len(self.of('rounds/3.audit').splitlines()), 3 * 9001 + 2)
+
     # Limits
 
     def refused_at(self, limit, value, *texts):
@@ -455,6 +490,21 @@ class Rounds(SiteTrying):
             self.says(self.site(command, self.folder), 3, 'accounts', 'line 4')
         self.assertEqual((self.waiting('hugo'), os.listdir(self.folder + '/taken')), (['it'], []))
 
+    def test_a_catalogue_that_is_cut_off_is_told_before_a_text_is_claimed(self):
+        self.drop('hugo', 'it', LIST % b'hugo')
+        for content in (CATALOGUE[:-1], CATALOGUE[:-3], b''):
+            with open(self.folder + '/catalogue', 'wb') as file:
+                file.write(content)
+            for command in ('status', 'run'):
+                self.says(self.site(command, self.folder), 3, 'catalogue', 'line end')
+            self.assertEqual((self.waiting('hugo'), os.listdir(self.folder + '/taken')), (['it'], []))
+        with open(self.folder + '/catalogue', 'wb') as file:
+            file.write(CATALOGUE)
+        self.run_site()
+        words = ['init', self.path('new'), '--accounts', self.write('the-accounts', ACCOUNTS), '--catalogue', self.write('sets', CATALOGUE[:-1]), '--demonstration']
+        self.says(self.site(*words), 3, 'sets', 'line end')
+        self.assertFalse(os.path.exists(self.path('new')))
+
     def test_init_makes_the_folder(self):
         accounts = self.write('the-accounts', ACCOUNTS)
         words = ['init', self.path('new'), '--accounts', accounts]
@@ -485,7 +535,7 @@ class Rounds(SiteTrying):
         self.run_site()
         for name in os.listdir(self.folder + '/rounds'):
             self.assertEqual(stat.S_IMODE(os.stat(self.folder + '/rounds/' + name).st_mode), 0o600, name)
-        self.assertEqual(sorted(os.listdir(self.folder + '/rounds')), ['1.deck', '1.done', '1.out', '1.parts', '1.plan', '1.replies'])
+        self.assertEqual(sorted(os.listdir(self.folder + '/rounds')), ['1.audit', '1.deck', '1.done', '1.out', '1.parts', '1.plan', '1.replies'])
 
 
 @unittest.skipUnless(os.path.exists(SITE), 'there is no site')
@@ -517,10 +567,22 @@ class Users(SiteTrying):
         self.assertEqual([self.as_user('anna', 'cat "$1"', mine), self.as_user('lisa', 'cat "$1"', hers)], [0, 0])
         for account, path in (('anna', hers), ('lisa', mine)):
             self.assertNotEqual(self.as_user(account, 'cat "$1"', path), 0)
-        for name in ('catalogue', 'rounds/1.out', 'rounds/1.deck', 'users', 'limits'):
+        for name in ('catalogue', 'rounds/1.out', 'rounds/1.audit', 'rounds/1.deck', 'users', 'limits'):
             self.assertNotEqual(self.as_user('anna', 'cat "$1"', self.folder + '/' + name), 0, name)
         seen = os.stat(mine)
         self.assertEqual((seen.st_uid, stat.S_IMODE(seen.st_mode)), (NOBODY, 0o600))
+
+    def test_init_makes_nothing_where_the_system_has_no_such_user(self):
+        accounts, users = self.write('the-accounts', ACCOUNTS), self.write('the-users', b'%d anna\n%d lisa\n' % (NOBODY, STRANGER))
+        words = [SITE, 'init', self.path('new'), '--accounts', accounts, '--users', users]
+        self.says(run(words), 3, 'no user %d' % STRANGER)
+        self.assertFalse(os.path.exists(self.path('new')))
+        os.mkdir(self.path('new'))
+        self.says(run(words), 3, 'no user %d' % STRANGER)
+        self.assertEqual(os.listdir(self.path('new')), [])
+        self.write('the-users', b'%d anna\n' % NOBODY)
+        self.assertEqual(run(words).status, 0)
+        self.assertEqual(os.listdir(self.path('new') + '/in'), ['anna'])
 
     def test_none_reaches_anothers_box(self):
         self.drops('lisa', 'it', LIST % b'lisa')

@@ -135,10 +135,10 @@ class Made(Trying):
         self.assertEqual(page.all('tr', 'caption')[0][0], 'caption')
         style = page.texts('style')[0]
         self.assertIn('prefers-color-scheme: dark', style)
-        names = set(re.findall(r'(--\w+):', style))
+        colours = set(re.findall(r'(--\w+): #', style))
         for scheme in re.findall(r':root \{(.*?)\}', style):  # each colour is given for light and for dark
-            self.assertEqual(set(re.findall(r'(--\w+):', scheme)), names)
-        self.assertEqual(set(re.findall(r'var\((--\w+)\)', style)), names)
+            self.assertEqual(set(re.findall(r'(--\w+):', scheme)), colours)
+        self.assertEqual(set(re.findall(r'var\((--\w+)\)', style)), set(re.findall(r'(--\w+):', text.decode())))
         xml.etree.ElementTree.fromstring(text)  # what is read by stricter rules is read the same by all
 
     def test_colours_can_be_told_apart_from_the_text(self):
@@ -224,7 +224,7 @@ class Refused(Trying):
         whole = {sum(map(len, lines[:count])) for count in (1, 4, 7, 10, 19)}
         for end in range(len(TWO) + 1):
             try:
-                page.access_page(self.write('report', TWO[:end]), io.BytesIO())
+                page.page_of(self.write('report', TWO[:end]), io.BytesIO())
                 self.assertIn(end, whole)
             except text.Refused as refusal:
                 self.assertNotIn(end, whole)

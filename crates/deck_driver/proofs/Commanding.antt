@@ -1,6 +1,8 @@
 -- What a card asks for, before those that are still to come.
-use Rattle.std.proofs.Common.{◌≡◌, ℕ, suc, ◌+◌, Bool, true, false, List, [], ◌∷◌, ◌++◌, refl, sym, ap, ◌∙◌, arith, append_assoc, append-nil}
+use Rattle.std.proofs.Common.{◌≡◌, ℕ, suc, ◌+◌, Bool, true, false, List, [], ◌∷◌, ◌++◌, Result, Ok, Err, OnErr, refl, sym, ap, ◌∙◌, arith, append_assoc, append-nil}
 use Rattle.mon_catalogue.specs.Sets.{Sets}
+use Rattle.mon_device.specs.Putting.{Standing, Puts}
+use Rattle.mon_device.proofs.Putting.{puts_nothing}
 use Rattle.scheduler.specs.Marks.{Marks}
 use Rattle.mon_command.specs.declared.command.Command.{Command}
 use Rattle.deck_syntax.specs.declared.job_deck.JobDeck.{JobDeck}
@@ -9,15 +11,19 @@ use Rattle.mon_monitor.specs.SystemStates.{SystemState}
 use Rattle.mon_monitor.specs.Events.{Event, Serve, Load, Give, Drain}
 use Rattle.mon_monitor.specs.Printouts.{Printout, printout_text, printouts_text}
 use Rattle.mon_monitor.specs.Played.{Played, played, happened, and_played}
-use Rattle.mon_monitor.specs.Happening.{Happens, Closes}
+use Rattle.mon_monitor.specs.Happening.{Happens, Breaks, Closes}
+use Rattle.mon_monitor.specs.History.{event_entries, history}
+use Rattle.mon_monitor.specs.Audit.{audit, event_lines, audit_of}
+use Rattle.mon_monitor.proofs.Auditing.{audit_append}
 use Rattle.deck_syntax.specs.Decks.{Asked, Commands, Enters, Gives, Drains, Cards, Ending, Stopped, Refused}
-use Rattle.deck_syntax.specs.Sections.{asked_then}
+use Rattle.deck_syntax.specs.Sections.{asked_then, stopped}
 use Rattle.deck_syntax.specs.Jobs.{job_deck_of}
 use Rattle.deck_driver.specs.declared.options.Counts.{Counts}
 use Rattle.deck_driver.specs.RunStates.{over, events_of, events_in, at_end, nothing_counted, both_counted, one_counted, all_counted}
 use Rattle.deck_driver.specs.Printouts.{closing, verdict}
-use Rattle.deck_driver.specs.Feeds.{outcome_of, behind, more, concluded, Conclusion, Good, Bad, Outcome}
-use Rattle.deck_driver.specs.inner.Lines.{Served, Stopping}
+use Rattle.deck_driver.specs.Feeds.{outcome_of, behind, more, concluded, Conclusion, Good, Bad, Outcome, Begins}
+use Rattle.deck_driver.specs.Audits.{told_to}
+use Rattle.deck_driver.specs.inner.Lines.{Served, ServeBreaks, Stopping, StopBreaks}
 
 -- COUNTS
 
@@ -107,19 +113,30 @@ module _ (jobs : ℕ) (one : Asked) (m rest : Marks) (w w' : SystemState) (text 
       ∙ ap (λ (c : Conclusion). record { written = text ++ (printouts_text then.printouts ++ closing sets others.ending); conclusion = c })
       (counted_first others.ending one others.asked sets)
 
+-- the lines of the first event, and then those of the others
+first_told : (jobs : ℕ) (one : Asked) (m : Marks) (w : SystemState) (others : Cards)
+    → told_to false jobs m (over w (asked_then one others)) ≡ event_lines (event_of (suc jobs) one) m w
+    ++ told_to false (jobs + (one_counted one).jobs) (happened (event_of (suc jobs) one) m w).marks (over (happened (event_of (suc jobs) one) m w).after others)
+first_told jobs one m w others =
+    let event = event_of (suc jobs) one in
+    ap (λ (E : List Event). audit_of (E ++ at_end others.ending) m w) (events_first jobs one others.asked)
+    ∙ audit_append (event_entries event m w)
+    (history (events_in (jobs + (one_counted one).jobs) (over (happened event m w).after others)) (happened event m w).marks (happened event m w).after)
+
 first_counted : (jobs next : ℕ) (m rest : Marks) (one : Asked) (w : SystemState) (others : Cards)
     → outcome_of true jobs m (over w (asked_then one others)) ≡ behind [] (one_counted one) (outcome_of true next rest (over w others))
 first_counted jobs next m rest one w others =
     ap (λ (c : Conclusion). record { written = verdict others.ending; conclusion = c }) (counted_first others.ending one others.asked w.scheduler.sets)
 
-module _ (one : Asked) (w : SystemState) (before : List ℕ) (counts counts' : Counts) (counted : counts' ≡ both_counted counts (one_counted one)) where
+module _ (one : Asked) (w : SystemState) (before : List ℕ) (counts counts' : Counts) (a b : Standing) (counted : counts' ≡ both_counted counts (one_counted one)) where
   -- it happened, and what it printed was put behind what there was
   pub one_served : (w' : SystemState) (text after : List ℕ) (marks : Marks) → after ≡ before ++ text
       → ((rest : Marks) → printouts_text (happened (event_of (suc counts.jobs) one) (marks ++ rest) w).printouts ≡ text)
       → ((rest : Marks) → (happened (event_of (suc counts.jobs) one) (marks ++ rest) w).after ≡ w')
       → ((rest : Marks) → (happened (event_of (suc counts.jobs) one) (marks ++ rest) w).marks ≡ rest)
-      → Served false one w before counts w' after counts'
-  one_served w' text after marks put printed left kept = record {
+      → (lines : List ℕ) → ((rest : Marks) → event_lines (event_of (suc counts.jobs) one) (marks ++ rest) w ≡ lines) → Puts a b lines
+      → Served false one w before counts w' after counts' a b
+  one_served w' text after marks put printed left kept lines tells audited = record {
     marks = marks;
     is = λ rest others.
         let then = outcome_of false (counts.jobs + (one_counted one).jobs) rest (over w' others) in
@@ -127,38 +144,78 @@ module _ (one : Asked) (w : SystemState) (before : List ℕ) (counts counts' : C
         ∙ ap (λ t. behind t (both_counted counts (one_counted one)) then) put
         ∙ sym (behind_behind before text counts (one_counted one) then)
         ∙ ap (behind before counts) (sym (first_served counts.jobs one (marks ++ rest) rest w w' text others (printed rest) (left rest) (kept rest)));
+    lines = lines;
+    tells = λ rest others.
+        let event = event_of (suc counts.jobs) one in
+        let next = counts.jobs + (one_counted one).jobs in
+        let p = happened event (marks ++ rest) w in
+        first_told counts.jobs one (marks ++ rest) w others
+        ∙ ap (λ (l : List ℕ). l ++ told_to false next p.marks (over p.after others)) (tells rest)
+        ∙ ap (λ (v : SystemState). lines ++ told_to false next p.marks (over v others)) (left rest)
+        ∙ ap (λ (m : Marks). lines ++ told_to false next m (over w' others)) (kept rest)
+        ∙ ap (λ (c : Counts). lines ++ told_to false c.jobs rest (over w' others)) (sym counted);
+    audited = audited;
   }
 
-  -- it was only counted
-  one_counted_only : Served true one w before counts w before counts'
-  one_counted_only = record {
-    marks = [];
-    is = λ rest others.
-        let then = outcome_of true (counts.jobs + (one_counted one).jobs) rest (over w others) in
-        ap (λ (c : Counts). behind before c (outcome_of true c.jobs rest (over w others))) counted
-        ∙ ap (λ t. behind t (both_counted counts (one_counted one)) then) (sym (append-nil before))
-        ∙ sym (behind_behind before [] counts (one_counted one) then)
-        ∙ ap (behind before counts) (sym (first_counted counts.jobs (counts.jobs + (one_counted one).jobs) rest rest one w others));
-  }
+-- it was only counted
+one_counted_only : (one : Asked) (w : SystemState) (before : List ℕ) (counts counts' : Counts) (a : Standing) → counts' ≡ both_counted counts (one_counted one)
+    → Served true one w before counts w before counts' a a
+one_counted_only one w before counts counts' a counted = record {
+  marks = [];
+  is = λ rest others.
+      let then = outcome_of true (counts.jobs + (one_counted one).jobs) rest (over w others) in
+      ap (λ (c : Counts). behind before c (outcome_of true c.jobs rest (over w others))) counted
+      ∙ ap (λ t. behind t (both_counted counts (one_counted one)) then) (sym (append-nil before))
+      ∙ sym (behind_behind before [] counts (one_counted one) then)
+      ∙ ap (behind before counts) (sym (first_counted counts.jobs (counts.jobs + (one_counted one).jobs) rest rest one w others));
+  lines = [];
+  tells = λ rest others. refl;
+  audited = puts_nothing a;
+}
 
-  pub counted_when : (check : Bool) → check ≡ true → Served check one w before counts w before counts'
-  counted_when true e = one_counted_only
-  counted_when false e = cc
+pub counted_when : (one : Asked) (w : SystemState) (before : List ℕ) (counts counts' : Counts) (a : Standing) → counts' ≡ both_counted counts (one_counted one) → (check : Bool) → check ≡ true
+    → Served check one w before counts w before counts' a a
+counted_when one w before counts counts' a counted true e = one_counted_only one w before counts counts' a counted
+counted_when one w before counts counts' a counted false e = cc
 
-pub served_when : (check : Bool) → check ≡ false → (one : Asked) (w w' : SystemState) (before after : List ℕ) (counts counts' : Counts)
-    → Served false one w before counts w' after counts' → Served check one w before counts w' after counts'
-served_when false e one w w' before after counts counts' served = served
-served_when true e one w w' before after counts counts' served = cc
+pub served_when : (check : Bool) → check ≡ false → (one : Asked) (w w' : SystemState) (before after : List ℕ) (counts counts' : Counts) (a b : Standing)
+    → Served false one w before counts w' after counts' a b → Served check one w before counts w' after counts' a b
+served_when false e one w w' before after counts counts' a b served = served
+served_when true e one w w' before after counts counts' a b served = cc
 
-pub happens_served : (check : Bool) → check ≡ false → (one : Asked) (event : Event) (w w' : SystemState) (before after : List ℕ) (counts counts' : Counts)
+pub happens_served : (check : Bool) → check ≡ false → (one : Asked) (event : Event) (w w' : SystemState) (before after : List ℕ) (counts counts' : Counts) (a b : Standing)
     → event ≡ event_of (suc counts.jobs) one → counts' ≡ both_counted counts (one_counted one)
-    → Happens event w before w' after → Served check one w before counts w' after counts'
-happens_served check unchecked one event w w' before after counts counts' is counted happens =
-    served_when check unchecked one w w' before after counts counts'
-    (one_served one w before counts counts' counted w' (printouts_text happens.printouts) after happens.marks happens.printed
+    → Happens event w before w' after a b → Served check one w before counts w' after counts' a b
+happens_served check unchecked one event w w' before after counts counts' a b is counted happens =
+    served_when check unchecked one w w' before after counts counts' a b
+    (one_served one w before counts counts' a b counted w' (printouts_text happens.printouts) after happens.marks happens.printed
     (λ rest. ap (λ (e : Event). printouts_text (happened e (happens.marks ++ rest) w).printouts) (sym is) ∙ ap (λ (p : Played). printouts_text p.printouts) (happens.is rest))
     (λ rest. ap (λ (e : Event). (happened e (happens.marks ++ rest) w).after) (sym is) ∙ ap (λ (p : Played). p.after) (happens.is rest))
-    (λ rest. ap (λ (e : Event). (happened e (happens.marks ++ rest) w).marks) (sym is) ∙ ap (λ (p : Played). p.marks) (happens.is rest)))
+    (λ rest. ap (λ (e : Event). (happened e (happens.marks ++ rest) w).marks) (sym is) ∙ ap (λ (p : Played). p.marks) (happens.is rest))
+    happens.lines (λ rest. ap (λ (e : Event). event_lines e (happens.marks ++ rest) w) (sym is) ∙ happens.tells rest) happens.audited)
+
+-- memory ran out
+one_breaks : (one : Asked) (event : Event) (w : SystemState) (jobs : ℕ) (a b : Standing) → event ≡ event_of (suc jobs) one → Breaks (event_lines event) w a b → ServeBreaks false one w jobs a b
+one_breaks one event w jobs a b is broken = record {
+  marks = broken.marks;
+  lines = broken.lines;
+  tells = λ rest others.
+      let m = broken.marks ++ rest in
+      let more = broken.begins rest in
+      let p = happened (event_of (suc jobs) one) m w in
+      let later = told_to false (jobs + (one_counted one).jobs) p.marks (over p.after others) in (
+        more.0 ++ later,
+        first_told jobs one m w others
+            ∙ ap (λ (l : List ℕ). l ++ later) (ap (λ (e : Event). event_lines e m w) (sym is) ∙ more.1)
+            ∙ append_assoc broken.lines more.0 later,
+      );
+  audited = broken.audited;
+}
+
+pub breaks_served : (check : Bool) → check ≡ false → (one : Asked) (event : Event) (w : SystemState) (jobs : ℕ) (a b : Standing) → event ≡ event_of (suc jobs) one
+    → Breaks (event_lines event) w a b → ServeBreaks check one w jobs a b
+breaks_served false e one event w jobs a b is broken = one_breaks one event w jobs a b is broken
+breaks_served true e one event w jobs a b is broken = cc
 
 -- counted by hand
 
@@ -173,18 +230,22 @@ job_numbered counts job deck is = let e : counts.jobs + 1 ≡ suc counts.jobs = 
 
 -- `$STOP`
 
-pub checked_when : (check : Bool) → check ≡ true → (jobs : ℕ) (w : SystemState) (before after : List ℕ) (left : Sets) → left ≡ w.scheduler.sets → after ≡ before ++ verdict Stopped
-    → Stopping check jobs w before left after
-checked_when true e jobs w before after left same put = record { marks = []; written = λ rest. put; sets = λ rest. same }
-checked_when false e jobs w before after left same put = cc
+stop_told : (jobs : ℕ) (m : Marks) (w : SystemState) → told_to false jobs m (over w stopped) ≡ event_lines Drain m w
+stop_told jobs m w = ap audit (append-nil (event_entries Drain m w))
 
-pub stopped_when : (check : Bool) → check ≡ false → (jobs : ℕ) (w : SystemState) (left : Sets) (before after : List ℕ) → Stopping false jobs w before left after → Stopping check jobs w before left after
-stopped_when false e jobs w left before after stopping = stopping
-stopped_when true e jobs w left before after stopping = cc
+pub checked_when : (check : Bool) → check ≡ true → (jobs : ℕ) (w : SystemState) (before after : List ℕ) (left : Sets) (a : Standing) → left ≡ w.scheduler.sets → after ≡ before ++ verdict Stopped
+    → Stopping check jobs w before left after a a
+checked_when true e jobs w before after left a same put = record { marks = []; written = λ rest. put; sets = λ rest. same; lines = []; tells = λ rest. refl; audited = puts_nothing a }
+checked_when false e jobs w before after left a same put = cc
+
+pub stopped_when : (check : Bool) → check ≡ false → (jobs : ℕ) (w : SystemState) (left : Sets) (before after : List ℕ) (a b : Standing)
+    → Stopping false jobs w before left after a b → Stopping check jobs w before left after a b
+stopped_when false e jobs w left before after a b stopping = stopping
+stopped_when true e jobs w left before after a b stopping = cc
 
 -- the slots were emptied, and then the catalogue was given back
-pub closed : (jobs : ℕ) (w : SystemState) (left : Sets) (before after : List ℕ) → Closes w before left after → Stopping false jobs w before left after
-closed jobs w left before after closes =
+pub closed : (jobs : ℕ) (w : SystemState) (left : Sets) (before after : List ℕ) (a b : Standing) → Closes w before left after a b → Stopping false jobs w before left after a b
+closed jobs w left before after a b closes =
     let happens = closes.drained in
     let end = closing left Stopped in
     record {
@@ -197,4 +258,29 @@ closed jobs w left before after closes =
           ∙ ap (λ (sets : Sets). before ++ (printouts_text (happens.printouts ++ []) ++ closing sets Stopped)) closes.same
           ∙ ap (λ (p : Played). before ++ (printouts_text (p.printouts ++ []) ++ closing p.after.scheduler.sets Stopped)) (sym (happens.is rest));
       sets = λ rest. closes.same ∙ ap (λ (p : Played). p.after.scheduler.sets) (sym (happens.is rest));
+      lines = happens.lines;
+      tells = λ rest. stop_told jobs (happens.marks ++ rest) w ∙ happens.tells rest;
+      audited = happens.audited;
     }
+
+-- memory ran out meanwhile
+pub close_breaks : (jobs : ℕ) (w : SystemState) (a b : Standing) → Breaks (event_lines Drain) w a b → StopBreaks false jobs w a b
+close_breaks jobs w a b broken = record {
+  marks = broken.marks;
+  lines = broken.lines;
+  tells = λ rest. let more = broken.begins rest in (more.0, stop_told jobs (broken.marks ++ rest) w ∙ more.1);
+  audited = broken.audited;
+}
+
+pub stop_breaks_when : (check : Bool) → check ≡ false → (jobs : ℕ) (w : SystemState) (a b : Standing) → StopBreaks false jobs w a b → StopBreaks check jobs w a b
+stop_breaks_when false e jobs w a b broken = broken
+stop_breaks_when true e jobs w a b broken = cc
+
+-- nothing was told
+pub stop_tells_none : (check : Bool) (jobs : ℕ) (w : SystemState) (a : Standing) → StopBreaks check jobs w a a
+stop_tells_none check jobs w a = record { marks = []; lines = []; tells = λ rest. (told_to check jobs rest (over w stopped), refl); audited = puts_nothing a }
+
+-- where memory ran out
+pub on_err : {T E P : Type 0} (r : Result T E) → P → OnErr r P
+on_err (Ok x) h = tt
+on_err (Err e) h = h

@@ -22,6 +22,7 @@ use Rattle.deck_driver.specs.declared.section.DeckState.{DeckState}
 use Rattle.deck_driver.specs.declared.section.DeckState.TheVariants as state
 use Rattle.deck_driver.specs.RunStates.{over, opening}
 use Rattle.deck_driver.specs.Feeds.{run_state_from, refused_from, outcome_of, outcome, refused_at}
+use Rattle.deck_driver.specs.Audits.{told_to, told_from}
 use Rattle.std.specs.Option.{option_or}
 use Rattle.deck_syntax.proofs.Shorthand.{goes_on, deck_goes_on}
 
@@ -39,6 +40,21 @@ outcome_refused false slots jobs m (section.Catalogue accounts progress) n code 
 outcome_refused false slots jobs m (section.Stream w) n code = refl
 outcome_refused false slots jobs m (section.List w list) n code = refl
 outcome_refused false slots jobs m (section.Job w job) n code = refl
+
+-- and tells an audit nothing
+pub told_refused : (check : Bool) (slots jobs : ℕ) (m : Marks) (section : Section) (n : ℕ) (code : DeckError) → told_to check jobs m (refused_from slots section n code) ≡ []
+told_refused true slots jobs m section.Opening n code = refl
+told_refused true slots jobs m (section.Accounts accounts) n code = refl
+told_refused true slots jobs m (section.Catalogue accounts progress) n code = refl
+told_refused true slots jobs m (section.Stream w) n code = refl
+told_refused true slots jobs m (section.List w list) n code = refl
+told_refused true slots jobs m (section.Job w job) n code = refl
+told_refused false slots jobs m section.Opening n code = refl
+told_refused false slots jobs m (section.Accounts accounts) n code = refl
+told_refused false slots jobs m (section.Catalogue accounts progress) n code = refl
+told_refused false slots jobs m (section.Stream w) n code = refl
+told_refused false slots jobs m (section.List w list) n code = refl
+told_refused false slots jobs m (section.Job w job) n code = refl
 
 -- the deck ends here
 pub ends_here : (slots : ℕ) (section : Section) (n : ℕ) → run_state_from slots section n [] ≡ refused_from slots section n Truncated
@@ -97,6 +113,17 @@ alike options jobs m (state.Reading section) n [] ys (inr long) = absurd long
 alike options jobs m (state.Reading section) n (x ∷ xs) [] (inr long) = absurd long
 alike options jobs m (state.Reading section) n (x ∷ xs) (y ∷ ys) (inr long) =
     ap (outcome_of options.check jobs m) (long_refused options.slots.number section n x xs long.0 ∙ sym (long_refused options.slots.number section n y ys long.1))
+
+-- and tell an audit the same
+pub alike_told : (options : Options) (jobs : ℕ) (m : Marks) (s : DeckState) (n : ℕ) (xs ys : List (List ℕ)) → Alike xs ys → told_from options jobs m s n xs ≡ told_from options jobs m s n ys
+alike_told options jobs m s n xs ys (inl same) = ap (told_from options jobs m s n) same
+alike_told options jobs m (state.Stopped w) n xs ys (inr long) = refl
+alike_told options jobs m (state.Refused k code) n xs ys (inr long) = refl
+alike_told options jobs m state.NoMemory n xs ys (inr long) = refl
+alike_told options jobs m (state.Reading section) n [] ys (inr long) = absurd long
+alike_told options jobs m (state.Reading section) n (x ∷ xs) [] (inr long) = absurd long
+alike_told options jobs m (state.Reading section) n (x ∷ xs) (y ∷ ys) (inr long) =
+    ap (told_to options.check jobs m) (long_refused options.slots.number section n x xs long.0 ∙ sym (long_refused options.slots.number section n y ys long.1))
 
 -- what a good line of the stream asks for
 pub line_asks : (n : ℕ) (line : List ℕ) (ls : List (List ℕ)) (r : Request) → option_or (line_refusal 200 line) (stream_refusal line) ≡ None → r ≡ request_on line

@@ -7,3 +7,4 @@ pub mod Parts
 pub mod Pieces
 pub mod CardWords
 pub mod LineEnds
+pub mod Ending

@@ -17,7 +17,8 @@ use Rattle.deck_driver.specs.declared.section.DeckState.{DeckState}
 use Rattle.deck_driver.specs.declared.section.DeckState.TheVariants as state
 use Rattle.deck_driver.specs.Feeds.{outcome, outcome_of, behind, refused_at}
 use Rattle.deck_driver.specs.inner.Counting.{lines_ended}
-use Rattle.deck_driver.proofs.Following.{long_refused, outcome_refused}
+use Rattle.deck_driver.specs.Audits.{told_to, told_from}
+use Rattle.deck_driver.proofs.Following.{long_refused, outcome_refused, told_refused}
 use Rattle.mon_text.specs.Characters.{is_line_feed}
 
 -- where the first LF stands, a byte further on
@@ -216,6 +217,12 @@ module _ (options : Options) (jobs : ℕ) (m : Marks) (section : Section) (n : �
       ∙ ap (outcome_of options.check jobs m) (long_refused options.slots.number section n (strip_carriage_return (old ++ front)) (lines bytes) (long taken))
       ∙ outcome_refused options.check options.slots.number jobs m section n LineTooLong
 
+  late_told : Takes old (front ++ 10 ∷ []) used None new → (bytes : List ℕ) → told_from options jobs m (state.Reading section) n (lines (old ++ ((front ++ 10 ∷ []) ++ bytes))) ≡ []
+  late_told taken bytes =
+      ap (told_from options jobs m (state.Reading section) n) (ended_line bytes)
+      ∙ ap (told_to options.check jobs m) (long_refused options.slots.number section n (strip_carriage_return (old ++ front)) (lines bytes) (long taken))
+      ∙ told_refused options.check options.slots.number jobs m section n LineTooLong
+
 -- and so the deck is refused, whatever follows
 pub told_late : (options : Options) (m : Marks) (section : Section) (s : DeckState) (n : ℕ) (counts : Counts) (out old piece new : List ℕ) (u k : ℕ)
     → s ≡ state.Reading section → has_no_end old ≡ true → has_no_end new ≡ true → Part (take u piece) → (has_no_end (take u piece) ≡ true → ⊥) → Takes old (take u piece) k None new
@@ -231,3 +238,19 @@ told_late options m section s n counts out old piece new u k is open_old open_ne
         let taken_so = subst (λ (v : List ℕ). Takes old v k None new) are taken in
         ap (behind out counts) (sym (late options counts.jobs m section n old front new k open_old open_new open_front taken_so (drop u piece ++ bytes)))
         ∙ ap (λ v. behind out counts (outcome options counts.jobs m (state.Reading section) n (lines (old ++ (v ++ (drop u piece ++ bytes)))))) (sym are)
+
+-- and nothing is told
+pub none_late : (options : Options) (m : Marks) (section : Section) (s : DeckState) (n jobs : ℕ) (old piece new : List ℕ) (u k : ℕ)
+    → s ≡ state.Reading section → has_no_end old ≡ true → has_no_end new ≡ true → Part (take u piece) → (has_no_end (take u piece) ≡ true → ⊥) → Takes old (take u piece) k None new
+    → (bytes : List ℕ) → told_from options jobs m s n (lines (old ++ (piece ++ bytes))) ≡ []
+none_late options m section s n jobs old piece new u k is open_old open_new part ended taken bytes =
+    sym (ap (λ v. told_from options jobs m s n (lines (old ++ v))) (rejoined u piece bytes))
+    ∙ ap (λ (v : DeckState). told_from options jobs m v n (lines (old ++ (take u piece ++ (drop u piece ++ bytes))))) is
+    ∙ by part
+  where
+    by : Part (take u piece) → told_from options jobs m (state.Reading section) n (lines (old ++ (take u piece ++ (drop u piece ++ bytes)))) ≡ []
+    by (Open open_part) = absurd (ended open_part)
+    by (Ended front are open_front) =
+        let taken_so = subst (λ (v : List ℕ). Takes old v k None new) are taken in
+        ap (λ v. told_from options jobs m (state.Reading section) n (lines (old ++ (v ++ (drop u piece ++ bytes))))) are
+        ∙ late_told options jobs m section n old front new k open_old open_new open_front taken_so (drop u piece ++ bytes)

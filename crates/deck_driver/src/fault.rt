@@ -11,6 +11,8 @@ pub enum RunError {
     ReadFault,
     /// The writer failed.
     WriteFault,
+    /// The audit was not taken.
+    AuditFault,
     /// A growth was refused.
     Memory,
 }

@@ -12,7 +12,9 @@ ghost use Rattle.deck_driver.specs.declared.section.DeckState.TheVariants as sta
 ghost use Rattle.deck_driver.specs.RunStates.{opening, nothing_counted};
 ghost use Rattle.deck_driver.specs.Printouts.{ReadsBack};
 ghost use Rattle.deck_driver.specs.Feeds.{outcome, outcome_of, behind, refused_at, Good, Bad, Begins, EndsLine, OnAnswer, lines_loaded, is_reading, may_grow, used_by, IsReadBack, IsOwn, stopped_by, error_at, fault_at};
-ghost use Rattle.deck_driver.specs.Abstraction.{told, outcome_from, Took, Begun, last_lines};
+ghost use Rattle.deck_driver.specs.Audits.{told_to};
+ghost use Rattle.mon_device.specs.Putting.{Puts};
+ghost use Rattle.deck_driver.specs.Abstraction.{told, audit_told, outcome_from, Took, Begun, last_lines};
 ghost use Rattle.deck_driver.specs.inner.Counting.{lines_ended};
 ghost use Rattle.deck_driver.specs.inner.Lines.{Ended, EndBegun};
 
@@ -21,6 +23,7 @@ use crate::feed::DeckFeed;
 use crate::options::{Counts, Options};
 use crate::section::{DeckState, Section};
 use deck_syntax::DeckError;
+use mon_device::Sink;
 use mon_monitor::Printed;
 use mon_text::{EndedLine, LineFeed, Stop};
 use std::alloc::{AllocError, Global};
@@ -29,6 +32,7 @@ impl DeckFeed {
     /// The start of a deck.
     pub fn new(alloc: Global, options: Options) -> DeckFeed
         ensures start { (m : Marks) (bytes : List ℕ) → outcome_from m result bytes ≡ outcome_of options.check 0 m (opening options.slots.number (deck_of (lines bytes))) }
+        ensures audit { (m : Marks) (bytes : List ℕ) → audit_told m result bytes ≡ told_to options.check 0 m (opening options.slots.number (deck_of (lines bytes))) }
         ensures reads_back { IsReadBack result.options.check result.state }
         ensures options { result.options ≡ options }
         ensures reading { is_reading result.state ≡ true }
@@ -63,12 +67,18 @@ impl DeckFeed {
     ///
     /// `DeckRefused` where a card is refused; `Memory` where a growth was refused, which takes at least one byte before
     /// `$STOP`. After an error each further call answers the same and appends nothing.
-    #[tactic(auto, using(crate::proofs::Beginnings::begins_further, crate::proofs::LineEnds::all_left, crate::proofs::Pieces::begun_same, crate::proofs::Pieces::took_refused))]
-    pub fn feed(&mut self, alloc: Global, piece: &[u8], out: &mut Printed) -> Result<(), RunError>
+    #[tactic(auto, using(crate::proofs::Beginnings::begins_further, crate::proofs::LineEnds::all_left, crate::proofs::Pieces::begun_same, crate::proofs::Pieces::took_none, crate::proofs::Pieces::took_refused))]
+    pub fn feed<S: Sink>(
+        &mut self,
+        alloc: Global,
+        piece: &[u8],
+        out: &mut Printed,
+        audit: &mut S,
+    ) -> Result<(), RunError>
         requires { self.old.fed + length piece.now < 2 ^ 63 }
         ensures appends { Begins out.old out.new }
-        ensures begun { Begun out.old self.old piece.now out.new }
-        ensures told { OnAnswer result (Took out.old self.old piece.now out.new self.new) }
+        ensures begun { Begun out.old self.old piece.now out.new (S.standing audit.old) (S.standing audit.new) }
+        ensures told { OnAnswer result (Took out.old self.old piece.now out.new self.new (S.standing audit.old) (S.standing audit.new)) }
         ensures failed { IfErr result (λ error. self.new.state ≡ stopped_by error) }
         ensures again { (n : ℕ) (code : AnyCode) → self.old.state ≡ states.Refused n code → (result ≡ Err (RunError.DeckRefused n code)) × (self.new ≡ self.old) × (out.new ≡ out.old) }
         ensures still { self.old.state ≡ states.NoMemory → (result ≡ Err RunError.Memory) × (self.new ≡ self.old) × (out.new ≡ out.old) }
@@ -92,7 +102,7 @@ impl DeckFeed {
         }
         let mut rest = piece;
         'lines: while !rest.is_empty() {
-            let used = self.feed_line(alloc, rest, out)?;
+            let used = self.feed_line(alloc, rest, out, audit)?;
             out.let_go();
             rest = &rest[used..];
         }
@@ -117,21 +127,24 @@ impl DeckFeed {
     ///
     /// As `feed`.
     #[tactic(auto, using(crate::proofs::Pieces::begun_same))]
-    pub fn feed_line(
+    pub fn feed_line<S: Sink>(
         &mut self,
         alloc: Global,
         piece: &[u8],
         out: &mut Printed,
+        audit: &mut S,
     ) -> Result<usize, RunError>
         requires full { 0 < length piece.now }
         requires few { self.old.fed + length piece.now < 2 ^ 63 }
         ensures used { IfOk result (λ used. (0 < used) × (used ≤ length piece.now) × (self.new.fed ≡ self.old.fed + used)) }
         ensures line { IfOk result (λ used. used ≡ used_by self.old.state piece.now) }
-        ensures told { IfOk result (λ used. Took out.old self.old (take used piece.now) out.new self.new) }
+        ensures told { IfOk result (λ used. Took out.old self.old (take used piece.now) out.new self.new (S.standing audit.old) (S.standing audit.new)) }
         ensures refused { (n : ℕ) (code : AnyCode) → result ≡ Err (RunError.DeckRefused n code) →
             (rest : Marks) (bytes : List ℕ) → told rest out.new self.new bytes ≡ told rest out.old self.old (piece.now ++ bytes) }
+        ensures silent { (n : ℕ) (code : AnyCode) → result ≡ Err (RunError.DeckRefused n code) →
+            (S.standing audit.new ≡ S.standing audit.old) × ((rest : Marks) (bytes : List ℕ) → (audit_told rest self.new bytes ≡ []) × (audit_told rest self.old (piece.now ++ bytes) ≡ [])) }
         ensures appends { Begins out.old out.new }
-        ensures begun { Begun out.old self.old piece.now out.new }
+        ensures begun { Begun out.old self.old piece.now out.new (S.standing audit.old) (S.standing audit.new) }
         ensures failed { IfErr result (λ error. self.new.state ≡ stopped_by error) }
         ensures again { (n : ℕ) (code : AnyCode) → self.old.state ≡ states.Refused n code → (result ≡ Err (RunError.DeckRefused n code)) × (self.new ≡ self.old) × (out.new ≡ out.old) }
         ensures still { self.old.state ≡ states.NoMemory → (result ≡ Err RunError.Memory) × (self.new ≡ self.old) × (out.new ≡ out.old) }
@@ -160,9 +173,14 @@ impl DeckFeed {
             Ok((used, Some(line))) => {
                 self.fed += used as u64;
                 self.lines_taken += 1;
-                let answer = self
-                    .state
-                    .take_line(alloc, self.options, line.text(), &mut self.counts, out);
+                let answer = self.state.take_line(
+                    alloc,
+                    self.options,
+                    line.text(),
+                    &mut self.counts,
+                    out,
+                    audit,
+                );
                 match answer {
                     Ok(()) => {
                         self.line.reuse(line);
@@ -208,13 +226,21 @@ impl DeckFeed {
     /// # Errors
     ///
     /// As `feed`.
-    pub fn finish(self, alloc: Global, out: &mut Printed) -> Result<Counts, RunError>
+    pub fn finish<S: Sink>(
+        self,
+        alloc: Global,
+        out: &mut Printed,
+        audit: &mut S,
+    ) -> Result<Counts, RunError>
         ensures appends { Begins out.old out.new }
-        ensures begun { (marks : Marks) × ((rest : Marks) → Begins out.new (told (marks ++ rest) out.old self []).written) }
+        ensures begun { (marks : Marks) × ((rest : Marks) → Begins out.new (told (marks ++ rest) out.old self []).written)
+            × (audited : List ℕ) × ((rest : Marks) → Begins audited (audit_told (marks ++ rest) self [])) × Puts (S.standing audit.old) (S.standing audit.new) audited }
         ensures ended { IfOk result (λ counts. (marks : Marks) × (sets : Sets) × ((rest : Marks) → told (marks ++ rest) out.old self [] ≡ record { written = out.new; conclusion = Good counts sets })
+            × (audited : List ℕ) × ((rest : Marks) → audit_told (marks ++ rest) self [] ≡ audited) × Puts (S.standing audit.old) (S.standing audit.new) audited
             × (IsReadBack self.options.check self.state → self.options.check ≡ false → ReadsBack sets)) }
         ensures refused { (n : ℕ) (code : AnyCode) → result ≡ Err (RunError.DeckRefused n code) →
-            (marks : Marks) × ((rest : Marks) → told (marks ++ rest) out.old self [] ≡ record { written = out.new; conclusion = Bad n code }) }
+            (marks : Marks) × ((rest : Marks) → told (marks ++ rest) out.old self [] ≡ record { written = out.new; conclusion = Bad n code })
+            × (audited : List ℕ) × ((rest : Marks) → audit_told (marks ++ rest) self [] ≡ audited) × Puts (S.standing audit.old) (S.standing audit.new) audited }
         ensures again { (n : ℕ) (code : AnyCode) → self.state ≡ states.Refused n code → (result ≡ Err (RunError.DeckRefused n code)) × (out.new ≡ out.old) }
         ensures still { self.state ≡ states.NoMemory → (result ≡ Err RunError.Memory) × (out.new ≡ out.old) }
         ensures own { IfErr result IsOwn }
@@ -233,7 +259,16 @@ impl DeckFeed {
             fed: _,
         } = self;
         let last = line.rest();
-        end(alloc, options, state, &last, lines_taken, counts, out)
+        end(
+            alloc,
+            options,
+            state,
+            &last,
+            lines_taken,
+            counts,
+            out,
+            audit,
+        )
     }
 }
 
@@ -254,7 +289,7 @@ fn take_part<'a>(
 }
 
 // The end of a deck: a last line without LF is taken too, and then `$STOP` has come, or never comes.
-fn end(
+fn end<S: Sink>(
     alloc: Global,
     options: Options,
     state: DeckState,
@@ -262,17 +297,18 @@ fn end(
     lines_taken: u64,
     counts: Counts,
     out: &mut Printed,
+    audit: &mut S,
 ) -> Result<Counts, RunError>
     requires few { counts.jobs + counts.commands < 2 ^ 63 }
     requires short { lines_taken < 2 ^ 63 }
     requires within { lines_loaded state < 2 ^ 63 }
     requires sound { error_at state ≡ None }
     ensures appends { Begins out.old out.new }
-    ensures begun { EndBegun options state (lines_taken + 1) (last_lines last.now) out.old counts out.new }
-    ensures ended { IfOk result (λ all. (sets : Sets) × Ended options state (lines_taken + 1) (last_lines last.now) out.old counts out.new (Good all sets)
+    ensures begun { EndBegun options state (lines_taken + 1) (last_lines last.now) out.old counts out.new (S.standing audit.old) (S.standing audit.new) }
+    ensures ended { IfOk result (λ all. (sets : Sets) × Ended options state (lines_taken + 1) (last_lines last.now) out.old counts out.new (Good all sets) (S.standing audit.old) (S.standing audit.new)
         × (IsReadBack options.check state → options.check ≡ false → ReadsBack sets)) }
     ensures refused { (n : ℕ) (code : AnyCode) → result ≡ Err (RunError.DeckRefused n code) →
-        Ended options state (lines_taken + 1) (last_lines last.now) out.old counts out.new (Bad n code) }
+        Ended options state (lines_taken + 1) (last_lines last.now) out.old counts out.new (Bad n code) (S.standing audit.old) (S.standing audit.new) }
     ensures own { IfErr result IsOwn }
     ensures memory { result ≡ Err RunError.Memory → IsTrue (may_grow state last.now) }
     ensures short { result ≡ Err RunError.Memory → out.new ≡ out.old }
@@ -282,7 +318,7 @@ fn end(
     }
     let mut state = state;
     let mut counts = counts;
-    match state.take_line(alloc, options, last, &mut counts, out) {
+    match state.take_line(alloc, options, last, &mut counts, out, audit) {
         Ok(()) => conclude(&state, lines_taken + 2, counts),
         Err(Stop::Refused(code)) => Err(RunError::DeckRefused(lines_taken + 1, code)),
         Err(Stop::Memory) => Err(RunError::Memory),

@@ -10,7 +10,7 @@ ghost use Rattle.mon_monitor.specs.declared.monitor.Monitor.{Monitor as AnyMonit
 ghost use Rattle.deck_driver.specs.declared.section.Section.TheVariants as sections;
 ghost use Rattle.deck_driver.specs.declared.section.DeckState.TheVariants as states;
 ghost use Rattle.deck_driver.specs.Feeds.{run_state_from, refused_from, lines_loaded};
-ghost use Rattle.deck_driver.specs.inner.Lines.{TookLine, EndsSection, IsStream};
+ghost use Rattle.deck_driver.specs.inner.Lines.{TookLine, LineBreaks, EndsSection, IsStream};
 
 use crate::listing::listing_on;
 use crate::options::{Counts, Options};
@@ -21,6 +21,7 @@ use deck_syntax::{
     put_catalogue_line, read_request,
 };
 use mon_catalogue::{Loading, Version};
+use mon_device::Sink;
 use mon_monitor::{Monitor, Printed};
 use mon_text::{Name, Stop};
 use std::alloc::{AllocError, Global};
@@ -33,19 +34,22 @@ impl Section {
     /// # Errors
     ///
     /// The line's refusal; memory. Nothing was appended then.
-    #[tactic(auto, using(crate::proofs::Taking::unmoved))]
-    pub(crate) fn take(
+    #[tactic(auto, using(crate::proofs::Taking::unmoved, crate::proofs::Taking::errs_silently, crate::proofs::Taking::refused_silently))]
+    pub(crate) fn take<S: Sink>(
         &mut self,
         alloc: Global,
         options: Options,
         text: &[u8],
         counts: &mut Counts,
         out: &mut Printed,
+        audit: &mut S,
     ) -> Result<bool, Stop<DeckError>>
         requires few { counts.old.jobs + counts.old.commands < 2 ^ 63 }
         requires within { lines_loaded (states.Reading self.old) < 2 ^ 63 }
-        ensures taken { IfOk result (λ ends. ends ≡ false → TookLine options (states.Reading self.old) text.now out.old counts.old (states.Reading self.new) out.new counts.new) }
-        ensures left { IfOk result (λ ends. ends ≡ true → (self.new ≡ self.old) × (out.new ≡ out.old) × (counts.new ≡ counts.old)) }
+        ensures taken { IfOk result (λ ends. ends ≡ false → TookLine options (states.Reading self.old) text.now out.old counts.old (states.Reading self.new) out.new counts.new (S.standing audit.old) (S.standing audit.new)) }
+        ensures broken { OnErr result (LineBreaks options (states.Reading self.old) text.now counts.old (S.standing audit.old) (S.standing audit.new)) }
+        ensures silent { IfErr result (IfRefused (λ code. S.standing audit.new ≡ S.standing audit.old)) }
+        ensures left { IfOk result (λ ends. ends ≡ true → (self.new ≡ self.old) × (out.new ≡ out.old) × (counts.new ≡ counts.old) × (S.standing audit.new ≡ S.standing audit.old)) }
         ensures ends { IfOk result (λ ends. ends ≡ true → EndsSection options.slots.number self.old text.now) }
         ensures within { lines_loaded (states.Reading self.new) ≤ lines_loaded (states.Reading self.old) + 1 }
         ensures counted { counts.new.jobs + counts.new.commands ≤ counts.old.jobs + counts.old.commands + 1 }
@@ -63,10 +67,10 @@ impl Section {
             },
             Section::Catalogue(_, loading) => Ok(put_catalogue_line(alloc, loading, text)?),
             Section::Stream(monitor) => {
-                if take_listing(alloc, options, monitor, text, counts, out)? {
+                if take_listing(alloc, options, monitor, text, counts, out, audit)? {
                     return Ok(false);
                 }
-                self.take_card(alloc, options, text, counts, out)
+                self.take_card(alloc, options, text, counts, out, audit)
             }
             Section::List(_, list) => Ok(take_list_line(alloc, list, text)?),
             Section::Job(_, job) => Ok(job.take_line(alloc, text)?),
@@ -75,19 +79,23 @@ impl Section {
 
     // Takes a line of the stream as `take` does, whatever its card is. It stays a call, since the room for a request is cleared
     // where this stands.
+    #[tactic(auto, using(crate::proofs::Taking::errs_silently, crate::proofs::Taking::refused_silently))]
     #[inline(never)]
-    fn take_card(
+    fn take_card<S: Sink>(
         &mut self,
         alloc: Global,
         options: Options,
         text: &[u8],
         counts: &mut Counts,
         out: &mut Printed,
+        audit: &mut S,
     ) -> Result<bool, Stop<DeckError>>
         requires few { counts.old.jobs + counts.old.commands < 2 ^ 63 }
         requires stream { IsStream self.old }
-        ensures taken { IfOk result (λ ends. ends ≡ false → TookLine options (states.Reading self.old) text.now out.old counts.old (states.Reading self.new) out.new counts.new) }
-        ensures left { IfOk result (λ ends. ends ≡ true → (self.new ≡ self.old) × (out.new ≡ out.old) × (counts.new ≡ counts.old)) }
+        ensures taken { IfOk result (λ ends. ends ≡ false → TookLine options (states.Reading self.old) text.now out.old counts.old (states.Reading self.new) out.new counts.new (S.standing audit.old) (S.standing audit.new)) }
+        ensures broken { OnErr result (LineBreaks options (states.Reading self.old) text.now counts.old (S.standing audit.old) (S.standing audit.new)) }
+        ensures silent { IfErr result (IfRefused (λ code. S.standing audit.new ≡ S.standing audit.old)) }
+        ensures left { IfOk result (λ ends. ends ≡ true → (self.new ≡ self.old) × (out.new ≡ out.old) × (counts.new ≡ counts.old) × (S.standing audit.new ≡ S.standing audit.old)) }
         ensures ends { IfOk result (λ ends. ends ≡ true → EndsSection options.slots.number self.old text.now) }
         ensures within { lines_loaded (states.Reading self.new) ≡ 0 }
         ensures counted { counts.new.jobs + counts.new.commands ≤ counts.old.jobs + counts.old.commands + 1 }
@@ -100,15 +108,15 @@ impl Section {
         match read_request(alloc, text)? {
             Request::Nothing => Ok(false),
             Request::Asks(command) => {
-                put_command(alloc, options.check, monitor, command, counts, out)?;
+                put_command(alloc, options.check, monitor, command, counts, out, audit)?;
                 Ok(false)
             }
             Request::Turns(turn) => {
-                put_turns(alloc, options.check, monitor, turn, out)?;
+                put_turns(alloc, options.check, monitor, turn, out, audit)?;
                 Ok(false)
             }
             Request::Drains => {
-                put_drain(alloc, options.check, monitor, out)?;
+                put_drain(alloc, options.check, monitor, out, audit)?;
                 Ok(false)
             }
             Request::OpensList(account, name) => {
@@ -156,23 +164,25 @@ impl Section {
 }
 
 // Takes a card that lists records, where its words stand each behind one blank: whether it is one. Else nothing has changed.
-fn take_listing(
+fn take_listing<S: Sink>(
     alloc: Global,
     options: Options,
     monitor: &mut Monitor,
     text: &[u8],
     counts: &mut Counts,
     out: &mut Printed,
+    audit: &mut S,
 ) -> Result<bool, AllocError>
     requires { counts.old.jobs + counts.old.commands < 2 ^ 63 }
-    ensures taken { IfOk result (λ taken. taken ≡ true → TookLine options (states.Reading (sections.Stream monitor.old)) text.now out.old counts.old (states.Reading (sections.Stream monitor.new)) out.new counts.new) }
-    ensures left { IfOk result (λ taken. taken ≡ false → (monitor.new ≡ monitor.old) × (out.new ≡ out.old) × (counts.new ≡ counts.old)) }
+    ensures taken { IfOk result (λ taken. taken ≡ true → TookLine options (states.Reading (sections.Stream monitor.old)) text.now out.old counts.old (states.Reading (sections.Stream monitor.new)) out.new counts.new (S.standing audit.old) (S.standing audit.new)) }
+    ensures broken { OnErr result (LineBreaks options (states.Reading (sections.Stream monitor.old)) text.now counts.old (S.standing audit.old) (S.standing audit.new)) }
+    ensures left { IfOk result (λ taken. taken ≡ false → (monitor.new ≡ monitor.old) × (out.new ≡ out.old) × (counts.new ≡ counts.old) × (S.standing audit.new ≡ S.standing audit.old)) }
     ensures counted { counts.new.jobs + counts.new.commands ≤ counts.old.jobs + counts.old.commands + 1 }
     ensures nothing { OnErr result (out.new ≡ out.old) }
 {
     match listing_on(text) {
         Some(command) => {
-            put_command(alloc, options.check, monitor, command, counts, out)?;
+            put_command(alloc, options.check, monitor, command, counts, out, audit)?;
             Ok(true)
         }
         None => Ok(false),

@@ -1,5 +1,5 @@
 //! How far the reading of a deck has come, and what the next line makes of that.
-ghost use Rattle.std.specs.Prelude.{◌≡◌, ℕ, List, true, None, OnOk, IsErrOf, ◌+◌, ◌<◌, ◌≤◌, ◌^◌, ◌∷◌, IfOk, IfErr, OnErr};
+ghost use Rattle.std.specs.Prelude.{◌≡◌, ℕ, List, [], true, None, OnOk, IsErrOf, ◌+◌, ◌<◌, ◌≤◌, ◌^◌, ◌∷◌, IfOk, IfErr, OnErr};
 ghost use Rattle.mon_catalogue.specs.Progress.{is_due};
 ghost use Rattle.deck_syntax.specs.Sections.{sets_of};
 ghost use Rattle.deck_syntax.specs.inner.Stops.{IfRefused};
@@ -8,7 +8,8 @@ ghost use Rattle.scheduler.specs.Marks.{Marks};
 ghost use Rattle.mon_monitor.specs.SystemStates.{first_system};
 ghost use Rattle.mon_monitor.specs.Abstraction.{system_of};
 ghost use Rattle.deck_driver.specs.declared.section.DeckState.TheVariants as states;
-ghost use Rattle.deck_driver.specs.inner.Lines.{TookLine, Leaves, MovedOn};
+ghost use Rattle.deck_driver.specs.Audits.{told_from};
+ghost use Rattle.deck_driver.specs.inner.Lines.{TookLine, LineBreaks, Leaves, MovedOn, MoveBreaks};
 ghost use Rattle.deck_driver.specs.Feeds.{outcome, refused_at, lines_loaded, is_reading, error_at, IsReadBack};
 
 use crate::options::{Counts, Options};
@@ -16,6 +17,7 @@ use crate::serving::{close, put_command, put_job};
 use deck_syntax::{DeckError, OpenJob, OpenList, finish_catalogue};
 use mon_access::Accounts;
 use mon_catalogue::{Catalogue, Loading};
+use mon_device::Sink;
 use mon_monitor::{Monitor, Printed};
 use mon_text::Stop;
 use std::alloc::{AllocError, Global};
@@ -70,17 +72,21 @@ impl DeckState {
     ///
     /// The line's refusal; memory. Nothing was appended then, and what the state is says nothing.
     #[inline(never)]
-    pub(crate) fn take_line(
+    pub(crate) fn take_line<S: Sink>(
         &mut self,
         alloc: Global,
         options: Options,
         text: &[u8],
         counts: &mut Counts,
         out: &mut Printed,
+        audit: &mut S,
     ) -> Result<(), Stop<DeckError>>
         requires few { counts.old.jobs + counts.old.commands < 2 ^ 63 }
         requires within { lines_loaded self.old < 2 ^ 63 }
-        ensures told { OnOk result (TookLine options self.old text.now out.old counts.old self.new out.new counts.new) }
+        ensures told { OnOk result (TookLine options self.old text.now out.old counts.old self.new out.new counts.new (S.standing audit.old) (S.standing audit.new)) }
+        ensures broken { OnErr result (LineBreaks options self.old text.now counts.old (S.standing audit.old) (S.standing audit.new)) }
+        ensures silent { IfErr result (IfRefused (λ code. (S.standing audit.new ≡ S.standing audit.old)
+            × ((jobs : ℕ) (m : Marks) (n : ℕ) (ls : List (List ℕ)) → told_from options jobs m self.old n (text.now ∷ ls) ≡ []))) }
         ensures within { lines_loaded self.new ≤ lines_loaded self.old + 1 }
         ensures reads_back { IsReadBack options.check self.old → OnOk result (IsReadBack options.check self.new) }
         ensures counted { counts.new.jobs + counts.new.commands ≤ counts.old.jobs + counts.old.commands + 1 }
@@ -91,10 +97,10 @@ impl DeckState {
     {
         match self {
             DeckState::Reading(section) => {
-                if !section.take(alloc, options, text, counts, out)? {
+                if !section.take(alloc, options, text, counts, out, audit)? {
                     return Ok(());
                 }
-                self.follow(alloc, options, counts, out)?;
+                self.follow(alloc, options, counts, out, audit)?;
                 Ok(())
             }
             DeckState::Stopped(_) | DeckState::Refused(..) | DeckState::NoMemory => Ok(()),
@@ -114,17 +120,20 @@ impl DeckState {
 
     // What comes of a line that has ended its section. It stays a call, since the room for a state is cleared wherever this
     // stands, and most lines take none.
+    #[tactic(auto, using(crate::proofs::Taking::moves_silently))]
     #[inline(never)]
-    fn follow(
+    fn follow<S: Sink>(
         &mut self,
         alloc: Global,
         options: Options,
         counts: &mut Counts,
         out: &mut Printed,
+        audit: &mut S,
     ) -> Result<(), AllocError>
         requires few { counts.old.jobs + counts.old.commands < 2 ^ 63 }
         requires leaves { Leaves self.old }
-        ensures told { OnOk result (MovedOn options self.old out.old counts.old self.new out.new counts.new) }
+        ensures told { OnOk result (MovedOn options self.old out.old counts.old self.new out.new counts.new (S.standing audit.old) (S.standing audit.new)) }
+        ensures broken { OnErr result (MoveBreaks options self.old counts.old (S.standing audit.old) (S.standing audit.new)) }
         ensures within { lines_loaded self.new ≡ 0 }
         ensures sound { OnOk result (error_at self.new ≡ None) }
         ensures reads_back { OnOk result (IsReadBack options.check self.new) }
@@ -143,20 +152,28 @@ impl DeckState {
                 Ok(())
             }
             Section::Stream(monitor) => {
-                let sets = close(alloc, options.check, monitor, out)?;
+                let sets = close(alloc, options.check, monitor, out, audit)?;
                 *self = DeckState::Stopped(sets);
                 Ok(())
             }
             Section::List(monitor, list) => {
                 let mut monitor = monitor;
                 let command = list.into_command();
-                put_command(alloc, options.check, &mut monitor, command, counts, out)?;
+                put_command(
+                    alloc,
+                    options.check,
+                    &mut monitor,
+                    command,
+                    counts,
+                    out,
+                    audit,
+                )?;
                 *self = DeckState::Reading(Section::Stream(monitor));
                 Ok(())
             }
             Section::Job(monitor, job) => {
                 let mut monitor = monitor;
-                put_job(alloc, options.check, &mut monitor, job, counts, out)?;
+                put_job(alloc, options.check, &mut monitor, job, counts, out, audit)?;
                 *self = DeckState::Reading(Section::Stream(monitor));
                 Ok(())
             }

@@ -20,7 +20,9 @@ use Rattle.deck_syntax.specs.Spelling.{IsDeck}
 use Rattle.deck_syntax.proofs.Closing.{good_beginnings}
 use Rattle.deck_syntax.proofs.ComingBack.{comes_back}
 use Rattle.deck_driver.specs.RunStates.{opening, events_of, at_end, played_run_state}
-use Rattle.deck_driver.specs.Abstraction.{told, Took}
+use Rattle.mon_device.specs.Putting.{Standing}
+use Rattle.mon_device.proofs.Putting.{puts_then}
+use Rattle.deck_driver.specs.Abstraction.{told, audit_told, Took}
 use Rattle.deck_driver.specs.declared.feed.DeckFeed.{DeckFeed}
 use Rattle.deck_driver.specs.Printouts.{closing, output_of_run_state}
 use Rattle.deck_run.specs.Runs.{run_state_of}
@@ -80,24 +82,33 @@ refused_prints_as_good card_by_card options m bytes n code run refused =
     )
 
 -- a piece, and what follows it
-took_further : (before mid after : List ℕ) (f h g : DeckFeed) (piece more : List ℕ) → Took before f piece mid h → Took mid h more after g → Took before f (piece ++ more) after g
-took_further before mid after f h g piece more first next = record {
+took_further : (before mid after : List ℕ) (f h g : DeckFeed) (piece more : List ℕ) (a b c : Standing) → Took before f piece mid h a b → Took mid h more after g b c
+    → Took before f (piece ++ more) after g a c
+took_further before mid after f h g piece more a b c first next = record {
   marks = first.marks ++ next.marks;
   is = λ rest bytes.
       next.is rest bytes
       ∙ first.is (next.marks ++ rest) (more ++ bytes)
       ∙ ap (λ (m : Marks). told m before f (piece ++ (more ++ bytes))) (sym (append_assoc first.marks next.marks rest))
       ∙ ap (λ v. told ((first.marks ++ next.marks) ++ rest) before f v) (sym (append_assoc piece more bytes));
+  audit = first.audit ++ next.audit;
+  tells = λ rest bytes.
+      ap (λ v. audit_told ((first.marks ++ next.marks) ++ rest) f v) (append_assoc piece more bytes)
+      ∙ ap (λ (m : Marks). audit_told m f (piece ++ (more ++ bytes))) (append_assoc first.marks next.marks rest)
+      ∙ first.tells (next.marks ++ rest) (more ++ bytes)
+      ∙ ap (λ (l : List ℕ). first.audit ++ l) (next.tells rest bytes)
+      ∙ sym (append_assoc first.audit next.audit (audit_told rest g bytes));
+  audited = puts_then a b c first.audit next.audit first.audited next.audited;
 }
 
 pub pieces_are_joined : PiecesAreJoined
-pieces_are_joined before after f g [] took = took
-pieces_are_joined before after f g (piece ∷ pieces) (mid, h, first, others) =
-    took_further before mid after f h g piece (joined pieces) first (pieces_are_joined mid after h g pieces others)
+pieces_are_joined before after f g [] a b took = took
+pieces_are_joined before after f g (piece ∷ pieces) a b (mid, h, c, first, others) =
+    took_further before mid after f h g piece (joined pieces) a c b first (pieces_are_joined mid after h g pieces c b others)
 
 pub however_cut : HoweverCut
-however_cut start f pieces out begin took =
-    let all = pieces_are_joined [] out start f pieces took in
+however_cut start f pieces out a b begin took =
+    let all = pieces_are_joined [] out start f pieces a b took in
     (all.marks, λ rest bytes. all.is rest bytes ∙ begin (all.marks ++ rest) (joined pieces ++ bytes))
 
 -- the text of a deck

@@ -1,8 +1,8 @@
 -- The line that is due, as line ends are counted.
-use Rattle.std.proofs.Common.{◌≡◌, ◌≤◌, ℕ, suc, ◌+◌, ◌-◌, ◌&&◌, Bool, true, false, not, List, [], ◌∷◌, ◌++◌, length, get_or, take, drop, if◌then◌else◌, refl, sym, ap, subst, ◌∙◌, arith}
+use Rattle.std.proofs.Common.{◌≡◌, ◌≤◌, ℕ, suc, ◌+◌, ◌-◌, ◌&&◌, Bool, true, false, not, List, [], ◌∷◌, ◌++◌, length, get_or, take, drop, if◌then◌else◌, refl, sym, ap, ◌∙◌, arith}
 use Rattle.std.proofs.lemmas.List.{take-append-drop}
 use Rattle.mon_text.specs.Characters.{is_line_feed}
-use Rattle.mon_text.specs.Feeding.{taken_of, has_no_end}
+use Rattle.mon_text.specs.Feeding.{has_no_end}
 use Rattle.deck_driver.specs.declared.section.DeckState.{DeckState}
 use Rattle.deck_driver.specs.Feeds.{is_reading, used_by}
 use Rattle.deck_driver.specs.inner.Counting.{lines_ended}

@@ -39,12 +39,15 @@ use Rattle.deck_driver.specs.RunStates.{RunState, opening, all_counted}
 use Rattle.deck_driver.specs.Printouts.{verdict, answer_to, output_of}
 use Rattle.deck_driver.specs.Feeds.{outcome, outcome_of, error_at, is_reading, concluded, sets_left, Outcome, Conclusion, Good, Bad}
 use Rattle.deck_driver.specs.Feeds.{more as after}
-use Rattle.deck_driver.specs.Abstraction.{outcome_from}
+use Rattle.deck_driver.specs.Abstraction.{outcome_from, audit_told}
 use Rattle.deck_driver.specs.inner.Counting.{lines_ended}
-use Rattle.deck_driver.proofs.Following.{too_long, list_too_long, long_refused, outcome_refused}
+use Rattle.deck_driver.proofs.Following.{told_refused, too_long, list_too_long, long_refused, outcome_refused}
+use Rattle.mon_device.specs.Putting.{Standing, Puts}
+use Rattle.mon_device.proofs.Putting.{puts_same}
+use Rattle.deck_driver.specs.Audits.{told_to, told_from, audit_for}
 use Rattle.deck_run.specs.Runs.{deck_ending, run_state_of, whole_lines, HasAnswered, HasPrinted, HasBrokenOff, HasBrokenOffAt}
 use Rattle.deck_run.specs.inner.Writing.{Held, Runs, Stands, BrokeAt}
-use Rattle.deck_run.proofs.Running.{Opens}
+use Rattle.deck_run.proofs.Running.{Opens, Tells}
 use Rattle.mon_text.specs.Characters.{is_line_feed}
 use Rattle.std.specs.Option.{option_or}
 use Rattle.deck_syntax.proofs.Shorthand.{goes_on, deck_goes_on}
@@ -73,6 +76,18 @@ same_answer false slots m d = by d.cards.ending
     ending_so ending = opening slots (record { accounts = d.accounts; catalogue = d.catalogue; cards = record { asked = d.cards.asked; ending = ending } })
 
     by : (ending : Ending) → answer_to false 0 m (ending_so (blunt_ending ending)) ≡ answer_to false 0 m (ending_so ending)
+    by Stopped = refl
+    by (Refused n code) = refl
+
+-- and tells an audit the same
+same_told : (check : Bool) (slots : ℕ) (m : Marks) (d : Deck) → told_to check 0 m (opening slots (blunt d)) ≡ told_to check 0 m (opening slots d)
+same_told true slots m d = refl
+same_told false slots m d = by d.cards.ending
+  where
+    ending_so : Ending → RunState
+    ending_so ending = opening slots (record { accounts = d.accounts; catalogue = d.catalogue; cards = record { asked = d.cards.asked; ending = ending } })
+
+    by : (ending : Ending) → told_to false 0 m (ending_so (blunt_ending ending)) ≡ told_to false 0 m (ending_so ending)
     by Stopped = refl
     by (Refused n code) = refl
 
@@ -153,7 +168,7 @@ module _ (last : List ℕ) (long : 5000 < length last) where
       deck_goes_on_same (option_or (line_refusal 200 line) (opening_refusal line)) n [] _ _
       (either_deck (is_blank_line line) _ _ _ _ (opening_same ls (n + 1)) (accounts_same ls (n + 1) []))
 
-  answer_same : (options : Options) (m : Marks) (ls : List (List ℕ))
+  pub answer_same : (options : Options) (m : Marks) (ls : List (List ℕ))
       → (let before = opening options.slots.number (deck_of ls) in
       answer_to options.check 0 m (opening options.slots.number (deck_of (ls ++ last ∷ []))) ≡ answer_to options.check 0 m before)
   answer_same options m ls =
@@ -161,6 +176,15 @@ module _ (last : List ℕ) (long : 5000 < length last) where
       sym (same_answer options.check slots m (deck_of (ls ++ last ∷ [])))
       ∙ ap (λ (d : Deck). answer_to options.check 0 m (opening slots d)) (opening_same ls 1)
       ∙ same_answer options.check slots m (deck_of ls)
+
+  pub told_same : (options : Options) (m : Marks) (ls : List (List ℕ))
+      → (let before = opening options.slots.number (deck_of ls) in
+      told_to options.check 0 m (opening options.slots.number (deck_of (ls ++ last ∷ []))) ≡ told_to options.check 0 m before)
+  told_same options m ls =
+      let slots = options.slots.number in
+      sym (same_told options.check slots m (deck_of (ls ++ last ∷ [])))
+      ∙ ap (λ (d : Deck). told_to options.check 0 m (opening slots d)) (opening_same ls 1)
+      ∙ same_told options.check slots m (deck_of ls)
 
 -- ---- bytes that make such a line behind any others
 
@@ -293,7 +317,7 @@ was_stopped (Refused n code) same = cc
 
 module _ (more : List ℕ) (inside : has_no_end more ≡ true) (long : 5000 < length more) where
   -- behind any bytes there is one line more than their whole lines
-  one_line_more : (bytes : List ℕ) → (last : List ℕ) × (5000 < length last) × (lines (bytes ++ more) ≡ lines (whole_lines bytes) ++ last ∷ []) × (length (lines (whole_lines bytes)) ≡ lines_ended bytes)
+  pub one_line_more : (bytes : List ℕ) → (last : List ℕ) × (5000 < length last) × (lines (bytes ++ more) ≡ lines (whole_lines bytes) ++ last ∷ []) × (length (lines (whole_lines bytes)) ≡ lines_ended bytes)
   one_line_more bytes =
       let p = parted bytes more inside long in
       let full : (length p.last == 0) ≡ false = ne_eqb (length p.last) 0 (omega (arith, p.long)) in
@@ -317,6 +341,14 @@ module _ (more : List ℕ) (inside : has_no_end more ≡ true) (long : 5000 < le
   silent_line options jobs m (state.Refused i code) n line over = refl
   silent_line options jobs m state.NoMemory n line over = refl
 
+  -- and tells nothing
+  untold_line : (options : Options) (jobs : ℕ) (m : Marks) (s : DeckState) (n : ℕ) (line : List ℕ) → 5000 < length line → told_from options jobs m s n (line ∷ []) ≡ []
+  untold_line options jobs m (state.Reading section) n line over =
+      ap (told_to options.check jobs m) (long_refused options.slots.number section n line [] over) ∙ told_refused options.check options.slots.number jobs m section n LineTooLong
+  untold_line options jobs m (state.Stopped w) n line over = refl
+  untold_line options jobs m (state.Refused i code) n line over = refl
+  untold_line options jobs m state.NoMemory n line over = refl
+
   -- the line that a feed has then
   one_last : (f : DeckFeed) → lines (f.line ++ more) ≡ (f.line ++ more) ∷ []
   one_last f =
@@ -332,11 +364,17 @@ module _ (more : List ℕ) (inside : has_no_end more ≡ true) (long : 5000 < le
       ap (λ ls. (outcome f.options f.counts.jobs m f.state (f.lines_taken + 1) ls).written) (one_last f)
       ∙ silent_line f.options f.counts.jobs m f.state (f.lines_taken + 1) (f.line ++ more) (too_many f)
 
+  pub untold : (m : Marks) (f : DeckFeed) → audit_told m f more ≡ []
+  untold m f =
+      ap (told_from f.options f.counts.jobs m f.state (f.lines_taken + 1)) (one_last f)
+      ∙ untold_line f.options f.counts.jobs m f.state (f.lines_taken + 1) (f.line ++ more) (too_many f)
+
   -- how it comes out
   last_conclusion : (m : Marks) (f : DeckFeed) → (outcome_from m f more).conclusion ≡ after f.counts (of_line f.options f.counts.jobs m f.state (f.lines_taken + 1) (f.line ++ more)).conclusion
   last_conclusion m f = ap (λ ls. after f.counts (outcome f.options f.counts.jobs m f.state (f.lines_taken + 1) ls).conclusion) (one_last f)
 
-  module _ (options : Options) (held now : Option (List ℕ)) (start f : DeckFeed) (given : List ℕ) (begin : Opens options start) (stands : Stands held now [] start f given) where
+  module _ (options : Options) (held now : Option (List ℕ)) (start f : DeckFeed) (given : List ℕ) (a b : Standing) (begin : Opens options start) (tells : Tells options start)
+      (stands : Stands held now [] start f given a b) where
     abbrev whole : List (List ℕ)
     whole = lines (whole_lines given)
 
@@ -360,6 +398,18 @@ module _ (more : List ℕ) (inside : has_no_end more ≡ true) (long : 5000 < le
         ∙ ap (λ ls. holding held (answer_to options.check 0 so_far (opening options.slots.number (deck_of ls)))) one.2
         ∙ ap (holding held) (answer_same one.0 one.1 options so_far whole)
 
+    put : Puts a b (audit_for options so_far (whole_lines given))
+    put =
+        let one = one_line_more given in
+        puts_same a b stands.served.audit (audit_for options so_far (whole_lines given))
+        (sym (append-nil stands.served.audit)
+        ∙ ap (λ (l : List ℕ). stands.served.audit ++ l) (sym (untold [] f))
+        ∙ sym (stands.served.tells [] more)
+        ∙ tells so_far (given ++ more)
+        ∙ ap (λ ls. told_to options.check 0 so_far (opening options.slots.number (deck_of ls))) one.2
+        ∙ told_same one.0 one.1 options so_far whole)
+        stands.served.audited
+
     comes_out : (outcome_from [] f more).conclusion ≡ concluded_so longer.cards.ending
     comes_out = ap (λ (h : Held). h.conclusion) (stands.served.is [] more) ∙ ap (λ (o : Outcome). o.conclusion) (begin so_far (given ++ more))
 
@@ -376,8 +426,8 @@ module _ (more : List ℕ) (inside : has_no_end more ≡ true) (long : 5000 < le
         let count = (stands.counted at.0).1 in
         absurd (omega (arith, count, at.1, decides.within, one.3))
 
-    answered : HasAnswered options held now given
-    answered = record { written = (so_far, printed); unrefused = λ n code refused. by n code refused (refusals_stand whole n code refused) }
+    answered : HasAnswered options held now given a b
+    answered = record { written = (so_far, printed, put); unrefused = λ n code refused. by n code refused (refusals_stand whole n code refused) }
       where
         by : (n : ℕ) (code : DeckError) → deck_ending (whole_lines given) ≡ Refused n code → Decides n whole ⊎ ((n ≡ length whole + 1) × (code ≡ Truncated)) → code ≡ Truncated
         by n code refused (inl decides) = absurd (never_refused n code refused decides)
@@ -392,33 +442,34 @@ module _ (more : List ℕ) (inside : has_no_end more ≡ true) (long : 5000 < le
         let good : (outcome_from [] f more).conclusion ≡ concluded_so Stopped = comes_out ∙ ap concluded_so (was_stopped longer.cards.ending blunt_same) in
         never_good f.options f.counts.jobs [] f.state (f.lines_taken + 1) (f.line ++ more) (too_many f) reading f.counts _ _ (sym (last_conclusion [] f) ∙ good)
 
-long_bytes : (n : ℕ) → (bytes : List ℕ) × (length bytes ≡ n) × (has_no_end bytes ≡ true)
+pub long_bytes : (n : ℕ) → (bytes : List ℕ) × (length bytes ≡ n) × (has_no_end bytes ≡ true)
 long_bytes zero = ([], refl, refl)
 long_bytes (suc n) = let rest = long_bytes n in (120 ∷ rest.0, omega (arith, rest.1), rest.2)
 
-module _ (options : Options) (given_by left held now : Option (List ℕ)) (start : DeckFeed) (given : List ℕ) (begin : Opens options start) where
-  pub due : (f : DeckFeed) → Runs given_by left held now start f given → HasPrinted options given_by left held now
+module _ (options : Options) (given_by left held now : Option (List ℕ)) (start : DeckFeed) (given : List ℕ) (a b : Standing) (begin : Opens options start) (tells : Tells options start) where
+  pub due : (f : DeckFeed) → Runs given_by left held now start f given a b → HasPrinted options given_by left held now a b
   due f runs =
       let bytes = long_bytes 5001 in
-      (given, runs.so_far.gives, answered bytes.0 bytes.2 (omega (arith, bytes.1)) options held now start f given begin runs.stands)
+      (given, runs.so_far.gives, answered bytes.0 bytes.2 (omega (arith, bytes.1)) options held now start f given a b begin tells runs.stands)
 
-  pub broken_off_at : (line : ℕ) → BrokeAt given_by left held now start given 1 line → HasBrokenOffAt options line given_by left held now
+  pub broken_off_at : (line : ℕ) → BrokeAt given_by left held now start given 1 line a b → HasBrokenOffAt options line given_by left held now a b
   broken_off_at line at =
       let bytes = long_bytes 5001 in
-      let b = at.run.broke in
+      let x = at.run.broke in
       let long : 5000 < length bytes.0 = omega (arith, bytes.1) in
-      let one = one_line_more bytes.0 bytes.2 long b.front in (
+      let one = one_line_more bytes.0 bytes.2 long x.front in (
         given,
-        b.front,
-        b.back,
+        x.front,
+        x.back,
         at.run.gives,
-        b.are,
+        x.are,
         at.run.last,
-        answered bytes.0 bytes.2 long options held now start b.feed b.front begin b.stands,
-        not_stopped bytes.0 bytes.2 long options held now start b.feed b.front begin b.stands b.reading,
+        (x.mid, answered bytes.0 bytes.2 long options held now start x.feed x.front a x.mid begin tells x.stands, x.more, x.ahead),
+        not_stopped bytes.0 bytes.2 long options held now start x.feed x.front a x.mid begin tells x.stands x.reading,
         omega (arith, at.line_is, one.3),
       )
 
 -- without the line
-pub broken_off : (options : Options) (given_by left held now : Option (List ℕ)) (line : ℕ) → HasBrokenOffAt options line given_by left held now → HasBrokenOff options given_by left held now
-broken_off options given_by left held now line (given, front, back, gives, are, last, answered, open_end, is) = (given, front, back, gives, are, last, answered, open_end)
+pub broken_off : (options : Options) (given_by left held now : Option (List ℕ)) (a b : Standing) (line : ℕ) → HasBrokenOffAt options line given_by left held now a b
+    → HasBrokenOff options given_by left held now a b
+broken_off options given_by left held now a b line (given, front, back, gives, are, last, answered, open_end, is) = (given, front, back, gives, are, last, answered, open_end)

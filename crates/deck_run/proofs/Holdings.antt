@@ -2,6 +2,8 @@
 use Rattle.std.proofs.Common.{◌≡◌, ◌≤◌, ◌+◌, ℕ, true, List, [], ◌++◌, take, drop, Option, Some, None, refl, sym, ap, subst, ◌∙◌, arith, append_assoc, append-nil}
 use Rattle.std.proofs.lemmas.List.{append_cancel_left, take-append-drop}
 use Rattle.mon_device.specs.Devices.{holding}
+use Rattle.mon_device.specs.Putting.{Standing, Puts}
+use Rattle.mon_device.proofs.Putting.{puts_nothing, puts_same, puts_then}
 use Rattle.mon_device.proofs.Holding.{holding-append, holding-nothing}
 use Rattle.deck_syntax.specs.declared.deck_error.DeckError.{DeckError}
 use Rattle.deck_driver.specs.declared.feed.DeckFeed.{DeckFeed}
@@ -10,7 +12,7 @@ use Rattle.deck_driver.specs.declared.options.Counts.{Counts}
 use Rattle.deck_driver.specs.Feeds.{Outcome, behind, refused_at, Bad, Begins, is_reading, error_at, may_grow, used_by}
 use Rattle.deck_driver.specs.declared.section.DeckState.{DeckState}
 use Rattle.deck_driver.specs.declared.section.DeckState.TheVariants as state
-use Rattle.deck_driver.specs.Abstraction.{told, Took, Begun as Beginning}
+use Rattle.deck_driver.specs.Abstraction.{told, audit_told, Took, Begun as Beginning}
 use Rattle.mon_text.specs.Feeding.{taken_of}
 use Rattle.deck_driver.specs.inner.Counting.{lines_ended}
 use Rattle.deck_driver.proofs.Parts.{ended_further}
@@ -28,10 +30,15 @@ kept_told w w' out out' same m f bytes =
     ap (λ b. record { bytes = b; conclusion = later.conclusion }) (kept w w' out out' later.written same)
 
 -- a part was taken, and some of what was gathered was written
-pub serves_written : (w w' : Option (List ℕ)) (before mid after : List ℕ) (f g : DeckFeed) (part : List ℕ) → Took before f part mid g → holding w' after ≡ holding w mid
-    → Serves w w' before f part after g
-serves_written w w' before mid after f g part took put =
-    record { marks = took.marks; is = λ rest bytes. kept_told w w' mid after put rest g bytes ∙ ap (holds w) (took.is rest bytes) }
+pub serves_written : (w w' : Option (List ℕ)) (before mid after : List ℕ) (f g : DeckFeed) (part : List ℕ) (a b : Standing) → Took before f part mid g a b → holding w' after ≡ holding w mid
+    → Serves w w' before f part after g a b
+serves_written w w' before mid after f g part a b took put = record {
+  marks = took.marks;
+  is = λ rest bytes. kept_told w w' mid after put rest g bytes ∙ ap (holds w) (took.is rest bytes);
+  audit = took.audit;
+  tells = took.tells;
+  audited = took.audited;
+}
 
 -- all that was gathered was written, and nothing follows
 pub refused_holds : (w w' : Option (List ℕ)) (out : List ℕ) (counts : Counts) (n : ℕ) (code : DeckError) (o : Outcome) → w' ≡ holding w out
@@ -98,17 +105,44 @@ grown_held held mid now before later grown same further =
     held_further held mid now before.written later.written (grown_begins held mid before.written later.written grown bytes) bytes further
 
 -- what was gathered was written, or a beginning of it
-pub starts_written : (held now : Option (List ℕ)) (before after : List ℕ) (f : DeckFeed) (piece : List ℕ) → Beginning before f piece after → HoldsBeginning held now after
-    → Starts held now before f piece
-starts_written held now before after f piece begun written =
-    record { marks = begun.marks; is = λ rest bytes. held_begins held now after (told (begun.marks ++ rest) before f (piece ++ bytes)).written written (begun.is rest bytes) }
+pub starts_written : (held now : Option (List ℕ)) (before after : List ℕ) (f : DeckFeed) (piece : List ℕ) (a b : Standing) → Beginning before f piece after a b
+    → HoldsBeginning held now after → Starts held now before f piece a b
+starts_written held now before after f piece a b begun written = record {
+  marks = begun.marks;
+  is = λ rest bytes. held_begins held now after (told (begun.marks ++ rest) before f (piece ++ bytes)).written written (begun.is rest bytes);
+  audit = begun.audit;
+  tells = begun.tells;
+  audited = begun.audited;
+}
 
 -- what was gathered begins all that is to come
-pub all_told : (held now : Option (List ℕ)) (before : List ℕ) (f : DeckFeed) (piece : List ℕ) → HoldsBeginning held now before → Starts held now before f piece
-all_told held now before f piece written = record {
+pub all_told : (held now : Option (List ℕ)) (before : List ℕ) (f : DeckFeed) (piece : List ℕ) (a b : Standing) → HoldsBeginning held now before → Puts a b [] → Starts held now before f piece a b
+all_told held now before f piece a b written put = record {
   marks = [];
   is = λ rest bytes. held_begins held now before (told rest before f (piece ++ bytes)).written written ((told rest [] f (piece ++ bytes)).written, refl);
+  audit = [];
+  tells = λ rest bytes. (audit_told rest f (piece ++ bytes), refl);
+  audited = put;
 }
+
+-- ---- an audit that writes what it has gathered
+
+pub flushed : (a b c : Standing) (text : List ℕ) → Puts a b text → Puts b c [] → Puts a c text
+flushed a b c text first put = puts_same a c (text ++ []) text (append-nil text) (puts_then a b c text [] first put)
+
+pub serves_flushed : (held now : Option (List ℕ)) (before after : List ℕ) (f g : DeckFeed) (part : List ℕ) (a b c : Standing) → Serves held now before f part after g a b → Puts b c []
+    → Serves held now before f part after g a c
+serves_flushed held now before after f g part a b c serves put =
+    record { marks = serves.marks; is = serves.is; audit = serves.audit; tells = serves.tells; audited = flushed a b c serves.audit serves.audited put }
+
+pub starts_flushed : (held now : Option (List ℕ)) (before : List ℕ) (f : DeckFeed) (part : List ℕ) (a b c : Standing) → Starts held now before f part a b → Puts b c [] → Starts held now before f part a c
+starts_flushed held now before f part a b c starts put =
+    record { marks = starts.marks; is = starts.is; audit = starts.audit; tells = starts.tells; audited = flushed a b c starts.audit starts.audited put }
+
+pub stands_flushed : (held now : Option (List ℕ)) (out : List ℕ) (start f : DeckFeed) (given : List ℕ) (a b c : Standing) → Stands held now out start f given a b → Puts b c []
+    → Stands held now out start f given a c
+stands_flushed held now out start f given a b c stands put =
+    record { served = serves_flushed held now [] out start f given a b c stands.served put; counted = stands.counted; sound = stands.sound }
 
 -- ---- where a feed stands
 
@@ -132,15 +166,21 @@ taken_where_read (state.Stopped w) piece reading = cc
 taken_where_read (state.Refused n code) piece reading = cc
 taken_where_read state.NoMemory piece reading = cc
 
-pub stands_at_start : (held : Option (List ℕ)) (gathered : List ℕ) (f : DeckFeed) → gathered ≡ [] → error_at f.state ≡ None → Stands held held gathered f f []
-stands_at_start held gathered f empty sound = record {
-  served = record { marks = []; is = λ rest bytes. ap (λ (out : List ℕ). holds held (told rest out f bytes)) empty };
+pub stands_at_start : (held : Option (List ℕ)) (gathered : List ℕ) (f : DeckFeed) (a : Standing) → gathered ≡ [] → error_at f.state ≡ None → Stands held held gathered f f [] a a
+stands_at_start held gathered f a empty sound = record {
+  served = record {
+    marks = [];
+    is = λ rest bytes. ap (λ (out : List ℕ). holds held (told rest out f bytes)) empty;
+    audit = [];
+    tells = λ rest bytes. refl;
+    audited = puts_nothing a;
+  };
   counted = λ reading. (reading, omega arith);
   sound = sound;
 }
 
 -- a part, and then another
-module _ (held mid now : Option (List ℕ)) (before out : List ℕ) (start f : DeckFeed) (given : List ℕ) (first : Serves held mid before start given out f) where
+module _ (held mid now : Option (List ℕ)) (before out : List ℕ) (start f : DeckFeed) (given : List ℕ) (a b c : Standing) (first : Serves held mid before start given out f a b) where
   -- what follows all of it
   pub both : (marks rest : Marks) (part bytes : List ℕ)
       → holds mid (told (marks ++ rest) out f (part ++ bytes)) ≡ holds held (told ((first.marks ++ marks) ++ rest) before start ((given ++ part) ++ bytes))
@@ -149,29 +189,54 @@ module _ (held mid now : Option (List ℕ)) (before out : List ℕ) (start f : D
       ∙ ap (λ (m : Marks). holds held (told m before start (given ++ (part ++ bytes)))) (sym (append_assoc first.marks marks rest))
       ∙ ap (λ (v : List ℕ). holds held (told ((first.marks ++ marks) ++ rest) before start v)) (sym (append_assoc given part bytes))
 
-  pub serves_further : (after : List ℕ) (g : DeckFeed) (part : List ℕ) → Serves mid now out f part after g → Serves held now before start (given ++ part) after g
-  serves_further after g part next =
-      record { marks = first.marks ++ next.marks; is = λ rest bytes. next.is rest bytes ∙ both next.marks rest part bytes }
+  -- and what it tells
+  pub both_tell : (marks rest : Marks) (part bytes : List ℕ)
+      → audit_told ((first.marks ++ marks) ++ rest) start ((given ++ part) ++ bytes) ≡ first.audit ++ audit_told (marks ++ rest) f (part ++ bytes)
+  both_tell marks rest part bytes =
+      ap (λ (m : Marks). audit_told m start ((given ++ part) ++ bytes)) (append_assoc first.marks marks rest)
+      ∙ ap (λ (v : List ℕ). audit_told (first.marks ++ (marks ++ rest)) start v) (append_assoc given part bytes)
+      ∙ first.tells (marks ++ rest) (part ++ bytes)
 
-  pub refuses_further : (part : List ℕ) (n : ℕ) (code : DeckError) → Refuses mid now out f part n code → Refuses held now before start (given ++ part) n code
-  refuses_further part n code next =
-      record { marks = first.marks ++ next.marks; is = λ rest bytes. next.is rest bytes ∙ both next.marks rest part bytes }
+  pub serves_further : (after : List ℕ) (g : DeckFeed) (part : List ℕ) → Serves mid now out f part after g b c → Serves held now before start (given ++ part) after g a c
+  serves_further after g part next = record {
+    marks = first.marks ++ next.marks;
+    is = λ rest bytes. next.is rest bytes ∙ both next.marks rest part bytes;
+    audit = first.audit ++ next.audit;
+    tells = λ rest bytes.
+        both_tell next.marks rest part bytes ∙ ap (λ (l : List ℕ). first.audit ++ l) (next.tells rest bytes)
+        ∙ sym (append_assoc first.audit next.audit (audit_told rest g bytes));
+    audited = puts_then a b c first.audit next.audit first.audited next.audited;
+  }
 
-  pub starts_further : (part : List ℕ) → HasGrown held mid → Starts mid now out f part → Starts held now before start (given ++ part)
+  pub refuses_further : (part : List ℕ) (n : ℕ) (code : DeckError) → Refuses mid now out f part n code b c → Refuses held now before start (given ++ part) n code a c
+  refuses_further part n code next = record {
+    marks = first.marks ++ next.marks;
+    is = λ rest bytes. next.is rest bytes ∙ both next.marks rest part bytes;
+    audit = first.audit ++ next.audit;
+    tells = λ rest bytes. both_tell next.marks rest part bytes ∙ ap (λ (l : List ℕ). first.audit ++ l) (next.tells rest bytes);
+    audited = puts_then a b c first.audit next.audit first.audited next.audited;
+  }
+
+  pub starts_further : (part : List ℕ) → HasGrown held mid → Starts mid now out f part b c → Starts held now before start (given ++ part) a c
   starts_further part grown next = record {
     marks = first.marks ++ next.marks;
     is = λ rest bytes.
         grown_held held mid now (told ((first.marks ++ next.marks) ++ rest) before start ((given ++ part) ++ bytes)) (told (next.marks ++ rest) out f (part ++ bytes)) grown
         (both next.marks rest part bytes) (next.is rest bytes);
+    audit = first.audit ++ next.audit;
+    tells = λ rest bytes.
+        let more = next.tells rest bytes in
+        (more.0, both_tell next.marks rest part bytes ∙ ap (λ (l : List ℕ). first.audit ++ l) more.1 ∙ sym (append_assoc first.audit next.audit more.0));
+    audited = puts_then a b c first.audit next.audit first.audited next.audited;
   }
 
 -- another part was taken
-pub stands_further : (held mid now : Option (List ℕ)) (out out' : List ℕ) (start f g : DeckFeed) (given piece : List ℕ)
-    → Stands held mid out start f given → Serves mid now out f piece out' g
+pub stands_further : (held mid now : Option (List ℕ)) (out out' : List ℕ) (start f g : DeckFeed) (given piece : List ℕ) (a b c : Standing)
+    → Stands held mid out start f given a b → Serves mid now out f piece out' g b c
     → (is_reading g.state ≡ true → (is_reading f.state ≡ true) × (f.lines_taken + lines_ended piece ≤ g.lines_taken))
-    → error_at g.state ≡ None → Stands held now out' start g (given ++ piece)
-stands_further held mid now out out' start f g given piece first served counted sound = record {
-  served = serves_further held mid now [] out start f given first.served out' g piece served;
+    → error_at g.state ≡ None → Stands held now out' start g (given ++ piece) a c
+stands_further held mid now out out' start f g given piece a b c first served counted sound = record {
+  served = serves_further held mid now [] out start f given a b c first.served out' g piece served;
   counted = λ reading.
       let here = counted reading in
       let before = first.counted here.0 in
@@ -180,60 +245,69 @@ stands_further held mid now out out' start f g given piece first served counted 
 }
 
 -- what was gathered was written
-pub stands_written : (held mid now : Option (List ℕ)) (out out' : List ℕ) (start f : DeckFeed) (front : List ℕ) → holding now out' ≡ holding mid out
-    → Stands held mid out start f front → Stands held now out' start f front
-stands_written held mid now out out' start f front put stands = record {
-  served = record { marks = stands.served.marks; is = λ rest bytes. kept_told mid now out out' put rest f bytes ∙ stands.served.is rest bytes };
+pub stands_written : (held mid now : Option (List ℕ)) (out out' : List ℕ) (start f : DeckFeed) (front : List ℕ) (a b : Standing) → holding now out' ≡ holding mid out
+    → Stands held mid out start f front a b → Stands held now out' start f front a b
+stands_written held mid now out out' start f front a b put stands = record {
+  served = record {
+    marks = stands.served.marks;
+    is = λ rest bytes. kept_told mid now out out' put rest f bytes ∙ stands.served.is rest bytes;
+    audit = stands.served.audit;
+    tells = stands.served.tells;
+    audited = stands.served.audited;
+  };
   counted = stands.counted;
   sound = stands.sound;
 }
 
 -- so much of a piece was taken, and the rest is to come
-pub record Far (held now : Option (List ℕ)) (out : List ℕ) (start f : DeckFeed) (piece rest : List ℕ) : Type 0 where
+pub record Far (held now : Option (List ℕ)) (out : List ℕ) (start f : DeckFeed) (piece rest : List ℕ) (a b : Standing) : Type 0 where
   pub front : List ℕ
   pub are : piece ≡ front ++ rest
-  pub stands : Stands held now out start f front
+  pub stands : Stands held now out start f front a b
 
-pub far_at_start : (held : Option (List ℕ)) (out : List ℕ) (f : DeckFeed) (piece : List ℕ) → out ≡ [] → error_at f.state ≡ None → Far held held out f f piece piece
-far_at_start held out f piece empty sound = record { front = []; are = refl; stands = stands_at_start held out f empty sound }
+pub far_at_start : (held : Option (List ℕ)) (out : List ℕ) (f : DeckFeed) (piece : List ℕ) (a : Standing) → out ≡ [] → error_at f.state ≡ None → Far held held out f f piece piece a a
+far_at_start held out f piece a empty sound = record { front = []; are = refl; stands = stands_at_start held out f a empty sound }
 
-module _ (held mid : Option (List ℕ)) (out : List ℕ) (start f : DeckFeed) (piece rest : List ℕ) (far : Far held mid out start f piece rest) where
+module _ (held mid : Option (List ℕ)) (out : List ℕ) (start f : DeckFeed) (piece rest : List ℕ) (a b : Standing) (far : Far held mid out start f piece rest a b) where
   -- the rest begins so
-  pub starts_far : (now : Option (List ℕ)) → HasGrown held mid → Starts mid now out f rest → Starts held now [] start piece
-  starts_far now grown next =
-      subst (λ (v : List ℕ). Starts held now [] start v) (sym far.are) (starts_further held mid now [] out start f far.front far.stands.served rest grown next)
+  pub starts_far : (now : Option (List ℕ)) (c : Standing) → HasGrown held mid → Starts mid now out f rest b c → Starts held now [] start piece a c
+  starts_far now c grown next =
+      subst (λ (v : List ℕ). Starts held now [] start v a c) (sym far.are) (starts_further held mid now [] out start f far.front a b c far.stands.served rest grown next)
 
   -- or is refused
-  pub refuses_far : (now : Option (List ℕ)) (n : ℕ) (code : DeckError) → Refuses mid now out f rest n code → Refuses held now [] start piece n code
-  refuses_far now n code next =
-      subst (λ (v : List ℕ). Refuses held now [] start v n code) (sym far.are) (refuses_further held mid now [] out start f far.front far.stands.served rest n code next)
+  pub refuses_far : (now : Option (List ℕ)) (n : ℕ) (code : DeckError) (c : Standing) → Refuses mid now out f rest n code b c → Refuses held now [] start piece n code a c
+  refuses_far now n code c next =
+      subst (λ (v : List ℕ). Refuses held now [] start v n code a c) (sym far.are) (refuses_further held mid now [] out start f far.front a b c far.stands.served rest n code next)
 
-  pub further : (now : Option (List ℕ)) (out' : List ℕ) (g : DeckFeed) (used : ℕ) → Serves mid now out f (take used rest) out' g
+  pub further : (now : Option (List ℕ)) (out' : List ℕ) (g : DeckFeed) (used : ℕ) (c : Standing) → Serves mid now out f (take used rest) out' g b c
       → (is_reading g.state ≡ true → (is_reading f.state ≡ true) × (f.lines_taken + lines_ended (take used rest) ≤ g.lines_taken))
-      → error_at g.state ≡ None → Far held now out' start g piece (drop used rest)
-  further now out' g used served counted sound = record {
+      → error_at g.state ≡ None → Far held now out' start g piece (drop used rest) a c
+  further now out' g used c served counted sound = record {
     front = far.front ++ take used rest;
     are = far.are ∙ ap (λ v. far.front ++ v) (sym (take-append-drop used rest)) ∙ sym (append_assoc far.front (take used rest) (drop used rest));
-    stands = stands_further held mid now out out' start f g far.front (take used rest) far.stands served counted sound;
+    stands = stands_further held mid now out out' start f g far.front (take used rest) a b c far.stands served counted sound;
   }
 
   -- the whole piece was taken, and all that was gathered is written
-  pub all_taken : (now : Option (List ℕ)) (out' : List ℕ) → rest ≡ [] → holding now out' ≡ holding mid out → out' ≡ [] → Stands held now [] start f piece
+  pub all_taken : (now : Option (List ℕ)) (out' : List ℕ) → rest ≡ [] → holding now out' ≡ holding mid out → out' ≡ [] → Stands held now [] start f piece a b
   all_taken now out' none put empty =
       let same : piece ≡ far.front = far.are ∙ ap (λ v. far.front ++ v) none ∙ append-nil far.front in
-      subst (λ (v : List ℕ). Stands held now [] start f v) (sym same)
-      (subst (λ (o : List ℕ). Stands held now o start f far.front) empty (stands_written held mid now out out' start f far.front put far.stands))
+      subst (λ (v : List ℕ). Stands held now [] start f v a b) (sym same)
+      (subst (λ (o : List ℕ). Stands held now o start f far.front a b) empty (stands_written held mid now out out' start f far.front a b put far.stands))
 
   -- memory ran out at this line
-  pub breaks_off : (now : Option (List ℕ)) (first line : ℕ) → is_reading f.state ≡ true → now ≡ holding mid out
-      → (is_reading f.state ≡ true → line + lines_ended rest ≡ first + lines_ended piece) → BrokeOffAt held now start piece first line
-  breaks_off now first line reading all due = record {
+  pub breaks_off : (now : Option (List ℕ)) (first line : ℕ) (c : Standing) (more : List ℕ) → is_reading f.state ≡ true → now ≡ holding mid out
+      → (is_reading f.state ≡ true → line + lines_ended rest ≡ first + lines_ended piece) → Puts b c more → BrokeOffAt held now start piece first line a c
+  breaks_off now first line c more reading all due ahead = record {
     broke = record {
       front = far.front;
       back = rest;
       are = far.are;
       feed = f;
-      stands = stands_written held mid now out [] start f far.front (holding-nothing now ∙ all) far.stands;
+      mid = b;
+      stands = stands_written held mid now out [] start f far.front a b (holding-nothing now ∙ all) far.stands;
+      more = more;
+      ahead = ahead;
       reading = reading;
     };
     line_is = let here = due reading in let parts = ap lines_ended far.are in omega (arith, here, parts, ended_further far.front rest);

@@ -7,6 +7,8 @@ mod Headline
 mod Examples
 pub mod Beginning
 pub mod Due
+pub mod Ahead
+mod Ended
 pub mod Isolated
 pub mod LookingAlike
 pub mod Rearranged

@@ -2,7 +2,7 @@
 use Rattle.std.specs.Prelude.{ℕ, List, [], ◌++◌, Option, Some, None, Result, Ok, Err, codes, decimal}
 use Rattle.scheduler.specs.declared.holder.Holder.{Holder}
 use Rattle.deck_driver.specs.declared.fault.RunError.{RunError}
-use Rattle.deck_driver.specs.declared.fault.RunError.TheVariants.{DeckRefused, ReadFault, WriteFault, Memory}
+use Rattle.deck_driver.specs.declared.fault.RunError.TheVariants.{DeckRefused, ReadFault, WriteFault, AuditFault, Memory}
 use Rattle.deck_driver.specs.declared.options.Counts.{Counts}
 use Rattle.deck_syntax.specs.Codes.{code_text}
 use Rattle.deck_run.specs.declared.shortage.Shortage.{Shortage}
@@ -13,6 +13,7 @@ status_of (Ok counts) = 0
 status_of (Err (DeckRefused line code)) = 1
 status_of (Err ReadFault) = 3
 status_of (Err WriteFault) = 3
+status_of (Err AuditFault) = 3
 status_of (Err Memory) = 3
 
 -- what went wrong
@@ -20,6 +21,7 @@ abbrev pub fault_text : RunError → List ℕ
 fault_text (DeckRefused line code) = codes "line " ++ decimal line ++ codes ": " ++ code_text code
 fault_text ReadFault = codes "read fault"
 fault_text WriteFault = codes "write fault"
+fault_text AuditFault = codes "audit fault"
 fault_text Memory = codes "out of memory"
 
 abbrev pub fault_line : RunError → List ℕ

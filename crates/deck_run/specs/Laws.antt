@@ -18,6 +18,7 @@ use Rattle.mon_command.specs.Commanded.{commanded}
 use Rattle.mon_command.specs.Commands.{heading}
 use Rattle.mon_command.specs.Replies.{reason_text}
 use Rattle.mon_command.specs.Printouts.{records_text}
+use Rattle.mon_device.specs.Putting.{Standing}
 use Rattle.scheduler.specs.Marks.{Marks}
 use Rattle.mon_monitor.specs.SystemStates.{SystemState}
 use Rattle.mon_monitor.specs.Printouts.{printouts_text}
@@ -145,13 +146,13 @@ abbrev pub joined : List (List ℕ) → List ℕ
 joined pieces = flat_map (λ piece. piece) pieces
 
 -- a feed took these pieces, one after the other
-abbrev pub TookAll : List ℕ → DeckFeed → List (List ℕ) → List ℕ → DeckFeed → Type 0
-TookAll before f [] after g = Took before f [] after g
-TookAll before f (piece ∷ pieces) after g = (mid : List ℕ) × (h : DeckFeed) × Took before f piece mid h × TookAll mid h pieces after g
+abbrev pub TookAll : List ℕ → DeckFeed → List (List ℕ) → List ℕ → DeckFeed → Standing → Standing → Type 0
+TookAll before f [] after g a b = Took before f [] after g a b
+TookAll before f (piece ∷ pieces) after g a b = (mid : List ℕ) × (h : DeckFeed) × (c : Standing) × Took before f piece mid h a c × TookAll mid h pieces after g c b
 
 -- pieces one after the other are taken as all of them at once
 abbrev pub PiecesAreJoined : Type 0
-PiecesAreJoined = (before after : List ℕ) (f g : DeckFeed) (pieces : List (List ℕ)) → TookAll before f pieces after g → Took before f (joined pieces) after g
+PiecesAreJoined = (before after : List ℕ) (f g : DeckFeed) (pieces : List (List ℕ)) (a b : Standing) → TookAll before f pieces after g a b → Took before f (joined pieces) after g a b
 
 -- what comes of these bytes
 abbrev pub comes_of : Options → Marks → List ℕ → Outcome
@@ -160,8 +161,8 @@ comes_of options m bytes = outcome_of options.check 0 m (run_state_of options by
 -- However the bytes of a deck are cut, the whole is the same: from its start on, what was put out and what is to come are the
 -- output of the deck, and how it comes out, of all the bytes, with some marks for the turns so far.
 abbrev pub HoweverCut : Type 0
-HoweverCut = (start f : DeckFeed) (pieces : List (List ℕ)) (out : List ℕ)
-    → ((m : Marks) (bytes : List ℕ) → outcome_from m start bytes ≡ comes_of start.options m bytes) → TookAll [] start pieces out f
+HoweverCut = (start f : DeckFeed) (pieces : List (List ℕ)) (out : List ℕ) (a b : Standing)
+    → ((m : Marks) (bytes : List ℕ) → outcome_from m start bytes ≡ comes_of start.options m bytes) → TookAll [] start pieces out f a b
     → (marks : Marks) × ((rest : Marks) (bytes : List ℕ) → told rest out f bytes ≡ comes_of start.options (marks ++ rest) (joined pieces ++ bytes))
 
 -- a deck of an account table, of a catalogue as a run has written it, and of no card

@@ -2,6 +2,7 @@ pub mod Faults
 pub mod Runs
 pub mod Laws
 pub mod Headline
+pub mod Audited
 pub mod Appending
 pub mod Seeing
 pub mod Isolation

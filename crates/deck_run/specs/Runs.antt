@@ -10,10 +10,13 @@ use Rattle.deck_syntax.specs.Decks.{Ending, Stopped, Refused}
 use Rattle.deck_syntax.specs.Sections.{deck_of}
 use Rattle.mon_device.specs.declared.transfer.TheConstants.{READ_SIZE}
 use Rattle.mon_device.specs.Devices.{Gives, IsAtEnd, HasTaken, holding}
+use Rattle.mon_device.specs.Putting.{Standing, Puts}
 use Rattle.deck_driver.specs.declared.options.Options.{Options}
 use Rattle.deck_driver.specs.declared.options.Counts.{Counts}
 use Rattle.deck_driver.specs.RunStates.{RunState, opening, sets_after, all_counted}
 use Rattle.deck_driver.specs.Printouts.{output_of, ReadsBack}
+use Rattle.deck_driver.specs.Feeds.{Begins}
+use Rattle.deck_driver.specs.Audits.{audit_for}
 
 -- how the deck of these bytes ends
 abbrev pub deck_ending : List ℕ → Ending
@@ -33,24 +36,28 @@ catalogue_after options marks bytes = sets_after 0 marks (run_state_of options b
 abbrev pub counts_of : List ℕ → Counts
 counts_of bytes = let deck = deck_of (lines bytes) in all_counted deck.cards.asked
 
--- the output was written, with some marks
-abbrev pub HasWritten : Options → Option (List ℕ) → Option (List ℕ) → List ℕ → Type 0
-HasWritten options held now bytes = (marks : Marks) × (now ≡ holding held (output_of options marks bytes))
+-- The output was written, and the audit was put to its sink, which stood as a says before and stands as b says then: with some marks, the
+-- same for both.
+abbrev pub HasWritten : Options → Option (List ℕ) → Option (List ℕ) → List ℕ → Standing → Standing → Type 0
+HasWritten options held now bytes a b = (marks : Marks) × (now ≡ holding held (output_of options marks bytes)) × Puts a b (audit_for options marks bytes)
 
 -- and the data sets that a run gives back can be read again
-abbrev pub HasRun : Options → Option (List ℕ) → Option (List ℕ) → List ℕ → Type 0
-HasRun options held now bytes = (marks : Marks) × (now ≡ holding held (output_of options marks bytes))
+abbrev pub HasRun : Options → Option (List ℕ) → Option (List ℕ) → List ℕ → Standing → Standing → Type 0
+HasRun options held now bytes a b = (marks : Marks) × (now ≡ holding held (output_of options marks bytes)) × Puts a b (audit_for options marks bytes)
     × (options.check ≡ false → ReadsBack (catalogue_after options marks bytes))
 
 -- a writer has taken a beginning of this text
 abbrev pub HoldsBeginning : Option (List ℕ) → Option (List ℕ) → List ℕ → Type 0
 HoldsBeginning held now text = (rest : List ℕ) × HasTaken held now text rest
 
--- Wherever a run breaks off, what it has written is a beginning of the output of the bytes that it has read, with some marks
--- for the turns in them, and with whatever marks and bytes may follow: no bytes, where the reader is at its end.
-abbrev pub HasBegun : Options → Option (List ℕ) → Option (List ℕ) → Option (List ℕ) → Option (List ℕ) → Type 0
-HasBegun options told left held now = (given : List ℕ) × (marks : Marks) × Gives told given left
-    × ((rest : Marks) (more : List ℕ) → (IsAtEnd left → more ≡ []) → HoldsBeginning held now (output_of options (marks ++ rest) (given ++ more)))
+-- Wherever a run breaks off, what it has written is a beginning of the output of the bytes that it has read, and what was put to the audit
+-- is a beginning of theirs, with some marks for the turns in them, and with whatever marks and bytes may follow: no bytes, where the reader
+-- is at its end.
+abbrev pub HasBegun : Options → Option (List ℕ) → Option (List ℕ) → Option (List ℕ) → Option (List ℕ) → Standing → Standing → Type 0
+HasBegun options told left held now a b = (given : List ℕ) × (marks : Marks) × (audit : List ℕ) × Gives told given left
+    × ((rest : Marks) (more : List ℕ) → (IsAtEnd left → more ≡ []) → HoldsBeginning held now (output_of options (marks ++ rest) (given ++ more))
+    × Begins audit (audit_for options (marks ++ rest) (given ++ more)))
+    × Puts a b audit
 
 -- the bytes of the lines that have their line end: all up to the last LF, and it
 abbrev pub whole_lines : List ℕ → List ℕ
@@ -59,24 +66,28 @@ whole_lines (c ∷ cs) = if has_no_end (c ∷ cs) then [] else c ∷ whole_lines
 
 -- All lines of these bytes that have their line end have been answered, and nothing more: that is what was written. None of
 -- them was refused; the deck only ends too early there, if it has not ended.
-pub record HasAnswered (options : Options) (held now : Option (List ℕ)) (front : List ℕ) : Type 0 where
-  pub written : HasWritten options held now (whole_lines front)
+pub record HasAnswered (options : Options) (held now : Option (List ℕ)) (front : List ℕ) (a b : Standing) : Type 0 where
+  pub written : HasWritten options held now (whole_lines front) a b
   pub unrefused : (n : ℕ) (code : DeckError) → deck_ending (whole_lines front) ≡ Refused n code → code ≡ Truncated
 
 -- What is due when a read fails: the output of the lines that were read whole, no less and no more. So no printout waits for
 -- a card that is still to come.
-abbrev pub HasPrinted : Options → Option (List ℕ) → Option (List ℕ) → Option (List ℕ) → Option (List ℕ) → Type 0
-HasPrinted options told left held now = (given : List ℕ) × Gives told given left × HasAnswered options held now given
+abbrev pub HasPrinted : Options → Option (List ℕ) → Option (List ℕ) → Option (List ℕ) → Option (List ℕ) → Standing → Standing → Type 0
+HasPrinted options told left held now a b = (given : List ℕ) × Gives told given left × HasAnswered options held now given a b
+
+-- the lines of these bytes have been answered, and to the audit more may have been put
+abbrev pub HasAnsweredAtLeast : Options → Option (List ℕ) → Option (List ℕ) → List ℕ → Standing → Standing → Type 0
+HasAnsweredAtLeast options held now front a b = (mid : Standing) × HasAnswered options held now front a mid × (more : List ℕ) × Puts mid b more
 
 -- What is due when memory runs out: it did so at a line of the last read, and the lines before that have been answered. The
--- deck had not come to its `$STOP`.
-abbrev pub HasBrokenOff : Options → Option (List ℕ) → Option (List ℕ) → Option (List ℕ) → Option (List ℕ) → Type 0
-HasBrokenOff options told left held now =
+-- deck had not come to its `$STOP`. The audit goes on with a beginning of what that line tells.
+abbrev pub HasBrokenOff : Options → Option (List ℕ) → Option (List ℕ) → Option (List ℕ) → Option (List ℕ) → Standing → Standing → Type 0
+HasBrokenOff options told left held now a b =
     (given front back : List ℕ) × Gives told given left × (given ≡ front ++ back) × (length back ≤ READ_SIZE)
-    × HasAnswered options held now front × (deck_ending (whole_lines front) ≡ Stopped → ⊥)
+    × HasAnsweredAtLeast options held now front a b × (deck_ending (whole_lines front) ≡ Stopped → ⊥)
 
 -- And this is the line at which it ran out: the one behind those that were read whole.
-abbrev pub HasBrokenOffAt : Options → ℕ → Option (List ℕ) → Option (List ℕ) → Option (List ℕ) → Option (List ℕ) → Type 0
-HasBrokenOffAt options line told left held now =
+abbrev pub HasBrokenOffAt : Options → ℕ → Option (List ℕ) → Option (List ℕ) → Option (List ℕ) → Option (List ℕ) → Standing → Standing → Type 0
+HasBrokenOffAt options line told left held now a b =
     (given front back : List ℕ) × Gives told given left × (given ≡ front ++ back) × (length back ≤ READ_SIZE)
-    × HasAnswered options held now front × (deck_ending (whole_lines front) ≡ Stopped → ⊥) × (line ≡ length (lines (whole_lines front)) + 1)
+    × HasAnsweredAtLeast options held now front a b × (deck_ending (whole_lines front) ≡ Stopped → ⊥) × (line ≡ length (lines (whole_lines front)) + 1)

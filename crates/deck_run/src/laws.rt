@@ -3,6 +3,7 @@ ghost use Rattle.deck_run.specs.Laws.{ShowsWhereGranted, DenialsSayWhy, InItsPla
 ghost use Rattle.deck_run.specs.Isolation.{DecksIsolated};
 ghost use Rattle.deck_run.specs.Example.{TheyLookAlike};
 ghost use Rattle.deck_run.specs.Headline.{Headline};
+ghost use Rattle.deck_run.specs.Audited.{Audited};
 ghost use Rattle.deck_run.specs.Appending.{AppendOnly};
 ghost use Rattle.deck_run.specs.Seeing.{ReadsSeeWrites};
 ghost use Rattle.deck_run.specs.Schedules.{AnyTurns, ApartByTheirCards};
@@ -20,6 +21,11 @@ pub fn headline()
     mon_monitor::laws::history_tells();
     mon_monitor::laws::turns_come();
 }
+
+/// Of a deck that is run the audit has the line of each entry of the history, in its order.
+pub fn audited()
+    ensures { Audited }
+{}
 
 /// The records that a set of mode APPEND has in a deck's catalogue are the first that it has in the catalogue that is written, unless
 /// its owner has deleted it.

@@ -5,6 +5,7 @@ pub mod laws;
 mod output;
 pub mod run;
 pub mod shortage;
+pub mod unaudited;
 
 pub use deck_driver::{Counts, DeckFeed, Holder, Options, RunError, Slots};
 pub use deck_syntax::DeckError;
@@ -14,3 +15,4 @@ pub use mon_device::{
 };
 pub use run::{exit_status, put_fault, run_deck, run_deck_noting};
 pub use shortage::{Shortage, put_shortage};
+pub use unaudited::NoAudit;

@@ -1,2 +1,4 @@
 pub mod Apart
 pub mod Named
+pub mod Ordered
+mod Unheard

@@ -8,7 +8,7 @@ use Rattle.mon_access.specs.declared.account.Account.{Account}
 use Rattle.mon_catalogue.specs.declared.mode.Mode.{Mode}
 use Rattle.mon_catalogue.specs.declared.mode.Mode.TheVariants.{Append}
 use Rattle.mon_catalogue.specs.declared.data_set.DataSet.{DataSet}
-use Rattle.mon_catalogue.specs.Sets.{find_set}
+use Rattle.mon_catalogue.specs.Sets.{Sets, find_set}
 use Rattle.interaction.specs.declared.answer.Reason.{Reason}
 use Rattle.interaction.specs.declared.answer.Reason.TheVariants.{By}
 use Rattle.interaction.specs.declared.answer.Answer.{Answer}
@@ -16,8 +16,9 @@ use Rattle.interaction.specs.declared.answer.Answer.TheVariants.{Denied}
 use Rattle.interaction.specs.declared.request.Request.{Request}
 use Rattle.mon_unit.specs.declared.note.NoteAct.{NoteAct}
 use Rattle.mon_unit.specs.declared.note.NoteAct.TheVariants.{Read, Write, Endfile, Rewind}
+use Rattle.mon_unit.specs.declared.tie.Tie.{Tie}
 use Rattle.mon_unit.specs.Tying.{tie_at}
-use Rattle.mon_unit.specs.Serving.{Reach, unit_of, note_act, set_of}
+use Rattle.mon_unit.specs.Serving.{Reach, unit_of, note_act, set_at}
 use Rattle.mon_command.specs.Printouts.{word, number}
 use Rattle.mon_command.specs.Replies.{reason_text}
 use Rattle.mon_granting.specs.Granting.{granting}
@@ -71,12 +72,11 @@ abbrev pub place_in : NoteAct → Mode → ℕ → ℕ → ℕ
 place_in Write Append records position = records
 place_in act mode records position = position
 
--- what a job asks, as its units and the data sets then stand
-abbrev pub asked_of : ℕ → Account → Reach → Request → Asked
-asked_of n account reach q =
+-- what a job asks at a unit that is tied so, as the data sets then stand
+abbrev pub asked_at : ℕ → Account → Sets → Request → Tie → Asked
+asked_at n account sets q tie =
     let act = note_act q.act in
-    let tie = tie_at reach.units (unit_of q.act) in
-    let set = option_and_then (λ name. find_set name reach.sets) (set_of reach.units q) in
+    let set = option_and_then (λ name. find_set name sets) (set_at q.act tie.target) in
     record {
       number = n;
       account = account.name;
@@ -87,3 +87,7 @@ asked_of n account reach q =
       place = option_map_or (λ s. place_in act s.mode (length s.records) tie.position) set tie.position;
       grant = option_and_then (grant account act) set;
     }
+
+-- what a job asks, as its units and the data sets then stand
+abbrev pub asked_of : ℕ → Account → Reach → Request → Asked
+asked_of n account reach q = asked_at n account reach.sets q (tie_at reach.units (unit_of q.act))

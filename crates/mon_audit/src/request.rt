@@ -1,17 +1,16 @@
 //! The line of a request. Nothing here takes memory.
 ghost use Rattle.std.specs.Prelude.{◌≡◌, ◌++◌, codes, length};
 ghost use Rattle.mon_device.specs.Putting.{Puts};
-ghost use Rattle.mon_command.specs.Printouts.{word, number};
+ghost use Rattle.mon_command.specs.Printouts.{word};
 ghost use Rattle.mon_command.specs.Replies.{reason_text};
 ghost use Rattle.mon_audit.specs.Words.{target_word, outcome_word};
 ghost use Rattle.mon_audit.specs.Requests.{act_word, grant_words, by_words, place_words, request_line, permission, grant, place_in};
 
 use interaction::{Answer, Reason};
-use itoa::Buffer;
 use mon_access::Account;
 use mon_acl::Perms;
 use mon_catalogue::{DataSet, Mode};
-use mon_command::print_reason;
+use mon_command::{print_number, print_reason, print_word};
 use mon_device::Sink;
 use mon_granting::granting;
 use mon_text::Name;
@@ -95,21 +94,6 @@ fn print_reason_word<S: Sink>(reason: &Reason, sink: &mut S)
 {
     sink.put(b" ");
     print_reason(reason.copy(), sink);
-}
-
-// Puts a word behind another.
-fn print_word<S: Sink>(text: &[u8], sink: &mut S)
-    ensures { Puts (S.standing sink.old) (S.standing sink.new) (word text.now) }
-{
-    sink.put(b" ");
-    sink.put(text);
-}
-
-// Puts a number behind a word.
-fn print_number<S: Sink>(value: u64, sink: &mut S)
-    ensures { Puts (S.standing sink.old) (S.standing sink.new) (number value) }
-{
-    print_word(Buffer::new().format(value).as_bytes(), sink);
 }
 
 fn act_word(act: NoteAct) -> &'static [u8]

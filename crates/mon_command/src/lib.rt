@@ -8,9 +8,12 @@ pub mod laws;
 mod printing;
 pub mod printout;
 pub mod reply;
+pub mod said;
 pub mod serving;
 
 pub use command::Command;
+pub use printing::{print_number, print_word};
 pub use printout::Printout;
 pub use reply::{Reply, print_reason};
-pub use serving::{put_served, serve};
+pub use said::Said;
+pub use serving::{put_answered, serve};

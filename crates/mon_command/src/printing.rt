@@ -2,6 +2,7 @@
 ghost use Rattle.std.specs.Prelude.{◌≡◌, ◌++◌, ◌+◌, ◌≤◌, OnOk, OnErr, length, take, vec_len, vec_capacity};
 ghost use Rattle.std.specs.List.{flat_map};
 ghost use Rattle.mon_acl.specs.Printing.{long_line};
+ghost use Rattle.mon_device.specs.Putting.{Puts};
 ghost use Rattle.mon_command.specs.Commands.{card_line};
 ghost use Rattle.mon_command.specs.Commanded.{Records as Listed, printed};
 ghost use Rattle.mon_command.specs.declared.command.Command.TheVariants as command;
@@ -10,6 +11,7 @@ ghost use Rattle.mon_command.specs.Printouts.{word, number, stored_line, count_l
 use itoa::Buffer;
 use mon_acl::{AclError, Entry, Perms, Tag};
 use mon_catalogue::Records;
+use mon_device::Sink;
 use mon_guard::{AclView, NameView};
 use mon_text::Name;
 use std::alloc::AllocError;
@@ -34,13 +36,6 @@ fn put_word_in_room(text: &[u8], out: &mut Vec<u8>)
 {
     out.push_reserved(b' ');
     out.extend_from_slice(text).unwrap();
-}
-
-// Appends a number behind a word.
-fn put_number_word(value: u64, out: &mut Vec<u8>) -> Result<(), AllocError>
-    ensures { OnOk result (out.new.items ≡ out.old.items ++ number value) }
-{
-    put_word(Buffer::new().format(value).as_bytes(), out)
 }
 
 // Appends a line that shows stored text.
@@ -175,34 +170,49 @@ pub(crate) fn put_card(
     Ok(())
 }
 
-// Appends a refusal that names an entry by its number.
-fn put_at_entry(what: &[u8], entry: u64, out: &mut Vec<u8>) -> Result<(), AllocError>
-    ensures { OnOk result (out.new.items ≡ out.old.items ++ (what.now ++ number entry)) }
+// Puts a refusal that names an entry by its number.
+fn print_at_entry<S: Sink>(what: &[u8], entry: u64, sink: &mut S)
+    ensures { Puts (S.standing sink.old) (S.standing sink.new) (what.now ++ number entry) }
 {
-    out.extend_from_slice(what)?;
-    put_number_word(entry, out)
+    sink.put(what);
+    print_number(entry, sink);
 }
 
-// Appends why a permission list is refused.
-pub(crate) fn put_list_refusal(error: AclError, out: &mut Vec<u8>) -> Result<(), AllocError>
-    ensures { OnOk result (out.new.items ≡ out.old.items ++ list_refusal error) }
+// Puts why a permission list is refused.
+pub(crate) fn print_list_refusal<S: Sink>(error: AclError, sink: &mut S)
+    ensures { Puts (S.standing sink.old) (S.standing sink.new) (list_refusal error) }
 {
     match error {
-        AclError::BadTag(entry) => put_at_entry(b"A1 BAD TAG ENTRY", entry, out),
-        AclError::BadQualifier(entry) => put_at_entry(b"A2 BAD QUALIFIER ENTRY", entry, out),
-        AclError::BadPerms(entry) => put_at_entry(b"A3 BAD PERMS ENTRY", entry, out),
-        AclError::Missing(tag) => put_missing(tag, out),
-        AclError::Twice(entry) => put_at_entry(b"A5 TWICE ENTRY", entry, out),
-        AclError::NoMask => out.extend_from_slice(b"A6 NO MASK"),
-        AclError::TooMany(entry) => put_at_entry(b"A7 TOO MANY ENTRY", entry, out),
+        AclError::BadTag(entry) => print_at_entry(b"A1 BAD TAG ENTRY", entry, sink),
+        AclError::BadQualifier(entry) => print_at_entry(b"A2 BAD QUALIFIER ENTRY", entry, sink),
+        AclError::BadPerms(entry) => print_at_entry(b"A3 BAD PERMS ENTRY", entry, sink),
+        AclError::Missing(tag) => print_missing(tag, sink),
+        AclError::Twice(entry) => print_at_entry(b"A5 TWICE ENTRY", entry, sink),
+        AclError::NoMask => sink.put(b"A6 NO MASK"),
+        AclError::TooMany(entry) => print_at_entry(b"A7 TOO MANY ENTRY", entry, sink),
     }
 }
 
-// Appends which entry is missing.
-fn put_missing(tag: Tag, out: &mut Vec<u8>) -> Result<(), AllocError>
-    ensures { OnOk result (out.new.items ≡ out.old.items ++ list_refusal (AclError.Missing tag)) }
+// Puts which entry is missing.
+fn print_missing<S: Sink>(tag: Tag, sink: &mut S)
+    ensures { Puts (S.standing sink.old) (S.standing sink.new) (list_refusal (AclError.Missing tag)) }
 {
-    out.extend_from_slice(b"A4 MISSING ")?;
-    out.extend_from_slice(tag.word())?;
-    out.extend_from_slice(b"::")
+    sink.put(b"A4 MISSING ");
+    sink.put(tag.word());
+    sink.put(b"::");
+}
+
+/// Puts a word behind another.
+pub fn print_word<S: Sink>(text: &[u8], sink: &mut S)
+    ensures { Puts (S.standing sink.old) (S.standing sink.new) (word text.now) }
+{
+    sink.put(b" ");
+    sink.put(text);
+}
+
+/// Puts a number behind a word.
+pub fn print_number<S: Sink>(value: u64, sink: &mut S)
+    ensures { Puts (S.standing sink.old) (S.standing sink.new) (number value) }
+{
+    print_word(Buffer::new().format(value).as_bytes(), sink);
 }

@@ -1,9 +1,11 @@
 //! The printout of a command.
 ghost use Rattle.std.specs.Prelude.{◌≡◌, IfOk};
-ghost use Rattle.mon_command.specs.Commanded.{printed, Told};
+ghost use Rattle.mon_command.specs.Commanded.{Told};
+ghost use Rattle.mon_command.specs.inner.Serving.{Answers};
 
 use crate::command::Command;
 use crate::reply::Reply;
+use crate::said::Said;
 use std::alloc::{AllocError, Global};
 use std::marker::Model;
 
@@ -35,12 +37,22 @@ impl Printout {
     }
 }
 
-// The printout of a command that is told a reply.
-pub(crate) fn told(alloc: Global, command: &Command, reply: Reply) -> Result<Printout, AllocError>
-    ensures { IfOk result (λ printout. printout ≡ printed command.now (Told reply)) }
+/// What a command is answered: its printout, and what that says.
+#[derive(Drop)]
+pub(crate) struct Answered {
+    pub(crate) printout: Printout,
+    pub(crate) said: Said,
+}
+
+// What is answered to a command that is told a reply.
+pub(crate) fn told(alloc: Global, command: &Command, reply: Reply) -> Result<Answered, AllocError>
+    ensures { IfOk result (λ given. Answers command.now given (Told reply)) }
 {
     let mut bytes = Vec::with_capacity(alloc, USUAL_BYTES)?;
     command.put_heading(&mut bytes)?;
     reply.put_line(&mut bytes)?;
-    Ok(Printout { bytes })
+    Ok(Answered {
+        printout: Printout { bytes },
+        said: Said::Told(reply),
+    })
 }

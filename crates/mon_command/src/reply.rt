@@ -1,9 +1,10 @@
 //! What a command is told in one line.
-ghost use Rattle.std.specs.Prelude.{◌≡◌, ◌++◌, OnOk};
+ghost use Rattle.std.specs.Prelude.{◌≡◌, ◌++◌, codes, OnOk};
 ghost use Rattle.mon_device.specs.Putting.{Puts};
+ghost use Rattle.mon_command.specs.Printouts.{list_refusal};
 ghost use Rattle.mon_command.specs.Replies.{reason_text, reply_text, reply_line};
 
-use crate::printing::put_list_refusal;
+use crate::printing::print_list_refusal;
 use interaction::Reason;
 use mon_acl::{AclError, Entry, Perms};
 use mon_device::{Sink, TextSink};
@@ -32,32 +33,48 @@ impl Reply {
     /// # Errors
     ///
     /// Where a growth was refused; `out` may then hold a part of the line.
-    pub fn put_line(self, out: &mut Vec<u8>) -> Result<(), AllocError>
-        ensures { OnOk result (out.new.items ≡ out.old.items ++ reply_line self) }
+    pub fn put_line(&self, out: &mut Vec<u8>) -> Result<(), AllocError>
+        ensures { OnOk result (out.new.items ≡ out.old.items ++ reply_line self.now) }
     {
-        self.put(out)?;
-        out.push(b'\n')?;
-        Ok(())
+        let mut sink = TextSink::new(out);
+        self.print_line(&mut sink);
+        sink.settle()
     }
 
-    fn put(self, out: &mut Vec<u8>) -> Result<(), AllocError>
-        ensures { OnOk result (out.new.items ≡ out.old.items ++ reply_text self) }
+    fn print_line<S: Sink>(&self, sink: &mut S)
+        ensures { Puts (S.standing sink.old) (S.standing sink.new) (reply_line self.now) }
+    {
+        self.print(sink);
+        sink.put(b"\n");
+    }
+
+    /// Puts it without the line's end.
+    pub fn print<S: Sink>(&self, sink: &mut S)
+        ensures { Puts (S.standing sink.old) (S.standing sink.new) (reply_text self.now) }
     {
         match self {
-            Reply::Done => out.extend_from_slice(b"DONE"),
-            Reply::NoAccount => out.extend_from_slice(b"REFUSED M2 NO ACCOUNT"),
-            Reply::Denied(reason) => {
-                out.extend_from_slice(b"DENIED ")?;
-                put_reason(reason, out)
-            }
-            Reply::NameTaken => out.extend_from_slice(b"REFUSED K1 NAME TAKEN"),
-            Reply::CatalogueFull => out.extend_from_slice(b"REFUSED K4 CATALOGUE FULL"),
-            Reply::BadList(error) => {
-                out.extend_from_slice(b"REFUSED ")?;
-                put_list_refusal(error, out)
-            }
+            Reply::Done => sink.put(b"DONE"),
+            Reply::NoAccount => sink.put(b"REFUSED M2 NO ACCOUNT"),
+            Reply::Denied(reason) => print_denied(reason, sink),
+            Reply::NameTaken => sink.put(b"REFUSED K1 NAME TAKEN"),
+            Reply::CatalogueFull => sink.put(b"REFUSED K4 CATALOGUE FULL"),
+            Reply::BadList(error) => print_bad_list(*error, sink),
         }
     }
+}
+
+fn print_denied<S: Sink>(reason: &Reason, sink: &mut S)
+    ensures { Puts (S.standing sink.old) (S.standing sink.new) (codes "DENIED " ++ reason_text reason.now) }
+{
+    sink.put(b"DENIED ");
+    print_reason(reason.copy(), sink);
+}
+
+fn print_bad_list<S: Sink>(error: AclError, sink: &mut S)
+    ensures { Puts (S.standing sink.old) (S.standing sink.new) (codes "REFUSED " ++ list_refusal error) }
+{
+    sink.put(b"REFUSED ");
+    print_list_refusal(error, sink);
 }
 
 /// Puts why something is denied: by the entry that decided, or for what is missing.
@@ -81,13 +98,4 @@ pub fn print_reason<S: Sink>(reason: Reason, sink: &mut S)
         Reason::SpoolUnit => sink.put(b"SPOOL UNIT"),
         Reason::Mode => sink.put(b"MODE"),
     }
-}
-
-// Appends why something is denied.
-fn put_reason(reason: Reason, out: &mut Vec<u8>) -> Result<(), AllocError>
-    ensures { OnOk result (out.new.items ≡ out.old.items ++ reason_text reason) }
-{
-    let mut sink = TextSink::new(out);
-    print_reason(reason, &mut sink);
-    sink.settle()
 }

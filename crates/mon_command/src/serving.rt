@@ -7,16 +7,18 @@ ghost use Rattle.std.specs.List.{flat_map};
 ghost use Rattle.mon_guard.specs.Views.{records_lent, acl_lent, names_lent};
 ghost use Rattle.mon_guard.specs.Owning.{created, removed, acl_set};
 ghost use Rattle.mon_guard.specs.Cache.{CacheFits};
-ghost use Rattle.mon_command.specs.Commanded.{Names, Records as Listed, Shown, told_by, creation_reply, removal_reply, acl_reply, shown_as, printed, served, commanded};
+ghost use Rattle.mon_command.specs.Commanded.{Names, Records as Listed, Shown, told_by, creation_reply, removal_reply, acl_reply, shown_as, served, answered, commanded};
+ghost use Rattle.mon_command.specs.Saying.{said_of};
 ghost use Rattle.mon_command.specs.Printouts.{name_line, names_text};
 ghost use Rattle.mon_command.specs.inner.Names.{shown_at};
-ghost use Rattle.mon_command.specs.inner.Serving.{Serves};
+ghost use Rattle.mon_command.specs.inner.Serving.{Answers, Serves};
 ghost use Rattle.mon_command.specs.declared.command.Command.TheVariants as commands;
 
 use crate::command::Command;
 use crate::printing::{put_acl, put_count, put_listing, put_name, put_records};
-use crate::printout::{Printout, USUAL_BYTES, told};
+use crate::printout::{Answered, Printout, USUAL_BYTES, told};
 use crate::reply::Reply;
+use crate::said::Said;
 use mon_access::{Account, Accounts};
 use mon_acl::AclText;
 use mon_catalogue::{Catalogue, CreateError, Mode, Records};
@@ -45,35 +47,45 @@ pub fn serve(
     ensures unchanged { OnErr result (catalogue.new ≡ catalogue.old) }
     ensures fit { CacheFits guard.old catalogue.old → CacheFits guard.new catalogue.new }
 {
-    match accounts.find(command.account()) {
-        Some(account) => serve_known(alloc, account, guard, catalogue, &command),
-        None => told(alloc, &command, Reply::NoAccount),
-    }
+    let answered = answer(alloc, accounts, guard, catalogue, &command)?;
+    Ok(answered.printout)
 }
 
-/// Serves a command as `serve` does, and appends its printout. A listing is printed where it is to stand.
+/// Serves a command as `serve` does, appends its printout, and says what was answered, without what is shown. A listing is printed
+/// where it is to stand.
 ///
 /// # Errors
 ///
 /// Where a growth was refused; nothing was appended then, but the data sets may have changed.
-pub fn put_served(
+pub fn put_answered(
     alloc: Global,
     accounts: &Accounts,
     guard: &mut Guard,
     catalogue: &mut Catalogue,
-    command: Command,
+    command: &Command,
     out: &mut Vec<u8>,
-) -> Result<(), AllocError>
-    ensures printed { OnOk result (out.new.items ≡ out.old.items ++ (commanded accounts.now catalogue.old command).printout) }
-    ensures sets { OnOk result (catalogue.new ≡ (commanded accounts.now catalogue.old command).sets) }
+) -> Result<Said, AllocError>
+    ensures printed { OnOk result (out.new.items ≡ out.old.items ++ (commanded accounts.now catalogue.old command.now).printout) }
+    ensures said { IfOk result (λ said. said ≡ said_of (answered accounts.now catalogue.old command.now).answer) }
+    ensures sets { OnOk result (catalogue.new ≡ (commanded accounts.now catalogue.old command.now).sets) }
     ensures nothing { OnErr result (out.new.items ≡ out.old.items) }
     ensures fit { CacheFits guard.old catalogue.old → CacheFits guard.new catalogue.new }
 {
-    if let Command::List { account, name } = &command {
+    if let Command::List { account, name } = command {
         return put_list(alloc, accounts, guard, catalogue, account, name, out);
     }
-    let printout = serve(alloc, accounts, guard, catalogue, command)?;
-    out.extend_from_slice(printout.as_slice())
+    let answered = answer(alloc, accounts, guard, catalogue, command)?;
+    append(answered, out)
+}
+
+// Appends a printout, and says what was answered.
+fn append(answered: Answered, out: &mut Vec<u8>) -> Result<Said, AllocError>
+    ensures printed { OnOk result (out.new.items ≡ out.old.items ++ answered.printout) }
+    ensures said { IfOk result (λ said. said ≡ answered.said) }
+    ensures nothing { OnErr result (out.new.items ≡ out.old.items) }
+{
+    out.extend_from_slice(answered.printout.as_slice())?;
+    Ok(answered.said)
 }
 
 // Serves a listing, and appends its printout.
@@ -85,13 +97,17 @@ fn put_list(
     account: &Name,
     name: &Name,
     out: &mut Vec<u8>,
-) -> Result<(), AllocError>
+) -> Result<Said, AllocError>
     ensures printed { OnOk result (out.new.items ≡ out.old.items ++ (commanded accounts.now catalogue.now (commands.List account.now name.now)).printout) }
+    ensures said { IfOk result (λ said. said ≡ said_of (answered accounts.now catalogue.now (commands.List account.now name.now)).answer) }
     ensures nothing { OnErr result (out.new.items ≡ out.old.items) }
 {
     let reply = match accounts.find(account) {
         Some(known) => match guard.records(known, catalogue, name) {
-            Ok(records) => return put_listing(account, name, records, out),
+            Ok(records) => {
+                put_listing(account, name, records, out)?;
+                return Ok(Said::Records(records.len()));
+            }
             Err(reason) => Reply::Denied(reason),
         },
         None => Reply::NoAccount,
@@ -100,8 +116,25 @@ fn put_list(
         account: account.copy(),
         name: name.copy(),
     };
-    let printout = told(alloc, &command, reply)?;
-    out.extend_from_slice(printout.as_slice())
+    let answered = told(alloc, &command, reply)?;
+    append(answered, out)
+}
+
+// What a command is answered, and what the data sets are after it.
+fn answer(
+    alloc: Global,
+    accounts: &Accounts,
+    guard: &mut Guard,
+    catalogue: &mut Catalogue,
+    command: &Command,
+) -> Result<Answered, AllocError>
+    ensures serves { Serves command.now result catalogue.old catalogue.new (answered accounts.now catalogue.old command.now) }
+    ensures fit { CacheFits guard.old catalogue.old → CacheFits guard.new catalogue.new }
+{
+    match accounts.find(command.account()) {
+        Some(account) => serve_known(alloc, account, guard, catalogue, command),
+        None => told(alloc, command, Reply::NoAccount),
+    }
 }
 
 // Serves a command of this account.
@@ -111,7 +144,7 @@ fn serve_known(
     guard: &mut Guard,
     catalogue: &mut Catalogue,
     command: &Command,
-) -> Result<Printout, AllocError>
+) -> Result<Answered, AllocError>
     ensures serves { Serves command.now result catalogue.old catalogue.new (served account.now command.now catalogue.old) }
     ensures fit { CacheFits guard.old catalogue.old → CacheFits guard.new catalogue.new }
 {
@@ -137,7 +170,7 @@ fn create(
     command: &Command,
     name: &Name,
     mode: Mode,
-) -> Result<Printout, AllocError>
+) -> Result<Answered, AllocError>
     ensures serves { Serves command.now result catalogue.old catalogue.new (told_by creation_reply (created account.now catalogue.old name.now mode)) }
     ensures fit { CacheFits guard.old catalogue.old → CacheFits guard.new catalogue.new }
 {
@@ -159,7 +192,7 @@ fn delete(
     catalogue: &mut Catalogue,
     command: &Command,
     name: &Name,
-) -> Result<Printout, AllocError>
+) -> Result<Answered, AllocError>
     ensures serves { Serves command.now result catalogue.old catalogue.new (told_by removal_reply (removed account.now catalogue.old name.now)) }
     ensures fit { CacheFits guard.old catalogue.old → CacheFits guard.new catalogue.new }
 {
@@ -178,7 +211,7 @@ fn set_acl(
     command: &Command,
     name: &Name,
     text: &AclText,
-) -> Result<Printout, AllocError>
+) -> Result<Answered, AllocError>
     ensures serves { Serves command.now result catalogue.old catalogue.new (told_by acl_reply (acl_set account.now catalogue.old name.now text.now)) }
     ensures fit { CacheFits guard.old catalogue.old → CacheFits guard.new catalogue.new }
 {
@@ -197,8 +230,8 @@ fn show_acl(
     catalogue: &Catalogue,
     command: &Command,
     name: &Name,
-) -> Result<Printout, AllocError>
-    ensures { IfOk result (λ printout. printout ≡ printed command.now (shown_as Shown (acl_lent account.now catalogue.now name.now))) }
+) -> Result<Answered, AllocError>
+    ensures { IfOk result (λ given. Answers command.now given (shown_as Shown (acl_lent account.now catalogue.now name.now))) }
 {
     match guard.acl(account, catalogue, name) {
         Ok(shown) => acl_of(alloc, command, &shown),
@@ -206,13 +239,16 @@ fn show_acl(
     }
 }
 
-fn acl_of(alloc: Global, command: &Command, shown: &AclView) -> Result<Printout, AllocError>
-    ensures { IfOk result (λ printout. printout ≡ printed command.now (Shown shown.now)) }
+fn acl_of(alloc: Global, command: &Command, shown: &AclView) -> Result<Answered, AllocError>
+    ensures { IfOk result (λ given. Answers command.now given (Shown shown.now)) }
 {
     let mut bytes = Vec::with_capacity(alloc, USUAL_BYTES)?;
     command.put_heading(&mut bytes)?;
     put_acl(shown, &mut bytes)?;
-    Ok(Printout { bytes })
+    Ok(Answered {
+        printout: Printout { bytes },
+        said: Said::Entries(shown.acl.len() as u64),
+    })
 }
 
 fn list(
@@ -222,8 +258,8 @@ fn list(
     catalogue: &Catalogue,
     command: &Command,
     name: &Name,
-) -> Result<Printout, AllocError>
-    ensures { IfOk result (λ printout. printout ≡ printed command.now (shown_as Listed (records_lent account.now catalogue.now name.now))) }
+) -> Result<Answered, AllocError>
+    ensures { IfOk result (λ given. Answers command.now given (shown_as Listed (records_lent account.now catalogue.now name.now))) }
 {
     match guard.records(account, catalogue, name) {
         Ok(records) => records_of(alloc, command, records),
@@ -231,13 +267,16 @@ fn list(
     }
 }
 
-fn records_of(alloc: Global, command: &Command, records: &Records) -> Result<Printout, AllocError>
-    ensures { IfOk result (λ printout. printout ≡ printed command.now (Listed records.now)) }
+fn records_of(alloc: Global, command: &Command, records: &Records) -> Result<Answered, AllocError>
+    ensures { IfOk result (λ given. Answers command.now given (Listed records.now)) }
 {
     let mut bytes = Vec::with_capacity(alloc, USUAL_BYTES)?;
     command.put_heading(&mut bytes)?;
     put_records(records, &mut bytes)?;
-    Ok(Printout { bytes })
+    Ok(Answered {
+        printout: Printout { bytes },
+        said: Said::Records(records.len()),
+    })
 }
 
 fn catalog(
@@ -246,29 +285,34 @@ fn catalog(
     guard: &Guard,
     catalogue: &Catalogue,
     command: &Command,
-) -> Result<Printout, AllocError>
-    ensures { IfOk result (λ printout. printout ≡ printed command.now (Names (names_lent account.now catalogue.now))) }
+) -> Result<Answered, AllocError>
+    ensures { IfOk result (λ given. Answers command.now given (Names (names_lent account.now catalogue.now))) }
 {
     let mut bytes = Vec::with_capacity(alloc, USUAL_BYTES)?;
     command.put_heading(&mut bytes)?;
-    put_names(account, guard, catalogue, &mut bytes)?;
-    Ok(Printout { bytes })
+    let names = put_names(account, guard, catalogue, &mut bytes)?;
+    Ok(Answered {
+        printout: Printout { bytes },
+        said: Said::Names(names),
+    })
 }
 
-// Appends the names that the account is shown, and how many they are.
+// Appends the names that the account is shown, and how many they are, and answers that.
 fn put_names(
     account: &Account,
     guard: &Guard,
     catalogue: &Catalogue,
     out: &mut Vec<u8>,
-) -> Result<(), AllocError>
-    ensures { OnOk result (out.new.items ≡ out.old.items ++ names_text (names_lent account.now catalogue.now)) }
+) -> Result<u64, AllocError>
+    ensures names { OnOk result (out.new.items ≡ out.old.items ++ names_text (names_lent account.now catalogue.now)) }
+    ensures count { IfOk result (λ count. count ≡ length (names_lent account.now catalogue.now)) }
 {
     let mut count = 0;
     for index in 0..catalogue.len() {
         count += put_if_shown(account, guard, catalogue, index, out)?;
     }
-    put_count(b"NAMES", count, out)
+    put_count(b"NAMES", count, out)?;
+    Ok(count)
 }
 
 // Appends the name of the set at an index where the account is shown it, and answers how many names that are.

@@ -1,5 +1,5 @@
 //! What a printout is put to, piece by piece: a text in memory, or a writer, through a room of fixed size.
-ghost use Rattle.std.specs.Prelude.{◌≡◌, ◌≤◌, ◌<◌, ◌+◌, ◌-◌, ◌∷◌, ◌++◌, ℕ, List, [], Some, None, true, false, length, is_err, IfOk, OnOk};
+ghost use Rattle.std.specs.Prelude.{◌≡◌, ◌≤◌, ◌<◌, ◌+◌, ◌-◌, ◌∷◌, ◌++◌, ℕ, List, [], Some, None, true, false, length, is_err, Bool, IfOk, OnOk, OnErr};
 ghost use Rattle.mon_device.specs.Devices.{HasTaken, holding};
 ghost use Rattle.mon_device.specs.declared.transfer.TheConstants.{WRITE_SIZE};
 ghost use Rattle.mon_device.specs.Putting.{Standing, Puts};
@@ -11,8 +11,10 @@ use std::marker::Model;
 
 /// What a printout is put to.
 pub trait Sink {
-    // How it stands.
+    // How it stands, and whether anybody listens.
     ghost standing: { Self → Standing };
+
+    ghost heeded: { Bool };
 
     /// Takes bytes, in order. It answers nothing: a sink that has failed takes nothing more, and tells so at the end.
     fn put(&mut self, bytes: &[u8])
@@ -21,6 +23,21 @@ pub trait Sink {
     /// Takes a line, as `put` takes bytes: what stands before its text, the text, and LF behind it.
     fn put_line(&mut self, before: &[u8], text: &[u8])
         ensures { Puts (standing self.old) (standing self.new) (before.now ++ text.now ++ 10 ∷ []) };
+
+    /// Whether anybody listens. A sink to which nobody does is as one that has failed, and what is put to it is not looked at.
+    fn listens(&self) -> bool
+        ensures is { result ≡ heeded }
+        ensures silent { heeded ≡ false → (standing self.now).failed ≡ true };
+
+    /// Writes what is gathered.
+    ///
+    /// # Errors
+    ///
+    /// `Failed` where something was not taken, now or before, and somebody listens.
+    fn flush(&mut self) -> Result<(), Failed>
+        ensures puts { Puts (standing self.old) (standing self.new) [] }
+        ensures written { OnOk result (heeded ≡ true → ((standing self.new).gathered ≡ []) × ((standing self.new).failed ≡ false)) }
+        ensures failed { OnErr result ((heeded ≡ true) × ((standing self.new).failed ≡ true)) };
 }
 
 /// A text in memory to which a printout is put.
@@ -70,6 +87,8 @@ impl<'a> TextSink<'a> {
 impl Sink for TextSink<'_> {
     ghost standing = { λ s. record { written = Some s.text.now.items; gathered = []; failed = s.has_failed; remaining = None; reads = 0; lent = s.text.ghost_name ∷ [] } };
 
+    ghost heeded = { true };
+
     fn put(&mut self, bytes: &[u8]) {
         self.take(bytes);
     }
@@ -78,6 +97,14 @@ impl Sink for TextSink<'_> {
         self.take(before);
         self.take(text);
         self.take(b"\n");
+    }
+
+    fn listens(&self) -> bool {
+        true
+    }
+
+    fn flush(&mut self) -> Result<(), Failed> {
+        if self.has_failed { Err(Failed) } else { Ok(()) }
     }
 }
 
@@ -316,6 +343,8 @@ impl<'a, D: DeckDevices> DeviceSink<'a, D> {
 impl<'a, D: DeckDevices> Sink for DeviceSink<'a, D> {
     ghost standing = { λ s. record { written = D.written s.devices.now; gathered = s.room.now; failed = s.has_failed; remaining = D.remaining s.devices.now; reads = D.reads s.devices.now; lent = s.devices.ghost_name ∷ s.room.ghost_name ∷ [] } };
 
+    ghost heeded = { true };
+
     fn put(&mut self, bytes: &[u8]) {
         self.take(bytes);
     }
@@ -326,5 +355,13 @@ impl<'a, D: DeckDevices> Sink for DeviceSink<'a, D> {
         } else {
             self.take_line(before, text);
         }
+    }
+
+    fn listens(&self) -> bool {
+        true
+    }
+
+    fn flush(&mut self) -> Result<(), Failed> {
+        self.settle()
     }
 }

@@ -32,7 +32,8 @@ use Rattle.scheduler.specs.Loads.{first_units, with_ties, program_in}
 use Rattle.mon_monitor.specs.SystemStates.{SystemState, first_system}
 use Rattle.mon_monitor.specs.Events.{Event, Load, Drain}
 use Rattle.mon_monitor.specs.Played.{played}
-use Rattle.mon_monitor.specs.History.{Exchanged, Entry, Entered, Asked, Ended, history}
+use Rattle.scheduler.specs.Exchanged.{Exchanged}
+use Rattle.mon_monitor.specs.History.{Entry, Entered, Asked, Ended, history}
 use Rattle.mon_monitor.specs.Headline.{exchanges, Follow, noted, EndsSo, IsJob, IsHistory}
 use Rattle.mon_monitor.proofs.Telling.{asked_alone}
 use Rattle.mon_monitor.specs.Example.{ann, no_perms, all_perms}

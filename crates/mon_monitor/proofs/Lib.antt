@@ -15,6 +15,8 @@ mod Seeing
 mod Headline
 mod Finding
 mod Names
+mod Named
+pub mod Auditing
 mod Requests
 mod Commands
 mod Turning

@@ -12,7 +12,8 @@ use Rattle.scheduler.specs.States.{SlotState, seat_at}
 use Rattle.scheduler.specs.Turns.{told}
 use Rattle.scheduler.specs.Marks.{Mark, Marks}
 use Rattle.mon_monitor.specs.Events.{Event, Serve, Load, Give}
-use Rattle.mon_monitor.specs.History.{Exchanged, Entry, Entered, Asked, Ordered, end_entry}
+use Rattle.scheduler.specs.Exchanged.{Exchanged}
+use Rattle.mon_monitor.specs.History.{Entry, Entered, Asked, Ordered, end_entry}
 use Rattle.mon_monitor.specs.Headline.{Follow}
 use Rattle.mon_monitor.specs.Turns.{Seats, Stage, left_as, IsTurn, TurnOf, given, in_rounds, Take, Brings, BringInOrder}
 

@@ -1,6 +1,6 @@
 -- What the calls do is what the definitions say.
-use Rattle.std.proofs.Common.{◌≡◌, ℕ, List, [], ◌∷◌, ◌++◌, Result, Ok, Err, refl, ap, sym, ◌∙◌, subst, append_assoc, append-nil}
-use Rattle.std.specs.Prelude.{OnOk, replicate}
+use Rattle.std.proofs.Common.{◌≡◌, ℕ, List, [], ◌∷◌, ◌++◌, length, Result, Ok, Err, refl, ap, sym, ◌∙◌, subst, append_assoc, append-nil}
+use Rattle.std.specs.Prelude.{OnOk, OnErr, replicate}
 use Rattle.std.specs.List.{flat_map}
 use Rattle.std.proofs.lemmas.List.Concat.{flat_map-append}
 use Rattle.mon_text.specs.declared.stop.Stop.{Stop}
@@ -9,20 +9,30 @@ use Rattle.sno_cards.specs.Answers.{IfRefused}
 use Rattle.mon_access.specs.declared.account.Account.{Account}
 use Rattle.mon_catalogue.specs.Sets.{Sets}
 use Rattle.mon_command.specs.declared.command.Command.{Command}
-use Rattle.mon_command.specs.Commanded.{commanded}
+use Rattle.mon_command.specs.Commanded.{answered, commanded}
+use Rattle.mon_command.specs.declared.said.Said.{Said}
+use Rattle.mon_command.specs.Saying.{said_of}
+use Rattle.mon_audit.specs.Commands.{ordered_line, said_line, listed}
+use Rattle.mon_audit.proofs.Ordered.{ordered_is}
 use Rattle.deck_syntax.specs.declared.job_deck.JobDeck.{JobDeck}
 use Rattle.scheduler.specs.declared.job_end.JobEnd.{JobEnd}
 use Rattle.scheduler.specs.declared.refusal.LoadError.{LoadError}
 use Rattle.scheduler.specs.Printouts.{printout, refusal_text}
+use Rattle.scheduler.specs.AuditLines.{loaded_line, refused_line, lines_until, lines_of_rounds}
 use Rattle.scheduler.specs.States.{SchedulerState}
-use Rattle.scheduler.specs.Marks.{Marks, Past, marked, drain, room}
+use Rattle.mon_device.specs.Putting.{Standing, Puts}
+use Rattle.mon_device.proofs.Putting.{puts_nothing, puts_same, puts_then}
+use Rattle.scheduler.specs.Marks.{Marks, Past, marked, drain, room, never, rounds, turns_left, is_done, has_free_slot}
 use Rattle.scheduler.specs.Turning.{Passed, MarkedIs, DrainIs, RoomIs}
 use Rattle.mon_monitor.specs.SystemStates.{SystemState, with_scheduler, with_sets}
 use Rattle.mon_monitor.specs.Events.{Serve, Load, Give, Drain}
 use Rattle.mon_monitor.specs.Printouts.{Printout, OfCommand, OfRefused, printouts_text, printout_text, of_load}
-use Rattle.mon_monitor.specs.Played.{Played, loading, of_turns, of_loading, and_played, then_played}
+use Rattle.mon_monitor.specs.Played.{Played, loading, of_turns, of_loading, and_played, then_played, happened}
 use Rattle.mon_monitor.specs.Printed.{given_back}
-use Rattle.mon_monitor.specs.Happening.{Does, Happens, HappensUnmarked, Closes}
+use Rattle.mon_monitor.specs.Audit.{audit, event_lines, loading_lines}
+use Rattle.mon_monitor.specs.History.{load_entry}
+use Rattle.mon_monitor.specs.Happening.{Does, Happens, HappensUnmarked, Breaks, Closes}
+use Rattle.mon_monitor.proofs.Auditing.{until_told, load_told}
 use Rattle.mon_monitor.proofs.Shorthand.{of_ends}
 use Rattle.mon_monitor.specs.Abstraction.{system}
 
@@ -34,24 +44,85 @@ pub ends_text : (ends : List JobEnd) → printouts_text (of_ends ends) ≡ flat_
 ends_text [] = refl
 ends_text (e ∷ ends) = ap (λ (t : List ℕ). printout e ++ t) (ends_text ends)
 
+-- two functions that tell the same
+abbrev Tells : Type 0
+Tells = Marks → SystemState → List ℕ
+
+pub does_as : (act : Marks → SystemState → Played) (tell told : Tells) (w w' : SystemState) (before after : List ℕ) (a b : Standing)
+    → ((m : Marks) → told m w ≡ tell m w) → Does act tell w before w' after a b → Does act told w before w' after a b
+does_as act tell told w w' before after a b same d = record {
+  marks = d.marks;
+  printouts = d.printouts;
+  is = d.is;
+  printed = d.printed;
+  lines = d.lines;
+  tells = λ rest. same (d.marks ++ rest) ∙ d.tells rest;
+  audited = d.audited;
+}
+
 -- one thing, and then another
-pub does_then : (act next : Marks → SystemState → Played) (w now w' : SystemState) (before between after : List ℕ)
-    → Does act w before now between → Does next now between w' after → Does (λ m v. then_played (act m v) next) w before w' after
-does_then act next w now w' before between after a b = record {
-  marks = a.marks ++ b.marks;
-  printouts = a.printouts ++ b.printouts;
+abbrev pub then_told : (Marks → SystemState → Played) → Tells → Tells → Tells
+then_told act tell next m w = tell m w ++ next (act m w).marks (act m w).after
+
+pub does_then : (act next : Marks → SystemState → Played) (tell tell_next : Tells) (w now w' : SystemState) (before between after : List ℕ) (a b c : Standing)
+    → Does act tell w before now between a b → Does next tell_next now between w' after b c
+    → Does (λ m v. then_played (act m v) next) (then_told act tell tell_next) w before w' after a c
+does_then act next tell tell_next w now w' before between after a b c p q = record {
+  marks = p.marks ++ q.marks;
+  printouts = p.printouts ++ q.printouts;
   is = λ rest.
-      ap (λ (m : Marks). then_played (act m w) next) (append_assoc a.marks b.marks rest)
-      ∙ ap (λ (p : Played). then_played p next) (a.is (b.marks ++ rest))
-      ∙ ap (and_played a.printouts) (b.is rest);
+      ap (λ (m : Marks). then_played (act m w) next) (append_assoc p.marks q.marks rest)
+      ∙ ap (λ (x : Played). then_played x next) (p.is (q.marks ++ rest))
+      ∙ ap (and_played p.printouts) (q.is rest);
   printed =
-      b.printed ∙ ap (λ (t : List ℕ). t ++ printouts_text b.printouts) a.printed
-      ∙ append_assoc before (printouts_text a.printouts) (printouts_text b.printouts)
-      ∙ ap (λ (t : List ℕ). before ++ t) (sym (printouts_append a.printouts b.printouts));
+      q.printed ∙ ap (λ (t : List ℕ). t ++ printouts_text q.printouts) p.printed
+      ∙ append_assoc before (printouts_text p.printouts) (printouts_text q.printouts)
+      ∙ ap (λ (t : List ℕ). before ++ t) (sym (printouts_append p.printouts q.printouts));
+  lines = p.lines ++ q.lines;
+  tells = λ rest.
+      ap (λ (m : Marks). then_told act tell tell_next m w) (append_assoc p.marks q.marks rest)
+      ∙ ap (λ (l : List ℕ). l ++ tell_next (act (p.marks ++ (q.marks ++ rest)) w).marks (act (p.marks ++ (q.marks ++ rest)) w).after) (p.tells (q.marks ++ rest))
+      ∙ ap (λ (x : Played). p.lines ++ tell_next x.marks x.after) (p.is (q.marks ++ rest))
+      ∙ ap (λ (l : List ℕ). p.lines ++ l) (q.tells rest);
+  audited = puts_then a b c p.lines q.lines p.audited q.audited;
+}
+
+-- WHERE MEMORY RUNS OUT
+
+pub none_told : (tell : Tells) (w : SystemState) (a b : Standing) → b ≡ a → Breaks tell w a b
+none_told tell w a b same = record { marks = []; lines = []; begins = λ rest. (tell rest w, refl); audited = subst (λ (y : Standing). Puts a y []) (sym same) (puts_nothing a) }
+
+pub all_told : (act : Marks → SystemState → Played) (tell : Tells) (w w' : SystemState) (before after : List ℕ) (a b : Standing) → Does act tell w before w' after a b → Breaks tell w a b
+all_told act tell w w' before after a b d = record { marks = d.marks; lines = d.lines; begins = λ rest. ([], d.tells rest ∙ sym (append-nil d.lines)); audited = d.audited }
+
+pub breaks_as : (tell told : Tells) (w : SystemState) (a b : Standing) → ((m : Marks) → told m w ≡ tell m w) → Breaks tell w a b → Breaks told w a b
+breaks_as tell told w a b same x = record {
+  marks = x.marks;
+  lines = x.lines;
+  begins = λ rest. let more = x.begins rest in (more.0, same (x.marks ++ rest) ∙ more.1);
+  audited = x.audited;
+}
+
+-- one thing was done, and then another broke off
+pub breaks_then : (act : Marks → SystemState → Played) (tell tell_next : Tells) (w now : SystemState) (before between : List ℕ) (a b c : Standing)
+    → Does act tell w before now between a b → Breaks tell_next now b c → Breaks (then_told act tell tell_next) w a c
+breaks_then act tell tell_next w now before between a b c p q = record {
+  marks = p.marks ++ q.marks;
+  lines = p.lines ++ q.lines;
+  begins = λ rest.
+      let more = q.begins rest in (
+        more.0,
+        ap (λ (m : Marks). then_told act tell tell_next m w) (append_assoc p.marks q.marks rest)
+            ∙ ap (λ (l : List ℕ). l ++ tell_next (act (p.marks ++ (q.marks ++ rest)) w).marks (act (p.marks ++ (q.marks ++ rest)) w).after) (p.tells (q.marks ++ rest))
+            ∙ ap (λ (x : Played). p.lines ++ tell_next x.marks x.after) (p.is (q.marks ++ rest))
+            ∙ ap (λ (l : List ℕ). p.lines ++ l) more.1
+            ∙ sym (append_assoc p.lines q.lines more.0),
+      );
+  audited = puts_then a b c p.lines q.lines p.audited q.audited;
 }
 
 -- turns
-module _ (run : Marks → SchedulerState → Past) (w w' : SystemState) (ends : List JobEnd) (accounts : w'.accounts ≡ w.accounts) where
+module _ (run : Marks → SchedulerState → Past) (tell : Marks → SchedulerState → List ℕ) (w w' : SystemState) (ends : List JobEnd) (a b : Standing) (accounts : w'.accounts ≡ w.accounts) where
   abbrev played_as : List Printout → SystemState → Marks → Played
   played_as printouts v m = record { printouts = printouts; after = v; marks = m }
 
@@ -63,46 +134,79 @@ module _ (run : Marks → SchedulerState → Past) (w w' : SystemState) (ends : 
       ∙ ap (λ (a : List Account). played_as (of_ends ends) (system a w'.scheduler) rest) (sym accounts)
 
   pub turns_happen : (before after : List ℕ) (marks : Marks) → ((rest : Marks) → Passed ends w'.scheduler rest (run (marks ++ rest) w.scheduler))
-      → after ≡ before ++ flat_map printout ends → Does (λ m v. of_turns v (run m v.scheduler)) w before w' after
-  turns_happen before after marks is printed = record {
+      → (lines : List ℕ) → ((rest : Marks) → tell (marks ++ rest) w.scheduler ≡ lines) → Puts a b lines
+      → after ≡ before ++ flat_map printout ends → Does (λ m v. of_turns v (run m v.scheduler)) (λ m v. tell m v.scheduler) w before w' after a b
+  turns_happen before after marks is lines tells audited printed = record {
     marks = marks;
     printouts = of_ends ends;
     is = λ rest. turns_is marks rest (is rest);
     printed = printed ∙ ap (λ (t : List ℕ). before ++ t) (sym (ends_text ends));
+    lines = lines;
+    tells = tells;
+    audited = audited;
   }
 
 -- a drain
-pub drained : (w w' : SystemState) (before after : List ℕ) (ends : List JobEnd) → w'.accounts ≡ w.accounts → DrainIs w.scheduler ends w'.scheduler
-    → after ≡ before ++ flat_map printout ends → Happens Drain w before w' after
-drained w w' before after ends accounts is printed =
-    let d = turns_happen drain w w' ends accounts before after is.marks is.is printed in
-    record { marks = d.marks; printouts = d.printouts; is = d.is; printed = d.printed }
+pub drained : (w w' : SystemState) (before after : List ℕ) (ends : List JobEnd) (a b : Standing) → w'.accounts ≡ w.accounts → DrainIs w.scheduler ends w'.scheduler a b
+    → after ≡ before ++ flat_map printout ends → Happens Drain w before w' after a b
+drained w w' before after ends a b accounts is printed =
+    let d = turns_happen drain (lines_of_rounds is_done) w w' ends a b accounts before after is.marks is.is is.lines is.tells is.audited printed in
+    record {
+      marks = d.marks;
+      printouts = d.printouts;
+      is = d.is;
+      printed = d.printed;
+      lines = d.lines;
+      tells = λ rest. until_told is_done (rounds (turns_left w.scheduler.slots) (length w.scheduler.slots)) (d.marks ++ rest) w.scheduler ∙ d.tells rest;
+      audited = d.audited;
+    }
 
 -- turns of one slot
-pub given : (s n : ℕ) (w w' : SystemState) (before after : List ℕ) (ends : List JobEnd) → w'.accounts ≡ w.accounts → MarkedIs (replicate n s) w.scheduler ends w'.scheduler
-    → after ≡ before ++ flat_map printout ends → Happens (Give s n) w before w' after
-given s n w w' before after ends accounts is printed =
-    let d = turns_happen (λ m f. marked (replicate n s) m f) w w' ends accounts before after is.marks is.is printed in
-    record { marks = d.marks; printouts = d.printouts; is = d.is; printed = d.printed }
+pub given : (s n : ℕ) (w w' : SystemState) (before after : List ℕ) (ends : List JobEnd) (a b : Standing) → w'.accounts ≡ w.accounts → MarkedIs (replicate n s) w.scheduler ends w'.scheduler a b
+    → after ≡ before ++ flat_map printout ends → Happens (Give s n) w before w' after a b
+given s n w w' before after ends a b accounts is printed =
+    let d = turns_happen (λ m f. marked (replicate n s) m f) (λ m f. lines_until never (replicate n s) m f) w w' ends a b accounts before after is.marks is.is is.lines is.tells is.audited printed in
+    record {
+      marks = d.marks;
+      printouts = d.printouts;
+      is = d.is;
+      printed = d.printed;
+      lines = d.lines;
+      tells = λ rest. until_told never (replicate n s) (d.marks ++ rest) w.scheduler ∙ d.tells rest;
+      audited = d.audited;
+    }
 
-pub given_end : (s n : ℕ) (w w' : SystemState) (before after : List ℕ) (end : JobEnd) → w'.accounts ≡ w.accounts → MarkedIs (replicate n s) w.scheduler (end ∷ []) w'.scheduler
-    → after ≡ before ++ printout end → Happens (Give s n) w before w' after
-given_end s n w w' before after end accounts is printed =
-    given s n w w' before after (end ∷ []) accounts is (printed ∙ ap (λ (t : List ℕ). before ++ t) (sym (append-nil (printout end))))
+pub given_end : (s n : ℕ) (w w' : SystemState) (before after : List ℕ) (end : JobEnd) (a b : Standing) → w'.accounts ≡ w.accounts → MarkedIs (replicate n s) w.scheduler (end ∷ []) w'.scheduler a b
+    → after ≡ before ++ printout end → Happens (Give s n) w before w' after a b
+given_end s n w w' before after end a b accounts is printed =
+    given s n w w' before after (end ∷ []) a b accounts is (printed ∙ ap (λ (t : List ℕ). before ++ t) (sym (append-nil (printout end))))
 
 -- a command
-pub served : (command : Command) (w w' : SystemState) (before after text : List ℕ) → w' ≡ with_sets w (commanded w.accounts w.scheduler.sets command).sets
-    → text ≡ (commanded w.accounts w.scheduler.sets command).printout → after ≡ before ++ text → HappensUnmarked (Serve command) w before w' after
-served command w w' before after text is printout put =
+pub served : (command : Command) (w w' : SystemState) (before after text line : List ℕ) (a b : Standing) → w' ≡ with_sets w (commanded w.accounts w.scheduler.sets command).sets
+    → text ≡ (commanded w.accounts w.scheduler.sets command).printout → after ≡ before ++ text → line ≡ ordered_line command (answered w.accounts w.scheduler.sets command).answer
+    → Puts a b line → HappensUnmarked (Serve command) w before w' after a b
+served command w w' before after text line a b is printout put told audited =
     let printouts = OfCommand (commanded w.accounts w.scheduler.sets command).printout ∷ [] in (
       record {
         marks = [];
         printouts = printouts;
         is = λ rest. ap (λ (v : SystemState). let p : Played = record { printouts = printouts; after = v; marks = rest } in p) (sym is);
         printed = put ∙ ap (λ (t : List ℕ). before ++ t) (printout ∙ sym (append-nil (commanded w.accounts w.scheduler.sets command).printout));
+        lines = line;
+        tells = λ rest. append-nil (ordered_line command (answered w.accounts w.scheduler.sets command).answer) ∙ sym told;
+        audited = audited;
       },
       refl,
     )
+
+-- what was said of it is said of its answer
+pub said_so : (command : Command) (w w' : SystemState) (said : Said) (sets : Sets) → said ≡ said_of (answered w.accounts w.scheduler.sets command).answer
+    → w' ≡ with_sets w (commanded w.accounts w.scheduler.sets command).sets → sets ≡ w'.scheduler.sets
+    → said_line command said (listed command sets) ≡ ordered_line command (answered w.accounts w.scheduler.sets command).answer
+said_so command w w' said sets is system same =
+    ap (λ (s : Said). said_line command s (listed command sets)) is
+    ∙ ap (λ (v : Sets). said_line command (said_of (answered w.accounts w.scheduler.sets command).answer) (listed command v)) (same ∙ ap (λ (v : SystemState). v.scheduler.sets) system)
+    ∙ ordered_is w.accounts w.scheduler.sets command
 
 -- a job that is loaded, or refused
 loading_is : (deck : JobDeck) (w w' : SystemState) (r : Result ℕ LoadError) (printouts : List Printout) (rest : Marks) → loading deck w ≡ (r, w')
@@ -111,62 +215,120 @@ loading_is deck w w' r printouts rest is p =
     ap (λ (l : Result ℕ LoadError × SystemState). let q : Played = record { printouts = of_load deck l.0; after = l.1; marks = rest } in q) is
     ∙ ap (λ (l : List Printout). let q : Played = record { printouts = l; after = w'; marks = rest } in q) p
 
-pub load_done : (deck : JobDeck) (w w' : SystemState) (n : ℕ) (before after : List ℕ) → loading deck w ≡ (Ok n, w') → after ≡ before → Does (of_loading deck) w before w' after
-load_done deck w w' n before after is same = record {
+loading_told : (deck : JobDeck) (w w' : SystemState) (r : Result ℕ LoadError) (rest : Marks) → loading deck w ≡ (r, w') → loading_lines deck rest w ≡ audit (load_entry deck r)
+loading_told deck w w' r rest is = ap (λ (l : Result ℕ LoadError × SystemState). audit (load_entry deck l.0)) is
+
+pub load_done : (deck : JobDeck) (w w' : SystemState) (n : ℕ) (before after : List ℕ) (a b : Standing) → loading deck w ≡ (Ok n, w') → after ≡ before
+    → Puts a b (loaded_line deck.number deck.account) → Does (of_loading deck) (loading_lines deck) w before w' after a b
+load_done deck w w' n before after a b is same audited = record {
   marks = [];
   printouts = [];
   is = λ rest. loading_is deck w w' (Ok n) [] rest is refl;
   printed = same ∙ sym (append-nil before);
+  lines = loaded_line deck.number deck.account;
+  tells = λ rest. loading_told deck w w' (Ok n) rest is ∙ append-nil (loaded_line deck.number deck.account);
+  audited = audited;
 }
 
-pub load_refused : (deck : JobDeck) (w w' : SystemState) (refusal : LoadError) (before after : List ℕ) → loading deck w ≡ (Err refusal, w) → w' ≡ w
-    → after ≡ before ++ refusal_text deck.number deck.account refusal → Does (of_loading deck) w before w' after
-load_refused deck w w' refusal before after is same put =
+pub load_refused : (deck : JobDeck) (w w' : SystemState) (refusal : LoadError) (before after : List ℕ) (a b : Standing) → loading deck w ≡ (Err refusal, w) → w' ≡ w
+    → after ≡ before ++ refusal_text deck.number deck.account refusal → Puts a b (refused_line deck.number deck.account refusal)
+    → Does (of_loading deck) (loading_lines deck) w before w' after a b
+load_refused deck w w' refusal before after a b is same put audited =
     let printouts = OfRefused deck.number deck.account refusal ∷ [] in
     record {
       marks = [];
       printouts = printouts;
       is = λ rest. loading_is deck w w' (Err refusal) printouts rest (is ∙ ap (λ (v : SystemState). let l : Result ℕ LoadError × SystemState = (Err refusal, v) in l) (sym same)) refl;
       printed = put ∙ ap (λ (t : List ℕ). before ++ t) (sym (append-nil (refusal_text deck.number deck.account refusal)));
+      lines = refused_line deck.number deck.account refusal;
+      tells = λ rest. loading_told deck w w (Err refusal) rest is ∙ append-nil (refused_line deck.number deck.account refusal);
+      audited = audited;
     }
+
+-- its line was put, and memory ran out for what it prints
+pub refused_told : (deck : JobDeck) (w : SystemState) (refusal : LoadError) (a b : Standing) → loading deck w ≡ (Err refusal, w) → Puts a b (refused_line deck.number deck.account refusal)
+    → Breaks (loading_lines deck) w a b
+refused_told deck w refusal a b is audited = record {
+  marks = [];
+  lines = refused_line deck.number deck.account refusal;
+  begins = λ rest. ([], loading_told deck w w (Err refusal) rest is);
+  audited = audited;
+}
 
 pub refused_is : (deck : JobDeck) (w : SystemState) (stop : Stop LoadError) (refusal : LoadError) → stop ≡ Refused refusal
     → IfRefused (λ r. loading deck w ≡ (Err r, w)) stop → loading deck w ≡ (Err refusal, w)
 refused_is deck w stop refusal is h = subst (λ (s : Stop LoadError). IfRefused (λ r. loading deck w ≡ (Err r, w)) s) is h
 
 -- a job that enters
-pub entered : (deck : JobDeck) (w now w' : SystemState) (before between after : List ℕ) (ends : List JobEnd)
-    → now.accounts ≡ w.accounts → RoomIs w.scheduler ends now.scheduler → between ≡ before ++ flat_map printout ends
-    → Does (of_loading deck) now between w' after → Happens (Load deck) w before w' after
-entered deck w now w' before between after ends accounts is printed load =
-    let made = turns_happen room w now ends accounts before between is.marks is.is printed in
-    let d = does_then (λ m v. of_turns v (room m v.scheduler)) (of_loading deck) w now w' before between after made load in
-    record { marks = d.marks; printouts = d.printouts; is = d.is; printed = d.printed }
+abbrev making : Marks → SystemState → Played
+making m v = of_turns v (room m v.scheduler)
+
+abbrev making_told : Tells
+making_told m v = lines_of_rounds has_free_slot m v.scheduler
+
+made : (w now : SystemState) (before between : List ℕ) (ends : List JobEnd) (a b : Standing) → now.accounts ≡ w.accounts → RoomIs w.scheduler ends now.scheduler a b
+    → between ≡ before ++ flat_map printout ends → Does making making_told w before now between a b
+made w now before between ends a b accounts is printed =
+    turns_happen room (lines_of_rounds has_free_slot) w now ends a b accounts before between is.marks is.is is.lines is.tells is.audited printed
+
+pub entered : (deck : JobDeck) (w now w' : SystemState) (before between after : List ℕ) (ends : List JobEnd) (a b c : Standing)
+    → now.accounts ≡ w.accounts → RoomIs w.scheduler ends now.scheduler a b → between ≡ before ++ flat_map printout ends
+    → Does (of_loading deck) (loading_lines deck) now between w' after b c → Happens (Load deck) w before w' after a c
+entered deck w now w' before between after ends a b c accounts is printed load =
+    let d = does_then making (of_loading deck) making_told (loading_lines deck) w now w' before between after a b c (made w now before between ends a b accounts is printed) load in
+    does_as (happened (Load deck)) (then_told making making_told (loading_lines deck)) (event_lines (Load deck)) w w' before after a c (λ m. load_told deck m w)
+    (record { marks = d.marks; printouts = d.printouts; is = d.is; printed = d.printed; lines = d.lines; tells = d.tells; audited = d.audited })
 
 -- what was put to a text of its own, and then behind the printouts of jobs
-pub entered_behind : (deck : JobDeck) (w now w' : SystemState) (before none text after : List ℕ) (ends : List JobEnd)
-    → now.accounts ≡ w.accounts → RoomIs w.scheduler ends now.scheduler → none ≡ [] → Does (of_loading deck) now none w' text
-    → after ≡ before ++ (flat_map printout ends ++ text) → Happens (Load deck) w before w' after
-entered_behind deck w now w' before none text after ends accounts is empty load put =
+pub entered_behind : (deck : JobDeck) (w now w' : SystemState) (before none text after : List ℕ) (ends : List JobEnd) (a b c : Standing)
+    → now.accounts ≡ w.accounts → RoomIs w.scheduler ends now.scheduler a b → none ≡ [] → Does (of_loading deck) (loading_lines deck) now none w' text b c
+    → after ≡ before ++ (flat_map printout ends ++ text) → Happens (Load deck) w before w' after a c
+entered_behind deck w now w' before none text after ends a b c accounts is empty load put =
     let between = before ++ flat_map printout ends in
-    entered deck w now w' before between after ends accounts is refl (record {
+    entered deck w now w' before between after ends a b c accounts is refl (record {
       marks = load.marks;
       printouts = load.printouts;
       is = load.is;
       printed =
           put ∙ sym (append_assoc before (flat_map printout ends) text)
           ∙ ap (λ (t : List ℕ). between ++ t) (load.printed ∙ ap (λ (t : List ℕ). t ++ printouts_text load.printouts) empty);
+      lines = load.lines;
+      tells = load.tells;
+      audited = load.audited;
     })
 
+-- room was made, and then memory ran out
+pub entering_breaks : (deck : JobDeck) (w now : SystemState) (ends : List JobEnd) (a b c : Standing) → now.accounts ≡ w.accounts → RoomIs w.scheduler ends now.scheduler a b
+    → Breaks (loading_lines deck) now b c → Breaks (event_lines (Load deck)) w a c
+entering_breaks deck w now ends a b c accounts is broken =
+    breaks_as (then_told making making_told (loading_lines deck)) (event_lines (Load deck)) w a c (λ m. load_told deck m w)
+    (breaks_then making making_told (loading_lines deck) w now [] (flat_map printout ends) a b c (made w now [] (flat_map printout ends) ends a b accounts is refl) broken)
+
+-- the job was loaded or refused, too
+pub entered_breaks : (deck : JobDeck) (w now w' : SystemState) (none text : List ℕ) (ends : List JobEnd) (a b c : Standing) → now.accounts ≡ w.accounts → RoomIs w.scheduler ends now.scheduler a b
+    → Does (of_loading deck) (loading_lines deck) now none w' text b c → Breaks (event_lines (Load deck)) w a c
+entered_breaks deck w now w' none text ends a b c accounts is load =
+    entering_breaks deck w now ends a b c accounts is (all_told (of_loading deck) (loading_lines deck) now w' none text b c load)
+
+-- turns were given, and memory ran out for what they print
+pub given_breaks : (s n : ℕ) (w w' : SystemState) (ends : List JobEnd) (a b : Standing) → w'.accounts ≡ w.accounts → MarkedIs (replicate n s) w.scheduler ends w'.scheduler a b
+    → Breaks (event_lines (Give s n)) w a b
+given_breaks s n w w' ends a b accounts is =
+    all_told (happened (Give s n)) (event_lines (Give s n)) w w' [] (flat_map printout ends) a b (given s n w w' [] (flat_map printout ends) ends a b accounts is refl)
+
+pub drained_breaks : (w w' : SystemState) (ends : List JobEnd) (a b : Standing) → w'.accounts ≡ w.accounts → DrainIs w.scheduler ends w'.scheduler a b → Breaks (event_lines Drain) w a b
+drained_breaks w w' ends a b accounts is =
+    all_told (happened Drain) (event_lines Drain) w w' [] (flat_map printout ends) a b (drained w w' [] (flat_map printout ends) ends a b accounts is refl)
+
 -- the slots were emptied, and the data sets given back
-pub closed : (w left : SystemState) (before after : List ℕ) (ends : List JobEnd) (sets printed : Sets) → left.accounts ≡ w.accounts → DrainIs w.scheduler ends left.scheduler
-    → sets ≡ left.scheduler.sets → printed ≡ sets → after ≡ before ++ (flat_map printout ends ++ given_back printed) → Closes w before sets after
-closed w left before after ends sets printed accounts is same copied put =
+pub closed : (w left : SystemState) (before after : List ℕ) (ends : List JobEnd) (sets printed : Sets) (a b : Standing) → left.accounts ≡ w.accounts → DrainIs w.scheduler ends left.scheduler a b
+    → sets ≡ left.scheduler.sets → printed ≡ sets → after ≡ before ++ (flat_map printout ends ++ given_back printed) → Closes w before sets after a b
+closed w left before after ends sets printed a b accounts is same copied put =
     let text = before ++ flat_map printout ends in
     record {
       left = left;
       text = text;
-      drained = drained w left before text ends accounts is refl;
+      drained = drained w left before text ends a b accounts is refl;
       same = same;
       printed =
           put ∙ ap (λ (s : Sets). before ++ (flat_map printout ends ++ given_back s)) copied
@@ -178,3 +340,9 @@ closed w left before after ends sets printed accounts is same copied put =
 pub on_ok : {E P Q : Type 0} (r : Result (Unit {0}) E) → (P → Q) → OnOk r P → OnOk r Q
 on_ok (Ok u) f h = f h
 on_ok (Err e) f h = tt
+
+-- AND WHERE IT DOESN'T
+
+pub on_err : {T E P : Type 0} (r : Result T E) → P → OnErr r P
+on_err (Ok x) h = tt
+on_err (Err e) h = h

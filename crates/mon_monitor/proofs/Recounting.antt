@@ -30,7 +30,8 @@ use Rattle.scheduler.specs.Marks.{Mark, Marks, mark_of, passed_at, exchanges_at,
 use Rattle.mon_monitor.specs.SystemStates.{SystemState}
 use Rattle.mon_monitor.specs.Events.{Event, Serve, Load, Give, Drain}
 use Rattle.mon_monitor.specs.Played.{happened, played}
-use Rattle.mon_monitor.specs.History.{Entry, Entered, Refused, Asked, Ordered, whole_turn, broken_turn, asked_in, end_entry, turn_entries, entries_until, load_entry, event_entries, history, is_of, own}
+use Rattle.scheduler.specs.Exchanged.{whole_turn, broken_turn, asked_in}
+use Rattle.mon_monitor.specs.History.{Entry, Entered, Refused, Asked, Ordered, end_entry, turn_entries, entries_until, load_entry, event_entries, history, is_of, own}
 use Rattle.mon_monitor.specs.Headline.{IsJob, job_of, NumbersDiffer}
 use Rattle.mon_monitor.proofs.Histories.{event_accounts}
 use Rattle.mon_monitor.proofs.Accounting.{in_rounds}

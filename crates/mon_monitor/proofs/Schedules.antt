@@ -26,6 +26,7 @@ use Rattle.scheduler.specs.States.{SlotState, SchedulerState, seat_at, with_seat
 use Rattle.scheduler.specs.Turns.{reached, ran, after_turn, job_end, seat, told, turn_by, turn, Course, ends_by, turns}
 use Rattle.scheduler.specs.Marks.{Marks, mark_of, turn_as, Past, ends_then, until, never, marked, rounds, turns_left, is_done, drain}
 use Rattle.scheduler.specs.Rounds.{NoneByMemory}
+use Rattle.mon_device.specs.Putting.{Standing}
 use Rattle.scheduler.specs.Turning.{UntilIs, MarkedIs, DrainIs}
 use Rattle.scheduler.proofs.Past.{either_way, until_stops, until_goes, marks_end_jobs, unmarked, drain_empties}
 use Rattle.scheduler.specs.Ties.{Independent}
@@ -463,8 +464,8 @@ not_by_memory : (ends : List (ℕ × JobEnd)) → AllByRecursion (λ e. e.ending
 not_by_memory [] h = tt
 not_by_memory (e ∷ ends) h = (h.0, not_by_memory ends h.1)
 
-in_any_order : (stop : SchedulerState → Bool) (E : List ℕ) (w : SchedulerState) (ends : List JobEnd) (w' : SchedulerState) → UntilIs stop E w ends w' → InAnyOrder w ends w'
-in_any_order stop E w ends w' h = record {
+in_any_order : (stop : SchedulerState → Bool) (E : List ℕ) (w : SchedulerState) (ends : List JobEnd) (w' : SchedulerState) (a b : Standing) → UntilIs stop E w ends w' a b → InAnyOrder w ends w'
+in_any_order stop E w ends w' a b h = record {
   is = λ apart none.
       let m = h.marks ++ [] in
       let p = h.is [] in
@@ -481,18 +482,18 @@ in_any_order stop E w ends w' h = record {
       };
 }
 
-pub turns_any_order : {Z E : Type 0} (r : Result (Vec JobEnd Z) E) (order : List ℕ) (w w' : SchedulerState)
-    → IfOk r (λ ends. MarkedIs order w ends.items w') → IfOk r (λ ends. InAnyOrder w ends.items w')
-turns_any_order (Ok ends) order w w' h = in_any_order never order w ends.items w' h
-turns_any_order (Err e) order w w' h = tt
+pub turns_any_order : {Z E : Type 0} (r : Result (Vec JobEnd Z) E) (order : List ℕ) (w w' : SchedulerState) (a b : Standing)
+    → IfOk r (λ ends. MarkedIs order w ends.items w' a b) → IfOk r (λ ends. InAnyOrder w ends.items w')
+turns_any_order (Ok ends) order w w' a b h = in_any_order never order w ends.items w' a b h
+turns_any_order (Err e) order w w' a b h = tt
 
-pub drained_any_order : {Z E : Type 0} (r : Result (Vec JobEnd Z) E) (w w' : SchedulerState)
-    → IfOk r (λ ends. DrainIs w ends.items w') → IfOk r (λ ends. DrainedInAnyOrder w ends.items w')
-drained_any_order (Ok ends) w w' h = record {
+pub drained_any_order : {Z E : Type 0} (r : Result (Vec JobEnd Z) E) (w w' : SchedulerState) (a b : Standing)
+    → IfOk r (λ ends. DrainIs w ends.items w' a b) → IfOk r (λ ends. DrainedInAnyOrder w ends.items w')
+drained_any_order (Ok ends) w w' a b h = record {
   empty = λ s. ap (λ (v : SchedulerState). job_in s v) (sym (h.is []).after) ∙ drain_empties w (h.marks ++ []) s;
-  order = in_any_order is_done (rounds (turns_left w.slots) (length w.slots)) w ends.items w' h;
+  order = in_any_order is_done (rounds (turns_left w.slots) (length w.slots)) w ends.items w' a b h;
 }
-drained_any_order (Err e) w w' h = tt
+drained_any_order (Err e) w w' a b h = tt
 
 pub any_schedule : AnySchedule
 any_schedule w apart differ E F done done_too = record {

@@ -39,7 +39,8 @@ use Rattle.mon_unit.specs.Serving.{serve, note_act}
 use Rattle.mon_unit.specs.Laws as units
 use Rattle.mon_unit.specs.Laws.{position_of, AsksChange}
 use Rattle.mon_monitor.specs.Played.{played}
-use Rattle.mon_monitor.specs.History.{Exchanged, Entry, Entered, Refused, Asked, Ended, Ordered, history}
+use Rattle.scheduler.specs.Exchanged.{Exchanged}
+use Rattle.mon_monitor.specs.History.{Entry, Entered, Refused, Asked, Ended, Ordered, history}
 use Rattle.mon_monitor.specs.Headline.{StandsOver, sets_after, Lead}
 use Rattle.mon_monitor.specs.Answering.{before, IsDone}
 use Rattle.mon_monitor.specs.Appending.{HasDeleted}

@@ -42,7 +42,8 @@ use Rattle.mon_monitor.specs.Abstraction.{system}
 use Rattle.mon_monitor.specs.Events.{Event, Serve, Load, Give, Drain}
 use Rattle.mon_monitor.specs.Played.{happened, played}
 use Rattle.mon_monitor.specs.Laws.{SlotsStay}
-use Rattle.mon_monitor.specs.History.{Exchanged, Entry, Entered, Refused, Asked, asked_by, whole_turn, broken_turn, asked_in, end_entry, turn_entries, entries_until, load_entry, event_entries, history}
+use Rattle.scheduler.specs.Exchanged.{Exchanged, asked_by, whole_turn, broken_turn, asked_in}
+use Rattle.mon_monitor.specs.History.{Entry, Entered, Refused, Asked, end_entry, turn_entries, entries_until, load_entry, event_entries, history}
 use Rattle.mon_monitor.specs.Headline.{exchanges}
 use Rattle.mon_monitor.specs.Turns.{Seats, Stage, left_as, IsTurn, TurnOf, given, in_rounds, Take, Turns, IsLowestFree, Loads, Brings, BringInOrder, IsUnbroken, TurnsCome}
 use Rattle.mon_monitor.proofs.Histories.{event_accounts}

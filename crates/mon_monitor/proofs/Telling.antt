@@ -24,7 +24,8 @@ use Rattle.scheduler.specs.States.{SlotState, seat_at, with_seat}
 use Rattle.scheduler.specs.Loads.{first_units, with_ties}
 use Rattle.scheduler.specs.Turns.{seat, told}
 use Rattle.mon_monitor.specs.Events.{Event}
-use Rattle.mon_monitor.specs.History.{Exchanged, Entry, Entered, Asked, end_entry, is_of, own}
+use Rattle.scheduler.specs.Exchanged.{Exchanged}
+use Rattle.mon_monitor.specs.History.{Entry, Entered, Asked, end_entry, is_of, own}
 use Rattle.mon_monitor.specs.Headline.{job_in_cards, exchange, exchanges, Follow, spooled, noted, Course, GoesOn, IsJob, job_of}
 use Rattle.interaction.proofs.Told.{tells_then, begins_then, begins_first}
 use Rattle.mon_monitor.proofs.Exchanging.{Told, follow_both}

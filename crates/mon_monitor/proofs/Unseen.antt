@@ -15,6 +15,7 @@ use Rattle.scheduler.specs.declared.slots.Slots.{Slots}
 use Rattle.scheduler.specs.Abstraction.{slots_in}
 use Rattle.scheduler.specs.States.{SlotState, SchedulerState, scheduler}
 use Rattle.scheduler.specs.Loads.{job_loaded}
+use Rattle.mon_device.specs.Putting.{Standing}
 use Rattle.scheduler.specs.Turning.{TurnOr}
 use Rattle.mon_monitor.specs.SystemStates.{SystemState, with_scheduler, with_sets}
 use Rattle.mon_monitor.specs.Played.{loading}
@@ -80,8 +81,8 @@ module _ (deck : JobDeck) (accounts : List Account) (sets : Sets) (old new : Slo
   refusal_isolated (Err stop) is same = refused_shows_none stop is same
 
 -- a turn
-pub turn_isolated : (s : ℕ) (w w' : SystemState) (told : Turned) → TurnOr s w.scheduler told w'.scheduler → w'.accounts ≡ w.accounts → TurnIsolated s w told w'
-turn_isolated s w w' told h same =
+pub turn_isolated : (s : ℕ) (w w' : SystemState) (told : Turned) (a b : Standing) → TurnOr s w.scheduler told w'.scheduler a b → w'.accounts ≡ w.accounts → TurnIsolated s w told w'
+turn_isolated s w w' told a b h same =
     let is : turning h.mark s w ≡ (told, w') =
     ap (λ (t : Turned × SchedulerState). let x : Turned × SystemState = (t.0, with_scheduler w t.1) in x) h.is
     ∙ ap (λ (a : List Account). let x : Turned × SystemState = (told, system a w'.scheduler) in x) (sym same) in

@@ -50,7 +50,8 @@ use Rattle.mon_monitor.specs.Events.{Event, Serve, Load, Give, Drain}
 use Rattle.mon_monitor.specs.Printouts.{Printout}
 use Rattle.mon_monitor.specs.Played.{played}
 use Rattle.mon_monitor.specs.Answering.{ReadsPast, LacksRoom, IsDone, AreNamed, IsTold}
-use Rattle.mon_monitor.specs.History.{Exchanged, Entry, Entered, Refused, Asked, Ended, Ordered, history, printouts_in, cards_in, own}
+use Rattle.scheduler.specs.Exchanged.{Exchanged}
+use Rattle.mon_monitor.specs.History.{Entry, Entered, Refused, Asked, Ended, Ordered, history, printouts_in, cards_in, own}
 
 -- A JOB
 

@@ -3,37 +3,22 @@
 -- turn asks stands together.
 use Rattle.std.specs.Prelude.{ℕ, ◌==◌, Bool, true, false, List, [], ◌∷◌, ◌++◌, length, map, filter, take, Option, Some, None, Result, Ok, Err, if◌then◌else◌, drop, replicate}
 use Rattle.std.specs.List.{flat_map}
-use Rattle.interaction.specs.Interactions.{Returns, Asks}
-use Rattle.interaction.specs.Asking.{Asking}
-use Rattle.interaction.specs.declared.request.Request.{Request}
-use Rattle.interaction.specs.declared.answer.Answer.{Answer}
-use Rattle.sno_run.specs.Jobs.{turn_of}
-use Rattle.mon_access.specs.declared.account.Account.{Account}
 use Rattle.mon_catalogue.specs.Sets.{Sets}
 use Rattle.mon_command.specs.declared.command.Command.{Command}
 use Rattle.mon_command.specs.Commanded as commands
 use Rattle.mon_command.specs.Commanded.{answered, printed}
-use Rattle.mon_unit.specs.Serving.{Reach, serve}
 use Rattle.deck_syntax.specs.declared.job_deck.JobDeck.{JobDeck}
 use Rattle.scheduler.specs.declared.job_end.JobEnd.{JobEnd}
 use Rattle.scheduler.specs.declared.refusal.LoadError.{LoadError}
 use Rattle.scheduler.specs.declared.turned.Turned.{Turned}
 use Rattle.scheduler.specs.declared.turned.Turned.TheVariants as turn
-use Rattle.scheduler.specs.States.{SlotState, SchedulerState, job_in}
-use Rattle.scheduler.specs.Turns.{reached}
-use Rattle.scheduler.specs.Marks.{Mark, Marks, mark_of, exchanges_at, may_break, turn_as, never, rounds, turns_left, is_done, has_free_slot, room}
+use Rattle.scheduler.specs.States.{SchedulerState, job_in}
+use Rattle.scheduler.specs.Marks.{Mark, Marks, mark_of, turn_as, never, rounds, turns_left, is_done, has_free_slot, room}
+use Rattle.scheduler.specs.Exchanged.{Exchanged, asked_in}
 use Rattle.mon_monitor.specs.SystemStates.{SystemState, with_scheduler}
 use Rattle.mon_monitor.specs.Events.{Event, Serve, Load, Give, Drain}
 use Rattle.mon_monitor.specs.Printouts.{Printout, OfCommand, OfJob, OfRefused}
 use Rattle.mon_monitor.specs.Played.{loading, happened}
-
--- a request of a job: the job's number, the account that it is for, what its requests reach then, what it asks, and the answer
-pub record Exchanged : Type 0 where
-  pub number : ℕ
-  pub account : Account
-  pub reach : Reach
-  pub request : Request
-  pub answer : Answer
 
 -- what happened, one thing at a time
 pub data Entry : Type 0 where
@@ -47,28 +32,6 @@ pub data Entry : Type 0 where
   Ended : JobEnd → Entry
   -- a command is served over these data sets, and is answered
   Ordered : Sets → Command → commands.Answer → Entry
-
--- all that a program asks, each answered by `serve`
-abbrev pub asked_by : {A : Type 0} → ℕ → Account → Asking A → Reach → List Exchanged
-asked_by n account (Returns a) reach = []
-asked_by n account (Asks q f) reach =
-    record { number = n; account = account; reach = reach; request = q; answer = (serve account reach q).0 }
-    ∷ asked_by n account (f (serve account reach q).0) (serve account reach q).1
-
--- what a job asks in a turn
-abbrev pub whole_turn : SlotState → Sets → List Exchanged
-whole_turn slot sets = asked_by slot.number slot.account (turn_of slot.job) (reached sets slot)
-
--- so much of it as was answered, where memory broke the turn off
-abbrev pub broken_turn : Bool → Mark → SlotState → Sets → List Exchanged
-broken_turn false m slot sets = whole_turn slot sets
-broken_turn true m slot sets = take (exchanges_at m slot sets) (whole_turn slot sets)
-
--- what is asked in a turn of a slot, with a mark where memory may break it off: nothing, where no job sits there
-abbrev pub asked_in : Option Mark → Option SlotState → Sets → List Exchanged
-asked_in m None sets = []
-asked_in None (Some slot) sets = whole_turn slot sets
-asked_in (Some m) (Some slot) sets = broken_turn (may_break slot.job) m slot sets
 
 -- a job that has ended with its turn
 abbrev pub end_entry : Turned → List Entry

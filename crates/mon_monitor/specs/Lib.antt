@@ -7,6 +7,8 @@ pub mod Abstraction
 pub mod Happening
 pub mod Laws
 pub mod History
+pub mod Audit
+pub mod Granted
 pub mod Answering
 pub mod Headline
 pub mod Turns

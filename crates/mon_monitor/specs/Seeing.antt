@@ -14,7 +14,8 @@ use Rattle.mon_unit.specs.Laws.{target_of, position_of, IsRead}
 use Rattle.scheduler.specs.Marks.{Marks}
 use Rattle.mon_monitor.specs.SystemStates.{SystemState}
 use Rattle.mon_monitor.specs.Events.{Event}
-use Rattle.mon_monitor.specs.History.{Exchanged, Entry, Asked, Ordered, history}
+use Rattle.scheduler.specs.Exchanged.{Exchanged}
+use Rattle.mon_monitor.specs.History.{Entry, Asked, Ordered, history}
 use Rattle.mon_monitor.specs.Answering.{before}
 use Rattle.mon_monitor.specs.Appending.{HasDeleted}
 

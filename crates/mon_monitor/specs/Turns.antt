@@ -22,7 +22,8 @@ use Rattle.scheduler.specs.Marks.{Mark, Marks, mark_of}
 use Rattle.mon_monitor.specs.SystemStates.{first_system}
 use Rattle.mon_monitor.specs.Events.{Event, Serve, Load, Give, Drain}
 use Rattle.mon_monitor.specs.Played.{played}
-use Rattle.mon_monitor.specs.History.{Exchanged, Entry, Entered, Refused, Asked, Ended, Ordered, end_entry, history}
+use Rattle.scheduler.specs.Exchanged.{Exchanged}
+use Rattle.mon_monitor.specs.History.{Entry, Entered, Refused, Asked, Ended, Ordered, end_entry, history}
 use Rattle.mon_monitor.specs.Headline.{exchanges, Follow}
 
 abbrev pub Seats : Type 0

@@ -1,21 +1,26 @@
-//! Events: each happens, and what it prints is appended.
+//! Events: each happens, and what it prints is appended, and what it tells is put to an audit.
 //!
-//! Where a growth is refused nothing is appended; jobs that ended are then lost, and the monitor is of no more use.
+//! Where a growth is refused nothing is appended; jobs that ended are then lost, and the monitor is of no more use. An audit then has a
+//! beginning of what the event tells.
 ghost use Rattle.std.specs.Prelude.{◌≡◌, ◌++◌, IfOk, OnOk, OnErr};
-ghost use Rattle.mon_command.specs.Commanded.{commanded};
+ghost use Rattle.mon_command.specs.Commanded.{answered, commanded};
+ghost use Rattle.mon_command.specs.Saying.{said_of};
 ghost use Rattle.mon_monitor.specs.Abstraction.{system_of};
 ghost use Rattle.mon_monitor.specs.SystemStates.{with_sets};
 ghost use Rattle.mon_monitor.specs.Printed.{listing};
 ghost use Rattle.mon_monitor.specs.Played.{of_loading};
 ghost use Rattle.mon_monitor.specs.Events.{Serve, Load, Give, Drain};
-ghost use Rattle.mon_monitor.specs.Happening.{Does, Happens, HappensUnmarked, Closes};
+ghost use Rattle.mon_monitor.specs.Audit.{event_lines, loading_lines};
+ghost use Rattle.mon_monitor.specs.Happening.{Does, Happens, HappensUnmarked, Breaks, Closes};
 
 use crate::monitor::Monitor;
 use crate::printed::{Piece, Printed};
+use mon_audit::print_command;
 use mon_catalogue::Catalogue;
-use mon_command::Command;
+use mon_command::{Command, Said};
+use mon_device::Sink;
 use mon_text::{Name, Stop};
-use scheduler::{JobDeck, put_refusal};
+use scheduler::{JobDeck, print_loaded, print_refused, put_refusal};
 use std::alloc::{AllocError, Global};
 use std::rc::Rc;
 
@@ -25,33 +30,38 @@ impl Monitor {
     /// # Errors
     ///
     /// Where a growth was refused; nothing was appended then.
-    pub fn serve_command(
+    pub fn serve_command<S: Sink>(
         &mut self,
         alloc: Global,
         command: Command,
         out: &mut Printed,
+        audit: &mut S,
     ) -> Result<(), AllocError>
-        ensures happens { OnOk result (HappensUnmarked (Serve command) (system_of self.old) out.old (system_of self.new) out.new) }
+        ensures happens { OnOk result (HappensUnmarked (Serve command) (system_of self.old) out.old (system_of self.new) out.new (S.standing audit.old) (S.standing audit.new)) }
+        ensures broken { OnErr result (Breaks (event_lines (Serve command)) (system_of self.old) (S.standing audit.old) (S.standing audit.new)) }
         ensures nothing { OnErr result (out.new ≡ out.old) }
     {
-        self.print_command(alloc, command, out)?;
+        let said = self.put_served(alloc, &command, out)?;
+        print_command(&command, &said, self.catalogue(), audit);
         Ok(())
     }
 
     // Serves a command and appends its printout. Records that are many are shown from where they stand.
-    fn print_command(
+    fn put_served(
         &mut self,
         alloc: Global,
-        command: Command,
+        command: &Command,
         out: &mut Printed,
-    ) -> Result<(), AllocError>
-        ensures printed { OnOk result (out.new ≡ out.old ++ (commanded (system_of self.old).accounts (system_of self.old).scheduler.sets command).printout) }
-        ensures system { OnOk result (system_of self.new ≡ with_sets (system_of self.old) (commanded (system_of self.old).accounts (system_of self.old).scheduler.sets command).sets) }
+    ) -> Result<Said, AllocError>
+        ensures printed { OnOk result (out.new ≡ out.old ++ (commanded (system_of self.old).accounts (system_of self.old).scheduler.sets command.now).printout) }
+        ensures said { IfOk result (λ said. said ≡ said_of (answered (system_of self.old).accounts (system_of self.old).scheduler.sets command.now).answer) }
+        ensures system { OnOk result (system_of self.new ≡ with_sets (system_of self.old) (commanded (system_of self.old).accounts (system_of self.old).scheduler.sets command.now).sets) }
         ensures nothing { OnErr result (out.new ≡ out.old) }
     {
-        if let Command::List { account, name } = &command {
-            if self.lists_many(account, name) {
-                return self.print_listing(account, name, out);
+        if let Command::List { account, name } = command {
+            if let Some(count) = self.lists_many(account, name) {
+                self.print_listing(account, name, out)?;
+                return Ok(Said::Records(count));
             }
         }
         self.print_other(alloc, command, out)
@@ -75,19 +85,21 @@ impl Monitor {
     fn print_other(
         &mut self,
         alloc: Global,
-        command: Command,
+        command: &Command,
         out: &mut Printed,
-    ) -> Result<(), AllocError>
-        ensures printed { OnOk result (out.new ≡ out.old ++ (commanded (system_of self.old).accounts (system_of self.old).scheduler.sets command).printout) }
-        ensures system { OnOk result (system_of self.new ≡ with_sets (system_of self.old) (commanded (system_of self.old).accounts (system_of self.old).scheduler.sets command).sets) }
+    ) -> Result<Said, AllocError>
+        ensures printed { OnOk result (out.new ≡ out.old ++ (commanded (system_of self.old).accounts (system_of self.old).scheduler.sets command.now).printout) }
+        ensures said { IfOk result (λ said. said ≡ said_of (answered (system_of self.old).accounts (system_of self.old).scheduler.sets command.now).answer) }
+        ensures system { OnOk result (system_of self.new ≡ with_sets (system_of self.old) (commanded (system_of self.old).accounts (system_of self.old).scheduler.sets command.now).sets) }
         ensures nothing { OnErr result (out.new ≡ out.old) }
     {
         if out.rest.is_empty() {
             return self.put_command(alloc, command, &mut out.text);
         }
         let mut text = Vec::new(alloc);
-        self.put_command(alloc, command, &mut text)?;
-        out.put_piece(Piece::Text(text))
+        let said = self.put_command(alloc, command, &mut text)?;
+        out.put_piece(Piece::Text(text))?;
+        Ok(said)
     }
 
     /// A job enters: where no slot is free, turns are given in rounds until one is; then it is loaded, or it is refused.
@@ -95,35 +107,45 @@ impl Monitor {
     /// # Errors
     ///
     /// Where a growth was refused; nothing was appended then.
-    pub fn enter(
+    pub fn enter<S: Sink>(
         &mut self,
         alloc: Global,
         deck: JobDeck,
         out: &mut Printed,
+        audit: &mut S,
     ) -> Result<(), AllocError>
-        ensures happens { OnOk result (Happens (Load deck) (system_of self.old) out.old (system_of self.new) out.new) }
+        ensures happens { OnOk result (Happens (Load deck) (system_of self.old) out.old (system_of self.new) out.new (S.standing audit.old) (S.standing audit.new)) }
+        ensures broken { OnErr result (Breaks (event_lines (Load deck)) (system_of self.old) (S.standing audit.old) (S.standing audit.new)) }
         ensures nothing { OnErr result (out.new ≡ out.old) }
     {
         let mut text = Vec::new(alloc);
-        let ends = self.room(alloc)?;
-        self.put_load(alloc, deck, &mut text)?;
+        let ends = self.room(alloc, audit)?;
+        self.put_load(alloc, deck, &mut text, audit)?;
         out.put_ends_and_text(ends, text)
     }
 
     // Loads a job, or appends why it is refused.
-    fn put_load(
+    fn put_load<S: Sink>(
         &mut self,
         alloc: Global,
         deck: JobDeck,
         out: &mut Vec<u8>,
+        audit: &mut S,
     ) -> Result<(), AllocError>
-        ensures { OnOk result (Does (of_loading deck) (system_of self.old) out.old.items (system_of self.new) out.new.items) }
+        ensures does { OnOk result (Does (of_loading deck) (loading_lines deck) (system_of self.old) out.old.items (system_of self.new) out.new.items (S.standing audit.old) (S.standing audit.new)) }
+        ensures broken { OnErr result (Breaks (loading_lines deck) (system_of self.old) (S.standing audit.old) (S.standing audit.new)) }
     {
         let number = deck.number;
         let account = deck.account.copy();
         match self.load(alloc, deck) {
-            Ok(_) => Ok(()),
-            Err(Stop::Refused(refusal)) => put_refusal(number, &account, refusal, out),
+            Ok(_) => {
+                print_loaded(number, &account, audit);
+                Ok(())
+            }
+            Err(Stop::Refused(refusal)) => {
+                print_refused(number, &account, &refusal, audit);
+                put_refusal(number, &account, refusal, out)
+            }
             Err(Stop::Memory) => Err(AllocError),
         }
     }
@@ -133,17 +155,19 @@ impl Monitor {
     /// # Errors
     ///
     /// Where a growth was refused; nothing was appended then.
-    pub fn give(
+    pub fn give<S: Sink>(
         &mut self,
         alloc: Global,
         slot: u8,
         count: u64,
         out: &mut Printed,
+        audit: &mut S,
     ) -> Result<(), AllocError>
-        ensures happens { OnOk result (Happens (Give slot count) (system_of self.old) out.old (system_of self.new) out.new) }
+        ensures happens { OnOk result (Happens (Give slot count) (system_of self.old) out.old (system_of self.new) out.new (S.standing audit.old) (S.standing audit.new)) }
+        ensures broken { OnErr result (Breaks (event_lines (Give slot count)) (system_of self.old) (S.standing audit.old) (S.standing audit.new)) }
         ensures nothing { OnErr result (out.new ≡ out.old) }
     {
-        let end = self.turns_of(alloc, slot, count)?;
+        let end = self.turns_of(alloc, slot, count, audit)?;
         match end {
             Some(end) => out.put_piece(Piece::End(end)),
             None => Ok(()),
@@ -155,11 +179,17 @@ impl Monitor {
     /// # Errors
     ///
     /// Where a growth was refused; nothing was appended then.
-    pub fn drain_all(&mut self, alloc: Global, out: &mut Printed) -> Result<(), AllocError>
-        ensures happens { OnOk result (Happens Drain (system_of self.old) out.old (system_of self.new) out.new) }
+    pub fn drain_all<S: Sink>(
+        &mut self,
+        alloc: Global,
+        out: &mut Printed,
+        audit: &mut S,
+    ) -> Result<(), AllocError>
+        ensures happens { OnOk result (Happens Drain (system_of self.old) out.old (system_of self.new) out.new (S.standing audit.old) (S.standing audit.new)) }
+        ensures broken { OnErr result (Breaks (event_lines Drain) (system_of self.old) (S.standing audit.old) (S.standing audit.new)) }
         ensures nothing { OnErr result (out.new ≡ out.old) }
     {
-        let ends = self.drain(alloc)?;
+        let ends = self.drain(alloc, audit)?;
         out.put_ends(ends)
     }
 
@@ -169,12 +199,18 @@ impl Monitor {
     /// # Errors
     ///
     /// Where a growth was refused; nothing was appended then.
-    pub fn close(self, alloc: Global, out: &mut Printed) -> Result<Rc<Catalogue>, AllocError>
-        ensures closes { IfOk result (λ sets. Closes (system_of self) out.old sets.value out.new) }
+    pub fn close<S: Sink>(
+        self,
+        alloc: Global,
+        out: &mut Printed,
+        audit: &mut S,
+    ) -> Result<Rc<Catalogue>, AllocError>
+        ensures closes { IfOk result (λ sets. Closes (system_of self) out.old sets.value out.new (S.standing audit.old) (S.standing audit.new)) }
+        ensures broken { OnErr result (Breaks (event_lines Drain) (system_of self) (S.standing audit.old) (S.standing audit.new)) }
         ensures nothing { OnErr result (out.new ≡ out.old) }
     {
         let mut monitor = self;
-        let ends = monitor.drain(alloc)?;
+        let ends = monitor.drain(alloc, audit)?;
         let sets = monitor.into_sets();
         let printed = sets.clone()?;
         out.put_ends_and_sets(ends, printed)?;

@@ -1,6 +1,7 @@
 //! Laws of events. Each is the contract of a function that does nothing, or only cites laws of the crates below.
 ghost use Rattle.mon_monitor.specs.Laws.{CardByCard, PrintedInOrder, PlayedUnmarked, DrainEmpties, LoadHasRoom, CommandsKeepSlots, AccountsStay, SlotsStay};
 ghost use Rattle.mon_monitor.specs.Headline.{HistoryTells};
+ghost use Rattle.mon_monitor.specs.Granted.{AccessesAreNamed};
 ghost use Rattle.mon_monitor.specs.Turns.{TurnsCome};
 ghost use Rattle.mon_monitor.specs.Appending.{AppendOnly};
 ghost use Rattle.mon_monitor.specs.Seeing.{ReadsSeeWrites};
@@ -94,4 +95,12 @@ pub fn reads_see_writes()
 {
     mon_unit::laws::got_where_granted();
     mon_unit::laws::changed_where_granted();
+}
+
+/// Each record that a job gets of a data set, and each change of one, has a line in the audit that names the entry which granted it.
+pub fn accesses_are_named()
+    ensures { AccessesAreNamed }
+{
+    mon_audit::laws::grants_are_named();
+    mon_audit::laws::changes_are_named();
 }

@@ -1,6 +1,7 @@
 //! Public calls that no deck makes: jobs of a monitor that are given turns one by one, and in an order.
 use crate::access::is_known;
 use crate::catalogue::{lines_of, put_text, read};
+use deck_run::NoAudit;
 use mon_access::Accounts;
 use mon_catalogue::Version;
 use mon_monitor::{Monitor, Turned};
@@ -151,18 +152,18 @@ fn is_printed(alloc: Global, end: &JobEnd, printout: &[u8]) -> bool {
 }
 
 fn goes_on(alloc: Global, monitor: &mut Monitor, slot: u8) -> bool {
-    matches!(monitor.turn(alloc, slot), Ok(Turned::Goes))
+    matches!(monitor.turn(alloc, slot, &mut NoAudit), Ok(Turned::Goes))
 }
 
 fn ends(alloc: Global, monitor: &mut Monitor, slot: u8, printout: &[u8]) -> bool {
-    match monitor.turn(alloc, slot) {
+    match monitor.turn(alloc, slot, &mut NoAudit) {
         Ok(Turned::Ended(end)) => is_printed(alloc, &end, printout),
         _ => false,
     }
 }
 
 fn is_empty(alloc: Global, monitor: &mut Monitor, slot: u8) -> bool {
-    matches!(monitor.turn(alloc, slot), Ok(Turned::Empty))
+    matches!(monitor.turn(alloc, slot, &mut NoAudit), Ok(Turned::Empty))
 }
 
 // Both slots have a job, until the second is given turns to its end.
@@ -216,7 +217,7 @@ fn put_ends(ends: &[JobEnd], out: &mut Vec<u8>) -> bool {
 // What jobs that are given turns in an order print, and what they leave.
 fn prints(alloc: Global, monitor: &mut Monitor, order: &[u8], output: &[u8]) -> bool {
     let mut out = Vec::new(alloc);
-    match monitor.turns(alloc, order) {
+    match monitor.turns(alloc, order, &mut NoAudit) {
         Ok(ends) => {
             put_ends(&ends, &mut out)
                 && put_text(monitor.catalogue(), &mut out)

@@ -93,7 +93,7 @@ fn faults_say(alloc: Global, fault: RunError, line: &[u8], status: u8) -> bool {
 
 #[test]
 fn faults_have_a_line_and_a_status(rt: HostRuntime) {
-    let faults: [(RunError, &[u8], u8); 4] = [
+    let faults: [(RunError, &[u8], u8); 5] = [
         (
             RunError::DeckRefused(14, DeckError::Truncated),
             b"snomon: line 14: E4 TRUNCATED\n",
@@ -101,6 +101,7 @@ fn faults_have_a_line_and_a_status(rt: HostRuntime) {
         ),
         (RunError::ReadFault, b"snomon: read fault\n", 3),
         (RunError::WriteFault, b"snomon: write fault\n", 3),
+        (RunError::AuditFault, b"snomon: audit fault\n", 3),
         (RunError::Memory, b"snomon: out of memory\n", 3),
     ];
     for (fault, line, status) in faults {

@@ -1,5 +1,5 @@
 //! A deck that comes in one piece, in which a listing waits to be printed while a later card changes what it lists.
-use deck_run::{DeckFeed, Options};
+use deck_run::{DeckFeed, NoAudit, Options};
 use mon_device::TextSink;
 use mon_monitor::Printed;
 use std::alloc::Global;
@@ -58,7 +58,7 @@ fn is_printed_at_once(alloc: Global, deck: &[u8], output: &[u8]) -> bool {
     };
     let mut feed = DeckFeed::new(alloc, Options::new());
     deck.len() < 1_000
-        && feed.feed(alloc, deck, &mut printed).is_ok()
+        && feed.feed(alloc, deck, &mut printed, &mut NoAudit).is_ok()
         && is_text(alloc, &printed, output)
 }
 

@@ -12,7 +12,9 @@ use Rattle.deck_driver.specs.declared.options.Options.{Options}
 use Rattle.deck_driver.specs.declared.section.DeckState.{DeckState}
 use Rattle.deck_driver.specs.declared.section.DeckState.TheVariants as state
 use Rattle.deck_driver.specs.Feeds.{Outcome, Good, Bad, outcome, behind, concluded, sets_left, is_reading, more}
-use Rattle.deck_driver.specs.Abstraction.{told, Took}
+use Rattle.mon_device.specs.Putting.{Standing, Puts}
+use Rattle.mon_device.proofs.Putting.{puts_same, puts_then}
+use Rattle.deck_driver.specs.Abstraction.{told, audit_told, Took}
 use Rattle.deck_driver.specs.Printouts.{output_of}
 use Rattle.deck_driver.proofs.Beginnings.{nothing_printed}
 use Rattle.deck_run.specs.Runs.{deck_ending, run_state_of, counts_of, catalogue_after}
@@ -29,27 +31,47 @@ behind_both m a b f bytes =
     let later = outcome f.options f.counts.jobs m f.state (f.lines_taken + 1) (lines (f.line ++ bytes)) in
     ap (λ (t : List ℕ). (let o : Outcome = record { written = t; conclusion = more f.counts later.conclusion } in o)) (append_assoc a b later.written)
 
-pub took_behind : (before out : List ℕ) (f g : DeckFeed) (piece : List ℕ) → Took [] f piece out g → Took before f piece (before ++ out) g
-took_behind before out f g piece took = record {
+pub took_behind : (before out : List ℕ) (f g : DeckFeed) (piece : List ℕ) (a b : Standing) → Took [] f piece out g a b → Took before f piece (before ++ out) g a b
+took_behind before out f g piece a b took = record {
   marks = took.marks;
   is = λ rest bytes.
       behind_both rest before out g bytes
       ∙ ap (λ (o : Outcome). (let r : Outcome = record { written = before ++ o.written; conclusion = o.conclusion } in r)) (took.is rest bytes)
       ∙ sym (behind_both (took.marks ++ rest) before [] f (piece ++ bytes))
       ∙ ap (λ (t : List ℕ). told (took.marks ++ rest) t f (piece ++ bytes)) (append-nil before);
+  audit = took.audit;
+  tells = took.tells;
+  audited = took.audited;
 }
 
-pub took_both : (a b c : List ℕ) (f g h : DeckFeed) (piece other : List ℕ) → Took a f piece b g → Took b g other c h → Took a f (piece ++ other) c h
-took_both a b c f g h piece other first second = record {
+-- and what a sink has gathered was written
+pub took_flushed : (s t : List ℕ) (f g : DeckFeed) (piece : List ℕ) (a b c : Standing) → Took s f piece t g a b → Puts b c [] → Took s f piece t g a c
+took_flushed s t f g piece a b c took flushed = record {
+  marks = took.marks;
+  is = took.is;
+  audit = took.audit;
+  tells = took.tells;
+  audited = puts_same a c (took.audit ++ []) took.audit (append-nil took.audit) (puts_then a b c took.audit [] took.audited flushed);
+}
+
+pub took_both : (s t u : List ℕ) (f g h : DeckFeed) (piece other : List ℕ) (a b c : Standing) → Took s f piece t g a b → Took t g other u h b c → Took s f (piece ++ other) u h a c
+took_both s t u f g h piece other a b c first second = record {
   marks = first.marks ++ second.marks;
   is = λ rest bytes.
       second.is rest bytes ∙ first.is (second.marks ++ rest) (other ++ bytes)
-      ∙ ap₂ (λ (m : Marks) (t : List ℕ). told m a f t) (sym (append_assoc first.marks second.marks rest)) (sym (append_assoc piece other bytes));
+      ∙ ap₂ (λ (m : Marks) (v : List ℕ). told m s f v) (sym (append_assoc first.marks second.marks rest)) (sym (append_assoc piece other bytes));
+  audit = first.audit ++ second.audit;
+  tells = λ rest bytes.
+      ap₂ (λ (m : Marks) (v : List ℕ). audit_told m f v) (append_assoc first.marks second.marks rest) (append_assoc piece other bytes)
+      ∙ first.tells (second.marks ++ rest) (other ++ bytes)
+      ∙ ap (λ (v : List ℕ). first.audit ++ v) (second.tells rest bytes)
+      ∙ sym (append_assoc first.audit second.audit (audit_told rest h bytes));
+  audited = puts_then a b c first.audit second.audit first.audited second.audited;
 }
 
 -- the piece was refused
-pub bad_piece : (before out : List ℕ) (f g : DeckFeed) (piece : List ℕ) (n : ℕ) (code : DeckError) → g.state ≡ state.Refused n code → Took [] f piece out g → IsBad n code before f piece
-bad_piece before out f g piece n code is took = record {
+pub bad_piece : (before out : List ℕ) (f g : DeckFeed) (piece : List ℕ) (n : ℕ) (code : DeckError) (a b : Standing) → g.state ≡ state.Refused n code → Took [] f piece out g a b → IsBad n code before f piece
+bad_piece before out f g piece n code a b is took = record {
   marks = took.marks;
   is = λ rest bytes.
       ap (λ (o : Outcome). o.conclusion) (sym (took.is rest bytes))
@@ -62,11 +84,12 @@ bad_first before f piece other n code bad = record {
   is = λ rest bytes. ap (λ (t : List ℕ). (told (bad.marks ++ rest) before f t).conclusion) (append_assoc piece other bytes) ∙ bad.is rest (other ++ bytes);
 }
 
-pub bad_then : (a b : List ℕ) (f g : DeckFeed) (piece other : List ℕ) (n : ℕ) (code : DeckError) → Took a f piece b g → IsBad n code b g other → IsBad n code a f (piece ++ other)
-bad_then a b f g piece other n code took bad = record {
+pub bad_then : (s t : List ℕ) (f g : DeckFeed) (piece other : List ℕ) (n : ℕ) (code : DeckError) (a b : Standing) → Took s f piece t g a b → IsBad n code t g other
+    → IsBad n code s f (piece ++ other)
+bad_then s t f g piece other n code a b took bad = record {
   marks = took.marks ++ bad.marks;
   is = λ rest bytes.
-      ap₂ (λ (m : Marks) (t : List ℕ). (told m a f t).conclusion) (append_assoc took.marks bad.marks rest) (append_assoc piece other bytes)
+      ap₂ (λ (m : Marks) (v : List ℕ). (told m s f v).conclusion) (append_assoc took.marks bad.marks rest) (append_assoc piece other bytes)
       ∙ ap (λ (o : Outcome). o.conclusion) (sym (took.is (bad.marks ++ rest) (other ++ bytes)))
       ∙ bad.is rest bytes;
 }

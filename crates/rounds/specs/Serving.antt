@@ -1,8 +1,9 @@
 -- A round's run (own): what its deck comes to, as far as it was read.
-use Rattle.std.specs.Prelude.{◌≡◌, ℕ, false, List, [], ◌∷◌, ◌++◌, length}
+use Rattle.std.specs.Prelude.{◌≡◌, ℕ, false, List, [], ◌∷◌, ◌++◌, length, Ok}
 use Rattle.std.specs.Str.Lines.{lines}
 use Rattle.mon_access.specs.declared.account.Account.{Account}
 use Rattle.mon_catalogue.specs.Sets.{Sets}
+use Rattle.mon_device.specs.Putting.{Standing, Puts}
 use Rattle.scheduler.specs.Marks.{Marks}
 use Rattle.deck_syntax.specs.declared.deck_error.DeckError.{DeckError}
 use Rattle.deck_syntax.specs.Decks.{Stopped}
@@ -12,9 +13,11 @@ use Rattle.deck_driver.specs.declared.options.Counts.{Counts}
 use Rattle.deck_driver.specs.declared.options.Options.{Options}
 use Rattle.deck_driver.specs.RunStates.{opening}
 use Rattle.deck_driver.specs.Feeds.{Outcome, Good, Bad, outcome_of, IsReadBack}
-use Rattle.deck_driver.specs.Abstraction.{told}
+use Rattle.deck_driver.specs.Audits.{audit_for}
+use Rattle.deck_driver.specs.Abstraction.{told, audit_told}
 use Rattle.deck_driver.specs.Printouts.{closing, output_of, ReadsBack}
-use Rattle.deck_run.specs.Runs.{catalogue_after}
+use Rattle.deck_run.specs.Audited.{end_told}
+use Rattle.deck_run.specs.Runs.{counts_of, catalogue_after}
 use Rattle.intake.specs.declared.submission.Submission.{Submission}
 use Rattle.intake.specs.Rounds.{Handed}
 use Rattle.rounds.specs.declared.running.Round.{Round}
@@ -22,10 +25,15 @@ use Rattle.rounds.specs.declared.running.Running.{Running}
 use Rattle.rounds.specs.Delivery.{delivered}
 use Rattle.rounds.specs.Compositions.{front_text, round_text, IsGoodRound, ends_of, cut_at}
 
+-- what is told of a round's deck: all that happens in it, and then that it has come to its end
+abbrev pub round_audit : Options → Marks → List ℕ → List ℕ
+round_audit options m bytes = audit_for options m bytes ++ end_told options.check (Ok (counts_of bytes))
+
 -- A round was served: with some marks for the turns in it, its output is that of its deck, and the ends are where the decks end
 -- that are cut behind each fence. Where the round is good, the output so cut has the printout of each text, whole and alone, and
--- then the catalogue, which can be read again.
-pub record IsServed (options : Options) (m : Marks) (head : List ℕ) (submissions : List Submission) (round : Round) : Type 0 where
+-- then the catalogue, which can be read again. And the audit of its deck, with the same marks, was put to a sink, which stood as a
+-- says before and stands as b says then.
+pub record IsServed (options : Options) (m : Marks) (head : List ℕ) (submissions : List Submission) (round : Round) (a b : Standing) : Type 0 where
   pub output : round.output.items ≡ output_of options m (round_text head submissions)
   pub ends : round.ends.items ≡ ends_of options m head submissions
   pub parts : (table : List (List ℕ)) (accounts : List Account) (sets : Sets) (texts : List Handed)
@@ -34,6 +42,7 @@ pub record IsServed (options : Options) (m : Marks) (head : List ℕ) (submissio
       cut_at 0 round.ends.items round.output.items ≡ d.printed ++ closing d.sets Stopped ∷ [])
   pub leaves : (table : List (List ℕ)) (accounts : List Account) (sets : Sets) (texts : List Handed)
       → options.check ≡ false → IsGoodRound head submissions table accounts sets texts → ReadsBack (delivered options.slots.number accounts 0 m sets texts).sets
+  pub audited : Puts a b (round_audit options m (round_text head submissions))
 
 -- ---- within a run
 
@@ -41,8 +50,9 @@ pub record IsServed (options : Options) (m : Marks) (head : List ℕ) (submissio
 abbrev pub whole : Options → Marks → List ℕ → Outcome
 whole options m bytes = outcome_of options.check 0 m (opening options.slots.number (deck_of (lines bytes)))
 
--- With some marks for the turns in it, so much of the round was served: whatever follows, the deck comes out as it does with that.
-pub record Stands (options : Options) (head : List ℕ) (submissions : List Submission) (running : Running) : Type 0 where
+-- With some marks for the turns in it, so much of the round was served: whatever follows, the deck comes out as it does with that, and
+-- its audit is what was put to a sink, and what is told of the rest.
+pub record Stands (options : Options) (head : List ℕ) (submissions : List Submission) (running : Running) (a b : Standing) : Type 0 where
   pub marks : Marks
   pub tells : (rest : Marks) (bytes : List ℕ) → told rest running.output.items running.feed bytes ≡ whole options (marks ++ rest) (front_text head submissions ++ bytes)
   pub ends : (rest : Marks) → running.ends.items ≡ ends_of options (marks ++ rest) head submissions
@@ -50,6 +60,9 @@ pub record Stands (options : Options) (head : List ℕ) (submissions : List Subm
   pub fed : running.feed.fed ≡ length (front_text head submissions)
   pub options_are : running.feed.options ≡ options
   pub back : IsReadBack running.feed.options.check running.feed.state
+  pub audit : List ℕ
+  pub audits : (rest : Marks) (bytes : List ℕ) → audit_for options (marks ++ rest) (front_text head submissions ++ bytes) ≡ audit ++ audit_told rest running.feed bytes
+  pub audited : Puts a b audit
 
 -- with some marks for the turns in it, the deck is refused in this piece, whatever follows
 pub record IsBad (n : ℕ) (code : DeckError) (before : List ℕ) (f : DeckFeed) (piece : List ℕ) : Type 0 where
@@ -61,8 +74,9 @@ pub record IsBadAtEnd (n : ℕ) (code : DeckError) (f : DeckFeed) : Type 0 where
   pub marks : Marks
   pub is : (rest : Marks) → (told (marks ++ rest) [] f []).conclusion ≡ Bad n code
 
--- The deck ended here, and was good: with some marks for the turns that were left, what it then wrote stands behind the output.
-pub record Finishes (running : Running) (round : Round) : Type 0 where
+-- The deck ended here, and was good: with some marks for the turns that were left, what it then wrote stands behind the output, and what
+-- it then told was put to the audit.
+pub record Finishes (running : Running) (round : Round) (a b : Standing) : Type 0 where
   pub marks : Marks
   pub written : List ℕ
   pub counts : Counts
@@ -70,9 +84,13 @@ pub record Finishes (running : Running) (round : Round) : Type 0 where
   pub is : (rest : Marks) → told (marks ++ rest) [] running.feed [] ≡ record { written = written; conclusion = Good counts sets }
   pub reads_back : IsReadBack running.feed.options.check running.feed.state → running.feed.options.check ≡ false → ReadsBack sets
   pub output : round.output.items ≡ running.output.items ++ written
+  pub audit : List ℕ
+  pub audits : (rest : Marks) → audit_told (marks ++ rest) running.feed [] ≡ audit
+  pub audited : Puts a b audit
 
--- a round has ended: what it wrote, where its printouts end, and what it leaves
-pub record HasEnded (options : Options) (m : Marks) (head : List ℕ) (submissions : List Submission) (round : Round) : Type 0 where
+-- a round has ended: what it wrote, where its printouts end, what it leaves, and what it told
+pub record HasEnded (options : Options) (m : Marks) (head : List ℕ) (submissions : List Submission) (round : Round) (a b : Standing) : Type 0 where
   pub output : round.output.items ≡ output_of options m (round_text head submissions)
   pub ends : round.ends.items ≡ ends_of options m head submissions
   pub reads_back : options.check ≡ false → ReadsBack (catalogue_after options m (round_text head submissions))
+  pub audited : Puts a b (audit_for options m (round_text head submissions))

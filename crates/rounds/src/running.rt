@@ -1,13 +1,16 @@
 //! A round's run: its deck is fed text by text, and where each text's printout ends is noted.
-ghost use Rattle.std.specs.Prelude.{◌≡◌, ℕ, List, ◌+◌, ◌<◌, ◌≤◌, ◌^◌, [], ◌∷◌, ◌++◌, true, length, Err, IfOk, OnOk, codes};
+ghost use Rattle.std.specs.Prelude.{◌≡◌, ℕ, List, ◌+◌, ◌<◌, ◌≤◌, ◌^◌, [], ◌∷◌, ◌++◌, true, length, Ok, Err, IfOk, OnOk, codes};
 ghost use Rattle.mon_access.specs.declared.account.Account.{Account};
 ghost use Rattle.mon_catalogue.specs.Sets.{Sets};
+ghost use Rattle.mon_device.specs.Putting.{Standing, Puts};
 ghost use Rattle.scheduler.specs.Marks.{Marks};
 ghost use Rattle.deck_syntax.specs.declared.deck_error.DeckError.{DeckError as AnyCode};
 ghost use Rattle.deck_syntax.specs.Decks.{Refused};
+ghost use Rattle.deck_driver.specs.declared.options.Counts.{Counts as AnyCounts};
 ghost use Rattle.deck_driver.specs.declared.options.Options.{Options as AnyOptions};
 ghost use Rattle.deck_driver.specs.Feeds.{EndsLine, IsReadBack, is_reading};
 ghost use Rattle.deck_driver.specs.Abstraction.{Took};
+ghost use Rattle.deck_run.specs.Audited.{end_told};
 ghost use Rattle.deck_run.specs.Runs.{deck_ending};
 ghost use Rattle.intake.specs.declared.submission.Submission.{Submission as AnySubmission};
 ghost use Rattle.intake.specs.Rounds.{Handed};
@@ -17,7 +20,8 @@ ghost use Rattle.rounds.specs.Serving.{IsServed, Stands, IsBad, IsBadAtEnd, Fini
 use deck_driver::{DeckFeed, Options, RunError};
 use deck_syntax::DeckError;
 use intake::Submission;
-use mon_device::TextSink;
+use mon_audit::print_stopped;
+use mon_device::{Failed, Sink, TextSink};
 use mon_monitor::Printed;
 use std::alloc::{AllocError, Global};
 
@@ -35,8 +39,8 @@ pub struct Round {
 pub enum RoundError {
     /// The deck is refused at this line, counted from 1. The deck of admitted texts behind a good head never is.
     Refused(u64, DeckError),
-    /// A growth was refused while this text was served, counted from 1: 0 where it was the head, and one more than there are texts
-    /// where it was the end.
+    /// A growth was refused, or the audit was not taken, while this text was served, counted from 1: 0 where it was the head, and one
+    /// more than there are texts where it was the end.
     Memory {
         /// The number of the text.
         text: u64,
@@ -52,21 +56,23 @@ pub(crate) struct Running {
     pub(crate) ends: Vec<usize>,
 }
 
-/// Serves a round: the texts are run as one deck, behind a head of accounts and a catalogue, each as if it were alone.
+/// Serves a round: the texts are run as one deck, behind a head of accounts and a catalogue, each as if it were alone. What happens is
+/// put to the audit, a line each, as it happens, and written behind each text; no memory is taken for that.
 ///
 /// Fewer than 2^63 bytes may be served in all. The head's memory is let go once it is served.
 ///
 /// # Errors
 ///
-/// `Refused` at the first line that is refused; `Memory` where a growth was refused.
-pub fn run_round(
+/// `Refused` at the first line that is refused; `Memory` where a growth was refused, or the audit was not taken.
+pub fn run_round<A: Sink>(
     alloc: Global,
     options: Options,
     head: Vec<u8>,
     texts: &[Submission],
+    audit: &mut A,
 ) -> Result<Round, RoundError>
     requires { length (round_text head.items texts.now) < 2 ^ 63 }
-    ensures served { IfOk result (λ round. (marks : Marks) × IsServed options marks head.items texts.now round) }
+    ensures served { IfOk result (λ round. (marks : Marks) × IsServed options marks head.items texts.now round (A.standing audit.old) (A.standing audit.new)) }
     ensures refused { (n : ℕ) (code : AnyCode) → result ≡ Err (RoundError.Refused n code) → deck_ending (round_text head.items texts.now) ≡ Refused n code }
     ensures never { (table : List (List ℕ)) (accounts : List Account) (sets : Sets) (handed : List Handed) → IsGoodRound head.items texts.now table accounts sets handed
         → (n : ℕ) (code : AnyCode) → result ≡ Err (RoundError.Refused n code) → ⊥ }
@@ -74,39 +80,62 @@ pub fn run_round(
 {
     crate::laws::each_its_part();
     intake::laws::never_refused();
-    serve_round(alloc, options, head, texts)
+    match serve_round(alloc, options, head, texts, audit) {
+        Ok(round) => {
+            tell_end(options.check, audit);
+            Ok(round)
+        }
+        Err(error) => Err(error),
+    }
+}
+
+// Tells the audit that the round's deck has come to its end, unless it was only to be checked.
+#[tactic(auto, using(mon_device::proofs::Putting::puts_nothing))]
+fn tell_end<A: Sink>(check: bool, audit: &mut A)
+    ensures { (counts : AnyCounts) → Puts (A.standing audit.old) (A.standing audit.new) (end_told check (Ok counts)) }
+{
+    if !check {
+        print_stopped(audit);
+    }
 }
 
 // A round is served, whatever its deck is.
-fn serve_round(
+fn serve_round<A: Sink>(
     alloc: Global,
     options: Options,
     head: Vec<u8>,
     texts: &[Submission],
+    audit: &mut A,
 ) -> Result<Round, RoundError>
     requires { length (round_text head.items texts.now) < 2 ^ 63 }
-    ensures ended { IfOk result (λ round. (marks : Marks) × HasEnded options marks head.items texts.now round) }
+    ensures ended { IfOk result (λ round. (marks : Marks) × HasEnded options marks head.items texts.now round (A.standing audit.old) (A.standing audit.new)) }
     ensures refused { (n : ℕ) (code : AnyCode) → result ≡ Err (RoundError.Refused n code) → deck_ending (round_text head.items texts.now) ≡ Refused n code }
     ensures memory { (k : ℕ) → result ≡ Err (RoundError.Memory k) → k ≤ length texts.now + 1 }
 {
-    match begin(alloc, options, head) {
-        Ok(running) => serve_rest(running, alloc, texts),
+    match begin(alloc, options, head, audit) {
+        Ok(running) => serve_rest(running, alloc, texts, audit),
         Err(error) => Err(told_of(error, 0)),
     }
 }
 
 // The rest of a round is served, behind its head.
-fn serve_rest(running: Running, alloc: Global, texts: &[Submission]) -> Result<Round, RoundError>
-    requires { (options : AnyOptions) × (head : List ℕ) × Stands options head [] running × (length (round_text head texts.now) < 2 ^ 63) }
-    ensures ended { (options : AnyOptions) (head : List ℕ) → Stands options head [] running → IfOk result (λ round. (marks : Marks) × HasEnded options marks head texts.now round) }
-    ensures refused { (options : AnyOptions) (head : List ℕ) → Stands options head [] running → (n : ℕ) (code : AnyCode) → result ≡ Err (RoundError.Refused n code)
+fn serve_rest<A: Sink>(
+    running: Running,
+    alloc: Global,
+    texts: &[Submission],
+    audit: &mut A,
+) -> Result<Round, RoundError>
+    requires { (options : AnyOptions) × (head : List ℕ) × (a : Standing) × Stands options head [] running a (A.standing audit.old) × (length (round_text head texts.now) < 2 ^ 63) }
+    ensures ended { (options : AnyOptions) (head : List ℕ) (a : Standing) → Stands options head [] running a (A.standing audit.old)
+        → IfOk result (λ round. (marks : Marks) × HasEnded options marks head texts.now round a (A.standing audit.new)) }
+    ensures refused { (options : AnyOptions) (head : List ℕ) (a : Standing) → Stands options head [] running a (A.standing audit.old) → (n : ℕ) (code : AnyCode) → result ≡ Err (RoundError.Refused n code)
         → deck_ending (round_text head texts.now) ≡ Refused n code }
     ensures memory { (k : ℕ) → result ≡ Err (RoundError.Memory k) → k ≤ length texts.now + 1 }
 {
     let mut running = running;
-    serve_texts(&mut running, alloc, texts)?;
+    serve_texts(&mut running, alloc, texts, audit)?;
     let behind = texts.len() as u64 + 1;
-    match end(running, alloc) {
+    match end(running, alloc, audit) {
         Ok(round) => Ok(round),
         Err(error) => Err(told_of(error, behind)),
     }
@@ -119,15 +148,14 @@ fn told_of(error: RunError, text: u64) -> RoundError
 {
     match error {
         RunError::DeckRefused(line, code) => RoundError::Refused(line, code),
-        RunError::ReadFault | RunError::WriteFault | RunError::Memory => {
-            RoundError::Memory { text }
-        }
+        RunError::ReadFault | RunError::WriteFault | RunError::AuditFault | RunError::Memory =>
+            RoundError::Memory { text },
     }
 }
 
 // A round before its head.
 fn start(alloc: Global, options: Options) -> Result<Running, AllocError>
-    ensures { IfOk result (Stands options [] []) }
+    ensures { IfOk result (λ running. (a : Standing) → Stands options [] [] running a a) }
 {
     let printed = Printed::new(alloc)?;
     let feed = DeckFeed::new(alloc, options);
@@ -142,28 +170,39 @@ fn start(alloc: Global, options: Options) -> Result<Running, AllocError>
 }
 
 // The head of a round is served, and let go.
-fn begin(alloc: Global, options: Options, head: Vec<u8>) -> Result<Running, RunError>
+fn begin<A: Sink>(
+    alloc: Global,
+    options: Options,
+    head: Vec<u8>,
+    audit: &mut A,
+) -> Result<Running, RunError>
     requires { length head.items < 2 ^ 63 }
-    ensures stands { IfOk result (Stands options head.items []) }
+    ensures stands { IfOk result (λ running. Stands options head.items [] running (A.standing audit.old) (A.standing audit.new)) }
     ensures refused { (n : ℕ) (code : AnyCode) → result ≡ Err (RunError.DeckRefused n code) → (bytes : List ℕ) → deck_ending (head.items ++ bytes) ≡ Refused n code }
 {
     let mut running = start(alloc, options)?;
-    serve(&mut running, alloc, &head)?;
+    serve(&mut running, alloc, &head, audit)?;
     Ok(running)
 }
 
 // The texts of a round are served, behind its head.
-fn serve_texts(running: &mut Running, alloc: Global, texts: &[Submission]) -> Result<(), RoundError>
-    requires { (options : AnyOptions) × (head : List ℕ) × Stands options head [] running.old × (length (round_text head texts.now) < 2 ^ 63) }
-    ensures stands { (options : AnyOptions) (head : List ℕ) → Stands options head [] running.old → OnOk result (Stands options head texts.now running.new) }
-    ensures refused { (options : AnyOptions) (head : List ℕ) → Stands options head [] running.old → (n : ℕ) (code : AnyCode) → result ≡ Err (RoundError.Refused n code)
+fn serve_texts<A: Sink>(
+    running: &mut Running,
+    alloc: Global,
+    texts: &[Submission],
+    audit: &mut A,
+) -> Result<(), RoundError>
+    requires { (options : AnyOptions) × (head : List ℕ) × (a : Standing) × Stands options head [] running.old a (A.standing audit.old) × (length (round_text head texts.now) < 2 ^ 63) }
+    ensures stands { (options : AnyOptions) (head : List ℕ) (a : Standing) → Stands options head [] running.old a (A.standing audit.old)
+        → OnOk result (Stands options head texts.now running.new a (A.standing audit.new)) }
+    ensures refused { (options : AnyOptions) (head : List ℕ) (a : Standing) → Stands options head [] running.old a (A.standing audit.old) → (n : ℕ) (code : AnyCode) → result ≡ Err (RoundError.Refused n code)
         → deck_ending (round_text head texts.now) ≡ Refused n code }
     ensures memory { (k : ℕ) → result ≡ Err (RoundError.Memory k) → k ≤ length texts.now }
 {
     let mut number: u64 = 0;
     for text in texts {
         number += 1;
-        match serve_text(running, alloc, text) {
+        match serve_text(running, alloc, text, audit) {
             Ok(()) => {}
             Err(error) => return Err(told_of(error, number)),
         }
@@ -172,14 +211,20 @@ fn serve_texts(running: &mut Running, alloc: Global, texts: &[Submission]) -> Re
 }
 
 // A text and its fence are served, and where its printout ends is noted.
-fn serve_text(running: &mut Running, alloc: Global, text: &Submission) -> Result<(), RunError>
+fn serve_text<A: Sink>(
+    running: &mut Running,
+    alloc: Global,
+    text: &Submission,
+    audit: &mut A,
+) -> Result<(), RunError>
     requires few { running.old.feed.fed + length (with_fence text.now) < 2 ^ 63 }
     requires empty { running.old.printed ≡ [] }
-    ensures stands { (options : AnyOptions) (head : List ℕ) (done : List AnySubmission) → Stands options head done running.old → OnOk result (Stands options head (done ++ text.now ∷ []) running.new) }
+    ensures stands { (options : AnyOptions) (head : List ℕ) (done : List AnySubmission) (a : Standing) → Stands options head done running.old a (A.standing audit.old)
+        → OnOk result (Stands options head (done ++ text.now ∷ []) running.new a (A.standing audit.new)) }
     ensures refused { (n : ℕ) (code : AnyCode) → result ≡ Err (RunError.DeckRefused n code) → IsBad n code running.old.output.items running.old.feed (with_fence text.now) }
 {
-    serve(running, alloc, &text.text)?;
-    serve(running, alloc, b"$DRAIN\n")?;
+    serve(running, alloc, &text.text, audit)?;
+    serve(running, alloc, b"$DRAIN\n", audit)?;
     match running.ends.push(running.output.len()) {
         Ok(()) => Ok(()),
         Err(_) => Err(RunError::Memory),
@@ -187,23 +232,24 @@ fn serve_text(running: &mut Running, alloc: Global, text: &Submission) -> Result
 }
 
 // The round comes to its end.
-fn end(running: Running, alloc: Global) -> Result<Round, RunError>
+fn end<A: Sink>(running: Running, alloc: Global, audit: &mut A) -> Result<Round, RunError>
     requires few { running.feed.fed + 6 < 2 ^ 63 }
     requires empty { running.printed ≡ [] }
-    ensures ended { (options : AnyOptions) (head : List ℕ) (done : List AnySubmission) → Stands options head done running → IfOk result (λ round. (marks : Marks) × HasEnded options marks head done round) }
-    ensures refused { (options : AnyOptions) (head : List ℕ) (done : List AnySubmission) → Stands options head done running → (n : ℕ) (code : AnyCode) → result ≡ Err (RunError.DeckRefused n code)
+    ensures ended { (options : AnyOptions) (head : List ℕ) (done : List AnySubmission) (a : Standing) → Stands options head done running a (A.standing audit.old)
+        → IfOk result (λ round. (marks : Marks) × HasEnded options marks head done round a (A.standing audit.new)) }
+    ensures refused { (options : AnyOptions) (head : List ℕ) (done : List AnySubmission) (a : Standing) → Stands options head done running a (A.standing audit.old) → (n : ℕ) (code : AnyCode) → result ≡ Err (RunError.DeckRefused n code)
         → deck_ending (round_text head done) ≡ Refused n code }
 {
     let mut running = running;
-    serve(&mut running, alloc, b"$STOP\n")?;
-    finish_round(running, alloc)
+    serve(&mut running, alloc, b"$STOP\n", audit)?;
+    finish_round(running, alloc, audit)
 }
 
 // Behind the end of the deck, what is left is written.
-fn finish_round(running: Running, alloc: Global) -> Result<Round, RunError>
+fn finish_round<A: Sink>(running: Running, alloc: Global, audit: &mut A) -> Result<Round, RunError>
     requires { running.printed ≡ [] }
     ensures ends { IfOk result (λ round. round.ends.items ≡ running.ends.items) }
-    ensures ended { IfOk result (Finishes running) }
+    ensures ended { IfOk result (λ round. Finishes running round (A.standing audit.old) (A.standing audit.new)) }
     ensures refused { (n : ℕ) (code : AnyCode) → result ≡ Err (RunError.DeckRefused n code) → IsBadAtEnd n code running.feed }
 {
     let Running {
@@ -212,16 +258,21 @@ fn finish_round(running: Running, alloc: Global) -> Result<Round, RunError>
         mut output,
         ends,
     } = running;
-    feed.finish(alloc, &mut printed)?;
+    feed.finish(alloc, &mut printed, audit)?;
     move_out(&mut printed, &mut output)?;
     Ok(Round { output, ends })
 }
 
-// A piece of the deck is served.
-fn serve(running: &mut Running, alloc: Global, piece: &[u8]) -> Result<(), RunError>
+// A piece of the deck is served, and what the audit has gathered is written.
+fn serve<A: Sink>(
+    running: &mut Running,
+    alloc: Global,
+    piece: &[u8],
+    audit: &mut A,
+) -> Result<(), RunError>
     requires few { running.old.feed.fed + length piece.now < 2 ^ 63 }
     requires empty { running.old.printed ≡ [] }
-    ensures told { OnOk result (Took running.old.output.items running.old.feed piece.now running.new.output.items running.new.feed) }
+    ensures told { OnOk result (Took running.old.output.items running.old.feed piece.now running.new.output.items running.new.feed (A.standing audit.old) (A.standing audit.new)) }
     ensures refused { (n : ℕ) (code : AnyCode) → result ≡ Err (RunError.DeckRefused n code) → IsBad n code running.old.output.items running.old.feed piece.now }
     ensures settled { EndsLine piece.now → OnOk result (is_reading running.new.feed.state ≡ true → running.new.feed.line ≡ []) }
     ensures empty { OnOk result (running.new.printed ≡ []) }
@@ -230,9 +281,14 @@ fn serve(running: &mut Running, alloc: Global, piece: &[u8]) -> Result<(), RunEr
     ensures fed { OnOk result (running.new.feed.fed ≡ running.old.feed.fed + length piece.now) }
     ensures reads_back { IsReadBack running.old.feed.options.check running.old.feed.state → OnOk result (IsReadBack running.new.feed.options.check running.new.feed.state) }
 {
-    running.feed.feed(alloc, piece, &mut running.printed)?;
+    running
+        .feed
+        .feed(alloc, piece, &mut running.printed, audit)?;
     move_out(&mut running.printed, &mut running.output)?;
-    Ok(())
+    match audit.flush() {
+        Ok(()) => Ok(()),
+        Err(Failed) => Err(RunError::AuditFault),
+    }
 }
 
 // What is printed is moved behind the output.

@@ -2,7 +2,8 @@
 ghost use Rattle.std.specs.Prelude.{◌≡◌, ◌<◌, false};
 
 use deck_run::{
-    Counts, DeckError, DeckFeed, Devices, MemReader, MemWriter, Options, RunError, run_deck,
+    Counts, DeckError, DeckFeed, Devices, MemReader, MemWriter, NoAudit, Options, RunError,
+    run_deck,
 };
 use mon_device::TextSink;
 use mon_monitor::Printed;
@@ -31,7 +32,7 @@ fn run_of(alloc: Global, reader: MemReader<'_>, options: Options) -> Result<Run,
 {
     let writer = MemWriter::new(alloc, ROOM)?;
     let mut devices = Devices::new(reader, writer);
-    let outcome = run_deck(alloc, &mut devices, options);
+    let outcome = run_deck(alloc, &mut devices, options, &mut NoAudit);
     let Devices { reader: _, writer } = devices;
     Ok(Run { outcome, writer })
 }
@@ -89,7 +90,7 @@ fn feed_byte(
     out: &mut Vec<u8>,
 ) -> Result<u64, RunError> {
     if feed.fed() < MANY_BYTES {
-        feed.feed(alloc, &[byte], printed)?;
+        feed.feed(alloc, &[byte], printed, &mut NoAudit)?;
         gather(printed, out)?;
     }
     Ok(feed.fed())
@@ -151,7 +152,7 @@ fn first_bad_byte(alloc: Global, deck: &[u8], options: Options, whole: &Run) -> 
     let mut out = Vec::new(alloc);
     match feed_all(alloc, &mut feed, deck, whole, &mut printed, &mut out) {
         Fed::All => {
-            let outcome = feed.finish(alloc, &mut printed);
+            let outcome = feed.finish(alloc, &mut printed, &mut NoAudit);
             let is_as_whole = gather(&mut printed, &mut out).is_ok()
                 && came_out(whole, &outcome, &out);
             if is_as_whole { None } else { Some(deck.len()) }

@@ -4,6 +4,8 @@ use Rattle.std.proofs.lemmas.Iterator.Adapters.{position_from-zero}
 use Rattle.std.specs.Prelude.{◌⊎◌, is_some, is_none, IsSome, slice_get, slice_set, position, drop}
 use Rattle.std.specs.List.{range_with_len, position_from, list_all}
 use Rattle.std.specs.Option.{option_flatten}
+use Rattle.mon_device.specs.Putting.{Standing, Puts}
+use Rattle.mon_device.proofs.Putting.{puts_nothing}
 use Rattle.mon_catalogue.specs.Sets.{Sets}
 use Rattle.sno_run.specs.declared.ending.Ending.{Ending}
 use Rattle.sno_run.specs.declared.ending.Step.{Step}
@@ -16,6 +18,7 @@ use Rattle.scheduler.specs.Abstraction.{seat_of, seats_of}
 use Rattle.scheduler.specs.States.{SlotState, SchedulerState, scheduler, seat_at, with_seat, job_in}
 use Rattle.scheduler.specs.Turns.{job_end, seat, told}
 use Rattle.scheduler.specs.Marks.{turns_left, is_done}
+use Rattle.scheduler.specs.AuditLines.{ended_line, end_lines}
 use Rattle.scheduler.specs.Turning.{TurnOr, ended_in}
 use Rattle.scheduler.specs.inner.Stepping.{Stepped, jobs_in}
 use Rattle.scheduler.specs.inner.Rounding.{Ahead, Going}
@@ -124,83 +127,85 @@ lone_with s slots slot slot' is lone =
 
 -- A ROUND
 
-module _ (E : List ℕ) (w : SchedulerState) where
+module _ (E : List ℕ) (w : SchedulerState) (x : Standing) where
   -- empty slots before the job's
   before : (k a m n b : ℕ) → n ≡ k + m → b ≡ a + k → is_done w ≡ false → ((j : ℕ) → j < b → job_in j w ≡ None)
-      → Ahead is_done E w [] (range_with_len a n) w → Ahead is_done E w [] (range_with_len b m) w
+      → Ahead is_done E w [] (range_with_len a n) w x x → Ahead is_done E w [] (range_with_len b m) w x x
   before zero a m n b size number busy none h =
       let e : n ≡ m = omega (arith, size) in
       let f : a ≡ b = omega (arith, number) in
-      subst (λ (x : ℕ). Ahead is_done E w [] (range_with_len x m) w) f (subst (λ (x : ℕ). Ahead is_done E w [] (range_with_len a x) w) e h)
+      subst (λ (k : ℕ). Ahead is_done E w [] (range_with_len k m) w x x) f (subst (λ (k : ℕ). Ahead is_done E w [] (range_with_len a k) w x x) e h)
   before (suc k) a m n b size number busy none h =
       let e : n ≡ suc (k + m) = omega (arith, size) in
-      let here : Ahead is_done E w [] (a ∷ range_with_len (a + 1) (k + m)) w = subst (λ (x : ℕ). Ahead is_done E w [] (range_with_len a x) w) e h in
+      let here : Ahead is_done E w [] (a ∷ range_with_len (a + 1) (k + m)) w x x = subst (λ (i : ℕ). Ahead is_done E w [] (range_with_len a i) w x x) e h in
       before k (a + 1) m (k + m) b refl (omega (arith, number)) busy none
-      (ahead_more is_done E w [] [] a (range_with_len (a + 1) (k + m)) w w Empty busy here (empty_turn a w (none a (omega (arith, number)))) refl)
+      (ahead_more is_done E w [] [] a (range_with_len (a + 1) (k + m)) w w Empty x x x busy here (empty_turn a w x (none a (omega (arith, number)))) refl)
 
   -- and behind it
-  behind : (m a : ℕ) (ends : List JobEnd) (v : SchedulerState) → ((j : ℕ) → a ≤ j → job_in j v ≡ None)
-      → Ahead is_done E w ends (range_with_len a m) v → Ahead is_done E w ends [] v
-  behind zero a ends v none h = h
-  behind (suc m) a ends v none h = behind m (a + 1) ends v (λ j less. none j (omega (arith, less))) (by (either_way (is_done v)))
+  behind : (m a : ℕ) (ends : List JobEnd) (v : SchedulerState) (y : Standing) → ((j : ℕ) → a ≤ j → job_in j v ≡ None)
+      → Ahead is_done E w ends (range_with_len a m) v x y → Ahead is_done E w ends [] v x y
+  behind zero a ends v y none h = h
+  behind (suc m) a ends v y none h = behind m (a + 1) ends v y (λ j less. none j (omega (arith, less))) (by (either_way (is_done v)))
     where
-      by : (is_done v ≡ true) ⊎ (is_done v ≡ false) → Ahead is_done E w ends (range_with_len (a + 1) m) v
-      by (inl done) = ahead_skip is_done E w ends a (range_with_len (a + 1) m) v done h
-      by (inr busy) = ahead_more is_done E w ends ends a (range_with_len (a + 1) m) v v Empty busy h (empty_turn a v (none a (omega arith))) (sym (append_empty ends))
+      by : (is_done v ≡ true) ⊎ (is_done v ≡ false) → Ahead is_done E w ends (range_with_len (a + 1) m) v x y
+      by (inl done) = ahead_skip is_done E w ends a (range_with_len (a + 1) m) v x y done h
+      by (inr busy) = ahead_more is_done E w ends ends a (range_with_len (a + 1) m) v v Empty x y y busy h (empty_turn a v y (none a (omega arith))) (sym (append_empty ends))
 
 -- the turn of the job that is alone is a whole round
-lone_round : (s : ℕ) (w : SchedulerState) (sets' : Sets) (slot : SlotState) (o : Option SlotState) (t : Turned) → job_in s w ≡ Some slot → IsLone s w.slots
-    → TurnOr s w t (scheduler sets' (with_seat s o w.slots)) → Ahead is_done (range_with_len 1 (length w.slots)) w (ended_in t) [] (scheduler sets' (with_seat s o w.slots))
-lone_round zero w sets' slot o t is lone one = absurd (let k : None ≡ Some slot = is in cc (k))
-lone_round (suc i) w sets' slot o t is lone one =
+lone_round : (s : ℕ) (w : SchedulerState) (sets' : Sets) (slot : SlotState) (o : Option SlotState) (t : Turned) (x y : Standing) → job_in s w ≡ Some slot → IsLone s w.slots
+    → TurnOr s w t (scheduler sets' (with_seat s o w.slots)) x y → Ahead is_done (range_with_len 1 (length w.slots)) w (ended_in t) [] (scheduler sets' (with_seat s o w.slots)) x y
+lone_round zero w sets' slot o t x y is lone one = absurd (let k : None ≡ Some slot = is in cc (k))
+lone_round (suc i) w sets' slot o t x y is lone one =
     let E = range_with_len 1 (length w.slots) in
     let w' : SchedulerState = scheduler sets' (with_seat (suc i) o w.slots) in
     let busy = seated_not_done (suc i) w.slots lone.0 in
     let within = get_within w.slots i lone.0 in
     let m : ℕ = length w.slots - suc i in
     let size : length w.slots ≡ i + suc m = omega (arith, within) in
-    let here : Ahead is_done E w [] (range_with_len (suc i) (suc m)) w =
-    before E w i 1 (suc m) (length w.slots) (suc i) size (omega arith) busy (λ j less. lone.1 j (λ e. omega (arith, e, less))) (begin is_done E w) in
-    let turned : Ahead is_done E w (ended_in t) (range_with_len (suc i + 1) m) w' =
-    ahead_more is_done E w [] (ended_in t) (suc i) (range_with_len (suc i + 1) m) w w' t busy here one refl in
-    behind E w m (suc i + 1) (ended_in t) w'
+    let here : Ahead is_done E w [] (range_with_len (suc i) (suc m)) w x x =
+    before E w x i 1 (suc m) (length w.slots) (suc i) size (omega arith) busy (λ j less. lone.1 j (λ e. omega (arith, e, less))) (begin is_done E w x) in
+    let turned : Ahead is_done E w (ended_in t) (range_with_len (suc i + 1) m) w' x y =
+    ahead_more is_done E w [] (ended_in t) (suc i) (range_with_len (suc i + 1) m) w w' t x x y busy here one refl in
+    behind E w x m (suc i + 1) (ended_in t) w' y
     (λ j more. seat_beside (suc i) w.slots slot o is j (λ e. omega (arith, e, more)) ∙ lone.1 j (λ e. omega (arith, e, more))) turned
 
 -- TURNS
 
-pub goes_begins : (slot : SlotState) (sets : Sets) → GoesOn slot sets slot sets
-goes_begins slot sets = record {
+pub goes_begins : (slot : SlotState) (sets : Sets) (a : Standing) → GoesOn slot sets slot sets a a
+goes_begins slot sets a = record {
   rounds = λ s slots is lone.
-      subst (λ (l : List (Option SlotState)). Going is_done (scheduler sets slots) [] (scheduler sets l)) (sym (seat_kept s slots slot is)) (going_begins is_done (scheduler sets slots));
+      subst (λ (l : List (Option SlotState)). Going is_done (scheduler sets slots) [] (scheduler sets l) a a) (sym (seat_kept s slots slot is)) (going_begins is_done (scheduler sets slots) a);
 }
 
-module _ (slot : SlotState) (sets : Sets) (now : SlotState) (sets' : Sets) (after : SlotState) (sets_after : Sets) (on : GoesOn slot sets now sets') where
+module _ (slot : SlotState) (sets : Sets) (now : SlotState) (sets' : Sets) (after : SlotState) (sets_after : Sets) (a b c : Standing) (on : GoesOn slot sets now sets' a b) where
   -- one more is a round more
-  one_more : (st : Step) → Stepped now sets' st after sets_after → (s : ℕ) (slots : List (Option SlotState)) → seat_at s slots ≡ Some slot → IsLone s slots
-      → Going is_done (scheduler sets slots) (ended_in (told st after)) (scheduler sets_after (with_seat s (seat st after) slots))
-  one_more st one s slots is lone =
+  one_more : (st : Step) (d : Standing) → Stepped now sets' st after sets_after b c → Puts c d (end_lines (told st after)) → (s : ℕ) (slots : List (Option SlotState)) → seat_at s slots ≡ Some slot
+      → IsLone s slots → Going is_done (scheduler sets slots) (ended_in (told st after)) (scheduler sets_after (with_seat s (seat st after) slots)) a d
+  one_more st d one put s slots is lone =
       let there : List (Option SlotState) = with_seat s (Some now) slots in
       let taken : seat_at s there ≡ Some now = seat_placed s slots slot (Some now) is in
       let still : IsLone s there = lone_with s slots slot now is lone in
-      let turn : TurnOr s (scheduler sets' there) (told st after) (scheduler sets_after (with_seat s (seat st after) there)) = stepped_turn s sets' sets_after there now after taken st one in
-      let round = lone_round s (scheduler sets' there) sets_after now (seat st after) (told st after) taken still turn in
-      subst (λ (l : List (Option SlotState)). Going is_done (scheduler sets slots) (ended_in (told st after)) (scheduler sets_after l)) (seat_twice s (Some now) (seat st after) slots)
-      (going_more is_done (scheduler sets slots) [] (scheduler sets' there) (scheduler sets_after (with_seat s (seat st after) there)) (ended_in (told st after))
+      let turn : TurnOr s (scheduler sets' there) (told st after) (scheduler sets_after (with_seat s (seat st after) there)) b d =
+      stepped_turn s sets' sets_after there now after b c d taken st one put in
+      let round = lone_round s (scheduler sets' there) sets_after now (seat st after) (told st after) b d taken still turn in
+      subst (λ (l : List (Option SlotState)). Going is_done (scheduler sets slots) (ended_in (told st after)) (scheduler sets_after l) a d) (seat_twice s (Some now) (seat st after) slots)
+      (going_more is_done (scheduler sets slots) [] (scheduler sets' there) (scheduler sets_after (with_seat s (seat st after) there)) (ended_in (told st after)) a b d
       (λ v size done. done) (seated_not_done s there still.0) (on.rounds s slots is lone) round)
 
-  pub goes_more : (st : Step) → st ≡ step.Goes → Stepped now sets' st after sets_after → GoesOn slot sets after sets_after
-  goes_more st goes one = record { rounds = one_more step.Goes (subst (λ (k : Step). Stepped now sets' k after sets_after) goes one) }
+  pub goes_more : (st : Step) → st ≡ step.Goes → Stepped now sets' st after sets_after b c → GoesOn slot sets after sets_after a c
+  goes_more st goes one = record { rounds = one_more step.Goes c (subst (λ (k : Step). Stepped now sets' k after sets_after b c) goes one) (puts_nothing c) }
 
-  pub goes_to_end : (st : Step) (e : Ending) → st ≡ step.Ended e → Stepped now sets' st after sets_after → GoesToEnd slot sets e after sets_after
-  goes_to_end st e ended one = record { rounds = one_more (step.Ended e) (subst (λ (k : Step). Stepped now sets' k after sets_after) ended one) }
+  pub goes_to_end : (st : Step) (e : Ending) → st ≡ step.Ended e → Stepped now sets' st after sets_after b c → GoesToEnd slot sets e after sets_after a c
+  goes_to_end st e ended one = record { rounds = λ d put. one_more (step.Ended e) d (subst (λ (k : Step). Stepped now sets' k after sets_after b c) ended one) put }
 
 -- and leaves fewer turns
-pub goes_less : (slot : SlotState) (sets : Sets) (slot' : SlotState) (sets' : Sets) (st : Step) → st ≡ step.Goes → Stepped slot sets st slot' sets'
+pub goes_less : (slot : SlotState) (sets : Sets) (slot' : SlotState) (sets' : Sets) (st : Step) (a b : Standing) → st ≡ step.Goes → Stepped slot sets st slot' sets' a b
     → turns_ahead (Some slot') < turns_ahead (Some slot)
-goes_less slot sets slot' sets' st goes h =
+goes_less slot sets slot' sets' st a b goes h =
     let w : SchedulerState = scheduler sets (Some slot ∷ []) in
     let w' : SchedulerState = scheduler sets' (Some slot' ∷ []) in
-    let one : TurnOr 1 w Goes w' = stepped_turn 1 sets sets' (Some slot ∷ []) slot slot' refl step.Goes (subst (λ (k : Step). Stepped slot sets k slot' sets') goes h) in
+    let one : TurnOr 1 w Goes w' a b =
+    stepped_turn 1 sets sets' (Some slot ∷ []) slot slot' a b b refl step.Goes (subst (λ (k : Step). Stepped slot sets k slot' sets' a b) goes h) (puts_nothing b) in
     by (subst (λ (p : Turned × SchedulerState). Falls 1 w p.1) one.is (falls one.mark 1 w))
   where
     by : Falls 1 (scheduler sets (Some slot ∷ [])) (scheduler sets' (Some slot' ∷ [])) → turns_ahead (Some slot') < turns_ahead (Some slot)
@@ -209,9 +214,9 @@ goes_less slot sets slot' sets' st goes h =
 
 -- THE SLOTS
 
-module _ (s : ℕ) (sets sets' : Sets) (slots : List (Option SlotState)) (lone : IsLone s slots) where
-  ended_in_slots : (slot : SlotState) (r : Option Ending) (seat' : Option SlotState) → seat_at s slots ≡ Some slot → (h : EndStays slot sets r seat' sets')
-      → LoneEnds s (scheduler sets slots) h.ending (scheduler sets' (with_seat s (Some h.after) slots))
+module _ (s : ℕ) (sets sets' : Sets) (slots : List (Option SlotState)) (a b : Standing) (lone : IsLone s slots) where
+  ended_in_slots : (slot : SlotState) (r : Option Ending) (seat' : Option SlotState) → seat_at s slots ≡ Some slot → (h : EndStays slot sets r seat' sets' a b)
+      → LoneEnds s (scheduler sets slots) h.ending (scheduler sets' (with_seat s (Some h.after) slots)) a b
   ended_in_slots slot r seat' is h =
       let left : List (Option SlotState) = with_seat s None slots in
       let out : left ≡ with_seat s None (with_seat s (Some h.after) slots) = sym (seat_twice s (Some h.after) None slots) in
@@ -220,28 +225,30 @@ module _ (s : ℕ) (sets sets' : Sets) (slots : List (Option SlotState)) (lone :
       record {
         slot = h.after;
         there = seat_placed s slots slot (Some h.after) is;
-        is = subst (λ (l : List (Option SlotState)). Going is_done (scheduler sets slots) (job_end h.after h.ending ∷ []) (scheduler sets' l)) out (h.goes.rounds s slots is lone);
+        is = λ c put.
+            subst (λ (l : List (Option SlotState)). Going is_done (scheduler sets slots) (job_end h.after h.ending ∷ []) (scheduler sets' l) a c) out (h.goes.rounds c put s slots is lone);
         less = subst (λ (l : List (Option SlotState)). suc (turns_left l) ≤ turns_left slots) out (with_less s slots slot None is (omega arith));
         jobs = subst (λ (l : List (Option SlotState)). suc (jobs_in l) ≡ jobs_in slots) out jobs_left;
       }
 
-  seat_ends : (o : Option SlotState) (r : Option Ending) (seat' : Option SlotState) (e : Ending) → seat_at s slots ≡ o → SeatEnds o sets r seat' sets' → r ≡ Some e
-      → LoneEnds s (scheduler sets slots) e (scheduler sets' (with_seat s seat' slots))
+  seat_ends : (o : Option SlotState) (r : Option Ending) (seat' : Option SlotState) (e : Ending) → seat_at s slots ≡ o → SeatEnds o sets r seat' sets' a b → r ≡ Some e
+      → LoneEnds s (scheduler sets slots) e (scheduler sets' (with_seat s seat' slots)) a b
   seat_ends None r seat' e is h tells = absurd (let job = lone.0 in cc (job, is))
   seat_ends (Some slot) r seat' e is h tells =
       let same : h.ending ≡ e = (let t = h.tells in cc (t, tells)) in
-      subst (λ (o : Option SlotState). LoneEnds s (scheduler sets slots) e (scheduler sets' (with_seat s o slots))) (sym h.stays)
-      (subst (λ (x : Ending). LoneEnds s (scheduler sets slots) x (scheduler sets' (with_seat s (Some h.after) slots))) same (ended_in_slots slot r seat' is h))
+      subst (λ (o : Option SlotState). LoneEnds s (scheduler sets slots) e (scheduler sets' (with_seat s o slots)) a b) (sym h.stays)
+      (subst (λ (x : Ending). LoneEnds s (scheduler sets slots) x (scheduler sets' (with_seat s (Some h.after) slots)) a b) same (ended_in_slots slot r seat' is h))
 
-  pub seat_tells : (o : Option SlotState) (r : Option Ending) (seat' : Option SlotState) → seat_at s slots ≡ o → SeatEnds o sets r seat' sets' → IsSome r
+  pub seat_tells : (o : Option SlotState) (r : Option Ending) (seat' : Option SlotState) → seat_at s slots ≡ o → SeatEnds o sets r seat' sets' a b → IsSome r
   seat_tells None r seat' is h = absurd (let job = lone.0 in cc (job, is))
   seat_tells (Some slot) r seat' is h = ap is_some h.tells
 
 -- those of the program
-pub slots_end : (i s : ℕ) (sets sets' : Sets) (slots : List (Option Slot)) (o o' : Option Slot) (r : Option Ending) (e : Ending) → s ≡ suc i → slice_get slots i ≡ Some o
-    → IsLone s (seats_of slots) → SeatEnds (seat_of o) sets r (seat_of o') sets' → r ≡ Some e → LoneEnds s (scheduler sets (seats_of slots)) e (scheduler sets' (seats_of (slice_set slots i o')))
-slots_end i s sets sets' slots o o' r e number is lone h tells =
+pub slots_end : (i s : ℕ) (sets sets' : Sets) (slots : List (Option Slot)) (o o' : Option Slot) (r : Option Ending) (e : Ending) (a b : Standing) → s ≡ suc i → slice_get slots i ≡ Some o
+    → IsLone s (seats_of slots) → SeatEnds (seat_of o) sets r (seat_of o') sets' a b → r ≡ Some e
+    → LoneEnds s (scheduler sets (seats_of slots)) e (scheduler sets' (seats_of (slice_set slots i o'))) a b
+slots_end i s sets sets' slots o o' r e a b number is lone h tells =
     let changed : with_seat s (seat_of o') (seats_of slots) ≡ seats_of (slice_set slots i o') =
     ap (λ (n : ℕ). with_seat n (seat_of o') (seats_of slots)) number ∙ sym (map_set seat_of slots i o') in
-    subst (λ (l : List (Option SlotState)). LoneEnds s (scheduler sets (seats_of slots)) e (scheduler sets' l)) changed
-    (seat_ends s sets sets' (seats_of slots) lone (seat_of o) r (seat_of o') e (seat_is i s slots o number is) h tells)
+    subst (λ (l : List (Option SlotState)). LoneEnds s (scheduler sets (seats_of slots)) e (scheduler sets' l) a b) changed
+    (seat_ends s sets sets' (seats_of slots) a b lone (seat_of o) r (seat_of o') e (seat_is i s slots o number is) h tells)

@@ -4,15 +4,18 @@ use Rattle.std.specs.Prelude.{slice_get, slice_set}
 use Rattle.std.specs.Option.{option_flatten}
 use Rattle.sno_run.specs.declared.ending.Step.{Step}
 use Rattle.sno_run.specs.declared.ending.Step.TheVariants as step
+use Rattle.mon_device.specs.Putting.{Standing}
 use Rattle.scheduler.specs.declared.job_end.JobEnd.{JobEnd}
 use Rattle.scheduler.specs.declared.turned.Turned.{Turned}
 use Rattle.scheduler.specs.declared.turned.Turned.TheVariants.{Empty, Goes, Ended}
 use Rattle.scheduler.specs.States.{SlotState, SchedulerState, seat_at, with_seat, job_in}
 use Rattle.scheduler.specs.Turns.{after_turn, job_end, seat, told, ends_by}
 use Rattle.scheduler.specs.Marks.{Mark, Marks, ran_as, nothing, ends_then, until, never}
+use Rattle.scheduler.specs.Exchanged.{asked_in}
+use Rattle.scheduler.specs.AuditLines.{exchanged_lines, end_lines, turn_lines, lines_until}
 use Rattle.scheduler.specs.Turning.{TurnOr, UntilIs, MarkedIs}
 use Rattle.scheduler.specs.inner.Rounding.{Ahead}
-use Rattle.scheduler.proofs.Rounding.{passed, begin, ahead_more}
+use Rattle.scheduler.proofs.Rounding.{append_empty, passed, begin, ahead_more}
 use Rattle.scheduler.proofs.Shorthand.{turn_as_by}
 
 not_empty : (st : Step) (slot : SlotState) → told st slot ≡ Empty → ⊥
@@ -55,40 +58,54 @@ idle s (suc n) rest w h =
     ap (λ (o : Option SlotState). let t = turn_as_by None s o w in ends_then (ends_by s t.0) (until never (replicate n s) (replicate n None ++ rest) t.1)) h
     ∙ ap (ends_then []) (idle s n rest w h)
 
-rest_idle : (E : List ℕ) (w : SchedulerState) (ends : List JobEnd) (s n : ℕ) (now : SchedulerState) → job_in s now ≡ None
-    → Ahead never E w ends (replicate n s) now → UntilIs never E w ends now
-rest_idle E w ends s n now none h = record {
+-- and put no line
+idle_lines : (s n : ℕ) (rest : Marks) (w : SchedulerState) → job_in s w ≡ None → lines_until never (replicate n s) (replicate n None ++ rest) w ≡ []
+idle_lines s zero rest w h = refl
+idle_lines s (suc n) rest w h =
+    ap (λ (o : Option SlotState). let t = turn_as_by None s o w in (exchanged_lines (asked_in None o w.sets) ++ end_lines t.0) ++ lines_until never (replicate n s) (replicate n None ++ rest) t.1) h
+    ∙ idle_lines s n rest w h
+
+rest_idle : (E : List ℕ) (w : SchedulerState) (ends : List JobEnd) (s n : ℕ) (now : SchedulerState) (a b : Standing) → job_in s now ≡ None
+    → Ahead never E w ends (replicate n s) now a b → UntilIs never E w ends now a b
+rest_idle E w ends s n now a b none h = record {
   marks = h.marks ++ replicate n None;
   is = λ rest. passed h.numbered ends now rest (until never E ((h.marks ++ replicate n None) ++ rest) w) h.ended
       (ap (λ (m : Marks). until never E m w) (append_assoc h.marks (replicate n None) rest) ∙ h.is (replicate n None ++ rest)
       ∙ ap (ends_then h.numbered) (idle s n rest now none));
+  lines = h.lines;
+  tells = λ rest.
+      ap (λ (m : Marks). lines_until never E m w) (append_assoc h.marks (replicate n None) rest) ∙ h.tells (replicate n None ++ rest)
+      ∙ ap (λ (l : List ℕ). h.lines ++ l) (idle_lines s n rest now none) ∙ append_empty h.lines;
+  audited = h.audited;
 }
 
 module _ (s count : ℕ) (w : SchedulerState) where
-  pub giving_begins : Ahead never (replicate count s) w [] (replicate (count - 0) s) w
-  giving_begins =
+  pub giving_begins : (a : Standing) → Ahead never (replicate count s) w [] (replicate (count - 0) s) w a a
+  giving_begins a =
       let e : count ≡ count - 0 = omega arith in
-      subst (λ (n : ℕ). Ahead never (replicate count s) w [] (replicate n s) w) e (begin never (replicate count s) w)
+      subst (λ (n : ℕ). Ahead never (replicate count s) w [] (replicate n s) w a a) e (begin never (replicate count s) w a)
 
-  module _ (i : ℕ) (now now' : SchedulerState) (t : Turned) (h : Ahead never (replicate count s) w [] (replicate (count - i) s) now) (one : TurnOr s now t now') where
-    next : i < count → Ahead never (replicate count s) w [] (s ∷ replicate (count - (i + 1)) s) now
+  module _ (i : ℕ) (now now' : SchedulerState) (t : Turned) (a b c : Standing) (h : Ahead never (replicate count s) w [] (replicate (count - i) s) now a b) (one : TurnOr s now t now' b c) where
+    next : i < count → Ahead never (replicate count s) w [] (s ∷ replicate (count - (i + 1)) s) now a b
     next few =
         let e : count - i ≡ suc (count - (i + 1)) = omega (arith, few) in
-        subst (λ (n : ℕ). Ahead never (replicate count s) w [] (replicate n s) now) e h
+        subst (λ (n : ℕ). Ahead never (replicate count s) w [] (replicate n s) now a b) e h
 
-    pub giving_goes : i < count → t ≡ Goes → Ahead never (replicate count s) w [] (replicate (count - (i + 1)) s) now'
+    pub giving_goes : i < count → t ≡ Goes → Ahead never (replicate count s) w [] (replicate (count - (i + 1)) s) now' a c
     giving_goes few goes =
-        let turn : TurnOr s now Goes now' = subst (λ (u : Turned). TurnOr s now u now') goes one in
-        ahead_more never (replicate count s) w [] [] s (replicate (count - (i + 1)) s) now now' Goes refl (next few) turn refl
+        let turn : TurnOr s now Goes now' b c = subst (λ (u : Turned). TurnOr s now u now' b c) goes one in
+        ahead_more never (replicate count s) w [] [] s (replicate (count - (i + 1)) s) now now' Goes a b c refl (next few) turn refl
 
-    pub giving_empty : t ≡ Empty → MarkedIs (replicate count s) w [] now'
-    giving_empty none =
-        let e = empty_by one.mark s now now' (job_in s now) (subst (λ (u : Turned). turn_as_by one.mark s (job_in s now) now ≡ (u, now')) none one.is) in
-        subst (λ (v : SchedulerState). MarkedIs (replicate count s) w [] v) (sym e.1) (rest_idle (replicate count s) w [] s (count - i) now e.0 h)
+    pub giving_empty : i < count → t ≡ Empty → MarkedIs (replicate count s) w [] now' a c
+    giving_empty few none =
+        let turn : TurnOr s now Empty now' b c = subst (λ (u : Turned). TurnOr s now u now' b c) none one in
+        let e = empty_by turn.mark s now now' (job_in s now) turn.is in
+        rest_idle (replicate count s) w [] s (count - (i + 1)) now' a c (subst (λ (v : SchedulerState). job_in s v ≡ None) (sym e.1) e.0)
+        (ahead_more never (replicate count s) w [] [] s (replicate (count - (i + 1)) s) now now' Empty a b c refl (next few) turn refl)
 
-    pub giving_ended : i < count → (e : JobEnd) → t ≡ Ended e → MarkedIs (replicate count s) w (e ∷ []) now'
+    pub giving_ended : i < count → (e : JobEnd) → t ≡ Ended e → MarkedIs (replicate count s) w (e ∷ []) now' a c
     giving_ended few e ended =
-        let turn : TurnOr s now (Ended e) now' = subst (λ (u : Turned). TurnOr s now u now') ended one in
+        let turn : TurnOr s now (Ended e) now' b c = subst (λ (u : Turned). TurnOr s now u now' b c) ended one in
         let none = ended_by turn.mark s now now' (job_in s now) e turn.is in
-        rest_idle (replicate count s) w (e ∷ []) s (count - (i + 1)) now' none
-        (ahead_more never (replicate count s) w [] (e ∷ []) s (replicate (count - (i + 1)) s) now now' (Ended e) refl (next few) turn refl)
+        rest_idle (replicate count s) w (e ∷ []) s (count - (i + 1)) now' a c none
+        (ahead_more never (replicate count s) w [] (e ∷ []) s (replicate (count - (i + 1)) s) now now' (Ended e) a b c refl (next few) turn refl)

@@ -3,6 +3,8 @@ pub mod Abstraction
 pub mod Turns
 pub mod Marks
 pub mod Rounds
+pub mod Exchanged
+pub mod AuditLines
 pub mod Turning
 pub mod Loads
 pub mod Memory

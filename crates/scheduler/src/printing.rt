@@ -144,7 +144,7 @@ fn print_ending<S: Sink>(ending: Ending, statements: u64, sink: &mut S)
     sink.put(b"\n");
 }
 
-fn print_ending_words<S: Sink>(ending: Ending, sink: &mut S)
+pub(crate) fn print_ending_words<S: Sink>(ending: Ending, sink: &mut S)
     ensures { Puts (S.standing sink.old) (S.standing sink.new) (ending_words ending) }
 {
     match ending {

@@ -91,7 +91,7 @@ fn print_unit_refusal<S: Sink>(error: UnitError, sink: &mut S)
     sink.put(b"\n");
 }
 
-fn print_unit_words<S: Sink>(error: UnitError, sink: &mut S)
+pub(crate) fn print_unit_words<S: Sink>(error: UnitError, sink: &mut S)
     ensures { Puts (S.standing sink.old) (S.standing sink.new) (unit_refusal error) }
 {
     match error {
@@ -114,7 +114,7 @@ fn print_syntax_refusal<S: Sink>(error: SyntaxError, sink: &mut S)
     sink.put(b"\n");
 }
 
-fn print_syntax_words<S: Sink>(error: SyntaxError, sink: &mut S)
+pub(crate) fn print_syntax_words<S: Sink>(error: SyntaxError, sink: &mut S)
     ensures { Puts (S.standing sink.old) (S.standing sink.new) (syntax_words error) }
 {
     sink.put(error.code.symbol().as_bytes());

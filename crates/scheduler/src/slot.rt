@@ -4,12 +4,15 @@ ghost use Rattle.mon_guard.specs.Cache.{CacheFits};
 ghost use Rattle.scheduler.specs.States.{SlotState};
 ghost use Rattle.scheduler.specs.Abstraction.{slot_of, seat_of};
 ghost use Rattle.scheduler.specs.Turns.{job_end};
-ghost use Rattle.scheduler.specs.inner.Stepping.{Stepped, SeatStep};
+ghost use Rattle.sno_run.specs.Abstraction.{job_of};
+ghost use Rattle.scheduler.specs.inner.Stepping.{Done, Stepped, SeatStep};
 ghost use Rattle.scheduler.specs.inner.Alone.{GoesToEnd, SeatEnds};
 
 use crate::job_end::JobEnd;
 use mon_access::Account;
+use mon_audit::AuditedService;
 use mon_catalogue::Catalogue;
+use mon_device::Sink;
 use mon_guard::Guard;
 use mon_unit::{UnitService, Units};
 use sno_run::{Ending, Job, Step, statement_turn};
@@ -25,11 +28,38 @@ pub struct Slot {
     pub units: Units,
 }
 
+// One turn of a job over its units, of which each exchange is put to the audit. It is apart from `turn_of`, where the loans are made.
+#[inline(always)]
+fn audited_turn<S: Sink>(
+    alloc: Global,
+    number: u64,
+    job: &mut Job,
+    service: &mut UnitService,
+    audit: &mut S,
+) -> Step
+    requires fit { CacheFits service.old.guard.now service.old.catalogue.now }
+    ensures turn { Done number (job_of job.old) service.old result (job_of job.new) service.new (S.standing audit.old) (S.standing audit.new) }
+    ensures fit { CacheFits service.new.guard.now service.new.catalogue.now }
+{
+    let mut audited = AuditedService {
+        number,
+        service: &mut *service,
+        audit: &mut *audit,
+    };
+    statement_turn(alloc, job, &mut audited)
+}
+
 // One turn of the job in a slot.
 #[inline(always)]
-fn turn_of(alloc: Global, guard: &mut Guard, catalogue: &mut Catalogue, slot: &mut Slot) -> Step
+fn turn_of<S: Sink>(
+    alloc: Global,
+    guard: &mut Guard,
+    catalogue: &mut Catalogue,
+    slot: &mut Slot,
+    audit: &mut S,
+) -> Step
     requires fit { CacheFits guard.old catalogue.old }
-    ensures step { Stepped (slot_of slot.old) catalogue.old result (slot_of slot.new) catalogue.new }
+    ensures step { Stepped (slot_of slot.old) catalogue.old result (slot_of slot.new) catalogue.new (S.standing audit.old) (S.standing audit.new) }
     ensures fit { CacheFits guard.new catalogue.new }
 {
     let mut service = UnitService {
@@ -39,7 +69,7 @@ fn turn_of(alloc: Global, guard: &mut Guard, catalogue: &mut Catalogue, slot: &m
         catalogue: &mut *catalogue,
         units: &mut slot.units,
     };
-    statement_turn(alloc, &mut slot.job, &mut service)
+    audited_turn(alloc, slot.number, &mut slot.job, &mut service, audit)
 }
 
 // What is left of a job that has ended.
@@ -71,35 +101,37 @@ pub(crate) fn leave(seat: &mut Option<Slot>, ending: Ending) -> JobEnd
 
 // One turn of what a slot holds, if it holds a job. One that has ended stays in its seat until it leaves.
 #[inline(always)]
-pub(crate) fn step_at(
+pub(crate) fn step_at<S: Sink>(
     alloc: Global,
     guard: &mut Guard,
     catalogue: &mut Catalogue,
     seat: &mut Option<Slot>,
+    audit: &mut S,
 ) -> Option<Step>
     requires fit { CacheFits guard.old catalogue.old }
-    ensures step { SeatStep (seat_of seat.old) catalogue.old result (seat_of seat.new) catalogue.new }
+    ensures step { SeatStep (seat_of seat.old) catalogue.old result (seat_of seat.new) catalogue.new (S.standing audit.old) (S.standing audit.new) }
     ensures fit { CacheFits guard.new catalogue.new }
 {
     match seat {
         None => None,
-        Some(slot) => Some(turn_of(alloc, guard, catalogue, slot)),
+        Some(slot) => Some(turn_of(alloc, guard, catalogue, slot, audit)),
     }
 }
 
 // Turns of a job, until it has ended.
-fn run_to_end(
+fn run_to_end<S: Sink>(
     alloc: Global,
     guard: &mut Guard,
     catalogue: &mut Catalogue,
     slot: &mut Slot,
+    audit: &mut S,
 ) -> Ending
     requires fit { CacheFits guard.old catalogue.old }
-    ensures goes { GoesToEnd (slot_of slot.old) catalogue.old result (slot_of slot.new) catalogue.new }
+    ensures goes { GoesToEnd (slot_of slot.old) catalogue.old result (slot_of slot.new) catalogue.new (S.standing audit.old) (S.standing audit.new) }
     ensures fit { CacheFits guard.new catalogue.new }
 {
     'turns: loop {
-        match turn_of(alloc, guard, catalogue, slot) {
+        match turn_of(alloc, guard, catalogue, slot, audit) {
             Step::Goes => (),
             Step::Ended(ending) => return ending,
         }
@@ -107,18 +139,19 @@ fn run_to_end(
 }
 
 // Turns of what a slot holds, if it holds a job, until that has ended. It stays in its seat until it leaves.
-pub(crate) fn run_at(
+pub(crate) fn run_at<S: Sink>(
     alloc: Global,
     guard: &mut Guard,
     catalogue: &mut Catalogue,
     seat: &mut Option<Slot>,
+    audit: &mut S,
 ) -> Option<Ending>
     requires fit { CacheFits guard.old catalogue.old }
-    ensures ended { SeatEnds (seat_of seat.old) catalogue.old result (seat_of seat.new) catalogue.new }
+    ensures ended { SeatEnds (seat_of seat.old) catalogue.old result (seat_of seat.new) catalogue.new (S.standing audit.old) (S.standing audit.new) }
     ensures fit { CacheFits guard.new catalogue.new }
 {
     match seat {
         None => None,
-        Some(slot) => Some(run_to_end(alloc, guard, catalogue, slot)),
+        Some(slot) => Some(run_to_end(alloc, guard, catalogue, slot, audit)),
     }
 }

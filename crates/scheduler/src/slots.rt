@@ -2,6 +2,7 @@
 ghost use Rattle.std.specs.Prelude.{◌≡◌, ◌<◌, ◌≤◌, ◌+◌, ◌↔◌, IsTrue, length, Some, None, Ok, Err, IfOk, IfErr, IsErrOf, OnErr, IsSome, IfSome, position, is_some, is_none, replicate, vec_capacity};
 ghost use Rattle.std.specs.List.{list_any, list_all};
 
+use crate::auditing::print_ended;
 use crate::holder::Holder;
 use crate::holding::most_held;
 use crate::job_end::JobEnd;
@@ -15,6 +16,7 @@ use crate::turned::Turned;
 use deck_syntax::JobDeck;
 use mon_access::Accounts;
 use mon_catalogue::Catalogue;
+use mon_device::Sink;
 use mon_guard::Guard;
 use mon_text::Stop;
 use sno_run::{Ending, Step};
@@ -42,6 +44,8 @@ pub struct Slots {
 impl Slots {
     ghost use Rattle.mon_catalogue.specs.Sets.{Sets};
     ghost use Rattle.mon_guard.specs.Cache.{CacheFits};
+    ghost use Rattle.mon_device.specs.Putting.{Puts};
+    ghost use Rattle.scheduler.specs.AuditLines.{ended_line};
     ghost use Rattle.scheduler.specs.Abstraction.{slots_in};
     ghost use Rattle.scheduler.specs.Ties.{Independent};
     ghost use Rattle.scheduler.specs.Holding.{most_held};
@@ -174,40 +178,42 @@ impl Slots {
     // One turn of the job in a slot, if there is one. A job that has ended stays in its slot until it is taken out, so that
     // no turn but the last moves what is left of it.
     #[inline(always)]
-    pub(crate) fn step(
+    pub(crate) fn step<S: Sink>(
         &mut self,
         alloc: Global,
         guard: &mut Guard,
         catalogue: &mut Catalogue,
         slot: u8,
+        audit: &mut S,
     ) -> Option<Step>
         requires fit { CacheFits guard.old catalogue.old }
-        ensures step { StepOr slot (scheduler catalogue.old (slots_in self.old)) result (scheduler catalogue.new (slots_in self.new)) }
+        ensures step { StepOr slot (scheduler catalogue.old (slots_in self.old)) result (scheduler catalogue.new (slots_in self.new)) (S.standing audit.old) (S.standing audit.new) }
         ensures size { length (slots_in self.new) ≡ length (slots_in self.old) }
         ensures fit { CacheFits guard.new catalogue.new }
     {
         match self.index_of(slot) {
             None => None,
-            Some(index) => step_at(alloc, guard, catalogue, &mut self.items[index]),
+            Some(index) => step_at(alloc, guard, catalogue, &mut self.items[index], audit),
         }
     }
 
     // Turns of the job that is alone in the slots, until it has ended. It stays in its slot until it is taken out.
-    pub(crate) fn run_lone(
+    pub(crate) fn run_lone<S: Sink>(
         &mut self,
         alloc: Global,
         guard: &mut Guard,
         catalogue: &mut Catalogue,
         slot: u8,
+        audit: &mut S,
     ) -> Ending
         requires fit { CacheFits guard.old catalogue.old }
         requires lone { IsLone slot (slots_in self.old) }
-        ensures ended { LoneEnds slot (scheduler catalogue.old (slots_in self.old)) result (scheduler catalogue.new (slots_in self.new)) }
+        ensures ended { LoneEnds slot (scheduler catalogue.old (slots_in self.old)) result (scheduler catalogue.new (slots_in self.new)) (S.standing audit.old) (S.standing audit.new) }
         ensures size { length (slots_in self.new) ≡ length (slots_in self.old) }
         ensures fit { CacheFits guard.new catalogue.new }
     {
         let index = self.index_of(slot).unwrap();
-        run_at(alloc, guard, catalogue, &mut self.items[index]).unwrap()
+        run_at(alloc, guard, catalogue, &mut self.items[index], audit).unwrap()
     }
 
     // Empties the slot of a job that has ended.
@@ -220,15 +226,23 @@ impl Slots {
         leave(&mut self.items[index], ending)
     }
 
-    // Takes a job out of its slot that has ended. Where that was for want of memory, the others get some. It stays a call, since
-    // the room for what is left of a job is cleared where a function begins.
+    // Takes a job out of its slot that has ended, and puts the line of that. Where it was for want of memory, the others get some.
+    // It stays a call, since the room for what is left of a job is cleared where a function begins.
     #[inline(never)]
-    pub(crate) fn take_out(&mut self, alloc: Global, slot: u8, ending: Ending) -> JobEnd
+    pub(crate) fn take_out<S: Sink>(
+        &mut self,
+        alloc: Global,
+        slot: u8,
+        ending: Ending,
+        audit: &mut S,
+    ) -> JobEnd
         requires { IsSome (seat_at slot (slots_in self.old)) }
         ensures end { (job : SlotState) → seat_at slot (slots_in self.old) ≡ Some job → result ≡ job_end job ending }
         ensures slots { slots_in self.new ≡ with_seat slot None (slots_in self.old) }
+        ensures audited { Puts (S.standing audit.old) (S.standing audit.new) (ended_line result) }
     {
         let end = self.empty(slot, ending);
+        print_ended(&end, audit);
         if let Ending::Memory = ending {
             self.for_jobs.halve();
         }
@@ -258,23 +272,24 @@ impl Slots {
         self.for_cards.give_up();
     }
 
-    /// One turn of the job in a slot. Slots are counted from 1; one that there isn't is empty.
-    pub fn turn(
+    /// One turn of the job in a slot. Slots are counted from 1; one that there isn't is empty. The lines of the turn are put to the audit.
+    pub fn turn<S: Sink>(
         &mut self,
         alloc: Global,
         guard: &mut Guard,
         catalogue: &mut Catalogue,
         slot: u8,
+        audit: &mut S,
     ) -> Turned
         requires fit { CacheFits guard.old catalogue.old }
-        ensures turn { TurnOr slot (scheduler catalogue.old (slots_in self.old)) result (scheduler catalogue.new (slots_in self.new)) }
+        ensures turn { TurnOr slot (scheduler catalogue.old (slots_in self.old)) result (scheduler catalogue.new (slots_in self.new)) (S.standing audit.old) (S.standing audit.new) }
         ensures size { length (slots_in self.new) ≡ length (slots_in self.old) }
         ensures fit { CacheFits guard.new catalogue.new }
     {
-        match self.step(alloc, guard, catalogue, slot) {
+        match self.step(alloc, guard, catalogue, slot, audit) {
             None => Turned::Empty,
             Some(Step::Goes) => Turned::Goes,
-            Some(Step::Ended(ending)) => Turned::Ended(self.take_out(alloc, slot, ending)),
+            Some(Step::Ended(ending)) => Turned::Ended(self.take_out(alloc, slot, ending, audit)),
         }
     }
 }

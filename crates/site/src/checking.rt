@@ -1,8 +1,9 @@
 //! `site check`: what a text would be told. `site verify`: a round is run again.
+use crate::auditing::run_compared;
 use crate::fault::{Fault, Wrong};
 use crate::keeper::file;
 use crate::place::{Place, System, read_there};
-use crate::serving::{part_deck_of, parts_of, plan_there, run_parted};
+use crate::serving::{part_deck_of, parts_of, plan_there};
 use intake::examine;
 use mon_text::{Name, Stop};
 use rounds::{Round, RoundError};
@@ -32,15 +33,16 @@ fn last_part(path: &str) -> &[u8] {
     }
 }
 
-/// Runs a round again, from its deck, and tells whether its output is the same, and its parts.
+/// Runs a round again, from its deck, and tells whether its output is the same, its parts and its audit.
 pub fn verify<R: System>(rt: R, top: String, n: u64) -> Result<bool, Fault> {
     let place = Place::new(rt, top);
     let plan = plan_there(&place, n)?;
     let parted = part_deck_of(&place, n, &plan)?;
-    match run_parted(place.rt.alloc(), parted) {
-        Ok(round) => is_same(&place, n, &plan, &round),
-        Err(RoundError::Memory { .. }) => Err(Fault::Memory),
-        Err(RoundError::Refused(line, code)) => {
+    match run_compared(&place, n, parted)? {
+        None => Ok(false),
+        Some(Ok(round)) => is_same(&place, n, &plan, &round),
+        Some(Err(RoundError::Memory { .. })) => Err(Fault::Memory),
+        Some(Err(RoundError::Refused(line, code))) => {
             let name = round_name(place.rt.alloc(), n, b".deck")?;
             Err(place.wrong(&name, Wrong::Line(line, code.text())))
         }

@@ -1,6 +1,7 @@
 //! `site`: runs what the users of a system drop into a folder, in rounds, and gives each what is his.
 #![tactic(auto)]
 
+mod auditing;
 mod checking;
 mod claiming;
 mod fault;

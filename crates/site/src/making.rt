@@ -3,14 +3,14 @@ use crate::fault::{Fault, Wrong};
 use crate::keeper::{accounts_in, terms_in, users_in};
 use crate::options::Init;
 use crate::place::{Place, System, read_there};
+use crate::status::UNENDED;
 use mon_access::Accounts;
 use mon_text::{Name, put_number, read_count};
 use site_deck::{answer_folder, box_name};
 use site_plan::users::uid_of_account;
-use std::alloc::AllocError;
+use std::alloc::{AllocError, Global};
 use std::fs;
 use std::io::ErrorKind;
-use std::os::unix::fs::MetadataExt;
 
 /// What an account may hand in where no file says it.
 const USUAL_LIMITS: &[u8] = b"# What an account may hand in for a round: see site(5).
@@ -24,6 +24,9 @@ data_sets 50
 records 50000000
 ";
 
+/// The system's file of users.
+const SYSTEM_USERS: &str = "/etc/passwd";
+
 // What a site is made of.
 #[derive(Drop)]
 struct Texts {
@@ -35,19 +38,80 @@ struct Texts {
     catalogue: Vec<u8>,
 }
 
-/// Makes the folder of a site. Nothing is made where one of the files that it is made of is not as it must be.
+// Whose the boxes are.
+#[derive(Drop)]
+struct Owners {
+    // The text of the users; in a demonstration all accounts are those of who makes the site.
+    users: Vec<u8>,
+    // The system's file of users, where root makes the site.
+    system: Option<Vec<u8>>,
+}
+
+/// Makes the folder of a site. Nothing is made where one of the files that it is made of is not as it must be, or where the system has no
+/// user of a number.
 pub fn make_site<R: System>(rt: R, init: &Init) -> Result<(), Fault> {
     let texts = read_texts(&rt, init)?;
     let mut place = Place::new(rt, init.top.clone()?);
-    make_top(&place)?;
-    make_files(&mut place, &texts)?;
-    make_folders(&place)?;
+    let is_new = make_top(&place)?;
+    match find_owners(&mut place, &texts) {
+        Ok(owners) => make_all(&mut place, &texts, &owners),
+        Err(fault) => {
+            if is_new {
+                place.remove_folder(b"")?;
+            }
+            Err(fault)
+        }
+    }
+}
+
+fn make_all<R: System>(place: &mut Place<R>, texts: &Texts, owners: &Owners) -> Result<(), Fault> {
+    make_files(place, texts, &owners.users)?;
+    make_folders(place)?;
     for index in 0..texts.accounts.len() {
         if let Some(account) = texts.accounts.at(index) {
-            make_user(&place, &account.name)?;
+            make_user(place, &account.name, &owners.system)?;
         }
     }
     place.settle_disk()
+}
+
+// Finds whose the boxes are, before any is made.
+fn find_owners<R: System>(place: &mut Place<R>, texts: &Texts) -> Result<Owners, Fault> {
+    let maker = place.owner_of_new(b"owner.tmp")?;
+    let users = match &texts.users {
+        Some(text) => text.clone()?,
+        None => all_of_one(place.rt.alloc(), maker, &texts.accounts)?,
+    };
+    let read = users_in(place.rt.alloc(), "users", texts.demonstration, &users)?;
+    place.set_users(read);
+    if maker != 0 {
+        return Ok(Owners {
+            users,
+            system: None,
+        });
+    }
+    let system = system_users(place)?;
+    check_groups(place, &texts.accounts, &system)?;
+    Ok(Owners {
+        users,
+        system: Some(system),
+    })
+}
+
+// Whether the system knows each user of an account.
+fn check_groups<R: System>(
+    place: &Place<R>,
+    accounts: &Accounts,
+    system: &[u8],
+) -> Result<(), Fault> {
+    for index in 0..accounts.len() {
+        if let Some(account) = accounts.at(index) {
+            if let Some(uid) = uid_of_account(place.users(), &account.name) {
+                let _group = group_of(place, system, uid)?;
+            }
+        }
+    }
+    Ok(())
 }
 
 fn read_texts<R: System>(rt: &R, init: &Init) -> Result<Texts, Fault> {
@@ -96,27 +160,35 @@ fn users_text<R: System>(
 }
 
 fn catalogue_text<R: System>(rt: &R, init: &Init) -> Result<Vec<u8>, Fault> {
-    match &init.catalogue {
-        Some(path) => read_there(rt, path),
-        None => Ok(Vec::from_slice(rt.alloc(), b"$CATALOGUE 2\n")?),
+    let Some(path) = &init.catalogue else {
+        return Ok(Vec::from_slice(rt.alloc(), b"$CATALOGUE 2\n")?);
+    };
+    let text = read_there(rt, path)?;
+    if text.ends_with(b"\n") {
+        Ok(text)
+    } else {
+        Err(Fault::wrong(rt.alloc(), path, UNENDED))
     }
 }
 
-// The folder itself. One that is there is taken, if it is empty.
-fn make_top<R: System>(place: &Place<R>) -> Result<(), Fault> {
+// The folder itself: whether it is new. One that is there is taken, if it is empty.
+fn make_top<R: System>(place: &Place<R>) -> Result<bool, Fault> {
     match place.look(b"")? {
-        None => place.make_folder(b"", 0o755),
-        Some(_) if place.names(b"")?.is_empty() => Ok(()),
+        None => {
+            place.make_folder(b"", 0o755)?;
+            Ok(true)
+        }
+        Some(_) if place.names(b"")?.is_empty() => Ok(false),
         Some(_) => Err(place.wrong(b"", Wrong::Words("is there already, and is not empty"))),
     }
 }
 
-fn make_files<R: System>(place: &mut Place<R>, texts: &Texts) -> Result<(), Fault> {
+fn make_files<R: System>(place: &mut Place<R>, texts: &Texts, users: &[u8]) -> Result<(), Fault> {
     make_file(place, b"accounts", &texts.table, 0o640)?;
     make_file(place, b"limits", &texts.limits, 0o640)?;
     make_file(place, b"catalogue", &texts.catalogue, 0o600)?;
     make_file(place, b"lock", b"", 0o600)?;
-    make_users(place, texts)
+    make_file(place, b"users", users, 0o640)
 }
 
 fn make_file<R: System>(
@@ -129,21 +201,9 @@ fn make_file<R: System>(
     place.set_mode(name, mode)
 }
 
-// The users; in a demonstration all accounts are those of who makes the site.
-fn make_users<R: System>(place: &mut Place<R>, texts: &Texts) -> Result<(), Fault> {
-    let text = match &texts.users {
-        Some(text) => text.clone()?,
-        None => all_of_one(place, &texts.accounts)?,
-    };
-    make_file(place, b"users", &text, 0o640)?;
-    let users = users_in(place.rt.alloc(), "users", texts.demonstration, &text)?;
-    place.set_users(users);
-    Ok(())
-}
-
-fn all_of_one<R: System>(place: &Place<R>, accounts: &Accounts) -> Result<Vec<u8>, Fault> {
-    let uid = own_uid(place)?;
-    let mut text = Vec::new(place.rt.alloc());
+// All accounts are those of one user.
+fn all_of_one(alloc: Global, uid: u32, accounts: &Accounts) -> Result<Vec<u8>, AllocError> {
+    let mut text = Vec::new(alloc);
     for index in 0..accounts.len() {
         if let Some(account) = accounts.at(index) {
             put_user(&mut text, uid, &account.name)?;
@@ -159,14 +219,6 @@ fn put_user(text: &mut Vec<u8>, uid: u32, account: &Name) -> Result<(), AllocErr
     text.extend_from_slice(b"\n")
 }
 
-// Who runs the program, by the owner of a file that it made.
-fn own_uid<R: System>(place: &Place<R>) -> Result<u32, Fault> {
-    match place.look(b"accounts")? {
-        Some(seen) => Ok(seen.uid()),
-        None => Ok(0),
-    }
-}
-
 fn make_folders<R: System>(place: &Place<R>) -> Result<(), Fault> {
     place.make_folder(b"in", 0o755)?;
     place.make_folder(b"taken", 0o700)?;
@@ -175,7 +227,11 @@ fn make_folders<R: System>(place: &Place<R>) -> Result<(), Fault> {
 }
 
 // The folders of an account, if a user has it. Root gives the box to the user, and the folder of answers to his group.
-fn make_user<R: System>(place: &Place<R>, account: &Name) -> Result<(), Fault> {
+fn make_user<R: System>(
+    place: &Place<R>,
+    account: &Name,
+    system: &Option<Vec<u8>>,
+) -> Result<(), Fault> {
     let alloc = place.rt.alloc();
     let Some(uid) = uid_of_account(place.users(), account) else {
         return Ok(());
@@ -184,39 +240,32 @@ fn make_user<R: System>(place: &Place<R>, account: &Name) -> Result<(), Fault> {
     let answers = answer_folder(alloc, account)?;
     place.make_folder(&drop_box, 0o770)?;
     place.make_folder(&answers, 0o750)?;
-    if own_uid(place)? == 0 {
-        give_folders(place, &drop_box, &answers, uid)?;
+    if let Some(system) = system {
+        let gid = group_of(place, system, uid)?;
+        place.give(&drop_box, Some(uid), None)?;
+        place.give(&answers, None, Some(gid))?;
     }
     place.set_mode(&drop_box, 0o2770)?;
     place.set_mode(&answers, 0o2750)
 }
 
-fn give_folders<R: System>(
-    place: &Place<R>,
-    drop_box: &[u8],
-    answers: &[u8],
-    uid: u32,
-) -> Result<(), Fault> {
-    place.give(drop_box, Some(uid), None)?;
-    match group_of(place, uid)? {
-        Some(gid) => place.give(answers, None, Some(gid)),
-        None => Err(Fault::wrong(place.rt.alloc(), "/etc/passwd", Wrong::NoUser(uid))),
+// The system's file of users; an empty text where there is none.
+fn system_users<R: System>(place: &Place<R>) -> Result<Vec<u8>, Fault> {
+    match fs::read(&place.rt, SYSTEM_USERS) {
+        Ok(text) => Ok(text),
+        Err(error) if error.kind() == ErrorKind::NotFound => Ok(Vec::new(place.rt.alloc())),
+        Err(error) => Err(Fault::failed(place.rt.alloc(), SYSTEM_USERS, error)),
     }
 }
 
 // The group of a user, as the system's file of users has it.
-fn group_of<R: System>(place: &Place<R>, uid: u32) -> Result<Option<u32>, Fault> {
-    let text = match fs::read(&place.rt, "/etc/passwd") {
-        Ok(text) => text,
-        Err(error) if error.kind() == ErrorKind::NotFound => return Ok(None),
-        Err(error) => return Err(Fault::failed(place.rt.alloc(), "/etc/passwd", error)),
-    };
-    for line in text.split(|byte| *byte == b'\n') {
+fn group_of<R: System>(place: &Place<R>, system: &[u8], uid: u32) -> Result<u32, Fault> {
+    for line in system.split(|byte| *byte == b'\n') {
         if let Some(gid) = group_on(line, uid) {
-            return Ok(Some(gid));
+            return Ok(gid);
         }
     }
-    Ok(None)
+    Err(Fault::wrong(place.rt.alloc(), SYSTEM_USERS, Wrong::NoUser(uid)))
 }
 
 // The group on a line NAME:PASSWORD:UID:GID:.., where it is this user's.

@@ -8,7 +8,7 @@ use site_plan::User;
 use site_plan::users::uid_of_account;
 use std::alloc::{AllocError, Global};
 use std::fs::{DirBuilder, File, Metadata, OpenFile, OpenOptions, Permissions};
-use std::io::{ErrorKind, Read, Write};
+use std::io::{ErrorKind, Read, Seek, SeekFrom, Write};
 use std::os::unix::fs::{DirBuilderExt, MetadataExt, OpenOptionsExt, PermissionsExt, lchown};
 use std::rt::Files;
 use std::{fs, io, mem, str};
@@ -98,6 +98,51 @@ impl<R: System> Place<R> {
         fs::rename(&self.rt, beside.as_str(), path.as_str())
     }
 
+    /// A new file beside the place of this name, which it takes by `finish`. One that is there, as a crash leaves it, is no longer.
+    pub fn begin(&self, name: &[u8]) -> Result<R::File, Fault> {
+        let beside = self.beside(name)?;
+        match create_own(&self.rt, &beside) {
+            Ok(file) => Ok(file),
+            Err(error) => Err(self.failed(&beside, error)),
+        }
+    }
+
+    /// Brings a file that was begun to the disk, in the place of the one of this name.
+    pub fn finish(&mut self, name: &[u8], file: R::File) -> Result<(), Fault> {
+        let path = self.path(name)?;
+        let beside = self.beside(name)?;
+        match take_place(&self.rt, &beside, &path, file) {
+            Ok(()) => self.change(name)?,
+            Err(error) => return Err(self.failed(&path, error)),
+        }
+        self.settle_disk()
+    }
+
+    /// Takes a file that was begun away.
+    pub fn abandon(&self, name: &[u8], _file: R::File) -> Result<(), Fault> {
+        let beside = self.beside(name)?;
+        match take_away(&self.rt, &beside) {
+            Ok(()) => Ok(()),
+            Err(error) => Err(self.failed(&beside, error)),
+        }
+    }
+
+    /// Opens a file that has to be there.
+    pub fn open(&self, name: &[u8]) -> Result<R::File, Fault> {
+        let path = self.path(name)?;
+        match File::open(&self.rt, path.as_str()) {
+            Ok(file) => Ok(file),
+            Err(error) => Err(self.failed(&path, error)),
+        }
+    }
+
+    // Where a file is written that is to have this name.
+    fn beside(&self, name: &[u8]) -> Result<String, Fault> {
+        let mut beside = self.path(name)?;
+        beside.push_str(".tmp")?;
+        Ok(beside)
+    }
+
     fn write_beside(
         &mut self,
         beside: &String,
@@ -149,9 +194,9 @@ impl<R: System> Place<R> {
         }
     }
 
-    /// Who runs the program: the owner of a file that it makes.
-    pub fn own_uid(&self) -> Result<u32, Fault> {
-        let path = self.path(b"rounds/owner.tmp")?;
+    /// Who runs the program: the owner of a file of this name, which is made for it and removed.
+    pub fn owner_of_new(&self, name: &[u8]) -> Result<u32, Fault> {
+        let path = self.path(name)?;
         match uid_of_new(&self.rt, &path) {
             Ok(uid) => Ok(uid),
             Err(error) => Err(self.failed(&path, error)),
@@ -194,6 +239,28 @@ impl<R: System> Place<R> {
         match make_with_mode(&self.rt, &path, mode) {
             Ok(()) => Ok(()),
             Err(error) => Err(self.failed(&path, error)),
+        }
+    }
+
+    /// Removes a folder that is empty.
+    pub fn remove_folder(&self, name: &[u8]) -> Result<(), Fault> {
+        let path = self.path(name)?;
+        match fs::remove_dir(&self.rt, path.as_str()) {
+            Ok(()) => Ok(()),
+            Err(error) => Err(self.failed(&path, error)),
+        }
+    }
+
+    /// Whether the last byte of a file that is there is a line end. Also where it may not be opened, or is no file.
+    pub fn ends_line(&self, name: &[u8]) -> Result<bool, Fault> {
+        let path = self.path(name)?;
+        match self.look(name)? {
+            Some(seen) if seen.is_file() => match last_byte(&self.rt, &path, seen.len()) {
+                Ok(last) => Ok(last == Some(b'\n')),
+                Err(error) if error.kind() == ErrorKind::PermissionDenied => Ok(true),
+                Err(error) => Err(self.failed(&path, error)),
+            },
+            _ => Ok(true),
         }
     }
 
@@ -365,6 +432,20 @@ fn append_file<R: System>(rt: &R, path: &String, out: &mut Vec<u8>) -> io::Resul
     Ok(())
 }
 
+// The last byte of a file of so many bytes.
+fn last_byte<R: System>(rt: &R, path: &String, length: u64) -> io::Result<Option<u8>> {
+    if length == 0 {
+        return Ok(None);
+    }
+    let mut file = File::open(rt, path.as_str())?;
+    file.seek(SeekFrom::End(-1))?;
+    let mut last = [0; 1];
+    match file.read(&mut last)? {
+        1 => Ok(Some(last[0])),
+        _ => Ok(None),
+    }
+}
+
 // A new file that is for its owner alone. One that is there, as a crash leaves it, is no longer.
 fn create_own<R: System>(rt: &R, path: &String) -> io::Result<R::File> {
     match create_new(rt, path) {
@@ -382,6 +463,12 @@ fn create_new<R: System>(rt: &R, path: &String) -> io::Result<R::File> {
         .create_new(true)
         .mode(0o600)
         .open(rt, path.as_str())
+}
+
+// A file that was written takes its place.
+fn take_place<R: System>(rt: &R, beside: &String, path: &String, file: R::File) -> io::Result<()> {
+    file.sync_all()?;
+    fs::rename(rt, beside.as_str(), path.as_str())
 }
 
 // An answer is for its user: it is given to him by root, and else its folder's group may read it.

@@ -1,10 +1,12 @@
 //! Serving a round that is planned: its texts are run, and each is given what is its own.
+use crate::auditing::run_audited;
 use crate::fault::{Fault, Wrong};
 use crate::keeper::file;
 use crate::place::{Place, System};
 use crate::planning::{fix, plan_of, unfix};
 use deck_driver::Options;
 use deck_syntax::DeckError;
+use mon_device::Sink;
 use mon_text::Stop;
 use rounds::{Round, RoundError, run_round};
 use site_deck::{Parted, Planned, part_deck, parts_text, without_text};
@@ -98,7 +100,7 @@ fn run_planned<R: System>(
     let parted = part_of(place, n, plan, deck)?;
     let count = parted.texts.len() as u64;
     let lines = lines_before_catalogue(&parted.head);
-    match run_parted(place.rt.alloc(), parted) {
+    match run_audited(place, n, parted)? {
         Ok(round) => Ok(Ran::Whole(round)),
         Err(RoundError::Memory { text }) if text > 0 && text <= count => {
             Ok(Ran::Short(text as usize - 1))
@@ -111,10 +113,14 @@ fn run_planned<R: System>(
     }
 }
 
-/// Runs a deck that was taken apart, as `snomon` does without options.
-pub fn run_parted(alloc: Global, parted: Parted) -> Result<Round, RoundError> {
+/// Runs a deck that was taken apart, as `snomon` does without options but for an audit.
+pub fn run_parted<A: Sink>(
+    alloc: Global,
+    parted: Parted,
+    audit: &mut A,
+) -> Result<Round, RoundError> {
     let Parted { head, texts } = parted;
-    run_round(alloc, Options::new(), head, &texts)
+    run_round(alloc, Options::new(), head, &texts, audit)
 }
 
 // How many lines stand before the catalogue's first.

@@ -17,6 +17,9 @@ const NOT_OWNER: u32 = 0o077;
 /// The bits by which a group or others may write.
 const WRITERS: u32 = 0o022;
 
+/// That a file is cut off within a line, or that its last line lacks its end.
+pub const UNENDED: Wrong = Wrong::Words("its last line has no line end");
+
 /// What a place has to be.
 #[derive(Clone, Copy)]
 struct Due {
@@ -82,7 +85,7 @@ pub fn refuse_open<R: System>(place: &Place<R>, keeper: &Keeper) -> Result<(), F
     if let Some(fault) = faults_of(place, keeper)?.grave.into_iter().next() {
         return Err(fault);
     }
-    let uid = place.own_uid()?;
+    let uid = place.owner_of_new(b"rounds/owner.tmp")?;
     match place.look(b"")? {
         Some(seen) if seen.uid() != uid => { Err(place.wrong(b"", Wrong::Owner(seen.uid(), uid))) }
         _ => Ok(()),
@@ -104,6 +107,9 @@ fn check_own<R: System>(place: &Place<R>, uid: u32, faults: &mut Vec<Fault>) -> 
     ];
     for (name, due) in due {
         check(place, name, uid, due, faults)?;
+    }
+    if !place.ends_line(b"catalogue")? {
+        faults.push(place.wrong(b"catalogue", UNENDED))?;
     }
     Ok(())
 }

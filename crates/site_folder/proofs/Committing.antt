@@ -101,7 +101,7 @@ commits n replies parts output before after none (inr (_, inl some)) stands =
     (some (output_name n))
 commits n replies parts output before after none (inr (_, inr (is, payable))) stands = ap (settled n) is
 
-pub delivers : (n : ℕ) (replies parts output : List ℕ) (before after : Files) → before (output_name n) ≡ None → IsDelivering n replies parts output before after
+pub delivers_after_a_crash : (n : ℕ) (replies parts output : List ℕ) (before after : Files) → before (output_name n) ≡ None → IsDelivering n replies parts output before after
     → is_some (after (output_name n)) ≡ true → settled n after ≡ settled n (committed n replies parts output before)
-delivers n replies parts output before after none (inl committing) stands = commits n replies parts output before after none committing stands
-delivers n replies parts output before after none (inr (_, settling)) stands = settles n (committed n replies parts output before) after settling
+delivers_after_a_crash n replies parts output before after none (inl committing) stands = commits n replies parts output before after none committing stands
+delivers_after_a_crash n replies parts output before after none (inr (_, settling)) stands = settles n (committed n replies parts output before) after settling

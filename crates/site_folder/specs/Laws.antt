@@ -16,8 +16,8 @@ Commits = (n : ℕ) (replies parts output : List ℕ) (before after : Files) →
     → is_some (after (output_name n)) ≡ true → settled n after ≡ settled n (committed n replies parts output before)
 
 -- the same of a round that was being delivered
-abbrev pub Delivers : Type 0
-Delivers = (n : ℕ) (replies parts output : List ℕ) (before after : Files) → before (output_name n) ≡ None → IsDelivering n replies parts output before after
+abbrev pub DeliversAfterACrash : Type 0
+DeliversAfterACrash = (n : ℕ) (replies parts output : List ℕ) (before after : Files) → before (output_name n) ≡ None → IsDelivering n replies parts output before after
     → is_some (after (output_name n)) ≡ true → settled n after ≡ settled n (committed n replies parts output before)
 
 -- to settle what is settled changes nothing

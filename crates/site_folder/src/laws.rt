@@ -1,5 +1,5 @@
 //! Laws over rounds and crashes: each function's contract is one.
-ghost use Rattle.site_folder.specs.Laws.{Settles, Commits, Delivers, StaysSettled, ReadsBack};
+ghost use Rattle.site_folder.specs.Laws.{Settles, Commits, DeliversAfterACrash, StaysSettled, ReadsBack};
 
 /// Whatever a crash left while a round was settled, to settle it comes to the same files as without the crash.
 pub fn settles()
@@ -14,8 +14,8 @@ pub fn commits()
 
 /// Whatever a crash left while a round was delivered: where its output stands, to settle it comes to the same files as without the
 /// crash.
-pub fn delivers()
-    ensures { Delivers }
+pub fn delivers_after_a_crash()
+    ensures { DeliversAfterACrash }
 {}
 
 /// To settle what is settled changes nothing.

@@ -1,9 +1,10 @@
 -- Worked command lines: what each of them gives, and which give nothing.
-use Rattle.std.proofs.Common.{◌≡◌, ◌∙◌, ◌≤◌, ℕ, inl, inr, Bool, true, false, List, [], ◌∷◌, refl, sym, subst, codes, arith, true≢false}
+use Rattle.std.proofs.Common.{◌≡◌, ◌∙◌, ◌≤◌, ℕ, inl, inr, Bool, true, false, List, [], ◌∷◌, Some, None, refl, sym, subst, codes, arith, true≢false}
 use Rattle.std.specs.Prelude.{◌↔◌}
 use Rattle.clap.specs.Takes.{takes}
 use Rattle.clap.proofs.OnLiterals.{clap_on_literals}
 use Rattle.deck_driver.specs.declared.options.Options.{Options}
+use Rattle.snomon.specs.Asking.{audit_of}
 use Rattle.snomon.specs.CommandLine.{Asks, Gives, apart, joined, left_out, snomon}
 use Rattle.snomon.proofs.Matched.{one_meaning, taken}
 use Rattle.snomon.proofs.Numbers.{passed}
@@ -83,3 +84,19 @@ module _ (program : List ℕ) where
   pub help_asked : GiveNothing (codes "--help" ∷ [])
   unfolding clap_on_literals
   help_asked = give_nothing _ refl
+
+-- ---- the words that ask for an audit
+
+pub file_apart : audit_of (codes "snomon" ∷ codes "--audit" ∷ codes "a" ∷ codes "--check" ∷ [])
+    ≡ Some (record { left = codes "snomon" ∷ codes "--check" ∷ []; file = Some (codes "a") })
+file_apart = refl
+
+pub file_joined : audit_of (codes "snomon" ∷ codes "--slots" ∷ codes "8" ∷ codes "--audit=a-b" ∷ [])
+    ≡ Some (record { left = codes "snomon" ∷ codes "--slots" ∷ codes "8" ∷ []; file = Some (codes "a-b") })
+file_joined = refl
+
+pub ended_before : audit_of (codes "snomon" ∷ codes "--" ∷ codes "--audit" ∷ []) ≡ Some (record { left = codes "snomon" ∷ codes "--" ∷ codes "--audit" ∷ []; file = None })
+ended_before = refl
+
+pub no_output : audit_of (codes "snomon" ∷ codes "--audit" ∷ codes "-" ∷ []) ≡ None
+no_output = refl

@@ -1,6 +1,7 @@
 -- What the program ends with, once its words have given options (own): the exit status, and what is told of a fault.
-use Rattle.std.specs.Prelude.{◌≡◌, ℕ, List, ◌++◌, Bool, IsTrue, Option, Some, Result, Ok, Err}
+use Rattle.std.specs.Prelude.{◌≡◌, ℕ, List, [], ◌++◌, Bool, true, IsTrue, Option, Some, None, Result, Ok, Err}
 use Rattle.std.specs.Io.KnownBytes.{Keeps, Appends}
+use Rattle.mon_device.specs.Putting.{Standing}
 use Rattle.deck_driver.specs.declared.fault.RunError.{RunError}
 use Rattle.deck_driver.specs.declared.fault.RunError.TheVariants.{Memory}
 use Rattle.deck_driver.specs.declared.options.Options.{Options}
@@ -20,10 +21,15 @@ abbrev pub Tells : Result Counts RunError → Option Shortage → Bool → Optio
 Tells (Ok counts) shortage is_told before after = Keeps before after
 Tells (Err fault) shortage is_told before after = IsTrue is_told → Appends before after (told_of fault shortage)
 
--- A run with these options has come out in some way, which the status and the stream of errors tell.
-pub record Ends (options : Options) (told left held now : Option (List ℕ)) (status : ℕ) (is_told : Bool) (before after : Option (List ℕ)) : Type 0 where
+-- how a sink stands to which nobody listens
+abbrev pub unheard : Standing
+unheard = record { written = None; gathered = []; failed = true; remaining = None; reads = 0; lent = [] }
+
+-- A run with these options has come out in some way, which the status and the stream of errors tell. Its audit's sink, which somebody
+-- listens to or not, stood as a says at first, and stands as b says in the end.
+pub record Ends (options : Options) (told left held now : Option (List ℕ)) (a b : Standing) (heeded : Bool) (status : ℕ) (is_told : Bool) (before after : Option (List ℕ)) : Type 0 where
   pub outcome : Result Counts RunError
   pub shortage : Shortage
-  pub comes : Comes options told left held now outcome shortage
+  pub comes : Comes options told left held now a b heeded outcome shortage
   pub status_told : status ≡ status_of outcome
   pub fault_told : Tells outcome (Some shortage) is_told before after

@@ -54,14 +54,31 @@ pub fn no_text(alloc: Global) -> Result<Error, AllocError>
     command(alloc)?.error(ErrorKind::UnknownArgument, "a word is no text in UTF-8")
 }
 
+/// The error for an audit without a file.
+///
+/// # Errors
+///
+/// Where a growth was refused.
+pub fn no_file(alloc: Global) -> Result<Error, AllocError>
+    ensures { IfOk result (λ error. kind_of error ≡ ErrorKind.ValueValidation) }
+{
+    command(alloc)?.error(
+        ErrorKind::ValueValidation,
+        "--audit wants a file, whose name does not begin with `-`",
+    )
+}
+
 // What follows the list of options in the help.
-const AFTER_HELP: &str = "The deck comes from standard input:
+const AFTER_HELP: &str = "Beside these, among them:
+      --audit <FILE>  Also writes who asked for what, and by which entry it was granted or denied
+
+The deck comes from standard input:
 
   snomon < payroll.deck > payroll.out
 
 Exit status: 0 where the deck ran, or is good; 1 where it is refused; 2 where the words
 give no options, or ask for this help or the version, which go to standard error;
-3 where reading, writing or memory failed.
+3 where reading, writing or memory failed, or the audit could not be written.
 ";
 
 // The program's options, as `clap` knows them. Help and version are among them without being named.

@@ -7,6 +7,7 @@ ghost use Rattle.snomon.specs.Endings.{Tells, Ends, told_of};
 
 use crate::streams::run_streams;
 use deck_run::{Counts, Options, RunError, Shortage, exit_status, put_fault, put_shortage};
+use mon_device::Sink;
 use std::alloc::Global;
 use std::fmt::Display;
 use std::io;
@@ -30,20 +31,21 @@ pub struct Ended<R: Drop, W: Drop, E: Drop> {
     pub errors: E,
 }
 
-/// Runs a deck from one stream to another, and tells a fault on a third.
-pub fn run_options<R: Read + Drop, W: Write + Drop, E: Write + Drop>(
+/// Runs a deck from one stream to another, puts what it does to an audit, and tells a fault on a third.
+pub fn run_options<R: Read + Drop, W: Write + Drop, E: Write + Drop, A: Sink>(
     alloc: Global,
     options: Options,
     input: R,
     output: W,
     errors: E,
+    audit: &mut A,
 ) -> Ended<R, W, E>
     ensures ends { Ends options (R.remaining input) (told_since (R.remaining input) (R.remaining result.input))
-        (W.contents output) (told_since (W.contents output) (W.contents result.output)) result.status
+        (W.contents output) (told_since (W.contents output) (W.contents result.output)) (A.standing audit.old) (A.standing audit.new) A.heeded result.status
         result.is_told (E.contents errors) (E.contents result.errors) }
     ensures silent { result.status ≡ 0 → result.errors ≡ errors }
 {
-    let ran = run_streams(alloc, options, input, output);
+    let ran = run_streams(alloc, options, input, output, audit);
     finish(
         alloc,
         ran.outcome,

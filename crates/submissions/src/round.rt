@@ -6,6 +6,7 @@ use anyhow::{Context, Result, bail, ensure};
 use deck_run::{Devices, MemReader, MemWriter, Options, Slots, run_deck};
 use intake::Submission;
 use mon_catalogue::{Catalogue, Version, read_text};
+use mon_device::TextSink;
 use mon_text::{Line, read_line};
 use rounds::{Round, RoundError, compose, compose_head, run_round};
 use std::alloc::{AllocError, Global};
@@ -74,7 +75,7 @@ fn line_of(alloc: Global, line: &str) -> Result<Line> {
         .context("a line of its data sets is refused")
 }
 
-// Runs the round, and its deck too: both have to print the same.
+// Runs the round, and its deck too: both have to print the same, and to tell the same of it.
 fn serve(
     alloc: Global,
     options: Options,
@@ -84,24 +85,36 @@ fn serve(
 ) -> Result<Round> {
     let deck = compose(alloc, table, catalogue, texts)?;
     let head = compose_head(alloc, table, catalogue)?;
-    let round = match run_round(alloc, options, head, texts) {
+    let mut told = Vec::new(alloc);
+    let mut audit = TextSink::new(&mut told);
+    let round = match run_round(alloc, options, head, texts, &mut audit) {
         Ok(round) => round,
         Err(RoundError::Refused(line, code)) => bail!("its deck is refused at line {line}: {code}"),
         Err(RoundError::Memory { .. }) => return Err(AllocError.into()),
     };
+    audit.settle()?;
     ensure!(
-        prints(alloc, options, &deck, &round.output)?,
-        "its deck prints something else"
+        prints(alloc, options, &deck, &round.output, &told)?,
+        "its deck prints something else, or tells something else"
     );
     Ok(round)
 }
 
-// Whether that is what a run of the deck prints.
-fn prints(alloc: Global, options: Options, deck: &[u8], output: &[u8]) -> Result<bool, AllocError> {
+// Whether that is what a run of the deck prints, and what it tells.
+fn prints(
+    alloc: Global,
+    options: Options,
+    deck: &[u8],
+    output: &[u8],
+    told: &[u8],
+) -> Result<bool, AllocError> {
     let writer = MemWriter::new(alloc, output.len())?;
     let mut devices = Devices::new(MemReader::new(deck), writer);
-    let is_good = run_deck(alloc, &mut devices, options).is_ok();
-    Ok(is_good && devices.writer.as_bytes() == output)
+    let mut again = Vec::new(alloc);
+    let mut audit = TextSink::new(&mut again);
+    let is_good = run_deck(alloc, &mut devices, options, &mut audit).is_ok();
+    audit.settle()?;
+    Ok(is_good && devices.writer.as_bytes() == output && again.as_slice() == told)
 }
 
 fn put_parts(round: &Round, texts: &[Submission], out: &mut Vec<u8>) -> Result<(), AllocError> {

@@ -1,130 +1,103 @@
-use Rattle.std.proofs.Common.{rules, refl, ◌≡◌, ◌∙◌, sym, subst, [], List, ℕ, Option}
-use Rattle.deck_syntax.specs.Decks.{Stopped, Refused}
-use Rattle.deck_run.specs.Runs.{deck_ending, HasWritten, HasRun, HasBegun, HasBrokenOff, HasBrokenOffAt}
-use Rattle.deck_driver.proofs.Telling.{refused_so}
-use Rattle.deck_run.proofs.Running.{run_good, run_bad, met_bad, on_good, counts_good, if_some, IsGood, broken, finished, fault_so, memory_so, broke_behind, begun_at_start, broke_at_start}
-use Rattle.deck_run.proofs.Due.{due, broken_off, broken_off_at}
+use Rattle.std.proofs.Common.{◌≡◌, true, refl, sym, ap, subst}
+use Rattle.mon_device.specs.Putting.{Standing}
+use Rattle.deck_driver.specs.declared.fault.RunError.TheVariants.{DeckRefused, ReadFault, WriteFault, Memory}
+use Rattle.deck_run.specs.Audited.{is_broken}
+use Rattle.deck_run.specs.Runs.{HasRun, HasWritten, HasPrinted, HasBrokenOff, HasBrokenOffAt}
+use Rattle.deck_run.proofs.Ended.{ok_stays, counts_stay, was_so, fault_stays, audit_fault, good_ends, bad_ends, ahead_stays}
 use Rattle.deck_run.proofs.run.run_deck_noting.Goals as goal
 
-pub returns-in-Ok-clause-stopped : goal.returns-in-Ok-clause-stopped
-returns-in-Ok-clause-stopped g c =
-    let r = c.in-Ok.ensures.runs in
+pub returns-clause-at_end : goal.returns-clause-at_end
+returns-clause-at_end g c =
+    ok_stays _ _ _ _ _ c.tell_end.ensures.answer c.run_cards-answer.ensures.at_end
+
+pub returns-clause-stopped : goal.returns-clause-stopped
+returns-clause-stopped g c =
+    ok_stays _ _ _ _ _ c.tell_end.ensures.answer c.run_cards-answer.ensures.stopped
+
+pub returns-clause-output : goal.returns-clause-output
+returns-clause-output g c =
+    let a = g.A.Sink.standing c.args.audit.now in
+    let b = g.A.Sink.standing c.run_cards-answer.new.audit in
+    let d = g.A.Sink.standing c.tell_end.new.audit in
     let held = g.D.DeckDevices.written c.args.devices.now in
-    let now = g.D.DeckDevices.written c.finish.new.devices in
+    let now = g.D.DeckDevices.written c.run_cards-answer.new.devices in
     let told = g.D.DeckDevices.remaining c.args.devices.now in
-    on_good told (IsGood c.args.options held now) (λ bytes. deck_ending bytes ≡ Stopped) c.finish.result (λ counts bytes (good : IsGood c.args.options held now counts bytes). good.stopped)
-    (run_good c.args.options told _ held _ now c.new-feed.result _ r.0 r.1 c.in-Ok.ensures.at_end c.new-feed.ensures.start (search rules) (search rules) c.finish.result c.finish.ensures.ended)
+    good_ends told (λ bytes s. HasRun c.args.options held now bytes a s) c.args.options.check b d _ _ _ _ c.tell_end.ensures.answer c.tell_end.ensures.puts c.run_cards-answer.ensures.output
 
-pub returns-in-Ok-clause-output : goal.returns-in-Ok-clause-output
-returns-in-Ok-clause-output g c =
-    let r = c.in-Ok.ensures.runs in
+pub returns-clause-counts : goal.returns-clause-counts
+returns-clause-counts g c =
+    counts_stay _ _ _ _ _ c.tell_end.ensures.answer c.run_cards-answer.ensures.counts
+
+pub returns-clause-refused : goal.returns-clause-refused
+returns-clause-refused g c = λ n code same.
+    c.run_cards-answer.ensures.refused n code (was_so _ _ _ _ (DeckRefused n code) (λ e. cc) c.tell_end.ensures.answer same)
+
+pub returns-clause-refused_output : goal.returns-clause-refused_output
+returns-clause-refused_output g c = λ n code same.
+    let a = g.A.Sink.standing c.args.audit.now in
+    let b = g.A.Sink.standing c.run_cards-answer.new.audit in
+    let d = g.A.Sink.standing c.tell_end.new.audit in
     let held = g.D.DeckDevices.written c.args.devices.now in
-    let now = g.D.DeckDevices.written c.finish.new.devices in
+    let now = g.D.DeckDevices.written c.run_cards-answer.new.devices in
     let told = g.D.DeckDevices.remaining c.args.devices.now in
-    on_good told (IsGood c.args.options held now) (HasRun c.args.options held now) c.finish.result (λ counts bytes (good : IsGood c.args.options held now counts bytes). good.output)
-    (run_good c.args.options told _ held _ now c.new-feed.result _ r.0 r.1 c.in-Ok.ensures.at_end c.new-feed.ensures.start (search rules) (search rules) c.finish.result c.finish.ensures.ended)
+    let was = was_so _ _ _ _ (DeckRefused n code) (λ e. cc) c.tell_end.ensures.answer same in
+    bad_ends told (λ bytes s. HasWritten c.args.options held now bytes a s) c.args.options.check b d _ _ (DeckRefused n code) was same c.tell_end.ensures.puts
+    (c.run_cards-answer.ensures.refused_output n code was)
 
-pub returns-in-Ok-clause-counts : goal.returns-in-Ok-clause-counts
-returns-in-Ok-clause-counts g c =
-    let r = c.in-Ok.ensures.runs in
+pub returns-clause-begun : goal.returns-clause-begun
+returns-clause-begun g c =
+    (c.run_cards-answer.result, (g.A.Sink.standing c.run_cards-answer.new.audit, c.run_cards-answer.ensures.begun, c.tell_end.ensures.puts))
+
+pub returns-clause-ahead : goal.returns-clause-ahead
+returns-clause-ahead g c = λ heeded.
+    ahead_stays c.args.options _ _ _ _ _ _ _ _ c.tell_end.ensures.puts (c.run_cards-answer.ensures.ahead heeded)
+
+pub returns-clause-due : goal.returns-clause-due
+returns-clause-due g c = λ fault.
+    let a = g.A.Sink.standing c.args.audit.now in
     let held = g.D.DeckDevices.written c.args.devices.now in
-    let now = g.D.DeckDevices.written c.finish.new.devices in
+    let now = g.D.DeckDevices.written c.run_cards-answer.new.devices in
     let told = g.D.DeckDevices.remaining c.args.devices.now in
-    counts_good told c.args.options held now c.finish.result
-    (run_good c.args.options told _ held _ now c.new-feed.result _ r.0 r.1 c.in-Ok.ensures.at_end c.new-feed.ensures.start (search rules) (search rules) c.finish.result c.finish.ensures.ended)
+    let left = g.D.DeckDevices.remaining c.run_cards-answer.new.devices in
+    let was = was_so _ _ _ _ ReadFault (λ e. cc) c.tell_end.ensures.answer fault in
+    subst (λ (s : Standing). HasPrinted c.args.options told left held now a s) (sym (c.tell_end.ensures.broken (ap is_broken was)).1) (c.run_cards-answer.ensures.due was)
 
-pub returns-in-Ok-clause-refused : goal.returns-in-Ok-clause-refused
-returns-in-Ok-clause-refused g c = λ n code same.
-    let r = c.in-Ok.ensures.runs in
+pub returns-clause-short : goal.returns-clause-short
+returns-clause-short g c = λ fault.
+    let a = g.A.Sink.standing c.args.audit.now in
     let held = g.D.DeckDevices.written c.args.devices.now in
-    let now = g.D.DeckDevices.written c.finish.new.devices in
-    let end = c.finish.ensures.refused n code same in
-    if_some _ _ _ (λ bytes (x : (deck_ending bytes ≡ Refused n code) × HasWritten c.args.options held now bytes). x.0)
-    (run_bad c.args.options (g.D.DeckDevices.remaining c.args.devices.now) _ held _ now c.new-feed.result _ r.0 r.1 c.in-Ok.ensures.at_end c.new-feed.ensures.start n code end.0 end.1)
+    let now = g.D.DeckDevices.written c.run_cards-answer.new.devices in
+    let told = g.D.DeckDevices.remaining c.args.devices.now in
+    let left = g.D.DeckDevices.remaining c.run_cards-answer.new.devices in
+    let was = was_so _ _ _ _ Memory (λ e. cc) c.tell_end.ensures.answer fault in
+    subst (λ (s : Standing). HasBrokenOff c.args.options told left held now a s) (sym (c.tell_end.ensures.broken (ap is_broken was)).1) (c.run_cards-answer.ensures.short was)
 
-pub returns-in-Ok-clause-refused_output : goal.returns-in-Ok-clause-refused_output
-returns-in-Ok-clause-refused_output g c = λ n code same.
-    let r = c.in-Ok.ensures.runs in
+pub returns-clause-line : goal.returns-clause-line
+returns-clause-line g c = λ fault.
+    let a = g.A.Sink.standing c.args.audit.now in
     let held = g.D.DeckDevices.written c.args.devices.now in
-    let now = g.D.DeckDevices.written c.finish.new.devices in
-    let end = c.finish.ensures.refused n code same in
-    if_some _ _ _ (λ bytes (x : (deck_ending bytes ≡ Refused n code) × HasWritten c.args.options held now bytes). x.1)
-    (run_bad c.args.options (g.D.DeckDevices.remaining c.args.devices.now) _ held _ now c.new-feed.result _ r.0 r.1 c.in-Ok.ensures.at_end c.new-feed.ensures.start n code end.0 end.1)
+    let now = g.D.DeckDevices.written c.run_cards-answer.new.devices in
+    let told = g.D.DeckDevices.remaining c.args.devices.now in
+    let left = g.D.DeckDevices.remaining c.run_cards-answer.new.devices in
+    let was = was_so _ _ _ _ Memory (λ e. cc) c.tell_end.ensures.answer fault in
+    subst (λ (s : Standing). HasBrokenOffAt c.args.options c.run_cards-answer.new.shortage.line told left held now a s) (sym (c.tell_end.ensures.broken (ap is_broken was)).1) (c.run_cards-answer.ensures.line was)
 
-pub returns-in-Err-clause-refused : goal.returns-in-Err-clause-refused
-returns-in-Err-clause-refused g c = λ n code same.
-    let held = g.D.DeckDevices.written c.args.devices.now in
-    let now = g.D.DeckDevices.written c.feed_all.new.devices in
-    if_some _ _ _ (λ bytes (x : (deck_ending bytes ≡ Refused n code) × HasWritten c.args.options held now bytes). x.0)
-    (met_bad c.args.options (g.D.DeckDevices.remaining c.args.devices.now) held now c.new-feed.result c.new-feed.ensures.start n code
-    (c.feed_all.ensures.refused n code (c.in-Err.is ∙ refused_so c.in-Err.error n code same)))
+pub returns-clause-faults : goal.returns-clause-faults
+returns-clause-faults g c = (
+  λ failed. fault_stays _ _ _ _ ReadFault refl c.tell_end.ensures.answer (c.run_cards-answer.ensures.faults.0 failed),
+  λ failed. fault_stays _ _ _ _ WriteFault refl c.tell_end.ensures.answer (c.run_cards-answer.ensures.faults.1 failed),
+)
 
-pub returns-in-Err-clause-refused_output : goal.returns-in-Err-clause-refused_output
-returns-in-Err-clause-refused_output g c = λ n code same.
-    let held = g.D.DeckDevices.written c.args.devices.now in
-    let now = g.D.DeckDevices.written c.feed_all.new.devices in
-    if_some _ _ _ (λ bytes (x : (deck_ending bytes ≡ Refused n code) × HasWritten c.args.options held now bytes). x.1)
-    (met_bad c.args.options (g.D.DeckDevices.remaining c.args.devices.now) held now c.new-feed.result c.new-feed.ensures.start n code
-    (c.feed_all.ensures.refused n code (c.in-Err.is ∙ refused_so c.in-Err.error n code same)))
+pub returns-clause-read_fault : goal.returns-clause-read_fault
+returns-clause-read_fault g c = λ fault.
+    c.run_cards-answer.ensures.read_fault (was_so _ _ _ _ ReadFault (λ e. cc) c.tell_end.ensures.answer fault)
 
-pub returns-in-Ok-clause-begun : goal.returns-in-Ok-clause-begun
-returns-in-Ok-clause-begun g c =
-    let r = c.in-Ok.ensures.runs in
-    let held = g.D.DeckDevices.written c.args.devices.now in
-    let now = g.D.DeckDevices.written c.finish.new.devices in
-    subst (λ (l : Option (List ℕ)). HasBegun c.args.options (g.D.DeckDevices.remaining c.args.devices.now) l held now) (sym c.finish.ensures.apart.0)
-    (finished c.args.options _ _ held _ c.new-feed.result c.new-feed.ensures.start _ r.0 now r.1 c.in-Ok.ensures.at_end c.finish.ensures.begun)
+pub returns-clause-write_fault : goal.returns-clause-write_fault
+returns-clause-write_fault g c = λ fault.
+    c.run_cards-answer.ensures.write_fault (was_so _ _ _ _ WriteFault (λ e. cc) c.tell_end.ensures.answer fault)
 
-pub returns-in-Ok-clause-short : goal.returns-in-Ok-clause-short
-returns-in-Ok-clause-short g c = λ short.
-    let r = c.in-Ok.ensures.runs in
-    let held = g.D.DeckDevices.written c.args.devices.now in
-    let now = g.D.DeckDevices.written c.finish.new.devices in
-    let at = c.finish.ensures.short short in
-    let broke = broke_behind _ _ held _ c.new-feed.result _ r.0 r.1 now 1 c.feed_all.new.shortage.line at.1 at.0 r.2 in
-    subst (λ (l : Option (List ℕ)). HasBrokenOff c.args.options (g.D.DeckDevices.remaining c.args.devices.now) l held now) (sym c.finish.ensures.apart.0)
-    (broken_off c.args.options _ _ held now _ (broken_off_at c.args.options _ _ held now c.new-feed.result broke.0 c.new-feed.ensures.start _ broke.1))
-
-pub returns-in-Ok-clause-line : goal.returns-in-Ok-clause-line
-returns-in-Ok-clause-line g c = λ short.
-    let r = c.in-Ok.ensures.runs in
-    let held = g.D.DeckDevices.written c.args.devices.now in
-    let now = g.D.DeckDevices.written c.finish.new.devices in
-    let line = c.feed_all.new.shortage.line in
-    let at = c.finish.ensures.short short in
-    let broke = broke_behind _ _ held _ c.new-feed.result _ r.0 r.1 now 1 line at.1 at.0 r.2 in
-    subst (λ (l : Option (List ℕ)). HasBrokenOffAt c.args.options line (g.D.DeckDevices.remaining c.args.devices.now) l held now) (sym c.finish.ensures.apart.0)
-    (broken_off_at c.args.options _ _ held now c.new-feed.result broke.0 c.new-feed.ensures.start _ broke.1)
-
-pub returns-in-Err-clause-begun : goal.returns-in-Err-clause-begun
-returns-in-Err-clause-begun g c =
-    let b = c.in-Err.ensures.begun in
-    broken c.args.options _ _ _ _ c.new-feed.result c.new-feed.ensures.start b.0 b.1
-
-pub returns-in-Err-clause-due : goal.returns-in-Err-clause-due
-returns-in-Err-clause-due g c = λ fault.
-    let r = c.feed_all.ensures.due (c.in-Err.is ∙ fault_so c.in-Err.error fault) in
-    due c.args.options _ _ _ _ c.new-feed.result r.0 c.new-feed.ensures.start _ r.1
-
-pub returns-in-Err-clause-short : goal.returns-in-Err-clause-short
-returns-in-Err-clause-short g c = λ short.
-    let b = c.feed_all.ensures.short (c.in-Err.is ∙ memory_so c.in-Err.error short) in
-    broken_off c.args.options _ _ _ _ _ (broken_off_at c.args.options _ _ _ _ c.new-feed.result b.0 c.new-feed.ensures.start _ b.1)
-
-pub returns-in-Err-clause-line : goal.returns-in-Err-clause-line
-returns-in-Err-clause-line g c = λ short.
-    let b = c.feed_all.ensures.short (c.in-Err.is ∙ memory_so c.in-Err.error short) in
-    broken_off_at c.args.options _ _ _ _ c.new-feed.result b.0 c.new-feed.ensures.start _ b.1
-
-pub returns-in_err-out-clause-begun : goal.returns-in_err-out-clause-begun
-returns-in_err-out-clause-begun g c = broken c.args.options _ _ _ _ c.new-feed.result c.new-feed.ensures.start [] (begun_at_start _ _ _)
-
-pub returns-in_err-out-clause-short : goal.returns-in_err-out-clause-short
-returns-in_err-out-clause-short g c = λ short.
-    let b = broke_at_start (g.D.DeckDevices.remaining c.args.devices.now) (g.D.DeckDevices.written c.args.devices.now) c.new-feed.result 1 refl (search rules) in
-    broken_off c.args.options _ _ _ _ 1 (broken_off_at c.args.options _ _ _ _ c.new-feed.result b.0 c.new-feed.ensures.start 1 b.1)
-
-pub returns-in_err-out-clause-line : goal.returns-in_err-out-clause-line
-returns-in_err-out-clause-line g c = λ short.
-    let b = broke_at_start (g.D.DeckDevices.remaining c.args.devices.now) (g.D.DeckDevices.written c.args.devices.now) c.new-feed.result _ c.new.ensures.line (search rules) in
-    broken_off_at c.args.options _ _ _ _ c.new-feed.result b.0 c.new-feed.ensures.start _ b.1
+pub returns-clause-audit_fault : goal.returns-clause-audit_fault
+returns-clause-audit_fault g c = λ fault.
+    audit_fault _ _ _ _ c.tell_end.ensures.answer (λ was.
+    let before = c.run_cards-answer.ensures.audit_fault was in
+    (before.0, subst (λ (s : Standing). s.failed ≡ true) (sym (c.tell_end.ensures.broken (ap is_broken was)).1) before.1)) fault

@@ -3,21 +3,21 @@ use Rattle.rounds.proofs.Standing.{head_within, refused_in_head, told_refused, t
 use Rattle.rounds.proofs.running.serve_round.Goals as goal
 
 pub begin-requires : goal.begin-requires
-begin-requires c = omega (arith, c.requires, head_within c.args.head.items c.args.texts.now)
+begin-requires g c = omega (arith, c.requires, head_within c.args.head.items c.args.texts.now)
 
 pub serve_rest-requires : goal.serve_rest-requires
-serve_rest-requires c = (c.args.options, c.args.head.items, c.in-Ok.ensures.stands, c.requires)
+serve_rest-requires g c = (c.args.options, c.args.head.items, g.A.Sink.standing c.args.audit.now, c.in-Ok.ensures.stands, c.requires)
 
 pub returns-in-Ok-clause-ended : goal.returns-in-Ok-clause-ended
-returns-in-Ok-clause-ended c = c.serve_rest.ensures.ended c.args.options c.args.head.items c.in-Ok.ensures.stands
+returns-in-Ok-clause-ended g c = c.serve_rest.ensures.ended c.args.options c.args.head.items (g.A.Sink.standing c.args.audit.now) c.in-Ok.ensures.stands
 
 pub returns-in-Ok-clause-refused : goal.returns-in-Ok-clause-refused
-returns-in-Ok-clause-refused c = c.serve_rest.ensures.refused c.args.options c.args.head.items c.in-Ok.ensures.stands
+returns-in-Ok-clause-refused g c = c.serve_rest.ensures.refused c.args.options c.args.head.items (g.A.Sink.standing c.args.audit.now) c.in-Ok.ensures.stands
 
 pub returns-in-Err-clause-refused : goal.returns-in-Err-clause-refused
-returns-in-Err-clause-refused c = λ n code same.
+returns-in-Err-clause-refused g c = λ n code same.
     refused_in_head c.args.head.items c.args.texts.now n code
     (c.begin.ensures.refused n code (c.in-Err.is ∙ told_refused c.in-Err.error c.told_of.result n code c.told_of.ensures.refused same))
 
 pub returns-in-Err-clause-memory : goal.returns-in-Err-clause-memory
-returns-in-Err-clause-memory c = λ k same. omega (arith, told_memory c.told_of.result k 0 c.told_of.ensures.memory same)
+returns-in-Err-clause-memory g c = λ k same. omega (arith, told_memory c.told_of.result k 0 c.told_of.ensures.memory same)

@@ -6,10 +6,10 @@ use Rattle.scheduler.proofs.Shorthand.{turns_ahead}
 use Rattle.scheduler.proofs.slot.run_to_end.Given as goal
 
 abbrev pub invariant-turns : goal.invariant-turns
-invariant-turns l = record {
-  on : GoesOn (slot_of l.fn.slot) l.fn.catalogue (slot_of l.slot) l.catalogue;
+invariant-turns g l = record {
+  on : GoesOn (slot_of l.fn.slot) l.fn.catalogue (slot_of l.slot) l.catalogue (g.S.Sink.standing l.fn.audit) (g.S.Sink.standing l.audit);
   fit : CacheFits l.guard l.catalogue;
 }
 
 abbrev pub decreases-turns : goal.decreases-turns
-decreases-turns l = turns_ahead (Some (slot_of l.slot))
+decreases-turns g l = turns_ahead (Some (slot_of l.slot))

@@ -2,4 +2,4 @@
 use Rattle.snomon.proofs.run.given_options.Goals as goal
 
 pub returns-in-Ok-clause-refused : goal.returns-in-Ok-clause-refused
-returns-in-Ok-clause-refused g c = rw (c.in-Ok.is, ← c.as_slice.ensures.value) c.read_options.ensures.refused
+returns-in-Ok-clause-refused g c = rw (c.in-Ok.is) c.read_words.ensures.refused

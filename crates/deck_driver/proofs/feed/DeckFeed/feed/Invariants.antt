@@ -5,8 +5,8 @@ use Rattle.deck_driver.specs.inner.Pieces.{TookUpTo, LeavesNothing}
 use Rattle.deck_driver.proofs.feed.DeckFeed.feed.Given as goal
 
 abbrev pub invariant-lines : goal.invariant-lines
-invariant-lines l = record {
-  told : TookUpTo l.fn.out l.fn.self l.fn.piece l.out l.self l.rest;
+invariant-lines g l = record {
+  told : TookUpTo l.fn.out l.fn.self l.fn.piece l.out l.self l.rest (g.S.Sink.standing l.fn.audit) (g.S.Sink.standing l.audit);
   appends : Begins l.fn.out l.out;
   fed : l.self.fed + length l.rest ≡ l.fn.self.fed + length l.fn.piece;
   within : length l.rest ≤ length l.fn.piece;
@@ -16,4 +16,4 @@ invariant-lines l = record {
 }
 
 abbrev pub decreases-lines : goal.decreases-lines
-decreases-lines l = length l.rest
+decreases-lines g l = length l.rest

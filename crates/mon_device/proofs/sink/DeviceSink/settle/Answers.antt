@@ -1,4 +1,3 @@
-use Rattle.std.proofs.Common.{refl}
 use Rattle.mon_device.proofs.Putting.{puts_nothing}
 use Rattle.mon_device.proofs.sink.DeviceSink.settle.Goals as goal
 

@@ -1,9 +1,16 @@
 use Rattle.std.proofs.Common.{refl}
 use Rattle.mon_monitor.specs.Abstraction.{system_of}
-use Rattle.mon_monitor.proofs.Playing.{served}
+use Rattle.mon_monitor.specs.Events.{Serve}
+use Rattle.mon_monitor.specs.Audit.{event_lines}
+use Rattle.mon_monitor.proofs.Playing.{served, said_so, on_err, none_told}
 use Rattle.mon_monitor.proofs.monitor.Monitor.serve_command.Goals as goal
 
 pub returns-clause-happens : goal.returns-clause-happens
-returns-clause-happens c =
-    served c.args.command (system_of c.args.self.now) (system_of c.print_command.new.self) c.args.out.now c.print_command.new.out _
-    c.in_ok-print_command.ensures.system refl c.in_ok-print_command.ensures.printed
+returns-clause-happens g c =
+    served c.args.command (system_of c.args.self.now) (system_of c.put_served.new.self) c.args.out.now c.put_served.new.out _ _ _ _
+    c.in_ok-said.ensures.system refl c.in_ok-said.ensures.printed
+    (said_so c.args.command (system_of c.args.self.now) (system_of c.put_served.new.self) c.in_ok-said.said c.catalogue.result.now c.in_ok-said.ensures.said c.in_ok-said.ensures.system c.catalogue.ensures)
+    c.print_command.ensures
+
+pub returns-in_err-said-clause-broken : goal.returns-in_err-said-clause-broken
+returns-in_err-said-clause-broken g c = on_err c.from_residual.result (none_told (event_lines (Serve c.args.command)) (system_of c.args.self.now) _ _ refl)

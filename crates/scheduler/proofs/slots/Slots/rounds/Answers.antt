@@ -8,11 +8,12 @@ use Rattle.scheduler.proofs.Rounding.{going_begins, going_to, going_done}
 use Rattle.scheduler.proofs.slots.Slots.rounds.Goals as goal
 
 pub rounds-init : goal.rounds-init
-rounds-init c = record {
+rounds-init g c = record {
   going =
       let w = scheduler c.args.catalogue.now (slots_in c.args.self.now) in
       rw c.begin_rounds.ensures
-      (subst (λ (l : List JobEnd). Going (stop_of c.args.goal) w l w) (sym c.in_ok-ends.ensures.items) (going_begins (stop_of c.args.goal) w));
+      (let a = g.S.Sink.standing c.args.audit.now in
+      subst (λ (l : List JobEnd). Going (stop_of c.args.goal) w l w a a) (sym c.in_ok-ends.ensures.items) (going_begins (stop_of c.args.goal) w a));
   room =
       let k = jobs_few (slots_in c.args.self.now) in
       rw c.begin_rounds.ensures (omega (arith, k, c.in_ok-ends.ensures.len, c.in_ok-ends.ensures.capacity, c.len.ensures));
@@ -21,25 +22,25 @@ rounds-init c = record {
 }
 
 pub some_rounds-requires-clause-busy : goal.some_rounds-requires-clause-busy
-some_rounds-requires-clause-busy c = sym (c.is_met.ensures c.rounds.catalogue) ∙ c.rounds-test.true
+some_rounds-requires-clause-busy g c = sym (c.is_met.ensures c.rounds.catalogue) ∙ c.rounds-test.true
 
 pub rounds-smaller : goal.rounds-smaller
-rounds-smaller c = c.some_rounds.ensures.less
+rounds-smaller g c = c.some_rounds.ensures.less
 
 pub rounds-preserved : goal.rounds-preserved
-rounds-preserved c =
+rounds-preserved g c =
     let w = scheduler c.args.catalogue.now (slots_in c.args.self.now) in
     let now = scheduler c.rounds.catalogue (slots_in c.rounds.self) in
     let now' = scheduler c.some_rounds.new.catalogue (slots_in c.some_rounds.new.self) in
     record {
-      going = going_to (stop_of c.args.goal) w c.rounds.ends.items c.some_rounds.new.ends.items now now' c.rounds.invariant.going c.some_rounds.ensures.going;
+      going = going_to (stop_of c.args.goal) w c.rounds.ends.items c.some_rounds.new.ends.items now now' _ _ _ c.rounds.invariant.going c.some_rounds.ensures.going;
       room = c.some_rounds.ensures.room;
       fit = c.some_rounds.ensures.fit;
       size = c.some_rounds.ensures.size ∙ c.rounds.invariant.size;
     }
 
 pub returns-clause-rounds : goal.returns-clause-rounds
-returns-clause-rounds c =
+returns-clause-rounds g c =
     rw c.end_turns.ensures.slots
-    (going_done (stop_of c.args.goal) (scheduler c.args.catalogue.now (slots_in c.args.self.now)) c.rounds.ends.items (scheduler c.rounds.catalogue (slots_in c.rounds.self))
+    (going_done (stop_of c.args.goal) (scheduler c.args.catalogue.now (slots_in c.args.self.now)) c.rounds.ends.items (scheduler c.rounds.catalogue (slots_in c.rounds.self)) _ _
     (sym (c.is_met.ensures c.rounds.catalogue) ∙ c.rounds-test.false) c.rounds.invariant.going)

@@ -9,12 +9,13 @@ use Rattle.scheduler.specs.inner.Stepping.{jobs_in}
 use Rattle.scheduler.proofs.slots.Slots.rounds.Given as goal
 
 abbrev pub invariant-rounds : goal.invariant-rounds
-invariant-rounds l = record {
-  going : Going (stop_of l.goal) (scheduler l.fn.catalogue (slots_in l.fn.self)) l.ends.items (scheduler l.catalogue (slots_in l.self));
+invariant-rounds g l = record {
+  going : Going (stop_of l.goal) (scheduler l.fn.catalogue (slots_in l.fn.self)) l.ends.items (scheduler l.catalogue (slots_in l.self))
+      (g.S.Sink.standing l.fn.audit) (g.S.Sink.standing l.audit);
   room : vec_len l.ends + jobs_in (slots_in l.self) ≤ vec_capacity l.ends;
   size : length (slots_in l.self) ≡ length (slots_in l.fn.self);
   fit : CacheFits l.guard l.catalogue;
 }
 
 abbrev pub decreases-rounds : goal.decreases-rounds
-decreases-rounds l = turns_left (slots_in l.self)
+decreases-rounds g l = turns_left (slots_in l.self)

@@ -9,8 +9,9 @@ use Rattle.scheduler.specs.inner.Stepping.{jobs_in}
 use Rattle.scheduler.proofs.slots.Slots.turns.Given as goal
 
 abbrev pub invariant-loop-number : goal.invariant-loop-number
-invariant-loop-number l = record {
-  ahead : Ahead never l.order (scheduler l.fn.catalogue (slots_in l.fn.self)) l.ends.items (drop l.number-index l.order) (scheduler l.catalogue (slots_in l.self));
+invariant-loop-number g l = record {
+  ahead : Ahead never l.order (scheduler l.fn.catalogue (slots_in l.fn.self)) l.ends.items (drop l.number-index l.order) (scheduler l.catalogue (slots_in l.self))
+      (g.S.Sink.standing l.fn.audit) (g.S.Sink.standing l.audit);
   room : vec_len l.ends + min (jobs_in (slots_in l.self)) (length l.order - l.number-index) ≤ vec_capacity l.ends;
   size : length (slots_in l.self) ≡ length (slots_in l.fn.self);
   fit : CacheFits l.guard l.catalogue;

@@ -1,5 +1,0 @@
-use Rattle.audit.proofs.Named.{accesses_named}
-use Rattle.audit.proofs.laws.accesses_are_named.Goals as goal
-
-pub returns : goal.returns
-returns c = accesses_named c.grants_are_named.ensures c.changes_are_named.ensures

@@ -1,0 +1,62 @@
+-- THE LINES OF AN AUDIT that speak of jobs (own): each names the job and its account. What a line says of a request, mon_audit says.
+use Rattle.std.specs.Prelude.{ℕ, Bool, List, [], ◌∷◌, ◌++◌, length, codes, drop, Option, if◌then◌else◌}
+use Rattle.std.specs.List.{flat_map}
+use Rattle.mon_command.specs.Printouts.{number}
+use Rattle.mon_audit.specs.Words.{job_line}
+use Rattle.mon_audit.specs.Requests.{request_line, asked_of}
+use Rattle.scheduler.specs.declared.job_end.JobEnd.{JobEnd}
+use Rattle.scheduler.specs.declared.refusal.LoadError.{LoadError}
+use Rattle.scheduler.specs.declared.refusal.LoadError.TheVariants.{NoSlot, NoAccount, Cards, Syntax}
+use Rattle.scheduler.specs.declared.turned.Turned.{Turned}
+use Rattle.scheduler.specs.declared.turned.Turned.TheVariants.{Empty, Goes, Ended}
+use Rattle.scheduler.specs.Printouts.{ending_words, unit_refusal, syntax_words}
+use Rattle.scheduler.specs.States.{SchedulerState, job_in}
+use Rattle.scheduler.specs.Marks.{Mark, Marks, mark_of, turn_as, rounds, turns_left}
+use Rattle.scheduler.specs.Exchanged.{Exchanged, asked_in}
+
+-- why a job is not loaded; for want of a slot none is refused
+abbrev pub refusal_words : LoadError → List ℕ
+refusal_words NoSlot = codes "NO SLOT"
+refusal_words NoAccount = codes "M2 NO ACCOUNT"
+refusal_words (Cards error) = unit_refusal error
+refusal_words (Syntax error) = syntax_words error
+
+abbrev pub loaded_line : ℕ → List ℕ → List ℕ
+loaded_line n account = job_line n account (codes " LOADED")
+
+abbrev pub refused_line : ℕ → List ℕ → LoadError → List ℕ
+refused_line n account refusal = job_line n account (codes " REFUSED " ++ refusal_words refusal)
+
+-- how a job has ended, and after how many statements
+abbrev pub ended_line : JobEnd → List ℕ
+ended_line end = job_line end.number end.account (codes " ENDED" ++ ending_words end.ending ++ codes " AFTER" ++ number end.statements)
+
+-- a request of a job, as it was answered
+abbrev pub exchanged_line : Exchanged → List ℕ
+exchanged_line e = request_line (asked_of e.number e.account e.reach e.request) e.answer
+
+-- THE LINES OF TURNS
+
+abbrev pub exchanged_lines : List Exchanged → List ℕ
+exchanged_lines asked = flat_map exchanged_line asked
+
+-- of the job that has ended with a turn, if one has
+abbrev pub end_lines : Turned → List ℕ
+end_lines Empty = []
+end_lines Goes = []
+end_lines (Ended e) = ended_line e
+
+-- of a turn of the job in a slot: of all that it asks, and of its end
+abbrev pub turn_lines : Option Mark → ℕ → SchedulerState → List ℕ
+turn_lines m s w = exchanged_lines (asked_in m (job_in s w) w.sets) ++ end_lines (turn_as m s w).0
+
+-- of turns of the jobs in these slots, until the scheduler is one to stop at
+abbrev pub lines_until : (SchedulerState → Bool) → List ℕ → Marks → SchedulerState → List ℕ
+lines_until stop [] m w = []
+lines_until stop (s ∷ E) m w =
+    if stop w then []
+    else turn_lines (mark_of m) s w ++ lines_until stop E (drop 1 m) (turn_as (mark_of m) s w).1
+
+-- of rounds of turns, until the scheduler is one to stop at
+abbrev pub lines_of_rounds : (SchedulerState → Bool) → Marks → SchedulerState → List ℕ
+lines_of_rounds stop m w = lines_until stop (rounds (turns_left w.slots) (length w.slots)) m w
