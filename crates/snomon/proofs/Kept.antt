@@ -1,5 +1,5 @@
 -- What a file has taken of an audit that was put to it, where all of it was.
-use Rattle.std.proofs.Common.{◌≡◌, ◌⊎◌, inl, inr, ℕ, Bool, true, false, List, [], ◌++◌, Option, Some, None, Result, Ok, Err, IfSome, refl, sym, ap, ◌∙◌, arith, append-nil}
+use Rattle.std.proofs.Common.{◌≡◌, ◌⊎◌, inl, inr, ℕ, Bool, true, false, List, [], ◌++◌, Option, Some, None, Result, Ok, Err, IfSome, refl, sym, ap, ◌∙◌, arith, append-nil, subst}
 use Rattle.mon_device.specs.Devices.{holding}
 use Rattle.mon_device.specs.Putting.{Standing, Puts}
 use Rattle.mon_device.proofs.Putting.{puts_then}
@@ -14,7 +14,7 @@ use Rattle.deck_run.specs.Audited.{end_told, is_broken, IsSettled}
 use Rattle.deck_run.specs.Faults.{status_of}
 use Rattle.deck_run.specs.declared.shortage.Shortage.{Shortage}
 use Rattle.snomon.specs.Auditing.{Audits}
-use Rattle.snomon.specs.Endings.{Ends}
+use Rattle.snomon.specs.Endings.{Ends, heard_as}
 use Rattle.snomon.specs.Streams.{Comes}
 
 all_taken : (a b : Standing) (text : List ℕ) → a.gathered ≡ [] → IsSettled b → Puts a b text → b.written ≡ holding a.written text
@@ -94,3 +94,13 @@ pub lent_still : (options : Options) (told left held now : Option (List ℕ)) (a
 lent_still options told left held now a b heeded status is_told before after ends =
     let begun = ends.comes.begun.1 in
     begun.2.apart.2 ∙ begun.1.5.apart.2
+
+pub heard : (options : Options) (told left held now : Option (List ℕ)) (a b : Standing) (heeded : Bool) (status : ℕ) (is_told : Bool) (before after : Option (List ℕ))
+    → heeded ≡ true → Ends options told left held now a b heeded status is_told before after → Ends options told left held now a b true status is_told before after
+heard options told left held now a b heeded status is_told before after is ends =
+    subst (λ (h : Bool). Ends options told left held now a b h status is_told before after) is ends
+
+-- where somebody listens, a sink stands as the one that it puts to
+pub heard_is : (h : Bool) (a : Standing) → h ≡ true → heard_as h a ≡ a
+heard_is true a e = refl
+heard_is false a e = cc

@@ -1,5 +1,5 @@
 -- What the program ends with, once its words have given options (own): the exit status, and what is told of a fault.
-use Rattle.std.specs.Prelude.{◌≡◌, ℕ, List, [], ◌++◌, Bool, true, IsTrue, Option, Some, None, Result, Ok, Err}
+use Rattle.std.specs.Prelude.{◌≡◌, ℕ, List, ◌++◌, Bool, true, false, IsTrue, Option, Some, Result, Ok, Err}
 use Rattle.std.specs.Io.KnownBytes.{Keeps, Appends}
 use Rattle.mon_device.specs.Putting.{Standing}
 use Rattle.deck_driver.specs.declared.fault.RunError.{RunError}
@@ -21,9 +21,10 @@ abbrev pub Tells : Result Counts RunError → Option Shortage → Bool → Optio
 Tells (Ok counts) shortage is_told before after = Keeps before after
 Tells (Err fault) shortage is_told before after = IsTrue is_told → Appends before after (told_of fault shortage)
 
--- how a sink stands to which nobody listens
-abbrev pub unheard : Standing
-unheard = record { written = None; gathered = []; failed = true; remaining = None; reads = 0; lent = [] }
+-- how a sink stands to which somebody listens, or nobody: then as one that has failed
+abbrev pub heard_as : Bool → Standing → Standing
+heard_as true a = a
+heard_as false a = record a { failed = true }
 
 -- A run with these options has come out in some way, which the status and the stream of errors tell. Its audit's sink, which somebody
 -- listens to or not, stood as a says at first, and stands as b says in the end.

@@ -1,20 +1,21 @@
 //! What the program does, over any streams of std: from its words and three streams to what stands in these and the exit status.
-ghost use Rattle.std.specs.Prelude.{◌≡◌, ◌⊎◌, ℕ, List, Option, false, map, IfOk, IfErr, OnErr, IsOkAnd, IsErrAnd, Err, None};
+ghost use Rattle.std.specs.Prelude.{◌≡◌, ◌⊎◌, ℕ, List, Option, is_some, map, IfOk, IfErr, OnErr, IsOkAnd, IsErrAnd, Err, None};
 ghost use Rattle.std.specs.Option.{option_map};
 ghost use Rattle.std.specs.String.{string_bytes};
 ghost use Rattle.clap.specs.Words.{kind_of};
 ghost use Rattle.deck_driver.specs.declared.options.Options.{Options};
+ghost use Rattle.mon_device.specs.Putting.{Standing};
 ghost use Rattle.snomon.specs.Streams.{told_since};
-ghost use Rattle.snomon.specs.Endings.{Ends, Tells, unheard};
+ghost use Rattle.snomon.specs.Endings.{Ends, Tells};
 ghost use Rattle.snomon.specs.Asking.{GivesAll};
 
 use crate::asking::take_audit;
+use crate::audit::run_audited;
 use crate::options::{no_text, read_options};
-use crate::shell::{Ended, finish, refuse, run_options};
+use crate::shell::{Ended, finish, refuse};
 use clap::Error;
 use clap::error::ErrorKind;
 use deck_driver::{Options, RunError};
-use deck_run::NoAudit;
 use sno_text::Seed;
 use std::alloc::{AllocError, Global};
 use std::convert::AsStr;
@@ -30,27 +31,30 @@ pub struct Given {
     pub audit: Option<String>,
 }
 
-/// Runs the deck that comes from one stream as its options say, writes its output to another, and tells on a third stream what went
-/// wrong. Where there are no options, it tells why.
-pub fn run<R: Read + Drop, W: Write + Drop, E: Write + Drop>(
+/// Runs the deck that comes from one stream as its options say, writes its output to another, what it does to a file, if there is one, and
+/// tells on a third stream what went wrong. Where there are no options, it tells why.
+pub fn run<R: Read + Drop, W: Write + Drop, E: Write + Drop, F: Write + Drop>(
     alloc: Global,
     given: Result<Given, Error>,
     input: R,
     output: W,
     errors: E,
+    file: Option<F>,
 ) -> Ended<R, W, E>
     // The status is 2 only where there are no options, and memory was not short; then no deck is read.
     ensures refused { result.status ≡ 2 → IsErrAnd given (λ error. kind_of error ≡ ErrorKind.OutOfMemory → ⊥) }
     ensures unread { OnErr given ((result.input ≡ input) × (result.output ≡ output)) }
-    ensures ran { IfOk given (λ given. Ends given.options (R.remaining input) (told_since (R.remaining input) (R.remaining result.input))
-        (W.contents output) (told_since (W.contents output) (W.contents result.output)) unheard unheard false
-        result.status result.is_told (E.contents errors) (E.contents result.errors)) }
+    ensures ran { IfOk given (λ given. ((a b : Standing) × Ends given.options (R.remaining input) (told_since (R.remaining input) (R.remaining result.input))
+        (W.contents output) (told_since (W.contents output) (W.contents result.output)) a b (is_some file)
+        result.status result.is_told (E.contents errors) (E.contents result.errors))
+        ⊎ ((result.status ≡ 3) × Tells (Err RunError.Memory) None result.is_told (E.contents errors) (E.contents result.errors)
+        × (result.input ≡ input) × (result.output ≡ output))) }
     ensures short { IfErr given (λ error. (result.status ≡ 2)
         ⊎ ((result.status ≡ 3) × Tells (Err RunError.Memory) None result.is_told (E.contents errors) (E.contents result.errors))) }
     ensures silent { result.status ≡ 0 → result.errors ≡ errors }
 {
     match given {
-        Ok(given) => run_options(alloc, given.options, input, output, errors, &mut NoAudit),
+        Ok(given) => run_audited(alloc, given.options, input, output, errors, file).ended,
         Err(error) if error.kind() == ErrorKind::OutOfMemory => {
             finish(alloc, Err(RunError::Memory), None, input, output, errors)
         }
