@@ -17,12 +17,15 @@ use crate::monitor::Monitor;
 use crate::printed::{Piece, Printed};
 use mon_audit::print_command;
 use mon_catalogue::Catalogue;
-use mon_command::{Command, Said};
+use mon_command::{Command, Said, put_listing};
 use mon_device::Sink;
 use mon_text::{Name, Stop};
 use scheduler::{JobDeck, print_loaded, print_refused, put_refusal};
 use std::alloc::{AllocError, Global};
 use std::rc::Rc;
+
+/// How many records are copied into a text where a command lists them.
+const FEW_RECORDS: u64 = 64;
 
 impl Monitor {
     /// A command is served. It gives no turn.
@@ -59,9 +62,16 @@ impl Monitor {
         ensures nothing { OnErr result (out.new ≡ out.old) }
     {
         if let Command::List { account, name } = command {
-            if let Some(count) = self.lists_many(account, name) {
-                self.print_listing(account, name, out)?;
-                return Ok(Said::Records(count));
+            match self.listed(account, name) {
+                Some(records) if records.len() > FEW_RECORDS => {
+                    self.print_listing(account, name, out)?;
+                    return Ok(Said::Records(records.len()));
+                }
+                Some(records) if out.rest.is_empty() => {
+                    put_listing(account, name, records, &mut out.text)?;
+                    return Ok(Said::Records(records.len()));
+                }
+                _ => {}
             }
         }
         self.print_other(alloc, command, out)
