@@ -1,6 +1,6 @@
 //! The walk with the trees that it makes.
 
-ghost use Rattle.std.specs.Prelude.{◌≡◌, ◌≤◌, IfOk, length, drop, true, false, Some, None};
+ghost use Rattle.std.specs.Prelude.{◌≡◌, ◌≤◌, IfOk, IfSome, length, drop, true, false, Some, None};
 ghost use Rattle.sno_expression.specs.Marks.{operator_of, prefix_of};
 ghost use Rattle.sno_expression.specs.inner.Walking.{inner_of};
 ghost use Rattle.sno_expression.specs.Expressions as expressions;
@@ -11,7 +11,7 @@ ghost use Rattle.sno_expression.specs.Abstraction.{expression_of, arguments_of, 
 ghost use Rattle.sno_expression.specs.inner.Told.{spine_tree, hole_of, stack_of, frame_of, state_of, stepped, step_of, Next, End};
 
 use crate::growing::{add_argument, omit_argument, tree_of, with_prefix};
-use crate::pushing::{alone, closed as closed_tree, push};
+use crate::pushing::{alone, append, closed as closed_tree, goes_under_all, push};
 use crate::spine::Spine;
 use crate::tree::{
     Arguments, BinaryOperator, Call, Expression, IdentifierPrefix, Prefix, TableItem,
@@ -20,6 +20,7 @@ use crate::tree::{
 use crate::walking::{Paren, opens_bracket, stops};
 use sno_lexer::{Characters, Constant, Mark, Token, TokenKind, Word};
 use std::alloc::{AllocError, Global};
+use std::mem;
 
 /// What waits for an operand.
 #[derive(Drop)]
@@ -684,6 +685,95 @@ fn read(alloc: Global, alone: bool, state: State, token: &Token) -> Result<Step,
     }
 }
 
+// The name of a token that stands behind a blank.
+#[inline(always)]
+fn name_behind_blank<'a, 'b>(token: &'a Token<'b>) -> Option<&'a Word<'b>>
+    ensures { IfSome result (λ name. (token.now.blank_before ≡ true) × (token.now.kind ≡ TokenKind.Identifier name.now)) }
+{
+    match &token.kind {
+        TokenKind::Identifier(name) if token.blank_before => Some(name),
+        _ => None,
+    }
+}
+
+// Further names that are concatenated: each that stands behind a blank, from a place of the tokens on. It tells where the next stands.
+#[inline(never)]
+fn names_follow(
+    alloc: Global,
+    spine: &mut Spine,
+    name: &mut Characters,
+    tokens: &[Token],
+    from: usize,
+) -> Result<usize, AllocError>
+    requires { from ≤ length tokens.now }
+    ensures within { IfOk result (λ at. (from ≤ at) × (at ≤ length tokens.now)) }
+    ensures same { IfOk result (λ at. reads_on (states.Named (states.After (spine_tree spine.old) BinaryOperator.Concatenation) name.old) (drop from tokens.now) ≡ reads_on (states.Named (states.After (spine_tree spine.new) BinaryOperator.Concatenation) name.new) (drop at tokens.now)) }
+{
+    let mut at = from;
+    while at < tokens.len() && goes_under_all(BinaryOperator::Concatenation, spine) {
+        match name_behind_blank(&tokens[at]) {
+            Some(next) => {
+                let next = next.characters(alloc)?;
+                let before = mem::replace(name, next);
+                append(BinaryOperator::Concatenation, Expression::Identifier(before), spine)?;
+                at += 1;
+            }
+            None => return Ok(at),
+        }
+    }
+    Ok(at)
+}
+
+// A state where a name stands behind a concatenation, and how many tokens were taken to come there.
+#[derive(Drop)]
+struct Run {
+    state: State,
+    next: usize,
+}
+
+// Where a name stands behind a concatenation, those that follow it are read at once: nothing is moved from step to step. It stays a
+// call, since most names are followed by something else.
+#[inline(never)]
+fn run_on(
+    alloc: Global,
+    alone: bool,
+    state: State,
+    tokens: &[Token],
+    from: usize,
+) -> Result<Run, AllocError>
+    requires { from ≤ length tokens.now }
+    ensures within { IfOk result (λ run. (from ≤ run.next) × (run.next ≤ length tokens.now)) }
+    ensures same { IfOk result (λ run. walked alone (state_of state) (drop from tokens.now) ≡ walked alone (state_of run.state) (drop run.next tokens.now)) }
+{
+    let mut state = state;
+    if closed(alone, &state.stack) {
+        return Ok(Run { state, next: from });
+    }
+    let next = match &mut state.spot {
+        Spot::Named(Hole::After(spine, BinaryOperator::Concatenation), name) => {
+            names_follow(alloc, spine, name, tokens, from)?
+        }
+        _ => from,
+    };
+    Ok(Run { state, next })
+}
+
+// Whether two names follow one another, each behind a blank, from a place on.
+#[inline(always)]
+fn names_stand(tokens: &[Token], at: usize) -> bool
+{
+    match tokens.get(at) {
+        Some(token) => match name_behind_blank(token) {
+            Some(_) => match tokens.get(at + 1) {
+                Some(token) => name_behind_blank(token).is_some(),
+                None => false,
+            },
+            None => false,
+        },
+        None => false,
+    }
+}
+
 // The tree at the end of the tokens, where one is complete.
 fn finish(alloc: Global, state: State) -> Result<Option<Expression>, AllocError>
     ensures { IfOk result (λ t. expressions_of t ≡ result_of (state_of state)) }
@@ -721,10 +811,20 @@ pub fn read_expression(
         stack: Stack::Bottom,
         spot: Spot::Due(Hole::Begin),
     };
-    for i in from..tokens.len() {
-        match read(alloc, alone, state, &tokens[i])? {
-            Step::Next(next) => state = next,
-            Step::End(tree) => return Ok(Found { tree, next: i }),
+    let mut at = from;
+    while at < tokens.len() {
+        match read(alloc, alone, state, &tokens[at])? {
+            Step::Next(next) => {
+                at += 1;
+                if names_stand(tokens, at) {
+                    let run = run_on(alloc, alone, next, tokens, at)?;
+                    state = run.state;
+                    at = run.next;
+                } else {
+                    state = next;
+                }
+            }
+            Step::End(tree) => return Ok(Found { tree, next: at }),
         }
     }
     let tree = finish(alloc, state)?;

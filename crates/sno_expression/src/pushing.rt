@@ -1,6 +1,6 @@
 //! One more operand on an open spine: each operator is opened and closed once, whatever the depth.
 
-ghost use Rattle.std.specs.Prelude.{◌≡◌, true, IfOk};
+ghost use Rattle.std.specs.Prelude.{◌≡◌, true, IfOk, OnOk};
 ghost use Rattle.sno_expression.specs.inner.Levels.{FitsLeft};
 ghost use Rattle.sno_expression.specs.inner.Reading.{push};
 ghost use Rattle.sno_expression.specs.inner.Spines.{is_element, is_ordered, is_under_all};
@@ -12,6 +12,7 @@ use crate::growing::join;
 use crate::spine::Spine;
 use crate::tree::{BinaryOperator, Expression, Operands, Pending, binds_into_right};
 use std::alloc::{AllocError, Global};
+use std::mem;
 
 // One more operator, the innermost, with its operands.
 #[tactic(auto, using(crate::proofs::Spines::ordered_pushed, crate::proofs::Spines::grown_pushed))]
@@ -118,6 +119,34 @@ pub(crate) fn push(
 {
     let Spine { pending, last } = spine;
     grow(alloc, operator, operand, pending, last)
+}
+
+/// Whether the operator may stand under all that are open.
+#[inline(always)]
+pub(crate) fn goes_under_all(operator: BinaryOperator, spine: &Spine) -> bool
+    ensures { result ≡ is_under_all operator spine.now.pending.items }
+{
+    goes_under(operator, spine.pending.as_slice())
+}
+
+/// One more operand at the right end, of an operator that may stand under all that are open: what stood there is its left one.
+///
+/// # Errors
+///
+/// Where a growth was refused; what stood at the right end is lost then.
+#[inline(always)]
+pub(crate) fn append(
+    operator: BinaryOperator,
+    operand: Expression,
+    spine: &mut Spine,
+) -> Result<(), AllocError>
+    requires element { is_element operand ≡ true }
+    requires under { is_under_all operator spine.old.pending.items ≡ true }
+    ensures { OnOk result (spine_tree spine.new ≡ push operator (expression_of operand) (spine_tree spine.old)) }
+{
+    let left = mem::replace(&mut spine.last, operand);
+    spine.pending.push(Pending { left, operator })?;
+    Ok(())
 }
 
 /// The tree, when no more operands come.
