@@ -51,7 +51,14 @@ pub(crate) fn trimmed(text: &[u8]) -> &[u8]
 fn first_place(text: &[u8], separator: u8) -> Option<usize>
     ensures { result ≡ position (λ b. b == separator) text.now }
 {
-    text.iter().position(|byte| *byte == separator)
+    let mut at = 0;
+    while at < text.len() {
+        if text[at] == separator {
+            return Some(at);
+        }
+        at += 1;
+    }
+    None
 }
 
 /// What stands before the first separator, and what behind it, where there is one.

@@ -17,14 +17,31 @@ pub(crate) enum Form {
 }
 
 impl Form {
-    /// The text of the next entry, and what is left behind it; none where no entry is left.
-    pub(crate) fn next(self, rest: Option<&[u8]>) -> Option<(&[u8], Option<&[u8]>)>
+    /// Whether a text may have comments: then it has `#` somewhere. It is looked through at once, so that lines need not be.
+    pub(crate) fn has_comments(self, text: &[u8]) -> bool
+        ensures { result ≡ false → list_any (λ b. b == 35) text.now ≡ false }
+    {
+        let mut found = false;
+        for byte in text {
+            found |= *byte == b'#';
+        }
+        found
+    }
+
+    /// The text of the next entry, and what is left behind it; none where no entry is left. Where there are no comments none is
+    /// looked for.
+    pub(crate) fn next(
+        self,
+        commented: bool,
+        rest: Option<&[u8]>,
+    ) -> Option<(&[u8], Option<&[u8]>)>
+        requires { commented ≡ false → IfSome (option_copied rest.entry) (λ text. list_any (λ b. b == 35) text ≡ false) }
         ensures next { MatchOption result (pieces_left self (option_copied rest.entry) ≡ []) (λ p. pieces_left self (option_copied rest.entry) ≡ p.0.now ∷ pieces_left self (option_copied p.1)) }
         ensures shorter { IfSome result (λ p. left (option_copied p.1) < left (option_copied rest.entry)) }
     {
         match self {
             Form::Short => Some(cut(rest?, b',')),
-            Form::Long => next_filled_line(rest),
+            Form::Long => next_filled_line(commented, rest),
         }
     }
 }
@@ -45,14 +62,15 @@ fn is_blank(line: &[u8]) -> bool
 }
 
 /// The next line that has an entry, without its comment, and the lines behind it.
-fn next_filled_line(lines: Option<&[u8]>) -> Option<(&[u8], Option<&[u8]>)>
+fn next_filled_line(commented: bool, lines: Option<&[u8]>) -> Option<(&[u8], Option<&[u8]>)>
+    requires { commented ≡ false → IfSome (option_copied lines.entry) (λ text. list_any (λ b. b == 35) text ≡ false) }
     ensures next { MatchOption result (pieces_left form.Long (option_copied lines.entry) ≡ []) (λ p. pieces_left form.Long (option_copied lines.entry) ≡ p.0.now ∷ pieces_left form.Long (option_copied p.1)) }
     ensures shorter { IfSome result (λ p. left (option_copied p.1) < left (option_copied lines.entry)) }
 {
     let mut rest = lines;
     while let Some(lines) = rest {
         let (line, after) = cut(lines, b'\n');
-        let entry = without_comment(line);
+        let entry = if commented { without_comment(line) } else { line };
         if !is_blank(entry) {
             return Some((entry, after));
         }
