@@ -16,14 +16,24 @@ pub const ROOM: usize = 1_024;
 // Where a line ends at the most, so that four bytes say it.
 const LAST_END: usize = u32::MAX as usize;
 
-/// Lines in order, one behind the other in one piece of memory: 4,294,967,295 characters at the most.
+/// How many bytes are put at once.
+const PIECE: usize = 2_048;
+
+/// How many bytes are gathered where lines are put with something before each of them.
+const GATHERED: usize = 4_096;
+
+/// From how many lines on they are gathered.
+const MANY: usize = 16;
+
+/// Lines in order, one behind the other in one piece of memory, each with the LF behind it that it is printed with: 4,294,967,295
+/// bytes at the most.
 ///
 /// A contract sees them as a list.
 #[derive(Drop)]
 pub struct PackedLines {
-    // The characters of all lines. From where any line begins there is room for one of `ROOM` characters.
+    // The characters of all lines, and LF behind each. From where any line begins there is room for one of `ROOM` characters.
     bytes: Vec<u8>,
-    // Where each line ends: at `LAST_END` at the most.
+    // Where each line ends, behind its LF: at `LAST_END` at the most.
     ends: Vec<u32>,
 }
 
@@ -34,7 +44,7 @@ impl Model for PackedLines {
 
     ghost Value = { List (List ℕ) };
 
-    ghost view = { λ l. map (λ i. slice_range l.bytes.items (slice_index_or (0 ∷ l.ends.items) i 0) (slice_index_or l.ends.items i 0)) (range_with_len 0 (length l.ends.items)) };
+    ghost view = { λ l. map (λ i. slice_range l.bytes.items (slice_index_or (0 ∷ l.ends.items) i 0) (slice_index_or l.ends.items i 0 - 1)) (range_with_len 0 (length l.ends.items)) };
 
     ghost invariant = { λ l. IsPacked (min (vec_capacity l.bytes) 4294967295) l.ends.items l.bytes.items (pieces l.ends.items l.bytes.items) };
 }
@@ -83,7 +93,7 @@ impl PackedLines {
         ensures printable { IsLine result.now }
     {
         let start = self.start(at);
-        let end = self.ends[at] as usize;
+        let end = self.ends[at] as usize - 1;
         &self.bytes[start..end]
     }
 
@@ -110,16 +120,81 @@ impl PackedLines {
     pub fn characters(&self) -> usize
         ensures { result ≡ length (concat self.now) }
     {
-        self.bytes.len()
+        self.bytes.len() - self.ends.len()
     }
 
     /// Puts the lines where they stand, each with these bytes before it and LF behind it. It takes no memory.
     pub fn print<S: Sink>(&self, before: &[u8], sink: &mut S)
         ensures { Puts (S.standing sink.old) (S.standing sink.new) (flat_map (λ line. before.now ++ line ++ 10 ∷ []) self.now) }
     {
-        for index in 0..self.len() {
-            sink.put_line(before, self.at(index));
+        if before.is_empty() {
+            self.print_whole(sink);
+        } else if self.len() < MANY {
+            for index in 0..self.len() {
+                sink.put_line(before, self.at(index));
+            }
+        } else {
+            self.print_gathered(before, sink);
         }
+    }
+
+    // Puts the lines, each with LF behind it, piece by piece.
+    fn print_whole<S: Sink>(&self, sink: &mut S)
+        ensures { Puts (S.standing sink.old) (S.standing sink.new) (flat_map (λ line. line ++ 10 ∷ []) self.now) }
+    {
+        let mut from = 0;
+        while from < self.bytes.len() {
+            let to = (from + PIECE).min(self.bytes.len());
+            sink.put(&self.bytes[from..to]);
+            from = to;
+        }
+    }
+
+    // The same, by as many lines at once as can be gathered.
+    #[inline(never)]
+    fn print_gathered<S: Sink>(&self, before: &[u8], sink: &mut S)
+        ensures { Puts (S.standing sink.old) (S.standing sink.new) (flat_map (λ line. before.now ++ line ++ 10 ∷ []) self.now) }
+    {
+        let mut room = [0; GATHERED];
+        let mut at = 0;
+        while at < self.ends.len() {
+            let (next, filled) = self.gather(at, before, &mut room);
+            if filled == 0 {
+                sink.put_line(before, self.at(at));
+                at += 1;
+            } else {
+                sink.put(&room[..filled]);
+                at = next;
+            }
+        }
+    }
+
+    // As many lines from one on as the room takes: which is the next, and how much is filled.
+    fn gather(&self, from: usize, before: &[u8], room: &mut [u8; GATHERED]) -> (usize, usize)
+        requires { from ≤ length self.now }
+        ensures onward { (from ≤ result.0) × (result.0 ≤ length self.now) × (result.1 ≤ GATHERED) }
+        ensures gathered { take result.1 room.new ≡ flat_map (λ line. before.now ++ line ++ 10 ∷ []) (take (result.0 - from) (drop from self.now)) }
+    {
+        let mut filled = 0;
+        let mut start = self.start(from);
+        let mut at = from;
+        while at < self.ends.len() {
+            let end = self.ends[at] as usize;
+            let line = filled + before.len();
+            let all = line + (end - start);
+            if all > GATHERED {
+                return (at, filled);
+            }
+            match before {
+                [byte] => room[filled] = *byte,
+                _ => room[filled..line].copy_from_slice(before),
+            }
+            room[line..all].copy_from_slice(&self.bytes[start..end]);
+            filled = all;
+            start = end;
+            at += 1;
+        }
+        (at, filled)
     }
 
     /// Adds a line at the end.
@@ -133,13 +208,14 @@ impl PackedLines {
         ensures added { OnOk result (self.new ≡ self.old ++ line.now ∷ []) }
         ensures unchanged { OnErr result (self.new ≡ self.old) }
     {
-        let room = line.len().max(ROOM);
+        let room = line.len().max(ROOM) + 1;
         if self.bytes.len() + room > LAST_END {
             return Err(AllocError);
         }
         self.bytes.reserve(room)?;
         self.ends.reserve(1)?;
         self.bytes.extend_from_slice(line).unwrap();
+        self.bytes.push_reserved(b'\n');
         self.ends.push_reserved(self.bytes.len() as u32);
         Ok(())
     }
@@ -154,6 +230,7 @@ impl PackedLines {
         let start = self.start(at);
         self.bytes.truncate(start);
         self.bytes.extend_from_slice(line).unwrap();
+        self.bytes.push_reserved(b'\n');
         self.ends[at] = self.bytes.len() as u32;
         self.ends.truncate(at + 1);
     }
