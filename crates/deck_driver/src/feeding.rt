@@ -173,6 +173,10 @@ impl DeckFeed {
             Ok((used, Some(line))) => {
                 self.fed += used as u64;
                 self.lines_taken += 1;
+                if self.state.take_record(line.text()) {
+                    self.line.reuse(line);
+                    return Ok(used);
+                }
                 let answer = self.state.take_line(
                     alloc,
                     self.options,

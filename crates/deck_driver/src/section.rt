@@ -14,7 +14,7 @@ ghost use Rattle.deck_driver.specs.Feeds.{outcome, refused_at, lines_loaded, is_
 
 use crate::options::{Counts, Options};
 use crate::serving::{close, put_command, put_job};
-use deck_syntax::{DeckError, OpenJob, OpenList, finish_catalogue};
+use deck_syntax::{DeckError, OpenJob, OpenList, finish_catalogue, put_record_line};
 use mon_access::Accounts;
 use mon_catalogue::{Catalogue, Loading};
 use mon_device::Sink;
@@ -104,6 +104,22 @@ impl DeckState {
                 Ok(())
             }
             DeckState::Stopped(_) | DeckState::Refused(..) | DeckState::NoMemory => Ok(()),
+        }
+    }
+
+    // Takes a line that is one more record of a data set of the catalogue: whether it is. Otherwise nothing has changed.
+    #[inline(always)]
+    pub(crate) fn take_record(&mut self, text: &[u8]) -> bool
+        requires within { lines_loaded self.old < 2 ^ 63 }
+        ensures told { result ≡ true → (options : AnyOptions) (out : AnyPrinted) (counts : AnyCounts) → TookLine options self.old text.now out counts self.new out counts }
+        ensures unchanged { result ≡ false → self.new ≡ self.old }
+        ensures within { lines_loaded self.new ≤ lines_loaded self.old + 1 }
+    {
+        match self {
+            DeckState::Reading(Section::Catalogue(_, loading)) => {
+                loading.awaits_records() && put_record_line(loading, text)
+            }
+            _ => false,
         }
     }
 

@@ -169,6 +169,18 @@ pub fn put_account_line(
     Ok(None)
 }
 
+/// Takes a line of the catalogue that is one more record of a data set which is not whole by it: whether it is. Otherwise nothing has
+/// changed. It stays a call of its own, since most lines of a catalogue are records, and take no other room.
+#[inline(never)]
+pub fn put_record_line(loading: &mut Loading, text: &[u8]) -> bool
+    requires { lines_taken loading.old < 2 ^ 63 }
+    ensures goes { result ≡ true → (line_refusal 5000 text.now ≡ None) × (ends_catalogue loading.old text.now ≡ false) × (loading.new ≡ step loading.old text.now) }
+    ensures unchanged { result ≡ false → loading.new ≡ loading.old }
+    ensures counted { lines_taken loading.new ≤ lines_taken loading.old + 1 }
+{
+    check_line(text, MOST_CATALOGUE_LINE_CHARACTERS).is_ok() && loading.take_record(text)
+}
+
 /// Takes a line of the catalogue: whether it is `$STREAM`. Else it is the next line of the catalogue's text.
 ///
 /// # Errors

@@ -138,6 +138,39 @@ impl Loading {
         answer
     }
 
+    /// Takes the next line where it is one more record of a set that is not whole by it, and there is memory for it: whether it is.
+    /// Otherwise nothing has changed.
+    pub fn take_record(&mut self, line: &[u8]) -> bool
+        requires few { lines_taken self.old < 2 ^ 63 }
+        requires printable { IsLine line.now }
+        ensures step { result ≡ true → self.new ≡ step self.old line.now }
+        ensures going { result ≡ true → is_due self.old ≡ false }
+        ensures unchanged { result ≡ false → self.new ≡ self.old }
+    {
+        match &mut self.stage {
+            Stage::RecordsDue(_, set, left) if *left > 1 => {
+                if line.len() > MOST_RECORD_CHARACTERS || set.records.push(line).is_err() {
+                    return false;
+                }
+                *left -= 1;
+                self.lines_taken += 1;
+                true
+            }
+            _ => false,
+        }
+    }
+
+    /// Whether more than one record is due.
+    #[inline(always)]
+    pub fn awaits_records(&self) -> bool
+        ensures { result ≡ true → is_due self.now ≡ false }
+    {
+        match &self.stage {
+            Stage::RecordsDue(_, _, left) => *left > 1,
+            _ => false,
+        }
+    }
+
     /// The catalogue that the lines spell.
     ///
     /// # Errors
