@@ -26,6 +26,18 @@ pub(crate) fn order(x: &[u8; LENGTH], y: &[u8; LENGTH]) -> Ordering
     Ordering::Equal
 }
 
+/// Whether two are the same, where most that are compared are: all words are compared, so that no step waits for another.
+#[inline(always)]
+pub(crate) fn is_same(x: &[u8; LENGTH], y: &[u8; LENGTH]) -> bool
+    ensures { result ≡ pointwise nat_eq x.now y.now }
+{
+    let first = word(x, 0) == word(y, 0);
+    let second = word(x, WORD) == word(y, WORD);
+    let third = word(x, 2 * WORD) == word(y, 2 * WORD);
+    let fourth = word(x, 3 * WORD) == word(y, 3 * WORD);
+    first & second & third & fourth
+}
+
 /// Eight bytes as a number, the first of them the greatest part of it.
 fn word(bytes: &[u8; LENGTH], from: usize) -> u64
     requires { from + 8 ≤ 32 }
