@@ -13,18 +13,22 @@ ghost use Rattle.sno_text.specs.Texts.{without_trailing_blanks};
 
 use itoa::Buffer;
 use mon_text::Line;
+use smallvec::SmallVec;
 use std::alloc::{AllocError, Global};
 use std::cmp::Ordering;
 use std::hash::{Hash, Hasher};
 use std::marker::Model;
 use std::rc::Rc;
 
+/// How many characters lie beside the count of those that share them: a text of more takes a second piece of memory.
+const SHORT: usize = 40;
+
 /// A text of ASCII 32 to 126, which contracts see as the list of its bytes.
 ///
 /// Its copies share the bytes, and the null text takes no memory.
 #[derive(Drop)]
 pub struct Text {
-    bytes: Option<Rc<Vec<u8>>>,
+    bytes: Option<Rc<SmallVec<u8, SHORT>>>,
 }
 
 impl Model for Text {
@@ -50,16 +54,72 @@ pub fn without_trailing_blanks(text: &[u8]) -> &[u8]
     &text[..end]
 }
 
-/// Room for so many bytes and so many more.
-fn room_for(alloc: Global, bytes: usize, more: usize) -> Result<Vec<u8>, AllocError>
+/// Room for so many bytes.
+fn room_for(alloc: Global, bytes: usize) -> Result<Vec<u8>, AllocError>
     ensures empty { IfOk result (λ room. room.items ≡ []) }
-    ensures wide { IfOk result (λ room. bytes + more ≤ vec_capacity room) }
-    ensures memory { OnErr result (0 < bytes + more) }
+    ensures wide { IfOk result (λ room. bytes ≤ vec_capacity room) }
+    ensures memory { OnErr result (0 < bytes) }
 {
-    match bytes.checked_add(more) {
-        Some(all) => Vec::with_capacity(alloc, all),
-        None => Err(AllocError),
+    Vec::with_capacity(alloc, bytes)
+}
+
+/// The text that bytes are.
+#[inline(always)]
+fn text_of(alloc: Global, bytes: SmallVec<u8, SHORT>) -> Result<Text, AllocError>
+    requires { IsLine bytes.items }
+    ensures value { IfOk result (λ text. text ≡ bytes.items) }
+    ensures memory { OnErr result (0 < length bytes.items) }
+{
+    if bytes.is_empty() {
+        return Ok(Text::null());
     }
+    let bytes = Rc::new(alloc, bytes)?;
+    Ok(Text { bytes: Some(bytes) })
+}
+
+/// The text of three pieces, one behind the other, that are short together: they are put into an array, which lies beside the count.
+fn short_of(
+    alloc: Global,
+    first: &[u8],
+    second: &[u8],
+    third: &[u8],
+) -> Result<Text, AllocError>
+    requires short { length first.now + (length second.now + length third.now) ≤ SHORT }
+    requires printable { IsLine (first.now ++ (second.now ++ third.now)) }
+    ensures value { IfOk result (λ text. text ≡ first.now ++ (second.now ++ third.now)) }
+    ensures memory { OnErr result (0 < length (first.now ++ (second.now ++ third.now))) }
+{
+    let mut room = [0; SHORT];
+    let from = first.len();
+    let to = from + second.len();
+    let end = to + third.len();
+    room[..from].copy_from_slice(first);
+    room[from..to].copy_from_slice(second);
+    room[to..end].copy_from_slice(third);
+    text_of(alloc, SmallVec::from_buf_and_len(alloc, room, end))
+}
+
+/// The same of pieces that are longer.
+#[inline(never)]
+fn long_of(
+    alloc: Global,
+    first: &[u8],
+    second: &[u8],
+    third: &[u8],
+) -> Result<Text, AllocError>
+    requires printable { IsLine (first.now ++ (second.now ++ third.now)) }
+    ensures value { IfOk result (λ text. text ≡ first.now ++ (second.now ++ third.now)) }
+    ensures memory { OnErr result (0 < length (first.now ++ (second.now ++ third.now))) }
+{
+    let all = match (first.len() + third.len()).checked_add(second.len()) {
+        Some(all) => all,
+        None => return Err(AllocError),
+    };
+    let mut bytes = room_for(alloc, all)?;
+    bytes.extend_from_slice(first).unwrap();
+    bytes.extend_from_slice(second).unwrap();
+    bytes.extend_from_slice(third).unwrap();
+    Text::of_bytes(alloc, bytes)
 }
 
 impl Text {
@@ -80,11 +140,7 @@ impl Text {
         ensures value { IfOk result (λ text. text ≡ bytes.items) }
         ensures memory { OnErr result (0 < length bytes.items) }
     {
-        if bytes.is_empty() {
-            return Ok(Text::null());
-        }
-        let bytes = Rc::new(alloc, bytes)?;
-        Ok(Text { bytes: Some(bytes) })
+        text_of(alloc, SmallVec::from_vec(bytes))
     }
 
     /// The text that bytes are, which are copied.
@@ -97,9 +153,11 @@ impl Text {
         ensures value { IfOk result (λ text. text ≡ bytes.now) }
         ensures memory { OnErr result (0 < length bytes.now) }
     {
-        let mut copied = room_for(alloc, bytes.len(), 0)?;
-        copied.extend_from_slice(bytes).unwrap();
-        Text::of_bytes(alloc, copied)
+        if bytes.len() <= SHORT {
+            short_of(alloc, bytes, &[], &[])
+        } else {
+            long_of(alloc, bytes, &[], &[])
+        }
     }
 
     /// The text of a line.
@@ -187,11 +245,12 @@ impl Text {
         ensures memory { OnErr result (0 < length (take from self.now ++ (new.now ++ drop to self.now))) }
     {
         let old = self.as_bytes();
-        let mut bytes = room_for(alloc, old.len() - (to - from), new.len())?;
-        bytes.extend_from_slice(&old[..from]).unwrap();
-        bytes.extend_from_slice(new.as_bytes()).unwrap();
-        bytes.extend_from_slice(&old[to..]).unwrap();
-        Text::of_bytes(alloc, bytes)
+        let new = new.as_bytes();
+        if new.len() <= SHORT && old.len() - (to - from) <= SHORT - new.len() {
+            short_of(alloc, &old[..from], new, &old[to..])
+        } else {
+            long_of(alloc, &old[..from], new, &old[to..])
+        }
     }
 
     /// So many of a text, one after the other.
