@@ -7,6 +7,7 @@ ghost use Rattle.deck_driver.specs.declared.options.Counts.{Counts as AnyCounts}
 ghost use Rattle.deck_driver.specs.Printouts.{ReadsBack};
 ghost use Rattle.deck_driver.specs.inner.Lines.{Served, ServeBreaks, Stopping, StopBreaks};
 
+use crate::listing::Listing;
 use crate::options::Counts;
 use deck_syntax::{OpenJob, Turn};
 use mon_catalogue::Catalogue;
@@ -39,6 +40,39 @@ pub(crate) fn put_command<S: Sink>(
     monitor.serve_command(alloc, command, out, audit)?;
     counts.commands += 1;
     Ok(())
+}
+
+// Serves a command that lists records, unless the deck is only to be checked, and counts it.
+pub(crate) fn put_listing<S: Sink>(
+    alloc: Global,
+    check: bool,
+    monitor: &mut Monitor,
+    listing: Listing,
+    counts: &mut Counts,
+    out: &mut Printed,
+    audit: &mut S,
+) -> Result<(), AllocError>
+    requires { counts.old.jobs + counts.old.commands < 2 ^ 63 }
+    ensures served { OnOk result (Served check (Commands (commands.List listing.account listing.name)) (system_of monitor.old) out.old counts.old (system_of monitor.new) out.new counts.new (S.standing audit.old) (S.standing audit.new)) }
+    ensures broken { OnErr result (ServeBreaks check (Commands (commands.List listing.account listing.name)) (system_of monitor.old) counts.old.jobs (S.standing audit.old) (S.standing audit.new)) }
+    ensures counted { counts.new.jobs + counts.new.commands ≤ counts.old.jobs + counts.old.commands + 1 }
+    ensures nothing { OnErr result (out.new ≡ out.old) }
+{
+    // What nobody hears of makes no command, since no line of an audit names it.
+    if !check && !audit.listens() && monitor.serve_listing(&listing.account, &listing.name, out)? {
+        counts.commands += 1;
+        return Ok(());
+    }
+    let Listing { account, name } = listing;
+    put_command(
+        alloc,
+        check,
+        monitor,
+        Command::List { account, name },
+        counts,
+        out,
+        audit,
+    )
 }
 
 // Loads a job, unless the deck is only to be checked, and counts it: the first has number 1.

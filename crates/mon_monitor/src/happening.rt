@@ -49,6 +49,33 @@ impl Monitor {
         Ok(())
     }
 
+    /// Serves a command that lists records, where they are granted: whether they are. Otherwise nothing has changed.
+    ///
+    /// # Errors
+    ///
+    /// Where a growth was refused; nothing was appended then.
+    pub fn serve_listing(
+        &self,
+        account: &Name,
+        name: &Name,
+        out: &mut Printed,
+    ) -> Result<bool, AllocError>
+        ensures happens { result ≡ Ok true → HappensUnmarked (Serve (commands.List account.now name.now)) (system_of self.now) out.old (system_of self.now) out.new }
+        ensures nothing { (result ≢ Ok true) → out.new ≡ out.old }
+    {
+        match self.listed(account, name) {
+            Some(records) if records.len() > FEW_RECORDS => {
+                self.print_listing(account, name, out)?;
+                Ok(true)
+            }
+            Some(records) if out.rest.is_empty() => {
+                put_listing(account, name, records, &mut out.text)?;
+                Ok(true)
+            }
+            _ => Ok(false),
+        }
+    }
+
     // Serves a command and appends its printout. Records that are many are shown from where they stand.
     fn put_served(
         &mut self,
