@@ -78,6 +78,8 @@ fn text_of(alloc: Global, bytes: SmallVec<u8, SHORT>) -> Result<Text, AllocError
 }
 
 /// The text of three pieces, one behind the other, that are short together: they are put into an array, which lies beside the count.
+/// It stays a call, since the array is cleared where this stands.
+#[inline(never)]
 fn short_of(
     alloc: Global,
     first: &[u8],
