@@ -108,6 +108,7 @@ impl Cutting {
     /// # Errors
     ///
     /// Where a growth was refused; a part of them may then have been cut.
+    #[tactic(auto, using(crate::proofs::Feeding::unmarked_fed))]
     pub(crate) fn feed(
         &mut self,
         alloc: Global,
