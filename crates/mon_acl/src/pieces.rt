@@ -1,6 +1,6 @@
 //! Where the entries stand in a text: between commas, or on lines that may end in a comment.
-ghost use Rattle.std.specs.Prelude.{◌≡◌, ◌<◌, ◌∷◌, [], MatchOption, IfSome, option_copied};
-ghost use Rattle.std.specs.List.{list_all};
+ghost use Rattle.std.specs.Prelude.{◌≡◌, ◌==◌, ◌<◌, ◌∷◌, [], false, MatchOption, IfSome, option_copied};
+ghost use Rattle.std.specs.List.{list_all, list_any};
 ghost use Rattle.mon_acl.specs.Texts.{is_gap, without_comment};
 ghost use Rattle.mon_acl.specs.inner.Building.{pieces_left, left};
 ghost use Rattle.mon_acl.specs.declared.pieces.Form.TheVariants as form;
