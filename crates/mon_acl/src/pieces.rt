@@ -30,11 +30,7 @@ impl Form {
 
     /// The text of the next entry, and what is left behind it; none where no entry is left. Where there are no comments none is
     /// looked for.
-    pub(crate) fn next(
-        self,
-        commented: bool,
-        rest: Option<&[u8]>,
-    ) -> Option<(&[u8], Option<&[u8]>)>
+    pub(crate) fn next(self, commented: bool, rest: Option<&[u8]>) -> Option<(&[u8], Option<&[u8]>)>
         requires { commented ≡ false → IfSome (option_copied rest) (λ text. list_any is_hash text ≡ false) }
         ensures next { MatchOption result (pieces_left self (option_copied rest.entry) ≡ []) (λ p. pieces_left self (option_copied rest.entry) ≡ p.0.now ∷ pieces_left self (option_copied p.1)) }
         ensures shorter { IfSome result (λ p. left (option_copied p.1) < left (option_copied rest.entry)) }

@@ -100,13 +100,15 @@ unmarked card column (c ∷ cs) statements piece none =
   where
     rest : List Placed
     rest = placed_on card (column + 1) cs
+
     whole : Cut
     whole = record { statements = statements; piece = piece; literal = None }
+
     by : (q s : Bool) → ((q || s) || list_any (λ c. is_quote c || c == 59) cs) ≡ false
         → (list_any (λ c. is_quote c || c == 59) cs ≡ false → fed (record { statements = statements; piece = piece ++ at card column c ∷ []; literal = None }) rest
-            ≡ record { statements = statements; piece = (piece ++ at card column c ∷ []) ++ rest; literal = None })
+        ≡ record { statements = statements; piece = (piece ++ at card column c ∷ []) ++ rest; literal = None })
         → fed (cond s (record { statements = ended whole; piece = []; literal = cond q (Some c) None })
-            (record { statements = statements; piece = piece ++ at card column c ∷ []; literal = cond q (Some c) None })) rest
+        (record { statements = statements; piece = piece ++ at card column c ∷ []; literal = cond q (Some c) None })) rest
         ≡ record { statements = statements; piece = piece ++ at card column c ∷ rest; literal = None }
     by true s h go = cc
     by false true h go = cc

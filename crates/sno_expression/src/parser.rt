@@ -715,7 +715,11 @@ fn names_follow(
             Some(next) => {
                 let next = next.characters(alloc)?;
                 let before = mem::replace(name, next);
-                append(BinaryOperator::Concatenation, Expression::Identifier(before), spine)?;
+                append(
+                    BinaryOperator::Concatenation,
+                    Expression::Identifier(before),
+                    spine,
+                )?;
                 at += 1;
             }
             None => return Ok(at),
@@ -760,8 +764,7 @@ fn run_on(
 
 // Whether two names follow one another, each behind a blank, from a place on.
 #[inline(always)]
-fn names_stand(tokens: &[Token], at: usize) -> bool
-{
+fn names_stand(tokens: &[Token], at: usize) -> bool {
     match tokens.get(at) {
         Some(token) => match name_behind_blank(token) {
             Some(_) => match tokens.get(at + 1) {

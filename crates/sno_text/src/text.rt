@@ -80,12 +80,7 @@ fn text_of(alloc: Global, bytes: SmallVec<u8, SHORT>) -> Result<Text, AllocError
 /// The text of three pieces, one behind the other, that are short together: they are put into an array, which lies beside the count.
 /// It stays a call, since the array is cleared where this stands.
 #[inline(never)]
-fn short_of(
-    alloc: Global,
-    first: &[u8],
-    second: &[u8],
-    third: &[u8],
-) -> Result<Text, AllocError>
+fn short_of(alloc: Global, first: &[u8], second: &[u8], third: &[u8]) -> Result<Text, AllocError>
     requires short { length first.now + (length second.now + length third.now) ≤ SHORT }
     requires printable { IsLine (first.now ++ (second.now ++ third.now)) }
     ensures value { IfOk result (λ text. text ≡ first.now ++ (second.now ++ third.now)) }
@@ -103,12 +98,7 @@ fn short_of(
 
 /// The same of pieces that are longer.
 #[inline(never)]
-fn long_of(
-    alloc: Global,
-    first: &[u8],
-    second: &[u8],
-    third: &[u8],
-) -> Result<Text, AllocError>
+fn long_of(alloc: Global, first: &[u8], second: &[u8], third: &[u8]) -> Result<Text, AllocError>
     requires printable { IsLine (first.now ++ (second.now ++ third.now)) }
     ensures value { IfOk result (λ text. text ≡ first.now ++ (second.now ++ third.now)) }
     ensures memory { OnErr result (0 < length (first.now ++ (second.now ++ third.now))) }
