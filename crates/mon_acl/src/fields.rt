@@ -1,7 +1,7 @@
 //! Cutting a text at a separator, and skipping the gaps (spaces and tabs) round a field.
-ghost use Rattle.std.specs.Prelude.{◌≡◌, ◌<◌, ◌==◌, ◌∷◌, length, reverse, position, IfSome, option_copied};
-ghost use Rattle.std.specs.List.{slice_split};
-ghost use Rattle.mon_acl.specs.Texts.{is_gap, trimmed};
+ghost use Rattle.std.specs.Prelude.{◌≡◌, ◌<◌, ◌==◌, ◌∷◌, false, length, reverse, position, IfSome, option_copied};
+ghost use Rattle.std.specs.List.{list_any, slice_split};
+ghost use Rattle.mon_acl.specs.Texts.{is_gap, is_hash, trimmed};
 ghost use Rattle.mon_acl.specs.inner.Building.{parts_behind};
 ghost use Rattle.mon_text.specs.Beginnings.{without_leading};
 
@@ -55,9 +55,11 @@ fn first_place(text: &[u8], separator: u8) -> Option<usize>
 }
 
 /// What stands before the first separator, and what behind it, where there is one.
+#[tactic(auto, using(crate::proofs::Clean::any_take, crate::proofs::Clean::any_drop))]
 pub(crate) fn cut(text: &[u8], separator: u8) -> (&[u8], Option<&[u8]>)
     ensures parts { slice_split (λ b. b == separator) text.now ≡ result.0.now ∷ parts_behind (λ b. b == separator) (option_copied result.1) }
     ensures shorter { IfSome result.1 (λ rest. length rest.now < length text.now) }
+    ensures clean { list_any is_hash text.now ≡ false → (list_any is_hash result.0.now ≡ false) × IfSome (option_copied result.1) (λ rest. list_any is_hash rest ≡ false) }
 {
     match first_place(text, separator) {
         Some(i) => (&text[..i], Some(&text[i + 1..])),

@@ -278,7 +278,8 @@ fn read_entries(
     let mut entries = SmallVec::new(alloc);
     let mut n = 1;
     let mut rest = Some(text);
-    while let Some((piece, after)) = form.next(rest) {
+    let commented = form.has_comments(text);
+    while let Some((piece, after)) = form.next(commented, rest) {
         read_piece(&mut entries, n, piece)?;
         n += 1;
         rest = after;

@@ -1,7 +1,7 @@
 //! Where the entries stand in a text: between commas, or on lines that may end in a comment.
-ghost use Rattle.std.specs.Prelude.{◌≡◌, ◌<◌, ◌∷◌, [], MatchOption, IfSome, option_copied};
-ghost use Rattle.std.specs.List.{list_all};
-ghost use Rattle.mon_acl.specs.Texts.{is_gap, without_comment};
+ghost use Rattle.std.specs.Prelude.{◌≡◌, ◌==◌, ◌<◌, ◌∷◌, [], false, MatchOption, IfSome, option_copied};
+ghost use Rattle.std.specs.List.{list_all, list_any};
+ghost use Rattle.mon_acl.specs.Texts.{is_gap, is_hash, without_comment};
 ghost use Rattle.mon_acl.specs.inner.Building.{pieces_left, left};
 ghost use Rattle.mon_acl.specs.declared.pieces.Form.TheVariants as form;
 
@@ -17,14 +17,28 @@ pub(crate) enum Form {
 }
 
 impl Form {
-    /// The text of the next entry, and what is left behind it; none where no entry is left.
-    pub(crate) fn next(self, rest: Option<&[u8]>) -> Option<(&[u8], Option<&[u8]>)>
+    /// Whether a text may have comments: then it has `#` somewhere. It is looked through at once, so that lines need not be.
+    pub(crate) fn has_comments(self, text: &[u8]) -> bool
+        ensures { result ≡ list_any is_hash text.now }
+    {
+        let mut found = false;
+        for byte in text {
+            found |= *byte == b'#';
+        }
+        found
+    }
+
+    /// The text of the next entry, and what is left behind it; none where no entry is left. Where there are no comments none is
+    /// looked for.
+    pub(crate) fn next(self, commented: bool, rest: Option<&[u8]>) -> Option<(&[u8], Option<&[u8]>)>
+        requires { commented ≡ false → IfSome (option_copied rest) (λ text. list_any is_hash text ≡ false) }
         ensures next { MatchOption result (pieces_left self (option_copied rest.entry) ≡ []) (λ p. pieces_left self (option_copied rest.entry) ≡ p.0.now ∷ pieces_left self (option_copied p.1)) }
         ensures shorter { IfSome result (λ p. left (option_copied p.1) < left (option_copied rest.entry)) }
+        ensures clean { commented ≡ false → IfSome result (λ p. IfSome (option_copied p.1) (λ text. list_any is_hash text ≡ false)) }
     {
         match self {
             Form::Short => Some(cut(rest?, b',')),
-            Form::Long => next_filled_line(rest),
+            Form::Long => next_filled_line(commented, rest),
         }
     }
 }
@@ -37,6 +51,20 @@ fn without_comment(line: &[u8]) -> &[u8]
     entry
 }
 
+/// The same, where it may be known that no line has one.
+#[inline(always)]
+#[tactic(auto, using(crate::proofs::Clean::no_comment))]
+fn entry_on(commented: bool, line: &[u8]) -> &[u8]
+    requires { commented ≡ false → list_any is_hash line.now ≡ false }
+    ensures { result.now ≡ without_comment line.now }
+{
+    if commented {
+        without_comment(line)
+    } else {
+        line
+    }
+}
+
 /// Whether a line has nothing but gaps.
 fn is_blank(line: &[u8]) -> bool
     ensures { result ≡ list_all is_gap line.now }
@@ -45,14 +73,16 @@ fn is_blank(line: &[u8]) -> bool
 }
 
 /// The next line that has an entry, without its comment, and the lines behind it.
-fn next_filled_line(lines: Option<&[u8]>) -> Option<(&[u8], Option<&[u8]>)>
+fn next_filled_line(commented: bool, lines: Option<&[u8]>) -> Option<(&[u8], Option<&[u8]>)>
+    requires { commented ≡ false → IfSome (option_copied lines) (λ text. list_any is_hash text ≡ false) }
     ensures next { MatchOption result (pieces_left form.Long (option_copied lines.entry) ≡ []) (λ p. pieces_left form.Long (option_copied lines.entry) ≡ p.0.now ∷ pieces_left form.Long (option_copied p.1)) }
     ensures shorter { IfSome result (λ p. left (option_copied p.1) < left (option_copied lines.entry)) }
+    ensures clean { commented ≡ false → IfSome result (λ p. IfSome (option_copied p.1) (λ text. list_any is_hash text ≡ false)) }
 {
     let mut rest = lines;
     while let Some(lines) = rest {
         let (line, after) = cut(lines, b'\n');
-        let entry = without_comment(line);
+        let entry = entry_on(commented, line);
         if !is_blank(entry) {
             return Some((entry, after));
         }

@@ -1,6 +1,7 @@
 -- A card is fed to the line that is being cut, character by character.
-use Rattle.std.proofs.Common.{◌≡◌, ℕ, ◌+◌, ◌-◌, ◌<◌, ◌≤◌, true, false, List, [], ◌∷◌, ◌++◌, length, length-drop, take, drop, get_or, Option, refl, sym, ap, ◌∙◌, append_assoc, append-nil, arith}
-use Rattle.std.specs.List.{slice_range}
+use Rattle.std.proofs.Common.{◌≡◌, ◌==◌, ◌||◌, ℕ, ◌+◌, ◌-◌, ◌<◌, ◌≤◌, Bool, true, false, cond, List, [], ◌∷◌, ◌++◌, length, length-drop, take, drop, get_or, Option, Some, None, refl, sym, ap, ◌∙◌, append_assoc, append-nil, arith}
+use Rattle.std.specs.List.{slice_range, list_any}
+use Rattle.mon_text.specs.Characters.{is_quote}
 use Rattle.std.proofs.lemmas.List.{drop_more, take_more, get_or-drop, length-take-le}
 use Rattle.sno_cards.specs.Texts.{Placed}
 use Rattle.sno_cards.specs.Statements.{ends_statement, literal_after, placed_on}
@@ -87,3 +88,36 @@ piece_goes_on card column text from i d c next literal within below goes is quot
     ∙ ap (λ ps. record { statements = c.statements; piece = ps; literal = literal_after c.literal (get_or text i d) }) longer
     ∙ sym stepped in
     fed_more card column text i d so_far below ∙ ap (λ n. fed n (placed_on card (column + (i + 1)) (drop (i + 1) text))) (sym same)
+
+-- CHARACTERS THAT BEGIN NO LITERAL AND END NO STATEMENT
+
+unmarked : (card column : ℕ) (text : List ℕ) (statements : List (List Placed)) (piece : List Placed) → list_any (λ c. is_quote c || c == 59) text ≡ false
+    → fed (record { statements = statements; piece = piece; literal = None }) (placed_on card column text)
+    ≡ record { statements = statements; piece = piece ++ placed_on card column text; literal = None }
+unmarked card column [] statements piece none = ap (λ (ps : List Placed). record { statements = statements; piece = ps; literal = None }) (sym (append-nil piece))
+unmarked card column (c ∷ cs) statements piece none =
+    by (is_quote c) (c == 59) none (unmarked card (column + 1) cs statements (piece ++ at card column c ∷ []))
+  where
+    rest : List Placed
+    rest = placed_on card (column + 1) cs
+
+    whole : Cut
+    whole = record { statements = statements; piece = piece; literal = None }
+
+    by : (q s : Bool) → ((q || s) || list_any (λ c. is_quote c || c == 59) cs) ≡ false
+        → (list_any (λ c. is_quote c || c == 59) cs ≡ false → fed (record { statements = statements; piece = piece ++ at card column c ∷ []; literal = None }) rest
+        ≡ record { statements = statements; piece = (piece ++ at card column c ∷ []) ++ rest; literal = None })
+        → fed (cond s (record { statements = ended whole; piece = []; literal = cond q (Some c) None })
+        (record { statements = statements; piece = piece ++ at card column c ∷ []; literal = cond q (Some c) None })) rest
+        ≡ record { statements = statements; piece = piece ++ at card column c ∷ rest; literal = None }
+    by true s h go = cc
+    by false true h go = cc
+    by false false h go = go h ∙ ap (λ (ps : List Placed). record { statements = statements; piece = ps; literal = None }) (append_assoc piece (at card column c ∷ []) rest)
+
+-- they go to the piece at once
+pub unmarked_fed : (card column : ℕ) (text : List ℕ) (c : Cut) → c.literal ≡ None → list_any (λ c. is_quote c || c == 59) text ≡ false
+    → fed c (placed_on card column text) ≡ record { statements = c.statements; piece = c.piece ++ placed_on card column text; literal = c.literal }
+unmarked_fed card column text c none clean =
+    ap (λ (l : Option ℕ). fed (record { statements = c.statements; piece = c.piece; literal = l }) (placed_on card column text)) none
+    ∙ unmarked card column text c.statements c.piece clean
+    ∙ ap (λ (l : Option ℕ). record { statements = c.statements; piece = c.piece ++ placed_on card column text; literal = l }) (sym none)

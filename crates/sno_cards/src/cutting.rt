@@ -3,6 +3,7 @@ ghost use Rattle.std.specs.Prelude.{◌≡◌, ◌==◌, ◌||◌, ◌+◌, ◌<
 ghost use Rattle.mon_text.specs.Lines.{is_blank_line};
 ghost use Rattle.sno_cards.specs.Statements.{literal_after, ends_statement, is_statement, placed_on};
 ghost use Rattle.sno_cards.specs.inner.Cuts.{cut_of, begun, ended, fed};
+ghost use Rattle.std.specs.List.{list_any};
 ghost use Rattle.mon_text.specs.Characters.{is_quote};
 
 use crate::text::StatementText;
@@ -37,6 +38,24 @@ fn is_blank_line(text: &[u8]) -> bool
     ensures { result ≡ is_blank_line text.now }
 {
     text.iter().all(|code| *code == b' ')
+}
+
+// Whether a character may begin a literal or end a statement.
+fn is_mark(code: u8) -> bool
+    ensures { result ≡ (is_quote code || code == 59) }
+{
+    is_quote(code) || code == b';'
+}
+
+// Whether any character of a text may. All are looked at, since that goes by many at once.
+fn has_marks(text: &[u8]) -> bool
+    ensures { result ≡ list_any (λ c. is_quote c || c == 59) text.now }
+{
+    let mut found = false;
+    for code in text {
+        found |= is_mark(*code);
+    }
+    found
 }
 
 // Appends a piece of a line, unless it has nothing but blanks.
@@ -89,6 +108,7 @@ impl Cutting {
     /// # Errors
     ///
     /// Where a growth was refused; a part of them may then have been cut.
+    #[tactic(auto, using(crate::proofs::Feeding::unmarked_fed))]
     pub(crate) fn feed(
         &mut self,
         alloc: Global,
@@ -99,6 +119,9 @@ impl Cutting {
         requires { column + length text.now < 2 ^ 64 }
         ensures { OnOk result (cut_of self.new ≡ fed (cut_of self.old) (placed_on card column text.now)) }
     {
+        if self.literal.is_none() && !has_marks(text) {
+            return self.piece.append(card, column, text);
+        }
         let mut from = 0;
         for (index, code) in text.iter().enumerate() {
             if ends_statement(self.literal, *code) {

@@ -11,6 +11,9 @@ use sno_text::{Named, Pat, Seed, Text};
 use sno_value::Value;
 use std::alloc::{AllocError, Global};
 
+/// How many variables there is room for from the beginning: the ten of each job, and those of a small program.
+const FIRST_ROOM: usize = 14;
+
 fn named(alloc: Global, name: &[u8]) -> Result<Named, AllocError>
     requires { IsLine name.now }
     ensures { IfOk result (λ named. named ≡ name.now) }
@@ -113,7 +116,7 @@ fn hold_patterns(alloc: Global, variables: &mut Variables) -> Result<(), AllocEr
 pub fn first_variables(alloc: Global, seed: Seed) -> Result<Variables, AllocError>
     ensures { IfOk result (λ variables. variables ≡ first_variables) }
 {
-    let mut variables = Variables::new(alloc, seed);
+    let mut variables = Variables::with_room(alloc, seed, FIRST_ROOM)?;
     hold_patterns(alloc, &mut variables)?;
     read_input(alloc, &mut variables)?;
     write_to(alloc, &mut variables, b"OUTPUT", 6, 132)?;

@@ -49,14 +49,19 @@ impl Model for Variables {
 }
 
 impl Variables {
-    /// No variables. They are found by a hash of this seed.
-    pub fn new(alloc: Global, seed: Seed) -> Variables
-        ensures { result ≡ [] }
+    /// No variables, with room for so many. They are found by a hash of this seed.
+    ///
+    /// # Errors
+    ///
+    /// Where a growth was refused.
+    pub fn with_room(alloc: Global, seed: Seed, room: usize) -> Result<Variables, AllocError>
+        ensures { IfOk result (λ variables. variables ≡ []) }
     {
-        Variables {
-            variables: IndexMap::with_hasher(alloc, seed),
+        let variables = IndexMap::with_capacity_and_hasher(alloc, room, seed)?;
+        Ok(Variables {
+            variables,
             recent: Recent::new(),
-        }
+        })
     }
 
     /// The variable of a name, which is told its place, and so are names like it that will be formed.

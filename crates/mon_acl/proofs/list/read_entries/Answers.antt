@@ -12,6 +12,7 @@ loop-piece-init c = record {
   counted = omega arith;
   canonical = subst IsCanonical (sym c.new-entries.ensures.items) none_sorted;
   room = omega (arith, c.new-entries.ensures.capacity);
+  clean = search rules;
   read = none_read (pieces_in c.args.form c.args.text.now) _ c.new-entries.ensures.items;
 }
 
@@ -37,6 +38,7 @@ loop-piece-preserved c = record {
   counted = search rules;
   canonical = piece_sorted c.loop-piece.n c.in-Some.piece.now c.loop-piece.entries.items c.read_piece.new.entries.items c.loop-piece.invariant.canonical c.in_ok-read_piece.ensures.added;
   room = omega (arith, c.loop-piece.invariant.room, c.in_ok-read_piece.ensures.capacity);
+  clean = search rules;
   read = more_read (pieces_in c.args.form c.args.text.now) _ c.in-Some.piece.now _ _ _ _ c.loop-piece.invariant.read c.in-Some.ensures.next c.in_ok-read_piece.ensures.added;
 }
 

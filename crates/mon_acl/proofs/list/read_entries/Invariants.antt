@@ -1,4 +1,6 @@
-use Rattle.std.proofs.Common.{length, ◌+◌, ◌≤◌, option_copied}
+use Rattle.std.proofs.Common.{◌≡◌, false, length, ◌+◌, ◌≤◌, IfSome, option_copied}
+use Rattle.std.specs.List.{list_any}
+use Rattle.mon_acl.specs.Texts.{is_hash}
 use Rattle.mon_acl.specs.Entries.{IsCanonical}
 use Rattle.mon_acl.specs.inner.Building.{pieces_in, pieces_left, left}
 use Rattle.mon_acl.proofs.Steps.{IsReadTo}
@@ -9,6 +11,7 @@ invariant-loop-piece l = record {
   counted : l.n + left (option_copied l.rest) ≤ length l.text + 2;
   canonical : IsCanonical l.entries.items;
   room : 4 ≤ l.entries.capacity;
+  clean : l.commented ≡ false → IfSome (option_copied l.rest) (λ text. list_any is_hash text ≡ false);
   read : IsReadTo (pieces_in l.form l.text) (pieces_left l.form (option_copied l.rest)) l.n l.entries.items;
 }
 

@@ -1,4 +1,6 @@
-use Rattle.std.proofs.Common.{◌≡◌, ◌≤◌, option_copied}
+use Rattle.std.proofs.Common.{◌≡◌, ◌≤◌, false, IfSome, option_copied}
+use Rattle.std.specs.List.{list_any}
+use Rattle.mon_acl.specs.Texts.{is_hash}
 use Rattle.mon_acl.specs.inner.Building.{pieces_left, left}
 use Rattle.mon_acl.specs.declared.pieces.Form.TheVariants.{Long}
 use Rattle.mon_acl.proofs.pieces.next_filled_line.Given as goal
@@ -7,6 +9,7 @@ abbrev pub invariant-loop-rest : goal.invariant-loop-rest
 invariant-loop-rest l = record {
   reads : pieces_left Long (option_copied l.fn.lines) ≡ pieces_left Long (option_copied l.rest);
   within : left (option_copied l.rest) ≤ left (option_copied l.fn.lines);
+  clean : l.commented ≡ false → IfSome (option_copied l.rest) (λ text. list_any is_hash text ≡ false);
 }
 
 abbrev pub decreases-loop-rest : goal.decreases-loop-rest
