@@ -2,3 +2,4 @@ pub mod Apart
 pub mod Named
 pub mod Ordered
 mod Unheard
+pub mod Keeping

@@ -4,3 +4,4 @@ pub mod Commands
 pub mod Runs
 pub mod Answering
 pub mod Laws
+pub mod inner

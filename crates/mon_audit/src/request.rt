@@ -80,7 +80,7 @@ fn print_by<S: Sink>(grant: &Option<Reason>, answer: &Answer, sink: &mut S)
     }
 }
 
-fn print_grant<S: Sink>(grant: &Option<Reason>, sink: &mut S)
+pub(crate) fn print_grant<S: Sink>(grant: &Option<Reason>, sink: &mut S)
     ensures { Puts (S.standing sink.old) (S.standing sink.new) (grant_words grant.now) }
 {
     match grant {
@@ -89,14 +89,14 @@ fn print_grant<S: Sink>(grant: &Option<Reason>, sink: &mut S)
     }
 }
 
-fn print_reason_word<S: Sink>(reason: &Reason, sink: &mut S)
+pub(crate) fn print_reason_word<S: Sink>(reason: &Reason, sink: &mut S)
     ensures { Puts (S.standing sink.old) (S.standing sink.new) (word (reason_text reason.now)) }
 {
     sink.put(b" ");
     print_reason(reason.copy(), sink);
 }
 
-fn act_word(act: NoteAct) -> &'static [u8]
+pub(crate) fn act_word(act: NoteAct) -> &'static [u8]
     ensures { result.now ≡ act_word act }
 {
     match act {
@@ -107,7 +107,7 @@ fn act_word(act: NoteAct) -> &'static [u8]
     }
 }
 
-fn target_word(target: &Target) -> &[u8]
+pub(crate) fn target_word(target: &Target) -> &[u8]
     ensures { result.now ≡ target_word target.now }
 {
     match target {

@@ -1,12 +1,17 @@
 //! The service that answers a program's requests from units and data sets, and puts a line for each to an audit.
-ghost use Rattle.std.specs.Prelude.{◌≡◌, length};
+ghost use Rattle.std.specs.Prelude.{◌≡◌, length, IfOk, OnErr};
 ghost use Rattle.std.specs.Option.{option_copied, option_and_then, option_map_or};
 ghost use Rattle.mon_catalogue.specs.Sets.{find_set};
 ghost use Rattle.mon_unit.specs.Lent.{reach_of};
 ghost use Rattle.mon_unit.specs.Serving.{unit_of, note_act, set_at};
+ghost use Rattle.interaction.specs.Fitting.{Fits, IsShort};
+ghost use Rattle.mon_guard.specs.Cache.{CacheFits};
 ghost use Rattle.mon_audit.specs.Requests.{grant, place_in, asked_at, asked_of};
+ghost use Rattle.mon_audit.specs.Answering.{Audited};
+ghost use Rattle.mon_audit.specs.inner.Keeping.{KeptFits};
 
-use crate::request::{Asked, grant, place, print_request};
+use crate::kept::{KeptLines, print_again, print_new};
+use crate::request::{Asked, grant, place};
 use interaction::{Act, Answer, Reason, Request, Service};
 use mon_access::Account;
 use mon_catalogue::{Catalogue, DataSet};
@@ -15,7 +20,7 @@ use mon_unit::{NoteAct, Target, Tie, UnitService};
 use std::alloc::AllocError;
 
 /// Answers as the units do, and puts a line for each exchange to an audit, unless nobody listens. Where a growth is refused there is
-/// no line.
+/// no line. Words of lines are kept for as long as no other job or command has the data sets.
 #[derive(Drop)]
 pub struct AuditedService<'a, 'b, S: Sink> {
     /// The job's number.
@@ -24,36 +29,92 @@ pub struct AuditedService<'a, 'b, S: Sink> {
     pub service: &'a mut UnitService<'b>,
     /// What the lines are put to.
     pub audit: &'a mut S,
+    /// Words of lines that were put.
+    pub kept: &'a mut KeptLines,
 }
 
 impl<S: Sink> Service for AuditedService<'_, '_, S> {
     ghost use Rattle.std.specs.Prelude.{◌≡◌};
     ghost use Rattle.mon_guard.specs.Cache.{CacheFits};
+    ghost use Rattle.mon_unit.specs.Lent.{reach_of};
     ghost use Rattle.mon_audit.specs.Answering.{Audited};
+    ghost use Rattle.mon_audit.specs.inner.Keeping.{KeptFits};
 
-    ghost ready = { λ s. CacheFits s.service.now.guard.now s.service.now.catalogue.now };
+    ghost ready = { λ s. CacheFits s.service.now.guard.now s.service.now.catalogue.now × KeptFits s.number s.service.now.account.now (reach_of s.service.now) s.kept.now };
 
-    ghost answers = { λ s q answer t. Audited s.number s.service.now (S.standing s.audit.now) q answer t.number t.service.now (S.standing t.audit.now) × (t.service.ghost_name ≡ s.service.ghost_name) × (t.audit.ghost_name ≡ s.audit.ghost_name) };
+    ghost answers = { λ s q answer t. Audited s.number s.service.now (S.standing s.audit.now) q answer t.number t.service.now (S.standing t.audit.now) × (t.service.ghost_name ≡ s.service.ghost_name) × (t.audit.ghost_name ≡ s.audit.ghost_name) × (t.kept.ghost_name ≡ s.kept.ghost_name) };
 
     fn ask(&mut self, request: &Request) -> Result<Answer, AllocError> {
         if !self.audit.listens() {
             return self.service.ask(request);
         }
-        let asked = asked_by(self.number, self.service, request.statement, &request.act);
-        let answer = self.service.ask(request)?;
-        print_request(&asked, &answer, self.audit);
-        Ok(answer)
+        ask_heeded(self.number, self.service, request, self.kept, self.audit)
     }
 
     fn ask_once(&mut self, request: Request) -> Result<Answer, AllocError> {
         if !self.audit.listens() {
             return self.service.ask_once(request);
         }
-        let asked = asked_by(self.number, self.service, request.statement, &request.act);
-        let answer = self.service.ask_once(request)?;
-        print_request(&asked, &answer, self.audit);
-        Ok(answer)
+        ask_once_heeded(self.number, self.service, request, self.kept, self.audit)
     }
+}
+
+// Answers a request, and puts its line, of words that are kept where it is like one before.
+fn ask_heeded<S: Sink>(
+    number: u64,
+    service: &mut UnitService,
+    request: &Request,
+    kept: &mut KeptLines,
+    sink: &mut S,
+) -> Result<Answer, AllocError>
+    requires fit { CacheFits service.old.guard.now service.old.catalogue.now }
+    requires kept { KeptFits number service.old.account.now (reach_of service.old) kept.old }
+    requires short { IsShort request.now.act }
+    ensures answered { IfOk result (λ answer. Audited number service.old (S.standing sink.old) request.now answer number service.new (S.standing sink.new)) }
+    ensures fits { IfOk result (λ answer. Fits request.now answer) }
+    ensures unchanged { OnErr result ((service.new ≡ service.old) × (kept.new ≡ kept.old) × (sink.new ≡ sink.old)) }
+    ensures fit { CacheFits service.new.guard.now service.new.catalogue.now }
+    ensures kept { KeptFits number service.new.account.now (reach_of service.new) kept.new }
+{
+    let statement = request.statement;
+    if let Some((line, place)) = kept.known(service, &request.act) {
+        let answer = service.ask(request)?;
+        print_again(line, statement, place, &answer, sink);
+        return Ok(answer);
+    }
+    let asked = asked_by(number, service, statement, &request.act);
+    let answer = service.ask(request)?;
+    print_new(&asked, &answer, service.catalogue, kept, sink);
+    Ok(answer)
+}
+
+// Answers a request that is not needed again, and puts its line, of words that are kept where it is like one before.
+fn ask_once_heeded<S: Sink>(
+    number: u64,
+    service: &mut UnitService,
+    request: Request,
+    kept: &mut KeptLines,
+    sink: &mut S,
+) -> Result<Answer, AllocError>
+    requires fit { CacheFits service.old.guard.now service.old.catalogue.now }
+    requires kept { KeptFits number service.old.account.now (reach_of service.old) kept.old }
+    requires short { IsShort request.act }
+    ensures answered { IfOk result (λ answer. Audited number service.old (S.standing sink.old) request answer number service.new (S.standing sink.new)) }
+    ensures fits { IfOk result (λ answer. Fits request answer) }
+    ensures unchanged { OnErr result ((service.new ≡ service.old) × (kept.new ≡ kept.old) × (sink.new ≡ sink.old)) }
+    ensures fit { CacheFits service.new.guard.now service.new.catalogue.now }
+    ensures kept { KeptFits number service.new.account.now (reach_of service.new) kept.new }
+{
+    let statement = request.statement;
+    if let Some((line, place)) = kept.known(service, &request.act) {
+        let answer = service.ask_once(request)?;
+        print_again(line, statement, place, &answer, sink);
+        return Ok(answer);
+    }
+    let asked = asked_by(number, service, statement, &request.act);
+    let answer = service.ask_once(request)?;
+    print_new(&asked, &answer, service.catalogue, kept, sink);
+    Ok(answer)
 }
 
 // What the line of a request says, as the units and the data sets stand.

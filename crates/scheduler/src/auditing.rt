@@ -17,6 +17,9 @@ use sno_run::Ending;
 pub fn print_loaded<S: Sink>(number: u64, account: &Name, sink: &mut S)
     ensures { Puts (S.standing sink.old) (S.standing sink.new) (loaded_line number account.now) }
 {
+    if !sink.listens() {
+        return;
+    }
     print_head(number, account, sink);
     sink.put(b" LOADED");
     sink.put(b"\n");
@@ -26,6 +29,9 @@ pub fn print_loaded<S: Sink>(number: u64, account: &Name, sink: &mut S)
 pub fn print_refused<S: Sink>(number: u64, account: &Name, refusal: &LoadError, sink: &mut S)
     ensures { Puts (S.standing sink.old) (S.standing sink.new) (refused_line number account.now refusal.now) }
 {
+    if !sink.listens() {
+        return;
+    }
     print_head(number, account, sink);
     print_why(refusal, sink);
     sink.put(b"\n");
@@ -35,6 +41,9 @@ pub fn print_refused<S: Sink>(number: u64, account: &Name, refusal: &LoadError, 
 pub fn print_ended<S: Sink>(end: &JobEnd, sink: &mut S)
     ensures { Puts (S.standing sink.old) (S.standing sink.new) (ended_line end.now) }
 {
+    if !sink.listens() {
+        return;
+    }
     print_head(end.number, &end.account, sink);
     print_how(end.ending, end.statements, sink);
     sink.put(b"\n");

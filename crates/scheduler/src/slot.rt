@@ -5,12 +5,15 @@ ghost use Rattle.scheduler.specs.States.{SlotState};
 ghost use Rattle.scheduler.specs.Abstraction.{slot_of, seat_of};
 ghost use Rattle.scheduler.specs.Turns.{job_end};
 ghost use Rattle.sno_run.specs.Abstraction.{job_of};
+ghost use Rattle.mon_unit.specs.Lent.{reach_of};
+ghost use Rattle.mon_audit.specs.inner.Keeping.{KeptFits};
+ghost use Rattle.scheduler.specs.Turns.{reached};
 ghost use Rattle.scheduler.specs.inner.Stepping.{Done, Stepped, SeatStep};
 ghost use Rattle.scheduler.specs.inner.Alone.{GoesToEnd, SeatEnds};
 
 use crate::job_end::JobEnd;
 use mon_access::Account;
-use mon_audit::AuditedService;
+use mon_audit::{AuditedService, KeptLines};
 use mon_catalogue::Catalogue;
 use mon_device::Sink;
 use mon_guard::Guard;
@@ -36,15 +39,19 @@ fn audited_turn<S: Sink>(
     job: &mut Job,
     service: &mut UnitService,
     audit: &mut S,
+    kept: &mut KeptLines,
 ) -> Step
     requires fit { CacheFits service.old.guard.now service.old.catalogue.now }
+    requires kept { KeptFits number service.old.account.now (reach_of service.old) kept.old }
     ensures turn { Done number (job_of job.old) service.old result (job_of job.new) service.new (S.standing audit.old) (S.standing audit.new) }
     ensures fit { CacheFits service.new.guard.now service.new.catalogue.now }
+    ensures kept { KeptFits number service.new.account.now (reach_of service.new) kept.new }
 {
     let mut audited = AuditedService {
         number,
         service: &mut *service,
         audit: &mut *audit,
+        kept: &mut *kept,
     };
     statement_turn(alloc, job, &mut audited)
 }
@@ -57,10 +64,13 @@ fn turn_of<S: Sink>(
     catalogue: &mut Catalogue,
     slot: &mut Slot,
     audit: &mut S,
+    kept: &mut KeptLines,
 ) -> Step
     requires fit { CacheFits guard.old catalogue.old }
+    requires kept { KeptFits slot.old.number slot.old.account (reached catalogue.old (slot_of slot.old)) kept.old }
     ensures step { Stepped (slot_of slot.old) catalogue.old result (slot_of slot.new) catalogue.new (S.standing audit.old) (S.standing audit.new) }
     ensures fit { CacheFits guard.new catalogue.new }
+    ensures kept { KeptFits slot.new.number slot.new.account (reached catalogue.new (slot_of slot.new)) kept.new }
 {
     let mut service = UnitService {
         alloc,
@@ -69,7 +79,7 @@ fn turn_of<S: Sink>(
         catalogue: &mut *catalogue,
         units: &mut slot.units,
     };
-    audited_turn(alloc, slot.number, &mut slot.job, &mut service, audit)
+    audited_turn(alloc, slot.number, &mut slot.job, &mut service, audit, kept)
 }
 
 // What is left of a job that has ended.
@@ -114,11 +124,14 @@ pub(crate) fn step_at<S: Sink>(
 {
     match seat {
         None => None,
-        Some(slot) => Some(turn_of(alloc, guard, catalogue, slot, audit)),
+        Some(slot) => {
+            let mut kept = KeptLines::none();
+            Some(turn_of(alloc, guard, catalogue, slot, audit, &mut kept))
+        }
     }
 }
 
-// Turns of a job, until it has ended.
+// Turns of a job, until it has ended. Words of the audit's lines are kept from one to the next.
 fn run_to_end<S: Sink>(
     alloc: Global,
     guard: &mut Guard,
@@ -130,8 +143,9 @@ fn run_to_end<S: Sink>(
     ensures goes { GoesToEnd (slot_of slot.old) catalogue.old result (slot_of slot.new) catalogue.new (S.standing audit.old) (S.standing audit.new) }
     ensures fit { CacheFits guard.new catalogue.new }
 {
+    let mut kept = KeptLines::new();
     'turns: loop {
-        match turn_of(alloc, guard, catalogue, slot, audit) {
+        match turn_of(alloc, guard, catalogue, slot, audit, &mut kept) {
             Step::Goes => (),
             Step::Ended(ending) => return ending,
         }

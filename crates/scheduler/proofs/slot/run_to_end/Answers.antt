@@ -3,7 +3,7 @@ use Rattle.scheduler.proofs.Alone.{goes_begins, goes_more, goes_to_end, goes_les
 use Rattle.scheduler.proofs.slot.run_to_end.Goals as goal
 
 pub turns-init : goal.turns-init
-turns-init g c = record { on = goes_begins (slot_of c.args.slot.now) c.args.catalogue.now _; fit = c.requires.fit }
+turns-init g c = record { on = goes_begins (slot_of c.args.slot.now) c.args.catalogue.now _; fit = c.requires.fit; kept = c.new.ensures _ _ _ }
 
 pub returns-in-Ended-clause-goes : goal.returns-in-Ended-clause-goes
 returns-in-Ended-clause-goes g c =
@@ -19,4 +19,5 @@ turns-preserved g c = record {
   on = goes_more (slot_of c.args.slot.now) c.args.catalogue.now (slot_of c.turns.slot) c.turns.catalogue (slot_of c.turn_of.new.slot) c.turn_of.new.catalogue _ _ _
       c.turns.invariant.on c.turn_of.result c.in-Goes.is c.turn_of.ensures.step;
   fit = c.turn_of.ensures.fit;
+  kept = c.turn_of.ensures.kept;
 }

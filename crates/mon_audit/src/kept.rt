@@ -1,0 +1,233 @@
+//! Words of a request's line that the next line of the same act on the same unit has, too.
+//!
+//! A line says much that stays the same as long as the job has the processor: who asks, of what, and by which entry it is granted. So these
+//! words are kept of the last read and of the last write, and are put once more where the same act is asked of the same unit.
+//! Nothing here takes memory.
+ghost use Rattle.std.specs.Prelude.{◌≡◌, ◌++◌, ℕ, Some, codes, decimal, IfSome};
+ghost use Rattle.std.specs.Option.{option_copied, option_and_then};
+ghost use Rattle.mon_access.specs.declared.account.Account.{Account as Who};
+ghost use Rattle.mon_device.specs.Putting.{Puts};
+ghost use Rattle.interaction.specs.declared.answer.Answer.{Answer as Answered};
+ghost use Rattle.mon_catalogue.specs.Sets.{find_set};
+ghost use Rattle.mon_command.specs.Printouts.{word};
+ghost use Rattle.mon_command.specs.Replies.{reason_text};
+ghost use Rattle.mon_unit.specs.Lent.{reach_of};
+ghost use Rattle.mon_unit.specs.Serving.{Reach};
+ghost use Rattle.mon_audit.specs.Requests.{request_line, asked_of};
+ghost use Rattle.mon_audit.specs.inner.Keeping.{KeptFits, HasWords, IsNew, Keeps, IsLineOf, head_words, target_words, outcome_words, again_line, named, appends};
+
+use crate::request::{Asked, act_word, print_grant, print_reason_word, print_request, target_word};
+use crate::words::Words;
+use interaction::{Act, Answer, Reason};
+use itoa::Buffer;
+use mon_catalogue::{Catalogue, Mode};
+use mon_command::{print_number, print_word};
+use mon_device::Sink;
+use mon_text::Name;
+use mon_unit::{NoteAct, Target, UnitService};
+
+/// The words of a line that stand before its statement, between that and its place, and of the entry that grants.
+#[derive(Drop)]
+pub struct KeptLine {
+    unit: u64,
+    head: Words,
+    target: Words,
+    grant: Words,
+}
+
+/// The words of the line of the last read and of the last write, where they are kept.
+#[derive(Drop)]
+pub struct KeptLines {
+    are_kept: bool,
+    read: Option<KeptLine>,
+    write: Option<KeptLine>,
+}
+
+impl KeptLines {
+    /// No words, and none will be kept: for so few requests that it would take longer than they do.
+    pub fn none() -> KeptLines
+        ensures { (n : ℕ) (account : Who) (reach : Reach) → KeptFits n account reach result }
+    {
+        KeptLines {
+            are_kept: false,
+            read: None,
+            write: None,
+        }
+    }
+
+    /// No words so far.
+    pub fn new() -> KeptLines
+        ensures { (n : ℕ) (account : Who) (reach : Reach) → KeptFits n account reach result }
+    {
+        KeptLines {
+            are_kept: true,
+            read: None,
+            write: None,
+        }
+    }
+
+    // What is kept of an act.
+    fn of(&self, act: &Act) -> Option<&KeptLine>
+        ensures { IfSome result (λ line. IsLineOf self.now act.now line.now) }
+    {
+        match act {
+            Act::Read(unit) => of_unit(&self.read, *unit),
+            Act::Write(unit, _) => of_unit(&self.write, *unit),
+            Act::Endfile(_) => None,
+            Act::Rewind(_) => None,
+        }
+    }
+
+    // What is kept of an act, and its place as the units stand.
+    pub(crate) fn known(&self, service: &UnitService, act: &Act) -> Option<(&KeptLine, u64)>
+        ensures { (n : ℕ) → KeptFits n service.now.account.now (reach_of service.now) self.now
+            → IfSome result (λ k. (statement : ℕ) (answer : Answered) → again_line k.0.now statement k.1 answer ≡ request_line (asked_of n service.now.account.now (reach_of service.now) (record { statement = statement; act = act.now })) answer) }
+    {
+        let line = self.of(act)?;
+        let tie = service.units.tie_at(line.unit)?;
+        Some((line, tie.position))
+    }
+
+    // Keeps the words of a line, over the data sets as the request has left them.
+    fn keep(&mut self, asked: &Asked, sets: &Catalogue)
+        ensures { Keeps asked.now sets.now self.old self.new }
+    {
+        match asked.act {
+            NoteAct::Read => self.read = line_of(self.are_kept, asked, sets),
+            NoteAct::Write => self.write = line_of(self.are_kept, asked, sets),
+            NoteAct::Endfile => {}
+            NoteAct::Rewind => {}
+        }
+    }
+}
+
+// What is kept, where that is of this unit.
+fn of_unit(kept: &Option<KeptLine>, unit: u64) -> Option<&KeptLine>
+    ensures { IfSome result (λ line. (kept.now ≡ Some line.now) × (line.now.unit ≡ unit)) }
+{
+    match kept {
+        Some(line) if line.unit == unit => Some(line),
+        _ => None,
+    }
+}
+
+// What is to be kept of a line. What is added to a data set of mode APPEND has its place behind all records, so its line is made anew.
+fn line_of(are_kept: bool, asked: &Asked, sets: &Catalogue) -> Option<KeptLine>
+    ensures { IsNew asked.now sets.now result }
+{
+    if !are_kept || appends(asked.act, &asked.target, sets) {
+        return None;
+    }
+    words_of(asked)
+}
+
+// Whether an act adds to a data set of mode APPEND.
+fn appends(act: NoteAct, target: &Target, sets: &Catalogue) -> bool
+    ensures { result ≡ appends act (option_and_then (λ name. find_set name sets.now) (named target.now)) }
+{
+    match (act, target) {
+        (NoteAct::Write, Target::Set(name)) => match sets.find(name) {
+            Some(set) => matches!(set.mode, Mode::Append),
+            None => false,
+        },
+        _ => false,
+    }
+}
+
+// The words of a line that are kept, if there is room for them.
+fn words_of(asked: &Asked) -> Option<KeptLine>
+    ensures { IfSome result (λ line. HasWords asked.now line) }
+{
+    let mut head = Words::new();
+    print_head(asked.number, &asked.account, &mut head);
+    let mut target = Words::new();
+    print_target(asked, &mut target);
+    let mut grant = Words::new();
+    print_grant(&asked.grant, &mut grant);
+    if head.lack_room() || target.lack_room() || grant.lack_room() {
+        return None;
+    }
+    Some(KeptLine {
+        unit: asked.unit,
+        head,
+        target,
+        grant,
+    })
+}
+
+fn print_head<S: Sink>(number: u64, account: &Name, sink: &mut S)
+    ensures { Puts (S.standing sink.old) (S.standing sink.new) (head_words number account.now) }
+{
+    sink.put(b"JOB");
+    print_number(number, sink);
+    print_word(account.as_bytes(), sink);
+    sink.put(b" ASKED ");
+}
+
+fn print_target<S: Sink>(asked: &Asked, sink: &mut S)
+    ensures { Puts (S.standing sink.old) (S.standing sink.new) (target_words asked.now.act asked.now.unit asked.now.target) }
+{
+    print_word(act_word(asked.act), sink);
+    print_number(asked.unit, sink);
+    print_word(target_word(&asked.target), sink);
+    sink.put(b" ");
+}
+
+/// Puts the line of a request that was answered, and keeps its words, over the data sets as the request has left them.
+pub(crate) fn print_new<S: Sink>(
+    asked: &Asked,
+    answer: &Answer,
+    sets: &Catalogue,
+    kept: &mut KeptLines,
+    sink: &mut S,
+)
+    ensures put { Puts (S.standing sink.old) (S.standing sink.new) (request_line asked.now answer.now) }
+    ensures kept { Keeps asked.now sets.now kept.old kept.new }
+{
+    print_request(asked, answer, sink);
+    kept.keep(asked, sets);
+}
+
+/// Puts the line that has these words, of a request of this statement at this place that was answered.
+pub(crate) fn print_again<S: Sink>(
+    line: &KeptLine,
+    statement: u64,
+    place: u64,
+    answer: &Answer,
+    sink: &mut S,
+)
+    ensures { Puts (S.standing sink.old) (S.standing sink.new) (again_line line.now statement place answer.now) }
+{
+    sink.put(line.head.text());
+    print_digits(statement, sink);
+    sink.put(line.target.text());
+    print_digits(place, sink);
+    print_outcome(line.grant.text(), answer, sink);
+}
+
+fn print_digits<S: Sink>(value: u64, sink: &mut S)
+    ensures { Puts (S.standing sink.old) (S.standing sink.new) (decimal value) }
+{
+    sink.put(Buffer::new().format(value).as_bytes());
+}
+
+// Puts what came of a request, by which grant or why not, and ends the line.
+fn print_outcome<S: Sink>(grant: &[u8], answer: &Answer, sink: &mut S)
+    ensures { Puts (S.standing sink.old) (S.standing sink.new) (outcome_words grant.now answer.now ++ codes "\n") }
+{
+    match answer {
+        Answer::Done => sink.put_line(b" DONE", grant),
+        Answer::Got(_) => sink.put_line(b" GOT", grant),
+        Answer::EndOfFile => sink.put_line(b" EOF", grant),
+        Answer::Full => sink.put_line(b" FULL", grant),
+        Answer::Denied(reason) => print_denial(reason, sink),
+    }
+}
+
+fn print_denial<S: Sink>(reason: &Reason, sink: &mut S)
+    ensures { Puts (S.standing sink.old) (S.standing sink.new) (codes " DENIED" ++ word (reason_text reason.now) ++ codes "\n") }
+{
+    sink.put(b" DENIED");
+    print_reason_word(reason, sink);
+    sink.put(b"\n");
+}
