@@ -31,11 +31,12 @@ use Rattle.mon_unit.proofs.Looks.{targets_stay}
 use Rattle.mon_command.specs.Printouts.{word, number}
 use Rattle.mon_command.specs.Replies.{reason_text}
 use Rattle.mon_audit.specs.declared.request.Asked.{Asked}
-use Rattle.mon_audit.specs.declared.kept.KeptLine.{KeptLine}
+use Rattle.mon_audit.specs.declared.kept_line.KeptLine.{KeptLine}
 use Rattle.mon_audit.specs.declared.kept.KeptLines.{KeptLines}
 use Rattle.mon_audit.specs.Words.{job_line, target_word}
 use Rattle.mon_audit.specs.Requests.{act_word, grant_words, place_words, place_in, request_line, grant, asked_of}
-use Rattle.mon_audit.specs.inner.Keeping.{KeptFits, LineFits, Keeps, IsLineOf, text_of, head_words, target_words, outcome_words, again_line, named, looked, is_append, appends}
+use Rattle.mon_audit.specs.inner.KeptWords.{text_of, head_words, target_words, outcome_words, again_line}
+use Rattle.mon_audit.specs.inner.Keeping.{KeptFits, LineFits, Keeps, IsLineOf, named, looked, is_append, appends}
 
 -- THE LINE
 
@@ -60,7 +61,7 @@ tells_by a Full = tells_with a (word (codes "FULL")) (grant_words a.grant)
 tells_by a (Denied reason) = tells_with a (word (codes "DENIED")) (word (reason_text reason))
 
 tells : (a : Asked) (k : KeptLine) (answer : Answer) → text_of k.head ≡ head_words a.number a.account → text_of k.target ≡ target_words a.act a.unit a.target
-    → text_of k.grant ≡ grant_words a.grant → again_line k a.statement a.place answer ≡ request_line a answer
+    → text_of k.grant ≡ grant_words a.grant → again_line (text_of k.head) a.statement (text_of k.target) a.place (text_of k.grant) answer ≡ request_line a answer
 tells a k answer head target grant =
     ap (λ (t : List ℕ). t ++ decimal a.statement ++ text_of k.target ++ decimal a.place ++ (outcome_words (text_of k.grant) answer ++ codes "\n")) head
     ∙ ap (λ (t : List ℕ). head_words a.number a.account ++ decimal a.statement ++ t ++ decimal a.place ++ (outcome_words (text_of k.grant) answer ++ codes "\n")) target
@@ -249,32 +250,32 @@ line_of : (o : Option KeptLine) (k : KeptLine) (P : KeptLine → Type 0) → o �
 line_of o k P is has = subst (λ (x : Option KeptLine). IfSome x P) is has
 
 known_read : (n : ℕ) (account : Account) (reach : Reach) (u statement : ℕ) (k : KeptLine) (tie : Tie) (answer : Answer) → k.unit ≡ u → LineFits n account reach Read k.unit k
-    → slice_get reach.units.ties k.unit ≡ Some tie → again_line k statement tie.position answer ≡ request_line (asked_of n account reach (record { statement = statement; act = asks.Read u })) answer
+    → slice_get reach.units.ties k.unit ≡ Some tie → again_line (text_of k.head) statement (text_of k.target) tie.position (text_of k.grant) answer ≡ request_line (asked_of n account reach (record { statement = statement; act = asks.Read u })) answer
 known_read n account reach u statement k tie answer unit fits is =
     let q : Request = record { statement = statement; act = asks.Read k.unit } in
     let looks = reads_look k.unit (tie_at reach.units k.unit).target in
-    let here : again_line k statement tie.position answer ≡ request_line (asked_of n account reach q) answer =
-    ap (λ (p : ℕ). again_line k statement p answer) (ap (λ (t : Tie). t.position) (sym (is_tie (slice_get reach.units.ties k.unit) tie is)) ∙ sym (read_place (found reach.sets (set_at (asks.Read k.unit) (tie_at reach.units k.unit).target)) (tie_at reach.units k.unit).position))
+    let here : again_line (text_of k.head) statement (text_of k.target) tie.position (text_of k.grant) answer ≡ request_line (asked_of n account reach q) answer =
+    ap (λ (p : ℕ). again_line (text_of k.head) statement (text_of k.target) p (text_of k.grant) answer) (ap (λ (t : Tie). t.position) (sym (is_tie (slice_get reach.units.ties k.unit) tie is)) ∙ sym (read_place (found reach.sets (set_at (asks.Read k.unit) (tie_at reach.units k.unit).target)) (tie_at reach.units k.unit).position))
     ∙ tells (asked_of n account reach q) k answer fits.head fits.target
     (fits.grant ∙ ap (λ (name : Option (List ℕ)). grant_words (option_and_then (grant account Read) (found reach.sets name))) (sym looks)) in
-    subst (λ (v : ℕ). again_line k statement tie.position answer ≡ request_line (asked_of n account reach (record { statement = statement; act = asks.Read v })) answer) unit here
+    subst (λ (v : ℕ). again_line (text_of k.head) statement (text_of k.target) tie.position (text_of k.grant) answer ≡ request_line (asked_of n account reach (record { statement = statement; act = asks.Read v })) answer) unit here
 
 known_write : (n : ℕ) (account : Account) (reach : Reach) (u statement : ℕ) (line : List ℕ) (k : KeptLine) (tie : Tie) (answer : Answer) → k.unit ≡ u → LineFits n account reach Write k.unit k
-    → slice_get reach.units.ties k.unit ≡ Some tie → again_line k statement tie.position answer ≡ request_line (asked_of n account reach (record { statement = statement; act = asks.Write u line })) answer
+    → slice_get reach.units.ties k.unit ≡ Some tie → again_line (text_of k.head) statement (text_of k.target) tie.position (text_of k.grant) answer ≡ request_line (asked_of n account reach (record { statement = statement; act = asks.Write u line })) answer
 known_write n account reach u statement line k tie answer unit fits is =
     let q : Request = record { statement = statement; act = asks.Write k.unit line } in
     let looks = writes_look k.unit line (tie_at reach.units k.unit).target in
     let there = found reach.sets (set_at (asks.Write k.unit line) (tie_at reach.units k.unit).target) in
-    let here : again_line k statement tie.position answer ≡ request_line (asked_of n account reach q) answer =
-    ap (λ (p : ℕ). again_line k statement p answer) (ap (λ (t : Tie). t.position) (sym (is_tie (slice_get reach.units.ties k.unit) tie is))
+    let here : again_line (text_of k.head) statement (text_of k.target) tie.position (text_of k.grant) answer ≡ request_line (asked_of n account reach q) answer =
+    ap (λ (p : ℕ). again_line (text_of k.head) statement (text_of k.target) p (text_of k.grant) answer) (ap (λ (t : Tie). t.position) (sym (is_tie (slice_get reach.units.ties k.unit) tie is))
     ∙ sym (write_place there (tie_at reach.units k.unit).position (ap (λ (name : Option (List ℕ)). appends Write (found reach.sets name)) looks ∙ fits.moves)))
     ∙ tells (asked_of n account reach q) k answer fits.head fits.target
     (fits.grant ∙ ap (λ (name : Option (List ℕ)). grant_words (option_and_then (grant account Write) (found reach.sets name))) (sym looks)) in
-    subst (λ (v : ℕ). again_line k statement tie.position answer ≡ request_line (asked_of n account reach (record { statement = statement; act = asks.Write v line })) answer) unit here
+    subst (λ (v : ℕ). again_line (text_of k.head) statement (text_of k.target) tie.position (text_of k.grant) answer ≡ request_line (asked_of n account reach (record { statement = statement; act = asks.Write v line })) answer) unit here
 
 pub known : (n : ℕ) (account : Account) (reach : Reach) (kept : KeptLines) (act : Act) (k : KeptLine) (tie : Tie) → KeptFits n account reach kept → IsLineOf kept act k
     → slice_get reach.units.ties k.unit ≡ Some tie → (statement : ℕ) (answer : Answer)
-    → again_line k statement tie.position answer ≡ request_line (asked_of n account reach (record { statement = statement; act = act })) answer
+    → again_line (text_of k.head) statement (text_of k.target) tie.position (text_of k.grant) answer ≡ request_line (asked_of n account reach (record { statement = statement; act = act })) answer
 known n account reach kept (asks.Read u) k tie fits of is statement answer =
     known_read n account reach u statement k tie answer of.1 (line_of kept.read k (λ k. LineFits n account reach Read k.unit k) of.0 fits.0) is
 known n account reach kept (asks.Write u line) k tie fits of is statement answer =

@@ -3,37 +3,27 @@
 //! A line says much that stays the same as long as the job has the processor: who asks, of what, and by which entry it is granted. So these
 //! words are kept of the last read and of the last write, and are put once more where the same act is asked of the same unit.
 //! Nothing here takes memory.
-ghost use Rattle.std.specs.Prelude.{◌≡◌, ◌++◌, ℕ, Some, codes, decimal, IfSome};
+ghost use Rattle.std.specs.Prelude.{◌≡◌, ℕ, Some, IfSome};
 ghost use Rattle.std.specs.Option.{option_copied, option_and_then};
 ghost use Rattle.mon_access.specs.declared.account.Account.{Account as Who};
 ghost use Rattle.mon_device.specs.Putting.{Puts};
 ghost use Rattle.interaction.specs.declared.answer.Answer.{Answer as Answered};
 ghost use Rattle.mon_catalogue.specs.Sets.{find_set};
-ghost use Rattle.mon_command.specs.Printouts.{word};
-ghost use Rattle.mon_command.specs.Replies.{reason_text};
 ghost use Rattle.mon_unit.specs.Lent.{reach_of};
 ghost use Rattle.mon_unit.specs.Serving.{Reach};
 ghost use Rattle.mon_audit.specs.Requests.{request_line, asked_of};
-ghost use Rattle.mon_audit.specs.inner.Keeping.{KeptFits, HasWords, IsNew, Keeps, IsLineOf, head_words, target_words, outcome_words, again_line, named, appends};
+ghost use Rattle.mon_audit.specs.inner.KeptWords.{text_of, head_words, target_words, again_line};
+ghost use Rattle.mon_audit.specs.inner.Keeping.{KeptFits, HasWords, IsNew, Keeps, IsLineOf, named, appends};
 
-use crate::request::{Asked, act_word, print_grant, print_reason_word, print_request, target_word};
+use crate::kept_line::{KeptLine, joined};
+use crate::request::{Asked, act_word, print_grant, print_request, target_word};
 use crate::words::Words;
-use interaction::{Act, Answer, Reason};
-use itoa::Buffer;
+use interaction::{Act, Answer};
 use mon_catalogue::{Catalogue, Mode};
 use mon_command::{print_number, print_word};
 use mon_device::Sink;
 use mon_text::Name;
 use mon_unit::{NoteAct, Target, UnitService};
-
-/// The words of a line that stand before its statement, between that and its place, and of the entry that grants.
-#[derive(Drop)]
-pub struct KeptLine {
-    unit: u64,
-    head: Words,
-    target: Words,
-    grant: Words,
-}
 
 /// The words of the line of the last read and of the last write, where they are kept.
 #[derive(Drop)]
@@ -81,7 +71,7 @@ impl KeptLines {
     // What is kept of an act, and its place as the units stand.
     pub(crate) fn known(&self, service: &UnitService, act: &Act) -> Option<(&KeptLine, u64)>
         ensures { (n : ℕ) → KeptFits n service.now.account.now (reach_of service.now) self.now
-            → IfSome result (λ k. (statement : ℕ) (answer : Answered) → again_line k.0.now statement k.1 answer ≡ request_line (asked_of n service.now.account.now (reach_of service.now) (record { statement = statement; act = act.now })) answer) }
+            → IfSome result (λ k. (statement : ℕ) (answer : Answered) → again_line (text_of k.0.now.head) statement (text_of k.0.now.target) k.1 (text_of k.0.now.grant) answer ≡ request_line (asked_of n service.now.account.now (reach_of service.now) (record { statement = statement; act = act.now })) answer) }
     {
         let line = self.of(act)?;
         let tie = service.units.tie_at(line.unit)?;
@@ -147,12 +137,7 @@ fn words_of(asked: &Asked) -> Option<KeptLine>
     if head.lack_room() || target.lack_room() || grant.lack_room() {
         return None;
     }
-    Some(KeptLine {
-        unit: asked.unit,
-        head,
-        target,
-        grant,
-    })
+    joined(asked, head, target, grant)
 }
 
 fn print_head<S: Sink>(number: u64, account: &Name, sink: &mut S)
@@ -186,48 +171,4 @@ pub(crate) fn print_new<S: Sink>(
 {
     print_request(asked, answer, sink);
     kept.keep(asked, sets);
-}
-
-/// Puts the line that has these words, of a request of this statement at this place that was answered.
-pub(crate) fn print_again<S: Sink>(
-    line: &KeptLine,
-    statement: u64,
-    place: u64,
-    answer: &Answer,
-    sink: &mut S,
-)
-    ensures { Puts (S.standing sink.old) (S.standing sink.new) (again_line line.now statement place answer.now) }
-{
-    sink.put(line.head.text());
-    print_digits(statement, sink);
-    sink.put(line.target.text());
-    print_digits(place, sink);
-    print_outcome(line.grant.text(), answer, sink);
-}
-
-fn print_digits<S: Sink>(value: u64, sink: &mut S)
-    ensures { Puts (S.standing sink.old) (S.standing sink.new) (decimal value) }
-{
-    sink.put(Buffer::new().format(value).as_bytes());
-}
-
-// Puts what came of a request, by which grant or why not, and ends the line.
-fn print_outcome<S: Sink>(grant: &[u8], answer: &Answer, sink: &mut S)
-    ensures { Puts (S.standing sink.old) (S.standing sink.new) (outcome_words grant.now answer.now ++ codes "\n") }
-{
-    match answer {
-        Answer::Done => sink.put_line(b" DONE", grant),
-        Answer::Got(_) => sink.put_line(b" GOT", grant),
-        Answer::EndOfFile => sink.put_line(b" EOF", grant),
-        Answer::Full => sink.put_line(b" FULL", grant),
-        Answer::Denied(reason) => print_denial(reason, sink),
-    }
-}
-
-fn print_denial<S: Sink>(reason: &Reason, sink: &mut S)
-    ensures { Puts (S.standing sink.old) (S.standing sink.new) (codes " DENIED" ++ word (reason_text reason.now) ++ codes "\n") }
-{
-    sink.put(b" DENIED");
-    print_reason_word(reason, sink);
-    sink.put(b"\n");
 }

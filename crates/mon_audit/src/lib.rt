@@ -7,6 +7,7 @@
 
 pub mod command;
 pub mod kept;
+pub mod kept_line;
 pub mod laws;
 pub mod request;
 pub mod run;

@@ -10,7 +10,8 @@ ghost use Rattle.mon_audit.specs.Requests.{grant, place_in, asked_at, asked_of};
 ghost use Rattle.mon_audit.specs.Answering.{Audited};
 ghost use Rattle.mon_audit.specs.inner.Keeping.{KeptFits};
 
-use crate::kept::{KeptLines, print_again, print_new};
+use crate::kept::{KeptLines, print_new};
+use crate::kept_line::print_again;
 use crate::request::{Asked, grant, place};
 use interaction::{Act, Answer, Reason, Request, Service};
 use mon_access::Account;

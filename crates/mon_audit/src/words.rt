@@ -6,7 +6,7 @@ use arrayvec::ArrayVec;
 use mon_device::{Failed, Sink};
 
 /// How many bytes there is room for.
-const ROOM: usize = 64;
+const ROOM: usize = 160;
 
 /// Words that were put one behind the other, as far as there is room for them.
 #[derive(Drop)]

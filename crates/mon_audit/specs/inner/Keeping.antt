@@ -1,5 +1,5 @@
 -- Words of a request's line that are kept: they are those of the next line of the same act on the same unit.
-use Rattle.std.specs.Prelude.{◌≡◌, ℕ, Bool, true, false, List, ◌++◌, codes, decimal, Option, None, Some, IfSome}
+use Rattle.std.specs.Prelude.{◌≡◌, ℕ, Bool, true, false, List, Option, None, Some, IfSome}
 use Rattle.std.specs.Option.{option_and_then}
 use Rattle.mon_access.specs.declared.account.Account.{Account}
 use Rattle.mon_catalogue.specs.declared.mode.Mode.{Mode}
@@ -8,42 +8,17 @@ use Rattle.mon_catalogue.specs.declared.data_set.DataSet.{DataSet}
 use Rattle.mon_catalogue.specs.Sets.{Sets, find_set}
 use Rattle.interaction.specs.declared.request.Act.{Act}
 use Rattle.interaction.specs.declared.request.Act.TheVariants as asks
-use Rattle.interaction.specs.declared.answer.Answer.{Answer}
-use Rattle.interaction.specs.declared.answer.Answer.TheVariants.{Denied}
 use Rattle.mon_unit.specs.declared.note.NoteAct.{NoteAct}
 use Rattle.mon_unit.specs.declared.note.NoteAct.TheVariants.{Read, Write, Endfile, Rewind}
 use Rattle.mon_unit.specs.declared.tie.Target.{Target}
 use Rattle.mon_unit.specs.declared.tie.Target.TheVariants.{Untied, Data, Spool, Set}
 use Rattle.mon_unit.specs.Tying.{tie_at}
 use Rattle.mon_unit.specs.Serving.{Reach}
-use Rattle.mon_command.specs.Printouts.{word, number}
-use Rattle.mon_command.specs.Replies.{reason_text}
 use Rattle.mon_audit.specs.declared.request.Asked.{Asked}
-use Rattle.mon_audit.specs.declared.words.Words.{Words}
-use Rattle.mon_audit.specs.declared.kept.KeptLine.{KeptLine}
+use Rattle.mon_audit.specs.declared.kept_line.KeptLine.{KeptLine}
 use Rattle.mon_audit.specs.declared.kept.KeptLines.{KeptLines}
-use Rattle.mon_audit.specs.Words.{target_word, outcome_word}
-use Rattle.mon_audit.specs.Requests.{act_word, grant_words, grant}
-
-abbrev pub text_of : Words → List ℕ
-text_of words = words.text.items
-
--- what stands before the statement's number
-abbrev pub head_words : ℕ → List ℕ → List ℕ
-head_words n account = codes "JOB" ++ number n ++ word account ++ codes " ASKED" ++ codes " "
-
--- between that and the place
-abbrev pub target_words : NoteAct → ℕ → Target → List ℕ
-target_words act unit target = word (act_word act) ++ number unit ++ word (target_word target) ++ codes " "
-
--- and behind the place
-abbrev pub outcome_words : List ℕ → Answer → List ℕ
-outcome_words grant (Denied reason) = codes " DENIED" ++ word (reason_text reason)
-outcome_words grant answer = word (outcome_word answer) ++ grant
-
-abbrev pub again_line : KeptLine → ℕ → ℕ → Answer → List ℕ
-again_line k statement place answer =
-    text_of k.head ++ decimal statement ++ text_of k.target ++ decimal place ++ (outcome_words (text_of k.grant) answer ++ codes "\n")
+use Rattle.mon_audit.specs.Requests.{grant_words, grant}
+use Rattle.mon_audit.specs.inner.KeptWords.{text_of, head_words, target_words}
 
 -- the data set that is read or written
 abbrev pub named : Target → Option (List ℕ)
