@@ -18,7 +18,7 @@ use Rattle.scheduler.specs.Abstraction.{seat_of, seats_of}
 use Rattle.scheduler.specs.States.{SlotState, SchedulerState, scheduler, seat_at, with_seat, job_in}
 use Rattle.scheduler.specs.Turns.{job_end, seat, told}
 use Rattle.scheduler.specs.Marks.{turns_left, is_done}
-use Rattle.scheduler.specs.AuditLines.{ended_line, end_lines}
+use Rattle.scheduler.specs.AuditLines.{end_lines}
 use Rattle.scheduler.specs.Turning.{TurnOr, ended_in}
 use Rattle.scheduler.specs.inner.Stepping.{Stepped, jobs_in}
 use Rattle.scheduler.specs.inner.Rounding.{Ahead, Going}

@@ -11,12 +11,16 @@ use Rattle.mon_device.proofs.Putting.{puts_nothing, puts_then}
 use Rattle.mon_unit.specs.declared.service.UnitService.{UnitService}
 use Rattle.mon_unit.specs.Serving.{Reach, serve}
 use Rattle.mon_unit.specs.Lent.{UnitAnswers, reach_of}
+use Rattle.mon_unit.specs.State.{UnitState}
+use Rattle.mon_catalogue.specs.Sets.{Sets}
 use Rattle.mon_audit.specs.Answering.{exchange_line, Audited}
+use Rattle.mon_audit.specs.declared.kept.KeptLines.{KeptLines}
+use Rattle.mon_audit.specs.inner.Keeping.{KeptFits}
 use Rattle.scheduler.specs.Exchanged.{asked_by}
 use Rattle.scheduler.specs.AuditLines.{exchanged_lines}
 use Rattle.sno_run.specs.declared.ending.Step.{Step}
 use Rattle.sno_run.specs.Jobs.{Job}
-use Rattle.scheduler.specs.inner.Stepping.{Done}
+use Rattle.scheduler.specs.inner.Stepping.{Done, StillKept}
 
 module _ {T : Type 0} (number : T → ℕ) (unit : T → UnitService) (standing : T → Standing) (answers : T → Request → Answer → T → Type 0)
     (each : (s : T) (q : Request) (r : Answer) (m : T) → answers s q r m → Audited (number s) (unit s) (standing s) q r (number m) (unit m) (standing m)) where
@@ -81,3 +85,15 @@ stays name answers each s (e ∷ x) s' h = stays name answers each h.0 x s' h.2 
 pub done_as : (n : ℕ) (job : Job) (s : UnitService) (st : Step) (job' : Job) (t t' : UnitService) (p q q' : Standing) → t' ≡ t → q' ≡ q → Done n job s st job' t p q → Done n job s st job' t' p q'
 done_as n job s st job' t t' p q q' left stands done =
     subst (λ (v : UnitService). Done n job s st job' v p q') (sym left) (subst (λ (y : Standing). Done n job s st job' t p y) (sym stands) done)
+
+-- and words that are kept
+pub still_kept : (n n' : ℕ) (s s' : UnitService) (k k' : KeptLines) → n ≡ n' → s' ≡ s → k' ≡ k → KeptFits n s.account.now (reach_of s) k → StillKept n' s' k'
+still_kept n n' s s' k k' number service kept fits =
+    subst (λ (x : ℕ). StillKept x s' k') number
+    (subst (λ (x : UnitService). StillKept n x k') (sym service)
+    (subst (λ (x : KeptLines). StillKept n s x) (sym kept) (record { fits = fits })))
+
+pub kept_given : (n : ℕ) (s : UnitService) (account : Account) (sets : Sets) (units : UnitState) (kept : KeptLines) → StillKept n s kept → s.account.now ≡ account
+    → reach_of s ≡ record { sets = sets; units = units } → KeptFits n account (record { sets = sets; units = units }) kept
+kept_given n s account sets units kept still is reach =
+    subst (λ (a : Account). KeptFits n a (record { sets = sets; units = units }) kept) is (subst (λ (r : Reach). KeptFits n s.account.now r kept) reach still.fits)

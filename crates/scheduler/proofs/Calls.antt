@@ -34,7 +34,7 @@ use Rattle.scheduler.specs.Marks.{Mark, passed_at, exchanges_at, counted, may_br
 use Rattle.scheduler.specs.Exchanged.{Exchanged, asked_by, whole_turn, broken_turn, asked_in}
 use Rattle.scheduler.specs.AuditLines.{exchanged_lines, ended_line, end_lines, turn_lines}
 use Rattle.scheduler.specs.Turning.{TurnOr, ended_in}
-use Rattle.scheduler.specs.inner.Stepping.{Cut, Done, BrokenOff, Whole, Stepped, SeatStep, Leaving, StepOr, one_in, jobs_in}
+use Rattle.scheduler.specs.inner.Stepping.{Cut, BrokenOff, Whole, Stepped, SeatStep, Leaving, StepOr, one_in, jobs_in}
 use Rattle.scheduler.proofs.Seats.{set_get, get_set, set_set, map_get, map_set}
 use Rattle.scheduler.proofs.Shorthand.{turn_as_by, broken_by}
 

@@ -12,7 +12,7 @@ use Rattle.scheduler.specs.States.{SlotState, SchedulerState, seat_at, with_seat
 use Rattle.scheduler.specs.Turns.{after_turn, job_end, seat, told, ends_by}
 use Rattle.scheduler.specs.Marks.{Mark, Marks, ran_as, nothing, ends_then, until, never}
 use Rattle.scheduler.specs.Exchanged.{asked_in}
-use Rattle.scheduler.specs.AuditLines.{exchanged_lines, end_lines, turn_lines, lines_until}
+use Rattle.scheduler.specs.AuditLines.{exchanged_lines, end_lines, lines_until}
 use Rattle.scheduler.specs.Turning.{TurnOr, UntilIs, MarkedIs}
 use Rattle.scheduler.specs.inner.Rounding.{Ahead}
 use Rattle.scheduler.proofs.Rounding.{append_empty, passed, begin, ahead_more}

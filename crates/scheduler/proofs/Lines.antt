@@ -1,5 +1,5 @@
 -- The lines of turns until a scheduler is one to stop at, and of rounds of them: they go as the turns do.
-use Rattle.std.proofs.Common.{◌≡◌, ℕ, zero, suc, ◌+◌, ◌≤◌, Bool, true, false, List, [], ◌∷◌, ◌++◌, length, refl, ap, sym, ◌∙◌, inl, inr, arith, append_assoc}
+use Rattle.std.proofs.Common.{◌≡◌, ℕ, zero, suc, ◌≤◌, Bool, true, false, List, [], ◌∷◌, ◌++◌, length, refl, ap, sym, ◌∙◌, inl, inr, arith, append_assoc}
 use Rattle.std.specs.Prelude.{if◌then◌else◌, drop}
 use Rattle.std.specs.List.{range_with_len}
 use Rattle.scheduler.specs.States.{SchedulerState}

@@ -2,7 +2,7 @@
 use Rattle.std.proofs.Common.{◌≡◌, ◌≢◌, ℕ, suc, ◌+◌, ◌-◌, ◌<◌, ◌≤◌, Bool, true, false, List, [], ◌∷◌, ◌++◌, length, refl, ap, sym, ◌∙◌, subst, inl, inr, arith, append_assoc}
 use Rattle.std.specs.Prelude.{map, Option, Some, None, is_some}
 use Rattle.std.specs.List.{range_with_len}
-use Rattle.mon_device.specs.Putting.{Standing, Puts}
+use Rattle.mon_device.specs.Putting.{Standing}
 use Rattle.mon_device.proofs.Putting.{puts_nothing, puts_then}
 use Rattle.scheduler.specs.declared.job_end.JobEnd.{JobEnd}
 use Rattle.scheduler.specs.declared.turned.Turned.{Turned}

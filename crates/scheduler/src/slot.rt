@@ -8,7 +8,7 @@ ghost use Rattle.sno_run.specs.Abstraction.{job_of};
 ghost use Rattle.mon_unit.specs.Lent.{reach_of};
 ghost use Rattle.mon_audit.specs.inner.Keeping.{KeptFits};
 ghost use Rattle.scheduler.specs.Turns.{reached};
-ghost use Rattle.scheduler.specs.inner.Stepping.{Done, Stepped, SeatStep};
+ghost use Rattle.scheduler.specs.inner.Stepping.{Done, Stepped, StillKept, SeatStep};
 ghost use Rattle.scheduler.specs.inner.Alone.{GoesToEnd, SeatEnds};
 
 use crate::job_end::JobEnd;
@@ -45,7 +45,7 @@ fn audited_turn<S: Sink>(
     requires kept { KeptFits number service.old.account.now (reach_of service.old) kept.old }
     ensures turn { Done number (job_of job.old) service.old result (job_of job.new) service.new (S.standing audit.old) (S.standing audit.new) }
     ensures fit { CacheFits service.new.guard.now service.new.catalogue.now }
-    ensures kept { KeptFits number service.new.account.now (reach_of service.new) kept.new }
+    ensures kept { StillKept number service.new kept.new }
 {
     let mut audited = AuditedService {
         number,

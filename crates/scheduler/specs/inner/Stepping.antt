@@ -13,6 +13,8 @@ use Rattle.mon_unit.specs.declared.service.UnitService.{UnitService}
 use Rattle.mon_unit.specs.Runs.{run, run_cut, passed}
 use Rattle.mon_unit.specs.Serving.{serve}
 use Rattle.mon_unit.specs.Lent.{SameLoans, reach_of}
+use Rattle.mon_audit.specs.declared.kept.KeptLines.{KeptLines}
+use Rattle.mon_audit.specs.inner.Keeping.{KeptFits}
 use Rattle.scheduler.specs.declared.turned.Turned.TheVariants.{Empty, Goes, Ended}
 use Rattle.scheduler.specs.States.{SlotState, SchedulerState, scheduler, job_in, with_seat}
 use Rattle.scheduler.specs.Turns.{reached, ran, job_end}
@@ -35,6 +37,10 @@ pub record Done (n : ℕ) (job : Job) (s : UnitService) (st : Step) (job' : Job)
   pub loans : SameLoans s s'
   pub is : ((run (serve s.account.now) (turn_of job) (reach_of s) ≡ ((st, job'), reach_of s')) × Puts p q (exchanged_lines (asked_by n s.account.now (turn_of job) (reach_of s))))
       ⊎ Cut n s.account.now job s st job' s' p q
+
+-- the words of the audit's lines that are kept are those of the lines to come, as the service leaves what it was lent
+pub record StillKept (n : ℕ) (s : UnitService) (kept : KeptLines) : Type 0 where
+  pub fits : KeptFits n s.account.now (reach_of s) kept
 
 -- the turn was broken off at some mark, in a statement that had begun
 pub record BrokenOff (slot : SlotState) (sets : Sets) (s : Step) (slot' : SlotState) (sets' : Sets) (a b : Standing) : Type 0 where

@@ -5,7 +5,7 @@ use Rattle.sno_run.specs.Abstraction.{job_of}
 use Rattle.mon_unit.specs.declared.service.UnitService.{UnitService}
 use Rattle.mon_unit.proofs.Loans.{same_loans}
 use Rattle.mon_audit.specs.declared.service.AuditedService.{AuditedService}
-use Rattle.scheduler.proofs.Audited.{units_answer, lines_put, lines_cut, stays, done_as}
+use Rattle.scheduler.proofs.Audited.{units_answer, lines_put, lines_cut, stays, done_as, still_kept}
 use Rattle.scheduler.proofs.Calls.{turn_done}
 use Rattle.scheduler.proofs.slot.audited_turn.Goals as goal
 
@@ -31,5 +31,17 @@ pub returns-clause-fit : goal.returns-clause-fit
 returns-clause-fit g c =
     let lent : AuditedService g.row.S.Denot → ℕ = λ s. s.service.ghost_name in
     let service = stays lent _ (λ s q r m h. h.1) _ _ _ c.statement_turn.ensures.turn.1 in
-    let ready = c.statement_turn.ensures.ready in
+    let ready = c.statement_turn.ensures.ready.0 in
     λ k d within. let at = ready k d in search rules
+
+pub returns-clause-kept : goal.returns-clause-kept
+returns-clause-kept g c =
+    let answered = c.statement_turn.ensures.turn.1 in
+    let of : AuditedService g.row.S.Denot → ℕ = λ s. s.number in
+    let lent : AuditedService g.row.S.Denot → ℕ = λ s. s.service.ghost_name in
+    let told : AuditedService g.row.S.Denot → ℕ = λ s. s.kept.ghost_name in
+    let number = stays of _ (λ s q r m h. h.0.number) _ _ _ answered in
+    let service = stays lent _ (λ s q r m h. h.1) _ _ _ answered in
+    let kept = stays told _ (λ s q r m h. h.3) _ _ _ answered in
+    let left = c.statement_turn.new.service in
+    still_kept left.number _ left.service.now _ left.kept.now _ number (search rules) (search rules) c.statement_turn.ensures.ready.1

@@ -3,7 +3,7 @@ use Rattle.scheduler.proofs.Alone.{goes_begins, goes_more, goes_to_end, goes_les
 use Rattle.scheduler.proofs.slot.run_to_end.Goals as goal
 
 pub turns-init : goal.turns-init
-turns-init g c = record { on = goes_begins (slot_of c.args.slot.now) c.args.catalogue.now _; fit = c.requires.fit; kept = c.new.ensures _ _ _ }
+turns-init g c = record { on = goes_begins (slot_of c.args.slot.now) c.args.catalogue.now _; fit = c.requires.fit; kept = c.new-kept.ensures _ _ _ }
 
 pub returns-in-Ended-clause-goes : goal.returns-in-Ended-clause-goes
 returns-in-Ended-clause-goes g c =

@@ -1,5 +1,6 @@
 -- The service holds the loans that it was lent, and what it leaves is as served.
 use Rattle.std.proofs.Common.{rules, refl, sym, inl, inr}
+use Rattle.scheduler.proofs.Audited.{kept_given}
 use Rattle.scheduler.proofs.slot.turn_of.Goals as goal
 
 pub shape_of-slot : goal.shape_of-slot
@@ -18,3 +19,8 @@ returns-clause-fit g c =
     let same = c.audited_turn.ensures.turn.loans in
     let ready = c.audited_turn.ensures.fit in
     λ k d within. let at = ready k d in search rules
+
+pub returns-clause-kept : goal.returns-clause-kept
+returns-clause-kept g c =
+    let same = c.audited_turn.ensures.turn.loans in
+    kept_given _ _ _ _ _ _ c.audited_turn.ensures.kept (search rules) (search rules)
