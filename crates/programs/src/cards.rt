@@ -1,5 +1,5 @@
 //! Cards and programs, from the text of a case.
-use anyhow::{Context, Result};
+use anyhow::{Result, bail};
 use mon_text::{Line, Stop, read_line};
 use sno_syntax::{Program, SyntaxError, parse, statements};
 use sno_text::Seed;
@@ -10,9 +10,10 @@ const CARD_LIMIT: usize = 200;
 
 /// Reads a text as a line of so many characters at the most.
 pub fn line_of(alloc: Global, text: &str, limit: usize) -> Result<Line> {
-    read_line(alloc, text.as_bytes(), limit)
-        .ok()
-        .context("a line is too long, or has a bad character")
+    match read_line(alloc, text.as_bytes(), limit) {
+        Ok(line) => Ok(line),
+        Err(_) => bail!("a line is too long, or has a bad character"),
+    }
 }
 
 /// Appends a card.

@@ -68,7 +68,7 @@ fn limit_of(number: &str) -> Option<u64>
     ensures { IfSome result (λ limit. IsLimit limit) }
 {
     let limit = read_count(number.as_bytes()).ok()?;
-    if (1..=MOST).contains(&limit) {
+    if limit >= 1 && limit <= MOST {
         Some(limit)
     } else {
         None

@@ -1,6 +1,6 @@
 //! Programs and answers, from the lines of a case.
 use crate::cards::{self, cards_of, line_of};
-use anyhow::{Context, Result};
+use anyhow::{Context, Result, bail};
 use interaction::{Answer, Reason};
 use mon_text::Line;
 use sno_syntax::Program;
@@ -12,9 +12,14 @@ const RECORD_LIMIT: usize = 1_024;
 /// Reads the program of these cards.
 pub fn program_of(alloc: Global, text: &str) -> Result<Program> {
     let lines = cards_of(alloc, text)?;
-    cards::program_of(alloc, &lines)
-        .ok()
-        .context("its program is refused")
+    read_cards(alloc, &lines)
+}
+
+fn read_cards(alloc: Global, lines: &[Line]) -> Result<Program> {
+    match cards::program_of(alloc, lines) {
+        Ok(program) => Ok(program),
+        Err(_) => bail!("its program is refused"),
+    }
 }
 
 /// Reads the answers of a service: `DONE`, `GOT` with a record, `EOF`, `DENIED` or `FULL`, a line for each.
