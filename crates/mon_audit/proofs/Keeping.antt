@@ -1,6 +1,7 @@
 -- Words that are kept of a line are those of the next one of the same act on the same unit.
 use Rattle.std.proofs.Common.{◌≡◌, ◌≢◌, ℕ, Bool, true, false, List, ◌++◌, length, Option, None, Some, option_map, slice_get, refl, sym, ap, subst, ◌∙◌, append_assoc}
-use Rattle.std.specs.Prelude.{codes, decimal, nat_eq, Result, Ok, Err, IfSome, IfOk, OnErr}
+use Rattle.std.specs.declared.alloc.Global.{Global}
+use Rattle.std.specs.Prelude.{Box, codes, decimal, nat_eq, Result, Ok, Err, IfSome, IfOk, OnErr}
 use Rattle.std.specs.Option.{option_and_then, option_map_or, unwrap_or}
 use Rattle.std.specs.Cmp.Lexicographic.{pointwise, bytes_decides}
 use Rattle.std.proofs.lemmas.Option.{slice_get-map, IfSome_then}
@@ -36,7 +37,7 @@ use Rattle.mon_audit.specs.declared.kept.KeptLines.{KeptLines}
 use Rattle.mon_audit.specs.Words.{job_line, target_word}
 use Rattle.mon_audit.specs.Requests.{act_word, grant_words, place_words, place_in, request_line, grant, asked_of}
 use Rattle.mon_audit.specs.inner.KeptWords.{text_of, head_words, target_words, outcome_words, again_line}
-use Rattle.mon_audit.specs.inner.Keeping.{KeptFits, LineFits, Keeps, IsLineOf, named, looked, is_append, appends}
+use Rattle.mon_audit.specs.inner.Keeping.{KeptFits, held, LineFits, Keeps, IsLineOf, named, looked, is_append, appends}
 
 -- THE LINE
 
@@ -177,7 +178,7 @@ line_after n account reach q act u k fits =
 
 after : (n : ℕ) (account : Account) (reach : Reach) (q : Request) (kept : KeptLines) → KeptFits n account reach kept → KeptFits n account (serve account reach q).1 kept
 after n account reach q kept fits =
-    (IfSome_then kept.read fits.0 (λ k. line_after n account reach q Read k.unit k), IfSome_then kept.write fits.1 (λ k. line_after n account reach q Write k.unit k))
+    (IfSome_then (held kept.read) fits.0 (λ k. line_after n account reach q Read k.unit k), IfSome_then (held kept.write) fits.1 (λ k. line_after n account reach q Write k.unit k))
 
 -- what fits where a request is served, in the terms of who serves it
 reached : (n : ℕ) (s t : UnitService) (q : Request) (answer : Answer) (kept : KeptLines) → UnitAnswers s q answer t
@@ -217,23 +218,23 @@ new_fits : (n : ℕ) (account : Account) (reach : Reach) (statement : ℕ) (act 
     KeptFits n account (serve account reach q).1 old → Keeps (asked_of n account reach q) (serve account reach q).1.sets old new → KeptFits n account (serve account reach q).1 new
 new_fits n account reach statement (asks.Read u) old new fits keeps =
     let q : Request = record { statement = statement; act = asks.Read u } in (
-      IfSome_then new.read keeps.0 (λ k is. new_line n account reach q Read u _ k (reads_look u (tie_at reach.units u).target) is.0.unit is.0.head is.0.target is.0.grant is.1),
-      subst (λ (o : Option KeptLine). IfSome o (λ k. LineFits n account (serve account reach q).1 Write k.unit k)) (sym keeps.1) fits.1,
+      IfSome_then (held new.read) keeps.0 (λ k is. new_line n account reach q Read u _ k (reads_look u (tie_at reach.units u).target) is.0.unit is.0.head is.0.target is.0.grant is.1),
+      subst (λ (o : Option (Box KeptLine Global)). IfSome (held o) (λ k. LineFits n account (serve account reach q).1 Write k.unit k)) (sym keeps.1) fits.1,
     )
 new_fits n account reach statement (asks.Write u line) old new fits keeps =
     let q : Request = record { statement = statement; act = asks.Write u line } in (
-      subst (λ (o : Option KeptLine). IfSome o (λ k. LineFits n account (serve account reach q).1 Read k.unit k)) (sym keeps.0) fits.0,
-      IfSome_then new.write keeps.1 (λ k is. new_line n account reach q Write u _ k (writes_look u line (tie_at reach.units u).target) is.0.unit is.0.head is.0.target is.0.grant is.1),
+      subst (λ (o : Option (Box KeptLine Global)). IfSome (held o) (λ k. LineFits n account (serve account reach q).1 Read k.unit k)) (sym keeps.0) fits.0,
+      IfSome_then (held new.write) keeps.1 (λ k is. new_line n account reach q Write u _ k (writes_look u line (tie_at reach.units u).target) is.0.unit is.0.head is.0.target is.0.grant is.1),
     )
 new_fits n account reach statement (asks.Endfile u) old new fits keeps =
     let q : Request = record { statement = statement; act = asks.Endfile u } in (
-      subst (λ (o : Option KeptLine). IfSome o (λ k. LineFits n account (serve account reach q).1 Read k.unit k)) (sym keeps.0) fits.0,
-      subst (λ (o : Option KeptLine). IfSome o (λ k. LineFits n account (serve account reach q).1 Write k.unit k)) (sym keeps.1) fits.1,
+      subst (λ (o : Option (Box KeptLine Global)). IfSome (held o) (λ k. LineFits n account (serve account reach q).1 Read k.unit k)) (sym keeps.0) fits.0,
+      subst (λ (o : Option (Box KeptLine Global)). IfSome (held o) (λ k. LineFits n account (serve account reach q).1 Write k.unit k)) (sym keeps.1) fits.1,
     )
 new_fits n account reach statement (asks.Rewind u) old new fits keeps =
     let q : Request = record { statement = statement; act = asks.Rewind u } in (
-      subst (λ (o : Option KeptLine). IfSome o (λ k. LineFits n account (serve account reach q).1 Read k.unit k)) (sym keeps.0) fits.0,
-      subst (λ (o : Option KeptLine). IfSome o (λ k. LineFits n account (serve account reach q).1 Write k.unit k)) (sym keeps.1) fits.1,
+      subst (λ (o : Option (Box KeptLine Global)). IfSome (held o) (λ k. LineFits n account (serve account reach q).1 Read k.unit k)) (sym keeps.0) fits.0,
+      subst (λ (o : Option (Box KeptLine Global)). IfSome (held o) (λ k. LineFits n account (serve account reach q).1 Write k.unit k)) (sym keeps.1) fits.1,
     )
 
 pub kept_new : (n : ℕ) (s t : UnitService) (q : Request) (answer : Answer) (asked : Asked) (old new : KeptLines) → UnitAnswers s q answer t
@@ -277,8 +278,8 @@ pub known : (n : ℕ) (account : Account) (reach : Reach) (kept : KeptLines) (ac
     → slice_get reach.units.ties k.unit ≡ Some tie → (statement : ℕ) (answer : Answer)
     → again_line (text_of k.head) statement (text_of k.target) tie.position (text_of k.grant) answer ≡ request_line (asked_of n account reach (record { statement = statement; act = act })) answer
 known n account reach kept (asks.Read u) k tie fits of is statement answer =
-    known_read n account reach u statement k tie answer of.1 (line_of kept.read k (λ k. LineFits n account reach Read k.unit k) of.0 fits.0) is
+    known_read n account reach u statement k tie answer of.1 (line_of (held kept.read) k (λ k. LineFits n account reach Read k.unit k) of.0 fits.0) is
 known n account reach kept (asks.Write u line) k tie fits of is statement answer =
-    known_write n account reach u statement line k tie answer of.1 (line_of kept.write k (λ k. LineFits n account reach Write k.unit k) of.0 fits.1) is
+    known_write n account reach u statement line k tie answer of.1 (line_of (held kept.write) k (λ k. LineFits n account reach Write k.unit k) of.0 fits.1) is
 known n account reach kept (asks.Endfile u) k tie fits of is statement answer = absurd of
 known n account reach kept (asks.Rewind u) k tie fits of is statement answer = absurd of

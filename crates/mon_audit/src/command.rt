@@ -19,9 +19,16 @@ use mon_text::Name;
 pub fn print_command<S: Sink>(command: &Command, said: &Said, sets: &Catalogue, sink: &mut S)
     ensures { Puts (S.standing sink.old) (S.standing sink.new) (said_line command.now said.now (listed command.now sets.now)) }
 {
-    if !sink.listens() {
-        return;
+    if sink.listens() {
+        print_line(command, said, sets, sink);
     }
+}
+
+// It stays a call, since mostly nobody listens.
+#[inline(never)]
+fn print_line<S: Sink>(command: &Command, said: &Said, sets: &Catalogue, sink: &mut S)
+    ensures { Puts (S.standing sink.old) (S.standing sink.new) (said_line command.now said.now (listed command.now sets.now)) }
+{
     sink.put(b"COMMAND 0");
     print_word(command.account().as_bytes(), sink);
     print_what(command, said, sets, sink);

@@ -1,8 +1,8 @@
 //! Words of a request's line that the next line of the same act on the same unit has, too.
 //!
 //! A line says much that stays the same as long as the job has the processor: who asks, of what, and by which entry it is granted. So these
-//! words are kept of the last read and of the last write, and are put once more where the same act is asked of the same unit.
-//! Nothing here takes memory.
+//! words are kept of the last read and of the last write, and are put once more where the same act is asked of the same unit. They
+//! take a kilobyte each, and are not kept where that is refused.
 ghost use Rattle.std.specs.Prelude.{◌≡◌, ℕ, Some, IfSome};
 ghost use Rattle.std.specs.Option.{option_copied, option_and_then};
 ghost use Rattle.mon_access.specs.declared.account.Account.{Account as Who};
@@ -13,7 +13,7 @@ ghost use Rattle.mon_unit.specs.Lent.{reach_of};
 ghost use Rattle.mon_unit.specs.Serving.{Reach};
 ghost use Rattle.mon_audit.specs.Requests.{request_line, asked_of};
 ghost use Rattle.mon_audit.specs.inner.KeptWords.{text_of, head_words, target_words, again_line};
-ghost use Rattle.mon_audit.specs.inner.Keeping.{KeptFits, HasWords, IsNew, Keeps, IsLineOf, named, appends};
+ghost use Rattle.mon_audit.specs.inner.Keeping.{KeptFits, held, HasWords, IsNew, Keeps, IsLineOf, named, appends};
 
 use crate::kept_line::{KeptLine, joined};
 use crate::request::{Asked, act_word, print_grant, print_request, target_word};
@@ -24,13 +24,14 @@ use mon_command::{print_number, print_word};
 use mon_device::Sink;
 use mon_text::Name;
 use mon_unit::{NoteAct, Target, UnitService};
+use std::alloc::Global;
 
 /// The words of the line of the last read and of the last write, where they are kept.
 #[derive(Drop)]
 pub struct KeptLines {
     are_kept: bool,
-    read: Option<KeptLine>,
-    write: Option<KeptLine>,
+    read: Option<Box<KeptLine>>,
+    write: Option<Box<KeptLine>>,
 }
 
 impl KeptLines {
@@ -79,12 +80,12 @@ impl KeptLines {
     }
 
     // Keeps the words of a line, over the data sets as the request has left them.
-    fn keep(&mut self, asked: &Asked, sets: &Catalogue)
+    fn keep(&mut self, alloc: Global, asked: &Asked, sets: &Catalogue)
         ensures { Keeps asked.now sets.now self.old self.new }
     {
         match asked.act {
-            NoteAct::Read => self.read = line_of(self.are_kept, asked, sets),
-            NoteAct::Write => self.write = line_of(self.are_kept, asked, sets),
+            NoteAct::Read => self.read = line_of(alloc, self.are_kept, asked, sets),
+            NoteAct::Write => self.write = line_of(alloc, self.are_kept, asked, sets),
             NoteAct::Endfile => {}
             NoteAct::Rewind => {}
         }
@@ -92,8 +93,8 @@ impl KeptLines {
 }
 
 // What is kept, where that is of this unit.
-fn of_unit(kept: &Option<KeptLine>, unit: u64) -> Option<&KeptLine>
-    ensures { IfSome result (λ line. (kept.now ≡ Some line.now) × (line.now.unit ≡ unit)) }
+fn of_unit(kept: &Option<Box<KeptLine>>, unit: u64) -> Option<&KeptLine>
+    ensures { IfSome result (λ line. (held kept.now ≡ Some line.now) × (line.now.unit ≡ unit)) }
 {
     match kept {
         Some(line) if line.unit == unit => Some(line),
@@ -101,14 +102,29 @@ fn of_unit(kept: &Option<KeptLine>, unit: u64) -> Option<&KeptLine>
     }
 }
 
-// What is to be kept of a line. What is added to a data set of mode APPEND has its place behind all records, so its line is made anew.
-fn line_of(are_kept: bool, asked: &Asked, sets: &Catalogue) -> Option<KeptLine>
-    ensures { IsNew asked.now sets.now result }
+// What is to be kept of a line, where there is memory for it. What is added to a data set of mode APPEND has its place behind all records,
+// so its line is made anew.
+fn line_of(
+    alloc: Global,
+    are_kept: bool,
+    asked: &Asked,
+    sets: &Catalogue,
+) -> Option<Box<KeptLine>>
+    ensures { IsNew asked.now sets.now (held result) }
 {
     if !are_kept || appends(asked.act, &asked.target, sets) {
         return None;
     }
-    words_of(asked)
+    boxed(alloc, words_of(asked)?)
+}
+
+fn boxed(alloc: Global, line: KeptLine) -> Option<Box<KeptLine>>
+    ensures { IfSome (held result) (λ kept. kept ≡ line) }
+{
+    match Box::new(alloc, line) {
+        Ok(kept) => Some(kept),
+        Err(_) => None,
+    }
 }
 
 // Whether an act adds to a data set of mode APPEND.
@@ -160,6 +176,7 @@ fn print_target<S: Sink>(asked: &Asked, sink: &mut S)
 
 /// Puts the line of a request that was answered, and keeps its words, over the data sets as the request has left them.
 pub(crate) fn print_new<S: Sink>(
+    alloc: Global,
     asked: &Asked,
     answer: &Answer,
     sets: &Catalogue,
@@ -170,5 +187,5 @@ pub(crate) fn print_new<S: Sink>(
     ensures kept { Keeps asked.now sets.now kept.old kept.new }
 {
     print_request(asked, answer, sink);
-    kept.keep(asked, sets);
+    kept.keep(alloc, asked, sets);
 }

@@ -60,7 +60,9 @@ impl<S: Sink> Service for AuditedService<'_, '_, S> {
     }
 }
 
-// Answers a request, and puts its line, of words that are kept where it is like one before.
+// Answers a request, and puts its line, of words that are kept where it is like one before. It stays a
+// call, so that where nobody listens there is nothing but the question whether somebody does.
+#[inline(never)]
 fn ask_heeded<S: Sink>(
     number: u64,
     service: &mut UnitService,
@@ -85,11 +87,20 @@ fn ask_heeded<S: Sink>(
     }
     let asked = asked_by(number, service, statement, &request.act);
     let answer = service.ask(request)?;
-    print_new(&asked, &answer, service.catalogue, kept, sink);
+    print_new(
+        service.alloc,
+        &asked,
+        &answer,
+        service.catalogue,
+        kept,
+        sink,
+    );
     Ok(answer)
 }
 
-// Answers a request that is not needed again, and puts its line, of words that are kept where it is like one before.
+// Answers a request that is not needed again, and puts its line, of words that are kept where it is like one before. It stays a
+// call, so that where nobody listens there is nothing but the question whether somebody does.
+#[inline(never)]
 fn ask_once_heeded<S: Sink>(
     number: u64,
     service: &mut UnitService,
@@ -114,7 +125,14 @@ fn ask_once_heeded<S: Sink>(
     }
     let asked = asked_by(number, service, statement, &request.act);
     let answer = service.ask_once(request)?;
-    print_new(&asked, &answer, service.catalogue, kept, sink);
+    print_new(
+        service.alloc,
+        &asked,
+        &answer,
+        service.catalogue,
+        kept,
+        sink,
+    );
     Ok(answer)
 }
 

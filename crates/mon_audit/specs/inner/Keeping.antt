@@ -1,5 +1,6 @@
 -- Words of a request's line that are kept: they are those of the next line of the same act on the same unit.
-use Rattle.std.specs.Prelude.{◌≡◌, ℕ, Bool, true, false, List, Option, None, Some, IfSome}
+use Rattle.std.specs.Prelude.{◌≡◌, ℕ, Bool, true, false, List, Box, Option, None, Some, option_map, IfSome}
+use Rattle.std.specs.declared.alloc.Global.{Global}
 use Rattle.std.specs.Option.{option_and_then}
 use Rattle.mon_access.specs.declared.account.Account.{Account}
 use Rattle.mon_catalogue.specs.declared.mode.Mode.{Mode}
@@ -57,14 +58,17 @@ pub record LineFits (n : ℕ) (account : Account) (reach : Reach) (act : NoteAct
   pub grant : text_of k.grant ≡ grant_words (option_and_then (grant account act) (looked reach u))
   pub moves : appends act (looked reach u) ≡ false
 
+abbrev pub held : Option (Box KeptLine Global) → Option KeptLine
+held kept = option_map (λ line. line.value) kept
+
 abbrev pub KeptFits : ℕ → Account → Reach → KeptLines → Type 0
 KeptFits n account reach kept =
-    IfSome kept.read (λ k. LineFits n account reach Read k.unit k) × IfSome kept.write (λ k. LineFits n account reach Write k.unit k)
+    IfSome (held kept.read) (λ k. LineFits n account reach Read k.unit k) × IfSome (held kept.write) (λ k. LineFits n account reach Write k.unit k)
 
 -- what is kept of an act, which is of its unit
 abbrev pub IsLineOf : KeptLines → Act → KeptLine → Type 0
-IsLineOf kept (asks.Read u) k = (kept.read ≡ Some k) × (k.unit ≡ u)
-IsLineOf kept (asks.Write u line) k = (kept.write ≡ Some k) × (k.unit ≡ u)
+IsLineOf kept (asks.Read u) k = (held kept.read ≡ Some k) × (k.unit ≡ u)
+IsLineOf kept (asks.Write u line) k = (held kept.write ≡ Some k) × (k.unit ≡ u)
 IsLineOf kept (asks.Endfile u) k = ⊥
 IsLineOf kept (asks.Rewind u) k = ⊥
 
@@ -74,8 +78,8 @@ IsNew asked sets kept =
     IfSome kept (λ k. HasWords asked k × (appends asked.act (option_and_then (λ name. find_set name sets) (named asked.target)) ≡ false))
 
 abbrev pub KeepsBy : NoteAct → Asked → Sets → KeptLines → KeptLines → Type 0
-KeepsBy Read asked sets old new = IsNew asked sets new.read × (new.write ≡ old.write)
-KeepsBy Write asked sets old new = (new.read ≡ old.read) × IsNew asked sets new.write
+KeepsBy Read asked sets old new = IsNew asked sets (held new.read) × (new.write ≡ old.write)
+KeepsBy Write asked sets old new = (new.read ≡ old.read) × IsNew asked sets (held new.write)
 KeepsBy Endfile asked sets old new = (new.read ≡ old.read) × (new.write ≡ old.write)
 KeepsBy Rewind asked sets old new = (new.read ≡ old.read) × (new.write ≡ old.write)
 
