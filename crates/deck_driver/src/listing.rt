@@ -2,27 +2,33 @@
 ghost use Rattle.std.specs.Prelude.{◌≡◌, ◌∷◌, ◌++◌, codes, true, IfSome, None};
 ghost use Rattle.std.specs.Option.{option_or};
 ghost use Rattle.mon_text.specs.Names.{is_name};
+ghost use Rattle.mon_command.specs.declared.command.Command.TheVariants as commands;
 ghost use Rattle.deck_syntax.specs.declared.request.Request.TheVariants as request;
 ghost use Rattle.deck_syntax.specs.Refusing.{line_refusal};
 ghost use Rattle.deck_syntax.specs.Requests.{request_on, stream_refusal};
 ghost use Rattle.deck_driver.specs.inner.Listed.{Lists};
 
 use deck_syntax::from_blank;
-use mon_command::Command;
 use mon_text::{Name, read_name};
 
-/// The command of a card that lists records, where its words stand each behind one blank. Any other line is left to whoever
-/// reads all cards.
+/// What a card lists: the records of a data set, for an account.
+#[derive(Drop)]
+pub(crate) struct Listing {
+    pub account: Name,
+    pub name: Name,
+}
+
+/// What a card lists, where its words stand each behind one blank. Any other line is left to whoever reads all cards.
 #[inline(always)]
 #[tactic(auto, using(crate::proofs::CardWords::asks_well))]
-pub(crate) fn listing_on(text: &[u8]) -> Option<Command>
-    ensures good { IfSome result (λ command. option_or (line_refusal 200 text.now) (stream_refusal text.now) ≡ None) }
-    ensures value { IfSome result (λ command. request.Asks command ≡ request_on text.now) }
+pub(crate) fn listing_on(text: &[u8]) -> Option<Listing>
+    ensures good { IfSome result (λ listing. option_or (line_refusal 200 text.now) (stream_refusal text.now) ≡ None) }
+    ensures value { IfSome result (λ listing. request.Asks (commands.List listing.account listing.name) ≡ request_on text.now) }
 {
     let (account, name) = words_on(text)?;
     let account = name_in(account)?;
     let name = name_in(name)?;
-    Some(Command::List { account, name })
+    Some(Listing { account, name })
 }
 
 // The name that a word is, if it is one.

@@ -15,7 +15,7 @@ ghost use Rattle.deck_driver.specs.inner.Lines.{TookLine, LineBreaks, EndsSectio
 use crate::listing::listing_on;
 use crate::options::{Counts, Options};
 use crate::section::Section;
-use crate::serving::{put_command, put_drain, put_turns};
+use crate::serving::{put_command, put_drain, put_listing, put_turns};
 use deck_syntax::{
     DeckError, OpenJob, OpenList, Request, ends_list, opens_accounts, put_account_line,
     put_catalogue_line, read_request,
@@ -181,8 +181,8 @@ fn take_listing<S: Sink>(
     ensures nothing { OnErr result (out.new ≡ out.old) }
 {
     match listing_on(text) {
-        Some(command) => {
-            put_command(alloc, options.check, monitor, command, counts, out, audit)?;
+        Some(listing) => {
+            put_listing(alloc, options.check, monitor, listing, counts, out, audit)?;
             Ok(true)
         }
         None => Ok(false),

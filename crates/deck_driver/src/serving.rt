@@ -2,11 +2,13 @@
 //! an audit.
 ghost use Rattle.std.specs.Prelude.{◌≡◌, ℕ, ◌+◌, ◌<◌, ◌≤◌, ◌^◌, false, IfOk, OnOk, OnErr};
 ghost use Rattle.deck_syntax.specs.Decks.{Commands, Enters, Gives, Drains};
+ghost use Rattle.mon_command.specs.declared.command.Command.TheVariants as commands;
 ghost use Rattle.mon_monitor.specs.Abstraction.{system_of};
 ghost use Rattle.deck_driver.specs.declared.options.Counts.{Counts as AnyCounts};
 ghost use Rattle.deck_driver.specs.Printouts.{ReadsBack};
 ghost use Rattle.deck_driver.specs.inner.Lines.{Served, ServeBreaks, Stopping, StopBreaks};
 
+use crate::listing::Listing;
 use crate::options::Counts;
 use deck_syntax::{OpenJob, Turn};
 use mon_catalogue::Catalogue;
@@ -37,6 +39,32 @@ pub(crate) fn put_command<S: Sink>(
         return Ok(());
     }
     monitor.serve_command(alloc, command, out, audit)?;
+    counts.commands += 1;
+    Ok(())
+}
+
+// Serves a command that lists records, unless the deck is only to be checked, and counts it.
+pub(crate) fn put_listing<S: Sink>(
+    alloc: Global,
+    check: bool,
+    monitor: &mut Monitor,
+    listing: Listing,
+    counts: &mut Counts,
+    out: &mut Printed,
+    audit: &mut S,
+) -> Result<(), AllocError>
+    requires { counts.old.jobs + counts.old.commands < 2 ^ 63 }
+    ensures served { OnOk result (Served check (Commands (commands.List listing.account listing.name)) (system_of monitor.old) out.old counts.old (system_of monitor.new) out.new counts.new (S.standing audit.old) (S.standing audit.new)) }
+    ensures broken { OnErr result (ServeBreaks check (Commands (commands.List listing.account listing.name)) (system_of monitor.old) counts.old.jobs (S.standing audit.old) (S.standing audit.new)) }
+    ensures counted { counts.new.jobs + counts.new.commands ≤ counts.old.jobs + counts.old.commands + 1 }
+    ensures nothing { OnErr result (out.new ≡ out.old) }
+{
+    if check {
+        counts.commands += 1;
+        return Ok(());
+    }
+    let Listing { account, name } = listing;
+    monitor.serve_listing(alloc, account, name, out, audit)?;
     counts.commands += 1;
     Ok(())
 }

@@ -12,7 +12,7 @@ pub mod said;
 pub mod serving;
 
 pub use command::Command;
-pub use printing::{print_number, print_word};
+pub use printing::{print_number, print_word, put_listing};
 pub use printout::Printout;
 pub use reply::{Reply, print_reason};
 pub use said::Said;

@@ -77,8 +77,12 @@ pub(crate) fn put_records(records: &Records, out: &mut Vec<u8>) -> Result<(), Al
     put_count(b"RECORDS", records.len(), out)
 }
 
-// Appends the printout of a command that lists these records, or nothing.
-pub(crate) fn put_listing(
+/// Appends the printout of a command that lists these records, or nothing.
+///
+/// # Errors
+///
+/// Where a growth was refused; nothing was appended then.
+pub fn put_listing(
     account: &Name,
     name: &Name,
     records: &Records,

@@ -1,5 +1,5 @@
 -- What the calls do is what the definitions say.
-use Rattle.std.proofs.Common.{◌≡◌, ℕ, List, [], ◌∷◌, ◌++◌, length, Result, Ok, Err, refl, ap, sym, ◌∙◌, subst, append_assoc, append-nil}
+use Rattle.std.proofs.Common.{◌≡◌, ℕ, List, [], ◌∷◌, ◌++◌, length, Option, Some, None, true, Result, Ok, Err, refl, ap, sym, ◌∙◌, subst, append_assoc, append-nil}
 use Rattle.std.specs.Prelude.{OnOk, OnErr, replicate}
 use Rattle.std.specs.List.{flat_map}
 use Rattle.std.proofs.lemmas.List.Concat.{flat_map-append}
@@ -7,11 +7,14 @@ use Rattle.mon_text.specs.declared.stop.Stop.{Stop}
 use Rattle.mon_text.specs.declared.stop.Stop.TheVariants.{Refused}
 use Rattle.sno_cards.specs.Answers.{IfRefused}
 use Rattle.mon_access.specs.declared.account.Account.{Account}
+use Rattle.mon_access.specs.Accounts.{find_account}
 use Rattle.mon_catalogue.specs.Sets.{Sets}
 use Rattle.mon_command.specs.declared.command.Command.{Command}
+use Rattle.mon_command.specs.declared.command.Command.TheVariants.{List as Listing}
 use Rattle.mon_command.specs.Commanded.{answered, commanded}
 use Rattle.mon_command.specs.declared.said.Said.{Said}
 use Rattle.mon_command.specs.Saying.{said_of}
+use Rattle.mon_command.proofs.Shorthand.{served_if_known}
 use Rattle.mon_audit.specs.Commands.{ordered_line, said_line, listed}
 use Rattle.mon_audit.proofs.Ordered.{ordered_is}
 use Rattle.deck_syntax.specs.declared.job_deck.JobDeck.{JobDeck}
@@ -21,7 +24,7 @@ use Rattle.scheduler.specs.Printouts.{printout, refusal_text}
 use Rattle.scheduler.specs.AuditLines.{loaded_line, refused_line, lines_until, lines_of_rounds}
 use Rattle.scheduler.specs.States.{SchedulerState}
 use Rattle.mon_device.specs.Putting.{Standing, Puts}
-use Rattle.mon_device.proofs.Putting.{puts_nothing, puts_same, puts_then}
+use Rattle.mon_device.proofs.Putting.{puts_nothing, puts_same, puts_then, puts_failed}
 use Rattle.scheduler.specs.Marks.{Marks, Past, marked, drain, room, never, rounds, turns_left, is_done, has_free_slot}
 use Rattle.scheduler.specs.Turning.{Passed, MarkedIs, DrainIs, RoomIs}
 use Rattle.mon_monitor.specs.SystemStates.{SystemState, with_scheduler, with_sets}
@@ -198,6 +201,28 @@ served command w w' before after text line a b is printout put told audited =
       },
       refl,
     )
+
+-- one that lists records leaves the data sets as they are
+listing_leaves : (accounts : List Account) (sets : Sets) (account name : List ℕ) → (commanded accounts sets (Listing account name)).sets ≡ sets
+listing_leaves accounts sets account name = by (find_account accounts account)
+  where
+    by : (o : Option Account) → (served_if_known o (Listing account name) sets).sets ≡ sets
+    by None = refl
+    by (Some known) = refl
+
+-- and nobody hears of it, where the audit's sink takes nothing
+pub unheard : (account name : List ℕ) (w : SystemState) (before after : List ℕ) (a : Standing) → a.failed ≡ true
+    → after ≡ before ++ (commanded w.accounts w.scheduler.sets (Listing account name)).printout → HappensUnmarked (Serve (Listing account name)) w before w after a a
+unheard account name w before after a failed put =
+    let command = Listing account name in
+    served command w w before after (commanded w.accounts w.scheduler.sets command).printout (ordered_line command (answered w.accounts w.scheduler.sets command).answer) a a
+    (ap (λ (sets : Sets). with_sets w sets) (sym (listing_leaves w.accounts w.scheduler.sets account name))) refl put refl
+    (puts_failed a a (ordered_line command (answered w.accounts w.scheduler.sets command).answer) failed refl)
+
+-- nothing was appended before it was served
+pub served_behind : {E : Type 0} (r : Result (Unit {0}) E) (command : Command) (w w' : SystemState) (before now after : List ℕ) (a b : Standing) → now ≡ before
+    → OnOk r (HappensUnmarked (Serve command) w now w' after a b) → OnOk r (HappensUnmarked (Serve command) w before w' after a b)
+served_behind r command w w' before now after a b same h = subst (λ (t : List ℕ). OnOk r (HappensUnmarked (Serve command) w t w' after a b)) same h
 
 -- what was said of it is said of its answer
 pub said_so : (command : Command) (w w' : SystemState) (said : Said) (sets : Sets) → said ≡ said_of (answered w.accounts w.scheduler.sets command).answer

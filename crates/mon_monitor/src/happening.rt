@@ -2,9 +2,10 @@
 //!
 //! Where a growth is refused nothing is appended; jobs that ended are then lost, and the monitor is of no more use. An audit then has a
 //! beginning of what the event tells.
-ghost use Rattle.std.specs.Prelude.{◌≡◌, ◌++◌, IfOk, OnOk, OnErr};
+ghost use Rattle.std.specs.Prelude.{◌≡◌, ◌++◌, true, false, None, IfOk, IfSome, OnOk, OnSome, OnErr};
 ghost use Rattle.mon_command.specs.Commanded.{answered, commanded};
 ghost use Rattle.mon_command.specs.Saying.{said_of};
+ghost use Rattle.mon_command.specs.declared.command.Command.TheVariants as commands;
 ghost use Rattle.mon_monitor.specs.Abstraction.{system_of};
 ghost use Rattle.mon_monitor.specs.SystemStates.{with_sets};
 ghost use Rattle.mon_monitor.specs.Printed.{listing};
@@ -17,12 +18,15 @@ use crate::monitor::Monitor;
 use crate::printed::{Piece, Printed};
 use mon_audit::print_command;
 use mon_catalogue::Catalogue;
-use mon_command::{Command, Said};
+use mon_command::{Command, Said, put_listing};
 use mon_device::Sink;
 use mon_text::{Name, Stop};
 use scheduler::{JobDeck, print_loaded, print_refused, put_refusal};
 use std::alloc::{AllocError, Global};
 use std::rc::Rc;
+
+/// How many records are copied into a text where a command lists them.
+const FEW_RECORDS: u64 = 64;
 
 impl Monitor {
     /// A command is served. It gives no turn.
@@ -46,7 +50,54 @@ impl Monitor {
         Ok(())
     }
 
-    // Serves a command and appends its printout. Records that are many are shown from where they stand.
+    /// The command that lists the records of a data set for an account is served, as `serve_command` does. It is made only where somebody
+    /// listens to the audit, or more is to be done than to append the records.
+    ///
+    /// # Errors
+    ///
+    /// Where a growth was refused; nothing was appended then.
+    pub fn serve_listing<S: Sink>(
+        &mut self,
+        alloc: Global,
+        account: Name,
+        name: Name,
+        out: &mut Printed,
+        audit: &mut S,
+    ) -> Result<(), AllocError>
+        ensures happens { OnOk result (HappensUnmarked (Serve (commands.List account name)) (system_of self.old) out.old (system_of self.new) out.new (S.standing audit.old) (S.standing audit.new)) }
+        ensures broken { OnErr result (Breaks (event_lines (Serve (commands.List account name))) (system_of self.old) (S.standing audit.old) (S.standing audit.new)) }
+        ensures nothing { OnErr result (out.new ≡ out.old) }
+    {
+        let done = self.put_unheard(&account, &name, out, audit)?;
+        if done {
+            return Ok(());
+        }
+        self.serve_command(alloc, Command::List { account, name }, out, audit)
+    }
+
+    // Serves a command that lists records, where nobody listens to the audit and `put_listed` does so: whether it did.
+    #[tactic(auto, using(crate::proofs::Playing::unheard))]
+    fn put_unheard<S: Sink>(
+        &self,
+        account: &Name,
+        name: &Name,
+        out: &mut Printed,
+        audit: &S,
+    ) -> Result<bool, AllocError>
+        ensures happens { IfOk result (λ done. done ≡ true → HappensUnmarked (Serve (commands.List account.now name.now)) (system_of self.now) out.old (system_of self.now) out.new (S.standing audit.now) (S.standing audit.now)) }
+        ensures left { IfOk result (λ done. done ≡ false → out.new ≡ out.old) }
+        ensures nothing { OnErr result (out.new ≡ out.old) }
+    {
+        if audit.listens() {
+            return Ok(false);
+        }
+        match self.put_listed(account, name, out)? {
+            Some(_) => Ok(true),
+            None => Ok(false),
+        }
+    }
+
+    // Serves a command and appends its printout.
     fn put_served(
         &mut self,
         alloc: Global,
@@ -59,12 +110,38 @@ impl Monitor {
         ensures nothing { OnErr result (out.new ≡ out.old) }
     {
         if let Command::List { account, name } = command {
-            if let Some(count) = self.lists_many(account, name) {
-                self.print_listing(account, name, out)?;
-                return Ok(Said::Records(count));
-            }
+            return match self.put_listed(account, name, out)? {
+                Some(count) => Ok(Said::Records(count)),
+                None => self.print_other(alloc, command, out),
+            };
         }
         self.print_other(alloc, command, out)
+    }
+
+    // Appends the printout of a command that lists records, where they are granted: how many they are. Records that are many are shown
+    // from where they stand. Few that come behind pieces are left to `print_other`, and nothing is appended then.
+    fn put_listed(
+        &self,
+        account: &Name,
+        name: &Name,
+        out: &mut Printed,
+    ) -> Result<Option<u64>, AllocError>
+        ensures printed { IfOk result (λ listed. OnSome listed (out.new ≡ out.old ++ (commanded (system_of self.now).accounts (system_of self.now).scheduler.sets (commands.List account.now name.now)).printout)) }
+        ensures said { IfOk result (λ listed. IfSome listed (λ count. Said.Records count ≡ said_of (answered (system_of self.now).accounts (system_of self.now).scheduler.sets (commands.List account.now name.now)).answer)) }
+        ensures left { IfOk result (λ listed. listed ≡ None → out.new ≡ out.old) }
+        ensures nothing { OnErr result (out.new ≡ out.old) }
+    {
+        match self.listed(account, name) {
+            Some(records) if records.len() > FEW_RECORDS => {
+                self.print_listing(account, name, out)?;
+                Ok(Some(records.len()))
+            }
+            Some(records) if out.rest.is_empty() => {
+                put_listing(account, name, records, &mut out.text)?;
+                Ok(Some(records.len()))
+            }
+            _ => Ok(None),
+        }
     }
 
     // Appends the printout of a command that lists the records of a data set.
