@@ -237,13 +237,14 @@ new_fits n account reach statement (asks.Rewind u) old new fits keeps =
       subst (λ (o : Option (Box KeptLine Global)). IfSome (held o) (λ k. LineFits n account (serve account reach q).1 Write k.unit k)) (sym keeps.1) fits.1,
     )
 
-pub kept_new : (n : ℕ) (s t : UnitService) (q : Request) (answer : Answer) (asked : Asked) (old new : KeptLines) → UnitAnswers s q answer t
-    → KeptFits n s.account.now (reach_of s) old → asked ≡ asked_of n s.account.now (reach_of s) q → Keeps asked t.catalogue.now old new → KeptFits n t.account.now (reach_of t) new
-kept_new n s t q answer asked old new served fits is keeps =
-    reached n s t q answer new served
+pub kept_new : (n m : ℕ) (s t : UnitService) (q : Request) (answer : Answer) (asked : Asked) (old new : KeptLines) → UnitAnswers s q answer t
+    → KeptFits n s.account.now (reach_of s) old → asked ≡ asked_of n s.account.now (reach_of s) q → Keeps asked t.catalogue.now old new → m ≡ n → KeptFits m t.account.now (reach_of t) new
+kept_new n m s t q answer asked old new served fits is keeps same =
+    subst (λ (x : ℕ). KeptFits x t.account.now (reach_of t) new) (sym same)
+    (reached n s t q answer new served
     (new_fits n s.account.now (reach_of s) q.statement q.act old new (after n s.account.now (reach_of s) q old fits)
     (subst (λ (sets : Sets). Keeps (asked_of n s.account.now (reach_of s) q) sets old new) (sym (ap (λ (p : Answer × Reach). p.1.sets) served.1))
-    (subst (λ (a : Asked). Keeps a t.catalogue.now old new) is keeps)))
+    (subst (λ (a : Asked). Keeps a t.catalogue.now old new) is keeps))))
 
 -- WHAT IS KNOWN
 

@@ -26,9 +26,11 @@ use mon_text::Name;
 use mon_unit::{NoteAct, Target, UnitService};
 use std::alloc::Global;
 
-/// The words of the line of the last read and of the last write, where they are kept.
+/// Of which job lines are, and the words of the line of its last read and of its last write, where they are kept.
 #[derive(Drop)]
 pub struct KeptLines {
+    /// The job's number.
+    pub number: u64,
     are_kept: bool,
     read: Option<Box<KeptLine>>,
     write: Option<Box<KeptLine>>,
@@ -36,10 +38,12 @@ pub struct KeptLines {
 
 impl KeptLines {
     /// No words, and none will be kept: for so few requests that it would take longer than they do.
-    pub fn none() -> KeptLines
-        ensures { (n : ℕ) (account : Who) (reach : Reach) → KeptFits n account reach result }
+    pub fn none(number: u64) -> KeptLines
+        ensures number { result.number ≡ number }
+        ensures fits { (n : ℕ) (account : Who) (reach : Reach) → KeptFits n account reach result }
     {
         KeptLines {
+            number,
             are_kept: false,
             read: None,
             write: None,
@@ -47,10 +51,12 @@ impl KeptLines {
     }
 
     /// No words so far.
-    pub fn new() -> KeptLines
-        ensures { (n : ℕ) (account : Who) (reach : Reach) → KeptFits n account reach result }
+    pub fn new(number: u64) -> KeptLines
+        ensures number { result.number ≡ number }
+        ensures fits { (n : ℕ) (account : Who) (reach : Reach) → KeptFits n account reach result }
     {
         KeptLines {
+            number,
             are_kept: true,
             read: None,
             write: None,
@@ -81,7 +87,8 @@ impl KeptLines {
 
     // Keeps the words of a line, over the data sets as the request has left them.
     fn keep(&mut self, alloc: Global, asked: &Asked, sets: &Catalogue)
-        ensures { Keeps asked.now sets.now self.old self.new }
+        ensures kept { Keeps asked.now sets.now self.old self.new }
+        ensures number { self.new.number ≡ self.old.number }
     {
         match asked.act {
             NoteAct::Read => self.read = line_of(alloc, self.are_kept, asked, sets),
@@ -104,12 +111,7 @@ fn of_unit(kept: &Option<Box<KeptLine>>, unit: u64) -> Option<&KeptLine>
 
 // What is to be kept of a line, where there is memory for it. What is added to a data set of mode APPEND has its place behind all records,
 // so its line is made anew.
-fn line_of(
-    alloc: Global,
-    are_kept: bool,
-    asked: &Asked,
-    sets: &Catalogue,
-) -> Option<Box<KeptLine>>
+fn line_of(alloc: Global, are_kept: bool, asked: &Asked, sets: &Catalogue) -> Option<Box<KeptLine>>
     ensures { IsNew asked.now sets.now (held result) }
 {
     if !are_kept || appends(asked.act, &asked.target, sets) {
@@ -185,6 +187,7 @@ pub(crate) fn print_new<S: Sink>(
 )
     ensures put { Puts (S.standing sink.old) (S.standing sink.new) (request_line asked.now answer.now) }
     ensures kept { Keeps asked.now sets.now kept.old kept.new }
+    ensures number { kept.new.number ≡ kept.old.number }
 {
     print_request(asked, answer, sink);
     kept.keep(alloc, asked, sets);

@@ -24,13 +24,11 @@ use std::alloc::AllocError;
 /// no line. Words of lines are kept for as long as no other job or command has the data sets.
 #[derive(Drop)]
 pub struct AuditedService<'a, 'b, S: Sink> {
-    /// The job's number.
-    pub number: u64,
     /// Who answers.
     pub service: &'a mut UnitService<'b>,
     /// What the lines are put to.
     pub audit: &'a mut S,
-    /// Words of lines that were put.
+    /// Of which job the lines are, and words of those that were put.
     pub kept: &'a mut KeptLines,
 }
 
@@ -41,22 +39,22 @@ impl<S: Sink> Service for AuditedService<'_, '_, S> {
     ghost use Rattle.mon_audit.specs.Answering.{Audited};
     ghost use Rattle.mon_audit.specs.inner.Keeping.{KeptFits};
 
-    ghost ready = { λ s. CacheFits s.service.now.guard.now s.service.now.catalogue.now × KeptFits s.number s.service.now.account.now (reach_of s.service.now) s.kept.now };
+    ghost ready = { λ s. CacheFits s.service.now.guard.now s.service.now.catalogue.now × KeptFits s.kept.now.number s.service.now.account.now (reach_of s.service.now) s.kept.now };
 
-    ghost answers = { λ s q answer t. Audited s.number s.service.now (S.standing s.audit.now) q answer t.number t.service.now (S.standing t.audit.now) × (t.service.ghost_name ≡ s.service.ghost_name) × (t.audit.ghost_name ≡ s.audit.ghost_name) × (t.kept.ghost_name ≡ s.kept.ghost_name) };
+    ghost answers = { λ s q answer t. Audited s.kept.now.number s.service.now (S.standing s.audit.now) q answer t.kept.now.number t.service.now (S.standing t.audit.now) × (t.service.ghost_name ≡ s.service.ghost_name) × (t.audit.ghost_name ≡ s.audit.ghost_name) × (t.kept.ghost_name ≡ s.kept.ghost_name) };
 
     fn ask(&mut self, request: &Request) -> Result<Answer, AllocError> {
         if !self.audit.listens() {
             return self.service.ask(request);
         }
-        ask_heeded(self.number, self.service, request, self.kept, self.audit)
+        ask_heeded(self.service, request, self.kept, self.audit)
     }
 
     fn ask_once(&mut self, request: Request) -> Result<Answer, AllocError> {
         if !self.audit.listens() {
             return self.service.ask_once(request);
         }
-        ask_once_heeded(self.number, self.service, request, self.kept, self.audit)
+        ask_once_heeded(self.service, request, self.kept, self.audit)
     }
 }
 
@@ -64,20 +62,19 @@ impl<S: Sink> Service for AuditedService<'_, '_, S> {
 // call, so that where nobody listens there is nothing but the question whether somebody does.
 #[inline(never)]
 fn ask_heeded<S: Sink>(
-    number: u64,
     service: &mut UnitService,
     request: &Request,
     kept: &mut KeptLines,
     sink: &mut S,
 ) -> Result<Answer, AllocError>
     requires fit { CacheFits service.old.guard.now service.old.catalogue.now }
-    requires kept { KeptFits number service.old.account.now (reach_of service.old) kept.old }
+    requires kept { KeptFits kept.old.number service.old.account.now (reach_of service.old) kept.old }
     requires short { IsShort request.now.act }
-    ensures answered { IfOk result (λ answer. Audited number service.old (S.standing sink.old) request.now answer number service.new (S.standing sink.new)) }
+    ensures answered { IfOk result (λ answer. Audited kept.old.number service.old (S.standing sink.old) request.now answer kept.new.number service.new (S.standing sink.new)) }
     ensures fits { IfOk result (λ answer. Fits request.now answer) }
     ensures unchanged { OnErr result ((service.new ≡ service.old) × (kept.new ≡ kept.old) × (sink.new ≡ sink.old)) }
     ensures fit { CacheFits service.new.guard.now service.new.catalogue.now }
-    ensures kept { KeptFits number service.new.account.now (reach_of service.new) kept.new }
+    ensures kept { KeptFits kept.new.number service.new.account.now (reach_of service.new) kept.new }
 {
     let statement = request.statement;
     if let Some((line, place)) = kept.known(service, &request.act) {
@@ -85,7 +82,7 @@ fn ask_heeded<S: Sink>(
         print_again(line, statement, place, &answer, sink);
         return Ok(answer);
     }
-    let asked = asked_by(number, service, statement, &request.act);
+    let asked = asked_by(kept.number, service, statement, &request.act);
     let answer = service.ask(request)?;
     print_new(
         service.alloc,
@@ -102,20 +99,19 @@ fn ask_heeded<S: Sink>(
 // call, so that where nobody listens there is nothing but the question whether somebody does.
 #[inline(never)]
 fn ask_once_heeded<S: Sink>(
-    number: u64,
     service: &mut UnitService,
     request: Request,
     kept: &mut KeptLines,
     sink: &mut S,
 ) -> Result<Answer, AllocError>
     requires fit { CacheFits service.old.guard.now service.old.catalogue.now }
-    requires kept { KeptFits number service.old.account.now (reach_of service.old) kept.old }
+    requires kept { KeptFits kept.old.number service.old.account.now (reach_of service.old) kept.old }
     requires short { IsShort request.act }
-    ensures answered { IfOk result (λ answer. Audited number service.old (S.standing sink.old) request answer number service.new (S.standing sink.new)) }
+    ensures answered { IfOk result (λ answer. Audited kept.old.number service.old (S.standing sink.old) request answer kept.new.number service.new (S.standing sink.new)) }
     ensures fits { IfOk result (λ answer. Fits request answer) }
     ensures unchanged { OnErr result ((service.new ≡ service.old) × (kept.new ≡ kept.old) × (sink.new ≡ sink.old)) }
     ensures fit { CacheFits service.new.guard.now service.new.catalogue.now }
-    ensures kept { KeptFits number service.new.account.now (reach_of service.new) kept.new }
+    ensures kept { KeptFits kept.new.number service.new.account.now (reach_of service.new) kept.new }
 {
     let statement = request.statement;
     if let Some((line, place)) = kept.known(service, &request.act) {
@@ -123,7 +119,7 @@ fn ask_once_heeded<S: Sink>(
         print_again(line, statement, place, &answer, sink);
         return Ok(answer);
     }
-    let asked = asked_by(number, service, statement, &request.act);
+    let asked = asked_by(kept.number, service, statement, &request.act);
     let answer = service.ask_once(request)?;
     print_new(
         service.alloc,

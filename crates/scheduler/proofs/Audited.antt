@@ -87,13 +87,20 @@ done_as n job s st job' t t' p q q' left stands done =
     subst (λ (v : UnitService). Done n job s st job' v p q') (sym left) (subst (λ (y : Standing). Done n job s st job' t p y) (sym stands) done)
 
 -- and words that are kept
-pub still_kept : (n n' : ℕ) (s s' : UnitService) (k k' : KeptLines) → n ≡ n' → s' ≡ s → k' ≡ k → KeptFits n s.account.now (reach_of s) k → StillKept n' s' k'
-still_kept n n' s s' k k' number service kept fits =
-    subst (λ (x : ℕ). StillKept x s' k') number
-    (subst (λ (x : UnitService). StillKept n x k') (sym service)
-    (subst (λ (x : KeptLines). StillKept n s x) (sym kept) (record { fits = fits })))
+pub still_kept : (n : ℕ) (s s' : UnitService) (k k' : KeptLines) → k.number ≡ n → s' ≡ s → k' ≡ k → KeptFits k.number s.account.now (reach_of s) k → StillKept n s' k'
+still_kept n s s' k k' number service kept fits =
+    subst (λ (x : UnitService). StillKept n x k') (sym service)
+    (subst (λ (x : KeptLines). StillKept n s x) (sym kept)
+    (record { number = number; fits = subst (λ (x : ℕ). KeptFits x s.account.now (reach_of s) k) number fits }))
 
 pub kept_given : (n : ℕ) (s : UnitService) (account : Account) (sets : Sets) (units : UnitState) (kept : KeptLines) → StillKept n s kept → s.account.now ≡ account
     → reach_of s ≡ record { sets = sets; units = units } → KeptFits n account (record { sets = sets; units = units }) kept
 kept_given n s account sets units kept still is reach =
     subst (λ (a : Account). KeptFits n a (record { sets = sets; units = units }) kept) is (subst (λ (r : Reach). KeptFits n s.account.now r kept) reach still.fits)
+
+-- both are of the job of the slot, where the words are kept of that
+pub done_of : (n n' : ℕ) (job : Job) (s : UnitService) (st : Step) (job' : Job) (s' : UnitService) (p q : Standing) → n ≡ n' → Done n job s st job' s' p q → Done n' job s st job' s' p q
+done_of n n' job s st job' s' p q same done = subst (λ (x : ℕ). Done x job s st job' s' p q) same done
+
+pub kept_of : (n n' : ℕ) (s : UnitService) (kept : KeptLines) → n ≡ n' → StillKept n s kept → StillKept n' s kept
+kept_of n n' s kept same still = subst (λ (x : ℕ). StillKept x s kept) same still

@@ -35,20 +35,18 @@ pub struct Slot {
 #[inline(always)]
 fn audited_turn<S: Sink>(
     alloc: Global,
-    number: u64,
     job: &mut Job,
     service: &mut UnitService,
     audit: &mut S,
     kept: &mut KeptLines,
 ) -> Step
     requires fit { CacheFits service.old.guard.now service.old.catalogue.now }
-    requires kept { KeptFits number service.old.account.now (reach_of service.old) kept.old }
-    ensures turn { Done number (job_of job.old) service.old result (job_of job.new) service.new (S.standing audit.old) (S.standing audit.new) }
+    requires kept { KeptFits kept.old.number service.old.account.now (reach_of service.old) kept.old }
+    ensures turn { Done kept.old.number (job_of job.old) service.old result (job_of job.new) service.new (S.standing audit.old) (S.standing audit.new) }
     ensures fit { CacheFits service.new.guard.now service.new.catalogue.now }
-    ensures kept { StillKept number service.new kept.new }
+    ensures kept { StillKept kept.old.number service.new kept.new }
 {
     let mut audited = AuditedService {
-        number,
         service: &mut *service,
         audit: &mut *audit,
         kept: &mut *kept,
@@ -68,9 +66,11 @@ fn turn_of<S: Sink>(
 ) -> Step
     requires fit { CacheFits guard.old catalogue.old }
     requires kept { KeptFits slot.old.number slot.old.account (reached catalogue.old (slot_of slot.old)) kept.old }
+    requires number { kept.old.number ≡ slot.old.number }
     ensures step { Stepped (slot_of slot.old) catalogue.old result (slot_of slot.new) catalogue.new (S.standing audit.old) (S.standing audit.new) }
     ensures fit { CacheFits guard.new catalogue.new }
     ensures kept { KeptFits slot.new.number slot.new.account (reached catalogue.new (slot_of slot.new)) kept.new }
+    ensures number { kept.new.number ≡ slot.new.number }
 {
     let mut service = UnitService {
         alloc,
@@ -79,7 +79,7 @@ fn turn_of<S: Sink>(
         catalogue: &mut *catalogue,
         units: &mut slot.units,
     };
-    audited_turn(alloc, slot.number, &mut slot.job, &mut service, audit, kept)
+    audited_turn(alloc, &mut slot.job, &mut service, audit, kept)
 }
 
 // What is left of a job that has ended.
@@ -125,7 +125,7 @@ pub(crate) fn step_at<S: Sink>(
     match seat {
         None => None,
         Some(slot) => {
-            let mut kept = KeptLines::none();
+            let mut kept = KeptLines::none(slot.number);
             Some(turn_of(alloc, guard, catalogue, slot, audit, &mut kept))
         }
     }
@@ -143,7 +143,7 @@ fn run_to_end<S: Sink>(
     ensures goes { GoesToEnd (slot_of slot.old) catalogue.old result (slot_of slot.new) catalogue.new (S.standing audit.old) (S.standing audit.new) }
     ensures fit { CacheFits guard.new catalogue.new }
 {
-    let mut kept = KeptLines::new();
+    let mut kept = KeptLines::new(slot.number);
     'turns: loop {
         match turn_of(alloc, guard, catalogue, slot, audit, &mut kept) {
             Step::Goes => (),

@@ -40,6 +40,7 @@ pub record Done (n : ℕ) (job : Job) (s : UnitService) (st : Step) (job' : Job)
 
 -- the words of the audit's lines that are kept are those of the lines to come, as the service leaves what it was lent
 pub record StillKept (n : ℕ) (s : UnitService) (kept : KeptLines) : Type 0 where
+  pub number : kept.number ≡ n
   pub fits : KeptFits n s.account.now (reach_of s) kept
 
 -- the turn was broken off at some mark, in a statement that had begun

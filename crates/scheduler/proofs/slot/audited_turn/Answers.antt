@@ -11,7 +11,7 @@ use Rattle.scheduler.proofs.slot.audited_turn.Goals as goal
 
 pub returns-clause-turn : goal.returns-clause-turn
 returns-clause-turn g c =
-    let number : AuditedService g.row.S.Denot → ℕ = λ s. s.number in
+    let number : AuditedService g.row.S.Denot → ℕ = λ s. s.kept.now.number in
     let unit : AuditedService g.row.S.Denot → UnitService = λ s. s.service.now in
     let standing : AuditedService g.row.S.Denot → Standing = λ s. g.S.Sink.standing s.audit.now in
     let lent : AuditedService g.row.S.Denot → ℕ = λ s. s.service.ghost_name in
@@ -22,7 +22,7 @@ returns-clause-turn g c =
     let audit = stays told _ (λ s q r m h. h.2) _ _ _ answered in
     done_as _ _ _ _ _ _ _ _ _ _ (search rules) (search rules) (record {
       loans = same_loans _ _ _ units;
-      is = turn_done c.args.number c.args.service.now.account.now (job_of c.args.job.now) _ _ _ _ _ _ _ refl units
+      is = turn_done c.args.kept.now.number c.args.service.now.account.now (job_of c.args.job.now) _ _ _ _ _ _ _ refl units
           (λ t. lines_put number unit standing _ (λ s q r m h. h.0) _ _ _ _ _ _ _ refl refl answered t)
           (λ t. lines_cut number unit standing _ (λ s q r m h. h.0) _ _ _ _ _ _ refl refl answered t) c.statement_turn.ensures.turn.2;
     })
@@ -37,11 +37,11 @@ returns-clause-fit g c =
 pub returns-clause-kept : goal.returns-clause-kept
 returns-clause-kept g c =
     let answered = c.statement_turn.ensures.turn.1 in
-    let of : AuditedService g.row.S.Denot → ℕ = λ s. s.number in
+    let of : AuditedService g.row.S.Denot → ℕ = λ s. s.kept.now.number in
     let lent : AuditedService g.row.S.Denot → ℕ = λ s. s.service.ghost_name in
     let told : AuditedService g.row.S.Denot → ℕ = λ s. s.kept.ghost_name in
     let number = stays of _ (λ s q r m h. h.0.number) _ _ _ answered in
     let service = stays lent _ (λ s q r m h. h.1) _ _ _ answered in
     let kept = stays told _ (λ s q r m h. h.3) _ _ _ answered in
     let left = c.statement_turn.new.service in
-    still_kept left.number _ left.service.now _ left.kept.now _ number (search rules) (search rules) c.statement_turn.ensures.ready.1
+    still_kept _ left.service.now _ left.kept.now _ number (search rules) (search rules) c.statement_turn.ensures.ready.1

@@ -3,7 +3,7 @@ use Rattle.scheduler.proofs.Alone.{goes_begins, goes_more, goes_to_end, goes_les
 use Rattle.scheduler.proofs.slot.run_to_end.Goals as goal
 
 pub turns-init : goal.turns-init
-turns-init g c = record { on = goes_begins (slot_of c.args.slot.now) c.args.catalogue.now _; fit = c.requires.fit; kept = c.new-kept.ensures _ _ _ }
+turns-init g c = record { on = goes_begins (slot_of c.args.slot.now) c.args.catalogue.now _; fit = c.requires.fit; kept = c.new-kept.ensures.fits _ _ _; number = c.new-kept.ensures.number }
 
 pub returns-in-Ended-clause-goes : goal.returns-in-Ended-clause-goes
 returns-in-Ended-clause-goes g c =
@@ -20,4 +20,5 @@ turns-preserved g c = record {
       c.turns.invariant.on c.turn_of.result c.in-Goes.is c.turn_of.ensures.step;
   fit = c.turn_of.ensures.fit;
   kept = c.turn_of.ensures.kept;
+  number = c.turn_of.ensures.number;
 }

@@ -1,4 +1,4 @@
-use Rattle.std.proofs.Common.{Some}
+use Rattle.std.proofs.Common.{◌≡◌, Some}
 use Rattle.mon_guard.specs.Cache.{CacheFits}
 use Rattle.mon_audit.specs.inner.Keeping.{KeptFits}
 use Rattle.scheduler.specs.Abstraction.{slot_of}
@@ -12,6 +12,7 @@ invariant-turns g l = record {
   on : GoesOn (slot_of l.fn.slot) l.fn.catalogue (slot_of l.slot) l.catalogue (g.S.Sink.standing l.fn.audit) (g.S.Sink.standing l.audit);
   fit : CacheFits l.guard l.catalogue;
   kept : KeptFits l.slot.number l.slot.account (reached l.catalogue (slot_of l.slot)) l.kept;
+  number : l.kept.number ≡ l.slot.number;
 }
 
 abbrev pub decreases-turns : goal.decreases-turns

@@ -12,4 +12,4 @@ returns-then-not-listens-clause-answered g c =
 pub returns-then-not-listens-clause-ready : goal.returns-then-not-listens-clause-ready
 returns-then-not-listens-clause-ready g c =
     let before = c.args.self.now in
-    (c.ask.ensures.ready, kept_either before.number before.service.now c.ask.new.self c.args.request.now before.kept.now c.ask.result c.ask.ensures.answered c.ask.ensures.unchanged c.requires.ready.1)
+    (c.ask.ensures.ready, kept_either before.kept.now.number before.service.now c.ask.new.self c.args.request.now before.kept.now c.ask.result c.ask.ensures.answered c.ask.ensures.unchanged c.requires.ready.1)

@@ -12,4 +12,4 @@ returns-then-not-listens-clause-answered g c =
 pub returns-then-not-listens-clause-ready : goal.returns-then-not-listens-clause-ready
 returns-then-not-listens-clause-ready g c =
     let before = c.args.self.now in
-    (c.ask_once.ensures.ready, kept_either before.number before.service.now c.ask_once.new.self c.args.request before.kept.now c.ask_once.result c.ask_once.ensures.answered c.ask_once.ensures.unchanged c.requires.ready.1)
+    (c.ask_once.ensures.ready, kept_either before.kept.now.number before.service.now c.ask_once.new.self c.args.request before.kept.now c.ask_once.result c.ask_once.ensures.answered c.ask_once.ensures.unchanged c.requires.ready.1)
