@@ -8,8 +8,7 @@ use crate::serving::run_parted;
 use mon_device::{
     DeckDevices, DeckWriter, DeviceSink, Devices, Failed, MemReader, Room, StdWriter,
 };
-use rounds::{Round, RoundError};
-use site_deck::Parted;
+use rounds::{Parted, Round, RoundError};
 use site_folder::round_name;
 use std::alloc::{AllocError, Global};
 use std::io::Read;
