@@ -1,10 +1,7 @@
 -- What is written (own): the printouts of all events, and then the catalogue as it stands.
-use Rattle.std.specs.Prelude.{◌≡◌, ℕ, Bool, List, Ok, [], ◌++◌, codes, if◌then◌else◌}
+use Rattle.std.specs.Prelude.{ℕ, Bool, List, [], ◌++◌, codes, if◌then◌else◌}
 use Rattle.std.specs.Str.Lines.{lines}
-use Rattle.mon_catalogue.specs.declared.version.Version.TheVariants.{Two}
 use Rattle.mon_catalogue.specs.Sets.{Sets}
-use Rattle.mon_catalogue.specs.Text.{catalogue_text}
-use Rattle.mon_catalogue.specs.Reading.{catalogue_of}
 use Rattle.mon_catalogue.specs.Stored.{IsStored, ArePrintable}
 use Rattle.scheduler.specs.Marks.{Marks}
 use Rattle.mon_monitor.specs.Printouts.{printouts_text}
@@ -19,10 +16,9 @@ abbrev pub closing : Sets → Ending → List ℕ
 closing sets Stopped = given_back sets
 closing sets (Refused n code) = []
 
--- the bytes that are written of these data sets, cut into lines, are read as these data sets; and so they are in a deck, as
--- each name, list and record is one, and is printable
+-- each name, list and record of these data sets is one, and is printable; by the law `bytes_read_back` of mon_catalogue the bytes that
+-- are written of them, cut into lines, are read as these data sets, and by `catalogues_come_back` of deck_syntax so they are in a deck
 pub record ReadsBack (sets : Sets) : Type 0 where
-  pub same : catalogue_of Two (lines (catalogue_text sets)) ≡ Ok sets
   pub stored : IsStored sets
   pub printable : ArePrintable sets
 

@@ -6,3 +6,4 @@ pub mod Fitting
 pub mod Runs
 pub mod Loans
 pub mod Looks
+pub mod Changed
