@@ -1,2 +1,5 @@
 mod Mapping
 mod Joined
+mod Handed
+mod Leaving
+mod Pieces

@@ -1,2 +1,4 @@
 pub mod Orders
 pub mod Handing
+pub mod Late
+pub mod Laws

@@ -5,6 +5,7 @@
 pub mod composing;
 pub mod damaged;
 pub mod late;
+pub mod laws;
 pub mod names;
 pub mod parting;
 pub mod parts;

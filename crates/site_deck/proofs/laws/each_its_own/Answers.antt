@@ -1,0 +1,5 @@
+use Rattle.site_deck.proofs.Pieces.{each_its_own}
+use Rattle.site_deck.proofs.laws.each_its_own.Goals as goal
+
+pub returns : goal.returns
+returns c = each_its_own

@@ -1,0 +1,12 @@
+use Rattle.site_deck.specs.Handing.{output_acts}
+use Rattle.site_deck.proofs.Handed.{put_together}
+use Rattle.site_deck.proofs.parts.parts_text.Goals as goal
+
+pub returns : goal.returns
+returns c = record {
+  files = c.in_ok-files.files.items;
+  in_order = c.in_ok-files.ensures;
+  is =
+      put_together c.args.entries.now (output_acts 0 c.args.entries.now c.args.ends.now c.args.length) c.in_ok-files.files.items c.new-parts.result.items c.put_replies.new.parts.items
+      c.put_output.new.parts.items c.put_removals.new.parts.items c.new-parts.ensures c.in_ok-put_replies.ensures c.in_ok-put_output.ensures c.in_ok-put_removals.ensures;
+}
