@@ -1,6 +1,6 @@
 -- The text of a round's parts, line by line.
 use Rattle.std.proofs.Common.{◌≡◌, ℕ, ◌+◌, ◌-◌, ◌<◌, ◌⊎◌, inl, inr, List, [], ◌∷◌, ◌++◌, length, map, drop, get_or, flat_map, refl, sym, ap, ◌∙◌, append_assoc, append-nil, arith}
-use Rattle.std.specs.Prelude.{codes}
+use Rattle.std.specs.Prelude.{codes, Result, Ok, Err, OnOk}
 use Rattle.std.proofs.lemmas.List.{drop_more}
 use Rattle.std.proofs.lemmas.List.Concat.{flat_map-append}
 use Rattle.site_folder.specs.Parts.{Act, Puts, act_line, parts_text}
@@ -41,6 +41,11 @@ all_printed begin size left rest parts now all so_far ended put =
     last (entry ∷ left) [] ended = refl
     last (entry ∷ left) (end ∷ rest) (inl none) = cc
     last (entry ∷ left) (end ∷ rest) (inr none) = absurd (omega (arith, none))
+
+-- what holds where a call succeeds
+pub on_ok : {A E P Q : Type 0} (r : Result A E) → (P → Q) → OnOk r P → OnOk r Q
+on_ok (Ok x) f so = f so
+on_ok (Err e) f so = tt
 
 flat_of_flat : {A B C : Type 0} (f : B → List C) (g : A → List B) (xs : List A) → flat_map f (flat_map g xs) ≡ flat_map (λ x. flat_map f (g x)) xs
 flat_of_flat f g [] = refl

@@ -1,5 +1,4 @@
 mod Mapping
 mod Joined
 mod Handed
-mod Leaving
 mod Pieces

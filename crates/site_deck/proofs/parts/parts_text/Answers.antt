@@ -1,4 +1,7 @@
-use Rattle.site_deck.specs.Handing.{output_acts}
+use Rattle.std.proofs.Common.{List, ◌++◌, flat_map, ap, ◌∙◌}
+use Rattle.site_folder.specs.Parts.{act_line}
+use Rattle.site_plan.specs.declared.taken.Taken.{Taken}
+use Rattle.site_deck.specs.Handing.{output_acts, removal_of}
 use Rattle.site_deck.proofs.Handed.{put_together}
 use Rattle.site_deck.proofs.parts.parts_text.Goals as goal
 
@@ -8,5 +11,6 @@ returns c = record {
   in_order = c.in_ok-files.ensures;
   is =
       put_together c.args.entries.now (output_acts 0 c.args.entries.now c.args.ends.now c.args.length) c.in_ok-files.files.items c.new-parts.result.items c.put_replies.new.parts.items
-      c.put_output.new.parts.items c.put_removals.new.parts.items c.new-parts.ensures c.in_ok-put_replies.ensures c.in_ok-put_output.ensures c.in_ok-put_removals.ensures;
+      c.put_output.new.parts.items c.put_removals.new.parts.items c.new-parts.ensures.items c.in_ok-put_replies.ensures c.in_ok-put_output.ensures
+      (c.in_ok-put_removals.ensures ∙ ap (λ (files : List Taken). c.put_output.new.parts.items ++ flat_map (λ taken. act_line (removal_of taken)) files) c.deref.ensures.value);
 }
