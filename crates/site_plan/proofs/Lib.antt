@@ -2,3 +2,5 @@ mod Firsts
 mod Walking
 mod Weighed
 mod Reaching
+mod Owners
+mod Verdicts

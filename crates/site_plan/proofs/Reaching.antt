@@ -1,5 +1,5 @@
 -- The line of a number, on the way to it.
-use Rattle.std.proofs.Common.{◌≡◌, ℕ, zero, suc, ◌+◌, ◌-◌, ◌<◌, ◌≤◌, List, [], ◌∷◌, refl, sym, ap, ◌∙◌, arith, slice_index_or}
+use Rattle.std.proofs.Common.{◌≡◌, ℕ, suc, ◌-◌, ◌<◌, ◌≤◌, List, [], ◌∷◌, refl, sym, ap, ◌∙◌, arith, slice_index_or}
 use Rattle.std.specs.Str.Lines.{lines}
 use Rattle.site_plan.specs.Replies.{line_at}
 

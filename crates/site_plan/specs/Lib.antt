@@ -3,6 +3,8 @@ pub mod Users
 pub mod Terms
 pub mod Tables
 pub mod Names
+pub mod Owning
 pub mod Weighing
 pub mod Replies
+pub mod Judging
 pub mod Plans

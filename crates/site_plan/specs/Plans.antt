@@ -1,5 +1,5 @@
 -- The text of a round's plan (own): a line for each text that it is about, and two numbers.
-use Rattle.std.specs.Prelude.{ℕ, List, [], ◌∷◌, ◌++◌, decimal, codes}
+use Rattle.std.specs.Prelude.{ℕ, List, ◌++◌, decimal, codes}
 use Rattle.std.specs.List.{flat_map}
 use Rattle.site_plan.specs.declared.plan.Verdict.{Verdict}
 use Rattle.site_plan.specs.declared.plan.Verdict.TheVariants.{Runs, Refused, PutOff}

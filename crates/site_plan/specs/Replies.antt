@@ -1,9 +1,8 @@
 -- What a user is told whose text does not run (own): the name of his file, and why; where a line is wrong, the line too, with a mark
 -- under the place.
-use Rattle.std.specs.Prelude.{ℕ, ◌+◌, ◌-◌, ◌==◌, Bool, not, ◌&&◌, List, [], ◌∷◌, ◌++◌, map, take, drop, length, replicate, position, unwrap_or, slice_index_or, decimal, codes, if◌then◌else◌}
+use Rattle.std.specs.Prelude.{ℕ, ◌+◌, ◌-◌, ◌==◌, Bool, not, ◌&&◌, List, [], ◌++◌, map, take, drop, length, replicate, position, unwrap_or, slice_index_or, decimal, codes, if◌then◌else◌}
 use Rattle.std.specs.Str.Lines.{lines}
 use Rattle.mon_text.specs.Characters.{is_printable, is_blank}
-use Rattle.deck_syntax.specs.declared.deck_error.DeckError.{DeckError}
 use Rattle.deck_syntax.specs.declared.deck_error.DeckError.TheVariants.{BadCharacter, LineTooLong}
 use Rattle.deck_syntax.specs.Refusing.{is_dollar_line}
 use Rattle.intake.specs.declared.why.Why.{Why}

@@ -1,6 +1,6 @@
 -- Which texts of an account run in a round (own): each with which, and those before it, the account breaks no limit.
-use Rattle.std.specs.Prelude.{◌≡◌, ℕ, ◌+◌, ◌==◌, Bool, true, false, not, ◌&&◌, List, [], ◌∷◌, map, Option, Some, None, option_map, is_some, if◌then◌else◌, bytes_eq}
-use Rattle.std.specs.List.{fold, list_all}
+use Rattle.std.specs.Prelude.{ℕ, ◌+◌, ◌==◌, Bool, true, false, not, ◌&&◌, List, [], ◌∷◌, map, Option, Some, None, option_map, is_some, if◌then◌else◌, bytes_eq}
+use Rattle.std.specs.List.{list_all}
 use Rattle.intake.specs.declared.tally.Tally.{Tally}
 use Rattle.intake.specs.declared.limits.Limit.{Limit}
 use Rattle.intake.specs.declared.limits.Limit.TheVariants.{Texts, Bytes, Jobs, Statements, Largest, Work, DataSets, Records}

@@ -1,5 +1,8 @@
 //! Which of the claimed texts run, and why the others do not.
-ghost use Rattle.std.specs.Prelude.{◌≡◌, OnOk, IfOk, ◌∷◌, [], ◌++◌};
+ghost use Rattle.std.specs.Prelude.{◌≡◌, ◌++◌, Some, None, List, map, option_map, IfOk, IfErr, IfSome, OnOk};
+ghost use Rattle.site_plan.specs.declared.desk.Desk.{Desk as AnyDesk};
+ghost use Rattle.site_plan.specs.Weighing.{weighed};
+ghost use Rattle.site_plan.specs.Judging.{desk_of, weighed_by, no_text, text_in, why_not, IsWeighedAs, told, told_for};
 
 use crate::claimed::{Claimed, Found};
 use crate::desk::Desk;
@@ -52,12 +55,16 @@ impl Judged {
         })
     }
 
-    /// Judges the next claimed file: its text runs if its account may hand it in, and breaks no limit by it.
+    /// Judges the next claimed file: its text runs if its account may hand it in, and breaks no limit by it. Else its user is told
+    /// why not.
     ///
     /// # Errors
     ///
     /// Where a growth was refused.
-    pub fn judge(&mut self, alloc: Global, claimed: Claimed) -> Result<(), AllocError> {
+    pub fn judge(&mut self, alloc: Global, claimed: Claimed) -> Result<(), AllocError>
+        ensures { OnOk result (map told self.new.refused.items ≡ map told self.old.refused.items
+            ++ told_for claimed.taken claimed.file.items claimed.found (why_not claimed.taken.account self.old.desks.items claimed.found)) }
+    {
         let Claimed { taken, file, found } = claimed;
         match text_of(alloc, &taken.account, &found)? {
             Ok(submission) => judge_text(alloc, self, &found, taken, file, submission),
@@ -101,25 +108,51 @@ fn text_of(
     account: &Name,
     found: &Found,
 ) -> Result<Result<Submission, Reason>, AllocError>
-    ensures { IfOk result (λ text. IfOk text (λ submission. submission.account ≡ account.now)) }
+    ensures admitted { IfOk result (λ text. IfOk text (IsWeighedAs account.now found.now)) }
+    ensures refused { IfOk result (λ text. IfErr text (λ reason. (desks : List AnyDesk) → why_not account.now desks found.now ≡ Some reason)) }
 {
-    match text_in(found) {
-        Ok(text) => match examine(alloc, account, text) {
-            Ok(submission) => Ok(Ok(submission)),
-            Err(Stop::Refused(refusal)) => Ok(Err(Reason::Line(refusal))),
-            Err(Stop::Memory) => Err(AllocError),
-        },
-        Err(reason) => Ok(Err(reason)),
+    match no_text(found) {
+        Some(reason) => Ok(Err(reason)),
+        None => examined_text(alloc, account, found),
     }
 }
 
-// The bytes of a file, or why there are none.
-fn text_in(found: &Found) -> Result<&[u8], Reason> {
+// The same of a file whose bytes were read.
+fn examined_text(
+    alloc: Global,
+    account: &Name,
+    found: &Found,
+) -> Result<Result<Submission, Reason>, AllocError>
+    requires { no_text found.now ≡ None }
+    ensures admitted { IfOk result (λ text. IfOk text (IsWeighedAs account.now found.now)) }
+    ensures refused { IfOk result (λ text. IfErr text (λ reason. (desks : List AnyDesk) → why_not account.now desks found.now ≡ Some reason)) }
+{
+    match examine(alloc, account, text_in(found)) {
+        Ok(submission) => Ok(Ok(submission)),
+        Err(Stop::Refused(refusal)) => Ok(Err(Reason::Line(refusal))),
+        Err(Stop::Memory) => Err(AllocError),
+    }
+}
+
+// Why a file has no text that could be examined.
+fn no_text(found: &Found) -> Option<Reason>
+    ensures { result ≡ no_text found.now }
+{
     match found {
-        Found::Text(text) => Ok(text.as_slice()),
-        Found::NotOwn => Err(Reason::NotOwn),
-        Found::TooLong => Err(Reason::TooLong),
-        Found::NotReadable => Err(Reason::NotReadable),
+        Found::Text(_) => None,
+        Found::NotOwn => Some(Reason::NotOwn),
+        Found::TooLong => Some(Reason::TooLong),
+        Found::NotReadable => Some(Reason::NotReadable),
+    }
+}
+
+// The bytes of a file, where they were read.
+fn text_in(found: &Found) -> &[u8]
+    ensures { result.now ≡ text_in found.now }
+{
+    match found {
+        Found::Text(text) => text.as_slice(),
+        Found::NotOwn | Found::TooLong | Found::NotReadable => b"",
     }
 }
 
@@ -131,7 +164,11 @@ fn judge_text(
     taken: Taken,
     file: Vec<u8>,
     submission: Submission,
-) -> Result<(), AllocError> {
+) -> Result<(), AllocError>
+    requires { IsWeighedAs taken.account found.now submission }
+    ensures { OnOk result (map told judged.new.refused.items ≡ map told judged.old.refused.items
+        ++ told_for taken file.items found.now (why_not taken.account judged.old.desks.items found.now)) }
+{
     let runs = Runs {
         taken,
         file,
@@ -144,7 +181,10 @@ fn judge_text(
 }
 
 // Puts a text to its account's desk. Where a limit stops it, or there is no such desk, it comes back, with why.
-fn put_text(desks: &mut [Desk], runs: Runs) -> Result<Option<(Runs, Reason)>, AllocError> {
+fn put_text(desks: &mut [Desk], runs: Runs) -> Result<Option<(Runs, Reason)>, AllocError>
+    ensures why { IfOk result (λ back. option_map (λ pair. pair.1) back ≡ weighed_by (desk_of runs.submission.account desks.old) runs.submission.tally) }
+    ensures same { IfOk result (λ back. IfSome back (λ pair. pair.0 ≡ runs)) }
+{
     for desk in desks.iter_mut() {
         if desk.account == runs.submission.account {
             return take_text(desk, runs);
@@ -155,6 +195,8 @@ fn put_text(desks: &mut [Desk], runs: Runs) -> Result<Option<(Runs, Reason)>, Al
 
 fn take_text(desk: &mut Desk, runs: Runs) -> Result<Option<(Runs, Reason)>, AllocError>
     requires { runs.submission.account ≡ desk.old.account }
+    ensures why { IfOk result (λ back. option_map (λ pair. pair.1) back ≡ weighed desk.old.limits desk.old.handed runs.submission.tally) }
+    ensures same { IfOk result (λ back. IfSome back (λ pair. pair.0 ≡ runs)) }
 {
     match desk.weigh(&runs.submission.tally) {
         None => {
@@ -173,9 +215,10 @@ fn refuse(
     file: Vec<u8>,
     found: &Found,
     reason: Reason,
-) -> Result<(), AllocError> {
-    let text = text_in(found).unwrap_or(b"");
-    let reply = reply(alloc, &file, &taken.account, reason, text)?;
+) -> Result<(), AllocError>
+    ensures { OnOk result (map told judged.new.refused.items ≡ map told judged.old.refused.items ++ told_for taken file.items found.now (Some reason)) }
+{
+    let reply = reply(alloc, &file, &taken.account, reason, text_in(found))?;
     match judged.refused.push(Refused { taken, file, reply }) {
         Ok(()) => Ok(()),
         Err(_) => Err(AllocError),

@@ -1,5 +1,7 @@
-use Rattle.std.proofs.Common.{length}
+-- All accounts before this one have what they own.
+use Rattle.std.proofs.Common.{◌≡◌, map, take}
+use Rattle.site_plan.specs.Owning.{held_by, sets_of}
 use Rattle.site_plan.proofs.owning.holdings.Given as goal
 
-abbrev pub decreases-sets : goal.decreases-sets
-decreases-sets l = length l.rest
+abbrev pub invariant-loop-place : goal.invariant-loop-place
+invariant-loop-place l = l.held.items ≡ map (λ account. held_by (sets_of l.fn.catalogue) account.name) (take l.place l.accounts)

@@ -1,7 +1,5 @@
-use Rattle.std.proofs.Common.{◌≡◌, ℕ, ◌-◌, List, [], ◌∷◌, sym, ap, ◌∙◌, arith, slice_index_or}
-use Rattle.std.specs.Str.Lines.{lines}
+use Rattle.std.proofs.Common.{◌-◌, sym, ◌∙◌, arith}
 use Rattle.mon_text.proofs.Cutting.{nothing_kept}
-use Rattle.site_plan.specs.Replies.{line_at}
 use Rattle.site_plan.proofs.Reaching.{first_is, next_is, none_left}
 use Rattle.site_plan.proofs.replies.line_of.Goals as goal
 

@@ -1,9 +1,6 @@
-use Rattle.std.proofs.Common.{◌≡◌, ◌+◌, ℕ, List, length, sym, ap, ◌∙◌, arith}
-use Rattle.std.specs.Str.Lines.{lines}
-use Rattle.mon_text.proofs.Cutting.{nothing_kept}
-use Rattle.site_plan.specs.Walks.{walked, at_line}
-use Rattle.site_plan.specs.Terms.{after_line, terms_in}
-use Rattle.site_plan.proofs.Walking.{walk_on, walk_ends, stopped_there, stopped_before}
+use Rattle.std.proofs.Common.{length, ap, arith}
+use Rattle.site_plan.specs.Terms.{after_line}
+use Rattle.site_plan.proofs.Walking.{walk_on}
 use Rattle.site_plan.proofs.terms.read_terms.Goals as goal
 
 pub lines-preserved : goal.lines-preserved

@@ -1,4 +1,3 @@
-use Rattle.std.proofs.Common.{◌≡◌, bytes_eq}
 use Rattle.std.proofs.lemmas.Slice.Eq.{bytes_eq-Decides}
 use Rattle.site_plan.specs.Weighing.{before}
 use Rattle.site_plan.proofs.Weighed.{still_within, still_counted, still_own}
