@@ -9,3 +9,4 @@ pub mod Loop
 mod Examples
 pub mod Tested
 pub mod Runs
+pub mod Following

@@ -1,20 +1,20 @@
 //! The walk with the trees that it makes.
 
-ghost use Rattle.std.specs.Prelude.{◌≡◌, ◌≤◌, IfOk, length, drop, true, false, Some, None};
+ghost use Rattle.std.specs.Prelude.{◌≡◌, ◌≤◌, IfOk, IfSome, length, drop, true, false, Some, None};
 ghost use Rattle.sno_expression.specs.Marks.{operator_of, prefix_of};
 ghost use Rattle.sno_expression.specs.inner.Walking.{inner_of};
 ghost use Rattle.sno_expression.specs.Expressions as expressions;
 ghost use Rattle.sno_expression.specs.inner.Spines.{is_element};
-ghost use Rattle.sno_expression.specs.inner.Reading.{fill, prefixed, joined, begin, close, close_angle, comma, first, go_on, closed, after, due, omitted, omitted_last, after_prefix, opened, named, read, ended, result as result_of, parens, Read, reading};
+ghost use Rattle.sno_expression.specs.inner.Reading.{fill, prefixed, joined, begin, close, close_angle, comma, first, go_on, closed, after, due, omitted, omitted_last, after_prefix, opened, named, read, ended, result as result_of, parens, Read, answer, reading};
 ghost use Rattle.sno_expression.specs.inner.Reading as states;
 ghost use Rattle.sno_expression.specs.Abstraction.{expression_of, arguments_of, expressions_of};
 ghost use Rattle.sno_expression.specs.inner.Told.{spine_tree, hole_of, stack_of, frame_of, state_of, stepped, step_of, Next, End};
 
 use crate::growing::{add_argument, omit_argument, tree_of, with_prefix};
-use crate::pushing::{alone, closed as closed_tree, push};
+use crate::pushing::{alone, closed as closed_tree, goes_under, push};
 use crate::spine::Spine;
 use crate::tree::{
-    Arguments, BinaryOperator, Call, Expression, IdentifierPrefix, Prefix, TableItem,
+    Arguments, BinaryOperator, Call, Expression, IdentifierPrefix, Pending, Prefix, TableItem,
     UnaryOperator, operator_of, prefix_of,
 };
 use crate::walking::{Paren, opens_bracket, stops};
@@ -72,6 +72,14 @@ pub(crate) enum Step {
     Next(State),
     /// It is not taken: the tree, where one is complete.
     End(Option<Expression>),
+}
+
+/// How far a run of tokens has led.
+#[derive(Drop)]
+pub(crate) struct Run {
+    state: State,
+    /// The index of the first token that was not taken.
+    next: usize,
 }
 
 /// An expression that was read.
@@ -684,6 +692,126 @@ fn read(alloc: Global, alone: bool, state: State, token: &Token) -> Result<Step,
     }
 }
 
+// The name of a token that stands behind a blank.
+#[inline(always)]
+fn name_behind_blank<'a, 'b>(token: &'a Token<'b>) -> Option<&'a Word<'b>>
+    ensures { IfSome result (λ name. (token.now.blank_before ≡ true) × (token.now.kind ≡ TokenKind.Identifier name.now)) }
+{
+    match &token.kind {
+        TokenKind::Identifier(name) => { if token.blank_before { Some(name) } else { None } }
+        _ => None,
+    }
+}
+
+// Whether two names come first, each behind a blank.
+#[inline(always)]
+fn names_stand(tokens: &[Token]) -> bool {
+    match tokens {
+        [first, second, ..] => {
+            name_behind_blank(first).is_some() && name_behind_blank(second).is_some()
+        }
+        _ => false,
+    }
+}
+
+// Names that go on with a concatenation, each behind a blank: as many steps of `read`, but nothing is moved from step to step.
+#[inline(never)]
+fn names_follow(
+    alloc: Global,
+    alone: bool,
+    stack: Stack,
+    spine: Spine,
+    name: Characters,
+    tokens: &[Token],
+    from: usize,
+) -> Result<Run, AllocError>
+    requires taken { closed alone (stack_of stack) ≡ false }
+    requires begins { from ≤ length tokens.now }
+    ensures same { IfOk result (λ run. answer alone (states.At (stack_of stack) (states.Named (states.After (spine_tree spine) BinaryOperator.Concatenation) name)) (drop from tokens.now) ≡ answer alone (state_of run.state) (drop run.next tokens.now)) }
+    ensures onward { IfOk result (λ run. from ≤ run.next) }
+    ensures within { IfOk result (λ run. run.next ≤ length tokens.now) }
+{
+    let Spine { pending, last } = spine;
+    let mut waiting = pending;
+    let mut right = last;
+    let mut latest = name;
+    let mut at = from;
+    while at < tokens.len() && goes_under(BinaryOperator::Concatenation, waiting.as_slice()) {
+        match name_behind_blank(&tokens[at]) {
+            Some(word) => {
+                let following = word.characters(alloc)?;
+                waiting.push(Pending {
+                    left: right,
+                    operator: BinaryOperator::Concatenation,
+                })?;
+                right = Expression::Identifier(latest);
+                latest = following;
+                at += 1;
+            }
+            None => break,
+        }
+    }
+    let spine = Spine {
+        pending: waiting,
+        last: right,
+    };
+    let hole = Hole::After(spine, BinaryOperator::Concatenation);
+    Ok(Run {
+        state: State {
+            stack,
+            spot: Spot::Named(hole, latest),
+        },
+        next: at,
+    })
+}
+
+// Where a name stands behind a concatenation, and more may be taken, those that follow it are read in a run.
+#[inline(never)]
+fn run_on(
+    alloc: Global,
+    alone: bool,
+    state: State,
+    tokens: &[Token],
+    from: usize,
+) -> Result<Run, AllocError>
+    requires { from ≤ length tokens.now }
+    ensures same { IfOk result (λ run. answer alone (state_of state) (drop from tokens.now) ≡ answer alone (state_of run.state) (drop run.next tokens.now)) }
+    ensures onward { IfOk result (λ run. from ≤ run.next) }
+    ensures within { IfOk result (λ run. run.next ≤ length tokens.now) }
+{
+    if closed(alone, &state.stack) {
+        return Ok(Run { state, next: from });
+    }
+    let State { stack, spot } = state;
+    match spot {
+        Spot::Named(hole, name) => match hole {
+            Hole::After(spine, operator) => match operator {
+                BinaryOperator::Concatenation => {
+                    names_follow(alloc, alone, stack, spine, name, tokens, from)
+                }
+                operator => Ok(Run {
+                    state: State {
+                        stack,
+                        spot: Spot::Named(Hole::After(spine, operator), name),
+                    },
+                    next: from,
+                }),
+            },
+            hole => Ok(Run {
+                state: State {
+                    stack,
+                    spot: Spot::Named(hole, name),
+                },
+                next: from,
+            }),
+        },
+        spot => Ok(Run {
+            state: State { stack, spot },
+            next: from,
+        }),
+    }
+}
+
 // The tree at the end of the tokens, where one is complete.
 fn finish(alloc: Global, state: State) -> Result<Option<Expression>, AllocError>
     ensures { IfOk result (λ t. expressions_of t ≡ result_of (state_of state)) }
@@ -721,10 +849,23 @@ pub fn read_expression(
         stack: Stack::Bottom,
         spot: Spot::Due(Hole::Begin),
     };
-    for i in from..tokens.len() {
-        match read(alloc, alone, state, &tokens[i])? {
-            Step::Next(next) => state = next,
-            Step::End(tree) => return Ok(Found { tree, next: i }),
+    let mut at = from;
+    while at < tokens.len() {
+        match read(alloc, alone, state, &tokens[at])? {
+            Step::Next(next) => {
+                at += 1;
+                if names_stand(&tokens[at..]) {
+                    let Run {
+                        state: reached,
+                        next,
+                    } = run_on(alloc, alone, next, tokens, at)?;
+                    state = reached;
+                    at = next;
+                } else {
+                    state = next;
+                }
+            }
+            Step::End(tree) => return Ok(Found { tree, next: at }),
         }
     }
     let tree = finish(alloc, state)?;

@@ -35,10 +35,10 @@ fn nest(
     })
 }
 
-// Whether the operator may stand under all that are open, as it may where it may stand under the innermost.
+/// Whether the operator may stand under all that are open, as it may where it may stand under the innermost.
 #[inline(always)]
 #[tactic(auto, using(crate::proofs::Spines::under_last))]
-fn goes_under(operator: BinaryOperator, pending: &[Pending]) -> bool
+pub(crate) fn goes_under(operator: BinaryOperator, pending: &[Pending]) -> bool
     requires { is_ordered pending.now ≡ true }
     ensures { result ≡ is_under_all operator pending.now }
 {
