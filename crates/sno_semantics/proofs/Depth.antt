@@ -1,18 +1,19 @@
 -- A larger number than the statements that may still begin changes nothing.
 use Rattle.std.proofs.Common.{◌≡◌, ℕ, zero, suc, ◌+◌, ◌≤◌, ◌<◌, Option, Some, None, refl, sym, ap, ◌∙◌, subst, arith}
 use Rattle.std.specs.Prelude.{slice_get}
+use Rattle.std.specs.Option.{option_map_or}
 use Rattle.interaction.specs.Interactions.{Interaction, Returns, Asks, ◌>>=◌}
 use Rattle.interaction.specs.Endings.{EndsIn}
 use Rattle.interaction.proofs.Enough.{ends_in_then, same_then, ends_in_weaker}
 use Rattle.sno_expression.specs.Expressions.{Expression}
-use Rattle.sno_semantics.specs.declared.got.Halt.TheVariants.{StatementLimit}
+use Rattle.sno_semantics.specs.declared.got.Halt.TheVariants.{Normal, StatementLimit}
 use Rattle.sno_semantics.specs.declared.got.Evaluated.{Evaluated}
 use Rattle.sno_semantics.specs.declared.got.Evaluated.TheVariants.{Halts}
 use Rattle.sno_semantics.specs.Evaluation.{evaluate, name_of}
 use Rattle.sno_semantics.specs.Keeping.{Keeping}
 use Rattle.sno_semantics.specs.Lines.{Point, At, End, Return, FailureReturn, Line, Lines}
 use Rattle.sno_semantics.specs.Execution.{Jump}
-use Rattle.sno_semantics.specs.Running.{Ended, executed, passed, if_begun, run_line, run_none, run, settled, turn_line, turn}
+use Rattle.sno_semantics.specs.Running.{Ended, executed, passed, if_begun, run_line, run, settled, turn_line, turn}
 use Rattle.sno_semantics.specs.Limits.{Counts}
 use Rattle.sno_semantics.proofs.Relating.{Keeps, executed_alike, passed_alike}
 
@@ -95,7 +96,7 @@ module _ {Q R K : Type 0} (allowed : K → ℕ) (keeping : Keeping Q R K) (count
   begins go line i o st = if_begun keeping evaluate name_of program (Halts StatementLimit) o st (λ st1. follows go line i st1)
 
   abbrev none_left : Option (Line Expression Expression) → K → Interaction Q R (Evaluated × K)
-  none_left o st = run_none keeping evaluate name_of program o st
+  none_left o st = Returns (Halts (option_map_or (λ _. StatementLimit) o Normal), st)
 
   abbrev at_line : Go → ℕ → Option (Line Expression Expression) → K → Interaction Q R (Evaluated × K)
   at_line go i o st = run_line keeping evaluate name_of program go i o st

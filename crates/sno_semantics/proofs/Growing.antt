@@ -1,18 +1,19 @@
 -- Whatever holds of interactions behind so many beginnings holds of a turn, if it holds of all that statements do to a job's state.
 use Rattle.std.proofs.Common.{◌≡◌, ℕ, zero, suc, ◌+◌, List, Option, Some, None, refl, subst}
 use Rattle.std.specs.Prelude.{slice_get}
+use Rattle.std.specs.Option.{option_map_or}
 use Rattle.interaction.specs.Interactions.{Interaction, Returns, ◌>>=◌}
 use Rattle.sno_expression.specs.Expressions.{Expression}
 use Rattle.sno_pattern.specs.declared.ending.MatchEnd.{MatchEnd}
 use Rattle.sno_value.specs.declared.value.Value.{Value}
-use Rattle.sno_semantics.specs.declared.got.Halt.TheVariants.{StatementLimit}
+use Rattle.sno_semantics.specs.declared.got.Halt.TheVariants.{Normal, StatementLimit}
 use Rattle.sno_semantics.specs.declared.got.Evaluated.{Evaluated}
 use Rattle.sno_semantics.specs.declared.got.Evaluated.TheVariants.{Halts}
 use Rattle.sno_semantics.specs.Evaluation.{evaluate, name_of}
 use Rattle.sno_semantics.specs.Keeping.{Keeping, Enters}
 use Rattle.sno_semantics.specs.Lines.{Point, At, End, Return, FailureReturn, Line, Lines}
 use Rattle.sno_semantics.specs.Execution.{Jump, On, Over}
-use Rattle.sno_semantics.specs.Running.{Turned, Ended, executed, passed, if_begun, run_line, run_none, run, settled, turn_line, turn}
+use Rattle.sno_semantics.specs.Running.{Turned, Ended, executed, passed, if_begun, run_line, run, settled, turn_line, turn}
 use Rattle.sno_semantics.proofs.Relating.{Keeps, executed_alike, passed_alike}
 
 module _ {Q R K : Type 0} (begun : K → ℕ) (P : (A : Type 0) → ℕ → Interaction Q R (A × K) → Type 0)
@@ -77,7 +78,7 @@ module _ {Q R K : Type 0} (begun : K → ℕ) (P : (A : Type 0) → ℕ → Inte
       holds_passed : (go : Go) → Holds go → (r : Jump × K) → P Evaluated (begun r.1) (passed keeping evaluate name_of program go r)
       holds_passed go g r = passed_alike Alone done alone_then keeping keeps program go go g r
 
-      holds_none : (o : Option (Line Expression Expression)) (st : K) → P Evaluated (begun st) (run_none keeping evaluate name_of program o st)
+      holds_none : (o : Option (Line Expression Expression)) (st : K) → P Evaluated (begun st) (Returns (Halts (option_map_or (λ _. StatementLimit) o Normal), st))
       holds_none None st = done _ _
       holds_none (Some line) st = done _ _
 

@@ -14,20 +14,21 @@ use Rattle.sno_pattern.specs.declared.ending.MatchEnd.{MatchEnd}
 use Rattle.sno_pattern.specs.declared.ending.MatchEnd.TheVariants as end
 use Rattle.sno_value.specs.declared.value.Value.{Value}
 use Rattle.sno_value.specs.declared.value.Value.TheVariants as value
-use Rattle.sno_text.specs.declared.fault.Fault.TheVariants.{WrongType}
+use Rattle.sno_text.specs.declared.fault.Fault.TheVariants.{WrongType, Null, Goto}
+use Rattle.sno_semantics.specs.declared.got.Halt.TheVariants.{Fault}
 use Rattle.sno_value.specs.declared.outcome.Outcome.TheVariants as outcome
 use Rattle.sno_value.specs.Values.{null, text_of}
 use Rattle.sno_value.specs.Outcomes.{string}
 use Rattle.sno_semantics.specs.declared.got.Evaluated.{Evaluated}
 use Rattle.sno_semantics.specs.declared.got.Evaluated.TheVariants.{Gives, Fails, Halts}
-use Rattle.sno_semantics.specs.Outcomes.{got_of, Doing, with_value, comes_to, if_name, with_name}
+use Rattle.sno_semantics.specs.Outcomes.{with_value, got_of, Doing, reads, comes_to, with_name}
 use Rattle.sno_semantics.specs.Operators.{table, key}
-use Rattle.sno_semantics.specs.Evaluation.{negated, evaluate, name_of, evaluate_all}
+use Rattle.sno_semantics.specs.Evaluation.{evaluate, name_of, evaluate_all}
 use Rattle.sno_semantics.specs.Keeping.{Setting, Keeping, Entered, Undefined, Enters, Refused, setting_of}
 use Rattle.sno_semantics.specs.Lines.{Destination, Variable, ItemAt, Act, Nothing, Uses, SetsKeyword, Assigns, Matches, Replaces}
 use Rattle.sno_semantics.specs.Lines.{Point, At, End, Return, FailureReturn, Target, Following, To, Computed, Line, Lines, point_of}
-use Rattle.sno_semantics.specs.Execution.{Jump, On, Over, computed_by, Place, OfName, OfItem, assign_all, put_in_place, held, put_string, with_match}
-use Rattle.sno_semantics.specs.Execution.{object_of, match_then, place_then, perform, followed, goto_after, execute}
+use Rattle.sno_semantics.specs.Execution.{Jump, On, Over, computed_next, Place, OfName, OfItem, assign_all, put_in_place, with_match}
+use Rattle.sno_semantics.specs.Execution.{object_of, match_then, place_then, perform, followed, execute}
 use Rattle.sno_semantics.specs.Running.{returned, go_from, call_by, executed, passed}
 
 module _ {Q R K : Type 0} (Related : (A : Type 0) → K → Interaction Q R (A × K) → Interaction Q R (A × K) → Type 0)
@@ -46,7 +47,8 @@ module _ {Q R K : Type 0} (Related : (A : Type 0) → K → Interaction Q R (A �
   of_value (Halts e, st) g = done Evaluated (Halts e, st)
 
   of_name : (st : K) (k k' : List ℕ → Doing Q R K) → ((n : List ℕ) → Related Evaluated st (k n st) (k' n st)) → (n : List ℕ)
-      → Related Evaluated st (if_name k n st) (if_name k' n st)
+      → Related Evaluated st ((elim n as (λ _. Doing Q R K) [ [] ↦ comes_to (outcome.Faults Null) | c ∷ cs ↦ k (c ∷ cs) ]) st)
+      ((elim n as (λ _. Doing Q R K) [ [] ↦ comes_to (outcome.Faults Null) | c ∷ cs ↦ k' (c ∷ cs) ]) st)
   of_name st k k' g [] = done _ _
   of_name st k k' g (c ∷ cs) = g (c ∷ cs)
 
@@ -57,12 +59,18 @@ module _ {Q R K : Type 0} (Related : (A : Type 0) → K → Interaction Q R (A �
 
   of_named : (v : Value) (st : K) (k k' : List ℕ → Doing Q R K) → ((n : List ℕ) → Related Evaluated st (k n st) (k' n st))
       → Related Evaluated st (with_name v k st) (with_name v k' st)
-  of_named v st k k' g = of_text (text_of v) st (if_name k) (if_name k') (of_name st k k' g)
+  of_named v st k k' g = of_text (text_of v) st _ _ (of_name st k k' g)
+
+  abbrev negated : Evaluated × K → Evaluated × K
+  negated (got, st) = (elim got [ Gives v ↦ Fails | Fails ↦ Gives null | Halts h ↦ Halts h ], st)
 
   of_negated : (r : Evaluated × K) → Related Evaluated r.1 (Returns (negated r)) (Returns (negated r))
   of_negated (Gives v, st) = done _ _
   of_negated (Fails, st) = done _ _
   of_negated (Halts e, st) = done _ _
+
+  abbrev computed_by : LabelList → Evaluated × K → Jump × K
+  computed_by labels (got, st) = (elim got [ Gives v ↦ computed_next labels (text_of v) | Fails ↦ Over (Fault Goto) | Halts h ↦ Over h ], st)
 
   of_computed : (labels : LabelList) (r : Evaluated × K) → Related Jump r.1 (Returns (computed_by labels r)) (Returns (computed_by labels r))
   of_computed labels (Gives v, st) = done _ _
@@ -174,11 +182,17 @@ module _ {Q R K : Type 0} (Related : (A : Type 0) → K → Interaction Q R (A �
       puts (OfName name) v st = keeps.assigned name v st
       puts (OfItem t k) v st = keeps.item_set t k v st
 
-      holds : (place : Place) (st : K) → Related Evaluated st (held keeping place st) (held keeping place st)
+      abbrev held : Place → Doing Q R K
+      held place = elim place [ OfName name ↦ keeping.used name | OfItem t k ↦ reads (keeping.item t k) ]
+
+      holds : (place : Place) (st : K) → Related Evaluated st (held place st) (held place st)
       holds (OfName name) st = keeps.used name st
       holds (OfItem t k) st = done _ _
 
-      strings : (place : Place) (text : List ℕ) (st : K) → Related Evaluated st (put_string keeping place text st) (put_string keeping place text st)
+      abbrev put_string : Place → List ℕ → Doing Q R K
+      put_string place text st = Returns (got_of (string (keeping.most st) text), st) >>= (λ got. with_value got (put_in_place keeping place))
+
+      strings : (place : Place) (text : List ℕ) (st : K) → Related Evaluated st (put_string place text st) (put_string place text st)
       strings place text st = of_value (got_of (string (keeping.most st) text), st) (λ v st1. puts place v st1)
 
       performs : (a : Act E N) (st : K) → Related Evaluated st (perform keeping ev nm a st) (perform keeping ev' nm' a st)
@@ -204,7 +218,8 @@ module _ {Q R K : Type 0} (Related : (A : Type 0) → K → Interaction Q R (A �
       follows labels (Computed e) i st = after (of_ev e st) (of_computed labels)
 
       goes_to : (labels : LabelList) (line : Line E N) (i : ℕ) (r : Evaluated × K)
-          → Related Jump r.1 (goto_after keeping ev nm labels line i r) (goto_after keeping ev' nm' labels line i r)
+          → Related Jump r.1 (elim r.0 [ Gives v ↦ followed keeping ev nm labels line.success i r.1 | Fails ↦ followed keeping ev nm labels line.failure i r.1 | Halts h ↦ Returns (Over h, r.1) ])
+          (elim r.0 [ Gives v ↦ followed keeping ev' nm' labels line.success i r.1 | Fails ↦ followed keeping ev' nm' labels line.failure i r.1 | Halts h ↦ Returns (Over h, r.1) ])
       goes_to labels line i (Gives v, st) = follows labels line.success i st
       goes_to labels line i (Fails, st) = follows labels line.failure i st
       goes_to labels line i (Halts e, st) = done _ _

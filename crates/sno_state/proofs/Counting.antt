@@ -1,6 +1,6 @@
 -- What statements do leaves the number of statements that were begun, but for the beginning of one.
 use Rattle.std.proofs.Common.{◌≡◌, ℕ, ℤ, pos, negsuc, ◌≤◌, ◌<◌, Bool, true, false, List, [], ◌∷◌, length, Option, Some, None, Result, Ok, Err, refl, subst, arith, nat_le, nat_lt, ◌&&◌}
-use Rattle.std.specs.Prelude.{if◌then◌else◌}
+use Rattle.std.specs.Prelude.{ok_or, if◌then◌else◌}
 use Rattle.std.specs.Option.{option_map_or}
 use Rattle.std.proofs.lemmas.Bool.Decides.{nat_tests}
 use Rattle.interaction.specs.Interactions.{Returns, interpreted}
@@ -24,7 +24,7 @@ use Rattle.sno_value.specs.declared.primitive.Primitive.{Primitive}
 use Rattle.sno_pattern.specs.Looks.{Look, LookUp, Assign, Told, Given}
 use Rattle.sno_pattern.specs.Steps.{match_of}
 use Rattle.sno_pattern.specs.declared.ending.MatchEnd.TheVariants as end
-use Rattle.sno_declarations.specs.Arguments.{go_on, or_fault, name_in, input_in, output_in, unit_in}
+use Rattle.sno_declarations.specs.Arguments.{go_on, name_in, input_in, output_in, unit_in}
 use Rattle.sno_declarations.specs.Definitions.{definition_in}
 use Rattle.sno_declarations.specs.Formats.{records}
 use Rattle.sno_declarations.specs.declared.association.Input.{Input}
@@ -36,14 +36,16 @@ use Rattle.sno_semantics.specs.declared.got.Halt.TheVariants.{Fault}
 use Rattle.sno_semantics.specs.Keeping.{Entered, Undefined, Enters, Refused}
 use Rattle.sno_semantics.specs.Limits.{Counts}
 use Rattle.sno_store.specs.declared.keyword.Keyword.{Keyword}
+use Rattle.sno_store.specs.declared.keyword.Keywords.{Keywords}
 use Rattle.sno_store.specs.declared.keyword.Keyword.TheVariants.{Anchor, FullScan, Trim, StatementLimit, MaximumLength, StatementCount, StatementNumber, FunctionLevel}
 use Rattle.sno_store.specs.CallFrames.{CallFrame}
 use Rattle.sno_store.specs.declared.store.Store.{Store as State}
 use Rattle.sno_variables.specs.Variables as variables
 use Rattle.sno_variables.specs.Variables.{Use, use_of, variable_of}
-use Rattle.sno_store.specs.Keywords.{KeywordValues, keyword_named, with_keyword, with_statement_limit, with_maximum_length, is_settable}
-use Rattle.sno_store.specs.States.{with_value_of, with_keywords, with_keyword_set, function_of, may_begin, with_statement, new_table, with_new_table, with_item_set}
+use Rattle.sno_store.specs.Keywords.{keyword_named, with_keyword, is_settable}
+use Rattle.sno_store.specs.States.{with_value_of, with_keyword_set, function_of, may_begin, with_statement, new_table, with_new_table, with_item_set}
 use Rattle.sno_store.specs.Calls as calls
+use Rattle.sno_store.proofs.Left.{left_by}
 use Rattle.sno_text.specs.Patterns as patterns
 use Rattle.sno_value.specs.Keys.{place_of}
 use Rattle.sno_value.specs.Tables.{with_table, with_item}
@@ -56,7 +58,8 @@ use Rattle.sno_store.specs.declared.callee.StateFunction.TheVariants.{Changes, E
 use Rattle.sno_state.specs.Asking.{if_done, asked, changed_by}
 use Rattle.sno_state.specs.Keywords.{keyword_set}
 use Rattle.sno_state.specs.Using.{stored_of, used_by, used, write_all, write_text, written, assigned}
-use Rattle.sno_state.specs.Matching.{value_taken, looked_at, told_by, looking, is_anchored, matched}
+use Rattle.sno_state.specs.Matching.{value_taken, looked_at, told_by, looking, matched}
+use Rattle.sno_state.specs.inner.Parts.{is_anchored}
 use Rattle.sno_state.specs.Calling.{begun, called, entered}
 use Rattle.sno_store.specs.Callees.{state_function_named}
 use Rattle.sno_state.specs.Primitives.{state_changed, on_unit, state_function_done, on_values, primitive}
@@ -156,27 +159,27 @@ module _ (n : ℕ) where
   table_changed s h = go_on_changed (with_table s.tables) _ (λ ts. h)
 
   pub item_stays : (t k v : Value) (s : State) → Stays s → Stays (item_set t k v s).1
-  item_stays t k v s h = by_changed null (with_item_set t k v s) s h (go_on_changed (or_fault _ (place_of t k)) _ (λ p. go_on_changed (with_item p v s.tables) _ (λ ts. h)))
+  item_stays t k v s h = by_changed null (with_item_set t k v s) s h (go_on_changed (ok_or (place_of t k) _) _ (λ p. go_on_changed (with_item p v s.tables) _ (λ ts. h)))
 
   -- KEYWORDS
 
-  abbrev Kept : Result KeywordValues AFault → Type 0
+  abbrev Kept : Result Keywords AFault → Type 0
   Kept (Ok k) = k.begun ≡ n
   Kept (Err f) = Unit {0}
 
-  limit_kept : (z : ℤ) (k : KeywordValues) → k.begun ≡ n → Kept (with_statement_limit z k)
+  limit_kept : (z : ℤ) (k : Keywords) → k.begun ≡ n → Kept (with_keyword StatementLimit z k)
   limit_kept (pos m) k h = h
   limit_kept (negsuc m) k h = tt
 
-  if_kept : (b : Bool) (k : KeywordValues) (f : AFault) → k.begun ≡ n → Kept (if b then Ok k else Err f)
+  if_kept : (b : Bool) (k : Keywords) (f : AFault) → k.begun ≡ n → Kept (if b then Ok k else Err f)
   if_kept true k f h = h
   if_kept false k f h = tt
 
-  length_kept : (z : ℤ) (k : KeywordValues) → k.begun ≡ n → Kept (with_maximum_length z k)
+  length_kept : (z : ℤ) (k : Keywords) → k.begun ≡ n → Kept (with_keyword MaximumLength z k)
   length_kept (pos m) k h = if_kept (nat_le m 100000) (record k { maximum_length = m }) _ h
   length_kept (negsuc m) k h = tt
 
-  keyword_kept : (keyword : Keyword) (z : ℤ) (k : KeywordValues) → k.begun ≡ n → Kept (with_keyword keyword z k)
+  keyword_kept : (keyword : Keyword) (z : ℤ) (k : Keywords) → k.begun ≡ n → Kept (with_keyword keyword z k)
   keyword_kept Anchor z k h = h
   keyword_kept FullScan z k h = h
   keyword_kept Trim z k h = h
@@ -186,7 +189,7 @@ module _ (n : ℕ) where
   keyword_kept StatementNumber z k h = tt
   keyword_kept FunctionLevel z k h = tt
 
-  kept_changed : (r : Result KeywordValues AFault) (s : State) → Kept r → Changed (go_on r (with_keywords s))
+  kept_changed : (r : Result Keywords AFault) (s : State) → Kept r → Changed (go_on r (λ k. Ok (record s { keywords = k })))
   kept_changed (Ok k) s h = h
   kept_changed (Err f) s h = tt
 
@@ -195,7 +198,7 @@ module _ (n : ℕ) where
   if_changed false r f h = tt
 
   keyword_changed : (keyword : Keyword) (v : Value) (s : State) → Stays s → Changed (with_keyword_set keyword v s)
-  keyword_changed keyword v s h = if_changed (is_settable keyword) _ _ (go_on_changed (or_fault _ (number_of v)) _ (λ z. kept_changed (with_keyword keyword z s.keywords) s (keyword_kept keyword z s.keywords h)))
+  keyword_changed keyword v s h = if_changed (is_settable keyword) _ _ (go_on_changed (ok_or (number_of v) _) _ (λ z. kept_changed (with_keyword keyword z s.keywords) s (keyword_kept keyword z s.keywords h)))
 
   set_by_stays : (k : Option Keyword) (v : Value) (s : State) → Stays s
       → Stays (option_map_or (λ k'. changed_by null (with_keyword_set k' v s) s) k (Halts (Fault fault.Keyword), s)).1
@@ -247,7 +250,7 @@ module _ (n : ℕ) where
   pub entered_stays : (f : List ℕ) (vs : List Value) (s : State) → Stays s → Inside (entered f vs s)
   entered_stays f vs s h = entered_by_stays (function_of f s) vs s h
 
-  left_by_stays : (levels : List CallFrame) (s : State) → Stays s → Stays (calls.left_by levels s)
+  left_by_stays : (levels : List CallFrame) (s : State) → Stays s → Stays (left_by levels s)
   left_by_stays [] s h = h
   left_by_stays (level ∷ levels) s h = h
 

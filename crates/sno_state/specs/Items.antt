@@ -1,25 +1,22 @@
 -- Items of tables (own): they have no associations.
-use Rattle.std.specs.Prelude.{Bool, false, not, ◌&&◌, Option, Some, None, Result, Ok, Err}
-use Rattle.sno_text.specs.declared.fault.Fault.{Fault as AFault}
+use Rattle.std.specs.Prelude.{Bool, false, not, ◌&&◌, Option, Some, None}
 use Rattle.sno_value.specs.declared.value.Value.{Value}
 use Rattle.sno_value.specs.Values.{null}
 use Rattle.sno_value.specs.declared.outcome.Outcome.{Outcome}
 use Rattle.sno_value.specs.declared.outcome.Outcome.TheVariants as outcome
 use Rattle.sno_value.specs.Memory.{has_shared}
 use Rattle.sno_value.specs.declared.key.Place.{Place}
-use Rattle.sno_value.specs.Tables.{is_set, has_room}
+use Rattle.sno_value.specs.Outcomes.{or_wrong_type}
+use Rattle.sno_value.specs.Keys.{place_of}
+use Rattle.sno_value.specs.Tables.{item_of, is_set, has_room}
 use Rattle.sno_semantics.specs.declared.got.Evaluated.{Evaluated}
 use Rattle.sno_store.specs.declared.store.Store.{Store as State}
 use Rattle.sno_store.specs.States as states
 use Rattle.sno_state.specs.Asking.{changed_by}
 
-abbrev pub outcome_given : Result Value AFault → Outcome
-outcome_given (Ok v) = outcome.Gives v
-outcome_given (Err f) = outcome.Faults f
-
 -- an item, by what is a table and what is a key
 abbrev pub item : Value → Value → State → Outcome
-item table key s = outcome_given (states.item table key s)
+item table key s = or_wrong_type (place_of table key) (λ p. outcome.Gives (item_of p s.tables))
 
 -- it is set
 abbrev pub item_set : Value → Value → Value → State → Evaluated × State

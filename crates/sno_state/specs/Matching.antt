@@ -1,5 +1,5 @@
 -- A match within a statement: what it looks up and assigns meanwhile is done to the state of the job (own).
-use Rattle.std.specs.Prelude.{ℕ, ◌^◌, ℤ, pos, nat_lt, List, Bool, not, if◌then◌else◌}
+use Rattle.std.specs.Prelude.{ℕ, ◌^◌, pos, nat_lt, List, not, if◌then◌else◌}
 use Rattle.std.specs.Fmt.{signed_decimal}
 use Rattle.std.specs.Option.{option_map_or}
 use Rattle.std.specs.Ordering.{int_eq}
@@ -31,14 +31,10 @@ looked_at (Pattern p) = Found (looked.Pattern p)
 looked_at (Unevaluated name) = Found (looked.Defer name)
 looked_at (Table n) = Faulty WrongType
 
--- the number of characters before a cursor; no text has as many as 2 ^ 63
-abbrev pub cursor_number : ℕ → ℤ
-cursor_number at = if nat_lt at (2 ^ 63) then pos at else pos 0
-
--- what a variable is assigned: a part of the text, or the place of the cursor
+-- what a variable is assigned: a part of the text, or the number of characters before the cursor; no text has as many as 2 ^ 63
 abbrev pub value_taken : Taken → Value
 value_taken (Part text) = Text text
-value_taken (Cursor at) = Integer (cursor_number at)
+value_taken (Cursor at) = Integer (if nat_lt at (2 ^ 63) then pos at else pos 0)
 
 -- neither using a variable nor assigning to one begins a statement or a match, so that only a fault ends the job in it
 abbrev pub told_by : (Value → Told) → Evaluated → Told
@@ -51,11 +47,7 @@ abbrev pub looking : Look → State → Asking (Told × State)
 looking (LookUp variable) s = used variable s >>= λ got. Returns (told_by looked_at got.0, got.1)
 looking (Assign variable taken) s = assigned variable (value_taken taken) s >>= λ got. Returns (told_by (λ _. Given) got.0, got.1)
 
--- where &ANCHOR is not 0, a match begins at the first character
-abbrev pub is_anchored : State → Bool
-is_anchored s = not (int_eq s.keywords.anchor (pos 0))
-
--- a text is matched by what a value stands for as a pattern, within so many steps
+-- a text is matched by what a value stands for as a pattern, within so many steps; where &ANCHOR is not 0, from its first character
 abbrev pub matched : ℕ → List ℕ → Value → State → Asking (MatchEnd × State)
 matched steps text v s =
-    option_map_or (λ p. interpreted looking (match_of text p (is_anchored s) steps) s) (pattern_of v) (Returns (end.Fault WrongType, s))
+    option_map_or (λ p. interpreted looking (match_of text p (not (int_eq s.keywords.anchor (pos 0))) steps) s) (pattern_of v) (Returns (end.Fault WrongType, s))

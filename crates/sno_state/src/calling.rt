@@ -4,7 +4,7 @@ ghost use Rattle.sno_store.specs.States.{may_begin};
 ghost use Rattle.sno_state.specs.Calling.{begun, called, entered};
 ghost use Rattle.sno_state.specs.inner.Answers.{Began, Comes};
 
-use sno_store::{Callee, Function, StatementNumber, Store};
+use sno_store::{Callee, Function, KeywordNumber, Store};
 use sno_text::{Fault, Text};
 use sno_value::Value;
 use std::alloc::{AllocError, Global};
@@ -25,7 +25,7 @@ pub enum Entry {
 
 /// Begins the statement of a number, if one more may begin in a job that may begin so many, and then the state has counted
 /// it. It tells whether it did; where it did not, nothing has changed. It takes no memory.
-pub fn begin(limit: u64, number: StatementNumber, state: &mut Store) -> bool
+pub fn begin(limit: u64, number: KeywordNumber, state: &mut Store) -> bool
     ensures begun { Began (begun limit number state.old) result state.old state.new }
     ensures may { result ≡ may_begin limit state.old }
     ensures counted { state.new.keywords.begun ≡ (if result then state.old.keywords.begun + 1 else state.old.keywords.begun) }

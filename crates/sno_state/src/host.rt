@@ -4,7 +4,8 @@ ghost use Rattle.interaction.specs.Asking.{Executes};
 ghost use Rattle.sno_pattern.specs.Looks.{LookUp, Assign};
 ghost use Rattle.sno_pattern.specs.Hosts.{WasFound, WasGiven};
 ghost use Rattle.sno_state.specs.Using.{used, assigned};
-ghost use Rattle.sno_state.specs.Matching.{looked_at, cursor_number, value_taken};
+ghost use Rattle.sno_state.specs.Matching.{looked_at, value_taken};
+ghost use Rattle.sno_state.specs.inner.Parts.{cursor_number};
 ghost use Rattle.sno_state.specs.inner.Telling.{Looks, StateTells, StateBroken};
 
 use crate::using::{assigned, used};

@@ -4,7 +4,8 @@ ghost use Rattle.interaction.specs.Interactions.{interpreted};
 ghost use Rattle.interaction.specs.Asking.{Executes};
 ghost use Rattle.sno_pattern.specs.Places.{MatchesWithin};
 ghost use Rattle.sno_pattern.specs.Steps.{match_of};
-ghost use Rattle.sno_state.specs.Matching.{looking, is_anchored, matched};
+ghost use Rattle.sno_state.specs.Matching.{looking, matched};
+ghost use Rattle.sno_state.specs.inner.Parts.{is_anchored};
 
 use crate::host::Host;
 use interaction::Service;

@@ -4,19 +4,20 @@ use Rattle.sno_value.specs.Values.{null}
 use Rattle.sno_store.specs.CallFrames.{CallFrame}
 use Rattle.sno_store.specs.declared.store.Store.{Store as State}
 use Rattle.sno_variables.specs.Variables.{Variables}
-use Rattle.sno_store.specs.Keywords.{at_statement}
 use Rattle.sno_variables.specs.Bindings.{assigned}
-use Rattle.sno_store.specs.Calls.{saved_by, statement_of, left_by, call_left, value_given, given_back}
+use Rattle.sno_store.specs.Calls.{saved_by, statement_of, call_left, given_back}
+use Rattle.sno_store.specs.inner.Parts.{value_given}
+use Rattle.sno_store.proofs.Left.{left_by}
 
 left_to : (s : State) (levels : List CallFrame) (n : ℕ) → Some n ≡ statement_of levels
-    → record s { variables = assigned (saved_by levels) s.variables; keywords = at_statement n s.keywords; levels = drop 1 levels } ≡ left_by levels s
+    → record s { variables = assigned (saved_by levels) s.variables; keywords = record (s.keywords) { statement = n }; levels = drop 1 levels } ≡ left_by levels s
 left_to s [] n e = cc
 left_to s (level ∷ levels) n e =
     let is : n ≡ level.statement = cc in
-    ap (λ (m : ℕ). let t : State = record s { variables = assigned level.saved s.variables; keywords = at_statement m s.keywords; levels = levels } in t) is
+    ap (λ (m : ℕ). let t : State = record s { variables = assigned level.saved s.variables; keywords = record (s.keywords) { statement = m }; levels = levels } in t) is
 
 pub left_one : (s : State) (n : ℕ) → Some n ≡ statement_of s.levels
-    → record s { variables = assigned (saved_by s.levels) s.variables; keywords = at_statement n s.keywords; levels = drop 1 s.levels } ≡ call_left s
+    → record s { variables = assigned (saved_by s.levels) s.variables; keywords = record (s.keywords) { statement = n }; levels = drop 1 s.levels } ≡ call_left s
 left_one s n e = left_to s s.levels n e
 
 none_to : (s : State) (levels : List CallFrame) → s.levels ≡ levels → None ≡ statement_of levels

@@ -5,3 +5,4 @@ mod Steps
 pub mod Calling
 mod Restoring
 mod Nesting
+pub mod Left

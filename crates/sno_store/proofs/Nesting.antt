@@ -1,18 +1,18 @@
 -- What is saved for the calls that are open.
 use Rattle.std.proofs.Common.{◌≡◌, Bool, true, false, List, [], ◌∷◌, drop, refl, Ok, Err}
-use Rattle.std.specs.Prelude.{Result, if◌then◌else◌}
+use Rattle.std.specs.Prelude.{Result, ok_or, if◌then◌else◌}
 use Rattle.sno_text.specs.declared.fault.Fault.{Fault}
 use Rattle.sno_value.specs.Values.{number_of}
 use Rattle.sno_value.specs.declared.value.Value.{Value}
 use Rattle.sno_text.specs.declared.fault.Fault.TheVariants as fault
-use Rattle.sno_declarations.specs.Arguments.{go_on, or_fault, name_in, input_in, output_in}
+use Rattle.sno_declarations.specs.Arguments.{go_on, name_in, input_in, output_in}
 use Rattle.sno_declarations.specs.Definitions.{definition_in}
 use Rattle.sno_store.specs.declared.keyword.Keyword.{Keyword}
 use Rattle.sno_store.specs.CallFrames.{CallFrame}
 use Rattle.sno_store.specs.declared.store.Store.{Store as State}
 use Rattle.sno_store.specs.Keywords.{is_settable, with_keyword}
-use Rattle.sno_store.specs.States.{with_keywords, with_keyword_set}
-use Rattle.sno_store.specs.Calls.{left_by}
+use Rattle.sno_store.specs.States.{with_keyword_set}
+use Rattle.sno_store.proofs.Left.{left_by}
 use Rattle.sno_store.specs.Laws.{KeepsLevels, LevelsStay, CallsNest}
 
 behind : {A : Type 0} (s : State) (r : Result A Fault) (go : A → Result State Fault) → ((a : A) → KeepsLevels s (go a)) → KeepsLevels s (go_on r go)
@@ -22,8 +22,8 @@ behind s (Err f) go keeps = tt
 keyword_set : (s : State) (keyword : Keyword) (v : Value) → KeepsLevels s (with_keyword_set keyword v s)
 keyword_set s keyword v = by (is_settable keyword)
   where
-    by : (b : Bool) → KeepsLevels s (if b then go_on (or_fault fault.WrongType (number_of v)) (λ z. go_on (with_keyword keyword z s.keywords) (with_keywords s)) else Err fault.Keyword)
-    by true = behind s (or_fault fault.WrongType (number_of v)) _ (λ z. behind s (with_keyword keyword z s.keywords) (with_keywords s) (λ k. refl))
+    by : (b : Bool) → KeepsLevels s (if b then go_on (ok_or (number_of v) fault.WrongType) (λ z. go_on (with_keyword keyword z s.keywords) (λ k. Ok (record s { keywords = k }))) else Err fault.Keyword)
+    by true = behind s (ok_or (number_of v) fault.WrongType) _ (λ z. behind s (with_keyword keyword z s.keywords) (λ k. Ok (record s { keywords = k })) (λ k. refl))
     by false = tt
 
 pub levels_stay : LevelsStay

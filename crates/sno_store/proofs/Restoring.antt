@@ -3,7 +3,7 @@ use Rattle.std.proofs.Common.{ap, ◌∙◌}
 use Rattle.sno_declarations.specs.Prototypes.{names_of}
 use Rattle.sno_variables.specs.Variables.{value_of}
 use Rattle.sno_variables.proofs.Assigned.{restores, leaves}
-use Rattle.sno_store.specs.Calls.{left_by}
+use Rattle.sno_store.proofs.Left.{left_by}
 use Rattle.sno_store.specs.Laws.{CallRestores, CallLeavesOthers}
 
 pub call_restores : CallRestores

@@ -1,25 +1,13 @@
 -- Keywords (the SNOBOL4 book, chapter 6; limits, first values, ranges and faults are own).
-use Rattle.std.specs.Prelude.{ℕ, ℤ, pos, negsuc, nat_le, nat_lt, ◌+◌, ◌&&◌, Bool, true, false, not, List, codes, bytes_eq, Option, Some, None, Result, Ok, Err, if◌then◌else◌}
-use Rattle.std.specs.Ordering.{int_eq}
+use Rattle.std.specs.Prelude.{ℕ, ℤ, pos, nat_le, Bool, true, false, List, codes, bytes_eq, Option, Some, None, Result, Ok, Err, if◌then◌else◌}
 use Rattle.sno_text.specs.declared.fault.Fault.{Fault}
 use Rattle.sno_text.specs.declared.fault.Fault.TheVariants as fault
 use Rattle.sno_store.specs.declared.keyword.Keyword.{Keyword}
+use Rattle.sno_store.specs.declared.keyword.Keywords.{Keywords}
 use Rattle.sno_store.specs.declared.keyword.Keyword.TheVariants.{Anchor, FullScan, Trim, StatementLimit, MaximumLength, StatementCount, StatementNumber, FunctionLevel}
 
--- what keywords say
-pub record KeywordValues : Type 0 where
-  pub anchor : ℤ
-  pub full_scan : ℤ
-  pub trim : ℤ
-  -- how many statements may begin, and how many characters a string that is formed may have
-  pub statement_limit : ℕ
-  pub maximum_length : ℕ
-  -- how many statements were begun, and the one at hand
-  pub begun : ℕ
-  pub statement : ℕ
-
 -- at first, in a job that may begin so many statements
-abbrev pub first_keywords : ℕ → KeywordValues
+abbrev pub first_keywords : ℕ → Keywords
 first_keywords limit = record { anchor = pos 0; full_scan = pos 0; trim = pos 0; statement_limit = limit; maximum_length = 5000; begun = 0; statement = 0 }
 
 -- those that are only read
@@ -40,7 +28,7 @@ keyword_named name =
     else read_keyword_named name
 
 -- the value of a keyword, so many calls deep
-abbrev pub keyword_value : Keyword → ℕ → KeywordValues → ℤ
+abbrev pub keyword_value : Keyword → ℕ → Keywords → ℤ
 keyword_value Anchor level k = k.anchor
 keyword_value FullScan level k = k.full_scan
 keyword_value Trim level k = k.trim
@@ -57,35 +45,11 @@ is_settable StatementNumber = false
 is_settable FunctionLevel = false
 is_settable _ = true
 
--- a limit of statements is not negative
-abbrev pub with_statement_limit : ℤ → KeywordValues → Result KeywordValues Fault
-with_statement_limit (pos n) k = Ok (record k { statement_limit = n })
-with_statement_limit (negsuc n) k = Err fault.Keyword
-
--- and one of characters is at most 100,000
-abbrev pub with_maximum_length : ℤ → KeywordValues → Result KeywordValues Fault
-with_maximum_length (pos n) k = if nat_le n 100000 then Ok (record k { maximum_length = n }) else Err fault.Keyword
-with_maximum_length (negsuc n) k = Err fault.Keyword
-
-abbrev pub with_keyword : Keyword → ℤ → KeywordValues → Result KeywordValues Fault
+-- a limit is not negative, and that of characters is at most 100,000
+abbrev pub with_keyword : Keyword → ℤ → Keywords → Result Keywords Fault
 with_keyword Anchor z k = Ok (record k { anchor = z })
 with_keyword FullScan z k = Ok (record k { full_scan = z })
 with_keyword Trim z k = Ok (record k { trim = z })
-with_keyword StatementLimit z k = with_statement_limit z k
-with_keyword MaximumLength z k = with_maximum_length z k
+with_keyword StatementLimit (pos n) k = Ok (record k { statement_limit = n })
+with_keyword MaximumLength (pos n) k = if nat_le n 100000 then Ok (record k { maximum_length = n }) else Err fault.Keyword
 with_keyword _ z k = Err fault.Keyword
-
--- whether a statement may begin, in a job that may begin so many
-abbrev pub begins : ℕ → KeywordValues → Bool
-begins limit k = nat_lt k.begun k.statement_limit && nat_lt k.begun limit
-
-abbrev pub with_begun : ℕ → KeywordValues → KeywordValues
-with_begun statement k = record k { begun = k.begun + 1; statement = statement }
-
--- back at a statement that called
-abbrev pub at_statement : ℕ → KeywordValues → KeywordValues
-at_statement statement k = record k { statement = statement }
-
--- blanks at the end of records that are read are dropped where &TRIM is not 0
-abbrev pub trims : KeywordValues → Bool
-trims k = not (int_eq k.trim (pos 0))

@@ -10,7 +10,7 @@ use Rattle.sno_store.specs.declared.store.Store.{Store as State}
 use Rattle.sno_variables.specs.Variables.{value_of}
 use Rattle.sno_store.specs.declared.keyword.Keyword.{Keyword}
 use Rattle.sno_store.specs.States.{with_value_of, with_name, with_statement, with_input, with_output, without_associations, with_function, with_keyword_set}
-use Rattle.sno_store.specs.Calls.{level_of, call_entered, call_left}
+use Rattle.sno_store.specs.Calls.{level_with, call_entered, call_left}
 
 -- a call restores the values of the function's name, parameters and locals, whatever was done between
 abbrev pub CallRestores : Type 0
@@ -45,5 +45,5 @@ LevelsStay =
 -- a call saves one level more, and its end takes that one away
 abbrev pub CallsNest : Type 0
 CallsNest =
-    ((d : Definition) (arguments : List Value) (s : State) → (call_entered d arguments s).levels ≡ level_of d s ∷ s.levels)
+    ((d : Definition) (arguments : List Value) (s : State) → (call_entered d arguments s).levels ≡ level_with d s.keywords.statement s.variables ∷ s.levels)
     × ((s : State) → (call_left s).levels ≡ drop 1 s.levels)

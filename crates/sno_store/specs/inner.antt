@@ -1,3 +1,4 @@
 pub mod Answers
 pub mod Naming
 pub mod Filling
+pub mod Parts

@@ -2,10 +2,11 @@
 ghost use Rattle.std.specs.Prelude.{◌≡◌, ◌<◌, ◌^◌, ◌∷◌, ◌++◌, [], length, drop, slice_get, unwrap_or, option_map, vec_len, vec_capacity, IfOk, OnOk, OnErr};
 ghost use Rattle.sno_value.specs.Values.{null};
 ghost use Rattle.sno_variables.specs.Bindings.{assigned};
-ghost use Rattle.sno_store.specs.Calls.{bindings_of, value_given, level_with, saved_by, statement_of};
+ghost use Rattle.sno_store.specs.Calls.{bindings_of, level_with, saved_by, statement_of};
+ghost use Rattle.sno_store.specs.inner.Parts.{value_given};
 ghost use Rattle.sno_store.specs.inner.Filling.{fitted, values_for};
 
-use crate::keyword::StatementNumber;
+use crate::keyword::KeywordNumber;
 use sno_declarations::{Function, Prototype};
 use sno_value::Value;
 use sno_variables::{Variables, value_at};
@@ -19,7 +20,7 @@ pub struct CallFrame {
     function: Function,
     // That of the function's name first, then those of its parameters and of its locals.
     values: Vec<Value>,
-    statement: StatementNumber,
+    statement: KeywordNumber,
 }
 
 impl Model for CallFrame {
@@ -180,7 +181,7 @@ impl CallStack {
         alloc: Global,
         function: &Function,
         arguments: &[Value],
-        statement: StatementNumber,
+        statement: KeywordNumber,
         variables: &mut Variables,
     ) -> Result<(), AllocError>
         ensures begun { OnOk result (self.new ≡ level_with function.now statement variables.old ∷ self.old) }
@@ -211,7 +212,7 @@ impl CallStack {
     pub fn end(
         &mut self,
         variables: &mut Variables,
-    ) -> Result<Option<(StatementNumber, Value)>, AllocError>
+    ) -> Result<Option<(KeywordNumber, Value)>, AllocError>
         ensures statement { IfOk result (λ back. option_map (λ b. b.0) back ≡ statement_of self.old) }
         ensures value { IfOk result (λ back. unwrap_or (option_map (λ b. b.1) back) null ≡ value_given self.old variables.old) }
         ensures ended { OnOk result (self.new ≡ drop 1 self.old) }

@@ -1,6 +1,7 @@
 //! Keywords.
-ghost use Rattle.std.specs.Prelude.{◌≡◌, ◌<◌, ◌^◌, bytes_eq, if◌then◌else◌};
-ghost use Rattle.sno_store.specs.Keywords.{first_keywords, keyword_named, read_keyword_named, keyword_value, with_keyword, with_statement_limit, with_maximum_length, is_settable, trims, begins, with_begun, at_statement};
+ghost use Rattle.std.specs.Prelude.{◌≡◌, ◌<◌, ◌^◌, ◌+◌, nat_lt, ◌&&◌, not, pos, bytes_eq, if◌then◌else◌};
+ghost use Rattle.std.specs.Ordering.{int_eq};
+ghost use Rattle.sno_store.specs.Keywords.{first_keywords, keyword_named, read_keyword_named, keyword_value, with_keyword, is_settable};
 ghost use Rattle.sno_store.specs.inner.Answers.{Answers};
 
 use sno_text::{Fault, Text};
@@ -109,13 +110,13 @@ impl KeywordName {
     }
 }
 
-/// The number of a statement: below 2 ^ 63, so that a program can read it.
+/// A number that keywords show, as that of a statement: below 2 ^ 63, so that a program can read it.
 #[derive(Drop)]
-pub struct StatementNumber {
+pub struct KeywordNumber {
     number: u64,
 }
 
-impl Model for StatementNumber {
+impl Model for KeywordNumber {
     ghost use Rattle.std.specs.Prelude.{ℕ, ◌<◌, ◌^◌};
 
     ghost Value = { ℕ };
@@ -125,16 +126,16 @@ impl Model for StatementNumber {
     ghost invariant = { λ s. s.number < 2 ^ 63 };
 }
 
-impl StatementNumber {
-    /// The statement of a number.
-    pub fn new(number: u64) -> StatementNumber
+impl KeywordNumber {
+    /// This number.
+    pub fn new(number: u64) -> KeywordNumber
         requires { number < 2 ^ 63 }
         ensures { result ≡ number }
     {
-        StatementNumber { number }
+        KeywordNumber { number }
     }
 
-    /// Its number.
+    /// The number.
     pub fn get(&self) -> u64
         ensures value { result ≡ self.now }
         ensures small { self.now < 2 ^ 63 }
@@ -143,10 +144,10 @@ impl StatementNumber {
     }
 
     /// The same number once more.
-    pub fn copy(&self) -> StatementNumber
+    pub fn copy(&self) -> KeywordNumber
         ensures { result ≡ self.now }
     {
-        StatementNumber {
+        KeywordNumber {
             number: self.number,
         }
     }
@@ -158,21 +159,14 @@ pub struct Keywords {
     anchor: i64,
     full_scan: i64,
     trim: i64,
-    statement_limit: u64,
-    maximum_length: u64,
-    begun: u64,
-    statement: StatementNumber,
-}
-
-impl Model for Keywords {
-    ghost use Rattle.std.specs.Prelude.{◌<◌, ◌^◌};
-    ghost use Rattle.sno_store.specs.Keywords.{KeywordValues};
-
-    ghost Value = { KeywordValues };
-
-    ghost view = { λ k. record { anchor = k.anchor; full_scan = k.full_scan; trim = k.trim; statement_limit = k.statement_limit; maximum_length = k.maximum_length; begun = k.begun; statement = k.statement } };
-
-    ghost invariant = { λ k. (k.statement_limit < 2 ^ 63) × (k.maximum_length < 2 ^ 63) × (k.begun < 2 ^ 63) };
+    /// How many statements may begin.
+    statement_limit: KeywordNumber,
+    /// How many characters a string that is formed may have.
+    maximum_length: KeywordNumber,
+    /// How many statements were begun.
+    begun: KeywordNumber,
+    /// The statement at hand.
+    statement: KeywordNumber,
 }
 
 impl Keywords {
@@ -185,10 +179,10 @@ impl Keywords {
             anchor: 0,
             full_scan: 0,
             trim: 0,
-            statement_limit: limit,
-            maximum_length: 5000,
-            begun: 0,
-            statement: StatementNumber::new(0),
+            statement_limit: KeywordNumber::new(limit),
+            maximum_length: KeywordNumber::new(5000),
+            begun: KeywordNumber::new(0),
+            statement: KeywordNumber::new(0),
         }
     }
 
@@ -201,20 +195,20 @@ impl Keywords {
             Keyword::Anchor => self.anchor,
             Keyword::FullScan => self.full_scan,
             Keyword::Trim => self.trim,
-            Keyword::StatementLimit => self.statement_limit as i64,
-            Keyword::MaximumLength => self.maximum_length as i64,
-            Keyword::StatementCount => self.begun as i64,
+            Keyword::StatementLimit => self.statement_limit.get() as i64,
+            Keyword::MaximumLength => self.maximum_length.get() as i64,
+            Keyword::StatementCount => self.begun.get() as i64,
             Keyword::StatementNumber => self.statement.get() as i64,
             Keyword::FunctionLevel => level as i64,
         }
     }
 
     fn set_statement_limit(&mut self, number: i64) -> Result<(), Fault>
-        ensures { Answers result self.old self.new (with_statement_limit number self.old) }
+        ensures { Answers result self.old self.new (with_keyword Keyword.StatementLimit number self.old) }
     {
         match u64::try_from(number) {
             Ok(limit) => {
-                self.statement_limit = limit;
+                self.statement_limit = KeywordNumber::new(limit);
                 Ok(())
             }
             Err(_) => Err(Fault::Keyword),
@@ -222,11 +216,11 @@ impl Keywords {
     }
 
     fn set_maximum_length(&mut self, number: i64) -> Result<(), Fault>
-        ensures { Answers result self.old self.new (with_maximum_length number self.old) }
+        ensures { Answers result self.old self.new (with_keyword Keyword.MaximumLength number self.old) }
     {
         match u64::try_from(number) {
             Ok(length) if length <= MOST_CHARACTERS => {
-                self.maximum_length = length;
+                self.maximum_length = KeywordNumber::new(length);
                 Ok(())
             }
             _ => Err(Fault::Keyword),
@@ -262,13 +256,13 @@ impl Keywords {
 
     /// Whether blanks at the end of records are dropped.
     pub fn trims(&self) -> bool
-        ensures { result ≡ trims self.now }
+        ensures { result ≡ not (int_eq self.now.trim (pos 0)) }
     {
         self.trim != 0
     }
 
     /// The statement at hand.
-    pub fn statement(&self) -> StatementNumber
+    pub fn statement(&self) -> KeywordNumber
         ensures { result ≡ self.now.statement }
     {
         self.statement.copy()
@@ -278,23 +272,24 @@ impl Keywords {
     pub fn begun(&self) -> u64
         ensures { result ≡ self.now.begun }
     {
-        self.begun
+        self.begun.get()
     }
 
     /// The most characters of a string that is formed.
     pub fn maximum_length(&self) -> u64
         ensures { result ≡ self.now.maximum_length }
     {
-        self.maximum_length
+        self.maximum_length.get()
     }
 
     /// Begins a statement, if one may begin in a job that may begin so many. It tells whether it did.
-    pub fn begin(&mut self, statement: StatementNumber, limit: u64) -> bool
-        ensures begins { result ≡ begins limit self.old }
-        ensures begun { self.new ≡ (if result then with_begun statement self.old else self.old) }
+    pub fn begin(&mut self, statement: KeywordNumber, limit: u64) -> bool
+        ensures begins { result ≡ (nat_lt self.old.begun self.old.statement_limit && nat_lt self.old.begun limit) }
+        ensures begun { self.new ≡ (if result then record (self.old) { begun = self.old.begun + 1; statement = statement } else self.old) }
     {
-        if self.begun < self.statement_limit && self.begun < limit {
-            self.begun += 1;
+        let begun = self.begun.get();
+        if begun < self.statement_limit.get() && begun < limit {
+            self.begun = KeywordNumber::new(begun + 1);
             self.statement = statement;
             true
         } else {
@@ -303,8 +298,8 @@ impl Keywords {
     }
 
     /// Goes back to a statement.
-    pub fn go_back(&mut self, statement: StatementNumber)
-        ensures { self.new ≡ at_statement statement self.old }
+    pub fn go_back(&mut self, statement: KeywordNumber)
+        ensures { self.new ≡ record (self.old) { statement = statement } }
     {
         self.statement = statement;
     }

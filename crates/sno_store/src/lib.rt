@@ -10,7 +10,7 @@ mod naming;
 pub mod store;
 
 pub use callee::{Callee, Change, StateFunction};
-pub use keyword::{Keyword, KeywordName, StatementNumber};
+pub use keyword::{Keyword, KeywordName, KeywordNumber, Keywords};
 pub use sno_declarations::Function;
 pub use sno_variables::{Found, Variable};
 pub use store::Store;
