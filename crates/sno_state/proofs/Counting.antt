@@ -57,12 +57,12 @@ use Rattle.sno_store.specs.declared.callee.StateFunction.{StateFunction}
 use Rattle.sno_store.specs.declared.callee.StateFunction.TheVariants.{Changes, Endfile, Rewind, NewTable}
 use Rattle.sno_state.specs.Asking.{if_done, asked, changed_by}
 use Rattle.sno_state.specs.Keywords.{keyword_set}
-use Rattle.sno_state.specs.Using.{stored_of, used_by, used, write_all, write_text, written, assigned}
+use Rattle.sno_state.specs.Using.{stored_of, used_by, used, write_all, written, assigned}
 use Rattle.sno_state.specs.Matching.{value_taken, looked_at, told_by, looking, matched}
-use Rattle.sno_state.specs.inner.Parts.{is_anchored}
-use Rattle.sno_state.specs.Calling.{begun, called, entered}
+use Rattle.sno_state.specs.inner.Parts.{is_anchored, write_text, called, on_values}
+use Rattle.sno_state.specs.Calling.{begun, entered}
 use Rattle.sno_store.specs.Callees.{state_function_named}
-use Rattle.sno_state.specs.Primitives.{state_changed, on_unit, state_function_done, on_values, primitive}
+use Rattle.sno_state.specs.Primitives.{state_changed, on_unit, state_function_done, primitive}
 use Rattle.sno_state.specs.State.{keeping, allowed}
 
 module _ (n : ℕ) where

@@ -5,19 +5,16 @@ use Rattle.std.specs.Option.{option_map_or}
 use Rattle.sno_text.specs.declared.fault.Fault.TheVariants.{Depth}
 use Rattle.sno_value.specs.declared.value.Value.{Value}
 use Rattle.sno_semantics.specs.Keeping.{Entered, Undefined, Enters, Refused}
-use Rattle.sno_declarations.specs.declared.definition.Definition.{Definition}
 use Rattle.sno_store.specs.declared.store.Store.{Store as State}
 use Rattle.sno_store.specs.States.{function_of, may_begin, with_statement}
-use Rattle.sno_store.specs.Calls as calls
+use Rattle.sno_store.specs.Calls.{call_entered}
 
 -- the statement of this number begins, if one more may in a job that may begin so many
 abbrev pub begun : ℕ → ℕ → State → Option State
 begun limit number s = if may_begin limit s then Some (with_statement number s) else None
 
--- at most 200 calls are in one another, which is tried before the label of the entry is sought
-abbrev pub called : Definition → List Value → State → Entered State
-called d vs s = if nat_lt (length s.levels) 200 then Enters d.entry (calls.call_entered d vs s) else Refused Depth
-
--- the function of this name is called with these values
+-- the function of this name is called with these values: at most 200 calls are in one another, which is tried before the label
+-- of the entry is sought
 abbrev pub entered : List ℕ → List Value → State → Entered State
-entered f vs s = option_map_or (λ d. called d vs s) (function_of f s) Undefined
+entered f vs s =
+    option_map_or (λ d. if nat_lt (length s.levels) 200 then Enters d.entry (call_entered d vs s) else Refused Depth) (function_of f s) Undefined

@@ -9,7 +9,6 @@ use Rattle.interaction.specs.declared.request.Act.TheVariants as act
 use Rattle.sno_text.specs.declared.fault.Fault.{Fault as AFault}
 use Rattle.sno_text.specs.declared.fault.Fault.TheVariants.{Function}
 use Rattle.sno_value.specs.declared.value.Value.{Value}
-use Rattle.sno_value.specs.declared.primitive.Primitive.{Primitive}
 use Rattle.sno_value.specs.Values.{null}
 use Rattle.sno_value.specs.Primitives.{argument, primitive_gives, primitive_named}
 use Rattle.sno_semantics.specs.declared.got.Halt.TheVariants.{Fault}
@@ -47,15 +46,10 @@ state_function_done Endfile a b c s = on_unit act.Endfile (unit_in a) s
 state_function_done Rewind a b c s = on_unit act.Rewind (unit_in a) s
 state_function_done NewTable a b c s = Returns (changed_by (new_table s) (with_new_table s) s)
 
--- ON VALUES ALONE
-
-abbrev pub on_values : Option Primitive → List Value → State → Asking (Evaluated × State)
-on_values p vs s = Returns (option_map_or (λ f. got_of (primitive_gives f vs s.keywords.maximum_length)) p (Halts (Fault Function)), s)
-
 -- ALL
 
--- a function that the program did not define is called with these values
+-- a function that the program did not define is called with these values: one on the state of the job, or on values alone
 abbrev pub primitive : List ℕ → List Value → State → Asking (Evaluated × State)
 primitive f vs s =
     option_map_or (λ which. state_function_done which (argument 0 vs) (argument 1 vs) (argument 2 vs) s) (state_function_named f)
-    (on_values (primitive_named f) vs s)
+    (Returns (option_map_or (λ p. got_of (primitive_gives p vs s.keywords.maximum_length)) (primitive_named f) (Halts (Fault Function)), s))

@@ -25,13 +25,9 @@ use Rattle.sno_state.specs.Asking.{request, if_done}
 
 -- USED
 
--- a value that is stored and given
-abbrev pub stored : List ℕ → Value → State → Evaluated × State
-stored name v s = (Gives v, with_value_of name v s)
-
 -- what is kept of a record is stored, and given; where none is read nothing is stored
 abbrev pub stored_of : List ℕ → Input → Answer → State → Evaluated × State
-stored_of name input (answer.Got line) s = stored name (Text (kept_of input s.keywords line)) s
+stored_of name input (answer.Got line) s = let v = Text (kept_of input s.keywords line) in (Gives v, with_value_of name v s)
 stored_of name input _ s = (Fails, s)
 
 abbrev pub used_by : List ℕ → Use → State → Asking (Evaluated × State)
@@ -49,11 +45,10 @@ abbrev pub write_all : ℕ → List (List ℕ) → State → Asking (Evaluated �
 write_all unit [] s = Returns (Gives null, s)
 write_all unit (line ∷ lines) s = ask (request (Write unit line) s) >>= λ answer. if_done answer s (write_all unit lines s)
 
-abbrev pub write_text : Output → Option (List ℕ) → State → Asking (Evaluated × State)
-write_text output text s = option_map_or (λ t. write_all output.unit (records output.format t) s) text (Returns (Halts (Fault WrongType), s))
-
 abbrev pub written : Option Output → Value → State → Asking (Evaluated × State)
-written output v s = option_map_or (λ o. write_text o (text_of v) s) output (Returns (Gives null, s))
+written output v s =
+    option_map_or (λ o. option_map_or (λ t. write_all o.unit (records o.format t) s) (text_of v) (Returns (Halts (Fault WrongType), s)))
+    output (Returns (Gives null, s))
 
 -- a variable is assigned a value: it is stored, and then written where the variable is associated with a unit
 abbrev pub assigned : List ℕ → Value → State → Asking (Evaluated × State)

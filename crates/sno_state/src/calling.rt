@@ -1,7 +1,8 @@
 //! Statements that begin, and calls of functions that the program defined.
 ghost use Rattle.std.specs.Prelude.{◌≡◌, ◌+◌, Some, IfOk, OnErr, if◌then◌else◌};
 ghost use Rattle.sno_store.specs.States.{may_begin};
-ghost use Rattle.sno_state.specs.Calling.{begun, called, entered};
+ghost use Rattle.sno_state.specs.Calling.{begun, entered};
+ghost use Rattle.sno_state.specs.inner.Parts.{called};
 ghost use Rattle.sno_state.specs.inner.Answers.{Began, Comes};
 
 use sno_store::{Callee, Function, KeywordNumber, Store};

@@ -10,7 +10,8 @@ ghost use Rattle.interaction.specs.Interactions.{Returns};
 ghost use Rattle.sno_declarations.specs.Arguments.{unit_in};
 ghost use Rattle.sno_state.specs.Asking.{asked, changed_by};
 ghost use Rattle.sno_store.specs.States.{new_table, with_new_table};
-ghost use Rattle.sno_state.specs.Primitives.{state_changed, on_unit, state_function_done, on_values, primitive};
+ghost use Rattle.sno_state.specs.Primitives.{state_changed, on_unit, state_function_done, primitive};
+ghost use Rattle.sno_state.specs.inner.Parts.{on_values};
 
 use interaction::{Act, Answer, Request, Service};
 use mon_text::Stop;

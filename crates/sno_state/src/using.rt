@@ -9,7 +9,8 @@ ghost use Rattle.sno_declarations.specs.Formats.{records};
 ghost use Rattle.sno_variables.specs.Variables.{Reads};
 ghost use Rattle.sno_store.specs.States.{kept_of};
 ghost use Rattle.sno_state.specs.Asking.{request};
-ghost use Rattle.sno_state.specs.Using.{stored, used_by, used, write_all, write_text, assigned};
+ghost use Rattle.sno_state.specs.Using.{used_by, used, write_all, assigned};
+ghost use Rattle.sno_state.specs.inner.Parts.{stored, write_text};
 
 use interaction::{Act, Answer, Request, Service};
 use mon_text::Line;

@@ -10,14 +10,6 @@ use Rattle.sno_store.specs.declared.keyword.Keyword.TheVariants.{Anchor, FullSca
 abbrev pub first_keywords : ℕ → Keywords
 first_keywords limit = record { anchor = pos 0; full_scan = pos 0; trim = pos 0; statement_limit = limit; maximum_length = 5000; begun = 0; statement = 0 }
 
--- those that are only read
-abbrev pub read_keyword_named : List ℕ → Option Keyword
-read_keyword_named name =
-    if bytes_eq name (codes "STCOUNT") then Some StatementCount
-    else if bytes_eq name (codes "STNO") then Some StatementNumber
-    else if bytes_eq name (codes "FNCLEVEL") then Some FunctionLevel
-    else None
-
 abbrev pub keyword_named : List ℕ → Option Keyword
 keyword_named name =
     if bytes_eq name (codes "ANCHOR") then Some Anchor
@@ -25,7 +17,10 @@ keyword_named name =
     else if bytes_eq name (codes "TRIM") then Some Trim
     else if bytes_eq name (codes "STLIMIT") then Some StatementLimit
     else if bytes_eq name (codes "MAXLNGTH") then Some MaximumLength
-    else read_keyword_named name
+    else if bytes_eq name (codes "STCOUNT") then Some StatementCount
+    else if bytes_eq name (codes "STNO") then Some StatementNumber
+    else if bytes_eq name (codes "FNCLEVEL") then Some FunctionLevel
+    else None
 
 -- the value of a keyword, so many calls deep
 abbrev pub keyword_value : Keyword → ℕ → Keywords → ℤ

@@ -1,7 +1,8 @@
 //! Keywords.
 ghost use Rattle.std.specs.Prelude.{◌≡◌, ◌<◌, ◌^◌, ◌+◌, nat_lt, ◌&&◌, not, pos, bytes_eq, if◌then◌else◌};
 ghost use Rattle.std.specs.Ordering.{int_eq};
-ghost use Rattle.sno_store.specs.Keywords.{first_keywords, keyword_named, read_keyword_named, keyword_value, with_keyword, is_settable};
+ghost use Rattle.sno_store.specs.Keywords.{first_keywords, keyword_named, keyword_value, with_keyword, is_settable};
+ghost use Rattle.sno_store.specs.inner.Parts.{read_keyword_named};
 ghost use Rattle.sno_store.specs.inner.Answers.{Answers};
 
 use sno_text::{Fault, Text};
