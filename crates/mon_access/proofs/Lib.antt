@@ -11,3 +11,5 @@ mod Changes
 mod Counts
 mod Denials
 mod Examples
+mod Rightness
+mod GrantingExamples

@@ -19,8 +19,8 @@ use Rattle.mon_unit.specs.declared.tie.Target.TheVariants.{Set}
 use Rattle.mon_unit.specs.Serving.{Reach, note_act, set_at}
 use Rattle.mon_unit.specs.Laws.{target_of, position_of, IsRead, AsksChange, GotWhereGranted, ChangedWhereGranted}
 use Rattle.mon_catalogue.specs.Writing.{Change}
-use Rattle.mon_granting.specs.Granting.{granting}
-use Rattle.mon_granting.specs.Laws.{NamedWhereGranted, NamesAnEntry}
+use Rattle.mon_access.specs.Granting.{granting}
+use Rattle.mon_access.specs.GrantingLaws.{NamedWhereGranted, NamesAnEntry}
 use Rattle.mon_audit.specs.Requests.{permission, grant, asked_of}
 use Rattle.mon_audit.specs.Laws.{GrantsAreNamed, ReadsAreNamed, ChangesAreNamed}
 

@@ -21,7 +21,7 @@ use Rattle.mon_unit.specs.Tying.{tie_at}
 use Rattle.mon_unit.specs.Serving.{Reach, unit_of, note_act, set_at}
 use Rattle.mon_command.specs.Printouts.{word, number}
 use Rattle.mon_command.specs.Replies.{reason_text}
-use Rattle.mon_granting.specs.Granting.{granting}
+use Rattle.mon_access.specs.Granting.{granting}
 use Rattle.mon_audit.specs.declared.request.Asked.{Asked}
 use Rattle.mon_audit.specs.Words.{job_line, target_word, outcome_word}
 

@@ -1,14 +1,14 @@
 //! Laws of the audit's lines. Each is the contract of a function that does nothing, or only cites laws of the crates below.
 ghost use Rattle.mon_audit.specs.Laws.{GrantsAreNamed, ReadsAreNamed, ChangesAreNamed, TextsAreLeftOut, TellsApart};
 
-use mon_granting::laws;
+use mon_access::granting_laws;
 
 /// A line names an entry exactly where the access check grants what the act asks of the data set's list.
 pub fn grants_are_named()
     ensures { GrantsAreNamed }
 {
-    laws::named_where_granted();
-    laws::names_an_entry();
+    granting_laws::named_where_granted();
+    granting_laws::names_an_entry();
 }
 
 /// Each record that a job gets from a data set is told with the entry by which it was granted.

@@ -7,12 +7,11 @@ ghost use Rattle.mon_audit.specs.Words.{target_word, outcome_word};
 ghost use Rattle.mon_audit.specs.Requests.{act_word, grant_words, by_words, place_words, request_line, permission, grant, place_in};
 
 use interaction::{Answer, Reason};
-use mon_access::Account;
+use mon_access::{Account, granting};
 use mon_acl::Perms;
 use mon_catalogue::{DataSet, Mode};
 use mon_command::{print_number, print_reason, print_word};
 use mon_device::Sink;
-use mon_granting::granting;
 use mon_text::Name;
 use mon_unit::{NoteAct, Target};
 

@@ -7,16 +7,17 @@ ghost use Rattle.mon_acl.specs.Entries.{has_tag};
 ghost use Rattle.mon_acl.specs.Permissions.{holds};
 ghost use Rattle.mon_access.specs.Matches.{is_in_group, is_for_user, is_for_owning_group, is_for_named_group, is_for_group};
 ghost use Rattle.mon_access.specs.AccessCheck.{InGroup, case_of};
-ghost use Rattle.mon_granting.specs.Granting.{holder, granting};
+ghost use Rattle.mon_access.specs.Granting.{holder, granting};
 
-use mon_access::{Account, Decision, check};
+use crate::access::{Decision, check};
+use crate::account::Account;
 use mon_acl::{Acl, Entry, Perms, Tag};
 use mon_text::Name;
 
 /// Which entry of the list grants an account what is requested of a data set, by the set's owner, its group and its permission list,
 /// if it is granted: its index in canonical order, as that of `Acl::entry`. It takes no memory.
 ///
-/// The access check is `mon_access::check`. That is quicker: here the entries are gone over one by one.
+/// The access check is `check`. That is quicker: here the entries are gone over one by one.
 pub fn granting(
     account: &Account,
     owner: &Name,

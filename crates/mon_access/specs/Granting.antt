@@ -1,5 +1,5 @@
 -- Which entry grants (acl(5) "ACCESS CHECK ALGORITHM"): of those by which the case that applies may grant, the first that holds the
--- whole request. It stands beside `decision` of mon_access, and where that denies there is none.
+-- whole request. It stands beside `decision`, and where that denies there is none.
 use Rattle.std.specs.Prelude.{ℕ, Bool, ◌&&◌, List, Option, None, position, if◌then◌else◌}
 use Rattle.std.specs.List.{list_any}
 use Rattle.mon_acl.specs.declared.entries.Perms.{Perms}

@@ -1,7 +1,7 @@
 -- An entry is named where the check grants.
 use Rattle.std.proofs.Common.{rules, sym, ◌∙◌}
-use Rattle.mon_granting.specs.Granting.{granting}
-use Rattle.mon_granting.proofs.grantor.granting.Goals as goal
+use Rattle.mon_access.specs.Granting.{granting}
+use Rattle.mon_access.proofs.grantor.granting.Goals as goal
 
 pub returns-in-Granted : goal.returns-in-Granted
 unfolding granting

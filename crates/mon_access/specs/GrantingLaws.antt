@@ -7,7 +7,7 @@ use Rattle.mon_access.specs.declared.account.Account.{Account}
 use Rattle.mon_access.specs.declared.access.Decision.TheVariants.{Granted}
 use Rattle.mon_access.specs.AccessCheck.{Case, Owner, NamedUser, InGroup, Others, decision}
 use Rattle.mon_access.specs.FourCases.{IsOf, IsForUser, IsForGroup, Holds, SomeHolds, Applies}
-use Rattle.mon_granting.specs.Granting.{granting}
+use Rattle.mon_access.specs.Granting.{granting}
 
 -- the entry at the index is of this kind and holds the whole request, and none before it does
 abbrev pub IsFirstToHold : (Entry → Type 0) → ℕ → List Entry → Perms → Type 0

@@ -7,7 +7,7 @@ use Rattle.mon_acl.specs.declared.entries.Entry.{Entry}
 use Rattle.mon_acl.specs.Permissions.{to_read as r, to_write as w}
 use Rattle.mon_access.specs.declared.account.Account.{Account}
 use Rattle.mon_access.specs.AccessCheck.{decision}
-use Rattle.mon_granting.specs.Granting.{granting}
+use Rattle.mon_access.specs.Granting.{granting}
 
 abbrev anna : Account
 anna = record { name = codes "anna"; primary = codes "admin"; groups = [] }

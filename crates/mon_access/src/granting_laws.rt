@@ -1,7 +1,7 @@
 //! Laws of the entry that grants. Each is the contract of a function that does nothing.
-ghost use Rattle.mon_granting.specs.Laws.{GrantsByTheEntry, NamedWhereGranted, NamesAnEntry};
+ghost use Rattle.mon_access.specs.GrantingLaws.{GrantsByTheEntry, NamedWhereGranted, NamesAnEntry};
 
-use mon_access::laws;
+use crate::laws;
 
 /// In the case that applies, the entry that is named is the one by which acl(5) grants, and no other is.
 pub fn grants_by_the_entry()

@@ -1,6 +1,6 @@
 -- The case that applies is the first whose test is passed.
 use Rattle.std.proofs.Common.{rules, sym, ◌∙◌}
-use Rattle.mon_granting.proofs.grantor.holder.Goals as goal
+use Rattle.mon_access.proofs.grantor.holder.Goals as goal
 
 pub returns-then-eq : goal.returns-then-eq
 returns-then-eq c = rw (sym c.eq.ensures ∙ c.if-eq.true) (search rules)

@@ -1,2 +1,0 @@
-mod Rightness
-mod Examples

@@ -1,5 +1,0 @@
-use Rattle.mon_granting.proofs.Rightness.{grants_by_entry}
-use Rattle.mon_granting.proofs.laws.grants_by_the_entry.Goals as goal
-
-pub returns : goal.returns
-returns c = grants_by_entry c.grants_by_its_case.ensures
