@@ -8,11 +8,10 @@ mod cards;
 mod lists;
 mod reading;
 mod running;
-mod tally;
 
 use anyhow::Result;
+use mon_device::Tally;
 use std::process::ExitCode;
-use tally::Tally;
 
 fn main(rt: HostRuntime) -> Result<ExitCode> {
     let mut tally = Tally::new();

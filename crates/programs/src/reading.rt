@@ -29,9 +29,9 @@ mod expression;
 mod statement;
 
 use crate::lists::list_of;
-use crate::tally::Tally;
 use anyhow::Result;
 use case::{Form, holds};
+use mon_device::Tally;
 use std::fs::Files;
 
 /// Reads the cases of all three folders, and prints a line for each: whether it is read as wanted.

@@ -28,10 +28,9 @@ mod script;
 mod seen;
 
 use crate::lists::list_of;
-use crate::tally::Tally;
 use anyhow::{Context, Result};
 use case::{Case, HEAD};
-use differences::first_difference;
+use mon_device::{Tally, first_difference};
 use run::seen_of;
 use std::fs::{self, Files};
 

@@ -3,7 +3,7 @@ ghost use Rattle.std.specs.Prelude.{◌≡◌, ◌↔◌, IsNone};
 ghost use Rattle.rows.specs.Outcomes.{AreSame};
 
 use crate::case::Outcome;
-use differences::Difference as LineDifference;
+use mon_device::Difference as LineDifference;
 use std::fmt;
 
 /// The first difference between two outcomes: a line of an output, or the exit status.
@@ -35,12 +35,12 @@ impl fmt::Display for Difference<'_> {
 pub fn first_difference<'a>(wanted: &'a Outcome, seen: &'a Outcome) -> Option<Difference<'a>>
     ensures { IsNone result ↔ AreSame wanted.now seen.now }
 {
-    if let Some(line) = differences::first_difference(&wanted.stdout, &seen.stdout) {
+    if let Some(line) = mon_device::first_difference(&wanted.stdout, &seen.stdout) {
         Some(Difference::Line {
             stream: "stdout",
             line,
         })
-    } else if let Some(line) = differences::first_difference(&wanted.stderr, &seen.stderr) {
+    } else if let Some(line) = mon_device::first_difference(&wanted.stderr, &seen.stderr) {
         Some(Difference::Line {
             stream: "stderr",
             line,

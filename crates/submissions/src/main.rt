@@ -56,7 +56,7 @@ mod text;
 use anyhow::{Context, Result, bail};
 use block::text_of;
 use case::{Case, HEAD};
-use differences::first_difference;
+use mon_device::first_difference;
 use std::alloc::Global;
 use std::fs::{self, Files};
 use std::process::ExitCode;

@@ -3,7 +3,7 @@
 use crate::cards::{cards_of, program_of, put_card};
 use crate::reading::answer::{Answer, put_program, put_statements_of, put_verdict};
 use anyhow::{Context, Result};
-use differences::first_difference;
+use mon_device::first_difference;
 use std::alloc::Global;
 use std::fs;
 use std::rt::Files;

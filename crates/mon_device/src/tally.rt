@@ -1,4 +1,4 @@
-//! What has come out so far.
+//! What has come out so far, for the programs that try worked cases.
 
 /// How many cases there were, and how many of them failed.
 #[derive(Clone, Copy)]

@@ -1,6 +1,4 @@
-//! Where what comes out differs from what was wanted, for the programs that try worked cases.
-#![tactic(auto)]
-
+//! Where an output differs from what was wanted, for the programs that try worked cases.
 ghost use Rattle.std.specs.Prelude.{◌≡◌, ◌↔◌, IsNone};
 
 use std::fmt;
