@@ -7,7 +7,7 @@ the catalogue as the text before it left it, and what it prints is wanted as tha
 random_intake.py decks COUNT SEED PROGRAM: the same texts in decks. One is admitted exactly where PROGRAM takes the deck of it
 and a $STOP; one that is refused for a line's code is refused so there.
 
-The first two write cases for the program `submissions`."""
+The first two write cases for the program `rows`."""
 import concurrent.futures
 import random
 import re

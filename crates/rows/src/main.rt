@@ -1,28 +1,36 @@
-//! Runs the worked decks of `data/` through `run_deck`, from memory to memory, and prints a line for each: whether
-//! the output, the line for standard error and the exit status are those that were worked out by hand, in pieces of any size;
-//! whether the deck is refused alike where it is only checked; and whether the deck cut anywhere shows a beginning of that.
+//! Runs the worked cases of `data/`, and prints a line for each deck, for each other case that fails, and a last one on how many there
+//! were.
+//!
+//! Decks go through `run_deck`, from memory to memory: whether the output, the line for standard error and the exit status are those
+//! that were worked out by hand, in pieces of any size; whether the deck is refused alike where it is only checked; and whether the deck
+//! cut anywhere shows a beginning of that. `submissions` tries what takes in texts and runs rounds of them.
 #![tactic(auto)]
 
 mod case;
 mod cuts;
 mod difference;
+mod submissions;
 
 use anyhow::Result;
 use case::Case;
-use std::fs;
+use mon_device::Tally;
+use std::fs::{self, Files};
 use std::process::ExitCode;
 
-fn main(rt: HostRuntime) -> Result<ExitCode> {
-    let names = fs::read_to_string(&rt, "cases.txt")?;
-    let mut cases = 0u64;
-    let mut failed = 0u64;
+fn run_decks<R: Files + Print + AllocGlobal>(rt: &R, tally: &mut Tally) -> Result<()> {
+    let names = fs::read_to_string(rt, "cases.txt")?;
     for name in names.lines() {
-        let case = Case::read(&rt, name)?;
-        cases = cases.saturating_add(1);
-        if !case.holds(&rt, name)? {
-            failed = failed.saturating_add(1);
-        }
+        let case = Case::read(rt, name)?;
+        tally.note(case.holds(rt, name)?);
     }
+    Ok(())
+}
+
+fn main(rt: HostRuntime) -> Result<ExitCode> {
+    let mut tally = Tally::new();
+    run_decks(&rt, &mut tally)?;
+    submissions::run_all(&rt, &mut tally)?;
+    let Tally { cases, failed } = tally;
     println!(rt; "{cases} cases, {failed} failed")?;
     Ok(if failed == 0 {
         ExitCode::SUCCESS

@@ -1,6 +1,6 @@
 //! Which limit an account breaks first.
 
-use crate::block::put_line;
+use crate::submissions::block::put_line;
 use anyhow::{Context, Result};
 use intake::{HandedIn, Limit, Limits, Tally, within};
 use std::alloc::{AllocError, Global};

@@ -1,7 +1,7 @@
 //! What a round gives back: to each text its part, and then the catalogue that is left.
 
-use crate::block::{put_line, text_of};
-use crate::text::examined;
+use crate::submissions::block::{put_line, text_of};
+use crate::submissions::text::examined;
 use anyhow::{Context, Result, bail, ensure};
 use deck_run::{Devices, MemReader, MemWriter, Options, Slots, run_deck};
 use intake::Submission;

@@ -1,6 +1,6 @@
 //! In which order a round takes its texts.
 
-use crate::block::put_line;
+use crate::submissions::block::put_line;
 use anyhow::Result;
 use rounds::in_turns;
 use std::alloc::{AllocError, Global};

@@ -1,6 +1,6 @@
 //! Whether a text is admitted, and what it asks for.
 
-use crate::block::text_of;
+use crate::submissions::block::text_of;
 use anyhow::{Context, Result};
 use intake::{Refusal, Submission, Tally, examine};
 use mon_text::{Name, Stop, read_name};

@@ -1,5 +1,5 @@
-//! Tries the worked cases of `data/` on what takes in texts and runs rounds of them: prints a line for each where not what was
-//! worked out by hand comes out, and then how many there were.
+//! Tries worked cases on what takes in texts and runs rounds of them: a line is printed for each where not what was worked out by
+//! hand comes out.
 //!
 //! `files.txt` names the files. Behind a title each has its cases, with blank lines between them. A line that is given or
 //! wanted has a blank before it; the last line of a text has a `-` in its place where it lacks its line end.
@@ -44,7 +44,6 @@
 //! | `LIMITS` | the limits, as `Limits` has them; how many data sets an account owns, and the bytes of their records; a line for each text, as `Tally` has them | the first limit that is broken, or `NONE` |
 //! | `ORDER` | the number of a round, and a line for each account, with its texts | the texts in the round's order |
 //! | `ROUND` | how many slots; accounts; behind `$SETS` data sets; behind `$OF` each text, with its account | the part of each text, and the catalogue that is left; and that the deck of the round prints the same |
-#![tactic(auto)]
 
 mod block;
 mod case;
@@ -56,26 +55,9 @@ mod text;
 use anyhow::{Context, Result, bail};
 use block::text_of;
 use case::{Case, HEAD};
-use mon_device::first_difference;
+use mon_device::{Tally, first_difference};
 use std::alloc::Global;
 use std::fs::{self, Files};
-use std::process::ExitCode;
-
-/// How many cases there were, and how many of them failed.
-#[derive(Clone, Copy)]
-struct Counts {
-    cases: u64,
-    failed: u64,
-}
-
-impl Counts {
-    fn note(&mut self, holds: bool) {
-        self.cases = self.cases.saturating_add(1);
-        if !holds {
-            self.failed = self.failed.saturating_add(1);
-        }
-    }
-}
 
 fn seen_of(alloc: Global, case: &Case<'_>) -> Result<Vec<u8>> {
     match case.kind {
@@ -106,29 +88,20 @@ fn holds<R: Print + AllocGlobal>(rt: &R, case: &Case<'_>) -> Result<bool> {
     }
 }
 
-fn run_file<R: Files + Print + AllocGlobal>(rt: &R, file: &str, counts: &mut Counts) -> Result<()> {
+fn run_file<R: Files + Print + AllocGlobal>(rt: &R, file: &str, tally: &mut Tally) -> Result<()> {
     let text = fs::read_to_string(rt, file).context(format_args!("reading {file}"))?;
     for part in text.split(HEAD).skip(1) {
         let case = Case::read(part).context(format_args!("{file} has a bad case"))?;
-        counts.note(holds(rt, &case)?);
+        tally.note(holds(rt, &case)?);
     }
     Ok(())
 }
 
-fn main(rt: HostRuntime) -> Result<ExitCode> {
-    let mut counts = Counts {
-        cases: 0,
-        failed: 0,
-    };
-    let files = fs::read_to_string(&rt, "files.txt")?;
+/// Tries the cases of the files that `files.txt` names.
+pub fn run_all<R: Files + Print + AllocGlobal>(rt: &R, tally: &mut Tally) -> Result<()> {
+    let files = fs::read_to_string(rt, "files.txt")?;
     for file in files.lines() {
-        run_file(&rt, file, &mut counts)?;
+        run_file(rt, file, tally)?;
     }
-    let Counts { cases, failed } = counts;
-    println!(rt; "{cases} cases, {failed} failed")?;
-    Ok(if failed == 0 {
-        ExitCode::SUCCESS
-    } else {
-        ExitCode::FAILURE
-    })
+    Ok(())
 }
