@@ -1,0 +1,34 @@
+//! Tests of all layers, in a crate above them, so that no other is proved again for its tests. What a deck or a program brings about is
+//! a case of the programs `rows` and `programs`.
+#![tactic(auto)]
+
+#[cfg(test)]
+mod access;
+#[cfg(test)]
+mod acl;
+#[cfg(test)]
+mod calls;
+#[cfg(test)]
+mod catalogue;
+#[cfg(test)]
+mod crashes;
+#[cfg(test)]
+mod device;
+#[cfg(test)]
+mod errors;
+#[cfg(test)]
+mod fake;
+#[cfg(test)]
+mod feeding;
+#[cfg(test)]
+mod guard;
+#[cfg(test)]
+mod matching;
+#[cfg(test)]
+mod memory;
+#[cfg(test)]
+mod monitor;
+#[cfg(test)]
+mod syntax;
+#[cfg(test)]
+mod values;
