@@ -12,3 +12,5 @@ pub mod GoingOn
 pub mod Composed
 pub mod Served
 pub mod Standing
+mod Mapping
+mod Joined

@@ -3,3 +3,5 @@ pub mod Delivery
 pub mod Compositions
 pub mod Laws
 pub mod Serving
+pub mod Planning
+pub mod Handing

@@ -4,7 +4,7 @@ use crate::keeper::Keeper;
 use crate::place::{Place, System};
 use crate::status::fault_of_box;
 use mon_text::Name;
-use site_deck::{box_name, name_in, taken_name};
+use rounds::{box_name, name_in, taken_name};
 use site_plan::users::uid_of_account;
 use site_plan::{Claimed, Found, Taken, shown_name};
 use std::alloc::{AllocError, Global};

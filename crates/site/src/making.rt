@@ -6,7 +6,7 @@ use crate::place::{Place, System, read_there};
 use crate::status::UNENDED;
 use mon_access::Accounts;
 use mon_text::{Name, put_number, read_count};
-use site_deck::{answer_folder, box_name};
+use rounds::{answer_folder, box_name};
 use site_plan::users::uid_of_account;
 use std::alloc::{AllocError, Global};
 use std::fs;

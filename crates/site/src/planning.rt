@@ -4,7 +4,7 @@ use crate::fault::Fault;
 use crate::keeper::Keeper;
 use crate::place::{Place, System};
 use mon_text::Stop;
-use site_deck::{Planned, plan_texts};
+use rounds::{Planned, plan_texts};
 use site_folder::round_name;
 use site_plan::{Judged, Plan, Taken, holdings, plan_text, read_plan};
 use std::alloc::{AllocError, Global};

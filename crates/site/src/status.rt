@@ -3,7 +3,7 @@ use crate::fault::{Fault, Wrong};
 use crate::keeper::Keeper;
 use crate::place::{Place, System};
 use mon_text::Name;
-use site_deck::{answer_folder, box_name};
+use rounds::{answer_folder, box_name};
 use site_plan::users::uid_of_account;
 use std::fs::Metadata;
 use std::os::unix::fs::MetadataExt;

@@ -6,7 +6,7 @@ use crate::place::{Place, System};
 use crate::running::{Report, Served, last_round, stands};
 use crate::status::faults_of;
 use mon_text::Name;
-use site_deck::box_name;
+use rounds::box_name;
 use std::{io, str};
 
 /// The exit status where a text was refused, or put off, and all else was done; or where the bytes of a round are others.

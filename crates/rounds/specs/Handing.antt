@@ -6,7 +6,7 @@ use Rattle.site_folder.specs.Parts.{Act, Puts, Removes}
 use Rattle.site_plan.specs.declared.taken.Taken.{Taken}
 use Rattle.site_plan.specs.declared.plan.Verdict.TheVariants.{Runs, Refused, PutOff}
 use Rattle.site_plan.specs.Names.{id_text, taken_text}
-use Rattle.site_deck.specs.Orders.{Seen}
+use Rattle.rounds.specs.Planning.{Seen}
 
 abbrev pub answer_name : Taken → List ℕ
 answer_name taken = codes "out/" ++ taken.account ++ codes "/" ++ id_text taken.id ++ codes ".out"

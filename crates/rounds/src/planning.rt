@@ -3,9 +3,10 @@ ghost use Rattle.std.specs.Prelude.{◌≡◌, ◌++◌, ◌∷◌, [], map, IfO
 ghost use Rattle.std.specs.List.{flat_map};
 ghost use Rattle.rounds.specs.Order.{served};
 ghost use Rattle.rounds.specs.Compositions.{with_fence, front_text};
-ghost use Rattle.site_deck.specs.Orders.{order_of, deck_of, seen, runs_as, refused_as, planned};
+ghost use Rattle.rounds.specs.Planning.{order_of, deck_of, seen, runs_as, refused_as, planned};
 
-use rounds::{in_turns, put_stop, put_text};
+use crate::composing::{put_stop, put_text};
+use crate::order::in_turns;
 use site_plan::{Desk, Entry, Judged, Plan, Refused, Runs, Taken, Verdict};
 use std::alloc::{AllocError, Global};
 use std::collections::VecDeque;

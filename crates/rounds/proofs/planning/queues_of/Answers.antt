@@ -1,7 +1,7 @@
 use Rattle.std.proofs.Common.{◌≡◌, ◌∷◌, [], ◌++◌, length, map, sym, ap, ◌∙◌, append_assoc, append-nil, arith}
 use Rattle.std.specs.Vec.Iter.{into_iter_items}
-use Rattle.site_deck.proofs.Mapping.{nothing_left, mapped_more}
-use Rattle.site_deck.proofs.composing.queues_of.Goals as goal
+use Rattle.rounds.proofs.Mapping.{nothing_left, mapped_more}
+use Rattle.rounds.proofs.planning.queues_of.Goals as goal
 
 pub loop-desk-preserved : goal.loop-desk-preserved
 loop-desk-preserved c =

@@ -1,8 +1,8 @@
 //! A text in whose part memory ran out is taken out of its round: it is put off, or refused where it was run alone.
 ghost use Rattle.std.specs.Prelude.{◌≤◌, length, IfOk};
 
-use crate::composing::Planned;
 use crate::damaged::Damaged;
+use crate::planning::Planned;
 use mon_text::Stop;
 use site_plan::{Entry, Plan, Reason, Verdict, put_off_reply, reply};
 use std::alloc::{AllocError, Global};

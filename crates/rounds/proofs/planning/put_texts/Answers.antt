@@ -1,8 +1,8 @@
 use Rattle.std.proofs.Common.{◌++◌, List, ℕ, take, sym, ap, ◌∙◌, flat_map, arith}
 use Rattle.std.proofs.lemmas.List.{take_all}
 use Rattle.rounds.specs.Compositions.{with_fence}
-use Rattle.site_deck.proofs.Mapping.{flat_of_map}
-use Rattle.site_deck.proofs.composing.put_texts.Goals as goal
+use Rattle.rounds.proofs.Mapping.{flat_of_map}
+use Rattle.rounds.proofs.planning.put_texts.Goals as goal
 
 pub returns : goal.returns
 returns c =

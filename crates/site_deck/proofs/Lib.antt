@@ -1,2 +1,0 @@
-mod Mapping
-mod Joined
