@@ -4,8 +4,8 @@ ghost use Rattle.clap.specs.Words.{first_value, found_of};
 
 use clap::error::ErrorKind;
 use clap::{Arg, ArgAction, ArgMatches, Command, Error};
-use deck_report::{Form, Question};
 use mon_text::{Name, read_name};
+use preflight::{Form, Question};
 use std::alloc::{AllocError, Global};
 use std::convert::AsStr;
 

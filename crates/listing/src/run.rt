@@ -1,13 +1,13 @@
 //! What the program does, over any streams of std: from its words to what stands in these, and the exit status.
 ghost use Rattle.std.specs.Prelude.{◌≡◌, IfSome};
-ghost use Rattle.deck_report.specs.Reports.{ReportedTo, status_of};
+ghost use Rattle.preflight.specs.Reports.{ReportedTo, status_of};
 
 use crate::options::{Asked, no_text, read_asked};
 use crate::streams::{ReviewFault, review_streams};
 use clap::Error;
 use clap::error::ErrorKind;
 use deck_lint::Tally;
-use deck_report::{Fault, Question, report_streams};
+use preflight::{Fault, Question, report_streams};
 use std::alloc::{AllocError, Global};
 use std::convert::AsStr;
 use std::io;

@@ -15,8 +15,8 @@ use Rattle.deck_driver.specs.RunStates.{one_counted, events_of, opening}
 use Rattle.deck_driver.specs.Printouts.{closing, output_of_run_state}
 use Rattle.deck_run.specs.Laws.{jobs_in, rest_of_output}
 use Rattle.deck_run.proofs.Ordered.{events_both, in_two, output_with}
-use Rattle.intake.specs.Rounds.{Handed, stream_asks}
-use Rattle.intake.specs.Laws.{NeverRefused}
+use Rattle.preflight.specs.Rounds.{Handed, stream_asks}
+use Rattle.preflight.specs.Laws.{NeverRefused}
 use Rattle.rounds.specs.Delivery.{text_events, text_played, delivered}
 use Rattle.rounds.specs.Laws.{EachAlone, Delivers}
 use Rattle.rounds.proofs.Empty.{nothing_left, drained}

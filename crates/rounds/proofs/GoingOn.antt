@@ -7,9 +7,9 @@ use Rattle.mon_catalogue.specs.Text.{text_of}
 use Rattle.deck_syntax.specs.Decks.{Stopped}
 use Rattle.deck_syntax.specs.Sections.{deck_of}
 use Rattle.deck_run.specs.Runs.{deck_ending}
-use Rattle.intake.specs.declared.submission.Submission.{Submission}
-use Rattle.intake.specs.Rounds.{Handed, AreHanded, stream_lines, round_lines}
-use Rattle.intake.specs.Laws.{NeverRefused}
+use Rattle.preflight.specs.declared.submission.Submission.{Submission}
+use Rattle.preflight.specs.Rounds.{Handed, AreHanded, stream_lines, round_lines}
+use Rattle.preflight.specs.Laws.{NeverRefused}
 use Rattle.rounds.specs.Compositions.{with_fence, head_text, front_text, round_text, AreAdmitted, IsGoodRound}
 use Rattle.rounds.specs.Laws.{GoesOn}
 use Rattle.rounds.proofs.Heads.{head_lines, front_lines, head_is, stop_behind, text_both}

@@ -20,9 +20,9 @@ use Rattle.deck_syntax.specs.Sections.{Closed, stream_section, deck_of}
 use Rattle.deck_syntax.specs.Spelling.{SpellsAccounts}
 use Rattle.deck_syntax.proofs.Complete.{table_taken, text_taken, due}
 use Rattle.deck_syntax.proofs.ComingBack.{lines_fit}
-use Rattle.intake.specs.Rounds.{Handed, AreHanded, stream_lines, stream_asks, round_lines}
-use Rattle.intake.proofs.Composed.{texts_go}
-use Rattle.intake.proofs.Written.{lines_of_writable, both_writable, all_weaker, table_writable, texts_all}
+use Rattle.preflight.specs.Rounds.{Handed, AreHanded, stream_lines, stream_asks, round_lines}
+use Rattle.preflight.proofs.Composed.{texts_go}
+use Rattle.preflight.proofs.Written.{lines_of_writable, both_writable, all_weaker, table_writable, texts_all}
 use Rattle.rounds.specs.Compositions.{head_text}
 
 -- up to the card behind which the texts stand

@@ -2,7 +2,7 @@
 use Rattle.std.proofs.Common.{◌≡◌, ℕ, ◌≤◌, List, [], ◌∷◌, ◌++◌, take, drop, flat_map, refl, sym, ap, ◌∙◌, append_assoc, append-nil}
 use Rattle.std.specs.Prelude.{codes}
 use Rattle.std.proofs.lemmas.List.{take-append-drop}
-use Rattle.intake.specs.declared.submission.Submission.{Submission}
+use Rattle.preflight.specs.declared.submission.Submission.{Submission}
 use Rattle.rounds.specs.Compositions.{with_fence, fence}
 
 flat_both : {A C : Type 0} (f : A → List C) (xs ys : List A) → flat_map f (xs ++ ys) ≡ flat_map f xs ++ flat_map f ys

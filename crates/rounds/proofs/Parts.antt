@@ -15,9 +15,9 @@ use Rattle.deck_driver.specs.declared.options.Options.{Options}
 use Rattle.deck_driver.specs.RunStates.{sets_after}
 use Rattle.deck_driver.specs.Printouts.{closing, output_of}
 use Rattle.deck_run.specs.Runs.{run_state_of}
-use Rattle.intake.specs.declared.submission.Submission.{Submission}
-use Rattle.intake.specs.Rounds.{Handed, AreHanded, round_lines, round_deck}
-use Rattle.intake.specs.Laws.{NeverRefused}
+use Rattle.preflight.specs.declared.submission.Submission.{Submission}
+use Rattle.preflight.specs.Rounds.{Handed, AreHanded, round_lines, round_deck}
+use Rattle.preflight.specs.Laws.{NeverRefused}
 use Rattle.rounds.specs.Delivery.{delivered}
 use Rattle.rounds.specs.Compositions.{with_fence, round_text, AreAdmitted, IsGoodRound, ends_of, cut_at}
 use Rattle.rounds.specs.Laws.{EachItsPart}

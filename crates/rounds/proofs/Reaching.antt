@@ -19,7 +19,7 @@ use Rattle.deck_driver.specs.Printouts.{closing, output_of_run_state, output_of}
 use Rattle.deck_run.specs.Laws.{jobs_in}
 use Rattle.deck_run.specs.Runs.{run_state_of}
 use Rattle.deck_run.proofs.Ordered.{events_both, is_run}
-use Rattle.intake.specs.Rounds.{Handed, IsHanded, AreHanded, stream_asks, round_deck}
+use Rattle.preflight.specs.Rounds.{Handed, IsHanded, AreHanded, stream_asks, round_deck}
 use Rattle.rounds.specs.Delivery.{text_events, text_played}
 use Rattle.rounds.proofs.Delivering.{no_jobs_more, each_alone}
 use Rattle.rounds.proofs.Empty.{nothing_left}

@@ -18,7 +18,7 @@ use Rattle.deck_driver.specs.Abstraction.{told, audit_told, Took}
 use Rattle.deck_driver.specs.Printouts.{output_of}
 use Rattle.deck_driver.proofs.Beginnings.{nothing_printed}
 use Rattle.deck_run.specs.Runs.{deck_ending, run_state_of, counts_of, catalogue_after}
-use Rattle.intake.specs.declared.submission.Submission.{Submission}
+use Rattle.preflight.specs.declared.submission.Submission.{Submission}
 use Rattle.rounds.specs.Compositions.{with_fence, front_text, ends_of}
 use Rattle.rounds.specs.Serving.{whole, IsBad}
 

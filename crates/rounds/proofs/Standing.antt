@@ -20,7 +20,7 @@ use Rattle.deck_driver.specs.Abstraction.{told, audit_told, Took}
 use Rattle.deck_driver.specs.Printouts.{output_of, ReadsBack}
 use Rattle.deck_run.specs.Audited.{end_told}
 use Rattle.deck_run.specs.Runs.{deck_ending, counts_of}
-use Rattle.intake.specs.declared.submission.Submission.{Submission}
+use Rattle.preflight.specs.declared.submission.Submission.{Submission}
 use Rattle.rounds.specs.declared.running.Round.{Round}
 use Rattle.rounds.specs.declared.running.RoundError.{RoundError}
 use Rattle.rounds.specs.declared.running.RoundError.TheVariants as round_error

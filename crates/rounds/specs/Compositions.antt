@@ -12,8 +12,8 @@ use Rattle.mon_monitor.specs.Printed.{given_back}
 use Rattle.deck_syntax.specs.Spelling.{SpellsAccounts}
 use Rattle.deck_driver.specs.declared.options.Options.{Options}
 use Rattle.deck_driver.specs.Printouts.{output_of}
-use Rattle.intake.specs.declared.submission.Submission.{Submission}
-use Rattle.intake.specs.Rounds.{Handed, IsHanded}
+use Rattle.preflight.specs.declared.submission.Submission.{Submission}
+use Rattle.preflight.specs.Rounds.{Handed, IsHanded}
 
 -- the card behind each text: all jobs come to their ends before the next text begins
 abbrev pub fence : List ℕ

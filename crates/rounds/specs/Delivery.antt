@@ -11,7 +11,7 @@ use Rattle.mon_monitor.specs.Played.{Played, played}
 use Rattle.deck_syntax.specs.Decks.{Drains}
 use Rattle.deck_driver.specs.RunStates.{events_of}
 use Rattle.deck_run.specs.Laws.{jobs_in}
-use Rattle.intake.specs.Rounds.{Handed}
+use Rattle.preflight.specs.Rounds.{Handed}
 
 -- all that a text asks for, behind so many jobs; and then its jobs come to their ends
 abbrev pub text_events : ℕ → Handed → List Event

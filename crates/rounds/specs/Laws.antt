@@ -17,8 +17,8 @@ use Rattle.deck_driver.specs.declared.options.Options.{Options}
 use Rattle.deck_driver.specs.RunStates.{opening}
 use Rattle.deck_driver.specs.Printouts.{closing, output_of_run_state, output_of, ReadsBack}
 use Rattle.deck_run.specs.Runs.{deck_ending, catalogue_after}
-use Rattle.intake.specs.declared.submission.Submission.{Submission}
-use Rattle.intake.specs.Rounds.{Handed, AreHanded, round_lines}
+use Rattle.preflight.specs.declared.submission.Submission.{Submission}
+use Rattle.preflight.specs.Rounds.{Handed, AreHanded, round_lines}
 use Rattle.rounds.specs.Delivery.{text_events, text_played, delivered}
 use Rattle.rounds.specs.Compositions.{head_text, round_text, AreAdmitted, IsGoodRound, ends_of, cut_at}
 

@@ -1,7 +1,7 @@
 -- The deck of a site's round, and its plan (own): the texts that run, in the order of the round; behind them in the plan the others.
 use Rattle.std.specs.Prelude.{ℕ, List, ◌++◌, length, map}
 use Rattle.mon_text.specs.declared.name.Name.{Name}
-use Rattle.intake.specs.declared.submission.Submission.{Submission}
+use Rattle.preflight.specs.declared.submission.Submission.{Submission}
 use Rattle.rounds.specs.Order.{served}
 use Rattle.rounds.specs.Compositions.{round_text}
 use Rattle.site_plan.specs.declared.desk.Desk.{Desk}

@@ -18,8 +18,8 @@ use Rattle.deck_driver.specs.Abstraction.{told, audit_told}
 use Rattle.deck_driver.specs.Printouts.{closing, output_of, ReadsBack}
 use Rattle.deck_run.specs.Audited.{end_told}
 use Rattle.deck_run.specs.Runs.{counts_of, catalogue_after}
-use Rattle.intake.specs.declared.submission.Submission.{Submission}
-use Rattle.intake.specs.Rounds.{Handed}
+use Rattle.preflight.specs.declared.submission.Submission.{Submission}
+use Rattle.preflight.specs.Rounds.{Handed}
 use Rattle.rounds.specs.declared.running.Round.{Round}
 use Rattle.rounds.specs.declared.running.Running.{Running}
 use Rattle.rounds.specs.Delivery.{delivered}

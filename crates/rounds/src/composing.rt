@@ -5,9 +5,9 @@ ghost use Rattle.mon_catalogue.specs.Text.{catalogue_text};
 ghost use Rattle.mon_monitor.specs.Printed.{given_back};
 ghost use Rattle.rounds.specs.Compositions.{with_fence, head_text, round_text};
 
-use intake::Submission;
 use mon_catalogue::Catalogue;
 use mon_device::{Sink, TextSink};
+use preflight::Submission;
 use std::alloc::{AllocError, Global};
 
 /// The deck of a round: the accounts, the data sets, each text with a `$DRAIN` card behind it, and `$STOP`. The table has a line for

@@ -23,7 +23,7 @@ pub fn each_alone()
 pub fn delivers()
     ensures { Delivers }
 {
-    intake::laws::never_refused();
+    preflight::laws::never_refused();
     mon_monitor::laws::card_by_card();
     mon_monitor::laws::drain_empties();
     mon_monitor::laws::accounts_stay();
@@ -42,7 +42,7 @@ pub fn each_tells()
 pub fn each_its_part()
     ensures { EachItsPart }
 {
-    intake::laws::never_refused();
+    preflight::laws::never_refused();
     mon_monitor::laws::card_by_card();
     mon_monitor::laws::drain_empties();
     mon_monitor::laws::accounts_stay();
@@ -53,5 +53,5 @@ pub fn each_its_part()
 pub fn goes_on()
     ensures { GoesOn }
 {
-    intake::laws::never_refused();
+    preflight::laws::never_refused();
 }

@@ -4,8 +4,8 @@ ghost use Rattle.std.specs.List.{flat_map};
 ghost use Rattle.rounds.specs.Compositions.{with_fence, round_text};
 
 use crate::damaged::Damaged;
-use intake::{Submission, examine};
 use mon_text::{Name, Stop};
+use preflight::{Submission, examine};
 use site_plan::{Entry, Plan, Verdict};
 use std::alloc::Global;
 

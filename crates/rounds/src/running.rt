@@ -12,17 +12,17 @@ ghost use Rattle.deck_driver.specs.Feeds.{EndsLine, IsReadBack, is_reading};
 ghost use Rattle.deck_driver.specs.Abstraction.{Took};
 ghost use Rattle.deck_run.specs.Audited.{end_told};
 ghost use Rattle.deck_run.specs.Runs.{deck_ending};
-ghost use Rattle.intake.specs.declared.submission.Submission.{Submission as AnySubmission};
-ghost use Rattle.intake.specs.Rounds.{Handed};
+ghost use Rattle.preflight.specs.declared.submission.Submission.{Submission as AnySubmission};
+ghost use Rattle.preflight.specs.Rounds.{Handed};
 ghost use Rattle.rounds.specs.Compositions.{with_fence, front_text, round_text, IsGoodRound};
 ghost use Rattle.rounds.specs.Serving.{IsServed, Stands, IsBad, IsBadAtEnd, Finishes, HasEnded};
 
 use deck_driver::{DeckFeed, Options, RunError};
 use deck_syntax::DeckError;
-use intake::Submission;
 use mon_audit::print_stopped;
 use mon_device::{Failed, Sink, TextSink};
 use mon_monitor::Printed;
+use preflight::Submission;
 use std::alloc::{AllocError, Global};
 
 /// What a round wrote, and where in it each text's printout ends.
@@ -79,7 +79,7 @@ pub fn run_round<A: Sink>(
     ensures memory { (k : ℕ) → result ≡ Err (RoundError.Memory k) → k ≤ length texts.now + 1 }
 {
     crate::laws::each_its_part();
-    intake::laws::never_refused();
+    preflight::laws::never_refused();
     match serve_round(alloc, options, head, texts, audit) {
         Ok(round) => {
             tell_end(options.check, audit);

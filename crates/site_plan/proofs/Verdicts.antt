@@ -4,12 +4,12 @@ use Rattle.std.specs.Option.{option_or}
 use Rattle.std.specs.Str.Lines.{lines}
 use Rattle.deck_syntax.specs.Decks.{Asked}
 use Rattle.deck_syntax.specs.Sections.{Closed}
-use Rattle.intake.specs.declared.submission.Submission.{Submission}
-use Rattle.intake.specs.declared.why.Refusal.{Refusal}
-use Rattle.intake.specs.Examined.{IsSubmission, Verdict, Admits, Refuses, examined}
-use Rattle.intake.specs.Submissions.{IsAdmitted, lines_of}
-use Rattle.intake.specs.Tallies.{tally_of}
-use Rattle.intake.proofs.Exactly.{admits_exactly}
+use Rattle.preflight.specs.declared.submission.Submission.{Submission}
+use Rattle.preflight.specs.declared.why.Refusal.{Refusal}
+use Rattle.preflight.specs.Examined.{IsSubmission, Verdict, Admits, Refuses, examined}
+use Rattle.preflight.specs.Submissions.{IsAdmitted, lines_of}
+use Rattle.preflight.specs.Tallies.{tally_of}
+use Rattle.preflight.proofs.Exactly.{admits_exactly}
 use Rattle.site_plan.specs.declared.claimed.Found.{Found}
 use Rattle.site_plan.specs.declared.desk.Desk.{Desk}
 use Rattle.site_plan.specs.declared.reason.Reason.{Reason}

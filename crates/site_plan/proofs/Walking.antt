@@ -4,7 +4,7 @@ use Rattle.std.specs.Str.Lines.{lines}
 use Rattle.mon_text.specs.declared.stop.Stop.{Stop}
 use Rattle.mon_text.specs.declared.stop.Stop.TheVariants.{Refused, Memory}
 use Rattle.mon_text.specs.Stops.{Gives}
-use Rattle.intake.specs.Submissions.{IfStopped}
+use Rattle.preflight.specs.Submissions.{IfStopped}
 use Rattle.site_plan.specs.Walks.{and_then, at_line, walked, stop_at}
 
 module _ {S W : Type 0} (after : S → List ℕ → Result S W) where

@@ -3,10 +3,10 @@ use Rattle.std.proofs.Common.{◌≡◌, ℕ, Bool, true, false, ◌&&◌, not, 
 use Rattle.std.specs.List.{list_all}
 use Rattle.std.proofs.lemmas.List.Folds.{list_all-append}
 use Rattle.std.proofs.lemmas.List.Sums.{fold-append}
-use Rattle.intake.specs.declared.tally.Tally.{Tally}
-use Rattle.intake.specs.declared.limits.Limits.{Limits}
-use Rattle.intake.specs.declared.limits.HandedIn.{HandedIn}
-use Rattle.intake.specs.Allowances.{with_text}
+use Rattle.preflight.specs.declared.tally.Tally.{Tally}
+use Rattle.preflight.specs.declared.limits.Limits.{Limits}
+use Rattle.preflight.specs.declared.limits.HandedIn.{HandedIn}
+use Rattle.preflight.specs.Allowances.{with_text}
 use Rattle.site_plan.specs.declared.runs.Runs.{Runs}
 use Rattle.site_plan.specs.Weighing.{stopped_by, weighed, tallies, are_within, are_of}
 

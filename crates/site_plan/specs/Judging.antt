@@ -4,10 +4,10 @@ use Rattle.std.specs.Prelude.{◌≡◌, ℕ, List, [], ◌∷◌, length, Optio
 use Rattle.std.specs.Option.{option_or}
 use Rattle.std.specs.Str.Lines.{lines}
 use Rattle.deck_syntax.specs.Sections.{Closed}
-use Rattle.intake.specs.declared.submission.Submission.{Submission}
-use Rattle.intake.specs.declared.tally.Tally.{Tally}
-use Rattle.intake.specs.Examined.{Verdict, Admits, Refuses, examined}
-use Rattle.intake.specs.Tallies.{tally_of}
+use Rattle.preflight.specs.declared.submission.Submission.{Submission}
+use Rattle.preflight.specs.declared.tally.Tally.{Tally}
+use Rattle.preflight.specs.Examined.{Verdict, Admits, Refuses, examined}
+use Rattle.preflight.specs.Tallies.{tally_of}
 use Rattle.site_plan.specs.declared.taken.Taken.{Taken}
 use Rattle.site_plan.specs.declared.claimed.Found.{Found}
 use Rattle.site_plan.specs.declared.claimed.Found.TheVariants as found

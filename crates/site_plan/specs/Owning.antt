@@ -9,7 +9,7 @@ use Rattle.mon_text.specs.Names.{is_name}
 use Rattle.mon_text.specs.Counts.{is_count, value_of}
 use Rattle.mon_access.specs.declared.account.Account.{Account}
 use Rattle.deck_syntax.specs.Refusing.{is_dollar_line}
-use Rattle.intake.specs.Allowances.{told64}
+use Rattle.preflight.specs.Allowances.{told64}
 use Rattle.site_plan.specs.declared.owning.Owned.{Owned}
 use Rattle.site_plan.specs.declared.owning.Holding.{Holding}
 

@@ -5,10 +5,10 @@ use Rattle.std.specs.Str.Lines.{lines}
 use Rattle.mon_text.specs.Characters.{is_printable, is_blank}
 use Rattle.deck_syntax.specs.declared.deck_error.DeckError.TheVariants.{BadCharacter, LineTooLong}
 use Rattle.deck_syntax.specs.Refusing.{is_dollar_line}
-use Rattle.intake.specs.declared.why.Why.{Why}
-use Rattle.intake.specs.declared.why.Why.TheVariants.{Line, Foreign}
-use Rattle.intake.specs.declared.why.Refusal.{Refusal}
-use Rattle.intake.specs.Whys.{why_text}
+use Rattle.preflight.specs.declared.why.Why.{Why}
+use Rattle.preflight.specs.declared.why.Why.TheVariants.{Line, Foreign}
+use Rattle.preflight.specs.declared.why.Refusal.{Refusal}
+use Rattle.preflight.specs.Whys.{why_text}
 use Rattle.site_plan.specs.declared.reason.Reason.{Reason}
 use Rattle.site_plan.specs.declared.reason.Reason.TheVariants as reason
 use Rattle.site_plan.specs.Terms.{limit_name}

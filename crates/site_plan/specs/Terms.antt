@@ -5,9 +5,9 @@ use Rattle.std.specs.List.{list_any}
 use Rattle.std.specs.Str.Lines.{lines}
 use Rattle.mon_text.specs.Lines.{words}
 use Rattle.mon_text.specs.Counts.{is_count, value_of}
-use Rattle.intake.specs.declared.limits.Limit.{Limit}
-use Rattle.intake.specs.declared.limits.Limit.TheVariants.{Texts, Bytes, Jobs, Statements, Largest, Work, DataSets, Records}
-use Rattle.intake.specs.declared.limits.Limits.{Limits}
+use Rattle.preflight.specs.declared.limits.Limit.{Limit}
+use Rattle.preflight.specs.declared.limits.Limit.TheVariants.{Texts, Bytes, Jobs, Statements, Largest, Work, DataSets, Records}
+use Rattle.preflight.specs.declared.limits.Limits.{Limits}
 use Rattle.site_plan.specs.declared.terms.Term.{Term}
 use Rattle.site_plan.specs.declared.terms.Term.TheVariants.{Gives, Demonstration}
 use Rattle.site_plan.specs.declared.terms.Terms.{Terms}

@@ -1,13 +1,13 @@
 -- Which texts of an account run in a round (own): each with which, and those before it, the account breaks no limit.
 use Rattle.std.specs.Prelude.{ℕ, ◌+◌, ◌==◌, Bool, true, false, not, ◌&&◌, List, [], ◌∷◌, map, Option, Some, None, option_map, is_some, if◌then◌else◌, bytes_eq}
 use Rattle.std.specs.List.{list_all}
-use Rattle.intake.specs.declared.tally.Tally.{Tally}
-use Rattle.intake.specs.declared.limits.Limit.{Limit}
-use Rattle.intake.specs.declared.limits.Limit.TheVariants.{Texts, Bytes, Jobs, Statements, Largest, Work, DataSets, Records}
-use Rattle.intake.specs.declared.limits.Limits.{Limits}
-use Rattle.intake.specs.declared.limits.HandedIn.{HandedIn}
-use Rattle.intake.specs.Allowances.{broken_limit, with_text}
-use Rattle.intake.specs.Tallies.{tally_of}
+use Rattle.preflight.specs.declared.tally.Tally.{Tally}
+use Rattle.preflight.specs.declared.limits.Limit.{Limit}
+use Rattle.preflight.specs.declared.limits.Limit.TheVariants.{Texts, Bytes, Jobs, Statements, Largest, Work, DataSets, Records}
+use Rattle.preflight.specs.declared.limits.Limits.{Limits}
+use Rattle.preflight.specs.declared.limits.HandedIn.{HandedIn}
+use Rattle.preflight.specs.Allowances.{broken_limit, with_text}
+use Rattle.preflight.specs.Tallies.{tally_of}
 use Rattle.site_plan.specs.declared.runs.Runs.{Runs}
 use Rattle.site_plan.specs.declared.owning.Holding.{Holding}
 use Rattle.site_plan.specs.declared.reason.Reason.{Reason}

@@ -1,14 +1,14 @@
 //! An account's part of a round: its texts that run, and how much they are.
 ghost use Rattle.std.specs.Prelude.{◌≡◌, ◌++◌, ◌∷◌, true, None, [], OnOk};
 ghost use Rattle.std.specs.List.{fold};
-ghost use Rattle.intake.specs.Allowances.{with_text};
+ghost use Rattle.preflight.specs.Allowances.{with_text};
 ghost use Rattle.site_plan.specs.Weighing.{stopped_by, is_of_owned, amount, allowed, weighed, before, tallies, are_within, are_of};
 
 use crate::owning::Holding;
 use crate::reason::Reason;
 use crate::runs::Runs;
-use intake::{HandedIn, Limit, Limits, Tally, within};
 use mon_text::Name;
+use preflight::{HandedIn, Limit, Limits, Tally, within};
 use std::alloc::{AllocError, Global};
 use std::collections::VecDeque;
 

@@ -11,9 +11,9 @@ use crate::reason::Reason;
 use crate::replies::reply;
 use crate::runs::Runs;
 use crate::taken::Taken;
-use intake::{Limits, Submission, examine};
 use mon_access::Accounts;
 use mon_text::{Name, Stop};
+use preflight::{Limits, Submission, examine};
 use std::alloc::{AllocError, Global};
 
 /// A text that does not run.

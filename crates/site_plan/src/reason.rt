@@ -1,5 +1,5 @@
 //! Why a claimed text does not run.
-use intake::{Limit, Refusal};
+use preflight::{Limit, Refusal};
 
 /// Why a claimed text does not run.
 #[derive(Clone, Copy)]

@@ -9,9 +9,9 @@ use crate::lines::{first_line, put_times};
 use crate::reason::Reason;
 use crate::terms::limit_name;
 use deck_syntax::DeckError;
-use intake::{Limit, Refusal, Why};
 use itoa::Buffer;
 use mon_text::{Name, put_number};
+use preflight::{Limit, Refusal, Why};
 use std::alloc::{AllocError, Global};
 
 /// How many characters of a line are shown at the most.

@@ -1,6 +1,6 @@
 //! A text that runs in a round.
 use crate::taken::Taken;
-use intake::Submission;
+use preflight::Submission;
 
 /// A text that runs in a round.
 #[derive(Drop)]

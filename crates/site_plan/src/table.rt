@@ -2,7 +2,7 @@
 ghost use Rattle.std.specs.Prelude.{◌≡◌, Ok, Err, IfOk, IfErr, OnOk};
 ghost use Rattle.std.specs.Str.Lines.{lines};
 ghost use Rattle.mon_text.specs.Stops.{Gives};
-ghost use Rattle.intake.specs.Submissions.{IfStopped};
+ghost use Rattle.preflight.specs.Submissions.{IfStopped};
 ghost use Rattle.site_plan.specs.Tables.{after_line, table_of, ended_lines};
 
 use crate::lines::{first_line, stop_at};

@@ -2,12 +2,12 @@
 ghost use Rattle.std.specs.Prelude.{◌≡◌, Ok, Err, None, Some, map, IfErr, OnOk, codes, bytes_eq, ok_or, if◌then◌else◌};
 ghost use Rattle.std.specs.List.{list_any};
 ghost use Rattle.mon_text.specs.Stops.{Gives};
-ghost use Rattle.intake.specs.Submissions.{IfStopped};
+ghost use Rattle.preflight.specs.Submissions.{IfStopped};
 ghost use Rattle.site_plan.specs.Terms.{limit_name, limit_on, number_on, term_on, is_same_limit, is_same, with_term, after_line, number_of, limits_of, terms_in, terms_of};
 
 use crate::lines::{first_line, is_skipped, stop_at, words_of};
-use intake::{Limit, Limits};
 use mon_text::{Stop, read_count};
+use preflight::{Limit, Limits};
 use std::alloc::Global;
 
 /// What a site's file of limits says.

@@ -1,7 +1,7 @@
 //! The users of a site: which account a user of the system has.
 ghost use Rattle.std.specs.Prelude.{◌≡◌, Ok, Err, map, IfErr, OnOk};
 ghost use Rattle.mon_text.specs.Stops.{Gives};
-ghost use Rattle.intake.specs.Submissions.{IfStopped};
+ghost use Rattle.preflight.specs.Submissions.{IfStopped};
 ghost use Rattle.site_plan.specs.Users.{uid_on, user_with, user_on, has_uid, has_account, with_user, after_line, users_of, uid_of};
 
 use crate::lines::{first_line, is_skipped, stop_at, words_of};

@@ -2,7 +2,7 @@
 
 use crate::submissions::block::put_line;
 use anyhow::{Context, Result};
-use intake::{HandedIn, Limit, Limits, Tally, within};
+use preflight::{HandedIn, Limit, Limits, Tally, within};
 use std::alloc::{AllocError, Global};
 
 /// The first limit that the texts of an account break.

@@ -4,10 +4,10 @@ use crate::submissions::block::{put_line, text_of};
 use crate::submissions::text::examined;
 use anyhow::{Context, Result, bail, ensure};
 use deck_run::{Devices, MemReader, MemWriter, Options, Slots, run_deck};
-use intake::Submission;
 use mon_catalogue::{Catalogue, Version, read_text};
 use mon_device::TextSink;
 use mon_text::{Line, read_line};
+use preflight::Submission;
 use rounds::{Round, RoundError, compose, compose_head, run_round};
 use std::alloc::{AllocError, Global};
 

@@ -2,8 +2,8 @@
 
 use crate::submissions::block::text_of;
 use anyhow::{Context, Result};
-use intake::{Refusal, Submission, Tally, examine};
 use mon_text::{Name, Stop, read_name};
+use preflight::{Refusal, Submission, Tally, examine};
 use std::alloc::{AllocError, Global};
 
 /// The tally of an account's text, or where and why it is refused.

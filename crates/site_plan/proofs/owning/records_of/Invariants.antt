@@ -2,7 +2,7 @@
 use Rattle.std.proofs.Common.{◌≡◌, ◌≤◌, ◌+◌, take, drop, length}
 use Rattle.std.specs.List.{fold}
 use Rattle.std.specs.Str.Lines.{lines}
-use Rattle.intake.specs.Allowances.{told64}
+use Rattle.preflight.specs.Allowances.{told64}
 use Rattle.site_plan.specs.Owning.{bytes_of}
 use Rattle.site_plan.proofs.owning.records_of.Given as goal
 

@@ -1,4 +1,0 @@
-pub mod Faults
-mod Firsts
-mod Listed
-mod Sections

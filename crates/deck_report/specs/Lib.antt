@@ -1,3 +1,0 @@
-pub mod Access
-pub mod Fronts
-pub mod Reports

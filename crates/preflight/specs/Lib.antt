@@ -1,0 +1,11 @@
+pub mod Examined
+pub mod Whys
+pub mod Tallies
+pub mod Rounds
+pub mod Submissions
+pub mod Allowances
+pub mod Laws
+pub mod Access
+pub mod Fronts
+pub mod Reports
+pub mod inner
