@@ -4,3 +4,4 @@ pub mod Lined
 pub mod Falling
 pub mod Going
 pub mod Runs
+pub mod Taking

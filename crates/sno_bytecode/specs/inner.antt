@@ -8,3 +8,4 @@ pub mod Laws
 pub mod Seen
 pub mod Codes
 pub mod Loading
+pub mod Stack

@@ -15,9 +15,8 @@ ghost use Rattle.sno_run.specs.inner.Turning.{turned_of, HasLine, turn_coded, se
 use crate::ending::{Ending, Step};
 use crate::machine::run_line;
 use interaction::Service;
-use sno_bytecode::{Jump, Point};
+use sno_bytecode::{Jump, Point, Stack};
 use sno_semantics::Halt;
-use sno_stack::Stack;
 use sno_state::{CompiledProgram, Limits};
 use sno_store::Store;
 use sno_syntax::{Program, Start};
