@@ -2,7 +2,7 @@
 use Rattle.std.specs.Prelude.{◌≡◌, ◌⊎◌, ℕ, Bool, true, false, List, [], ◌++◌, Option, Result, Ok, Err}
 use Rattle.std.specs.List.{flat_map}
 use Rattle.scheduler.specs.Marks.{Marks}
-use Rattle.mon_audit.specs.Runs.{stopped_line, deck_refused_line}
+use Rattle.mon_unit.specs.AuditRuns.{stopped_line, deck_refused_line}
 use Rattle.mon_monitor.specs.Audit.{audit_line}
 use Rattle.mon_device.specs.Devices.{Gives, holding}
 use Rattle.mon_device.specs.Putting.{Standing, Puts}

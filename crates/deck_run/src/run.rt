@@ -20,9 +20,9 @@ ghost use Rattle.deck_run.specs.Faults.{status_of, fault_line};
 use crate::output::{Output, Unwritten, write_out};
 use crate::shortage::Shortage;
 use deck_driver::{Counts, DeckFeed, Options, RunError};
-use mon_audit::{print_deck_refused, print_stopped};
 use mon_device::{DeckDevices, Failed, MOST_READS, READ_SIZE, Sink, WRITE_SIZE};
 use mon_text::put_number;
+use mon_unit::{print_deck_refused, print_stopped};
 use std::alloc::{AllocError, Global};
 
 /// Runs a deck: reads all of it, serves its commands and runs its jobs as its cards say, and writes the printout of each,

@@ -1,8 +1,8 @@
 -- Right entries name their grants.
 use Rattle.std.proofs.Common.{List, [], ◌∷◌, inl, inr}
 use Rattle.mon_access.specs.declared.account.Account.{Account}
-use Rattle.mon_audit.specs.Laws.{GrantsAreNamed, ChangesAreNamed}
-use Rattle.mon_audit.proofs.Named.{read_named}
+use Rattle.mon_unit.specs.AuditLaws.{GrantsAreNamed, ChangesAreNamed}
+use Rattle.mon_unit.proofs.Named.{read_named}
 use Rattle.scheduler.specs.Exchanged.{Exchanged}
 use Rattle.mon_monitor.specs.History.{Entry, Entered, Refused, Asked, Ended, Ordered}
 use Rattle.mon_monitor.specs.Headline.{IsRight, IsRightRequest}

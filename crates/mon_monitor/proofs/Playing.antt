@@ -15,8 +15,8 @@ use Rattle.mon_command.specs.Commanded.{answered, commanded}
 use Rattle.mon_command.specs.declared.said.Said.{Said}
 use Rattle.mon_command.specs.Saying.{said_of}
 use Rattle.mon_command.proofs.Shorthand.{served_if_known}
-use Rattle.mon_audit.specs.Commands.{ordered_line, said_line, listed}
-use Rattle.mon_audit.proofs.Ordered.{ordered_is}
+use Rattle.mon_unit.specs.AuditCommands.{ordered_line, said_line, listed}
+use Rattle.mon_unit.proofs.Ordered.{ordered_is}
 use Rattle.deck_syntax.specs.declared.job_deck.JobDeck.{JobDeck}
 use Rattle.scheduler.specs.declared.job_end.JobEnd.{JobEnd}
 use Rattle.scheduler.specs.declared.refusal.LoadError.{LoadError}

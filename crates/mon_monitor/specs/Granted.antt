@@ -6,8 +6,8 @@ use Rattle.mon_access.specs.declared.account.Account.{Account}
 use Rattle.mon_unit.specs.declared.tie.Target.TheVariants.{Data}
 use Rattle.mon_unit.specs.Serving.{serve}
 use Rattle.mon_unit.specs.Laws.{target_of}
-use Rattle.mon_audit.specs.declared.request.Asked.{Asked as Line}
-use Rattle.mon_audit.specs.Requests.{asked_of}
+use Rattle.mon_unit.specs.declared.audit_request.Asked.{Asked as Line}
+use Rattle.mon_unit.specs.AuditRequests.{asked_of}
 use Rattle.scheduler.specs.Exchanged.{Exchanged}
 use Rattle.mon_monitor.specs.History.{Entry, Entered, Refused, Asked, Ended, Ordered}
 use Rattle.mon_monitor.specs.Headline.{IsRight}

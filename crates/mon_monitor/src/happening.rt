@@ -16,11 +16,11 @@ ghost use Rattle.mon_monitor.specs.Happening.{Does, Happens, HappensUnmarked, Br
 
 use crate::monitor::Monitor;
 use crate::printed::{Piece, Printed};
-use mon_audit::print_command;
 use mon_catalogue::Catalogue;
 use mon_command::{Command, Said, put_listing};
 use mon_device::Sink;
 use mon_text::{Name, Stop};
+use mon_unit::print_command;
 use scheduler::{JobDeck, print_loaded, print_refused, put_refusal};
 use std::alloc::{AllocError, Global};
 use std::rc::Rc;

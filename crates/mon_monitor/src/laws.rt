@@ -101,6 +101,6 @@ pub fn reads_see_writes()
 pub fn accesses_are_named()
     ensures { AccessesAreNamed }
 {
-    mon_audit::laws::grants_are_named();
-    mon_audit::laws::changes_are_named();
+    mon_unit::audit_laws::grants_are_named();
+    mon_unit::audit_laws::changes_are_named();
 }

@@ -6,3 +6,8 @@ pub mod Fitting
 pub mod Runs
 pub mod Loans
 pub mod Looks
+pub mod Apart
+pub mod Named
+pub mod Ordered
+mod Unheard
+pub mod Keeping

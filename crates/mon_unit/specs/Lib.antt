@@ -5,4 +5,10 @@ pub mod Lent
 pub mod Memory
 pub mod Runs
 pub mod Laws
+pub mod AuditWords
+pub mod AuditRequests
+pub mod AuditCommands
+pub mod AuditRuns
+pub mod AuditedAnswers
+pub mod AuditLaws
 pub mod inner

@@ -1,1 +1,3 @@
 pub mod Settling
+pub mod KeptWords
+pub mod Keeping

@@ -19,9 +19,9 @@ ghost use Rattle.rounds.specs.Serving.{IsServed, Stands, IsBad, IsBadAtEnd, Fini
 
 use deck_driver::{DeckFeed, Options, RunError};
 use deck_syntax::DeckError;
-use mon_audit::print_stopped;
 use mon_device::{Failed, Sink, TextSink};
 use mon_monitor::Printed;
+use mon_unit::print_stopped;
 use preflight::Submission;
 use std::alloc::{AllocError, Global};
 

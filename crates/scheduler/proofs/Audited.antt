@@ -13,9 +13,9 @@ use Rattle.mon_unit.specs.Serving.{Reach, serve}
 use Rattle.mon_unit.specs.Lent.{UnitAnswers, reach_of}
 use Rattle.mon_unit.specs.State.{UnitState}
 use Rattle.mon_catalogue.specs.Sets.{Sets}
-use Rattle.mon_audit.specs.Answering.{exchange_line, Audited}
-use Rattle.mon_audit.specs.declared.kept.KeptLines.{KeptLines}
-use Rattle.mon_audit.specs.inner.Keeping.{KeptFits}
+use Rattle.mon_unit.specs.AuditedAnswers.{exchange_line, Audited}
+use Rattle.mon_unit.specs.declared.kept.KeptLines.{KeptLines}
+use Rattle.mon_unit.specs.inner.Keeping.{KeptFits}
 use Rattle.scheduler.specs.Exchanged.{asked_by}
 use Rattle.scheduler.specs.AuditLines.{exchanged_lines}
 use Rattle.sno_run.specs.declared.ending.Step.{Step}

@@ -1,9 +1,9 @@
--- THE LINES OF AN AUDIT that speak of jobs (own): each names the job and its account. What a line says of a request, mon_audit says.
+-- THE LINES OF AN AUDIT that speak of jobs (own): each names the job and its account. What a line says of a request, mon_unit says.
 use Rattle.std.specs.Prelude.{ℕ, Bool, List, [], ◌∷◌, ◌++◌, length, codes, drop, Option, if◌then◌else◌}
 use Rattle.std.specs.List.{flat_map}
 use Rattle.mon_command.specs.Printouts.{number}
-use Rattle.mon_audit.specs.Words.{job_line}
-use Rattle.mon_audit.specs.Requests.{request_line, asked_of}
+use Rattle.mon_unit.specs.AuditWords.{job_line}
+use Rattle.mon_unit.specs.AuditRequests.{request_line, asked_of}
 use Rattle.scheduler.specs.declared.job_end.JobEnd.{JobEnd}
 use Rattle.scheduler.specs.declared.refusal.LoadError.{LoadError}
 use Rattle.scheduler.specs.declared.refusal.LoadError.TheVariants.{NoSlot, NoAccount, Cards, Syntax}

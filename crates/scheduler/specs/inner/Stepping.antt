@@ -13,8 +13,8 @@ use Rattle.mon_unit.specs.declared.service.UnitService.{UnitService}
 use Rattle.mon_unit.specs.Runs.{run, run_cut, passed}
 use Rattle.mon_unit.specs.Serving.{serve}
 use Rattle.mon_unit.specs.Lent.{SameLoans, reach_of}
-use Rattle.mon_audit.specs.declared.kept.KeptLines.{KeptLines}
-use Rattle.mon_audit.specs.inner.Keeping.{KeptFits}
+use Rattle.mon_unit.specs.declared.kept.KeptLines.{KeptLines}
+use Rattle.mon_unit.specs.inner.Keeping.{KeptFits}
 use Rattle.scheduler.specs.declared.turned.Turned.TheVariants.{Empty, Goes, Ended}
 use Rattle.scheduler.specs.States.{SlotState, SchedulerState, scheduler, job_in, with_seat}
 use Rattle.scheduler.specs.Turns.{reached, ran, job_end}

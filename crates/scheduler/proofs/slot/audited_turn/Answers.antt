@@ -4,7 +4,7 @@ use Rattle.mon_device.specs.Putting.{Standing}
 use Rattle.sno_run.specs.Abstraction.{job_of}
 use Rattle.mon_unit.specs.declared.service.UnitService.{UnitService}
 use Rattle.mon_unit.proofs.Loans.{same_loans}
-use Rattle.mon_audit.specs.declared.service.AuditedService.{AuditedService}
+use Rattle.mon_unit.specs.declared.audited_service.AuditedService.{AuditedService}
 use Rattle.scheduler.proofs.Audited.{units_answer, lines_put, lines_cut, stays, done_as, still_kept}
 use Rattle.scheduler.proofs.Calls.{turn_done}
 use Rattle.scheduler.proofs.slot.audited_turn.Goals as goal

@@ -1,6 +1,6 @@
 use Rattle.std.proofs.Common.{◌≡◌, Some}
 use Rattle.mon_guard.specs.Cache.{CacheFits}
-use Rattle.mon_audit.specs.inner.Keeping.{KeptFits}
+use Rattle.mon_unit.specs.inner.Keeping.{KeptFits}
 use Rattle.scheduler.specs.Abstraction.{slot_of}
 use Rattle.scheduler.specs.Turns.{reached}
 use Rattle.scheduler.specs.inner.Alone.{GoesOn}

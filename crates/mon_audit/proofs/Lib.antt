@@ -1,5 +1,0 @@
-pub mod Apart
-pub mod Named
-pub mod Ordered
-mod Unheard
-pub mod Keeping

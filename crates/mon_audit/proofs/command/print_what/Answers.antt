@@ -1,5 +1,0 @@
-use Rattle.mon_device.proofs.Putting.{puts_three}
-use Rattle.mon_audit.proofs.command.print_what.Goals as goal
-
-pub returns : goal.returns
-returns g c = puts_three _ _ _ _ _ _ _ c.print_card.ensures c.print_said.ensures c.print_if_done.ensures

@@ -1,5 +1,0 @@
-use Rattle.mon_audit.proofs.Named.{grants_are_named}
-use Rattle.mon_audit.proofs.laws.grants_are_named.Goals as goal
-
-pub returns : goal.returns
-returns c = grants_are_named c.named_where_granted.ensures c.names_an_entry.ensures

@@ -1,2 +1,0 @@
-pub mod KeptWords
-pub mod Keeping

@@ -1,0 +1,96 @@
+-- The entry that grants is in the list.
+use Rattle.std.proofs.Common.{◌≡◌, ℕ, List, Option, None, Some, refl, sym, ap, ◌∙◌, subst, true≢false, inl, inr}
+use Rattle.std.specs.Prelude.{◌↔◌, IsSome, slice_get, option_map}
+use Rattle.std.specs.Option.{option_and_then}
+use Rattle.mon_acl.specs.declared.entries.Perms.{Perms}
+use Rattle.mon_acl.specs.declared.entries.Entry.{Entry}
+use Rattle.mon_access.specs.declared.account.Account.{Account}
+use Rattle.mon_catalogue.specs.declared.data_set.DataSet.{DataSet}
+use Rattle.interaction.specs.declared.answer.Reason.{Reason}
+use Rattle.interaction.specs.declared.answer.Reason.TheVariants.{By}
+use Rattle.mon_catalogue.specs.Sets.{find_set}
+use Rattle.mon_acl.specs.Permissions.{to_read, to_write}
+use Rattle.interaction.specs.declared.request.Act.{Act}
+use Rattle.interaction.specs.declared.request.Act.TheVariants as act
+use Rattle.interaction.specs.declared.request.Request.{Request}
+use Rattle.mon_guard.specs.Laws.{IsGranted, IsThere}
+use Rattle.mon_unit.specs.declared.tie.Target.{Target}
+use Rattle.mon_unit.specs.declared.tie.Target.TheVariants.{Set}
+use Rattle.mon_unit.specs.Serving.{Reach, note_act, set_at}
+use Rattle.mon_unit.specs.Laws.{target_of, position_of, IsRead, AsksChange, GotWhereGranted, ChangedWhereGranted}
+use Rattle.mon_catalogue.specs.Writing.{Change}
+use Rattle.mon_access.specs.Granting.{granting}
+use Rattle.mon_access.specs.GrantingLaws.{NamedWhereGranted, NamesAnEntry}
+use Rattle.mon_unit.specs.AuditRequests.{permission, grant, asked_of}
+use Rattle.mon_unit.specs.AuditLaws.{GrantsAreNamed, ReadsAreNamed, ChangesAreNamed}
+
+-- what is made of an entry that is there
+abbrev made : List Entry → Option ℕ → Option Reason
+made entries index = option_map (λ e. By e.tag e.name) (option_and_then (slice_get entries) index)
+
+made_there : (entries : List Entry) (index : Option ℕ) → ((i : ℕ) → index ≡ Some i → IsSome (slice_get entries i)) → IsSome index ↔ IsSome (made entries index)
+made_there entries None there = ((λ h. absurd (true≢false (sym h))), (λ h. absurd (true≢false (sym h))))
+made_there entries (Some i) there = ((λ h. by (slice_get entries i) (there i refl)), (λ h. refl))
+  where
+    by : (o : Option Entry) → IsSome o → IsSome (option_map (λ e. By e.tag e.name) o)
+    by None h = h
+    by (Some e) h = refl
+
+pub grants_are_named : NamedWhereGranted → NamesAnEntry → GrantsAreNamed
+grants_are_named where_granted an_entry account act set request is =
+    let named = where_granted account set.owner set.group set.acl request in
+    let there = made_there set.acl (granting account set.owner set.group set.acl request) (an_entry account set.owner set.group set.acl request) in
+    let whole : made set.acl (granting account set.owner set.group set.acl request) ≡ grant account act set =
+    ap (λ (p : Option Perms). option_map (λ e. By e.tag e.name) (option_and_then (λ r. option_and_then (slice_get set.acl) (granting account set.owner set.group set.acl r)) p)) (sym is) in (
+      (λ h. subst IsSome whole (there.0 (named.0 h))),
+      (λ h. named.1 (there.1 (subst IsSome (sym whole) h))),
+    )
+
+-- a grant on the data set that a request looks at is that of the line
+module _ (law : GrantsAreNamed) (n : ℕ) (account : Account) (reach : Reach) (statement : ℕ) (a : Act) (name : List ℕ) (set : DataSet) where
+  abbrev asks : Request
+  asks = record { statement = statement; act = a }
+
+  named_there : (set_at a (Set name) ≡ Some name) → (request : Perms) → permission (note_act a) ≡ Some request → target_of reach.units asks ≡ Set name
+      → IsThere name reach.sets set → IsGranted account set request → IsSome (asked_of n account reach asks).grant
+  named_there looks request is tied there granted =
+      let whole : option_and_then (grant account (note_act a)) (option_and_then (λ k. find_set k reach.sets) (set_at a (target_of reach.units asks))) ≡ grant account (note_act a) set =
+      ap (λ (t : Target). option_and_then (grant account (note_act a)) (option_and_then (λ k. find_set k reach.sets) (set_at a t))) tied
+      ∙ ap (λ (o : Option (List ℕ)). option_and_then (grant account (note_act a)) (option_and_then (λ k. find_set k reach.sets) o)) looks
+      ∙ ap (option_and_then (grant account (note_act a))) there in
+      subst IsSome (sym whole) ((law account (note_act a) set request is).0 granted)
+
+  pub read_named : IsRead a → target_of reach.units asks ≡ Set name → IsThere name reach.sets set → IsGranted account set to_read → IsSome (asked_of n account reach asks).grant
+  read_named = by a refl
+    where
+      by : (k : Act) → k ≡ a → IsRead a → target_of reach.units asks ≡ Set name → IsThere name reach.sets set → IsGranted account set to_read → IsSome (asked_of n account reach asks).grant
+      by (act.Read u) e is tied there granted =
+          named_there (ap (λ (k : Act). set_at k (Set name)) (sym e)) to_read (ap (λ (k : Act). permission (note_act k)) (sym e)) tied there granted
+      by (act.Write u line) e is tied there granted = absurd (subst IsRead (sym e) is)
+      by (act.Endfile u) e is tied there granted = absurd (subst IsRead (sym e) is)
+      by (act.Rewind u) e is tied there granted = absurd (subst IsRead (sym e) is)
+
+  change_named : (change : Change) → AsksChange a (position_of reach.units asks) set change → target_of reach.units asks ≡ Set name → IsThere name reach.sets set
+      → IsGranted account set to_write → IsSome (asked_of n account reach asks).grant
+  change_named change = by a refl
+    where
+      by : (k : Act) → k ≡ a → AsksChange a (position_of reach.units asks) set change → target_of reach.units asks ≡ Set name → IsThere name reach.sets set
+          → IsGranted account set to_write → IsSome (asked_of n account reach asks).grant
+      by (act.Read u) e is tied there granted = absurd (subst (λ (k : Act). AsksChange k (position_of reach.units asks) set change) (sym e) is)
+      by (act.Write u line) e is tied there granted =
+          named_there (ap (λ (k : Act). set_at k (Set name)) (sym e)) to_write (ap (λ (k : Act). permission (note_act k)) (sym e)) tied there granted
+      by (act.Endfile u) e is tied there granted =
+          named_there (ap (λ (k : Act). set_at k (Set name)) (sym e)) to_write (ap (λ (k : Act). permission (note_act k)) (sym e)) tied there granted
+      by (act.Rewind u) e is tied there granted = absurd (subst (λ (k : Act). AsksChange k (position_of reach.units asks) set change) (sym e) is)
+
+pub reads_are_named : GrantsAreNamed → GotWhereGranted → ReadsAreNamed
+reads_are_named law got n account reach q line is = elim ((got account reach q line).0 is) [
+  | inl deck ↦ inl deck.1
+  | inr read ↦ inr (read_named law n account reach q.statement q.act read.0 read.1 read.2 read.3 read.4 read.5)
+]
+
+pub changes_are_named : GrantsAreNamed → ChangedWhereGranted → ChangesAreNamed
+changes_are_named law changed n account reach q = elim (changed account reach q).else_none [
+  | inl same ↦ inl same
+  | inr c ↦ inr (change_named law n account reach q.statement q.act c.0 c.2.0 c.1 c.2.4 c.2.1 c.2.2 c.2.3)
+]

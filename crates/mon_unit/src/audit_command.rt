@@ -1,0 +1,150 @@
+//! The line of a command. Nothing here takes memory.
+ghost use Rattle.std.specs.Prelude.{◌≡◌, ◌++◌, [], codes};
+ghost use Rattle.std.specs.Option.{option_map_or};
+ghost use Rattle.mon_acl.specs.Printing.{short_form};
+ghost use Rattle.mon_catalogue.specs.Modes.{mode_word};
+ghost use Rattle.mon_catalogue.specs.Sets.{find_set};
+ghost use Rattle.mon_device.specs.Putting.{Puts};
+ghost use Rattle.mon_command.specs.Printouts.{word, number};
+ghost use Rattle.mon_command.specs.Replies.{reply_text};
+ghost use Rattle.mon_unit.specs.AuditCommands.{card_words, said_words, done_words, if_reply_done, if_done, said_line, listed};
+
+use mon_acl::Acl;
+use mon_catalogue::{Catalogue, Mode};
+use mon_command::{Command, Reply, Said, print_number, print_word};
+use mon_device::Sink;
+use mon_text::Name;
+
+/// Puts the line of a command that this was said to, over the data sets as it has left them.
+pub fn print_command<S: Sink>(command: &Command, said: &Said, sets: &Catalogue, sink: &mut S)
+    ensures { Puts (S.standing sink.old) (S.standing sink.new) (said_line command.now said.now (listed command.now sets.now)) }
+{
+    if sink.listens() {
+        print_line(command, said, sets, sink);
+    }
+}
+
+// It stays a call, since mostly nobody listens.
+#[inline(never)]
+fn print_line<S: Sink>(command: &Command, said: &Said, sets: &Catalogue, sink: &mut S)
+    ensures { Puts (S.standing sink.old) (S.standing sink.new) (said_line command.now said.now (listed command.now sets.now)) }
+{
+    sink.put(b"COMMAND 0");
+    print_word(command.account().as_bytes(), sink);
+    print_what(command, said, sets, sink);
+    sink.put(b"\n");
+}
+
+// Puts what is asked, and what came of it.
+fn print_what<S: Sink>(command: &Command, said: &Said, sets: &Catalogue, sink: &mut S)
+    ensures { Puts (S.standing sink.old) (S.standing sink.new) (card_words command.now ++ said_words said.now ++ if_done said.now (done_words command.now (listed command.now sets.now))) }
+{
+    print_card(command, sink);
+    print_said(said, sink);
+    print_if_done(command, said, sets, sink);
+}
+
+fn print_card<S: Sink>(command: &Command, sink: &mut S)
+    ensures { Puts (S.standing sink.old) (S.standing sink.new) (card_words command.now) }
+{
+    match command {
+        Command::Create { name, .. } => print_card_of(b" CREATE", name, sink),
+        Command::Delete { name, .. } => print_card_of(b" DELETE", name, sink),
+        Command::SetAcl { name, .. } => print_card_of(b" SETACL", name, sink),
+        Command::ShowAcl { name, .. } => print_card_of(b" SHOWACL", name, sink),
+        Command::List { name, .. } => print_card_of(b" LIST", name, sink),
+        Command::Catalog { .. } => sink.put(b" CATALOG"),
+    }
+}
+
+fn print_card_of<S: Sink>(card: &[u8], name: &Name, sink: &mut S)
+    ensures { Puts (S.standing sink.old) (S.standing sink.new) (card.now ++ word name.now) }
+{
+    sink.put(card);
+    print_word(name.as_bytes(), sink);
+}
+
+fn print_said<S: Sink>(said: &Said, sink: &mut S)
+    ensures { Puts (S.standing sink.old) (S.standing sink.new) (said_words said.now) }
+{
+    match said {
+        Said::Told(reply) => print_reply(reply, sink),
+        Said::Records(count) => print_count(b" RECORDS", *count, sink),
+        Said::Entries(count) => print_count(b" ENTRIES", *count, sink),
+        Said::Names(count) => print_count(b" NAMES", *count, sink),
+    }
+}
+
+fn print_reply<S: Sink>(reply: &Reply, sink: &mut S)
+    ensures { Puts (S.standing sink.old) (S.standing sink.new) (word (reply_text reply.now)) }
+{
+    sink.put(b" ");
+    reply.print(sink);
+}
+
+fn print_count<S: Sink>(what: &[u8], count: u64, sink: &mut S)
+    ensures { Puts (S.standing sink.old) (S.standing sink.new) (what.now ++ number count) }
+{
+    sink.put(what);
+    print_number(count, sink);
+}
+
+fn print_if_done<S: Sink>(command: &Command, said: &Said, sets: &Catalogue, sink: &mut S)
+    ensures { Puts (S.standing sink.old) (S.standing sink.new) (if_done said.now (done_words command.now (listed command.now sets.now))) }
+{
+    match said {
+        Said::Told(reply) => print_if_reply_done(command, reply, sets, sink),
+        Said::Records(_) => {}
+        Said::Entries(_) => {}
+        Said::Names(_) => {}
+    }
+}
+
+fn print_if_reply_done<S: Sink>(command: &Command, reply: &Reply, sets: &Catalogue, sink: &mut S)
+    ensures { Puts (S.standing sink.old) (S.standing sink.new) (if_reply_done reply.now (done_words command.now (listed command.now sets.now))) }
+{
+    match reply {
+        Reply::Done => print_done(command, sets, sink),
+        Reply::NoAccount => {}
+        Reply::Denied(_) => {}
+        Reply::NameTaken => {}
+        Reply::CatalogueFull => {}
+        Reply::BadList(_) => {}
+    }
+}
+
+// Puts what a new data set is, or what the list of one is now.
+fn print_done<S: Sink>(command: &Command, sets: &Catalogue, sink: &mut S)
+    ensures { Puts (S.standing sink.old) (S.standing sink.new) (done_words command.now (listed command.now sets.now)) }
+{
+    match command {
+        Command::Create { mode, .. } => print_mode(*mode, sink),
+        Command::SetAcl { name, .. } => print_list_of(name, sets, sink),
+        Command::Delete { .. } => {}
+        Command::ShowAcl { .. } => {}
+        Command::List { .. } => {}
+        Command::Catalog { .. } => {}
+    }
+}
+
+fn print_mode<S: Sink>(mode: Mode, sink: &mut S)
+    ensures { Puts (S.standing sink.old) (S.standing sink.new) (word (mode_word mode)) }
+{
+    print_word(mode.word(), sink);
+}
+
+fn print_list_of<S: Sink>(name: &Name, sets: &Catalogue, sink: &mut S)
+    ensures { Puts (S.standing sink.old) (S.standing sink.new) (option_map_or (λ set. word (short_form set.acl)) (find_set name.now sets.now) []) }
+{
+    match sets.find(name) {
+        Some(set) => print_list(&set.acl, sink),
+        None => {}
+    }
+}
+
+fn print_list<S: Sink>(list: &Acl, sink: &mut S)
+    ensures { Puts (S.standing sink.old) (S.standing sink.new) (word (short_form list.now)) }
+{
+    sink.put(b" ");
+    list.print_short(sink);
+}
