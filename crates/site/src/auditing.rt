@@ -5,7 +5,9 @@ ghost use Rattle.std.specs.Prelude.{◌≡◌, ◌≤◌, true, false, None, len
 use crate::fault::{Fault, Wrong};
 use crate::place::{Place, System};
 use crate::serving::run_parted;
-use mon_device::{DeckDevices, DeckWriter, DeviceSink, Devices, Failed, MemReader, Room, StdWriter};
+use mon_device::{
+    DeckDevices, DeckWriter, DeviceSink, Devices, Failed, MemReader, Room, StdWriter,
+};
 use rounds::{Parted, Round, RoundError};
 use site_folder::round_name;
 use std::alloc::{AllocError, Global};
