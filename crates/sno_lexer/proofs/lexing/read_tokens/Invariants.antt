@@ -1,5 +1,5 @@
--- What has been found, and what is found from here on, is what the text has; and no limit has been passed.
-use Rattle.std.proofs.Common.{◌≡◌, drop, length}
+-- What has been found, and what is found from here on, is what the text has; no limit has been passed, and no token is half read.
+use Rattle.std.proofs.Common.{◌≡◌, ◌-◌, drop, length}
 use Rattle.sno_lexer.specs.inner.Lexing.{stage}
 use Rattle.sno_lexer.specs.Lexed.{lexed}
 use Rattle.sno_lexer.proofs.Loop.{IsWithin, joined}
@@ -10,4 +10,8 @@ invariant-loop-offset l = record {
   all : joined l.tokens.items l.offsets.items (stage l.context l.offset (drop l.offset l.text)) ≡ lexed l.text l.from;
   as_many : length l.tokens.items ≡ length l.offsets.items;
   within : IsWithin l.context;
+  none : l.context.skip ≡ 0;
 }
+
+abbrev pub decreases-loop-offset : goal.decreases-loop-offset
+decreases-loop-offset l = length l.text - l.offset
