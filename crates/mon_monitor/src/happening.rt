@@ -140,7 +140,7 @@ impl Monitor {
                 put_listing(account, name, records, &mut out.text)?;
                 Ok(Some(records.len()))
             }
-            _ => Ok(None),
+            Some(_) | None => Ok(None),
         }
     }
 
