@@ -29,6 +29,7 @@ The cases, at their whole size:
   table_int       100,000 items by integers that are spread, set and read again
   table_text      100,000 items by texts of five to ten characters, formed, set, formed again and read
   small_jobs      20,000 jobs of three statements and a line of spool; a job ends before the fifth behind it is loaded
+  turns           four jobs of 250,000 statements each in four slots, so that each turn is of another job than the one before
   copy_and_spool  100,000 records read by a variable, written from there to another data set, and printed
   arguments       500,000 calls of a function of three arguments and a local, one a statement, two statements a call
   operands        1,500,000 statements whose objects have two or three operands, all of them integers
@@ -304,6 +305,13 @@ def small_jobs(size):
     yield "$STOP"
 
 
+def turns(size):
+    yield from opening()
+    for _ in range(4):
+        yield from ("$JOB lisa ST=1000000", f"L N = LT(N,{int(250_000 * size)}) N + 1 :S(L)", "  OUTPUT = N", "END", "$EOJ")
+    yield "$STOP"
+
+
 def copy_and_spool(size):
     sets = [*records(int(100_000 * size)), "$SET OUT anna admin 0", PAYROLL_LIST]
     program = ["  INPUT('R',8); OUTPUT('W',9)", "L X = R :F(END)", "  W = X", "  OUTPUT = X :(L)", "END"]
@@ -409,6 +417,7 @@ CASES = {
         table_int,
         table_text,
         small_jobs,
+        turns,
         copy_and_spool,
         arguments,
         operands,
