@@ -14,3 +14,5 @@ pub mod Served
 pub mod Standing
 mod Mapping
 mod Joined
+mod Handed
+mod Pieces

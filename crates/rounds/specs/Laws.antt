@@ -1,6 +1,6 @@
 -- What holds of rounds: each is the contract of a function in `laws`.
-use Rattle.std.specs.Prelude.{◌≡◌, ◌≢◌, ℕ, false, List, [], ◌∷◌, ◌++◌}
-use Rattle.std.specs.List.{AllByRecursion, concat}
+use Rattle.std.specs.Prelude.{◌≡◌, ◌≢◌, ℕ, ◌≤◌, false, List, [], ◌∷◌, ◌++◌, length, map, codes}
+use Rattle.std.specs.List.{AllByRecursion, concat, zip}
 use Rattle.mon_access.specs.declared.account.Account.{Account}
 use Rattle.mon_access.specs.Accounts.{HaveDifferentNames}
 use Rattle.mon_catalogue.specs.Sets.{Sets}
@@ -19,7 +19,11 @@ use Rattle.deck_driver.specs.Printouts.{closing, output_of_run_state, output_of,
 use Rattle.deck_run.specs.Runs.{deck_ending, catalogue_after}
 use Rattle.preflight.specs.declared.submission.Submission.{Submission}
 use Rattle.preflight.specs.Rounds.{Handed, AreHanded, round_lines}
+use Rattle.site_folder.specs.Files.{put_of}
+use Rattle.site_folder.specs.Parts.{puts_of}
+use Rattle.site_plan.specs.declared.plan.Entry.{Entry}
 use Rattle.rounds.specs.Delivery.{text_events, text_played, delivered}
+use Rattle.rounds.specs.Handing.{answer_name, output_acts}
 use Rattle.rounds.specs.Compositions.{head_text, round_text, AreAdmitted, IsGoodRound, ends_of, cut_at}
 
 -- the text that follows finds all slots empty
@@ -52,6 +56,17 @@ pub record HasItsParts (options : Options) (m : Marks) (head : List ℕ) (submis
 abbrev pub EachItsPart : Type 0
 EachItsPart = (options : Options) (m : Marks) (head : List ℕ) (submissions : List Submission) (table : List (List ℕ)) (accounts : List Account) (sets : Sets) (texts : List Handed)
     → options.check ≡ false → IsGoodRound head submissions table accounts sets texts → HasItsParts options m head submissions accounts sets texts
+
+-- from this place on, no printout ends before the one before it
+abbrev pub AreAscending : ℕ → List ℕ → Type 0
+AreAscending begin [] = Unit {0}
+AreAscending begin (end ∷ ends) = (begin ≤ end) × AreAscending end ends
+
+-- the output is cut where the printouts of the texts that ran end: each is given its own piece, and the catalogue is the last
+abbrev pub EachItsOwn : Type 0
+EachItsOwn = (texts others : List Entry) (ends output : List ℕ) → length ends ≡ length texts → AreAscending 0 ends
+    → puts_of (output_acts 0 (texts ++ others) ends (length output)) output
+    ≡ map (λ piece. put_of piece.0 piece.1) (zip (map (λ text. answer_name text.taken) texts ++ codes "catalogue" ∷ []) (cut_at 0 ends output))
 
 -- the texts of one round of many, and where memory breaks turns off in it
 pub record OneRound : Type 0 where

@@ -5,3 +5,4 @@ pub mod Laws
 pub mod Serving
 pub mod Planning
 pub mod Handing
+pub mod Late

@@ -1,5 +1,8 @@
 //! A text in whose part memory ran out is taken out of its round: it is put off, or refused where it was run alone.
-ghost use Rattle.std.specs.Prelude.{◌≤◌, length, IfOk};
+ghost use Rattle.std.specs.Prelude.{◌≡◌, ◌≤◌, ◌<◌, ◌+◌, ◌-◌, ◌^◌, ◌++◌, true, false, [], length, IfOk, OnOk};
+ghost use Rattle.std.specs.List.{sum_by, between, insert, insert_slice, remove_range};
+ghost use Rattle.preflight.specs.Allowances.{told64};
+ghost use Rattle.rounds.specs.Late.{deck_bytes, bytes_before, deck_without, text_at, reply_bytes, does_run, is_behind, place_among, as_late, kept_of, IsPutAmong};
 
 use crate::damaged::Damaged;
 use crate::planning::Planned;
@@ -16,11 +19,10 @@ const FENCE_LENGTH: usize = 7;
 /// # Errors
 ///
 /// `Damaged` where there is no such text; `Memory` where a growth was refused.
-pub fn without_text(
-    alloc: Global,
-    planned: Planned,
-    text: usize,
-) -> Result<Planned, Stop<Damaged>> {
+pub fn without_text(alloc: Global, planned: Planned, text: usize) -> Result<Planned, Stop<Damaged>>
+    ensures deck { IfOk result (λ rest. rest.deck.items ≡ deck_without planned.plan text planned.deck.items) }
+    ensures put_among { IfOk result (λ rest. IsPutAmong planned.plan text planned.replies.items (text_at planned.plan text planned.deck.items) rest.plan rest.replies.items) }
+{
     let Planned {
         plan,
         deck,
@@ -38,29 +40,45 @@ pub fn without_text(
 
 // Where the text of this place begins in the deck, and where its fence ends.
 fn place_in_deck(plan: &Plan, text: usize, length: usize) -> Result<(usize, usize), Stop<Damaged>>
+    requires { length < 2 ^ 64 - 1 }
+    ensures begin { IfOk result (λ ends. ends.0 ≡ bytes_before plan.now text) }
+    ensures end { IfOk result (λ ends. ends.1 ≡ bytes_before plan.now (text + 1)) }
     ensures begins { IfOk result (λ ends. ends.0 ≤ ends.1) }
     ensures ends { IfOk result (λ ends. ends.1 ≤ length) }
 {
-    let mut begin = plan.head as usize;
-    for (place, entry) in plan.entries.iter().enumerate() {
-        let end = begin.saturating_add(fenced_length(entry));
-        if place == text {
-            return within(begin, end, length);
-        }
-        begin = end;
+    let entries = plan.entries.as_slice();
+    if text >= entries.len() {
+        return Err(Stop::Refused(Damaged));
     }
-    Err(Stop::Refused(Damaged))
+    let begin = bytes_with(plan.head, &entries[..text]);
+    let end = bytes_with(plan.head, &entries[..text + 1]);
+    within(begin, end, length)
 }
 
-// How many bytes an entry has in the deck.
-fn fenced_length(entry: &Entry) -> usize {
-    match entry.verdict {
+// So many bytes and those that texts have in the deck.
+fn bytes_with(head: u64, entries: &[Entry]) -> usize
+    ensures { result ≡ told64 (head + sum_by (λ entry. deck_bytes entry.verdict) entries.now) }
+{
+    let mut bytes = head as usize;
+    for entry in entries {
+        bytes = bytes.saturating_add(deck_bytes(entry.verdict));
+    }
+    bytes
+}
+
+// How many bytes a text has in the deck.
+fn deck_bytes(verdict: Verdict) -> usize
+    ensures { result ≡ told64 (deck_bytes verdict) }
+{
+    match verdict {
         Verdict::Runs { bytes } => (bytes as usize).saturating_add(FENCE_LENGTH),
         Verdict::Refused { .. } | Verdict::PutOff { .. } => 0,
     }
 }
 
 fn within(begin: usize, end: usize, length: usize) -> Result<(usize, usize), Stop<Damaged>>
+    ensures begin { IfOk result (λ ends. ends.0 ≡ begin) }
+    ensures end { IfOk result (λ ends. ends.1 ≡ end) }
     ensures begins { IfOk result (λ ends. ends.0 ≤ ends.1) }
     ensures ends { IfOk result (λ ends. ends.1 ≤ length) }
 {
@@ -75,6 +93,7 @@ fn within(begin: usize, end: usize, length: usize) -> Result<(usize, usize), Sto
 fn late_text(alloc: Global, deck: &[u8], begin: usize, end: usize) -> Result<Vec<u8>, AllocError>
     requires begins { begin ≤ end }
     requires ends { end ≤ length deck.now }
+    ensures { IfOk result (λ text. text.items ≡ between begin (end - 7) deck.now) }
 {
     let fenced = &deck[begin..end];
     let length = fenced.len().saturating_sub(FENCE_LENGTH);
@@ -88,51 +107,90 @@ fn with_late(
     text: usize,
     replies: Vec<u8>,
     late: &[u8],
-) -> Result<(Plan, Vec<u8>), Stop<Damaged>> {
+) -> Result<(Plan, Vec<u8>), Stop<Damaged>>
+    ensures { IfOk result (λ after. IsPutAmong plan text replies.items late.now after.0 after.1.items) }
+{
     let mut plan = plan;
     if text >= plan.entries.len() {
         return Err(Stop::Refused(Damaged));
     }
     let entry = plan.entries.remove(text);
-    let (place, offset) = place_among_replies(plan.entries.as_slice(), entry.taken.id);
-    let (entry, told) = told_late(alloc, entry, late)?;
-    let replies = inserted(alloc, replies, offset, &told)?;
+    let place = place_among(plan.entries.as_slice(), entry.taken.id);
+    let (entry, kept) = told_late(alloc, entry, late)?;
+    let replies = with_told(alloc, &plan.entries[..place], replies, &kept)?;
     put_entry(&mut plan, place, entry)?;
     Ok((plan, replies))
 }
 
-fn put_entry(plan: &mut Plan, place: usize, entry: Entry) -> Result<(), AllocError> {
-    let place = place.min(plan.entries.len());
+fn put_entry(plan: &mut Plan, place: usize, entry: Entry) -> Result<(), AllocError>
+    requires { place ≤ length plan.old.entries.items }
+    ensures entries { OnOk result (plan.new.entries.items ≡ insert plan.old.entries.items place entry) }
+    ensures head { plan.new.head ≡ plan.old.head }
+    ensures next { plan.new.next ≡ plan.old.next }
+{
     match plan.entries.insert(place, entry) {
         Ok(()) => Ok(()),
         Err(_) => Err(AllocError),
     }
 }
 
-// Where the entry of this number belongs among those that do not run, and where its reply does.
-fn place_among_replies(entries: &[Entry], id: u64) -> (usize, usize) {
-    let mut offset: usize = 0;
-    for (place, entry) in entries.iter().enumerate() {
-        match replied(entry) {
-            Some(_) if entry.taken.id > id => return (place, offset),
-            Some(bytes) => offset = offset.saturating_add(bytes),
-            None => {}
+// Where the text of this number belongs among those that do not run.
+fn place_among(entries: &[Entry], id: u64) -> usize
+    ensures place { result ≡ place_among id entries.now }
+    ensures within { result ≤ length entries.now }
+{
+    let mut place: usize = 0;
+    for entry in entries {
+        if is_behind(entry, id) {
+            return place;
         }
+        place += 1;
     }
-    (entries.len(), offset)
+    place
 }
 
-// How many bytes an entry has in the replies, if it does not run.
-fn replied(entry: &Entry) -> Option<usize> {
-    match entry.verdict {
-        Verdict::Runs { .. } => None,
-        Verdict::Refused { reply } => Some(reply as usize),
-        Verdict::PutOff { reply, bytes } => Some((reply as usize).saturating_add(bytes as usize)),
+// Whether a text does not run, and has a larger number.
+fn is_behind(entry: &Entry, id: u64) -> bool
+    ensures { result ≡ is_behind id entry.now }
+{
+    !does_run(entry.verdict) && entry.taken.id > id
+}
+
+fn does_run(verdict: Verdict) -> bool
+    ensures { result ≡ does_run verdict }
+{
+    match verdict {
+        Verdict::Runs { .. } => true,
+        Verdict::Refused { .. } | Verdict::PutOff { .. } => false,
     }
 }
 
-// What the user of a late text is told; the text stands behind it where it is put off.
-fn told_late(alloc: Global, late: Entry, text: &[u8]) -> Result<(Entry, Vec<u8>), AllocError> {
+// How many bytes of the replies are these texts'.
+fn reply_bytes_of(entries: &[Entry]) -> usize
+    ensures { result ≡ told64 (sum_by (λ entry. reply_bytes entry.verdict) entries.now) }
+{
+    let mut bytes: usize = 0;
+    for entry in entries {
+        bytes = bytes.saturating_add(reply_bytes(entry.verdict));
+    }
+    bytes
+}
+
+fn reply_bytes(verdict: Verdict) -> usize
+    ensures { result ≡ told64 (reply_bytes verdict) }
+{
+    match verdict {
+        Verdict::Runs { .. } => 0,
+        Verdict::Refused { reply } => reply as usize,
+        Verdict::PutOff { reply, bytes } => (reply as usize).saturating_add(bytes as usize),
+    }
+}
+
+// A late text in the plan, and what its user is told; the text stands behind it where it is put off.
+fn told_late(alloc: Global, late: Entry, text: &[u8]) -> Result<(Entry, Vec<u8>), AllocError>
+    ensures entry { IfOk result (λ told. told.0 ≡ as_late late text.now) }
+    ensures kept { IfOk result (λ told. told.1.items ≡ kept_of late text.now) }
+{
     if late.taken.alone {
         refused_late(alloc, late)
     } else {
@@ -140,7 +198,11 @@ fn told_late(alloc: Global, late: Entry, text: &[u8]) -> Result<(Entry, Vec<u8>)
     }
 }
 
-fn refused_late(alloc: Global, late: Entry) -> Result<(Entry, Vec<u8>), AllocError> {
+fn refused_late(alloc: Global, late: Entry) -> Result<(Entry, Vec<u8>), AllocError>
+    requires { late.taken.alone ≡ true }
+    ensures entry { IfOk result (λ told. told.0 ≡ as_late late []) }
+    ensures kept { IfOk result (λ told. told.1.items ≡ kept_of late []) }
+{
     let told = reply(alloc, &late.file, &late.taken.account, Reason::Memory, b"")?;
     let mut entry = late;
     entry.verdict = Verdict::Refused {
@@ -149,7 +211,11 @@ fn refused_late(alloc: Global, late: Entry) -> Result<(Entry, Vec<u8>), AllocErr
     Ok((entry, told))
 }
 
-fn kept_late(alloc: Global, late: Entry, text: &[u8]) -> Result<(Entry, Vec<u8>), AllocError> {
+fn kept_late(alloc: Global, late: Entry, text: &[u8]) -> Result<(Entry, Vec<u8>), AllocError>
+    requires { late.taken.alone ≡ false }
+    ensures entry { IfOk result (λ told. told.0 ≡ as_late late text.now) }
+    ensures kept { IfOk result (λ told. told.1.items ≡ kept_of late text.now) }
+{
     let mut told = put_off_reply(alloc, &late.file)?;
     let reply = told.len() as u64;
     told.extend_from_slice(text)?;
@@ -161,20 +227,38 @@ fn kept_late(alloc: Global, late: Entry, text: &[u8]) -> Result<(Entry, Vec<u8>)
     Ok((entry, told))
 }
 
+// The replies with one more behind those of these texts.
+fn with_told(
+    alloc: Global,
+    before: &[Entry],
+    replies: Vec<u8>,
+    told: &[u8],
+) -> Result<Vec<u8>, Stop<Damaged>>
+    ensures { IfOk result (λ all. all.items ≡ insert_slice replies.items (sum_by (λ entry. reply_bytes entry.verdict) before.now) told.now) }
+{
+    let offset = reply_bytes_of(before);
+    inserted(alloc, replies, offset, told)
+}
+
 // The replies with one more at a place.
 fn inserted(
     alloc: Global,
     replies: Vec<u8>,
     offset: usize,
     told: &[u8],
-) -> Result<Vec<u8>, Stop<Damaged>> {
+) -> Result<Vec<u8>, Stop<Damaged>>
+    ensures all { IfOk result (λ all. all.items ≡ insert_slice replies.items offset told.now) }
+    ensures within { OnOk result (offset ≤ length replies.items) }
+{
     if offset > replies.len() {
         return Err(Stop::Refused(Damaged));
     }
     Ok(joined(alloc, &replies[..offset], told, &replies[offset..])?)
 }
 
-fn joined(alloc: Global, front: &[u8], told: &[u8], rest: &[u8]) -> Result<Vec<u8>, AllocError> {
+fn joined(alloc: Global, front: &[u8], told: &[u8], rest: &[u8]) -> Result<Vec<u8>, AllocError>
+    ensures { IfOk result (λ all. all.items ≡ (front.now ++ told.now) ++ rest.now) }
+{
     let mut all = Vec::from_slice(alloc, front)?;
     all.extend_from_slice(told)?;
     all.extend_from_slice(rest)?;
@@ -185,6 +269,7 @@ fn joined(alloc: Global, front: &[u8], told: &[u8], rest: &[u8]) -> Result<Vec<u
 fn deck_without(deck: Vec<u8>, begin: usize, end: usize) -> Vec<u8>
     requires begins { begin ≤ end }
     requires ends { end ≤ length deck.items }
+    ensures { result.items ≡ remove_range deck.items begin end }
 {
     let mut rest = deck;
     let length = rest.len();

@@ -1,6 +1,6 @@
 //! Laws over rounds: each function's contract is one.
 ghost use Rattle.rounds.specs.Order.{FairOrder};
-ghost use Rattle.rounds.specs.Laws.{EachAlone, Delivers, EachTells, EachItsPart, GoesOn};
+ghost use Rattle.rounds.specs.Laws.{EachAlone, Delivers, EachTells, EachItsPart, EachItsOwn, GoesOn};
 
 /// The order of a round is fair: each text has its place in it, each account's stand in their own order, and nowhere is an
 /// account ahead of another, that has texts left, by more than one.
@@ -48,6 +48,11 @@ pub fn each_its_part()
     mon_monitor::laws::accounts_stay();
     mon_monitor::laws::slots_stay();
 }
+
+/// What `parts_text` gives each text that ran is its own piece of the output, cut where the printouts end; and the last is the catalogue.
+pub fn each_its_own()
+    ensures { EachItsOwn }
+{}
 
 /// A round's deck is never refused, and what a round leaves is good for the next: for ever.
 pub fn goes_on()

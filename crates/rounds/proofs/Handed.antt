@@ -1,0 +1,71 @@
+-- The text of a round's parts, line by line.
+use Rattle.std.proofs.Common.{◌≡◌, ℕ, ◌+◌, ◌-◌, ◌<◌, ◌⊎◌, inl, inr, List, [], ◌∷◌, ◌++◌, length, map, drop, get_or, flat_map, refl, sym, ap, ◌∙◌, append_assoc, append-nil, arith}
+use Rattle.std.specs.Prelude.{codes, Result, Ok, Err, OnOk}
+use Rattle.std.proofs.lemmas.List.{drop_more}
+use Rattle.std.proofs.lemmas.List.Concat.{flat_map-append}
+use Rattle.site_folder.specs.Parts.{Act, Puts, act_line, parts_text}
+use Rattle.site_plan.specs.declared.taken.Taken.{Taken}
+use Rattle.site_plan.specs.declared.plan.Entry.{Entry}
+use Rattle.rounds.specs.Handing.{answer_name, reply_acts, output_acts, removal_of}
+use Rattle.rounds.proofs.Mapping.{flat_of_map}
+
+-- one printout more
+pub one_printed : (begin end size at : ℕ) (entries : List Entry) (entry : Entry) (rest behind parts now all : List ℕ) → parts ++ parts_text (output_acts begin (drop at entries) rest size) ≡ all
+    → at < length entries → entry ≡ get_or entries at entry → rest ≡ end ∷ behind → now ≡ parts ++ act_line (Puts (end - begin) (answer_name entry.taken))
+    → now ++ parts_text (output_acts end (drop (at + 1) entries) behind size) ≡ all
+one_printed begin end size at entries entry rest behind parts now all so_far within here ends put =
+    ap (λ (bytes : List ℕ). bytes ++ later) put
+    ∙ append_assoc parts (act_line (Puts (end - begin) (answer_name entry.taken))) later
+    ∙ sym
+    (ap (λ (es : List Entry). parts ++ parts_text (output_acts begin es rest size)) left
+    ∙ ap (λ (ns : List ℕ). parts ++ parts_text (output_acts begin (entry ∷ drop (at + 1) entries) ns size)) ends)
+    ∙ so_far
+  where
+    later : List ℕ
+    later = parts_text (output_acts end (drop (at + 1) entries) behind size)
+
+    left : drop at entries ≡ entry ∷ drop (at + 1) entries
+    left = drop_more entries at entry within ∙ ap (λ (e : Entry). e ∷ drop (at + 1) entries) (sym here)
+
+-- no text or no printout is left
+pub all_printed : (begin size : ℕ) (left : List Entry) (rest parts now all : List ℕ) → parts ++ parts_text (output_acts begin left rest size) ≡ all → (left ≡ []) ⊎ (length rest ≡ 0)
+    → now ≡ parts ++ act_line (Puts (size - begin) (codes "catalogue")) → now ≡ all
+all_printed begin size left rest parts now all so_far ended put =
+    put
+    ∙ ap (λ (bytes : List ℕ). parts ++ bytes) (sym (append-nil (act_line (Puts (size - begin) (codes "catalogue")))))
+    ∙ sym (ap (λ (acts : List Act). parts ++ parts_text acts) (last left rest ended))
+    ∙ so_far
+  where
+    last : (left : List Entry) (rest : List ℕ) → (left ≡ []) ⊎ (length rest ≡ 0) → output_acts begin left rest size ≡ Puts (size - begin) (codes "catalogue") ∷ []
+    last [] rest ended = refl
+    last (entry ∷ left) [] ended = refl
+    last (entry ∷ left) (end ∷ rest) (inl none) = cc
+    last (entry ∷ left) (end ∷ rest) (inr none) = absurd (omega (arith, none))
+
+-- what holds where a call succeeds
+pub on_ok : {A E P Q : Type 0} (r : Result A E) → (P → Q) → OnOk r P → OnOk r Q
+on_ok (Ok x) f so = f so
+on_ok (Err e) f so = tt
+
+flat_of_flat : {A B C : Type 0} (f : B → List C) (g : A → List B) (xs : List A) → flat_map f (flat_map g xs) ≡ flat_map (λ x. flat_map f (g x)) xs
+flat_of_flat f g [] = refl
+flat_of_flat f g (x ∷ xs) = flat_map-append f (g x) (flat_map g xs) ∙ ap (λ ys. flat_map f (g x) ++ ys) (flat_of_flat f g xs)
+
+-- the replies, the output, and the removals, one behind the other
+pub put_together : (entries : List Entry) (output : List Act) (files : List Taken) (none replies printed all : List ℕ) → none ≡ []
+    → replies ≡ none ++ flat_map (λ entry. parts_text (reply_acts entry)) entries → printed ≡ replies ++ parts_text output → all ≡ printed ++ flat_map (λ taken. act_line (removal_of taken)) files
+    → all ≡ parts_text (flat_map reply_acts entries ++ (output ++ map removal_of files))
+put_together entries output files none replies printed all none_is replies_are printed_is all_is =
+    all_is
+    ∙ ap (λ (bytes : List ℕ). bytes ++ removals) (printed_is ∙ ap (λ (bytes : List ℕ). bytes ++ parts_text output) (replies_are ∙ ap (λ (bytes : List ℕ). bytes ++ told) none_is))
+    ∙ append_assoc told (parts_text output) removals
+    ∙ sym
+    (flat_map-append act_line (flat_map reply_acts entries) (output ++ map removal_of files)
+    ∙ ap (λ (bytes : List ℕ). bytes ++ parts_text (output ++ map removal_of files)) (flat_of_flat act_line reply_acts entries)
+    ∙ ap (λ (bytes : List ℕ). told ++ bytes) (flat_map-append act_line output (map removal_of files) ∙ ap (λ (bytes : List ℕ). parts_text output ++ bytes) (flat_of_map act_line removal_of files)))
+  where
+    told : List ℕ
+    told = flat_map (λ entry. parts_text (reply_acts entry)) entries
+
+    removals : List ℕ
+    removals = flat_map (λ taken. act_line (removal_of taken)) files
