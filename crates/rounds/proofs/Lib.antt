@@ -7,7 +7,7 @@ pub mod Delivering
 pub mod Telling
 pub mod Heads
 pub mod Reaching
-pub mod Parts
+pub mod Cutting
 pub mod GoingOn
 pub mod Composed
 pub mod Served

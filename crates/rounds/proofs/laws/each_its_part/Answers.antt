@@ -1,4 +1,4 @@
-use Rattle.rounds.proofs.Parts.{each_its_part}
+use Rattle.rounds.proofs.Cutting.{each_its_part}
 use Rattle.rounds.proofs.laws.each_its_part.Goals as goal
 
 pub returns : goal.returns
