@@ -24,7 +24,7 @@ use Rattle.deck_driver.specs.RunStates.{over, events_of, events_in, nothing_coun
 use Rattle.deck_driver.proofs.Counted.{one_counted}
 use Rattle.deck_driver.proofs.Verdicts.{at_end, verdict}
 use Rattle.deck_driver.specs.Printouts.{closing}
-use Rattle.deck_driver.specs.Feeds.{outcome_of, behind, more, concluded, Conclusion, Good, Bad, Outcome, Begins}
+use Rattle.deck_driver.specs.Feeds.{outcome_of, behind, more, concluded, Conclusion, Good, Bad, Outcome}
 use Rattle.deck_driver.specs.Audits.{told_to}
 use Rattle.deck_driver.specs.inner.Lines.{Served, ServeBreaks, Stopping, StopBreaks}
 

@@ -7,11 +7,10 @@ use Rattle.deck_syntax.specs.inner.Stops.{IfRefused}
 use Rattle.deck_syntax.specs.declared.deck_error.DeckError.{DeckError}
 use Rattle.std.specs.declared.alloc.Global.{Global}
 use Rattle.std.specs.declared.rc.Rc.{Rc}
-use Rattle.mon_device.specs.Putting.{Standing, Puts}
+use Rattle.mon_device.specs.Putting.{Standing}
 use Rattle.mon_device.proofs.Putting.{puts_nothing}
 use Rattle.mon_monitor.specs.declared.monitor.Monitor.{Monitor}
 use Rattle.mon_monitor.specs.Abstraction.{system_of}
-use Rattle.scheduler.specs.Marks.{Marks}
 use Rattle.mon_catalogue.specs.Sets.{Sets}
 use Rattle.deck_syntax.specs.Decks.{Asked}
 use Rattle.deck_syntax.specs.declared.request.Request.{Request}

@@ -5,7 +5,7 @@ use Rattle.scheduler.specs.Marks.{Marks}
 use Rattle.mon_monitor.specs.SystemStates.{SystemState, first_system}
 use Rattle.mon_monitor.specs.Events.{Event, Serve, Load, Give, Drain}
 use Rattle.mon_monitor.specs.Played.{Played, played}
-use Rattle.deck_syntax.specs.Decks.{Deck, Cards, Asked, Commands, Enters, Gives, Drains, Ending, Stopped, Refused}
+use Rattle.deck_syntax.specs.Decks.{Deck, Cards, Asked, Commands, Enters, Gives, Drains, Stopped, Refused}
 use Rattle.deck_syntax.specs.Jobs.{job_deck_of}
 use Rattle.deck_driver.specs.declared.options.Counts.{Counts}
 

@@ -1,6 +1,6 @@
 -- What a line of the stream asks for (own): a command, the lines of a permission list or of a job, turns, the deck's end, or
 -- nothing.
-use Rattle.std.specs.Prelude.{ℕ, ◌==◌, ◌&&◌, ◌||◌, Bool, nat_lt, List, [], ◌∷◌, ◌++◌, length, Option, Some, None, is_some, unwrap_or, if◌then◌else◌, codes, not}
+use Rattle.std.specs.Prelude.{ℕ, ◌==◌, ◌&&◌, ◌||◌, Bool, nat_lt, List, [], ◌++◌, length, Option, Some, None, is_some, unwrap_or, if◌then◌else◌, codes, not}
 use Rattle.std.specs.List.{list_all}
 use Rattle.mon_text.specs.Names.{is_name}
 use Rattle.mon_text.specs.Counts.{value_of}

@@ -1,7 +1,7 @@
 -- Interactions with the statements that begin in them, and without.
-use Rattle.std.proofs.Common.{◌≡◌, ℕ, ◌+◌, List, [], ◌∷◌, Result, Ok, Err, refl, ap, sym, ◌∙◌, subst, inl, inr, arith}
+use Rattle.std.proofs.Common.{◌≡◌, ℕ, ◌+◌, List, [], ◌∷◌, Result, Ok, Err, refl, ap, sym, subst, inl, inr, arith}
 use Rattle.std.specs.Result.{IsErr}
-use Rattle.interaction.specs.Interactions.{Interaction, Returns, Asks, ◌>>=◌}
+use Rattle.interaction.specs.Interactions.{Returns, Asks, ◌>>=◌}
 use Rattle.interaction.specs.Exchanges.{AnswersAll}
 use Rattle.interaction.specs.Endings.{EndsIn}
 use Rattle.interaction.proofs.Binds.{funext}

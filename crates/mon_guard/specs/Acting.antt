@@ -7,10 +7,9 @@ use Rattle.mon_acl.specs.declared.entries.Perms.{Perms}
 use Rattle.mon_access.specs.declared.account.Account.{Account}
 use Rattle.mon_catalogue.specs.declared.mode.Mode.TheVariants.{Seq, Append}
 use Rattle.mon_catalogue.specs.declared.data_set.DataSet.{DataSet}
-use Rattle.mon_catalogue.specs.declared.data_set.SetFull.{SetFull}
 use Rattle.mon_catalogue.specs.Sets.{Sets, find_set}
 use Rattle.mon_catalogue.specs.Changes.{with_changed}
-use Rattle.mon_catalogue.specs.Writing.{Change, Put, Cut, Add, writing, change_refusal, recorded, records_after}
+use Rattle.mon_catalogue.specs.Writing.{Change, Cut, Add, writing, change_refusal, recorded, records_after}
 use Rattle.interaction.specs.declared.answer.Reason.TheVariants as reason
 use Rattle.interaction.specs.declared.answer.Answer.{Answer}
 use Rattle.interaction.specs.declared.answer.Answer.TheVariants.{Done, Got, EndOfFile, Denied, Full}

@@ -24,7 +24,7 @@ use Rattle.scheduler.specs.Printouts.{printout, refusal_text}
 use Rattle.scheduler.specs.AuditLines.{loaded_line, refused_line, lines_until, lines_of_rounds}
 use Rattle.scheduler.specs.States.{SchedulerState}
 use Rattle.mon_device.specs.Putting.{Standing, Puts}
-use Rattle.mon_device.proofs.Putting.{puts_nothing, puts_same, puts_then, puts_failed}
+use Rattle.mon_device.proofs.Putting.{puts_nothing, puts_then, puts_failed}
 use Rattle.scheduler.specs.Marks.{Marks, Past, marked, drain, room, never, rounds, turns_left, is_done, has_free_slot}
 use Rattle.scheduler.specs.Turning.{Passed, MarkedIs, DrainIs, RoomIs}
 use Rattle.mon_monitor.specs.SystemStates.{SystemState, with_scheduler, with_sets}

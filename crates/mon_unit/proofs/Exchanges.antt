@@ -14,7 +14,7 @@ use Rattle.interaction.specs.declared.answer.Reason.TheVariants.{NoUnit, InStrea
 use Rattle.mon_guard.specs.Deciding.{decision_on, to_write}
 use Rattle.mon_guard.specs.inner.Parts.{by_decision, position_after, ended, or_denied}
 use Rattle.mon_guard.specs.Acting as acting
-use Rattle.mon_guard.specs.Acting.{Acted, only_answered, read_at, changing, acted_on, acted, changed}
+use Rattle.mon_guard.specs.Acting.{Acted, read_at, acted_on, acted, changed}
 use Rattle.mon_guard.specs.Laws.{IsThere, IsGranted, IsFor, WhyNotAct}
 use Rattle.mon_guard.proofs.Acting.{acts_where_granted}
 use Rattle.interaction.specs.declared.request.Act.{Act}

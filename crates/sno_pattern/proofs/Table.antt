@@ -2,7 +2,6 @@
 use Rattle.std.specs.Prelude.{◌≡◌, ℕ, zero, suc, ◌+◌, ◌-◌, ◌≤◌, List, [], ◌∷◌, ◌++◌, length, drop, Bool, true, false, not, ◌&&◌, if◌then◌else◌, nat_eq, nat_le, nat_lt}
 use Rattle.std.proofs.Common.{refl, ap, arith}
 use Rattle.std.specs.List.{starts_with, prefix_len, position_or_len, range_with_len}
-use Rattle.sno_text.specs.Patterns.{Pattern}
 use Rattle.sno_text.specs.Patterns as pattern
 use Rattle.sno_pattern.specs.declared.ending.Pending.{Pending}
 use Rattle.sno_pattern.specs.declared.host.Taken.TheVariants.{Part, Cursor}

@@ -1,4 +1,4 @@
-use Rattle.std.proofs.Common.{◌≡◌, ℕ, List, [], ◌∙◌, ap, sym, drop, Result}
+use Rattle.std.proofs.Common.{ℕ, List, [], ◌∙◌, ap, sym, drop, Result}
 use Rattle.std.specs.Option.{option_map_or}
 use Rattle.std.specs.Result.{result_ok}
 use Rattle.sno_cards.specs.Programs.{ProgramText}
