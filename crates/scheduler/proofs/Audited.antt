@@ -18,9 +18,9 @@ use Rattle.mon_unit.specs.declared.kept.KeptLines.{KeptLines}
 use Rattle.mon_unit.specs.inner.Keeping.{KeptFits}
 use Rattle.scheduler.specs.Exchanged.{asked_by}
 use Rattle.scheduler.specs.AuditLines.{exchanged_lines}
-use Rattle.sno_run.specs.declared.ending.Step.{Step}
-use Rattle.sno_run.specs.Jobs.{Job}
+use Rattle.machine.specs.declared.ending.Step.{Step}
 use Rattle.scheduler.specs.inner.Stepping.{Done, StillKept}
+use Rattle.machine.specs.Meanings.{Meaning}
 
 module _ {T : Type 0} (number : T → ℕ) (unit : T → UnitService) (standing : T → Standing) (answers : T → Request → Answer → T → Type 0)
     (each : (s : T) (q : Request) (r : Answer) (m : T) → answers s q r m → Audited (number s) (unit s) (standing s) q r (number m) (unit m) (standing m)) where
@@ -81,10 +81,11 @@ pub stays : {T : Type 0} (name : T → ℕ) (answers : T → Request → Answer 
 stays name answers each s [] s' h = ap name h
 stays name answers each s (e ∷ x) s' h = stays name answers each h.0 x s' h.2 ∙ each s e.asked e.reply h.0 h.1
 
--- the same turn, where what is left is called otherwise
-pub done_as : (n : ℕ) (job : Job) (s : UnitService) (st : Step) (job' : Job) (t t' : UnitService) (p q q' : Standing) → t' ≡ t → q' ≡ q → Done n job s st job' t p q → Done n job s st job' t' p q'
-done_as n job s st job' t t' p q q' left stands done =
-    subst (λ (v : UnitService). Done n job s st job' v p q') (sym left) (subst (λ (y : Standing). Done n job s st job' t p y) (sym stands) done)
+module _ {M : Meaning} where
+  -- the same turn, where what is left is called otherwise
+  pub done_as : (n : ℕ) (job : M.Job) (s : UnitService) (st : Step) (job' : M.Job) (t t' : UnitService) (p q q' : Standing) → t' ≡ t → q' ≡ q → Done M n job s st job' t p q → Done M n job s st job' t' p q'
+  done_as n job s st job' t t' p q q' left stands done =
+      subst (λ (v : UnitService). Done M n job s st job' v p q') (sym left) (subst (λ (y : Standing). Done M n job s st job' t p y) (sym stands) done)
 
 -- and words that are kept
 pub still_kept : (n : ℕ) (s s' : UnitService) (k k' : KeptLines) → k.number ≡ n → s' ≡ s → k' ≡ k → KeptFits k.number s.account.now (reach_of s) k → StillKept n s' k'
@@ -98,9 +99,10 @@ pub kept_given : (n : ℕ) (s : UnitService) (account : Account) (sets : Sets) (
 kept_given n s account sets units kept still is reach =
     subst (λ (a : Account). KeptFits n a (record { sets = sets; units = units }) kept) is (subst (λ (r : Reach). KeptFits n s.account.now r kept) reach still.fits)
 
--- both are of the job of the slot, where the words are kept of that
-pub done_of : (n n' : ℕ) (job : Job) (s : UnitService) (st : Step) (job' : Job) (s' : UnitService) (p q : Standing) → n ≡ n' → Done n job s st job' s' p q → Done n' job s st job' s' p q
-done_of n n' job s st job' s' p q same done = subst (λ (x : ℕ). Done x job s st job' s' p q) same done
+module _ {M : Meaning} where
+  -- both are of the job of the slot, where the words are kept of that
+  pub done_of : (n n' : ℕ) (job : M.Job) (s : UnitService) (st : Step) (job' : M.Job) (s' : UnitService) (p q : Standing) → n ≡ n' → Done M n job s st job' s' p q → Done M n' job s st job' s' p q
+  done_of n n' job s st job' s' p q same done = subst (λ (x : ℕ). Done M x job s st job' s' p q) same done
 
 pub kept_of : (n n' : ℕ) (s : UnitService) (kept : KeptLines) → n ≡ n' → StillKept n s kept → StillKept n' s kept
 kept_of n n' s kept same still = subst (λ (x : ℕ). StillKept x s kept) same still

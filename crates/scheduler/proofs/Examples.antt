@@ -4,7 +4,7 @@ use Rattle.std.specs.Prelude.{codes}
 use Rattle.std.specs.Fmt.{digits}
 use Rattle.sno_text.specs.declared.fault.Fault.TheVariants.{Arithmetic}
 use Rattle.sno_cards.specs.declared.refusal.SyntaxCode.TheVariants.{BadConstant}
-use Rattle.sno_run.specs.declared.ending.Ending.TheVariants.{Normal, MatchLimit, Fault}
+use Rattle.machine.specs.declared.ending.Ending.TheVariants.{Normal, MatchLimit, Fault}
 use Rattle.mon_acl.specs.declared.entries.Tag.TheVariants.{Mask}
 use Rattle.interaction.specs.declared.answer.Reason.TheVariants.{By, NoSet, NoUnit}
 use Rattle.mon_unit.specs.declared.note.NoteAct.TheVariants.{Read, Write}

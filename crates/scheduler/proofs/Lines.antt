@@ -6,23 +6,24 @@ use Rattle.scheduler.specs.States.{SchedulerState}
 use Rattle.scheduler.specs.Marks.{Marks, mark_of, turn_as, Past, until, rounds, turns_left, is_done}
 use Rattle.scheduler.specs.AuditLines.{turn_lines, lines_until}
 use Rattle.scheduler.proofs.Past.{either_way, until_stops, until_goes, until_length, none_left, round_falls}
+use Rattle.machine.specs.Meanings.{Meaning}
 
-module _ (stop : SchedulerState → Bool) where
-  pub lines_stop : (E : List ℕ) (m : Marks) (w : SchedulerState) → stop w ≡ true → lines_until stop E m w ≡ []
+module _ {M : Meaning} (stop : (SchedulerState M) → Bool) where
+  pub lines_stop : (E : List ℕ) (m : Marks) (w : (SchedulerState M)) → stop w ≡ true → lines_until stop E m w ≡ []
   lines_stop [] m w h = refl
   lines_stop (s ∷ E) m w h =
       ap (λ (b : Bool). if b then [] else turn_lines (mark_of m) s w ++ lines_until stop E (drop 1 m) (turn_as (mark_of m) s w).1) h
 
-  pub lines_go : (s : ℕ) (E : List ℕ) (m : Marks) (w : SchedulerState) → stop w ≡ false
+  pub lines_go : (s : ℕ) (E : List ℕ) (m : Marks) (w : (SchedulerState M)) → stop w ≡ false
       → lines_until stop (s ∷ E) m w ≡ turn_lines (mark_of m) s w ++ lines_until stop E (drop 1 m) (turn_as (mark_of m) s w).1
   lines_go s E m w h =
       ap (λ (b : Bool). if b then [] else turn_lines (mark_of m) s w ++ lines_until stop E (drop 1 m) (turn_as (mark_of m) s w).1) h
 
   -- what follows some lines
-  abbrev pub lines_after : List ℕ → List ℕ → Past → List ℕ
+  abbrev pub lines_after : List ℕ → List ℕ → (Past M) → List ℕ
   lines_after front F p = front ++ lines_until stop F p.marks p.after
 
-  pub lines_append : (E F : List ℕ) (m : Marks) (w : SchedulerState) → lines_until stop (E ++ F) m w ≡ lines_after (lines_until stop E m w) F (until stop E m w)
+  pub lines_append : (E F : List ℕ) (m : Marks) (w : (SchedulerState M)) → lines_until stop (E ++ F) m w ≡ lines_after (lines_until stop E m w) F (until stop E m w)
   lines_append [] F m w = refl
   lines_append (s ∷ E) F m w = elim (either_way (stop w)) [
     | inl h ↦
@@ -39,8 +40,8 @@ module _ (stop : SchedulerState → Bool) where
         ∙ ap (lines_after (first ++ lines_until stop E (drop 1 m) t.1) F) (until_goes stop s E m w h))
   ]
 
-module _ (stop : SchedulerState → Bool) (size : ℕ) (at_last : (v : SchedulerState) → length v.slots ≡ size → is_done v ≡ true → stop v ≡ true) where
-  pub lines_same : (n k : ℕ) (m : Marks) (w : SchedulerState) → length w.slots ≡ size → turns_left w.slots ≤ n → turns_left w.slots ≤ k
+module _ {M : Meaning} (stop : (SchedulerState M) → Bool) (size : ℕ) (at_last : (v : (SchedulerState M)) → length v.slots ≡ size → is_done v ≡ true → stop v ≡ true) where
+  pub lines_same : (n k : ℕ) (m : Marks) (w : (SchedulerState M)) → length w.slots ≡ size → turns_left w.slots ≤ n → turns_left w.slots ≤ k
       → lines_until stop (rounds n size) m w ≡ lines_until stop (rounds k size) m w
   lines_same zero k m w is h g =
       let now = at_last w is (none_left w.slots h) in

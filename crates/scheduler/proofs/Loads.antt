@@ -10,11 +10,8 @@ use Rattle.mon_text.specs.declared.stop.Stop.TheVariants.{Refused, Memory}
 use Rattle.sno_cards.specs.Answers.{IfRefused}
 use Rattle.sno_cards.specs.declared.refusal.SyntaxError.{SyntaxError}
 use Rattle.sno_cards.specs.Programs.{ProgramText}
+use Rattle.sno_cards.specs.declared.limits.Limits.{Limits}
 use Rattle.sno_cards.specs.Statements.{statements_of}
-use Rattle.sno_syntax.specs.Programs.{Program}
-use Rattle.sno_syntax.proofs.Readable.{reads_programs}
-use Rattle.sno_syntax.proofs.Wholes.{not_refused}
-use Rattle.sno_run.specs.Jobs.{Job, first_job}
 use Rattle.mon_access.specs.declared.account.Account.{Account}
 use Rattle.mon_access.specs.Accounts.{find_account}
 use Rattle.mon_unit.specs.declared.units.UnitError.{UnitError}
@@ -25,99 +22,106 @@ use Rattle.scheduler.specs.declared.refusal.LoadError.TheVariants.{NoSlot, NoAcc
 use Rattle.scheduler.specs.declared.slot.Slot.{Slot}
 use Rattle.scheduler.specs.States.{SlotState, with_seat, first_free}
 use Rattle.scheduler.specs.Abstraction.{slot_of, seat_of, seats_of}
-use Rattle.scheduler.specs.Loads.{first_units, with_ties, ties_refusal, program_refusal, program_in, missing, deck_refusal, slot_in, loaded_by, job_loaded}
+use Rattle.scheduler.specs.Loads.{first_units, with_ties, ties_refusal, program_refusal, job_in_cards, missing, deck_refusal, slot_in, loaded_by, job_loaded}
 use Rattle.scheduler.specs.inner.Parts.{slot_by}
-use Rattle.scheduler.specs.inner.Spelling.{IsSpelled}
 use Rattle.scheduler.proofs.Seats.{map_set}
+use Rattle.machine.specs.Meanings.{Meaning, Seen}
 
-spelled_in : (said : Result ProgramText SyntaxError) (p : Program) → IsSpelled said p → program_in said ≡ Some p
-spelled_in (Ok cards) p a = reads_programs cards p a
-spelled_in (Err refusal) p a = absurd a
+module _ (M : Meaning) where
+  pub spelled_clean : (limits : Limits) (said : Result ProgramText SyntaxError) (job : M.Job) → job_in_cards M limits said ≡ Some job → program_refusal M said ≡ None
+  spelled_clean limits (Ok cards) job a = ap (option_map Syntax) (M.one_or_other limits cards job a)
+  spelled_clean limits (Err refusal) job a = absurd cc
 
-pub spelled_clean : (said : Result ProgramText SyntaxError) (p : Program) → IsSpelled said p → program_refusal said ≡ None
-spelled_clean (Ok cards) p a = ap (option_map Syntax) (not_refused cards p a)
-spelled_clean (Err refusal) p a = absurd a
+module _ (M : Meaning) where
+  abbrev held : JobDeck → Account → M.Job → UnitState → SlotState M
+  held deck account job units = record { number = deck.number; account = account; job = job; units = units }
 
-abbrev held : JobDeck → Account → Job → UnitState → SlotState
-held deck account job units = record { number = deck.number; account = account; job = job; units = units }
-
-pub slot_made : (deck : JobDeck) (found : Option Account) (account : Account) (said : Result ProgramText SyntaxError) (p : Program) (units : UnitState) (job : Job)
-    → found ≡ Some account → IsSpelled said p → units ≡ with_ties deck.ties (first_units deck.lines) → job ≡ first_job p deck.limits
-    → slot_by deck found (program_in said) ≡ Some (record { number = deck.number; account = account; job = job; units = units })
-slot_made deck found account said p units job f a u j =
-    ap (λ o. slot_by deck o (program_in said)) f ∙ ap (λ o. slot_by deck (Some account) o) (spelled_in said p a)
-    ∙ ap (λ (x : UnitState). Some (held deck account (first_job p deck.limits) x)) (sym u)
-    ∙ ap (λ (x : Job). Some (held deck account x units)) (sym j)
+  pub slot_made : (deck : JobDeck) (found : Option Account) (account : Account) (said : Option M.Job) (units : UnitState) (job : M.Job)
+      → found ≡ Some account → units ≡ with_ties deck.ties (first_units deck.lines) → said ≡ Some job
+      → slot_by M deck found said ≡ Some (held deck account job units)
+  slot_made deck found account said units job f u j =
+      ap (λ (o : Option Account). slot_by M deck o said) f ∙ ap (λ (o : Option M.Job). slot_by M deck (Some account) o) j
+      ∙ ap (λ (x : UnitState). Some (held deck account job x)) (sym u)
 
 -- where there is an account and the unit cards are good, a deck is refused for its program alone
-pub deck_refused_by : (accounts : List Account) (deck : JobDeck) (account : Account) (said : Option LoadError)
-    → find_account accounts deck.account ≡ Some account → ties_refusal deck.ties (first_units deck.lines) ≡ None → program_refusal (statements_of deck.lines) ≡ said
-    → deck_refusal accounts deck ≡ said
-deck_refused_by accounts deck account said f t p =
-    ap (λ o. option_or (missing NoAccount o) (option_or (option_map Cards (ties_refusal deck.ties (first_units deck.lines))) (program_refusal (statements_of deck.lines)))) f
-    ∙ ap (λ (o : Option UnitError). option_or (option_map Cards o) (program_refusal (statements_of deck.lines))) t ∙ p
+pub deck_refused_by : (M : Meaning) (accounts : List Account) (deck : JobDeck) (account : Account) (said : Option LoadError)
+    → find_account accounts deck.account ≡ Some account → ties_refusal deck.ties (first_units deck.lines) ≡ None → program_refusal M (statements_of deck.lines) ≡ said
+    → deck_refusal M accounts deck ≡ said
+deck_refused_by M accounts deck account said f t p =
+    ap (λ o. option_or (missing NoAccount o) (option_or (option_map Cards (ties_refusal deck.ties (first_units deck.lines))) (program_refusal M (statements_of deck.lines)))) f
+    ∙ ap (λ (o : Option UnitError). option_or (option_map Cards o) (program_refusal M (statements_of deck.lines))) t ∙ p
 
-pub stop_refused_by : (accounts : List Account) (deck : JobDeck) (account : Account) (stop : Stop LoadError)
+pub stop_refused_by : (M : Meaning) (accounts : List Account) (deck : JobDeck) (account : Account) (stop : Stop LoadError)
     → find_account accounts deck.account ≡ Some account → ties_refusal deck.ties (first_units deck.lines) ≡ None
-    → IfRefused (λ refusal. program_refusal (statements_of deck.lines) ≡ Some refusal) stop → IfRefused (λ refusal. deck_refusal accounts deck ≡ Some refusal) stop
-stop_refused_by accounts deck account (Refused refusal) f t p = deck_refused_by accounts deck account (Some refusal) f t p
-stop_refused_by accounts deck account Memory f t p = tt
+    → IfRefused (λ refusal. program_refusal M (statements_of deck.lines) ≡ Some refusal) stop → IfRefused (λ refusal. deck_refusal M accounts deck ≡ Some refusal) stop
+stop_refused_by M accounts deck account (Refused refusal) f t p = deck_refused_by M accounts deck account (Some refusal) f t p
+stop_refused_by M accounts deck account Memory f t p = tt
 
 -- SEATS
 
-free_at : (n : ℕ) (slots : List (Option Slot)) → position_from is_none (suc n) (seats_of slots) ≡ option_map suc (position_from (λ seat. is_none seat) n slots)
-free_at n [] = refl
-free_at n (None ∷ slots) = refl
-free_at n (Some x ∷ slots) =
-    let e : suc (n + 1) ≡ suc n + 1 = omega arith in
-    subst (λ (m : ℕ). position_from is_none m (seats_of slots) ≡ option_map suc (position_from (λ seat. is_none seat) (n + 1) slots)) e (free_at (n + 1) slots)
+module _ {J : Type 0} (seen : Seen J) where
+  free_at : (n : ℕ) (slots : List (Option (Slot J))) → position_from is_none (suc n) ((seats_of seen) slots) ≡ option_map suc (position_from (λ seat. is_none seat) n slots)
+  free_at n [] = refl
+  free_at n (None ∷ slots) = refl
+  free_at n (Some x ∷ slots) =
+      let e : suc (n + 1) ≡ suc n + 1 = omega arith in
+      subst (λ (m : ℕ). position_from is_none m ((seats_of seen) slots) ≡ option_map suc (position_from (λ seat. is_none seat) (n + 1) slots)) e (free_at (n + 1) slots)
 
--- the lowest free slot is the first empty one
-pub free_is : (slots : List (Option Slot)) → first_free (seats_of slots) ≡ option_map suc (position (λ seat. is_none seat) slots)
-free_is slots = free_at 0 slots ∙ ap (option_map suc) (sym (position_from-zero (λ seat. is_none seat) slots))
+module _ {J : Type 0} (seen : Seen J) where
+  -- the lowest free slot is the first empty one
+  pub free_is : (slots : List (Option (Slot J))) → first_free ((seats_of seen) slots) ≡ option_map suc (position (λ seat. is_none seat) slots)
+  free_is slots = (free_at seen) 0 slots ∙ ap (option_map suc) (sym (position_from-zero (λ seat. is_none seat) slots))
 
--- a slot is free where one has the lowest number
-pub free_some : (slots : List (Option SlotState)) (n : ℕ) → first_free slots ≡ Some n → IsSome (first_free slots)
-free_some slots n is = ap is_some is
+module _ {M : Meaning} where
+  -- a slot is free where one has the lowest number
+  pub free_some : (slots : List (Option (SlotState M))) (n : ℕ) → first_free slots ≡ Some n → IsSome (first_free slots)
+  free_some slots n is = ap is_some is
 
-pub within : (slots : List (Option Slot)) (i : ℕ) → position (λ seat. is_none seat) slots ≡ Some i → i < length slots
-within slots i e = (position-Some (λ seat. is_none seat) slots i None e).0
+module _ {J : Type 0} where
+  pub within : (slots : List (Option (Slot J))) (i : ℕ) → position (λ seat. is_none seat) slots ≡ Some i → i < length slots
+  within slots i e = (position-Some (λ seat. is_none seat) slots i None e).0
 
 -- LOADS
 
-pub no_slot : (accounts : List Account) (deck : JobDeck) (slots : List (Option SlotState)) → first_free slots ≡ None → job_loaded accounts deck slots ≡ (Err NoSlot, slots)
-no_slot accounts deck slots e = ap (λ o. loaded_by (option_or (missing NoSlot o) (deck_refusal accounts deck)) o (slot_in accounts deck) slots) e
+module _ {M : Meaning} where
+  pub no_slot : (accounts : List Account) (deck : JobDeck) (slots : List (Option (SlotState M))) → first_free slots ≡ None → job_loaded accounts deck slots ≡ (Err NoSlot, slots)
+  no_slot accounts deck slots e = ap (λ o. loaded_by (option_or (missing NoSlot o) (deck_refusal M accounts deck)) o (slot_in M accounts deck) slots) e
 
-pub deck_refused : (accounts : List Account) (deck : JobDeck) (slots : List (Option SlotState)) (n : ℕ) (refusal : LoadError)
-    → first_free slots ≡ Some n → deck_refusal accounts deck ≡ Some refusal → job_loaded accounts deck slots ≡ (Err refusal, slots)
-deck_refused accounts deck slots n refusal e d =
-    ap (λ o. loaded_by (option_or (missing NoSlot o) (deck_refusal accounts deck)) o (slot_in accounts deck) slots) e
-    ∙ ap (λ o. loaded_by o (Some n) (slot_in accounts deck) slots) d
+module _ {M : Meaning} where
+  pub deck_refused : (accounts : List Account) (deck : JobDeck) (slots : List (Option (SlotState M))) (n : ℕ) (refusal : LoadError)
+      → first_free slots ≡ Some n → deck_refusal M accounts deck ≡ Some refusal → job_loaded accounts deck slots ≡ (Err refusal, slots)
+  deck_refused accounts deck slots n refusal e d =
+      ap (λ o. loaded_by (option_or (missing NoSlot o) (deck_refusal M accounts deck)) o (slot_in M accounts deck) slots) e
+      ∙ ap (λ o. loaded_by o (Some n) (slot_in M accounts deck) slots) d
 
-pub deck_loaded : (accounts : List Account) (deck : JobDeck) (slots : List (Option SlotState)) (n : ℕ) (slot : SlotState)
-    → first_free slots ≡ Some n → deck_refusal accounts deck ≡ None → slot_in accounts deck ≡ Some slot
-    → job_loaded accounts deck slots ≡ (Ok n, with_seat n (Some slot) slots)
-deck_loaded accounts deck slots n slot e d s =
-    ap (λ o. loaded_by (option_or (missing NoSlot o) (deck_refusal accounts deck)) o (slot_in accounts deck) slots) e
-    ∙ ap (λ o. loaded_by o (Some n) (slot_in accounts deck) slots) d ∙ ap (λ o. loaded_by None (Some n) o slots) s
+module _ {M : Meaning} where
+  pub deck_loaded : (accounts : List Account) (deck : JobDeck) (slots : List (Option (SlotState M))) (n : ℕ) (slot : (SlotState M))
+      → first_free slots ≡ Some n → deck_refusal M accounts deck ≡ None → slot_in M accounts deck ≡ Some slot
+      → job_loaded accounts deck slots ≡ (Ok n, with_seat n (Some slot) slots)
+  deck_loaded accounts deck slots n slot e d s =
+      ap (λ o. loaded_by (option_or (missing NoSlot o) (deck_refusal M accounts deck)) o (slot_in M accounts deck) slots) e
+      ∙ ap (λ o. loaded_by o (Some n) (slot_in M accounts deck) slots) d ∙ ap (λ o. loaded_by None (Some n) o slots) s
 
 -- what `?` hands on is the stop that was there
 pub stopped_for : {X : Type 0} (r : Result X (Stop LoadError)) (s t u : Stop LoadError) → r ≡ Err s → s ≡ t → r ≡ Err u → t ≡ u
 stopped_for r s t u is same h = cc
 
-pub stop_refused : (accounts : List Account) (deck : JobDeck) (slots : List (Option SlotState)) (n : ℕ) (stop : Stop LoadError)
-    → first_free slots ≡ Some n → IfRefused (λ refusal. deck_refusal accounts deck ≡ Some refusal) stop
-    → IfRefused (λ refusal. job_loaded accounts deck slots ≡ (Err refusal, slots)) stop
-stop_refused accounts deck slots n (Refused refusal) e d = deck_refused accounts deck slots n refusal e d
-stop_refused accounts deck slots n Memory e d = tt
+module _ {M : Meaning} where
+  pub stop_refused : (accounts : List Account) (deck : JobDeck) (slots : List (Option (SlotState M))) (n : ℕ) (stop : Stop LoadError)
+      → first_free slots ≡ Some n → IfRefused (λ refusal. deck_refusal M accounts deck ≡ Some refusal) stop
+      → IfRefused (λ refusal. job_loaded accounts deck slots ≡ (Err refusal, slots)) stop
+  stop_refused accounts deck slots n (Refused refusal) e d = deck_refused accounts deck slots n refusal e d
+  stop_refused accounts deck slots n Memory e d = tt
 
-abbrev answered : ℕ → List (Option SlotState) → Result ℕ LoadError × List (Option SlotState)
-answered n slots = (Ok n, slots)
+module _ {M : Meaning} where
+  abbrev answered : ℕ → List (Option (SlotState M)) → Result ℕ LoadError × List (Option (SlotState M))
+  answered n slots = (Ok n, slots)
 
--- a job is loaded into the seat at an index
-pub loaded_at : (accounts : List Account) (deck : JobDeck) (items : List (Option Slot)) (i : ℕ) (slot : Slot)
-    → position (λ seat. is_none seat) items ≡ Some i → deck_refusal accounts deck ≡ None → slot_in accounts deck ≡ Some (slot_of slot)
-    → job_loaded accounts deck (seats_of items) ≡ (Ok (suc i), seats_of (slice_set items i (Some slot)))
-loaded_at accounts deck items i slot e d s =
-    deck_loaded accounts deck (seats_of items) (suc i) (slot_of slot) (free_is items ∙ ap (option_map suc) e) d s
-    ∙ ap (answered (suc i)) (sym (map_set seat_of items i (Some slot)))
+module _ {J : Type 0} (seen : Seen J) where
+  -- a job is loaded into the seat at an index
+  pub loaded_at : (accounts : List Account) (deck : JobDeck) (items : List (Option (Slot J))) (i : ℕ) (slot : (Slot J))
+      → position (λ seat. is_none seat) items ≡ Some i → deck_refusal seen.meaning accounts deck ≡ None → slot_in seen.meaning accounts deck ≡ Some ((slot_of seen) slot)
+      → job_loaded accounts deck ((seats_of seen) items) ≡ (Ok (suc i), (seats_of seen) (slice_set items i (Some slot)))
+  loaded_at accounts deck items i slot e d s =
+      deck_loaded accounts deck ((seats_of seen) items) (suc i) ((slot_of seen) slot) ((free_is seen) items ∙ ap (option_map suc) e) d s
+      ∙ ap (answered (suc i)) (sym (map_set (seat_of seen) items i (Some slot)))

@@ -6,6 +6,7 @@ use Rattle.std.specs.Option.{option_flatten}
 use Rattle.scheduler.specs.declared.slot.Slot.{Slot}
 use Rattle.scheduler.specs.States.{SlotState, seat_at, with_seat, first_free}
 use Rattle.scheduler.specs.Abstraction.{seats_of}
+use Rattle.machine.specs.Meanings.{Meaning, Seen}
 
 pub set_length : {A : Type 0} (xs : List A) (i : ℕ) (v : A) → length (slice_set xs i v) ≡ length xs
 set_length [] i v = refl
@@ -41,41 +42,49 @@ pub map_length : {A B : Type 0} (f : A → B) (xs : List A) → length (map f xs
 map_length f [] = refl
 map_length f (x ∷ xs) = ap suc (map_length f xs)
 
-pub seat_length : (s : ℕ) (o : Option SlotState) (slots : List (Option SlotState)) → length (with_seat s o slots) ≡ length slots
-seat_length zero o slots = refl
-seat_length (suc i) o slots = set_length slots i o
+module _ {M : Meaning} where
+  pub seat_length : (s : ℕ) (o : Option (SlotState M)) (slots : List (Option (SlotState M))) → length (with_seat s o slots) ≡ length slots
+  seat_length zero o slots = refl
+  seat_length (suc i) o slots = set_length slots i o
 
--- where all are empty, each is
-none_seated : (slots : List (Option SlotState)) → list_all is_none slots ≡ true → (i : ℕ) → option_flatten (slice_get slots i) ≡ None
-none_seated [] h i = refl
-none_seated (None ∷ slots) h zero = refl
-none_seated (None ∷ slots) h (suc i) = none_seated slots h i
-none_seated (Some x ∷ slots) h i = absurd cc
+module _ {M : Meaning} where
+  -- where all are empty, each is
+  none_seated : (slots : List (Option (SlotState M))) → list_all is_none slots ≡ true → (i : ℕ) → option_flatten (slice_get slots i) ≡ None
+  none_seated [] h i = refl
+  none_seated (None ∷ slots) h zero = refl
+  none_seated (None ∷ slots) h (suc i) = none_seated slots h i
+  none_seated (Some x ∷ slots) h i = absurd cc
 
-pub none_at : (slots : List (Option SlotState)) → list_all is_none slots ≡ true → (s : ℕ) → seat_at s slots ≡ None
-none_at slots h zero = refl
-none_at slots h (suc i) = none_seated slots h i
+module _ {M : Meaning} where
+  pub none_at : (slots : List (Option (SlotState M))) → list_all is_none slots ≡ true → (s : ℕ) → seat_at s slots ≡ None
+  none_at slots h zero = refl
+  none_at slots h (suc i) = none_seated slots h i
 
-pub seated_not_done : (s : ℕ) (slots : List (Option SlotState)) → IsSome (seat_at s slots) → list_all is_none slots ≡ false
-seated_not_done s slots h = by (list_all is_none slots) refl
-  where
-    by : (b : Bool) → list_all is_none slots ≡ b → b ≡ false
-    by false e = refl
-    by true e = absurd (let none = none_at slots e s in cc (h, none))
+module _ {M : Meaning} where
+  pub seated_not_done : (s : ℕ) (slots : List (Option (SlotState M))) → IsSome (seat_at s slots) → list_all is_none slots ≡ false
+  seated_not_done s slots h = by (list_all is_none slots) refl
+    where
+      by : (b : Bool) → list_all is_none slots ≡ b → b ≡ false
+      by false e = refl
+      by true e = absurd (let none = none_at slots e s in cc (h, none))
 
-pub none_of : (slots : List (Option Slot)) → list_all (λ seat. is_none seat) slots ≡ list_all is_none (seats_of slots)
-none_of [] = refl
-none_of (None ∷ slots) = none_of slots
-none_of (Some x ∷ slots) = refl
+module _ {J : Type 0} (seen : Seen J) where
+  pub none_of : (slots : List (Option (Slot J))) → list_all (λ seat. is_none seat) slots ≡ list_all is_none ((seats_of seen) slots)
+  none_of [] = refl
+  none_of (None ∷ slots) = none_of slots
+  none_of (Some x ∷ slots) = refl
 
-some_from : (n : ℕ) (slots : List (Option Slot)) → list_any (λ seat. is_none seat) slots ≡ is_some (position_from is_none n (seats_of slots))
-some_from n [] = refl
-some_from n (None ∷ slots) = refl
-some_from n (Some x ∷ slots) = some_from (n + 1) slots
+module _ {J : Type 0} (seen : Seen J) where
+  some_from : (n : ℕ) (slots : List (Option (Slot J))) → list_any (λ seat. is_none seat) slots ≡ is_some (position_from is_none n ((seats_of seen) slots))
+  some_from n [] = refl
+  some_from n (None ∷ slots) = refl
+  some_from n (Some x ∷ slots) = some_from (n + 1) slots
 
-pub some_free : (slots : List (Option Slot)) → list_any (λ seat. is_none seat) slots ≡ is_some (first_free (seats_of slots))
-some_free slots = some_from 1 slots
+module _ {J : Type 0} (seen : Seen J) where
+  pub some_free : (slots : List (Option (Slot J))) → list_any (λ seat. is_none seat) slots ≡ is_some (first_free ((seats_of seen) slots))
+  some_free slots = (some_from seen) 1 slots
 
-pub empty_seats : (n : ℕ) → seats_of (replicate n None) ≡ replicate n None
-empty_seats zero = refl
-empty_seats (suc n) = ap (λ (l : List (Option SlotState)). None ∷ l) (empty_seats n)
+module _ {J : Type 0} (seen : Seen J) where
+  pub empty_seats : (n : ℕ) → (seats_of seen) (replicate n None) ≡ replicate n None
+  empty_seats zero = refl
+  empty_seats (suc n) = ap (λ (l : List (Option (SlotState seen.meaning))). None ∷ l) (empty_seats n)

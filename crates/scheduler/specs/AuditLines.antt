@@ -13,6 +13,7 @@ use Rattle.scheduler.specs.Printouts.{ending_words, unit_refusal, syntax_words}
 use Rattle.scheduler.specs.States.{SchedulerState, job_in}
 use Rattle.scheduler.specs.Marks.{Mark, Marks, mark_of, turn_as, rounds, turns_left}
 use Rattle.scheduler.specs.Exchanged.{Exchanged, asked_in}
+use Rattle.machine.specs.Meanings.{Meaning}
 
 -- why a job is not loaded; for want of a slot none is refused
 abbrev pub refusal_words : LoadError → List ℕ
@@ -46,17 +47,20 @@ end_lines Empty = []
 end_lines Goes = []
 end_lines (Ended e) = ended_line e
 
--- of a turn of the job in a slot: of all that it asks, and of its end
-abbrev pub turn_lines : Option Mark → ℕ → SchedulerState → List ℕ
-turn_lines m s w = exchanged_lines (asked_in m (job_in s w) w.sets) ++ end_lines (turn_as m s w).0
+module _ {M : Meaning} where
+  -- of a turn of the job in a slot: of all that it asks, and of its end
+  abbrev pub turn_lines : Option Mark → ℕ → (SchedulerState M) → List ℕ
+  turn_lines m s w = exchanged_lines (asked_in m (job_in s w) w.sets) ++ end_lines (turn_as m s w).0
 
--- of turns of the jobs in these slots, until the scheduler is one to stop at
-abbrev pub lines_until : (SchedulerState → Bool) → List ℕ → Marks → SchedulerState → List ℕ
-lines_until stop [] m w = []
-lines_until stop (s ∷ E) m w =
-    if stop w then []
-    else turn_lines (mark_of m) s w ++ lines_until stop E (drop 1 m) (turn_as (mark_of m) s w).1
+module _ {M : Meaning} where
+  -- of turns of the jobs in these slots, until the scheduler is one to stop at
+  abbrev pub lines_until : ((SchedulerState M) → Bool) → List ℕ → Marks → (SchedulerState M) → List ℕ
+  lines_until stop [] m w = []
+  lines_until stop (s ∷ E) m w =
+      if stop w then []
+      else turn_lines (mark_of m) s w ++ lines_until stop E (drop 1 m) (turn_as (mark_of m) s w).1
 
--- of rounds of turns, until the scheduler is one to stop at
-abbrev pub lines_of_rounds : (SchedulerState → Bool) → Marks → SchedulerState → List ℕ
-lines_of_rounds stop m w = lines_until stop (rounds (turns_left w.slots) (length w.slots)) m w
+module _ {M : Meaning} where
+  -- of rounds of turns, until the scheduler is one to stop at
+  abbrev pub lines_of_rounds : ((SchedulerState M) → Bool) → Marks → (SchedulerState M) → List ℕ
+  lines_of_rounds stop m w = lines_until stop (rounds (turns_left w.slots) (length w.slots)) m w

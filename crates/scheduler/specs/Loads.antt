@@ -4,12 +4,9 @@ use Rattle.std.specs.Option.{option_or, option_map_or}
 use Rattle.std.specs.List.{fold}
 use Rattle.std.specs.Result.{result_ok}
 use Rattle.sno_cards.specs.declared.refusal.SyntaxError.{SyntaxError}
+use Rattle.sno_cards.specs.declared.limits.Limits.{Limits}
 use Rattle.sno_cards.specs.Programs.{ProgramText}
 use Rattle.sno_cards.specs.Statements.{statements_of}
-use Rattle.sno_syntax.specs.Refusals.{syntax_refusal}
-use Rattle.sno_syntax.specs.Programs.{Program}
-use Rattle.sno_syntax.specs.Reading.{program_on}
-use Rattle.sno_run.specs.Jobs.{first_job}
 use Rattle.mon_access.specs.declared.account.Account.{Account}
 use Rattle.mon_access.specs.Accounts.{find_account}
 use Rattle.mon_unit.specs.declared.tie.Target.TheVariants.{Set}
@@ -21,6 +18,7 @@ use Rattle.deck_syntax.specs.declared.job_deck.JobDeck.{JobDeck}
 use Rattle.scheduler.specs.declared.refusal.LoadError.{LoadError}
 use Rattle.scheduler.specs.declared.refusal.LoadError.TheVariants.{NoSlot, NoAccount, Cards, Syntax}
 use Rattle.scheduler.specs.States.{SlotState, with_seat, first_free}
+use Rattle.machine.specs.Meanings.{Meaning}
 
 -- THE UNITS
 
@@ -41,13 +39,13 @@ ties_refusal (card ∷ cards) units = option_or (tie_refusal card.unit units) (t
 
 -- THE PROGRAM
 
-abbrev pub program_refusal : Result ProgramText SyntaxError → Option LoadError
-program_refusal (Ok cards) = option_map Syntax (syntax_refusal cards)
-program_refusal (Err refusal) = Some (Syntax refusal)
+abbrev pub program_refusal : Meaning → Result ProgramText SyntaxError → Option LoadError
+program_refusal M (Ok cards) = option_map Syntax (M.refusal cards)
+program_refusal M (Err refusal) = Some (Syntax refusal)
 
--- the program that cards spell, where they spell one
-abbrev pub program_in : Result ProgramText SyntaxError → Option Program
-program_in cards = option_and_then program_on (result_ok cards)
+-- the job of the program that cards spell, where they spell one
+abbrev pub job_in_cards : (M : Meaning) → Limits → Result ProgramText SyntaxError → Option M.Job
+job_in_cards M limits cards = option_and_then (M.first limits) (result_ok cards)
 
 -- THE JOB
 
@@ -57,33 +55,38 @@ missing refusal (Some it) = None
 missing refusal None = Some refusal
 
 -- why a job is not loaded where a slot is free: its account, its unit cards, its program
-abbrev pub deck_refusal : List Account → JobDeck → Option LoadError
-deck_refusal accounts deck =
+abbrev pub deck_refusal : Meaning → List Account → JobDeck → Option LoadError
+deck_refusal M accounts deck =
     option_or (missing NoAccount (find_account accounts deck.account))
-    (option_or (option_map Cards (ties_refusal deck.ties (first_units deck.lines))) (program_refusal (statements_of deck.lines)))
+    (option_or (option_map Cards (ties_refusal deck.ties (first_units deck.lines))) (program_refusal M (statements_of deck.lines)))
 
--- why a job is not loaded
-abbrev pub load_refusal : List Account → JobDeck → List (Option SlotState) → Option LoadError
-load_refusal accounts deck slots = option_or (missing NoSlot (first_free slots)) (deck_refusal accounts deck)
+module _ {M : Meaning} where
+  -- why a job is not loaded
+  abbrev pub load_refusal : List Account → JobDeck → List (Option (SlotState M)) → Option LoadError
+  load_refusal accounts deck slots = option_or (missing NoSlot (first_free slots)) (deck_refusal M accounts deck)
 
--- what a slot holds when the job has been loaded
-abbrev pub loaded_slot : Account → JobDeck → Program → SlotState
-loaded_slot account deck p = record {
-  number = deck.number;
-  account = account;
-  job = first_job p deck.limits;
-  units = with_ties deck.ties (first_units deck.lines);
-}
+module _ (M : Meaning) where
+  -- what a slot holds when the job has been loaded
+  abbrev pub loaded_slot : Account → JobDeck → M.Job → (SlotState M)
+  loaded_slot account deck job = record {
+    number = deck.number;
+    account = account;
+    job = job;
+    units = with_ties deck.ties (first_units deck.lines);
+  }
 
--- the job of a deck that is not refused
-abbrev pub slot_in : List Account → JobDeck → Option SlotState
-slot_in accounts deck = option_and_then (λ account. option_map (loaded_slot account deck) (program_in (statements_of deck.lines))) (find_account accounts deck.account)
+module _ (M : Meaning) where
+  -- the job of a deck that is not refused
+  abbrev pub slot_in : List Account → JobDeck → Option (SlotState M)
+  slot_in accounts deck = option_and_then (λ account. option_map (loaded_slot M account deck) (job_in_cards M deck.limits (statements_of deck.lines))) (find_account accounts deck.account)
 
-abbrev pub loaded_by : Option LoadError → Option ℕ → Option SlotState → List (Option SlotState) → Result ℕ LoadError × List (Option SlotState)
-loaded_by (Some refusal) n slot slots = (Err refusal, slots)
-loaded_by None (Some n) slot slots = (Ok n, with_seat n slot slots)
-loaded_by None None slot slots = (Err NoSlot, slots)
+module _ {M : Meaning} where
+  abbrev pub loaded_by : Option LoadError → Option ℕ → Option (SlotState M) → List (Option (SlotState M)) → Result ℕ LoadError × List (Option (SlotState M))
+  loaded_by (Some refusal) n slot slots = (Err refusal, slots)
+  loaded_by None (Some n) slot slots = (Ok n, with_seat n slot slots)
+  loaded_by None None slot slots = (Err NoSlot, slots)
 
--- a job is loaded into the lowest free slot, which has this number; or it is refused, and nothing has changed
-abbrev pub job_loaded : List Account → JobDeck → List (Option SlotState) → Result ℕ LoadError × List (Option SlotState)
-job_loaded accounts deck slots = loaded_by (load_refusal accounts deck slots) (first_free slots) (slot_in accounts deck) slots
+module _ {M : Meaning} where
+  -- a job is loaded into the lowest free slot, which has this number; or it is refused, and nothing has changed
+  abbrev pub job_loaded : List Account → JobDeck → List (Option (SlotState M)) → Result ℕ LoadError × List (Option (SlotState M))
+  job_loaded accounts deck slots = loaded_by (load_refusal accounts deck slots) (first_free slots) (slot_in M accounts deck) slots

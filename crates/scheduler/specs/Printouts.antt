@@ -4,8 +4,8 @@ use Rattle.std.specs.List.{flat_map}
 use Rattle.sno_text.specs.Faults.{fault_name}
 use Rattle.sno_cards.specs.Codes.{code_symbol}
 use Rattle.sno_cards.specs.declared.refusal.SyntaxError.{SyntaxError}
-use Rattle.sno_run.specs.declared.ending.Ending.{Ending}
-use Rattle.sno_run.specs.declared.ending.Ending.TheVariants as ending
+use Rattle.machine.specs.declared.ending.Ending.{Ending}
+use Rattle.machine.specs.declared.ending.Ending.TheVariants as ending
 use Rattle.mon_command.specs.declared.reply.Reply.TheVariants as reply
 use Rattle.mon_command.specs.Printouts.{word, number, stored_line}
 use Rattle.mon_command.specs.Replies.{reason_text, reply_line}

@@ -11,7 +11,7 @@ use crate::refusal::{LoadError, print_syntax_words, print_unit_words};
 use crate::words::{print_number, print_word};
 use mon_device::Sink;
 use mon_text::Name;
-use sno_run::Ending;
+use machine::Ending;
 
 /// Puts the line of a job that is loaded.
 pub fn print_loaded<S: Sink>(number: u64, account: &Name, sink: &mut S)

@@ -4,6 +4,7 @@ ghost use Rattle.scheduler.specs.Abstraction.{slot_of, seat_of, seats_of};
 ghost use Rattle.scheduler.specs.Holding.{held_by, is_more, more_held, most_held};
 
 use crate::holder::Holder;
+use machine::Machine;
 use crate::slot::Slot;
 
 // What a spooled line takes beside its characters, in bytes.
@@ -13,8 +14,8 @@ const LINE_BYTES: u64 = 5;
 const NOTE_BYTES: u64 = 96;
 
 // How many bytes the printout of a job takes so far.
-fn held_by(slot: &Slot) -> u64
-    ensures { result ≡ held_by (slot_of slot.now) }
+fn held_by<M: Machine>(slot: &Slot<M>) -> u64
+    ensures { result ≡ held_by (slot_of M.seen slot.now) }
 {
     let spool = slot.units.spool();
     let characters = spool.characters() as u64;
@@ -34,8 +35,8 @@ fn is_more(bytes: u64, most: &Option<Holder>) -> bool
 }
 
 // Notes the job of a seat, where it holds more than the one that is noted.
-fn note_more(most: &mut Option<Holder>, seat: &Option<Slot>)
-    ensures { most.new ≡ more_held most.old (seat_of seat.now) }
+fn note_more<M: Machine>(most: &mut Option<Holder>, seat: &Option<Slot<M>>)
+    ensures { most.new ≡ more_held most.old (seat_of M.seen seat.now) }
 {
     if let Some(slot) = seat {
         let bytes = held_by(slot);
@@ -50,8 +51,8 @@ fn note_more(most: &mut Option<Holder>, seat: &Option<Slot>)
 }
 
 // The job in these seats that holds most, if there is a job: the first of those that hold as much.
-pub(crate) fn most_held(seats: &[Option<Slot>]) -> Option<Holder>
-    ensures { result ≡ most_held (seats_of seats.now) }
+pub(crate) fn most_held<M: Machine>(seats: &[Option<Slot<M>>]) -> Option<Holder>
+    ensures { result ≡ most_held (seats_of M.seen seats.now) }
 {
     let mut most = None;
     for seat in seats {

@@ -3,7 +3,7 @@
 use mon_catalogue::PackedLines;
 use mon_text::Name;
 use mon_unit::Notes;
-use sno_run::Ending;
+use machine::Ending;
 
 /// A job that has ended: its number and the name of its account, what it spooled, its notes, how it ended, and how many of
 /// its statements had begun.

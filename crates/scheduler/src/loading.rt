@@ -3,24 +3,22 @@ ghost use Rattle.std.specs.Prelude.{◌≡◌, ◌<◌, ℕ, List, drop, length,
 ghost use Rattle.mon_access.specs.Accounts.{find_account};
 ghost use Rattle.sno_cards.specs.Answers.{IfRefused};
 ghost use Rattle.sno_cards.specs.Statements.{statements_of};
-ghost use Rattle.sno_syntax.specs.Refusals.{syntax_refusal};
-ghost use Rattle.sno_syntax.specs.Programs.{program_of, IsProgram};
 ghost use Rattle.mon_unit.specs.Tying.{new_units};
 ghost use Rattle.scheduler.specs.Abstraction.{slot_of};
-ghost use Rattle.scheduler.specs.Loads.{first_units, with_ties, ties_refusal, program_refusal, program_in, deck_refusal, slot_in};
+ghost use Rattle.scheduler.specs.Loads.{first_units, with_ties, ties_refusal, program_refusal, job_in_cards, deck_refusal, slot_in};
+ghost use Rattle.sno_cards.specs.Limits.{AreLimits};
 ghost use Rattle.scheduler.specs.inner.Parts.{slot_by};
 ghost use Rattle.scheduler.specs.Memory.{DeckMayGrow};
-ghost use Rattle.scheduler.specs.inner.Spelling.{IsSpelled};
 ghost use Rattle.scheduler.specs.inner.Carding.{refused_by};
 
 use crate::refusal::LoadError;
+use machine::Machine;
 use crate::slot::Slot;
 use deck_syntax::{JobDeck, UnitCard, UnitCards};
 use mon_access::{Account, Accounts};
 use mon_text::{Line, Stop};
 use mon_unit::{Lines, UnitError, Units};
-use sno_run::Job;
-use sno_syntax::{Program, ProgramCards, parse, statements};
+use sno_cards::{Limits, ProgramCards, statements};
 use sno_text::Seed;
 use std::alloc::{AllocError, Global};
 
@@ -55,10 +53,10 @@ fn ties_refused(cards: &[UnitCard]) -> Option<UnitError>
 }
 
 // The account of a job whose unit cards are not refused. It takes no memory.
-fn account_of<'a>(accounts: &'a Accounts, deck: &JobDeck) -> Result<&'a Account, LoadError>
+fn account_of<'a, M: Machine>(accounts: &'a Accounts, deck: &JobDeck) -> Result<&'a Account, LoadError>
     ensures account { IfOk result (λ account. find_account accounts.now deck.now.account ≡ Some account.now) }
     ensures clean { OnOk result (ties_refusal deck.now.ties (first_units deck.now.lines) ≡ None) }
-    ensures refused { IfErr result (λ refusal. deck_refusal accounts.now deck.now ≡ Some refusal) }
+    ensures refused { IfErr result (λ refusal. deck_refusal M.seen.meaning accounts.now deck.now ≡ Some refusal) }
 {
     let Some(account) = accounts.find(&deck.account) else {
         return Err(LoadError::NoAccount);
@@ -70,9 +68,9 @@ fn account_of<'a>(accounts: &'a Accounts, deck: &JobDeck) -> Result<&'a Account,
 }
 
 // The cards of the program. A refusal of theirs takes no memory.
-fn cards_of(alloc: Global, lines: &Lines) -> Result<ProgramCards, Stop<LoadError>>
+fn cards_of<M: Machine>(alloc: Global, lines: &Lines) -> Result<ProgramCards, Stop<LoadError>>
     ensures cards { IfOk result (λ cards. statements_of lines.now ≡ Ok cards) }
-    ensures refused { IfErr result (IfRefused (λ refusal. program_refusal (statements_of lines.now) ≡ Some refusal)) }
+    ensures refused { IfErr result (IfRefused (λ refusal. program_refusal M.seen.meaning (statements_of lines.now) ≡ Some refusal)) }
     ensures memory { IsErrOf result Stop.Memory → IsOk (statements_of lines.now) }
 {
     match statements(alloc, lines.as_slice()) {
@@ -123,60 +121,68 @@ fn tied(alloc: Global, lines: Lines, ties: &UnitCards) -> Result<Units, AllocErr
     Ok(units)
 }
 
-// The program that the cards spell.
-fn program_of(alloc: Global, seed: Seed, cards: &ProgramCards) -> Result<Program, Stop<LoadError>>
-    ensures program { IfOk result (λ program. IsProgram cards.now (program_of program)) }
-    ensures refused { IfErr result (IfRefused (λ refusal. option_map LoadError.Syntax (syntax_refusal cards.now) ≡ Some refusal)) }
+// The job of the program that the cards spell.
+fn loaded<M: Machine>(
+    alloc: Global,
+    seed: Seed,
+    cards: &ProgramCards,
+    limits: Limits,
+) -> Result<M, Stop<LoadError>>
+    requires { AreLimits limits }
+    ensures job { IfOk result (λ job. M.seen.meaning.first limits cards.now ≡ Some (M.seen.job job)) }
+    ensures refused { IfErr result (IfRefused (λ refusal. option_map LoadError.Syntax (M.seen.meaning.refusal cards.now) ≡ Some refusal)) }
 {
-    match parse(alloc, seed, cards) {
-        Ok(program) => Ok(program),
+    match M::load(alloc, seed, cards, limits) {
+        Ok(job) => Ok(job),
         Err(Stop::Refused(refusal)) => Err(Stop::Refused(LoadError::Syntax(refusal))),
         Err(Stop::Memory) => Err(Stop::Memory),
     }
 }
 
-// A program, and the units of its job.
+// A job, and its units.
 #[derive(Drop)]
-struct Parts {
+struct Parts<M> {
     units: Units,
-    program: Program,
+    job: M,
 }
 
-fn parts_of(
+fn parts_of<M: Machine>(
     alloc: Global,
     seed: Seed,
     lines: &Lines,
     ties: &UnitCards,
-) -> Result<Parts, Stop<LoadError>>
-    requires { ties_refusal ties.now (first_units lines.now) ≡ None }
+    limits: Limits,
+) -> Result<Parts<M>, Stop<LoadError>>
+    requires limits { AreLimits limits }
+    requires ties { ties_refusal ties.now (first_units lines.now) ≡ None }
     ensures units { IfOk result (λ parts. parts.units ≡ with_ties ties.now (first_units lines.now)) }
-    ensures program { IfOk result (λ parts. IsSpelled (statements_of lines.now) (program_of parts.program)) }
-    ensures refused { IfErr result (IfRefused (λ refusal. program_refusal (statements_of lines.now) ≡ Some refusal)) }
+    ensures job { IfOk result (λ parts. job_in_cards M.seen.meaning limits (statements_of lines.now) ≡ Some (M.seen.job parts.job)) }
+    ensures refused { IfErr result (IfRefused (λ refusal. program_refusal M.seen.meaning (statements_of lines.now) ≡ Some refusal)) }
     ensures memory { IsErrOf result Stop.Memory → IsOk (statements_of lines.now) }
 {
-    let cards = cards_of(alloc, lines)?;
-    let program = program_of(alloc, seed, &cards)?;
+    let cards = cards_of::<M>(alloc, lines)?;
+    let job = loaded::<M>(alloc, seed, &cards, limits)?;
     let data = copied_from(alloc, lines.as_slice(), cards.data_from())?;
     let units = tied(alloc, data, ties)?;
-    Ok(Parts { units, program })
+    Ok(Parts { units, job })
 }
 
 // What a slot is to hold for a job of this account.
-fn slot_of_account(
+fn slot_of_account<M: Machine>(
     alloc: Global,
     seed: Seed,
     account: &Account,
     deck: JobDeck,
-) -> Result<Slot, Stop<LoadError>>
+) -> Result<Slot<M>, Stop<LoadError>>
     requires { ties_refusal deck.ties (first_units deck.lines) ≡ None }
-    ensures slot { IfOk result (λ slot. slot_by deck (Some account.now) (program_in (statements_of deck.lines)) ≡ Some (slot_of slot)) }
-    ensures clean { OnOk result (program_refusal (statements_of deck.lines) ≡ None) }
-    ensures refused { IfErr result (IfRefused (λ refusal. program_refusal (statements_of deck.lines) ≡ Some refusal)) }
+    ensures slot { IfOk result (λ slot. slot_by M.seen.meaning deck (Some account.now) (job_in_cards M.seen.meaning deck.limits (statements_of deck.lines)) ≡ Some (slot_of M.seen slot)) }
+    ensures clean { OnOk result (program_refusal M.seen.meaning (statements_of deck.lines) ≡ None) }
+    ensures refused { IfErr result (IfRefused (λ refusal. program_refusal M.seen.meaning (statements_of deck.lines) ≡ Some refusal)) }
     ensures memory { IsErrOf result Stop.Memory → IsOk (statements_of deck.lines) }
 {
-    let Parts { units, program } = parts_of(alloc, seed, &deck.lines, &deck.ties)?;
+    let limits = deck.limits.get();
+    let Parts { units, job } = parts_of::<M>(alloc, seed, &deck.lines, &deck.ties, limits)?;
     let account = account.copy(alloc)?;
-    let job = Job::new(alloc, program, deck.limits.get())?;
     Ok(Slot {
         number: deck.number,
         account,
@@ -186,18 +192,18 @@ fn slot_of_account(
 }
 
 // What a slot is to hold for the job.
-pub(crate) fn slot_for(
+pub(crate) fn slot_for<M: Machine>(
     alloc: Global,
     seed: Seed,
     accounts: &Accounts,
     deck: JobDeck,
-) -> Result<Slot, Stop<LoadError>>
-    ensures slot { IfOk result (λ slot. slot_in accounts.now deck ≡ Some (slot_of slot)) }
-    ensures clean { OnOk result (deck_refusal accounts.now deck ≡ None) }
-    ensures refused { IfErr result (IfRefused (λ refusal. deck_refusal accounts.now deck ≡ Some refusal)) }
+) -> Result<Slot<M>, Stop<LoadError>>
+    ensures slot { IfOk result (λ slot. slot_in M.seen.meaning accounts.now deck ≡ Some (slot_of M.seen slot)) }
+    ensures clean { OnOk result (deck_refusal M.seen.meaning accounts.now deck ≡ None) }
+    ensures refused { IfErr result (IfRefused (λ refusal. deck_refusal M.seen.meaning accounts.now deck ≡ Some refusal)) }
     ensures memory { IsErrOf result Stop.Memory → DeckMayGrow accounts.now deck }
 {
-    match account_of(accounts, &deck) {
+    match account_of::<M>(accounts, &deck) {
         Ok(account) => slot_of_account(alloc, seed, account, deck),
         Err(refusal) => Err(Stop::Refused(refusal)),
     }

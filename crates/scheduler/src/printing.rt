@@ -13,7 +13,7 @@ use mon_command::print_reason;
 use mon_device::{Sink, TextSink};
 use mon_text::Name;
 use mon_unit::{Note, NoteAct, NoteTarget, Why};
-use sno_run::Ending;
+use machine::Ending;
 use std::alloc::AllocError;
 
 /// Puts what a job that has ended prints: its own line, each line of its spool, its notes, and how it ended.

@@ -8,7 +8,7 @@ use crate::words::print_number;
 use mon_device::{Sink, TextSink};
 use mon_text::Name;
 use mon_unit::UnitError;
-use sno_syntax::SyntaxError;
+use sno_cards::SyntaxError;
 use std::alloc::AllocError;
 
 /// Why a job is not loaded.

@@ -18,7 +18,7 @@ use crate::slots::{MANY_TURNS, Slots};
 use mon_catalogue::Catalogue;
 use mon_device::Sink;
 use mon_guard::Guard;
-use sno_run::{Ending, Step};
+use machine::{Ending, Machine, Step};
 use std::alloc::{AllocError, Global};
 
 /// Where rounds of turns stop.
@@ -31,8 +31,8 @@ pub enum Goal {
 }
 
 impl Goal {
-    fn is_met(self, slots: &Slots) -> bool
-        ensures { (sets : Sets) → result ≡ stop_of self (scheduler sets (slots_in slots.now)) }
+    fn is_met<M: Machine>(self, slots: &Slots<M>) -> bool
+        ensures { (sets : Sets) → result ≡ stop_of self (scheduler sets (slots_in M.seen slots.now)) }
     {
         match self {
             Goal::Empty => slots.are_empty(),
@@ -41,8 +41,8 @@ impl Goal {
     }
 
     // Whether it is met where some slot has a job.
-    fn is_met_beside_a_job(self, slots: &Slots) -> bool
-        ensures { (sets : Sets) (s : ℕ) → IsSome (seat_at s (slots_in slots.now)) → result ≡ stop_of self (scheduler sets (slots_in slots.now)) }
+    fn is_met_beside_a_job<M: Machine>(self, slots: &Slots<M>) -> bool
+        ensures { (sets : Sets) (s : ℕ) → IsSome (seat_at s (slots_in M.seen slots.now)) → result ≡ stop_of self (scheduler sets (slots_in M.seen slots.now)) }
     {
         match self {
             Goal::Empty => false,
@@ -51,7 +51,7 @@ impl Goal {
     }
 }
 
-impl Slots {
+impl<M: Machine> Slots<M> {
     // Takes a job out of its slot that has ended, and keeps what is left of it. It stays a call, as `take_out` does.
     #[inline(never)]
     fn keep_end<S: Sink>(
@@ -62,13 +62,13 @@ impl Slots {
         ends: &mut Vec<JobEnd>,
         audit: &mut S,
     )
-        requires job { IsSome (seat_at slot (slots_in self.old)) }
+        requires job { IsSome (seat_at slot (slots_in M.seen self.old)) }
         requires room { vec_len ends.old + 1 ≤ vec_capacity ends.old }
-        ensures items { (job : SlotState) → seat_at slot (slots_in self.old) ≡ Some job → ends.new.items ≡ ends.old.items ++ job_end job ending ∷ [] }
-        ensures audited { (job : SlotState) → seat_at slot (slots_in self.old) ≡ Some job → Puts (S.standing audit.old) (S.standing audit.new) (ended_line (job_end job ending)) }
+        ensures items { (job : SlotState M.seen.meaning) → seat_at slot (slots_in M.seen self.old) ≡ Some job → ends.new.items ≡ ends.old.items ++ job_end job ending ∷ [] }
+        ensures audited { (job : SlotState M.seen.meaning) → seat_at slot (slots_in M.seen self.old) ≡ Some job → Puts (S.standing audit.old) (S.standing audit.new) (ended_line (job_end job ending)) }
         ensures len { vec_len ends.new ≡ vec_len ends.old + 1 }
         ensures room { vec_capacity ends.old ≤ vec_capacity ends.new }
-        ensures slots { slots_in self.new ≡ with_seat slot None (slots_in self.old) }
+        ensures slots { slots_in M.seen self.new ≡ with_seat slot None (slots_in M.seen self.old) }
     {
         let end = self.take_out(alloc, slot, ending, audit);
         ends.push(end).unwrap();
@@ -85,12 +85,12 @@ impl Slots {
         audit: &mut S,
     )
         requires fit { CacheFits guard.old catalogue.old }
-        requires room { vec_len ends.old + min 1 (jobs_in (slots_in self.old)) ≤ vec_capacity ends.old }
-        ensures turn { OneTurn slot (scheduler catalogue.old (slots_in self.old)) ends.old.items ends.new.items (scheduler catalogue.new (slots_in self.new)) (S.standing audit.old) (S.standing audit.new) }
-        ensures jobs { vec_len ends.new + jobs_in (slots_in self.new) ≡ vec_len ends.old + jobs_in (slots_in self.old) }
+        requires room { vec_len ends.old + min 1 (jobs_in (slots_in M.seen self.old)) ≤ vec_capacity ends.old }
+        ensures turn { OneTurn slot (scheduler catalogue.old (slots_in M.seen self.old)) ends.old.items ends.new.items (scheduler catalogue.new (slots_in M.seen self.new)) (S.standing audit.old) (S.standing audit.new) }
+        ensures jobs { vec_len ends.new + jobs_in (slots_in M.seen self.new) ≡ vec_len ends.old + jobs_in (slots_in M.seen self.old) }
         ensures one { vec_len ends.new ≤ vec_len ends.old + 1 }
         ensures room { vec_capacity ends.old ≤ vec_capacity ends.new }
-        ensures size { length (slots_in self.new) ≡ length (slots_in self.old) }
+        ensures size { length (slots_in M.seen self.new) ≡ length (slots_in M.seen self.old) }
         ensures fit { CacheFits guard.new catalogue.new }
     {
         match self.step(alloc, guard, catalogue, slot, audit) {
@@ -114,8 +114,8 @@ impl Slots {
         audit: &mut S,
     ) -> Result<Vec<JobEnd>, AllocError>
         requires fit { CacheFits guard.old catalogue.old }
-        ensures marked { IfOk result (λ ends. MarkedIs order.now (scheduler catalogue.old (slots_in self.old)) ends.items (scheduler catalogue.new (slots_in self.new)) (S.standing audit.old) (S.standing audit.new)) }
-        ensures size { length (slots_in self.new) ≡ length (slots_in self.old) }
+        ensures marked { IfOk result (λ ends. MarkedIs order.now (scheduler catalogue.old (slots_in M.seen self.old)) ends.items (scheduler catalogue.new (slots_in M.seen self.new)) (S.standing audit.old) (S.standing audit.new)) }
+        ensures size { length (slots_in M.seen self.new) ≡ length (slots_in M.seen self.old) }
         ensures unchanged { OnErr result (self.new ≡ self.old) }
         ensures sets { OnErr result (catalogue.new ≡ catalogue.old) }
         ensures silent { OnErr result (S.standing audit.new ≡ S.standing audit.old) }
@@ -144,8 +144,8 @@ impl Slots {
         audit: &mut S,
     ) -> Option<JobEnd>
         requires fit { CacheFits guard.old catalogue.old }
-        ensures marked { MarkedIs (replicate count slot) (scheduler catalogue.old (slots_in self.old)) (end_in result) (scheduler catalogue.new (slots_in self.new)) (S.standing audit.old) (S.standing audit.new) }
-        ensures size { length (slots_in self.new) ≡ length (slots_in self.old) }
+        ensures marked { MarkedIs (replicate count slot) (scheduler catalogue.old (slots_in M.seen self.old)) (end_in result) (scheduler catalogue.new (slots_in M.seen self.new)) (S.standing audit.old) (S.standing audit.new) }
+        ensures size { length (slots_in M.seen self.new) ≡ length (slots_in M.seen self.old) }
         ensures fit { CacheFits guard.new catalogue.new }
     {
         self.begin_turns_of(alloc, slot, count);
@@ -156,7 +156,7 @@ impl Slots {
 
     // Before turns of one slot, if there are any.
     fn begin_turns_of(&mut self, alloc: Global, slot: u8, count: u64)
-        ensures { slots_in self.new ≡ slots_in self.old }
+        ensures { slots_in M.seen self.new ≡ slots_in M.seen self.old }
     {
         if self.has_job(slot) {
             self.begin_turns(alloc, count);
@@ -174,8 +174,8 @@ impl Slots {
         audit: &mut S,
     ) -> Option<JobEnd>
         requires fit { CacheFits guard.old catalogue.old }
-        ensures marked { MarkedIs (replicate count slot) (scheduler catalogue.old (slots_in self.old)) (end_in result) (scheduler catalogue.new (slots_in self.new)) (S.standing audit.old) (S.standing audit.new) }
-        ensures size { length (slots_in self.new) ≡ length (slots_in self.old) }
+        ensures marked { MarkedIs (replicate count slot) (scheduler catalogue.old (slots_in M.seen self.old)) (end_in result) (scheduler catalogue.new (slots_in M.seen self.new)) (S.standing audit.old) (S.standing audit.new) }
+        ensures size { length (slots_in M.seen self.new) ≡ length (slots_in M.seen self.old) }
         ensures fit { CacheFits guard.new catalogue.new }
     {
         for _ in 0..count {
@@ -202,10 +202,10 @@ impl Slots {
         audit: &mut S,
     )
         requires fit { CacheFits guard.old catalogue.old }
-        requires room { vec_len ends.old + jobs_in (slots_in self.old) ≤ vec_capacity ends.old }
-        ensures turn { Unless (stop_of goal) slot (scheduler catalogue.old (slots_in self.old)) ends.old.items ends.new.items (scheduler catalogue.new (slots_in self.new)) (S.standing audit.old) (S.standing audit.new) }
-        ensures room { vec_len ends.new + jobs_in (slots_in self.new) ≤ vec_capacity ends.new }
-        ensures size { length (slots_in self.new) ≡ length (slots_in self.old) }
+        requires room { vec_len ends.old + jobs_in (slots_in M.seen self.old) ≤ vec_capacity ends.old }
+        ensures turn { Unless (stop_of goal) slot (scheduler catalogue.old (slots_in M.seen self.old)) ends.old.items ends.new.items (scheduler catalogue.new (slots_in M.seen self.new)) (S.standing audit.old) (S.standing audit.new) }
+        ensures room { vec_len ends.new + jobs_in (slots_in M.seen self.new) ≤ vec_capacity ends.new }
+        ensures size { length (slots_in M.seen self.new) ≡ length (slots_in M.seen self.old) }
         ensures fit { CacheFits guard.new catalogue.new }
     {
         if self.has_job(slot) && !goal.is_met_beside_a_job(self) {
@@ -224,9 +224,9 @@ impl Slots {
         audit: &mut S,
     )
         requires fit { CacheFits guard.old catalogue.old }
-        requires room { vec_len ends.old + jobs_in (slots_in self.old) ≤ vec_capacity ends.old }
-        ensures round { RoundTo (stop_of goal) (scheduler catalogue.old (slots_in self.old)) ends.old.items ends.new.items [] (scheduler catalogue.new (slots_in self.new)) (S.standing audit.old) (S.standing audit.new) }
-        ensures room { vec_len ends.new + jobs_in (slots_in self.new) ≤ vec_capacity ends.new }
+        requires room { vec_len ends.old + jobs_in (slots_in M.seen self.old) ≤ vec_capacity ends.old }
+        ensures round { RoundTo (stop_of goal) (scheduler catalogue.old (slots_in M.seen self.old)) ends.old.items ends.new.items [] (scheduler catalogue.new (slots_in M.seen self.new)) (S.standing audit.old) (S.standing audit.new) }
+        ensures room { vec_len ends.new + jobs_in (slots_in M.seen self.new) ≤ vec_capacity ends.new }
         ensures fit { CacheFits guard.new catalogue.new }
     {
         let count = self.len() as u8;
@@ -237,7 +237,7 @@ impl Slots {
 
     // Before rounds of turns, if there are any.
     fn begin_rounds(&mut self, alloc: Global, goal: Goal)
-        ensures { slots_in self.new ≡ slots_in self.old }
+        ensures { slots_in M.seen self.new ≡ slots_in M.seen self.old }
     {
         if !goal.is_met(self) {
             self.begin_turns(alloc, MANY_TURNS);
@@ -255,12 +255,12 @@ impl Slots {
         audit: &mut S,
     )
         requires fit { CacheFits guard.old catalogue.old }
-        requires lone { IsLone slot (slots_in self.old) }
-        requires room { vec_len ends.old + jobs_in (slots_in self.old) ≤ vec_capacity ends.old }
-        ensures going { GoingTo is_done (scheduler catalogue.old (slots_in self.old)) ends.old.items ends.new.items (scheduler catalogue.new (slots_in self.new)) (S.standing audit.old) (S.standing audit.new) }
-        ensures less { turns_left (slots_in self.new) < turns_left (slots_in self.old) }
-        ensures room { vec_len ends.new + jobs_in (slots_in self.new) ≤ vec_capacity ends.new }
-        ensures size { length (slots_in self.new) ≡ length (slots_in self.old) }
+        requires lone { IsLone slot (slots_in M.seen self.old) }
+        requires room { vec_len ends.old + jobs_in (slots_in M.seen self.old) ≤ vec_capacity ends.old }
+        ensures going { GoingTo is_done (scheduler catalogue.old (slots_in M.seen self.old)) ends.old.items ends.new.items (scheduler catalogue.new (slots_in M.seen self.new)) (S.standing audit.old) (S.standing audit.new) }
+        ensures less { turns_left (slots_in M.seen self.new) < turns_left (slots_in M.seen self.old) }
+        ensures room { vec_len ends.new + jobs_in (slots_in M.seen self.new) ≤ vec_capacity ends.new }
+        ensures size { length (slots_in M.seen self.new) ≡ length (slots_in M.seen self.old) }
         ensures fit { CacheFits guard.new catalogue.new }
     {
         let ending = self.run_lone(alloc, guard, catalogue, slot, audit);
@@ -270,7 +270,7 @@ impl Slots {
     // The slot of the job that is alone, if that is looked for on the way to empty slots.
     fn lone_on_way(&self, goal: Goal, looks: bool) -> Option<u8>
         ensures goal { IsSome result → goal ≡ Goal.Empty }
-        ensures lone { IfSome result (λ s. IsLone s (slots_in self.now)) }
+        ensures lone { IfSome result (λ s. IsLone s (slots_in M.seen self.now)) }
     {
         if !looks {
             return None;
@@ -293,12 +293,12 @@ impl Slots {
         audit: &mut S,
     )
         requires fit { CacheFits guard.old catalogue.old }
-        requires busy { stop_of goal (scheduler catalogue.old (slots_in self.old)) ≡ false }
-        requires room { vec_len ends.old + jobs_in (slots_in self.old) ≤ vec_capacity ends.old }
-        ensures going { GoingTo (stop_of goal) (scheduler catalogue.old (slots_in self.old)) ends.old.items ends.new.items (scheduler catalogue.new (slots_in self.new)) (S.standing audit.old) (S.standing audit.new) }
-        ensures less { turns_left (slots_in self.new) < turns_left (slots_in self.old) }
-        ensures room { vec_len ends.new + jobs_in (slots_in self.new) ≤ vec_capacity ends.new }
-        ensures size { length (slots_in self.new) ≡ length (slots_in self.old) }
+        requires busy { stop_of goal (scheduler catalogue.old (slots_in M.seen self.old)) ≡ false }
+        requires room { vec_len ends.old + jobs_in (slots_in M.seen self.old) ≤ vec_capacity ends.old }
+        ensures going { GoingTo (stop_of goal) (scheduler catalogue.old (slots_in M.seen self.old)) ends.old.items ends.new.items (scheduler catalogue.new (slots_in M.seen self.new)) (S.standing audit.old) (S.standing audit.new) }
+        ensures less { turns_left (slots_in M.seen self.new) < turns_left (slots_in M.seen self.old) }
+        ensures room { vec_len ends.new + jobs_in (slots_in M.seen self.new) ≤ vec_capacity ends.new }
+        ensures size { length (slots_in M.seen self.new) ≡ length (slots_in M.seen self.old) }
         ensures fit { CacheFits guard.new catalogue.new }
     {
         match self.lone_on_way(goal, looks) {
@@ -317,8 +317,8 @@ impl Slots {
         audit: &mut S,
     ) -> Result<Vec<JobEnd>, AllocError>
         requires fit { CacheFits guard.old catalogue.old }
-        ensures rounds { IfOk result (λ ends. RoundsAre (stop_of goal) (scheduler catalogue.old (slots_in self.old)) ends.items (scheduler catalogue.new (slots_in self.new)) (S.standing audit.old) (S.standing audit.new)) }
-        ensures size { length (slots_in self.new) ≡ length (slots_in self.old) }
+        ensures rounds { IfOk result (λ ends. RoundsAre (stop_of goal) (scheduler catalogue.old (slots_in M.seen self.old)) ends.items (scheduler catalogue.new (slots_in M.seen self.new)) (S.standing audit.old) (S.standing audit.new)) }
+        ensures size { length (slots_in M.seen self.new) ≡ length (slots_in M.seen self.old) }
         ensures unchanged { OnErr result (self.new ≡ self.old) }
         ensures sets { OnErr result (catalogue.new ≡ catalogue.old) }
         ensures silent { OnErr result (S.standing audit.new ≡ S.standing audit.old) }
@@ -350,8 +350,8 @@ impl Slots {
         audit: &mut S,
     ) -> Result<Vec<JobEnd>, AllocError>
         requires fit { CacheFits guard.old catalogue.old }
-        ensures drain { IfOk result (λ ends. DrainIs (scheduler catalogue.old (slots_in self.old)) ends.items (scheduler catalogue.new (slots_in self.new)) (S.standing audit.old) (S.standing audit.new)) }
-        ensures size { length (slots_in self.new) ≡ length (slots_in self.old) }
+        ensures drain { IfOk result (λ ends. DrainIs (scheduler catalogue.old (slots_in M.seen self.old)) ends.items (scheduler catalogue.new (slots_in M.seen self.new)) (S.standing audit.old) (S.standing audit.new)) }
+        ensures size { length (slots_in M.seen self.new) ≡ length (slots_in M.seen self.old) }
         ensures unchanged { OnErr result (self.new ≡ self.old) }
         ensures sets { OnErr result (catalogue.new ≡ catalogue.old) }
         ensures silent { OnErr result (S.standing audit.new ≡ S.standing audit.old) }
@@ -373,8 +373,8 @@ impl Slots {
         audit: &mut S,
     ) -> Result<Vec<JobEnd>, AllocError>
         requires fit { CacheFits guard.old catalogue.old }
-        ensures room { IfOk result (λ ends. RoomIs (scheduler catalogue.old (slots_in self.old)) ends.items (scheduler catalogue.new (slots_in self.new)) (S.standing audit.old) (S.standing audit.new)) }
-        ensures size { length (slots_in self.new) ≡ length (slots_in self.old) }
+        ensures room { IfOk result (λ ends. RoomIs (scheduler catalogue.old (slots_in M.seen self.old)) ends.items (scheduler catalogue.new (slots_in M.seen self.new)) (S.standing audit.old) (S.standing audit.new)) }
+        ensures size { length (slots_in M.seen self.new) ≡ length (slots_in M.seen self.old) }
         ensures unchanged { OnErr result (self.new ≡ self.old) }
         ensures sets { OnErr result (catalogue.new ≡ catalogue.old) }
         ensures silent { OnErr result (S.standing audit.new ≡ S.standing audit.old) }

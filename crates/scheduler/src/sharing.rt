@@ -4,9 +4,10 @@ ghost use Rattle.std.specs.List.{list_any};
 ghost use Rattle.scheduler.specs.inner.Sharing.{seats_share, are_apart};
 
 use crate::slot::Slot;
+use machine::Machine;
 
 // Whether a data set is tied in both.
-fn share(seat: &Option<Slot>, other: &Option<Slot>) -> bool
+fn share<M: Machine>(seat: &Option<Slot<M>>, other: &Option<Slot<M>>) -> bool
     ensures { result ≡ seats_share seat.now other.now }
 {
     match (seat, other) {
@@ -15,14 +16,14 @@ fn share(seat: &Option<Slot>, other: &Option<Slot>) -> bool
     }
 }
 
-fn any_shares(seat: &Option<Slot>, others: &[Option<Slot>]) -> bool
+fn any_shares<M: Machine>(seat: &Option<Slot<M>>, others: &[Option<Slot<M>>]) -> bool
     ensures { result ≡ list_any (seats_share seat.now) others.now }
 {
     others.iter().any(|other| share(seat, other))
 }
 
 // Whether no data set is tied in two of these.
-pub(crate) fn are_apart(slots: &[Option<Slot>]) -> bool
+pub(crate) fn are_apart<M: Machine>(slots: &[Option<Slot<M>>]) -> bool
     ensures { result ≡ are_apart slots.now }
 {
     for index in 0..slots.len() {

@@ -4,7 +4,6 @@ ghost use Rattle.mon_guard.specs.Cache.{CacheFits};
 ghost use Rattle.scheduler.specs.States.{SlotState};
 ghost use Rattle.scheduler.specs.Abstraction.{slot_of, seat_of};
 ghost use Rattle.scheduler.specs.Turns.{job_end};
-ghost use Rattle.sno_run.specs.Abstraction.{job_of};
 ghost use Rattle.mon_unit.specs.Lent.{reach_of};
 ghost use Rattle.mon_unit.specs.inner.Keeping.{KeptFits};
 ghost use Rattle.scheduler.specs.Turns.{reached};
@@ -17,31 +16,31 @@ use mon_catalogue::Catalogue;
 use mon_device::Sink;
 use mon_guard::Guard;
 use mon_unit::{AuditedService, KeptLines, UnitService, Units};
-use sno_run::{Ending, Job, Step, statement_turn};
+use machine::{Ending, Machine, Step};
 use std::alloc::Global;
 use std::mem;
 
 /// A job in a slot: its number, the account that it is for, the job itself, and its units.
 #[derive(Drop)]
-pub struct Slot {
+pub struct Slot<M> {
     pub number: u64,
     pub account: Account,
-    pub job: Job,
+    pub job: M,
     pub units: Units,
 }
 
 // One turn of a job over its units, of which each exchange is put to the audit. It is apart from `turn_of`, where the loans are made.
 #[inline(always)]
-fn audited_turn<S: Sink>(
+fn audited_turn<M: Machine, S: Sink>(
     alloc: Global,
-    job: &mut Job,
+    job: &mut M,
     service: &mut UnitService,
     audit: &mut S,
     kept: &mut KeptLines,
 ) -> Step
     requires fit { CacheFits service.old.guard.now service.old.catalogue.now }
     requires kept { KeptFits kept.old.number service.old.account.now (reach_of service.old) kept.old }
-    ensures turn { Done kept.old.number (job_of job.old) service.old result (job_of job.new) service.new (S.standing audit.old) (S.standing audit.new) }
+    ensures turn { Done M.seen.meaning kept.old.number (M.seen.job job.old) service.old result (M.seen.job job.new) service.new (S.standing audit.old) (S.standing audit.new) }
     ensures fit { CacheFits service.new.guard.now service.new.catalogue.now }
     ensures kept { StillKept kept.old.number service.new kept.new }
 {
@@ -50,25 +49,25 @@ fn audited_turn<S: Sink>(
         audit: &mut *audit,
         kept: &mut *kept,
     };
-    statement_turn(alloc, job, &mut audited)
+    job.turn(alloc, &mut audited)
 }
 
 // One turn of the job in a slot.
 #[inline(always)]
-fn turn_of<S: Sink>(
+fn turn_of<M: Machine, S: Sink>(
     alloc: Global,
     guard: &mut Guard,
     catalogue: &mut Catalogue,
-    slot: &mut Slot,
+    slot: &mut Slot<M>,
     audit: &mut S,
     kept: &mut KeptLines,
 ) -> Step
     requires fit { CacheFits guard.old catalogue.old }
-    requires kept { KeptFits slot.old.number slot.old.account (reached catalogue.old (slot_of slot.old)) kept.old }
+    requires kept { KeptFits slot.old.number slot.old.account (reached catalogue.old (slot_of M.seen slot.old)) kept.old }
     requires number { kept.old.number ≡ slot.old.number }
-    ensures step { Stepped (slot_of slot.old) catalogue.old result (slot_of slot.new) catalogue.new (S.standing audit.old) (S.standing audit.new) }
+    ensures step { Stepped (slot_of M.seen slot.old) catalogue.old result (slot_of M.seen slot.new) catalogue.new (S.standing audit.old) (S.standing audit.new) }
     ensures fit { CacheFits guard.new catalogue.new }
-    ensures kept { KeptFits slot.new.number slot.new.account (reached catalogue.new (slot_of slot.new)) kept.new }
+    ensures kept { KeptFits slot.new.number slot.new.account (reached catalogue.new (slot_of M.seen slot.new)) kept.new }
     ensures number { kept.new.number ≡ slot.new.number }
 {
     let mut service = UnitService {
@@ -82,8 +81,8 @@ fn turn_of<S: Sink>(
 }
 
 // What is left of a job that has ended.
-fn end_of(slot: Slot, ending: Ending) -> JobEnd
-    ensures { result ≡ job_end (slot_of slot) ending }
+fn end_of<M: Machine>(slot: Slot<M>, ending: Ending) -> JobEnd
+    ensures { result ≡ job_end (slot_of M.seen slot) ending }
 {
     let account = slot.account.name.copy();
     let statements = slot.job.statements();
@@ -99,10 +98,10 @@ fn end_of(slot: Slot, ending: Ending) -> JobEnd
 }
 
 // A job that has ended leaves its seat.
-pub(crate) fn leave(seat: &mut Option<Slot>, ending: Ending) -> JobEnd
+pub(crate) fn leave<M: Machine>(seat: &mut Option<Slot<M>>, ending: Ending) -> JobEnd
     requires { IsSome seat.old }
-    ensures end { (slot : SlotState) → seat_of seat.old ≡ Some slot → result ≡ job_end slot ending }
-    ensures empty { seat_of seat.new ≡ None }
+    ensures end { (slot : SlotState M.seen.meaning) → seat_of M.seen seat.old ≡ Some slot → result ≡ job_end slot ending }
+    ensures empty { seat_of M.seen seat.new ≡ None }
 {
     let slot = mem::replace(seat, None).unwrap();
     end_of(slot, ending)
@@ -110,15 +109,15 @@ pub(crate) fn leave(seat: &mut Option<Slot>, ending: Ending) -> JobEnd
 
 // One turn of what a slot holds, if it holds a job. One that has ended stays in its seat until it leaves.
 #[inline(always)]
-pub(crate) fn step_at<S: Sink>(
+pub(crate) fn step_at<M: Machine, S: Sink>(
     alloc: Global,
     guard: &mut Guard,
     catalogue: &mut Catalogue,
-    seat: &mut Option<Slot>,
+    seat: &mut Option<Slot<M>>,
     audit: &mut S,
 ) -> Option<Step>
     requires fit { CacheFits guard.old catalogue.old }
-    ensures step { SeatStep (seat_of seat.old) catalogue.old result (seat_of seat.new) catalogue.new (S.standing audit.old) (S.standing audit.new) }
+    ensures step { SeatStep (seat_of M.seen seat.old) catalogue.old result (seat_of M.seen seat.new) catalogue.new (S.standing audit.old) (S.standing audit.new) }
     ensures fit { CacheFits guard.new catalogue.new }
 {
     match seat {
@@ -131,15 +130,15 @@ pub(crate) fn step_at<S: Sink>(
 }
 
 // Turns of a job, until it has ended. Words of the audit's lines are kept from one to the next.
-fn run_to_end<S: Sink>(
+fn run_to_end<M: Machine, S: Sink>(
     alloc: Global,
     guard: &mut Guard,
     catalogue: &mut Catalogue,
-    slot: &mut Slot,
+    slot: &mut Slot<M>,
     audit: &mut S,
 ) -> Ending
     requires fit { CacheFits guard.old catalogue.old }
-    ensures goes { GoesToEnd (slot_of slot.old) catalogue.old result (slot_of slot.new) catalogue.new (S.standing audit.old) (S.standing audit.new) }
+    ensures goes { GoesToEnd (slot_of M.seen slot.old) catalogue.old result (slot_of M.seen slot.new) catalogue.new (S.standing audit.old) (S.standing audit.new) }
     ensures fit { CacheFits guard.new catalogue.new }
 {
     let mut kept = KeptLines::new(slot.number);
@@ -152,15 +151,15 @@ fn run_to_end<S: Sink>(
 }
 
 // Turns of what a slot holds, if it holds a job, until that has ended. It stays in its seat until it leaves.
-pub(crate) fn run_at<S: Sink>(
+pub(crate) fn run_at<M: Machine, S: Sink>(
     alloc: Global,
     guard: &mut Guard,
     catalogue: &mut Catalogue,
-    seat: &mut Option<Slot>,
+    seat: &mut Option<Slot<M>>,
     audit: &mut S,
 ) -> Option<Ending>
     requires fit { CacheFits guard.old catalogue.old }
-    ensures ended { SeatEnds (seat_of seat.old) catalogue.old result (seat_of seat.new) catalogue.new (S.standing audit.old) (S.standing audit.new) }
+    ensures ended { SeatEnds (seat_of M.seen seat.old) catalogue.old result (seat_of M.seen seat.new) catalogue.new (S.standing audit.old) (S.standing audit.new) }
     ensures fit { CacheFits guard.new catalogue.new }
 {
     match seat {

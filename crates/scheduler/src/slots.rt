@@ -19,7 +19,7 @@ use mon_catalogue::Catalogue;
 use mon_device::Sink;
 use mon_guard::Guard;
 use mon_text::Stop;
-use sno_run::{Ending, Step};
+use machine::{Ending, Machine, Step};
 use sno_text::Seed;
 use std::alloc::{AllocError, Global};
 
@@ -30,8 +30,8 @@ pub(crate) const MANY_TURNS: u64 = 1_000;
 ///
 /// Contracts see them by `slots_in` as the list of what they hold. They are counted from 1.
 #[derive(Drop)]
-pub struct Slots {
-    items: Vec<Option<Slot>>,
+pub struct Slots<M> {
+    items: Vec<Option<Slot<M>>>,
     // By which what the jobs name is hashed.
     seed: Seed,
     // What jobs must leave to cards and commands, and what one must leave to the others.
@@ -41,7 +41,7 @@ pub struct Slots {
     ghost few: { length items.items ≤ 8 },
 }
 
-impl Slots {
+impl<M: Machine> Slots<M> {
     ghost use Rattle.mon_catalogue.specs.Sets.{Sets};
     ghost use Rattle.mon_guard.specs.Cache.{CacheFits};
     ghost use Rattle.mon_device.specs.Putting.{Puts};
@@ -66,7 +66,7 @@ impl Slots {
     #[tactic(auto, using(crate::proofs::Seats::empty_seats))]
     pub fn new(alloc: Global, seed: Seed, count: u8) -> Result<Slots, AllocError>
         requires { (1 ≤ count) × (count ≤ 8) }
-        ensures { IfOk result (λ slots. slots_in slots ≡ replicate count None) }
+        ensures { IfOk result (λ slots. slots_in M.seen slots ≡ replicate count None) }
     {
         let mut items = Vec::new(alloc);
         for _ in 0..count {
@@ -83,28 +83,28 @@ impl Slots {
 
     // How many slots there are.
     pub(crate) fn len(&self) -> usize
-        ensures { result ≡ length (slots_in self.now) }
+        ensures { result ≡ length (slots_in M.seen self.now) }
     {
         self.items.len()
     }
 
     /// Whether a slot is empty.
     pub fn has_room(&self) -> bool
-        ensures { result ≡ is_some (first_free (slots_in self.now)) }
+        ensures { result ≡ is_some (first_free (slots_in M.seen self.now)) }
     {
         has_room_in(&self.items)
     }
 
     // Whether all slots are empty.
     pub(crate) fn are_empty(&self) -> bool
-        ensures { result ≡ list_all is_none (slots_in self.now) }
+        ensures { result ≡ list_all is_none (slots_in M.seen self.now) }
     {
         are_empty(&self.items)
     }
 
     // The slot whose job is alone, if one has a job and no other.
     pub(crate) fn lone_slot(&self) -> Option<u8>
-        ensures { IfSome result (λ s. IsLone s (slots_in self.now)) }
+        ensures { IfSome result (λ s. IsLone s (slots_in M.seen self.now)) }
     {
         let index = lone_in(&self.items)?;
         Some(index as u8 + 1)
@@ -112,7 +112,7 @@ impl Slots {
 
     /// Whether no data set is tied by units of two slots. It takes no memory.
     pub fn independent(&self) -> bool
-        ensures { (sets : Sets) → IsTrue result ↔ Independent (scheduler sets (slots_in self.now)) }
+        ensures { (sets : Sets) → IsTrue result ↔ Independent (scheduler sets (slots_in M.seen self.now)) }
     {
         are_apart(&self.items)
     }
@@ -120,7 +120,7 @@ impl Slots {
     /// The job in a slot that holds most of its printout, if some slot has a job: the one in the lowest slot of those that hold as
     /// much. It takes no memory.
     pub fn holds_most(&self) -> Option<Holder>
-        ensures { result ≡ most_held (slots_in self.now) }
+        ensures { result ≡ most_held (slots_in M.seen self.now) }
     {
         most_held(&self.items)
     }
@@ -138,11 +138,11 @@ impl Slots {
         accounts: &Accounts,
         deck: JobDeck,
     ) -> Result<u8, Stop<LoadError>>
-        ensures loaded { IfOk result (λ n. job_loaded accounts.now deck (slots_in self.old) ≡ (Ok n, slots_in self.new)) }
-        ensures refused { IfErr result (IfRefused (λ refusal. job_loaded accounts.now deck (slots_in self.old) ≡ (Err refusal, slots_in self.old))) }
+        ensures loaded { IfOk result (λ n. job_loaded accounts.now deck (slots_in M.seen self.old) ≡ (Ok n, slots_in M.seen self.new)) }
+        ensures refused { IfErr result (IfRefused (λ refusal. job_loaded accounts.now deck (slots_in M.seen self.old) ≡ (Err refusal, slots_in M.seen self.old))) }
         ensures unchanged { OnErr result (self.new ≡ self.old) }
-        ensures memory { IsErrOf result Stop.Memory → LoadMayGrow accounts.now deck (slots_in self.old) }
-        ensures size { length (slots_in self.new) ≡ length (slots_in self.old) }
+        ensures memory { IsErrOf result Stop.Memory → LoadMayGrow accounts.now deck (slots_in M.seen self.old) }
+        ensures size { length (slots_in M.seen self.new) ≡ length (slots_in M.seen self.old) }
     {
         let Some(index) = free_in(&self.items) else {
             return Err(Stop::Refused(LoadError::NoSlot));
@@ -155,7 +155,7 @@ impl Slots {
     // The index of a slot, if there is one of this number.
     fn index_of(&self, slot: u8) -> Option<usize>
         ensures index { IfSome result (λ index. (slot ≡ index + 1) × (index < length self.now.items.items)) }
-        ensures none { result ≡ None → seat_at slot (slots_in self.now) ≡ None }
+        ensures none { result ≡ None → seat_at slot (slots_in M.seen self.now) ≡ None }
     {
         let index = slot.checked_sub(1)? as usize;
         if index < self.items.len() {
@@ -167,7 +167,7 @@ impl Slots {
 
     // Whether there is a job in a slot.
     pub(crate) fn has_job(&self, slot: u8) -> bool
-        ensures { result ≡ is_some (seat_at slot (slots_in self.now)) }
+        ensures { result ≡ is_some (seat_at slot (slots_in M.seen self.now)) }
     {
         match self.index_of(slot) {
             None => false,
@@ -187,8 +187,8 @@ impl Slots {
         audit: &mut S,
     ) -> Option<Step>
         requires fit { CacheFits guard.old catalogue.old }
-        ensures step { StepOr slot (scheduler catalogue.old (slots_in self.old)) result (scheduler catalogue.new (slots_in self.new)) (S.standing audit.old) (S.standing audit.new) }
-        ensures size { length (slots_in self.new) ≡ length (slots_in self.old) }
+        ensures step { StepOr slot (scheduler catalogue.old (slots_in M.seen self.old)) result (scheduler catalogue.new (slots_in M.seen self.new)) (S.standing audit.old) (S.standing audit.new) }
+        ensures size { length (slots_in M.seen self.new) ≡ length (slots_in M.seen self.old) }
         ensures fit { CacheFits guard.new catalogue.new }
     {
         match self.index_of(slot) {
@@ -207,9 +207,9 @@ impl Slots {
         audit: &mut S,
     ) -> Ending
         requires fit { CacheFits guard.old catalogue.old }
-        requires lone { IsLone slot (slots_in self.old) }
-        ensures ended { LoneEnds slot (scheduler catalogue.old (slots_in self.old)) result (scheduler catalogue.new (slots_in self.new)) (S.standing audit.old) (S.standing audit.new) }
-        ensures size { length (slots_in self.new) ≡ length (slots_in self.old) }
+        requires lone { IsLone slot (slots_in M.seen self.old) }
+        ensures ended { LoneEnds slot (scheduler catalogue.old (slots_in M.seen self.old)) result (scheduler catalogue.new (slots_in M.seen self.new)) (S.standing audit.old) (S.standing audit.new) }
+        ensures size { length (slots_in M.seen self.new) ≡ length (slots_in M.seen self.old) }
         ensures fit { CacheFits guard.new catalogue.new }
     {
         let index = self.index_of(slot).unwrap();
@@ -218,9 +218,9 @@ impl Slots {
 
     // Empties the slot of a job that has ended.
     fn empty(&mut self, slot: u8, ending: Ending) -> JobEnd
-        requires { IsSome (seat_at slot (slots_in self.old)) }
-        ensures end { (job : SlotState) → seat_at slot (slots_in self.old) ≡ Some job → result ≡ job_end job ending }
-        ensures slots { slots_in self.new ≡ with_seat slot None (slots_in self.old) }
+        requires { IsSome (seat_at slot (slots_in M.seen self.old)) }
+        ensures end { (job : SlotState M.seen.meaning) → seat_at slot (slots_in M.seen self.old) ≡ Some job → result ≡ job_end job ending }
+        ensures slots { slots_in M.seen self.new ≡ with_seat slot None (slots_in M.seen self.old) }
     {
         let index = self.index_of(slot).unwrap();
         leave(&mut self.items[index], ending)
@@ -236,9 +236,9 @@ impl Slots {
         ending: Ending,
         audit: &mut S,
     ) -> JobEnd
-        requires { IsSome (seat_at slot (slots_in self.old)) }
-        ensures end { (job : SlotState) → seat_at slot (slots_in self.old) ≡ Some job → result ≡ job_end job ending }
-        ensures slots { slots_in self.new ≡ with_seat slot None (slots_in self.old) }
+        requires { IsSome (seat_at slot (slots_in M.seen self.old)) }
+        ensures end { (job : SlotState M.seen.meaning) → seat_at slot (slots_in M.seen self.old) ≡ Some job → result ≡ job_end job ending }
+        ensures slots { slots_in M.seen self.new ≡ with_seat slot None (slots_in M.seen self.old) }
         ensures audited { Puts (S.standing audit.old) (S.standing audit.new) (ended_line result) }
     {
         let end = self.empty(slot, ending);
@@ -254,7 +254,7 @@ impl Slots {
     // take longer than they do, a little is kept.
     #[inline(never)]
     pub(crate) fn begin_turns(&mut self, alloc: Global, count: u64)
-        ensures { slots_in self.new ≡ slots_in self.old }
+        ensures { slots_in M.seen self.new ≡ slots_in M.seen self.old }
     {
         if count < MANY_TURNS {
             self.for_cards.take_little(alloc);
@@ -266,7 +266,7 @@ impl Slots {
 
     // After turns: cards and commands have what was kept for them.
     pub(crate) fn end_turns(&mut self)
-        ensures slots { slots_in self.new ≡ slots_in self.old }
+        ensures slots { slots_in M.seen self.new ≡ slots_in M.seen self.old }
         ensures none { vec_capacity self.new.for_cards.block ≡ 0 }
     {
         self.for_cards.give_up();
@@ -282,8 +282,8 @@ impl Slots {
         audit: &mut S,
     ) -> Turned
         requires fit { CacheFits guard.old catalogue.old }
-        ensures turn { TurnOr slot (scheduler catalogue.old (slots_in self.old)) result (scheduler catalogue.new (slots_in self.new)) (S.standing audit.old) (S.standing audit.new) }
-        ensures size { length (slots_in self.new) ≡ length (slots_in self.old) }
+        ensures turn { TurnOr slot (scheduler catalogue.old (slots_in M.seen self.old)) result (scheduler catalogue.new (slots_in M.seen self.new)) (S.standing audit.old) (S.standing audit.new) }
+        ensures size { length (slots_in M.seen self.new) ≡ length (slots_in M.seen self.old) }
         ensures fit { CacheFits guard.new catalogue.new }
     {
         match self.step(alloc, guard, catalogue, slot, audit) {
@@ -294,13 +294,13 @@ impl Slots {
     }
 }
 
-fn free_in(slots: &[Option<Slot>]) -> Option<usize>
+fn free_in<M: Machine>(slots: &[Option<Slot<M>>]) -> Option<usize>
     ensures { result ≡ position (λ seat. is_none seat) slots.now }
 {
     slots.iter().position(|seat| seat.is_none())
 }
 
-fn has_room_in(slots: &[Option<Slot>]) -> bool
+fn has_room_in<M: Machine>(slots: &[Option<Slot<M>>]) -> bool
     ensures { result ≡ list_any (λ seat. is_none seat) slots.now }
 {
     slots.iter().any(|seat| seat.is_none())

@@ -4,18 +4,21 @@ use Rattle.mon_catalogue.specs.Sets.{Sets}
 use Rattle.scheduler.specs.States.{SlotState}
 use Rattle.scheduler.specs.Marks.{Mark, exchanges_at, Past}
 use Rattle.scheduler.specs.Exchanged.{Exchanged, whole_turn}
-use Rattle.sno_syntax.specs.Programs.{Program}
 use Rattle.mon_access.specs.declared.account.Account.{Account}
 use Rattle.deck_syntax.specs.declared.job_deck.JobDeck.{JobDeck}
 use Rattle.scheduler.specs.Loads.{loaded_slot}
 use Rattle.scheduler.specs.declared.job_end.JobEnd.{JobEnd}
+use Rattle.machine.specs.Meanings.{Meaning}
 
--- so much of it as was answered, where memory broke the turn off
-abbrev pub broken_turn : Bool → Mark → SlotState → Sets → List Exchanged
-broken_turn breaks m slot sets = if breaks then take (exchanges_at m slot sets) (whole_turn slot sets) else whole_turn slot sets
+module _ {M : Meaning} where
+  -- so much of it as was answered, where memory broke the turn off
+  abbrev pub broken_turn : Bool → Mark → (SlotState M) → Sets → List Exchanged
+  broken_turn breaks m slot sets = if breaks then take (exchanges_at m slot sets) (whole_turn slot sets) else whole_turn slot sets
 
-abbrev pub slot_by : JobDeck → Option Account → Option Program → Option SlotState
-slot_by deck account program = option_and_then (λ a. option_map (loaded_slot a deck) program) account
+module _ (M : Meaning) where
+  abbrev pub slot_by : JobDeck → Option Account → Option M.Job → Option (SlotState M)
+  slot_by deck account job = option_and_then (λ a. option_map (loaded_slot M a deck) job) account
 
-abbrev pub ends_then : List (ℕ × JobEnd) → Past → Past
-ends_then ends p = record { ends = ends ++ p.ends; after = p.after; marks = p.marks }
+module _ {M : Meaning} where
+  abbrev pub ends_then : List (ℕ × JobEnd) → (Past M) → (Past M)
+  ends_then ends p = record { ends = ends ++ p.ends; after = p.after; marks = p.marks }

@@ -4,11 +4,13 @@ use Rattle.std.specs.List.{list_any}
 use Rattle.mon_unit.specs.Tying.{share}
 use Rattle.scheduler.specs.declared.slot.Slot.{Slot}
 
-abbrev pub seats_share : Option Slot → Option Slot → Bool
-seats_share None other = false
-seats_share (Some slot) None = false
-seats_share (Some slot) (Some other) = share slot.units other.units
+module _ {J : Type 0} where
+  abbrev pub seats_share : Option (Slot J) → Option (Slot J) → Bool
+  seats_share None other = false
+  seats_share (Some slot) None = false
+  seats_share (Some slot) (Some other) = share slot.units other.units
 
-abbrev pub are_apart : List (Option Slot) → Bool
-are_apart [] = true
-are_apart (seat ∷ seats) = not (list_any (seats_share seat) seats) && are_apart seats
+module _ {J : Type 0} where
+  abbrev pub are_apart : List (Option (Slot J)) → Bool
+  are_apart [] = true
+  are_apart (seat ∷ seats) = not (list_any (seats_share seat) seats) && are_apart seats

@@ -5,4 +5,4 @@ use Rattle.scheduler.specs.Holding.{most_from, most_held}
 use Rattle.scheduler.proofs.holding.most_held.Given as goal
 
 abbrev pub invariant-loop-seat : goal.invariant-loop-seat
-invariant-loop-seat l = most_from l.most (seats_of (drop l.seat-index l.seats)) ≡ most_held (seats_of l.seats)
+invariant-loop-seat g l = most_from l.most ((seats_of g.M.Machine.seen) (drop l.seat-index l.seats)) ≡ most_held ((seats_of g.M.Machine.seen) l.seats)

@@ -2,4 +2,4 @@ use Rattle.scheduler.proofs.Past.{drain_empties}
 use Rattle.scheduler.proofs.laws.drain_empties.Goals as goal
 
 pub returns : goal.returns
-returns c = drain_empties
+returns g c = drain_empties

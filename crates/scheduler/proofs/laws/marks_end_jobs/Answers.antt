@@ -2,4 +2,4 @@ use Rattle.scheduler.proofs.Past.{marks_end_jobs}
 use Rattle.scheduler.proofs.laws.marks_end_jobs.Goals as goal
 
 pub returns : goal.returns
-returns c = marks_end_jobs
+returns g c = marks_end_jobs

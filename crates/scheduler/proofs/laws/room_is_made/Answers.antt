@@ -2,4 +2,4 @@ use Rattle.scheduler.proofs.Past.{room_is_made}
 use Rattle.scheduler.proofs.laws.room_is_made.Goals as goal
 
 pub returns : goal.returns
-returns c = room_is_made
+returns g c = room_is_made

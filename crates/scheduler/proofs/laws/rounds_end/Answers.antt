@@ -2,4 +2,4 @@ use Rattle.scheduler.proofs.Past.{enough}
 use Rattle.scheduler.proofs.laws.rounds_end.Goals as goal
 
 pub returns : goal.returns
-returns c = enough
+returns g c = enough

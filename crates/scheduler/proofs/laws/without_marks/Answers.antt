@@ -2,4 +2,4 @@ use Rattle.scheduler.proofs.Past.{unmarked}
 use Rattle.scheduler.proofs.laws.without_marks.Goals as goal
 
 pub returns : goal.returns
-returns c = unmarked
+returns g c = unmarked

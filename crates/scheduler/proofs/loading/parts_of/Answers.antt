@@ -8,7 +8,7 @@ use Rattle.scheduler.specs.Loads.{with_ties}
 use Rattle.scheduler.proofs.loading.parts_of.Goals as goal
 
 pub returns-clause-units : goal.returns-clause-units
-returns-clause-units c =
+returns-clause-units g c =
     let lines = c.args.lines.now in
     c.in_ok-units.ensures
     ∙ ap (λ (behind : List (List ℕ)). with_ties c.args.ties.now (new_units behind))

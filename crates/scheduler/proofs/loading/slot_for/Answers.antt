@@ -1,21 +1,21 @@
 use Rattle.std.proofs.Common.{None, ap, ◌∙◌}
 use Rattle.std.proofs.lemmas.Result.{IfOk-weaker, IfErr-weaker, on_ok_weaker}
 use Rattle.sno_cards.specs.Statements.{statements_of}
-use Rattle.scheduler.specs.Loads.{program_in}
+use Rattle.scheduler.specs.Loads.{job_in_cards}
 use Rattle.scheduler.specs.inner.Parts.{slot_by}
 use Rattle.scheduler.proofs.Loads.{deck_refused_by, stop_refused_by}
 use Rattle.scheduler.proofs.loading.slot_for.Goals as goal
 
 pub returns-in-Ok-clause-slot : goal.returns-in-Ok-clause-slot
-returns-in-Ok-clause-slot c =
+returns-in-Ok-clause-slot g c =
     let deck = c.args.deck in
-    IfOk-weaker c.slot_of_account.result _ _ (λ slot h. ap (λ o. slot_by deck o (program_in (statements_of deck.lines))) c.in-Ok.ensures.account ∙ h) c.slot_of_account.ensures.slot
+    IfOk-weaker c.slot_of_account.result _ _ (λ slot h. ap (λ o. slot_by g.M.Machine.seen.meaning deck o (job_in_cards g.M.Machine.seen.meaning deck.limits (statements_of deck.lines))) c.in-Ok.ensures.account ∙ h) c.slot_of_account.ensures.slot
 
 pub returns-in-Ok-clause-clean : goal.returns-in-Ok-clause-clean
-returns-in-Ok-clause-clean c =
-    on_ok_weaker c.slot_of_account.result (λ h. deck_refused_by c.args.accounts.now c.args.deck _ None c.in-Ok.ensures.account c.in-Ok.ensures.clean h) c.slot_of_account.ensures.clean
+returns-in-Ok-clause-clean g c =
+    on_ok_weaker c.slot_of_account.result (λ h. deck_refused_by g.M.Machine.seen.meaning c.args.accounts.now c.args.deck _ None c.in-Ok.ensures.account c.in-Ok.ensures.clean h) c.slot_of_account.ensures.clean
 
 pub returns-in-Ok-clause-refused : goal.returns-in-Ok-clause-refused
-returns-in-Ok-clause-refused c =
+returns-in-Ok-clause-refused g c =
     IfErr-weaker c.slot_of_account.result _ _
-    (λ stop h. stop_refused_by c.args.accounts.now c.args.deck _ stop c.in-Ok.ensures.account c.in-Ok.ensures.clean h) c.slot_of_account.ensures.refused
+    (λ stop h. stop_refused_by g.M.Machine.seen.meaning c.args.accounts.now c.args.deck _ stop c.in-Ok.ensures.account c.in-Ok.ensures.clean h) c.slot_of_account.ensures.refused

@@ -1,18 +1,15 @@
 use Rattle.std.proofs.Common.{rules, ◌≡◌, Some}
 use Rattle.sno_cards.specs.Statements.{statements_of}
-use Rattle.sno_syntax.specs.Programs.{program_of}
-use Rattle.sno_run.specs.Jobs.{first_job}
-use Rattle.sno_run.specs.Abstraction.{job_of}
+use Rattle.scheduler.specs.Loads.{job_in_cards}
 use Rattle.scheduler.proofs.Loads.{slot_made, spelled_clean}
 use Rattle.scheduler.proofs.loading.slot_of_account.Goals as goal
 
 pub returns-clause-slot : goal.returns-clause-slot
-returns-clause-slot c =
+returns-clause-slot g c =
     let deck = c.args.deck in
-    let job : job_of c.in_ok-job.job ≡ first_job (program_of c.in_ok-units.field-0.program) deck.limits = search rules in
     let same : Some c.args.account.now ≡ Some c.in_ok-account.account = search rules in
-    slot_made deck (Some c.args.account.now) c.in_ok-account.account (statements_of deck.lines) (program_of c.in_ok-units.field-0.program)
-    c.in_ok-units.field-0.units (job_of c.in_ok-job.job) same c.in_ok-units.ensures.program c.in_ok-units.ensures.units job
+    slot_made g.M.Machine.seen.meaning deck (Some c.args.account.now) c.in_ok-account.account (job_in_cards g.M.Machine.seen.meaning deck.limits (statements_of deck.lines))
+    c.in_ok-units.field-0.units (g.M.Machine.seen.job c.in_ok-units.field-0.job) same c.in_ok-units.ensures.units c.in_ok-units.ensures.job
 
 pub returns-clause-clean : goal.returns-clause-clean
-returns-clause-clean c = spelled_clean (statements_of c.args.deck.lines) (program_of c.in_ok-units.field-0.program) c.in_ok-units.ensures.program
+returns-clause-clean g c = spelled_clean g.M.Machine.seen.meaning c.args.deck.limits (statements_of c.args.deck.lines) (g.M.Machine.seen.job c.in_ok-units.field-0.job) c.in_ok-units.ensures.job

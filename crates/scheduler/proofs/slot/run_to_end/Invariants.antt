@@ -9,11 +9,11 @@ use Rattle.scheduler.proofs.slot.run_to_end.Given as goal
 
 abbrev pub invariant-turns : goal.invariant-turns
 invariant-turns g l = record {
-  on : GoesOn (slot_of l.fn.slot) l.fn.catalogue (slot_of l.slot) l.catalogue (g.S.Sink.standing l.fn.audit) (g.S.Sink.standing l.audit);
+  on : GoesOn ((slot_of g.M.Machine.seen) l.fn.slot) l.fn.catalogue ((slot_of g.M.Machine.seen) l.slot) l.catalogue (g.S.Sink.standing l.fn.audit) (g.S.Sink.standing l.audit);
   fit : CacheFits l.guard l.catalogue;
-  kept : KeptFits l.slot.number l.slot.account (reached l.catalogue (slot_of l.slot)) l.kept;
+  kept : KeptFits l.slot.number l.slot.account (reached l.catalogue ((slot_of g.M.Machine.seen) l.slot)) l.kept;
   number : l.kept.number ≡ l.slot.number;
 }
 
 abbrev pub decreases-turns : goal.decreases-turns
-decreases-turns g l = turns_ahead (Some (slot_of l.slot))
+decreases-turns g l = turns_ahead (Some ((slot_of g.M.Machine.seen) l.slot))

@@ -7,5 +7,5 @@ use Rattle.scheduler.proofs.Seats.{seated_not_done}
 use Rattle.scheduler.proofs.rounds.Goal.is_met_beside_a_job.Goals as goal
 
 pub returns-in-Empty : goal.returns-in-Empty
-returns-in-Empty c = λ sets s job.
-    sym (ap (λ (g : Goal). stop_of g (scheduler sets (slots_in c.args.slots.now))) c.in-Empty.is ∙ seated_not_done s (slots_in c.args.slots.now) job)
+returns-in-Empty g c = λ sets s job.
+    sym (ap (λ (to : Goal). stop_of to (scheduler sets ((slots_in g.M.Machine.seen) c.args.slots.now))) c.in-Empty.is ∙ seated_not_done s ((slots_in g.M.Machine.seen) c.args.slots.now) job)

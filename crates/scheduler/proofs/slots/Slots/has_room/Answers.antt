@@ -6,5 +6,5 @@ use Rattle.scheduler.proofs.Seats.{some_free}
 use Rattle.scheduler.proofs.slots.Slots.has_room.Goals as goal
 
 pub returns : goal.returns
-returns c =
-    c.has_room_in.ensures ∙ ap (λ (l : List (Option Slot)). list_any (λ seat. is_none seat) l) c.deref.ensures.value ∙ some_free c.args.self.now.items.items
+returns g c =
+    c.has_room_in.ensures ∙ ap (λ (l : List (Option (Slot g.row.M.Denot))). list_any (λ seat. is_none seat) l) c.deref.ensures.value ∙ (some_free g.M.Machine.seen) c.args.self.now.items.items

@@ -5,4 +5,4 @@ use Rattle.scheduler.specs.Holding.{most_held}
 use Rattle.scheduler.proofs.slots.Slots.holds_most.Goals as goal
 
 pub returns : goal.returns
-returns c = c.most_held.ensures ∙ ap (λ (l : List (Option Slot)). most_held (seats_of l)) c.deref.ensures.value
+returns g c = c.most_held.ensures ∙ ap (λ (l : List (Option (Slot g.row.M.Denot))). most_held ((seats_of g.M.Machine.seen) l)) c.deref.ensures.value

@@ -5,7 +5,7 @@ use Rattle.scheduler.proofs.Apart.{apart_is}
 use Rattle.scheduler.proofs.slots.Slots.independent.Goals as goal
 
 pub returns : goal.returns
-returns c = λ sets.
-    let law = apart_is c.args.self.now.items.items sets in
-    let is = c.are_apart.ensures ∙ ap (λ (l : List (Option Slot)). are_apart l) c.deref.ensures.value in
+returns g c = λ sets.
+    let law = (apart_is g.M.Machine.seen) c.args.self.now.items.items sets in
+    let is = c.are_apart.ensures ∙ ap (λ (l : List (Option (Slot g.row.M.Denot))). are_apart l) c.deref.ensures.value in
     (λ h. law.0 (sym is ∙ h), λ h. is ∙ law.1 h)

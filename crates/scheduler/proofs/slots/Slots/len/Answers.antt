@@ -4,4 +4,4 @@ use Rattle.scheduler.proofs.Seats.{map_length}
 use Rattle.scheduler.proofs.slots.Slots.len.Goals as goal
 
 pub returns : goal.returns
-returns c = let k = map_length seat_of c.args.self.now.items.items in search (rules, k)
+returns g c = let k = map_length (seat_of g.M.Machine.seen) c.args.self.now.items.items in search (rules, k)

@@ -4,4 +4,4 @@ use Rattle.scheduler.proofs.Seats.{empty_seats}
 use Rattle.scheduler.proofs.slots.Slots.new.Goals as goal
 
 pub returns : goal.returns
-returns c = ap seats_of (c.loop.invariant ∙ ap (λ (n : ℕ). replicate n None) (omega arith)) ∙ empty_seats c.args.count
+returns g c = ap (seats_of g.M.Machine.seen) (c.loop.invariant ∙ ap (λ (n : ℕ). replicate n None) (omega arith)) ∙ (empty_seats g.M.Machine.seen) c.args.count

@@ -2,4 +2,4 @@ use Rattle.std.proofs.Common.{◌≡◌, None, replicate}
 use Rattle.scheduler.proofs.slots.Slots.new.Given as goal
 
 abbrev pub invariant-loop : goal.invariant-loop
-invariant-loop l = l.items.items ≡ replicate l.counter None
+invariant-loop g l = l.items.items ≡ replicate l.counter None

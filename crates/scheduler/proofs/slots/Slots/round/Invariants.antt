@@ -10,9 +10,9 @@ use Rattle.scheduler.proofs.slots.Slots.round.Given as goal
 
 abbrev pub invariant-loop-number : goal.invariant-loop-number
 invariant-loop-number g l = record {
-  round : RoundTo (stop_of l.goal) (scheduler l.fn.catalogue (slots_in l.fn.self)) l.fn.ends.items l.ends.items
-      (range_with_len (l.number + 1) (length (slots_in l.fn.self) - l.number)) (scheduler l.catalogue (slots_in l.self))
+  round : RoundTo (stop_of l.goal) (scheduler l.fn.catalogue ((slots_in g.M.Machine.seen) l.fn.self)) l.fn.ends.items l.ends.items
+      (range_with_len (l.number + 1) (length ((slots_in g.M.Machine.seen) l.fn.self) - l.number)) (scheduler l.catalogue ((slots_in g.M.Machine.seen) l.self))
       (g.S.Sink.standing l.fn.audit) (g.S.Sink.standing l.audit);
-  room : vec_len l.ends + jobs_in (slots_in l.self) ≤ vec_capacity l.ends;
+  room : vec_len l.ends + jobs_in ((slots_in g.M.Machine.seen) l.self) ≤ vec_capacity l.ends;
   fit : CacheFits l.guard l.catalogue;
 }

@@ -10,12 +10,12 @@ use Rattle.scheduler.proofs.slots.Slots.rounds.Goals as goal
 pub rounds-init : goal.rounds-init
 rounds-init g c = record {
   going =
-      let w = scheduler c.args.catalogue.now (slots_in c.args.self.now) in
+      let w = scheduler c.args.catalogue.now ((slots_in g.M.Machine.seen) c.args.self.now) in
       rw c.begin_rounds.ensures
       (let a = g.S.Sink.standing c.args.audit.now in
       subst (λ (l : List JobEnd). Going (stop_of c.args.goal) w l w a a) (sym c.in_ok-ends.ensures.items) (going_begins (stop_of c.args.goal) w a));
   room =
-      let k = jobs_few (slots_in c.args.self.now) in
+      let k = jobs_few ((slots_in g.M.Machine.seen) c.args.self.now) in
       rw c.begin_rounds.ensures (omega (arith, k, c.in_ok-ends.ensures.len, c.in_ok-ends.ensures.capacity, c.len.ensures));
   size = rw c.begin_rounds.ensures refl;
   fit = c.requires.fit;
@@ -29,9 +29,9 @@ rounds-smaller g c = c.some_rounds.ensures.less
 
 pub rounds-preserved : goal.rounds-preserved
 rounds-preserved g c =
-    let w = scheduler c.args.catalogue.now (slots_in c.args.self.now) in
-    let now = scheduler c.rounds.catalogue (slots_in c.rounds.self) in
-    let now' = scheduler c.some_rounds.new.catalogue (slots_in c.some_rounds.new.self) in
+    let w = scheduler c.args.catalogue.now ((slots_in g.M.Machine.seen) c.args.self.now) in
+    let now = scheduler c.rounds.catalogue ((slots_in g.M.Machine.seen) c.rounds.self) in
+    let now' = scheduler c.some_rounds.new.catalogue ((slots_in g.M.Machine.seen) c.some_rounds.new.self) in
     record {
       going = going_to (stop_of c.args.goal) w c.rounds.ends.items c.some_rounds.new.ends.items now now' _ _ _ c.rounds.invariant.going c.some_rounds.ensures.going;
       room = c.some_rounds.ensures.room;
@@ -42,5 +42,5 @@ rounds-preserved g c =
 pub returns-clause-rounds : goal.returns-clause-rounds
 returns-clause-rounds g c =
     rw c.end_turns.ensures.slots
-    (going_done (stop_of c.args.goal) (scheduler c.args.catalogue.now (slots_in c.args.self.now)) c.rounds.ends.items (scheduler c.rounds.catalogue (slots_in c.rounds.self)) _ _
+    (going_done (stop_of c.args.goal) (scheduler c.args.catalogue.now ((slots_in g.M.Machine.seen) c.args.self.now)) c.rounds.ends.items (scheduler c.rounds.catalogue ((slots_in g.M.Machine.seen) c.rounds.self)) _ _
     (sym (c.is_met.ensures c.rounds.catalogue) ∙ c.rounds-test.false) c.rounds.invariant.going)

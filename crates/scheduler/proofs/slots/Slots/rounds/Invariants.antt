@@ -10,12 +10,12 @@ use Rattle.scheduler.proofs.slots.Slots.rounds.Given as goal
 
 abbrev pub invariant-rounds : goal.invariant-rounds
 invariant-rounds g l = record {
-  going : Going (stop_of l.goal) (scheduler l.fn.catalogue (slots_in l.fn.self)) l.ends.items (scheduler l.catalogue (slots_in l.self))
+  going : Going (stop_of l.goal) (scheduler l.fn.catalogue ((slots_in g.M.Machine.seen) l.fn.self)) l.ends.items (scheduler l.catalogue ((slots_in g.M.Machine.seen) l.self))
       (g.S.Sink.standing l.fn.audit) (g.S.Sink.standing l.audit);
-  room : vec_len l.ends + jobs_in (slots_in l.self) ≤ vec_capacity l.ends;
-  size : length (slots_in l.self) ≡ length (slots_in l.fn.self);
+  room : vec_len l.ends + jobs_in ((slots_in g.M.Machine.seen) l.self) ≤ vec_capacity l.ends;
+  size : length ((slots_in g.M.Machine.seen) l.self) ≡ length ((slots_in g.M.Machine.seen) l.fn.self);
   fit : CacheFits l.guard l.catalogue;
 }
 
 abbrev pub decreases-rounds : goal.decreases-rounds
-decreases-rounds g l = turns_left (slots_in l.self)
+decreases-rounds g l = turns_left ((slots_in g.M.Machine.seen) l.self)

@@ -13,14 +13,14 @@ use Rattle.scheduler.proofs.slots.Slots.turns.Goals as goal
 pub loop-number-init : goal.loop-number-init
 loop-number-init g c = record {
   ahead =
-      let w = scheduler c.args.catalogue.now (slots_in c.args.self.now) in
+      let w = scheduler c.args.catalogue.now ((slots_in g.M.Machine.seen) c.args.self.now) in
       rw c.begin_turns.ensures
       (let a = g.S.Sink.standing c.args.audit.now in
       subst (λ (l : List JobEnd). Ahead never c.args.order.now w l c.args.order.now w a a) (sym c.in_ok-ends.ensures.items) (begin never c.args.order.now w a));
   room =
       let items = c.args.self.now.items.items in
-      let k = jobs_few (seats_of items) in
-      let same = map_length seat_of items in
+      let k = jobs_few ((seats_of g.M.Machine.seen) items) in
+      let same = map_length (seat_of g.M.Machine.seen) items in
       rw c.begin_turns.ensures (omega (arith, k, same, c.args.self.now.few, c.in_ok-ends.ensures.len, c.in_ok-ends.ensures.capacity, c.min.ensures));
   size = rw c.begin_turns.ensures refl;
   fit = c.requires.fit;
@@ -34,9 +34,9 @@ loop-number-preserved g c =
     let i = c.loop-number.number-index in
     let E = c.args.order.now in
     let s = get_or E i 0 in
-    let w = scheduler c.args.catalogue.now (slots_in c.args.self.now) in
-    let now = scheduler c.loop-number.catalogue (slots_in c.loop-number.self) in
-    let now' = scheduler c.turn_into.new.catalogue (slots_in c.turn_into.new.self) in
+    let w = scheduler c.args.catalogue.now ((slots_in g.M.Machine.seen) c.args.self.now) in
+    let now = scheduler c.loop-number.catalogue ((slots_in g.M.Machine.seen) c.loop-number.self) in
+    let now' = scheduler c.turn_into.new.catalogue ((slots_in g.M.Machine.seen) c.turn_into.new.self) in
     let one = c.turn_into.ensures.turn in
     let a = g.S.Sink.standing c.args.audit.now in
     let b = g.S.Sink.standing c.loop-number.audit in
@@ -55,5 +55,5 @@ returns-clause-marked g c =
     let E = c.args.order.now in
     let none : drop c.loop-number.number-index E ≡ [] = drop_of_length-le E c.loop-number-test.false in
     rw c.end_turns.ensures.slots
-    (ahead_done never E (scheduler c.args.catalogue.now (slots_in c.args.self.now)) c.loop-number.ends.items (drop c.loop-number.number-index E)
-    (scheduler c.loop-number.catalogue (slots_in c.loop-number.self)) _ _ none c.loop-number.invariant.ahead)
+    (ahead_done never E (scheduler c.args.catalogue.now ((slots_in g.M.Machine.seen) c.args.self.now)) c.loop-number.ends.items (drop c.loop-number.number-index E)
+    (scheduler c.loop-number.catalogue ((slots_in g.M.Machine.seen) c.loop-number.self)) _ _ none c.loop-number.invariant.ahead)

@@ -10,9 +10,9 @@ use Rattle.scheduler.proofs.slots.Slots.turns.Given as goal
 
 abbrev pub invariant-loop-number : goal.invariant-loop-number
 invariant-loop-number g l = record {
-  ahead : Ahead never l.order (scheduler l.fn.catalogue (slots_in l.fn.self)) l.ends.items (drop l.number-index l.order) (scheduler l.catalogue (slots_in l.self))
+  ahead : Ahead never l.order (scheduler l.fn.catalogue ((slots_in g.M.Machine.seen) l.fn.self)) l.ends.items (drop l.number-index l.order) (scheduler l.catalogue ((slots_in g.M.Machine.seen) l.self))
       (g.S.Sink.standing l.fn.audit) (g.S.Sink.standing l.audit);
-  room : vec_len l.ends + min (jobs_in (slots_in l.self)) (length l.order - l.number-index) ≤ vec_capacity l.ends;
-  size : length (slots_in l.self) ≡ length (slots_in l.fn.self);
+  room : vec_len l.ends + min (jobs_in ((slots_in g.M.Machine.seen) l.self)) (length l.order - l.number-index) ≤ vec_capacity l.ends;
+  size : length ((slots_in g.M.Machine.seen) l.self) ≡ length ((slots_in g.M.Machine.seen) l.fn.self);
   fit : CacheFits l.guard l.catalogue;
 }

@@ -25,4 +25,4 @@ returns-clause-room g c =
     rw c.keep_end.ensures.slots (omega (arith, k, c.keep_end.ensures.len, c.keep_end.ensures.room, c.requires.room))
 
 pub returns-clause-size : goal.returns-clause-size
-returns-clause-size g c = rw c.keep_end.ensures.slots (seat_length c.args.slot None (slots_in c.run_lone-ending.new.self) ∙ c.run_lone-ending.ensures.size)
+returns-clause-size g c = rw c.keep_end.ensures.slots (seat_length c.args.slot None ((slots_in g.M.Machine.seen) c.run_lone-ending.new.self) ∙ c.run_lone-ending.ensures.size)

@@ -9,8 +9,8 @@ use Rattle.scheduler.proofs.slots.Slots.turns_of_one.Given as goal
 
 abbrev pub invariant-loop : goal.invariant-loop
 invariant-loop g l = record {
-  ahead : Ahead never (replicate l.count l.slot) (scheduler l.fn.catalogue (slots_in l.fn.self)) [] (replicate (l.count - l.counter) l.slot) (scheduler l.catalogue (slots_in l.self))
+  ahead : Ahead never (replicate l.count l.slot) (scheduler l.fn.catalogue ((slots_in g.M.Machine.seen) l.fn.self)) [] (replicate (l.count - l.counter) l.slot) (scheduler l.catalogue ((slots_in g.M.Machine.seen) l.self))
       (g.S.Sink.standing l.fn.audit) (g.S.Sink.standing l.audit);
-  size : length (slots_in l.self) ≡ length (slots_in l.fn.self);
+  size : length ((slots_in g.M.Machine.seen) l.self) ≡ length ((slots_in g.M.Machine.seen) l.fn.self);
   fit : CacheFits l.guard l.catalogue;
 }
