@@ -64,7 +64,7 @@ impl<M: Machine> Slots<M> {
     ///
     /// Where a growth was refused.
     #[tactic(auto, using(crate::proofs::Seats::empty_seats))]
-    pub fn new(alloc: Global, seed: Seed, count: u8) -> Result<Slots, AllocError>
+    pub fn new(alloc: Global, seed: Seed, count: u8) -> Result<Slots<M>, AllocError>
         requires { (1 ≤ count) × (count ≤ 8) }
         ensures { IfOk result (λ slots. slots_in M.seen slots ≡ replicate count None) }
     {
