@@ -1,6 +1,6 @@
 /* round_files DIR TEXTS    the files of a round, and nothing else
 
-   Makes just the calls that a round of a site cannot do without, and a plain run of its deck does not make: each of so many texts is taken
+   Makes just such calls as a round of a site makes, and a plain run of its deck does not; it is no floor on a disk: each of so many texts is taken
    (renamed, looked at, opened, looked at, read, closed); the deck is written and synced; each answer is written, synced and given (renamed);
    the new catalogue is written and synced; the texts are removed. DIR has in/0, in/1, .., the empty folders taken and out, and the files
    deck and catalogue, whose bytes are read before the clock begins. Prints the seconds by the clock, and those of the processor. */
