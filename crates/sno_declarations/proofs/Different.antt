@@ -1,13 +1,13 @@
 -- A function that was defined has variables of different names.
 use Rattle.std.proofs.Common.{◌≡◌, ℕ, Bool, true, false, ◌&&◌, List, Option, None, Some, refl, sym, Ok, Err}
-use Rattle.std.specs.Prelude.{Result, if◌then◌else◌}
+use Rattle.std.specs.Prelude.{ok_or, Result, if◌then◌else◌}
 use Rattle.std.specs.List.{list_all}
 use Rattle.std.specs.Option.{option_and_then}
 use Rattle.sno_text.specs.declared.fault.Fault.{Fault}
 use Rattle.sno_text.specs.declared.fault.Fault.TheVariants as fault
 use Rattle.sno_value.specs.declared.value.Value.{Value}
 use Rattle.sno_value.specs.Values.{text_of}
-use Rattle.sno_declarations.specs.Arguments.{go_on, or_fault}
+use Rattle.sno_declarations.specs.Arguments.{go_on}
 use Rattle.sno_declarations.specs.declared.prototype.Prototype.{Prototype}
 use Rattle.sno_declarations.specs.declared.definition.Definition.{Definition}
 use Rattle.sno_declarations.specs.Prototypes.{is_identifier, trimmed, items, names_of, are_different, checked, cut_at, prototype_of}
@@ -30,7 +30,7 @@ on : {A B : Type 0} (Q : A → Type 0) (P : B → Type 0) (r : Result A Fault) (
 on Q P (Ok a) go q h = h a q
 on Q P (Err f) go q h = tt
 
-faulted : {A : Type 0} (P : A → Type 0) (f : Fault) (o : Option A) → Somewhere P o → Unfaulted P (or_fault f o)
+faulted : {A : Type 0} (P : A → Type 0) (f : Fault) (o : Option A) → Somewhere P o → Unfaulted P (ok_or o f)
 faulted P f None h = tt
 faulted P f (Some a) h = h
 
@@ -49,7 +49,7 @@ read_different : (text : List ℕ) → Somewhere Different (prototype_of text)
 read_different text = behind Different (cut_at 40 text) _ (λ head. behind Different (cut_at 41 head.1) _ (λ lists. checked_different (record { name = trimmed head.0; parameters = items lists.0; locals = items lists.1 })))
 
 in_different : (v : Value) → Unfaulted Different (prototype_in v)
-in_different v = on (λ _. Unit {0}) Different (or_fault fault.WrongType (text_of v)) _ (any (or_fault fault.WrongType (text_of v))) (λ text h. faulted Different fault.Prototype (prototype_of text) (read_different text))
+in_different v = on (λ _. Unit {0}) Different (ok_or (text_of v) fault.WrongType) _ (any (ok_or (text_of v) fault.WrongType)) (λ text h. faulted Different fault.Prototype (prototype_of text) (read_different text))
   where
     any : (r : Result (List ℕ) Fault) → Unfaulted (λ _. Unit {0}) r
     any (Ok a) = tt

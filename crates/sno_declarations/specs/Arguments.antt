@@ -15,17 +15,9 @@ abbrev pub go_on : {A B : Type 0} → Result A Fault → (A → Result B Fault) 
 go_on (Ok a) go = go a
 go_on (Err f) go = Err f
 
--- what there is, or a fault
-abbrev pub or_fault : {A : Type 0} → Fault → Option A → Result A Fault
-or_fault f seen = ok_or seen f
-
-abbrev pub name_in_text : List ℕ → Result (List ℕ) Fault
-name_in_text [] = Err fault.Null
-name_in_text (c ∷ cs) = Ok (c ∷ cs)
-
 -- the variable that a value names: any text but the null string
 abbrev pub name_in : Value → Result (List ℕ) Fault
-name_in v = go_on (or_fault fault.WrongType (text_of v)) name_in_text
+name_in v = go_on (ok_or (text_of v) fault.WrongType) (λ text. elim text [ [] ↦ Err fault.Null | c ∷ cs ↦ Ok (c ∷ cs) ])
 
 abbrev pub number_within : ℕ → ℕ → ℤ → Option ℕ
 number_within low high (pos n) = if nat_le low n && nat_le n high then Some n else None
@@ -33,7 +25,7 @@ number_within low high (negsuc n) = None
 
 -- the unit that a value tells: 1 to 99
 abbrev pub unit_in : Value → Result ℕ Fault
-unit_in v = go_on (or_fault fault.WrongType (number_of v)) (λ z. or_fault fault.BadUnit (number_within 1 99 z))
+unit_in v = go_on (ok_or (number_of v) fault.WrongType) (λ z. ok_or (number_within 1 99 z) fault.BadUnit)
 
 -- a null one stands for that of the usual association
 abbrev pub unit_or : ℕ → Value → Result ℕ Fault
@@ -41,11 +33,11 @@ unit_or usual v = if is_null v then Ok usual else unit_in v
 
 -- how many characters of a record are kept: 1 to 1,024, all if null
 abbrev pub most_in : Value → Result ℕ Fault
-most_in v = if is_null v then Ok 1024 else or_fault fault.Format (option_and_then (number_within 1 1024) (number_of v))
+most_in v = if is_null v then Ok 1024 else ok_or (option_and_then (number_within 1 1024) (number_of v)) fault.Format
 
 -- how a text is cut into records: 1,024 characters each, if null
 abbrev pub format_in : Value → Result RecordFormat Fault
-format_in v = if is_null v then Ok (record { characters = 1024; blank = false }) else or_fault fault.Format (option_and_then format_of (text_of v))
+format_in v = if is_null v then Ok (record { characters = 1024; blank = false }) else ok_or (option_and_then format_of (text_of v)) fault.Format
 
 -- INPUT(name, unit, most) and OUTPUT(name, unit, format), beside the name
 abbrev pub input_in : Value → Value → Result Input Fault

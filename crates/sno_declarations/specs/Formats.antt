@@ -22,17 +22,13 @@ IsFormat format = (1 ≤ format.characters) × (format.characters ≤ most_chara
 abbrev pub number_to : ℕ → List ℕ → Option ℕ
 number_to most text = if list_all is_digit text && nat_le 1 (value_of text) && nat_le (value_of text) most then Some (value_of text) else None
 
--- what stands before a text at the end
-abbrev pub before : List ℕ → List ℕ → Option (List ℕ)
-before end text = let kept = length text - length end in if pointwise nat_eq (drop kept text) end then Some (take kept text) else None
-
 -- what stands behind a text at the front
 abbrev pub behind : List ℕ → List ℕ → Option (List ℕ)
 behind front text = if pointwise nat_eq (take (length front) text) front then Some (drop (length front) text) else None
 
 -- the number before `A1)`
 abbrev pub characters_in : ℕ → List ℕ → Option ℕ
-characters_in most text = option_and_then (number_to most) (before (codes "A1)") text)
+characters_in most text = let kept = length text - 3 in if pointwise nat_eq (drop kept text) (codes "A1)") then number_to most (take kept text) else None
 
 -- the format that what stands before `nA1)` begins
 abbrev pub with_characters : Bool → List ℕ → Option RecordFormat

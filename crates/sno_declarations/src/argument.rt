@@ -1,8 +1,8 @@
 //! The arguments of the primitive functions that change the state.
-ghost use Rattle.std.specs.Prelude.{◌≡◌, IsSome, IsErrOf};
+ghost use Rattle.std.specs.Prelude.{◌≡◌, ok_or, IsSome, IsErrOf};
 ghost use Rattle.mon_text.specs.Stops.{Gives};
 ghost use Rattle.sno_value.specs.Values.{text_of};
-ghost use Rattle.sno_declarations.specs.Arguments.{or_fault, name_in, number_within, unit_in, unit_or, most_in, format_in, input_in, output_in};
+ghost use Rattle.sno_declarations.specs.Arguments.{name_in, number_within, unit_in, unit_or, most_in, format_in, input_in, output_in};
 ghost use Rattle.std.specs.Option.{option_and_then};
 ghost use Rattle.sno_declarations.specs.Formats.{format_of};
 
@@ -15,7 +15,7 @@ use std::alloc::Global;
 
 /// The text of a value.
 pub(crate) fn text_in(alloc: Global, value: &Value) -> Result<Text, Stop<Fault>>
-    ensures text { Gives (λ text. text) result (or_fault Fault.WrongType (text_of value.now)) }
+    ensures text { Gives (λ text. text) result (ok_or (text_of value.now) Fault.WrongType) }
     ensures memory { IsErrOf result Stop.Memory → IsSome (text_of value.now) }
 {
     match value {

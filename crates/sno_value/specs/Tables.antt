@@ -1,5 +1,5 @@
 -- The tables of a job (the SNOBOL4 book, chapter 6; the limits are own).
-use Rattle.std.specs.Prelude.{◌≡◌, ℕ, ◌+◌, nat_lt, Bool, List, [], ◌||◌, length, Option, Some, None, is_some, unwrap_or, Result, Ok, Err, if◌then◌else◌}
+use Rattle.std.specs.Prelude.{◌≡◌, ℕ, ◌+◌, nat_lt, Bool, List, ◌||◌, length, Option, Some, None, is_some, unwrap_or, Result, Ok, Err, if◌then◌else◌}
 use Rattle.std.specs.Map.{lookup}
 use Rattle.indexmap.specs.IndexMap.{insert_entry}
 use Rattle.sno_text.specs.declared.fault.Fault.{Fault}
@@ -13,9 +13,6 @@ use Rattle.sno_value.specs.Keys.{same_place}
 pub record Tables : Type 0 where
   pub count : ℕ
   pub items : List (Place × Value)
-
-abbrev pub no_tables : Tables
-no_tables = record { count = 0; items = [] }
 
 abbrev pub is_set : Place → Tables → Bool
 is_set place ts = is_some (lookup (same_place place) ts.items)

@@ -2,8 +2,12 @@
 ghost use Rattle.std.specs.Prelude.{◌≡◌, ◌≤◌};
 ghost use Rattle.std.specs.Int.{int_pow};
 ghost use Rattle.sno_value.specs.Values.{integer_of};
-ghost use Rattle.sno_value.specs.Outcomes.{calculated};
-ghost use Rattle.sno_value.specs.Operators.{quotient, power, calculation, arithmetic, negation, affirmation};
+ghost use Rattle.std.specs.Option.{option_map_or};
+ghost use Rattle.sno_text.specs.declared.fault.Fault.TheVariants.{Arithmetic};
+ghost use Rattle.sno_value.specs.declared.value.Value.TheVariants.{Integer};
+ghost use Rattle.sno_value.specs.declared.outcome.Outcome.TheVariants.{Gives, Faults};
+ghost use Rattle.sno_value.specs.declared.calculating.Operation.TheVariants.{Quotient, Power};
+ghost use Rattle.sno_value.specs.Operators.{calculation, arithmetic, negation, affirmation};
 
 use crate::outcome::Outcome;
 use crate::value::Value;
@@ -26,7 +30,7 @@ pub enum Operation {
 
 // A number that was calculated, unless 64 bits do not hold it.
 fn calculated(number: Option<i64>) -> Outcome
-    ensures { result ≡ calculated number }
+    ensures { result ≡ option_map_or (λ n. Gives (Integer n)) number (Faults Arithmetic) }
 {
     match number {
         Some(number) => Outcome::Gives(Value::Integer(number)),
@@ -35,7 +39,7 @@ fn calculated(number: Option<i64>) -> Outcome
 }
 
 fn quotient(dividend: i64, divisor: i64) -> Outcome
-    ensures { result ≡ quotient dividend divisor }
+    ensures { result ≡ calculation Quotient dividend divisor }
 {
     calculated(dividend.checked_div(divisor))
 }
@@ -68,7 +72,7 @@ fn raised(base: i64, exponent: u64) -> Option<i64>
 }
 
 fn power(base: i64, exponent: i64) -> Outcome
-    ensures { result ≡ power base exponent }
+    ensures { result ≡ calculation Power base exponent }
 {
     if exponent < 0 {
         Outcome::Faults(Fault::Arithmetic)

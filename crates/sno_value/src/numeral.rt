@@ -1,9 +1,9 @@
 //! Numbers that are written out.
-ghost use Rattle.std.specs.Prelude.{◌≡◌, ◌^◌, pos, nat_le, if◌then◌else◌};
+ghost use Rattle.std.specs.Prelude.{◌≡◌, ◌^◌, pos, neg_ℤ, nat_le, if◌then◌else◌};
 ghost use Rattle.std.specs.List.{list_all};
 ghost use Rattle.mon_text.specs.Characters.{is_digit};
 ghost use Rattle.mon_text.specs.Counts.{value_of};
-ghost use Rattle.sno_value.specs.Values.{is_unsigned, minus, number_of_text, signed_number};
+ghost use Rattle.sno_value.specs.Values.{is_unsigned, number_of_text, signed_number};
 
 fn are_digits(text: &[u8]) -> bool
     ensures { result ≡ list_all is_digit text.now }
@@ -44,7 +44,7 @@ fn positive(digits: &[u8]) -> Option<i64>
 }
 
 fn negative(digits: &[u8]) -> Option<i64>
-    ensures { result ≡ signed_number minus digits.now }
+    ensures { result ≡ signed_number (λ n. neg_ℤ (pos n)) digits.now }
 {
     if !is_unsigned(digits) {
         return None;

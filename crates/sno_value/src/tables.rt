@@ -1,8 +1,8 @@
 //! The tables of a job.
-ghost use Rattle.std.specs.Prelude.{◌≡◌, true, false, OnErr, IfOk, IsErrOf};
+ghost use Rattle.std.specs.Prelude.{◌≡◌, [], true, false, OnErr, IfOk, IsErrOf};
 ghost use Rattle.mon_text.specs.Stops.{Gives};
 ghost use Rattle.sno_value.specs.Memory.{has_shared};
-ghost use Rattle.sno_value.specs.Tables.{no_tables, is_set, item_of, has_room, with_item, Made};
+ghost use Rattle.sno_value.specs.Tables.{is_set, item_of, has_room, with_item, Made};
 
 use crate::key::Place;
 use crate::value::Value;
@@ -40,7 +40,7 @@ impl Model for Tables {
 impl Tables {
     /// No tables. What is set in them is found by a hash of this seed.
     pub fn new(alloc: Global, seed: Seed) -> Tables
-        ensures { result ≡ no_tables }
+        ensures { result ≡ record { count = 0; items = [] } }
     {
         Tables {
             count: 0,

@@ -4,7 +4,8 @@ use Rattle.std.specs.List.{list_any}
 use Rattle.sno_value.specs.declared.value.Value.{Value}
 use Rattle.sno_variables.specs.declared.variable.Variable.{Variable}
 use Rattle.sno_variables.specs.Variables.{Variables, variable_of, value_of, given}
-use Rattle.sno_variables.specs.Bindings.{Bindings, saved, assigned}
+use Rattle.sno_variables.specs.Bindings.{Bindings, assigned}
+use Rattle.sno_variables.proofs.Saved.{saved}
 use Rattle.sno_variables.proofs.Looking.{same, put_is_found, others_stay, one_variable}
 use Rattle.sno_variables.specs.Laws.{AssociationsStay}
 

@@ -13,7 +13,8 @@ use Rattle.sno_declarations.specs.declared.prototype.Prototype.{Prototype}
 use Rattle.sno_declarations.specs.Prototypes.{names_of, are_different}
 use Rattle.sno_variables.specs.declared.variable.Variable.{Variable}
 use Rattle.sno_variables.specs.Variables.{Variables, holding, variable_of, is_named, value_of, put, given}
-use Rattle.sno_variables.specs.Bindings.{Bindings, paired, saved, assigned}
+use Rattle.sno_variables.specs.Bindings.{Bindings, paired, assigned}
+use Rattle.sno_variables.proofs.Saved.{saved}
 use Rattle.sno_variables.specs.inner.Exchanging.{values_now, with_value_in, with_value_at, value_in, value_at, after, before, taken_by, undone}
 use Rattle.sno_variables.proofs.Looking.{same, found, put_is_found, given_found}
 use Rattle.sno_variables.proofs.Places.{value_there, none_there, place}

@@ -6,3 +6,4 @@ pub mod Binding
 mod Steps
 pub mod Assigned
 pub mod Exchanged
+pub mod Saved

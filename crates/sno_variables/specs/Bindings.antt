@@ -1,8 +1,8 @@
 -- Names with values: what calls keep of variables, give them, and give them back (the SNOBOL4 book, chapter 4).
-use Rattle.std.specs.Prelude.{ℕ, List, [], ◌∷◌, map}
+use Rattle.std.specs.Prelude.{ℕ, List, [], ◌∷◌}
 use Rattle.sno_value.specs.declared.value.Value.{Value}
 use Rattle.sno_value.specs.Values.{null}
-use Rattle.sno_variables.specs.Variables.{Variables, given, value_of}
+use Rattle.sno_variables.specs.Variables.{Variables, given}
 
 -- names with values
 abbrev pub Bindings : Type 0
@@ -13,10 +13,6 @@ abbrev pub paired : List (List ℕ) → List Value → Bindings
 paired [] vs = []
 paired (name ∷ names) [] = (name, null) ∷ paired names []
 paired (name ∷ names) (v ∷ vs) = (name, v) ∷ paired names vs
-
--- names, each with the value that it has now
-abbrev pub saved : List (List ℕ) → Variables → Bindings
-saved names vs = map (λ name. (name, value_of name vs)) names
 
 -- each gets its value
 abbrev pub assigned : Bindings → Variables → Variables

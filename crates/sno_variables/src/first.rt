@@ -2,8 +2,9 @@
 ghost use Rattle.std.specs.Prelude.{◌≡◌, ◌≤◌, false, codes, IfOk, OnOk};
 ghost use Rattle.mon_text.specs.Lines.{IsLine};
 ghost use Rattle.sno_text.specs.Patterns as patterns;
-ghost use Rattle.sno_variables.specs.First.{holding_pattern, with_patterns, first_variables};
-ghost use Rattle.sno_variables.specs.Variables.{reading, writing};
+ghost use Rattle.sno_value.specs.declared.value.Value.TheVariants.{Pattern};
+ghost use Rattle.sno_variables.specs.First.{with_patterns, first_variables};
+ghost use Rattle.sno_variables.specs.Variables.{given, reading, writing};
 
 use crate::variables::Variables;
 use sno_declarations::{Format, Input, Output};
@@ -30,7 +31,7 @@ fn hold(
     pattern: Pat,
 ) -> Result<(), AllocError>
     requires { IsLine name.now }
-    ensures { OnOk result (variables.new ≡ holding_pattern name.now pattern variables.old) }
+    ensures { OnOk result (variables.new ≡ given name.now (Pattern pattern) variables.old) }
 {
     let name = named(alloc, name)?;
     variables.give(&name, Value::Pattern(pattern))?;
@@ -38,7 +39,7 @@ fn hold(
 }
 
 fn hold_abort_and_arb(alloc: Global, variables: &mut Variables) -> Result<(), AllocError>
-    ensures { OnOk result (variables.new ≡ holding_pattern (codes "ARB") patterns.Arb (holding_pattern (codes "ABORT") patterns.Abort variables.old)) }
+    ensures { OnOk result (variables.new ≡ given (codes "ARB") (Pattern patterns.Arb) (given (codes "ABORT") (Pattern patterns.Abort) variables.old)) }
 {
     let pattern = Pat::abort(alloc)?;
     hold(alloc, variables, b"ABORT", pattern)?;
@@ -47,7 +48,7 @@ fn hold_abort_and_arb(alloc: Global, variables: &mut Variables) -> Result<(), Al
 }
 
 fn hold_bal_and_fail(alloc: Global, variables: &mut Variables) -> Result<(), AllocError>
-    ensures { OnOk result (variables.new ≡ holding_pattern (codes "FAIL") patterns.Fail (holding_pattern (codes "BAL") patterns.Bal variables.old)) }
+    ensures { OnOk result (variables.new ≡ given (codes "FAIL") (Pattern patterns.Fail) (given (codes "BAL") (Pattern patterns.Bal) variables.old)) }
 {
     let pattern = Pat::bal(alloc)?;
     hold(alloc, variables, b"BAL", pattern)?;
@@ -56,7 +57,7 @@ fn hold_bal_and_fail(alloc: Global, variables: &mut Variables) -> Result<(), All
 }
 
 fn hold_fence_and_rem(alloc: Global, variables: &mut Variables) -> Result<(), AllocError>
-    ensures { OnOk result (variables.new ≡ holding_pattern (codes "REM") patterns.Rem (holding_pattern (codes "FENCE") patterns.Fence variables.old)) }
+    ensures { OnOk result (variables.new ≡ given (codes "REM") (Pattern patterns.Rem) (given (codes "FENCE") (Pattern patterns.Fence) variables.old)) }
 {
     let pattern = Pat::fence(alloc)?;
     hold(alloc, variables, b"FENCE", pattern)?;
@@ -65,7 +66,7 @@ fn hold_fence_and_rem(alloc: Global, variables: &mut Variables) -> Result<(), Al
 }
 
 fn hold_succeed(alloc: Global, variables: &mut Variables) -> Result<(), AllocError>
-    ensures { OnOk result (variables.new ≡ holding_pattern (codes "SUCCEED") patterns.Succeed variables.old) }
+    ensures { OnOk result (variables.new ≡ given (codes "SUCCEED") (Pattern patterns.Succeed) variables.old) }
 {
     let pattern = Pat::succeed(alloc)?;
     hold(alloc, variables, b"SUCCEED", pattern)
