@@ -4,7 +4,8 @@ use Rattle.sno_cards.specs.declared.card.CardKind.{CardKind}
 use Rattle.sno_cards.specs.declared.card.CardKind.TheVariants.{Comment, Control, UnknownControl, Continuation, Start}
 use Rattle.sno_cards.specs.Texts.{Placed}
 use Rattle.sno_cards.specs.Cards.{kind_of, is_start, is_continuation}
-use Rattle.sno_cards.specs.Statements.{placed_on, without_mark, numbered, is_statement_card, continued, statements_in}
+use Rattle.sno_cards.specs.Statements.{placed_on, without_mark, numbered, continued, statements_in}
+use Rattle.sno_cards.specs.inner.Parts.{is_statement_card}
 use Rattle.sno_cards.specs.inner.Cuts.{Cut, begun, ended, fed}
 use Rattle.sno_cards.proofs.Pieces.{line_cut, fed-append}
 

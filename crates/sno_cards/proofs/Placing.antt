@@ -3,7 +3,8 @@ use Rattle.std.proofs.Common.{◌≡◌, ℕ, ◌+◌, ◌-◌, ◌^◌, ◌<◌
 use Rattle.std.proofs.lemmas.Bool.Decides.{nat_tests}
 use Rattle.sno_cards.specs.declared.refusal.Place.{Place}
 use Rattle.sno_cards.specs.declared.text.Segment.{Segment}
-use Rattle.sno_cards.specs.Texts.{Placed, text_of, places_of}
+use Rattle.sno_cards.specs.Texts.{Placed, text_of}
+use Rattle.sno_cards.specs.inner.Parts.{places_of}
 use Rattle.sno_cards.specs.Statements.{placed_on}
 use Rattle.sno_cards.specs.inner.Segments.{AreAscending, nowhere, moved, place_by, placed_by, ascend}
 

@@ -8,9 +8,10 @@ use Rattle.std.proofs.lemmas.List.Folds.{find_at}
 use Rattle.sno_cards.specs.declared.card.CardKind.TheVariants.{Start}
 use Rattle.sno_cards.specs.declared.refusal.SyntaxError.{SyntaxError}
 use Rattle.sno_cards.specs.Texts.{Placed}
-use Rattle.sno_cards.specs.Cards.{kind_by_mark, is_end_line, is_semicolon, ends_label, rest_of_end_line}
+use Rattle.sno_cards.specs.Cards.{kind_of, is_end_line, is_semicolon, ends_label, rest_of_end_line}
 use Rattle.sno_cards.specs.Programs.{ProgramText}
-use Rattle.sno_cards.specs.Statements.{Card, numbered, placed_on, without_mark, is_continuation_card, is_statement_card, continued, joined, literal_after, ends_statement, pieces, is_statement, statements_in, statements_on, end_index, first_refusal, program_ended_by}
+use Rattle.sno_cards.specs.Statements.{Card, numbered, placed_on, without_mark, is_continuation_card, continued, joined, literal_after, ends_statement, pieces, is_statement, statements_in, statements_on, end_index, first_refusal, program_ended_by}
+use Rattle.sno_cards.specs.inner.Parts.{is_statement_card}
 use Rattle.sno_cards.specs.Laws.{as_read, character_at, StandsThere, PlacesAreTrue}
 use Rattle.sno_cards.proofs.Shorthand.{program_with, unless_refused}
 
@@ -140,7 +141,7 @@ both : (a b : Bool) → (a && b) ≡ true → (a ≡ true) × (b ≡ true)
 both true b h = (refl, h)
 both false b h = cc
 
-letter_starts : (e : ℕ) (rest : List ℕ) → (e == 69) ≡ true → kind_by_mark e rest ≡ Start
+letter_starts : (e : ℕ) (rest : List ℕ) → (e == 69) ≡ true → kind_of (e ∷ rest) ≡ Start
 letter_starts e rest is =
     let comment : (e == 42) ≡ false = grind (arith, nat_tests) in
     let control : (e == 45) ≡ false = grind (arith, nat_tests) in

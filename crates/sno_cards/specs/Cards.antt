@@ -19,21 +19,15 @@ abbrev pub is_control_name : List ℕ → Bool
 is_control_name word =
     is_same_word word (codes "LIST") || is_same_word word (codes "UNLIST") || is_same_word word (codes "EJECT")
 
--- what follows the `-` of a control card: its name, and then a blank or nothing
-abbrev pub control_kind : List ℕ → CardKind
-control_kind rest = if is_control_name (before_first is_blank rest) then Control else UnknownControl
-
--- `*` begins a comment, `-` a control card, `+` or `.` a continuation; anything else, or nothing, a new line of statements
-abbrev pub kind_by_mark : ℕ → List ℕ → CardKind
-kind_by_mark mark rest =
-    if mark == 42 then Comment
-    else if mark == 45 then control_kind rest
-    else if mark == 43 || mark == 46 then Continuation
-    else Start
-
+-- `*` begins a comment, `-` a control card, whose name goes up to a blank or the end, `+` or `.` a continuation; anything else,
+-- or nothing, a new line of statements
 abbrev pub kind_of : List ℕ → CardKind
 kind_of [] = Start
-kind_of (mark ∷ rest) = kind_by_mark mark rest
+kind_of (mark ∷ rest) =
+    if mark == 42 then Comment
+    else if mark == 45 then (if is_control_name (before_first is_blank rest) then Control else UnknownControl)
+    else if mark == 43 || mark == 46 then Continuation
+    else Start
 
 abbrev pub is_start : CardKind → Bool
 is_start Start = true

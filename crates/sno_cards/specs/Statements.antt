@@ -36,15 +36,8 @@ abbrev pub without_mark : List ℕ → List ℕ
 without_mark [] = []
 without_mark (mark ∷ cs) = 32 ∷ cs
 
-abbrev pub is_start_card : Card → Bool
-is_start_card card = is_start (kind_of card.text)
-
 abbrev pub is_continuation_card : Card → Bool
 is_continuation_card card = is_continuation (kind_of card.text)
-
--- not a comment and not a control card
-abbrev pub is_statement_card : Card → Bool
-is_statement_card card = is_start_card card || is_continuation_card card
 
 -- LINES
 
@@ -88,9 +81,9 @@ is_statement piece = not (is_blank_line (text_of piece))
 abbrev pub statements_in : List Placed → List (List Placed)
 statements_in line = filter is_statement (pieces None line)
 
--- the statements of the cards before the END line
+-- the statements of the cards before the END line that are neither comments nor control cards
 abbrev pub statements_on : List Card → List (List Placed)
-statements_on cards = flat_map statements_in (joined (filter is_statement_card cards))
+statements_on cards = flat_map statements_in (joined (filter (λ card. is_start (kind_of card.text) || is_continuation_card card) cards))
 
 -- REFUSALS
 
@@ -107,7 +100,7 @@ refused_card number code = record { code = code; place = record { card = number;
 abbrev pub first_refusal : Bool → List Card → Option SyntaxError
 first_refusal begun [] = None
 first_refusal begun (card ∷ cards) =
-    option_or (option_map (refused_card card.number) (card_refusal begun (kind_of card.text))) (first_refusal (begun || is_start_card card) cards)
+    option_or (option_map (refused_card card.number) (card_refusal begun (kind_of card.text))) (first_refusal (begun || is_start (kind_of card.text)) cards)
 
 -- THE PROGRAM
 

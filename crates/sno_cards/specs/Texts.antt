@@ -10,7 +10,3 @@ pub record Placed : Type 0 where
 -- the characters alone
 abbrev pub text_of : List Placed → List ℕ
 text_of cs = map (λ c. c.code) cs
-
--- the places alone
-abbrev pub places_of : List Placed → List Place
-places_of cs = map (λ c. c.place) cs

@@ -1,7 +1,7 @@
 //! What a line of a program is.
-ghost use Rattle.std.specs.Prelude.{◌≡◌, ◌==◌, ◌≤◌, length, position, IfSome};
+ghost use Rattle.std.specs.Prelude.{◌≡◌, ◌∷◌, ◌==◌, ◌≤◌, length, position, IfSome};
 ghost use Rattle.std.specs.List.{before_first, position_or_len};
-ghost use Rattle.sno_cards.specs.Cards.{is_same_word, is_control_name, control_kind, kind_by_mark, kind_of, is_start, is_continuation, ends_label, is_end_line, rest_of_end_line};
+ghost use Rattle.sno_cards.specs.Cards.{is_same_word, is_control_name, kind_of, is_start, is_continuation, ends_label, is_end_line, rest_of_end_line};
 
 use mon_text::Line;
 
@@ -50,7 +50,7 @@ fn is_control_name(word: &[u8]) -> bool
 }
 
 fn control_kind(rest: &[u8]) -> CardKind
-    ensures { result ≡ control_kind rest.now }
+    ensures { result ≡ kind_of (45 ∷ rest.now) }
 {
     if is_control_name(before(rest, b' ')) {
         CardKind::Control
@@ -60,7 +60,7 @@ fn control_kind(rest: &[u8]) -> CardKind
 }
 
 fn kind_by_mark(mark: u8, rest: &[u8]) -> CardKind
-    ensures { result ≡ kind_by_mark mark rest.now }
+    ensures { result ≡ kind_of (mark ∷ rest.now) }
 {
     match mark {
         b'*' => CardKind::Comment,

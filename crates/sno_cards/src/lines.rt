@@ -1,6 +1,7 @@
 //! Lines of statements: each goes on over the cards that continue it.
 ghost use Rattle.std.specs.Prelude.{◌≡◌, ◌+◌, ◌<◌, ◌++◌, ◌^◌, length, filter, IfOk, OnOk};
-ghost use Rattle.sno_cards.specs.Statements.{placed_on, without_mark, numbered, is_statement_card, continued, statements_in};
+ghost use Rattle.sno_cards.specs.Statements.{placed_on, without_mark, numbered, continued, statements_in};
+ghost use Rattle.sno_cards.specs.inner.Parts.{is_statement_card};
 ghost use Rattle.sno_cards.specs.inner.Cuts.{cut_of, fed};
 
 use crate::card::{is_continuation, is_start, kind_of};

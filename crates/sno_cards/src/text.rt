@@ -1,7 +1,8 @@
 //! Texts whose characters know where they stand.
 ghost use Rattle.std.specs.Prelude.{◌≡◌, ◌==◌, ◌+◌, ◌<◌, ◌≤◌, ◌^◌, ◌++◌, [], length, slice_get, Some, OnOk};
 ghost use Rattle.sno_cards.specs.Statements.{placed_on};
-ghost use Rattle.sno_cards.specs.Texts.{text_of, places_of};
+ghost use Rattle.sno_cards.specs.Texts.{text_of};
+ghost use Rattle.sno_cards.specs.inner.Parts.{places_of};
 ghost use Rattle.sno_cards.specs.inner.Segments.{AreAscending, nowhere, moved, place_by};
 
 use crate::refusal::Place;

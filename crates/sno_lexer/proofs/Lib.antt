@@ -9,3 +9,4 @@ mod Reading
 pub mod Telling
 pub mod Once
 mod Examples
+pub mod Apart

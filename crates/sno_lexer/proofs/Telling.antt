@@ -17,7 +17,8 @@ use Rattle.sno_lexer.specs.inner.Classes.{found, further, is_blank_or_end, kind_
 use Rattle.sno_lexer.specs.inner.Lexing.{after, on_action, stage, start, taken, with_first}
 use Rattle.sno_lexer.specs.Lexed.{lexed}
 use Rattle.sno_lexer.specs.Listed.{TokenList}
-use Rattle.sno_lexer.specs.Following.{TellText, Told, is_apart}
+use Rattle.sno_lexer.specs.Following.{TellText, Told}
+use Rattle.sno_lexer.proofs.Apart.{is_apart}
 use Rattle.sno_lexer.specs.Laws.{TokensTellTheText}
 use Rattle.sno_lexer.proofs.Contexts.{Knows, at_start, knows_after}
 use Rattle.sno_lexer.proofs.Faults.{IsTaken, found_refused, found_taken}

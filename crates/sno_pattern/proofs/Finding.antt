@@ -12,9 +12,10 @@ use Rattle.sno_text.specs.Patterns as pattern
 use Rattle.sno_pattern.specs.declared.ending.Pending.{Pending}
 use Rattle.sno_text.specs.Sets.{is_one_of}
 use Rattle.sno_text.specs.Balance.{part, in_pairs, balanced_ends}
-use Rattle.sno_pattern.specs.Steps.{Goal, Meet, More, EndConditional, EndImmediate, End, Success, Failure, WholeFails, OutOfSteps, Fault, Trying, Way, ends, after_end, on_failure, at_each, row, attempt, outcome}
+use Rattle.sno_pattern.specs.Steps.{Goal, Meet, More, EndConditional, EndImmediate, End, Success, Failure, WholeFails, OutOfSteps, Fault, Trying, Way, ends, on_failure, at_each, row, attempt, outcome}
 use Rattle.sno_pattern.specs.Places.{IsSimple, ends_of_turns, one_end, ends_of, Finds, Comes}
 use Rattle.mon_text.specs.Beginnings.{first_passes}
+use Rattle.sno_pattern.proofs.Trying.{after_end}
 
 -- each is at a cursor from c on, and within the text
 abbrev pub Between : ℕ → ℕ → List ℕ → Type 0

@@ -51,13 +51,8 @@ Way = (goals : List Goal) (at : ℕ) (pending : List Pending) (left : ℕ) → T
 abbrev pub ends : End → ℕ → Trying
 ends e n = Returns (record { end = e; left = n })
 
--- the second attempt after an end, if that is failure, with the steps that are left
-abbrev pub after_end : End → ℕ → (ℕ → Trying) → Trying
-after_end Failure n second = second n
-after_end e n second = ends e n
-
 abbrev pub on_failure : Trying → (ℕ → Trying) → Trying
-on_failure first second = first >>= (λ o. after_end o.end o.left second)
+on_failure first second = first >>= (λ o. elim o.end [ Failure ↦ second o.left | e ↦ ends e o.left ])
 
 -- the goals at one cursor after another, each tried where those before failed
 abbrev pub at_each : Way → List Goal → List ℕ → List Pending → ℕ → Trying

@@ -6,7 +6,6 @@ use Rattle.sno_lexer.specs.declared.token.Outcome.{Outcome}
 use Rattle.sno_lexer.specs.declared.token.Outcome.TheVariants.{Success, Failure}
 use Rattle.sno_lexer.specs.declared.token.Part.TheVariants.{On}
 use Rattle.sno_lexer.specs.declared.token.Token.{Token}
-use Rattle.sno_lexer.specs.declared.token.TokenKind.{TokenKind}
 use Rattle.sno_lexer.specs.declared.token.TokenKind.TheVariants as token
 use Rattle.sno_expression.specs.declared.tree.UnaryOperator.TheVariants.{Indirect}
 use Rattle.sno_expression.specs.Expressions.{Expression, Unary}
@@ -44,13 +43,9 @@ lacking_goto Success (OnBoth s f) = false ∷ false ∷ (lacking_target s ++ fal
 lacking_goto Failure (OnBoth s f) = false ∷ false ∷ (lacking_target f ++ false ∷ lacking_target s)
 
 -- the outcome that tokens name first, and success where they name none
-abbrev pub named_by : TokenKind → Outcome → Outcome
-named_by (token.Part (On o)) later = o
-named_by _ later = later
-
 abbrev pub named_first : List Token → Outcome
 named_first [] = Success
-named_first (t ∷ ts) = named_by t.kind (named_first ts)
+named_first (t ∷ ts) = elim t.kind [ token.Part (On o) ↦ o | other ↦ named_first ts ]
 
 -- for each token of a statement that the tokens spell
 abbrev pub lacking_in : List Token → Statement → List Bool

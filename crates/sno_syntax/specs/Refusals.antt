@@ -117,17 +117,13 @@ labels_in texts = labels_from [] 0 texts
 
 -- THE PROGRAM
 
--- where a text begins that is not blank
-abbrev pub begin_of : List Placed → Place
-begin_of text = place_at text (position_or_len (λ c. not (is_blank c)) (text_of text))
-
 -- where the run begins, if the END line says it
 abbrev pub start_in : ProgramText → Option Start
 start_in program = start_of (length program.statements) (labels_in program.statements) (words (text_of program.end_rest))
 
 -- of the END line, where what stands behind END does not say where the run begins
 abbrev pub end_refusal : List Placed → Option Start → Option SyntaxError
-end_refusal rest start = then_some (is_none start) (refused_with BadEnd (begin_of rest))
+end_refusal rest start = then_some (is_none start) (refused_with BadEnd (place_at rest (position_or_len (λ c. not (is_blank c)) (text_of rest))))
 
 -- statement by statement, and then the END line
 abbrev pub syntax_refusal : ProgramText → Option SyntaxError

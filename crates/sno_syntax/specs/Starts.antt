@@ -5,12 +5,8 @@ use Rattle.sno_syntax.specs.declared.start.Start.{Start}
 use Rattle.sno_syntax.specs.declared.start.Start.TheVariants.{Statement, End}
 use Rattle.sno_syntax.specs.Labels.{LabelList, is_end}
 
--- END, or the statement of this label
-abbrev pub start_named : LabelList → List ℕ → Option Start
-start_named labels label = if is_end label then Some End else option_map Statement (lookup (bytes_eq label) labels)
-
 -- what the words after END say, where there are so many statements: nothing, or one label
 abbrev pub start_of : ℕ → LabelList → List (List ℕ) → Option Start
 start_of count labels [] = Some (if count == 0 then End else Statement 0)
-start_of count labels (word ∷ []) = start_named labels word
+start_of count labels (word ∷ []) = if is_end word then Some End else option_map Statement (lookup (bytes_eq word) labels)
 start_of count labels _ = None

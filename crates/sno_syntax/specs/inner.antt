@@ -2,3 +2,4 @@
 pub mod Ends
 pub mod Lasts
 pub mod Tokens
+pub mod Parts

@@ -1,12 +1,13 @@
 //! Where a run of a program begins, as its END line says it.
-ghost use Rattle.std.specs.Prelude.{◌≡◌, map, not, position, IfOk, ◌==◌, if◌then◌else◌};
+ghost use Rattle.std.specs.Prelude.{◌≡◌, [], ◌∷◌, map, not, position, IfOk, ◌==◌, if◌then◌else◌};
 ghost use Rattle.mon_text.specs.Characters.{is_blank};
 ghost use Rattle.mon_text.specs.Lines.{words};
 ghost use Rattle.sno_cards.specs.declared.refusal.SyntaxCode.TheVariants.{BadEnd};
 ghost use Rattle.sno_cards.specs.Texts.{text_of};
 ghost use Rattle.sno_syntax.specs.Places.{refused_with};
-ghost use Rattle.sno_syntax.specs.Refusals.{begin_of, end_refusal};
-ghost use Rattle.sno_syntax.specs.Starts.{start_named, start_of};
+ghost use Rattle.sno_syntax.specs.Refusals.{end_refusal};
+ghost use Rattle.sno_syntax.specs.inner.Parts.{begin_of};
+ghost use Rattle.sno_syntax.specs.Starts.{start_of};
 ghost use Rattle.sno_syntax.specs.declared.start.Start.TheVariants.{End, Statement};
 
 use crate::label::{Labels, is_end};
@@ -34,7 +35,7 @@ fn first_start(count: usize) -> Start
 }
 
 fn start_named(labels: &Labels, label: &[u8]) -> Option<Start>
-    ensures { result ≡ start_named labels.now label.now }
+    ensures { result ≡ start_of 0 labels.now (label.now ∷ []) }
 {
     if is_end(label) {
         Some(Start::End)

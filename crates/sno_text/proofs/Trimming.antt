@@ -4,7 +4,12 @@ use Rattle.std.specs.Prelude.{if◌then◌else◌}
 use Rattle.std.proofs.lemmas.List.{take_more, take_all}
 use Rattle.std.proofs.lemmas.Bool.Decides.{nat_tests}
 use Rattle.mon_text.specs.Characters.{is_blank}
-use Rattle.sno_text.specs.Texts.{before_trimmed, without_trailing_blanks}
+use Rattle.sno_text.specs.Texts.{without_trailing_blanks}
+
+-- a character before a text that has no blanks at its end
+abbrev pub before_trimmed : ℕ → List ℕ → List ℕ
+before_trimmed c [] = if is_blank c then [] else c ∷ []
+before_trimmed c (d ∷ ds) = c ∷ d ∷ ds
 
 -- a blank at the end goes
 blank_goes : (text : List ℕ) → without_trailing_blanks (text ++ 32 ∷ []) ≡ without_trailing_blanks text

@@ -1,5 +1,6 @@
 use Rattle.std.proofs.Common.{◌≡◌, ◌+◌, ◌++◌, drop, filter}
-use Rattle.sno_cards.specs.Statements.{placed_on, continued, is_statement_card, numbered}
+use Rattle.sno_cards.specs.Statements.{placed_on, continued, numbered}
+use Rattle.sno_cards.specs.inner.Parts.{is_statement_card}
 use Rattle.sno_cards.specs.inner.Cuts.{cut_of, begun, fed}
 use Rattle.sno_cards.proofs.lines.cut_line.Given as goal
 
