@@ -1,7 +1,8 @@
 //! The primitive functions that depend on nothing but their arguments.
 ghost use Rattle.std.specs.Prelude.{◌≡◌, true, IfOk, OnErr};
 ghost use Rattle.sno_value.specs.Values.{null};
-ghost use Rattle.sno_value.specs.Primitives.{argument, applied, takes_memory, primitive_gives, pattern_function, comparison_function, primitive_named};
+ghost use Rattle.sno_value.specs.Primitives.{argument, applied, takes_memory, primitive_gives, primitive_named};
+ghost use Rattle.sno_value.specs.inner.Names.{pattern_function, comparison_function};
 ghost use Rattle.sno_value.specs.Memory.{is_given};
 
 use crate::outcome::Outcome;
