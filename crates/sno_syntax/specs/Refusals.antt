@@ -31,16 +31,6 @@ use Rattle.std.specs.Bool.{then_some}
 
 -- A STATEMENT
 
-abbrev pub code_of_lex : LexKind → SyntaxCode
-code_of_lex lex.BadConstant = BadConstant
-code_of_lex lex.Foreign = Unexpected
-code_of_lex lex.TooMany = StatementTooLarge
-
-abbrev pub code_of_fault : FaultKind → SyntaxCode
-code_of_fault MissingBlank = BlankMissing
-code_of_fault Unfit = Unexpected
-code_of_fault NoVariable = VariableNeeded
-
 -- the label of a statement is what stands before its first blank; one that begins with a blank has none
 abbrev pub label_of : List Placed → List ℕ
 label_of text = before_first is_blank (text_of text)
@@ -50,10 +40,12 @@ abbrev pub token_place : List Placed → List ℕ → ℕ → Place
 token_place text offsets i = if nat_lt i (length offsets) then place_at text (get_or offsets i 0) else end_of text
 
 abbrev pub lex_refusal : List Placed → LexFault → SyntaxError
-lex_refusal text f = refused_with (code_of_lex f.kind) (place_at text f.offset)
+lex_refusal text f =
+    refused_with (elim f.kind [ lex.BadConstant ↦ BadConstant | lex.Foreign ↦ Unexpected | lex.TooMany ↦ StatementTooLarge ]) (place_at text f.offset)
 
 abbrev pub fault_refusal : List Placed → List ℕ → Fault → SyntaxError
-fault_refusal text offsets f = refused_with (code_of_fault f.kind) (token_place text offsets f.at)
+fault_refusal text offsets f =
+    refused_with (elim f.kind [ MissingBlank ↦ BlankMissing | Unfit ↦ Unexpected | NoVariable ↦ VariableNeeded ]) (token_place text offsets f.at)
 
 abbrev pub with_place : List Placed → Result TokenList LexFault → Result TokenList SyntaxError
 with_place text (Ok list) = Ok list

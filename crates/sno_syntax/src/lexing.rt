@@ -1,7 +1,8 @@
 //! The tokens of a statement.
 ghost use Rattle.std.specs.Prelude.{◌≡◌, Ok, Err, IfOk, IfErr, IsOk, IsErrOf};
 ghost use Rattle.sno_cards.specs.Answers.{IfRefused};
-ghost use Rattle.sno_syntax.specs.Refusals.{code_of_lex, lex_refusal, tokens_of, lexed_text};
+ghost use Rattle.sno_syntax.specs.Refusals.{lex_refusal, tokens_of, lexed_text};
+ghost use Rattle.sno_syntax.specs.inner.Parts.{code_of_lex};
 
 use crate::label::{is_bad_label, label_in, label_length};
 use crate::place::place_at;

@@ -2,7 +2,8 @@
 ghost use Rattle.std.specs.Prelude.{◌≡◌, Some, Ok, Err, IfOk, IfErr, OnOk};
 ghost use Rattle.sno_cards.specs.Answers.{IfRefused};
 ghost use Rattle.sno_statement.specs.Abstraction.{statement_of};
-ghost use Rattle.sno_syntax.specs.Refusals.{code_of_fault, token_place, fault_refusal, label_of, tokens_of, stage_refusal, statement_refusal, with_label};
+ghost use Rattle.sno_syntax.specs.Refusals.{token_place, fault_refusal, label_of, tokens_of, stage_refusal, statement_refusal, with_label};
+ghost use Rattle.sno_syntax.specs.inner.Parts.{code_of_fault};
 ghost use Rattle.sno_syntax.specs.Programs.{TextSpells, SpellsBehind};
 
 use crate::label::{Labels, label_fault, label_in};

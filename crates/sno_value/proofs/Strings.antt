@@ -7,7 +7,7 @@ use Rattle.sno_text.specs.declared.fault.Fault.TheVariants.{Length}
 use Rattle.sno_value.specs.declared.value.Value.TheVariants.{Text}
 use Rattle.sno_value.specs.declared.outcome.Outcome.TheVariants.{Gives, Faults}
 use Rattle.sno_value.specs.Outcomes.{string}
-use Rattle.sno_value.specs.Primitives.{copies}
+use Rattle.sno_value.specs.inner.Parts.{copies}
 use Rattle.std.specs.List.{repeat}
 
 by_length : (text : List ℕ) (b : Bool) (given : Bool) → b ≡ given → (if given then Gives (Text text) else Faults Length) ≡ (if b then Gives (Text text) else Faults Length)
