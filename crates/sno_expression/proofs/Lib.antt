@@ -1,3 +1,4 @@
+pub mod Before
 pub mod Levels
 pub mod Feeding
 pub mod Steps

@@ -1,5 +1,6 @@
 -- What each mark writes, between operands and before one (after the SNOBOL4 book, Griswold, Poage, Polonsky, 2nd ed., chapter 1; precedence and associativity are own).
 use Rattle.std.specs.Prelude.{Bool, true, false, Option, Some, None}
+use Rattle.std.specs.Option.{option_map}
 use Rattle.sno_lexer.specs.declared.token.Mark.{Mark}
 use Rattle.sno_lexer.specs.declared.token.Mark.TheVariants as mark
 use Rattle.sno_expression.specs.declared.tree.BinaryOperator.{BinaryOperator}
@@ -23,17 +24,21 @@ operator_of mark.Bar = Some operator.Alternation
 operator_of _ = None
 
 -- directly before an operand
+abbrev pub unary_of : Mark → Option UnaryOperator
+unary_of mark.Plus = Some unary.Plus
+unary_of mark.Minus = Some unary.Minus
+unary_of mark.Dollar = Some unary.Indirect
+unary_of mark.Dot = Some unary.Name
+unary_of mark.At = Some unary.Cursor
+unary_of mark.Tilde = Some unary.Not
+unary_of mark.Question = Some unary.Query
+unary_of _ = None
+
+-- and before an operand or an identifier
 abbrev pub prefix_of : Mark → Option Prefix
-prefix_of mark.Plus = Some (OfOperand unary.Plus)
-prefix_of mark.Minus = Some (OfOperand unary.Minus)
-prefix_of mark.Dollar = Some (OfOperand unary.Indirect)
-prefix_of mark.Dot = Some (OfOperand unary.Name)
-prefix_of mark.At = Some (OfOperand unary.Cursor)
-prefix_of mark.Tilde = Some (OfOperand unary.Not)
-prefix_of mark.Question = Some (OfOperand unary.Query)
 prefix_of mark.Ampersand = Some (OfIdentifier prefix.Keyword)
 prefix_of mark.Star = Some (OfIdentifier prefix.Unevaluated)
-prefix_of _ = None
+prefix_of k = option_map OfOperand (unary_of k)
 
 -- does the operator need a variable on its right
 abbrev pub needs_variable : BinaryOperator → Bool

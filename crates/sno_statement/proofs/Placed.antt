@@ -1,5 +1,5 @@
 -- A walk over the tokens of a tree notes the places that lack a variable.
-use Rattle.std.proofs.Common.{arith, ◌≡◌, ℕ, ◌+◌, ◌-◌, List, [], ◌∷◌, ◌++◌, refl, sym, ap, ◌∙◌, subst}
+use Rattle.std.proofs.Common.{arith, ◌≡◌, ℕ, ◌+◌, ◌-◌, List, ◌∷◌, ◌++◌, refl, sym, ap, ◌∙◌, subst}
 use Rattle.std.specs.Prelude.{Bool, true, false, not, ◌&&◌, Option, Some, None, if◌then◌else◌}
 use Rattle.sno_lexer.specs.declared.token.Mark.{Mark}
 use Rattle.sno_lexer.specs.declared.token.Mark.TheVariants as mark
@@ -10,16 +10,16 @@ use Rattle.sno_expression.specs.declared.tree.BinaryOperator.{BinaryOperator}
 use Rattle.sno_expression.specs.declared.tree.BinaryOperator.TheVariants.{Concatenation}
 use Rattle.sno_expression.specs.declared.tree.UnaryOperator.{UnaryOperator}
 use Rattle.sno_expression.specs.declared.tree.UnaryOperator.TheVariants as unary
-use Rattle.sno_expression.specs.declared.tree.Prefix.TheVariants.{OfOperand}
 use Rattle.sno_expression.specs.declared.walking.Paren.{Paren}
 use Rattle.sno_expression.specs.declared.walking.Paren.TheVariants.{OfGroup, OfCall, OfItem}
 use Rattle.sno_expression.specs.declared.walking.Position.{Position}
 use Rattle.sno_expression.specs.declared.walking.Position.TheVariants.{AtStart, AfterBinary, AfterUnary, AfterPrefix, AfterIdentifier, AfterOperand}
 use Rattle.sno_expression.specs.declared.walking.Move.{Move}
 use Rattle.sno_expression.specs.declared.walking.Move.TheVariants as move
-use Rattle.sno_expression.specs.Marks.{prefix_of, needs_variable, operand_is_variable}
+use Rattle.sno_expression.specs.Marks.{unary_of, needs_variable, operand_is_variable}
 use Rattle.sno_expression.specs.Expressions.{Expression, Arguments, Identifier, Constant, Keyword, Unevaluated, Group, Call, TableItem, Unary, Binary, NoArguments, Omitted, Argument, AreSome, IsOperand, HasLevels, HaveLevels, is_variable}
 use Rattle.sno_expression.specs.Spelling.{spaced, Joins, Parts, SpellsTo, SpellTo}
+use Rattle.sno_expression.proofs.Before.{as_prefix}
 use Rattle.sno_expression.specs.inner.Walking.{begin, prefixed, joined, first, go_on, stops, step, begins_variable, is_misfit, misfit_index, inner_of, outer_of, ends, after_operand, paren_of}
 use Rattle.sno_statement.specs.declared.walking.Field.{Field}
 use Rattle.sno_statement.specs.declared.walking.Stage.TheVariants.{In}
@@ -133,7 +133,7 @@ and_false : (b : Bool) → (b && false) ≡ false
 and_false true = refl
 and_false false = refl
 
-indirect : (k : Mark) (s : UnaryOperator) (t : Expression) → prefix_of k ≡ Some (OfOperand s) → begins_variable (token.Mark k) ≡ is_variable (Unary s t)
+indirect : (k : Mark) (s : UnaryOperator) (t : Expression) → unary_of k ≡ Some s → begins_variable (token.Mark k) ≡ is_variable (Unary s t)
 indirect mark.Power s t e = cc
 indirect mark.Star s t e = cc
 indirect mark.Slash s t e = cc
@@ -274,7 +274,7 @@ mutual
       ∙ sym (marked_append (lacking false t) (false ∷ []) (λ j. noted_from k j (At ps (In f AfterOperand)) rest) (i + 1 + 1)))))))))
   tree_noted (Unary o t) k i w ps f b needed ts rest d v u s x =
       ap (noted_from k i w) s.3
-      ∙ (d k i false (token.Mark s.1) s.0 (move.Within (AfterUnary (operand_is_variable o))) (ap prefixed s.2)
+      ∙ (d k i false (token.Mark s.1) s.0 (move.Within (AfterUnary (operand_is_variable o))) (ap prefixed (as_prefix s.1 o s.2))
       ∙ (ap (λ (c : Bool). least (note (needed && not c) i) (noted_from k (i + 1) (At ps (In f (AfterUnary (operand_is_variable o)))) s.0)) (indirect s.1 o t s.2)
       ∙ ap (least (note (needed && not (is_variable (Unary o t))) i))
       (tree_noted t k (i + 1) (At ps (In f (AfterUnary (operand_is_variable o)))) ps f false (operand_is_variable o) s.0 rest (due_unary ps f (operand_is_variable o)) v.1
