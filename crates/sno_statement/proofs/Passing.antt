@@ -17,7 +17,7 @@ use Rattle.sno_statement.specs.declared.walking.Role.TheVariants.{Assigns, Goes,
 use Rattle.sno_statement.specs.declared.walking.Field.TheVariants.{Subject, Pattern, Object, Target as InComputed}
 use Rattle.sno_statement.specs.declared.walking.Stage.TheVariants.{AfterEquals, AfterColon, AfterOutcome, InTarget, AfterLabel, AfterTarget}
 use Rattle.sno_statement.specs.declared.walking.SubjectKind.{SubjectKind}
-use Rattle.sno_statement.specs.Statements.{Target, To, Computed, Goto, NoGoto, Always, OnBoth, NoObject, NullObject, ValueObject, Body, NoBody, Does, Says, kind_of, can_be_set}
+use Rattle.sno_statement.specs.Statements.{Target, To, Computed, Goto, NoGoto, Always, OnBoth, NoObject, NullObject, ValueObject, Body, NoBody, Does, Says}
 use Rattle.sno_statement.specs.inner.Walking.{At, role, advanced, begins, other, at_first, after_subject, after_pattern, after_object, after_element, after_equals, after_colon, after_outcome, after_target}
 use Rattle.sno_statement.specs.inner.Faults.{is_unset, subject_kind}
 use Rattle.sno_statement.specs.inner.Reading.{Aim, Missed, Aimed, closed_by, closing, computed, inside_by, inside, target_by, target_in, at_last, always, both, next_by, next, chosen, goto_by, goto_in, going, ends_by, ending, giving, by_object, object_in, by_pattern, pattern_then, matching, by_subject, subject_then, acting, by_first, statement_in}

@@ -24,7 +24,8 @@ use Rattle.sno_expression.specs.inner.Reading.{Stops}
 use Rattle.sno_statement.specs.declared.walking.Field.TheVariants.{Subject, Pattern, Object as Given, Target as InComputed}
 use Rattle.sno_statement.specs.declared.walking.Stage.TheVariants.{First, In, AfterEquals, AfterColon, AfterOutcome, InTarget, AfterTarget}
 use Rattle.sno_statement.specs.declared.walking.SubjectKind.{SubjectKind}
-use Rattle.sno_statement.specs.Statements.{Target, To, Computed, Goto, NoGoto, Always, OnSuccess, OnFailure, OnBoth, Object, NoObject, NullObject, ValueObject, NoBody, Does, Statement, Says, TargetHasLevels, GotoHasLevels, ObjectHasLevels, StatementHasLevels, kind_of, can_be_set}
+use Rattle.sno_statement.specs.Statements.{Target, To, Computed, Goto, NoGoto, Always, OnSuccess, OnFailure, OnBoth, Object, NoObject, NullObject, ValueObject, NoBody, Does, Statement, Says, TargetHasLevels, GotoHasLevels, ObjectHasLevels, StatementHasLevels, may_be_set}
+use Rattle.sno_statement.specs.inner.Kinds.{kind_of, can_be_set}
 use Rattle.sno_statement.specs.Spelling.{TargetTo, OutcomeTo, LeadsTo, GotoTo, ObjectTo, Spells}
 use Rattle.sno_statement.specs.declared.walking.Role.{Role}
 use Rattle.sno_statement.specs.declared.walking.Field.{Field}
@@ -276,12 +277,18 @@ pattern_noted (Some p) o g k i m n q v w y c d e =
 
 -- THE SUBJECT
 
+by_kind : (s : Expression) (p : Bool) → can_be_set (kind_of s) p ≡ may_be_set s p
+by_kind (Unary unary.Indirect t) p = refl
+by_kind (Keyword n) true = refl
+by_kind (Keyword n) false = refl
+by_kind _ p = refl
+
 wrong_used : (s : Expression) (p : Option Expression) (o : Object) → used o (not (can_be_set (kind_of s) (is_some p))) ≡ is_wrong s p o
 wrong_used s p NoObject = refl
-wrong_used s p NullObject = refl
-wrong_used s p (ValueObject t) = refl
+wrong_used s p NullObject = ap not (by_kind s (is_some p))
+wrong_used s p (ValueObject t) = ap not (by_kind s (is_some p))
 
-set_variable : (s : Expression) (p : Bool) → not (can_be_set (kind_of s) p) ≡ true → is_variable s ≡ false
+set_variable : (s : Expression) (p : Bool) → not (may_be_set s p) ≡ true → is_variable s ≡ false
 set_variable (Identifier n) p e = cc
 set_variable (Unary unary.Indirect t) p e = cc
 set_variable _ p e = refl

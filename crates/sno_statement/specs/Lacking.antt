@@ -1,6 +1,6 @@
 -- Where a statement lacks a variable: for each of its tokens, whether an element begins there that should be a variable and
 -- is none (own).
-use Rattle.std.specs.Prelude.{◌≡◌, Bool, false, not, ◌++◌, List, [], ◌∷◌, Option, Some, None, is_some}
+use Rattle.std.specs.Prelude.{◌≡◌, Bool, false, not, ◌++◌, List, [], ◌∷◌, Option, is_some}
 use Rattle.std.specs.List.{list_any}
 use Rattle.sno_lexer.specs.declared.token.Outcome.{Outcome}
 use Rattle.sno_lexer.specs.declared.token.Outcome.TheVariants.{Success, Failure}
@@ -10,13 +10,13 @@ use Rattle.sno_lexer.specs.declared.token.TokenKind.TheVariants as token
 use Rattle.sno_expression.specs.declared.tree.UnaryOperator.TheVariants.{Indirect}
 use Rattle.sno_expression.specs.Expressions.{Expression, Unary}
 use Rattle.sno_expression.specs.Lacking.{lacking}
-use Rattle.sno_statement.specs.Statements.{Target, To, Computed, Goto, NoGoto, Always, OnSuccess, OnFailure, OnBoth, Object, NoObject, NullObject, ValueObject, Body, NoBody, Does, Statement, Says, kind_of, can_be_set}
+use Rattle.sno_statement.specs.Statements.{Target, To, Computed, Goto, NoGoto, Always, OnSuccess, OnFailure, OnBoth, Object, NoObject, NullObject, ValueObject, Body, NoBody, Does, Statement, Says, may_be_set}
 use Rattle.std.specs.Option.{option_map_or}
 
 -- should the subject be a variable and is none: an object is given, and the subject may not be assigned to
 abbrev pub is_wrong : Expression → Option Expression → Object → Bool
 is_wrong s p NoObject = false
-is_wrong s p _ = not (can_be_set (kind_of s) (is_some p))
+is_wrong s p _ = not (may_be_set s (is_some p))
 
 -- for each token of a part of a statement; before an object stands its `=`
 abbrev pub lacking_object : Object → List Bool

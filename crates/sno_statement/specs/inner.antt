@@ -4,3 +4,4 @@ pub mod Reading
 pub mod Told
 pub mod Variables
 pub mod Laws
+pub mod Kinds

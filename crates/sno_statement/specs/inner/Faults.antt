@@ -17,7 +17,7 @@ use Rattle.sno_statement.specs.declared.walking.Stage.{Stage}
 use Rattle.sno_statement.specs.declared.walking.Stage.TheVariants.{In}
 use Rattle.sno_statement.specs.declared.walking.SubjectKind.{SubjectKind}
 use Rattle.sno_statement.specs.declared.walking.SubjectKind.TheVariants as kind
-use Rattle.sno_statement.specs.Statements.{can_be_set}
+use Rattle.sno_statement.specs.inner.Kinds.{can_be_set}
 use Rattle.sno_statement.specs.inner.Walking.{Walk, At, take, begins, may_end, role}
 
 abbrev pub is_taken : Option Walk → Bool
