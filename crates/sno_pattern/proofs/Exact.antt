@@ -9,7 +9,8 @@ use Rattle.sno_pattern.specs.declared.ending.Pending.{Pending}
 use Rattle.sno_pattern.specs.Looks.{Told, Found, Given, Refused, Faulty}
 use Rattle.sno_text.specs.Sets.{is_one_of}
 use Rattle.sno_text.specs.Balance.{part, balanced_ends}
-use Rattle.sno_pattern.specs.Steps.{Goal, Meet, More, EndConditional, EndImmediate, End, Success, Failure, WholeFails, OutOfSteps, Fault, Trying, Way, ends, on_failure, at_each, pattern_found, with_found, if_given, row, attempt, outcome}
+use Rattle.sno_pattern.specs.Steps.{Goal, Meet, More, EndConditional, EndImmediate, End, Success, Failure, WholeFails, OutOfSteps, Fault, Trying, Way, ends, on_failure, at_each, pattern_found, if_given, row, attempt, outcome}
+use Rattle.sno_pattern.specs.inner.Found.{with_found}
 use Rattle.sno_pattern.proofs.Trying.{after_end, LeavesAtMost, Falls, leaves_more, fails_falls}
 use Rattle.sno_pattern.proofs.Table.{row_falls, attempt_falls}
 use Rattle.mon_text.specs.Beginnings.{first_passes}

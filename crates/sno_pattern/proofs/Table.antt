@@ -9,7 +9,8 @@ use Rattle.sno_pattern.specs.declared.host.Taken.TheVariants.{Part, Cursor}
 use Rattle.sno_pattern.specs.Looks.{LookUp, Assign}
 use Rattle.sno_text.specs.Sets.{is_one_of}
 use Rattle.sno_text.specs.Balance.{part, balanced_ends}
-use Rattle.sno_pattern.specs.Steps.{Goal, Meet, More, EndConditional, EndImmediate, Success, Failure, WholeFails, OutOfSteps, Way, ends, on_failure, at_each, with_found, if_given, row, attempt, outcome}
+use Rattle.sno_pattern.specs.Steps.{Goal, Meet, More, EndConditional, EndImmediate, Success, Failure, WholeFails, OutOfSteps, Way, ends, on_failure, at_each, if_given, row, attempt, outcome}
+use Rattle.sno_pattern.specs.inner.Found.{with_found}
 use Rattle.sno_pattern.proofs.Trying.{LeavesAtMost, Falls, Agree, leaves_more, fails_falls, fails_agree, if_falls, found_falls, given_falls, found_agrees, asks_same}
 use Rattle.mon_text.specs.Beginnings.{first_passes}
 

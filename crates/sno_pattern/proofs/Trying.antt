@@ -8,7 +8,8 @@ use Rattle.interaction.proofs.Enough.{ends_in_then, same_then}
 use Rattle.sno_text.specs.Patterns.{Pattern}
 use Rattle.sno_pattern.specs.declared.ending.Pending.{Pending}
 use Rattle.sno_pattern.specs.Looks.{Look, Told, Found, Given, Refused, Faulty}
-use Rattle.sno_pattern.specs.Steps.{Goal, End, Success, Failure, WholeFails, OutOfSteps, Fault, Outcome, Trying, Way, ends, on_failure, pattern_found, with_found, if_given}
+use Rattle.sno_pattern.specs.Steps.{Goal, End, Success, Failure, WholeFails, OutOfSteps, Fault, Outcome, Trying, Way, ends, on_failure, pattern_found, if_given}
+use Rattle.sno_pattern.specs.inner.Found.{with_found}
 
 -- the second attempt after an end, if that is failure, with the steps that are left
 abbrev pub after_end : End → ℕ → (ℕ → Trying) → Trying

@@ -13,7 +13,8 @@ use Rattle.sno_pattern.specs.declared.ending.Pending.{Pending}
 use Rattle.sno_pattern.specs.Looks.{Look, Told, Found, Given, Refused, Faulty}
 use Rattle.sno_text.specs.Sets.{is_one_of}
 use Rattle.sno_text.specs.Balance.{part, balanced_ends}
-use Rattle.sno_pattern.specs.Steps.{Goal, Meet, More, EndConditional, EndImmediate, End, Success, Failure, WholeFails, OutOfSteps, Fault, Outcome, Trying, Way, ends, on_failure, at_each, pattern_found, with_found, if_given, row, attempt, outcome, Finish, settle, from_starts}
+use Rattle.sno_pattern.specs.Steps.{Goal, Meet, More, EndConditional, EndImmediate, End, Success, Failure, WholeFails, OutOfSteps, Fault, Outcome, Trying, Way, ends, on_failure, at_each, pattern_found, if_given, row, attempt, outcome, Finish, settle, from_starts}
+use Rattle.sno_pattern.specs.inner.Found.{with_found}
 use Rattle.sno_pattern.specs.Places.{one_end, MatchesWithin}
 use Rattle.sno_pattern.specs.Laws.{MatchIsWithin}
 use Rattle.sno_pattern.proofs.Finding.{Between, ends_between}

@@ -59,19 +59,17 @@ abbrev pub at_each : Way → List Goal → List ℕ → List Pending → ℕ →
 at_each go rest [] pending n = ends Failure n
 at_each go rest (c ∷ cs) pending n = on_failure (go rest c pending n) (λ n'. at_each go rest cs pending n')
 
+-- it goes on where something holds, and else fails
+abbrev pub provided : Bool → ℕ → Trying → Trying
+provided holds n go = if holds then go else ends Failure n
+
 -- the pattern that a variable stands for
 abbrev pub pattern_found : Looked → Pattern
 pattern_found (looked.Pattern p) = p
 pattern_found (looked.Text s) = pattern.Text s
 pattern_found (looked.Defer v) = pattern.Defer v
 
--- how it goes on with what the host told: with what was found
-abbrev pub with_found : Told → ℕ → (Pattern → Trying) → Trying
-with_found (Found looked) n go = go (pattern_found looked)
-with_found (Faulty f) n go = ends (Fault f) n
-with_found told n go = ends Failure n
-
--- or once an assignment was made
+-- how it goes on with what the host told, once an assignment was made
 abbrev pub if_given : Told → ℕ → Trying → Trying
 if_given Given n go = go
 if_given (Faulty f) n go = ends (Fault f) n
@@ -80,29 +78,19 @@ if_given told n go = ends Failure n
 module _ (text : List ℕ) where
   -- THE TABLE: a goal at the cursor c, with the rest r of the goals
   unfoldable pub row : Way → Goal → List Goal → ℕ → List Pending → ℕ → Trying
-  row go (Meet (pattern.Text s)) r c pending n =
-      if starts_with nat_eq (drop c text) s then go r (c + length s) pending n else ends Failure n
-  row go (Meet (pattern.Len k)) r c pending n =
-      if nat_le (c + k) (length text) then go r (c + k) pending n else ends Failure n
-  row go (Meet (pattern.Pos k)) r c pending n = if nat_eq c k then go r c pending n else ends Failure n
-  row go (Meet (pattern.RPos k)) r c pending n = if nat_eq (c + k) (length text) then go r c pending n else ends Failure n
-  row go (Meet (pattern.Tab k)) r c pending n =
-      if nat_le c k && nat_le k (length text) then go r k pending n else ends Failure n
-  row go (Meet (pattern.RTab k)) r c pending n =
-      if nat_le (c + k) (length text) then go r (length text - k) pending n else ends Failure n
+  row go (Meet (pattern.Text s)) r c pending n = provided (starts_with nat_eq (drop c text) s) n (go r (c + length s) pending n)
+  row go (Meet (pattern.Len k)) r c pending n = provided (nat_le (c + k) (length text)) n (go r (c + k) pending n)
+  row go (Meet (pattern.Pos k)) r c pending n = provided (nat_eq c k) n (go r c pending n)
+  row go (Meet (pattern.RPos k)) r c pending n = provided (nat_eq (c + k) (length text)) n (go r c pending n)
+  row go (Meet (pattern.Tab k)) r c pending n = provided (nat_le c k && nat_le k (length text)) n (go r k pending n)
+  row go (Meet (pattern.RTab k)) r c pending n = provided (nat_le (c + k) (length text)) n (go r (length text - k) pending n)
   row go (Meet pattern.Rem) r c pending n = go r (length text) pending n
-  row go (Meet (pattern.Any s)) r c pending n =
-      if first_passes (is_one_of s) (drop c text) then go r (c + 1) pending n else ends Failure n
-  row go (Meet (pattern.NotAny s)) r c pending n =
-      if first_passes (λ x. not (is_one_of s x)) (drop c text) then go r (c + 1) pending n else ends Failure n
+  row go (Meet (pattern.Any s)) r c pending n = provided (first_passes (is_one_of s) (drop c text)) n (go r (c + 1) pending n)
+  row go (Meet (pattern.NotAny s)) r c pending n = provided (first_passes (λ x. not (is_one_of s x)) (drop c text)) n (go r (c + 1) pending n)
   row go (Meet (pattern.Span s)) r c pending n =
-      if first_passes (is_one_of s) (drop c text)
-      then go r (c + prefix_len (is_one_of s) (drop c text)) pending n
-      else ends Failure n
+      provided (first_passes (is_one_of s) (drop c text)) n (go r (c + prefix_len (is_one_of s) (drop c text)) pending n)
   row go (Meet (pattern.Break s)) r c pending n =
-      if nat_lt (c + position_or_len (is_one_of s) (drop c text)) (length text)
-      then go r (c + position_or_len (is_one_of s) (drop c text)) pending n
-      else ends Failure n
+      provided (nat_lt (c + position_or_len (is_one_of s) (drop c text)) (length text)) n (go r (c + position_or_len (is_one_of s) (drop c text)) pending n)
   row go (Meet pattern.Arb) r c pending n = at_each go r (range_with_len c (length text + 1 - c)) pending n
   row go (Meet pattern.Bal) r c pending n = at_each go r (balanced_ends text c) pending n
   row go (Meet (pattern.Cat a b)) r c pending n = go (Meet a ∷ Meet b ∷ r) c pending n
@@ -111,9 +99,7 @@ module _ (text : List ℕ) where
   row go (Meet (pattern.Arbno p)) r c pending n =
       on_failure (go r c pending n) (λ n'. go (Meet p ∷ More p c ∷ r) c pending n')
   row go (More p d) r c pending n =
-      if nat_eq c d
-      then ends Failure n
-      else on_failure (go r c pending n) (λ n'. go (Meet p ∷ More p c ∷ r) c pending n')
+      if nat_eq c d then ends Failure n else on_failure (go r c pending n) (λ n'. go (Meet p ∷ More p c ∷ r) c pending n')
   row go (Meet (pattern.Conditional p v)) r c pending n = go (Meet p ∷ EndConditional v c ∷ r) c pending n
   row go (EndConditional v d) r c pending n = go r c (pending ++ record { variable = v; text = part text d c } ∷ []) n
   row go (Meet (pattern.Immediate p v)) r c pending n = go (Meet p ∷ EndImmediate v c ∷ r) c pending n
@@ -125,7 +111,7 @@ module _ (text : List ℕ) where
     if_given told n (go r c pending n)
   row go (Meet (pattern.Defer v)) r c pending n = do
     told ← ask (LookUp v)
-    with_found told n (λ p. go (Meet p ∷ r) c pending n)
+    elim told [ Found looked ↦ go (Meet (pattern_found looked) ∷ r) c pending n | Faulty f ↦ ends (Fault f) n | other ↦ ends Failure n ]
   row go (Meet pattern.Fail) r c pending n = ends Failure n
   row go (Meet pattern.Abort) r c pending n = ends WholeFails n
   row go (Meet pattern.Fence) r c pending n = on_failure (go r c pending n) (λ n'. ends WholeFails n')

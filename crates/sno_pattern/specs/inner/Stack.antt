@@ -20,7 +20,8 @@ use Rattle.sno_pattern.specs.declared.choice_points.Ended.TheVariants as ended
 use Rattle.sno_pattern.specs.declared.ending.Pending.{Pending}
 use Rattle.sno_pattern.specs.declared.host.Taken.{Taken}
 use Rattle.sno_pattern.specs.Looks.{Look, LookUp, Assign, Told, Fits}
-use Rattle.sno_pattern.specs.Steps.{Goal, Meet, More, EndConditional, EndImmediate, End, Failure, WholeFails, OutOfSteps, Fault, Outcome, Trying, ends, on_failure, at_each, with_found, if_given, row, outcome}
+use Rattle.sno_pattern.specs.Steps.{Goal, Meet, More, EndConditional, EndImmediate, End, Failure, WholeFails, OutOfSteps, Fault, Outcome, Trying, ends, on_failure, at_each, if_given, row, outcome}
+use Rattle.sno_pattern.specs.inner.Found.{with_found}
 
 -- the variable to which what a pattern matches is assigned, if there is one
 abbrev pub variable_in : Pattern → List ℕ

@@ -1,0 +1,12 @@
+-- What a match does with what the host has found: for the code and for proofs.
+use Rattle.std.specs.Prelude.{ℕ}
+use Rattle.sno_text.specs.Patterns.{Pattern}
+use Rattle.sno_pattern.specs.Looks.{Told, Found, Faulty}
+use Rattle.sno_pattern.specs.Steps.{Failure, Fault, Trying, ends, pattern_found}
+use Rattle.sno_pattern.specs.declared.host.Looked.TheVariants as looked
+
+-- how it goes on with what the host told: with what was found
+abbrev pub with_found : Told → ℕ → (Pattern → Trying) → Trying
+with_found (Found looked) n go = go (pattern_found looked)
+with_found (Faulty f) n go = ends (Fault f) n
+with_found told n go = ends Failure n
