@@ -10,7 +10,13 @@ use Rattle.interaction.specs.declared.answer.Answer.{Answer}
 use Rattle.interaction.specs.declared.answer.Answer.TheVariants.{Done}
 use Rattle.interaction.specs.Asking as asking
 use Rattle.interaction.specs.Asking.{Asking, Exchange}
-use Rattle.interaction.specs.Counting.{Moment, Beginning, Requesting, Counted, Passed, lifted, plain, with_request, requests_in, with_statement, statements_in, IsTrace, IsTracePrefix, counting, RunsTo, StopsIn, Executes}
+use Rattle.interaction.specs.Counting.{Moment, Beginning, Requesting, Counted, Passed, lifted, plain, requests_in, statements_in, IsTrace, IsTracePrefix, counting, RunsTo, StopsIn, Executes}
+
+abbrev pub with_request : Moment → Answer → List Exchange → List Exchange
+with_request moment answer x = elim moment [ Beginning ↦ x | Requesting request ↦ record { asked = request; reply = answer } ∷ x ]
+
+abbrev pub with_statement : Moment → ℕ → ℕ
+with_statement moment n = elim moment [ Beginning ↦ n + 1 | Requesting request ↦ n ]
 
 -- LIFTED
 

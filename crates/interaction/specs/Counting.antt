@@ -37,23 +37,15 @@ plain (Returns a) = Returns a
 plain (Asks Beginning f) = plain (f Done)
 plain (Asks (Requesting request) f) = Asks request (λ answer. plain (f answer))
 
-abbrev pub with_request : Moment → Answer → List Exchange → List Exchange
-with_request Beginning answer x = x
-with_request (Requesting request) answer x = record { asked = request; reply = answer } ∷ x
-
 -- what was asked meanwhile, and how it was answered
 abbrev pub requests_in : List Passed → List Exchange
 requests_in [] = []
-requests_in (m ∷ x) = with_request m.asked m.reply (requests_in x)
-
-abbrev pub with_statement : Moment → ℕ → ℕ
-with_statement Beginning n = n + 1
-with_statement (Requesting request) n = n
+requests_in (m ∷ x) = elim m.asked [ Beginning ↦ requests_in x | Requesting request ↦ record { asked = request; reply = m.reply } ∷ requests_in x ]
 
 -- how many statements have begun meanwhile
 abbrev pub statements_in : List Passed → ℕ
 statements_in [] = 0
-statements_in (m ∷ x) = with_statement m.asked (statements_in x)
+statements_in (m ∷ x) = elim m.asked [ Beginning ↦ statements_in x + 1 | Requesting request ↦ statements_in x ]
 
 abbrev pub IsTrace : {A : Type 0} → Counted A → List Passed → A → Type 0
 IsTrace t x a = exchanges.IsTrace MomentFits t x a

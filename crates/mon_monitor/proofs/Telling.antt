@@ -8,7 +8,8 @@ use Rattle.std.proofs.lemmas.Bool.{eq-eqb, eqb-true, eqb-false}
 use Rattle.interaction.specs.Asking as asking
 use Rattle.interaction.specs.Asking.{Exchange}
 use Rattle.interaction.specs.declared.answer.Answer.{Answer}
-use Rattle.interaction.specs.Counting.{Moment, Beginning, Requesting, Passed, MomentFits, IsTrace, IsTracePrefix, with_request, requests_in, with_statement, statements_in}
+use Rattle.interaction.specs.Counting.{Moment, Beginning, Requesting, Passed, MomentFits, IsTrace, IsTracePrefix, requests_in, statements_in}
+use Rattle.interaction.proofs.Counting.{with_request, with_statement}
 use Rattle.interaction.proofs.Counting.{plain_told}
 use Rattle.sno_run.specs.declared.ending.Ending.{Ending}
 use Rattle.sno_run.specs.declared.ending.Ending.TheVariants.{Memory}

@@ -6,7 +6,8 @@ use Rattle.interaction.specs.declared.request.Request.{Request}
 use Rattle.interaction.specs.declared.answer.Answer.{Answer}
 use Rattle.interaction.specs.declared.answer.Answer.TheVariants.{Done}
 use Rattle.interaction.specs.Asking.{Asking, Exchange, IsTrace, IsTracePrefix}
-use Rattle.interaction.specs.Counting.{Moment, Beginning, Requesting, Counted, Passed, with_request, requests_in}
+use Rattle.interaction.specs.Counting.{Moment, Beginning, Requesting, Counted, Passed, requests_in}
+use Rattle.interaction.proofs.Counting.{with_request}
 use Rattle.interaction.specs.Counting as counting
 use Rattle.mon_access.specs.declared.account.Account.{Account}
 use Rattle.mon_unit.specs.declared.service.UnitService.{UnitService}

@@ -7,7 +7,8 @@ use Rattle.interaction.specs.Endings.{EndsIn}
 use Rattle.interaction.specs.declared.answer.Answer.{Answer}
 use Rattle.interaction.specs.declared.answer.Answer.TheVariants.{Done}
 use Rattle.interaction.specs.Asking.{Asking}
-use Rattle.interaction.specs.Counting.{Moment, Beginning, Requesting, Counted, Passed, lifted, with_statement, statements_in, IsTrace}
+use Rattle.interaction.specs.Counting.{Moment, Beginning, Requesting, Counted, Passed, lifted, statements_in, IsTrace}
+use Rattle.interaction.proofs.Counting.{with_statement}
 use Rattle.sno_semantics.specs.Keeping.{Entered, Enters}
 use Rattle.sno_store.specs.declared.store.Store.{Store as State}
 use Rattle.sno_store.specs.States.{may_begin, with_statement as with_statement_begun}
