@@ -9,7 +9,8 @@ use Rattle.std.proofs.lemmas.List.Sorted.{All-permutation, IsPermutation-reverse
 use Rattle.std.proofs.lemmas.List.Splits.{slice_split_at, slice_split_none, slice_split-cons_yes}
 use Rattle.mon_acl.specs.declared.entries.Entry.{Entry}
 use Rattle.mon_acl.specs.declared.refusals.AclError.{AclError}
-use Rattle.mon_acl.specs.Texts.{is_gap, is_colon, is_hash, is_filled, trimmed, fields, without_comment, long_pieces}
+use Rattle.mon_acl.specs.Texts.{is_gap, is_colon, is_hash, trimmed, fields, without_comment, long_pieces}
+use Rattle.mon_acl.proofs.Filled.{is_filled}
 use Rattle.mon_acl.specs.Refusals.{◌>>=◌, entry_of_fields, joined, lacking, entries_on}
 use Rattle.mon_acl.specs.Reading.{arranged, read_long}
 use Rattle.mon_acl.specs.Laws.{BeginsLine, CommentsSayNothing}

@@ -10,7 +10,8 @@ use Rattle.mon_acl.specs.declared.entries.Tag.{Tag}
 use Rattle.mon_acl.specs.declared.entries.Tag.TheVariants.{UserObj, User, GroupObj, Group, Mask, Other}
 use Rattle.mon_acl.specs.declared.entries.Entry.{Entry}
 use Rattle.mon_acl.specs.Entries.{qualifier, IsEntry}
-use Rattle.mon_acl.specs.Texts.{is_gap, is_hash, is_filled, without_comment, long_pieces, tag_word, SpellsFields, SpellsEntry}
+use Rattle.mon_acl.specs.Texts.{is_gap, is_hash, without_comment, long_pieces, tag_word, SpellsFields, SpellsEntry}
+use Rattle.mon_acl.proofs.Filled.{is_filled}
 use Rattle.mon_acl.specs.Printing.{perms_text, entry_text, effective, effective_text, long_line}
 use Rattle.mon_acl.specs.Laws.{AnyLineOrder}
 use Rattle.mon_acl.proofs.Valid.{valid_moved}

@@ -34,13 +34,9 @@ abbrev pub without_comment : List ℕ → List ℕ
 without_comment [] = []
 without_comment (c ∷ cs) = if is_hash c then [] else c ∷ without_comment cs
 
--- not blanks alone
-abbrev pub is_filled : List ℕ → Bool
-is_filled line = not (list_all is_gap line)
-
 -- what stands on the lines before their comments, where that is not blank: the texts of the entries in the long form
 abbrev pub long_pieces : List ℕ → List (List ℕ)
-long_pieces text = filter is_filled (map without_comment (slice_split is_line_feed text))
+long_pieces text = filter (λ line. not (list_all is_gap line)) (map without_comment (slice_split is_line_feed text))
 
 -- what stands between colons, without the blanks round it: the fields of an entry's text
 abbrev pub fields : List ℕ → List (List ℕ)
