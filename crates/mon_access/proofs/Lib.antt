@@ -12,4 +12,5 @@ mod Counts
 mod Denials
 mod Examples
 mod Rightness
+mod Naming
 mod GrantingExamples

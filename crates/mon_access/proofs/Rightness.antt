@@ -21,7 +21,8 @@ use Rattle.mon_access.proofs.Meanings.{refuted, fails, any_Decides, has_tag-Deci
 use Rattle.mon_access.proofs.Places.{position-Some, position-None}
 use Rattle.mon_access.proofs.Cases.{applies_once}
 use Rattle.mon_access.specs.Laws.{GrantsByItsCase}
-use Rattle.mon_access.specs.Granting.{may_grant, holder, if_granted, granting}
+use Rattle.mon_access.specs.Granting.{may_grant, holder, granting}
+use Rattle.mon_access.proofs.Naming.{if_granted}
 use Rattle.mon_access.specs.GrantingLaws.{IsFirstToHold, IsRightGrantor, GrantsByTheEntry, NamedWhereGranted, NamesAnEntry}
 
 -- THE FIRST OF A LIST

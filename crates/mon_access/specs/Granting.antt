@@ -8,7 +8,6 @@ use Rattle.mon_acl.specs.declared.entries.Entry.{Entry}
 use Rattle.mon_acl.specs.Entries.{has_tag}
 use Rattle.mon_acl.specs.Permissions.{holds}
 use Rattle.mon_access.specs.declared.account.Account.{Account}
-use Rattle.mon_access.specs.declared.access.Decision.{Decision}
 use Rattle.mon_access.specs.declared.access.Decision.TheVariants.{Granted, Denied}
 use Rattle.mon_access.specs.Matches.{is_for_user, is_for_group}
 use Rattle.mon_access.specs.AccessCheck.{Case, Owner, NamedUser, InGroup, Others, case_of, decision}
@@ -25,11 +24,7 @@ may_grant Others account group entries e = has_tag Other e
 abbrev pub holder : Case → Account → List ℕ → List Entry → Perms → Option ℕ
 holder case account group entries request = position (λ e. may_grant case account group entries e && holds e.perms request) entries
 
-abbrev pub if_granted : Decision → Option ℕ → Option ℕ
-if_granted Granted index = index
-if_granted (Denied decider) index = None
-
 -- which entry grants this to the account, by the data set's owner, its group and its permission list, if it is granted: its index
 unfoldable pub granting : Account → List ℕ → List ℕ → List Entry → Perms → Option ℕ
 granting account owner group entries request =
-    if_granted (decision account owner group entries request) (holder (case_of account owner group entries) account group entries request)
+    elim (decision account owner group entries request) [ Granted ↦ holder (case_of account owner group entries) account group entries request | Denied d ↦ None ]
