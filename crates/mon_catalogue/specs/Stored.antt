@@ -16,8 +16,5 @@ abbrev pub IsStored : Sets → Type 0
 IsStored sets = IsCatalogue sets × AllByRecursion IsStoredSet sets
 
 -- and its records are printable lines
-abbrev pub HasPrintableRecords : List ℕ × DataSet → Type 0
-HasPrintableRecords named = AllByRecursion IsLine named.1.records
-
 abbrev pub ArePrintable : Sets → Type 0
-ArePrintable sets = AllByRecursion HasPrintableRecords sets
+ArePrintable sets = AllByRecursion (λ named. AllByRecursion IsLine named.1.records) sets

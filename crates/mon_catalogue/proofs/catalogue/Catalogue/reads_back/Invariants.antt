@@ -1,6 +1,7 @@
 -- Once the sets that are left are stored, all are.
 use Rattle.std.specs.List.{AllByRecursion}
-use Rattle.mon_catalogue.specs.Stored.{IsStoredSet, HasPrintableRecords}
+use Rattle.mon_catalogue.specs.Stored.{IsStoredSet}
+use Rattle.mon_catalogue.specs.inner.Parts.{HasPrintableRecords}
 use Rattle.mon_catalogue.proofs.catalogue.Catalogue.reads_back.Given as goal
 
 abbrev pub invariant-loop-name : goal.invariant-loop-name
