@@ -18,7 +18,8 @@ use Rattle.mon_catalogue.specs.Head.{head_of, head_refusal}
 use Rattle.mon_catalogue.specs.Records.{is_record}
 use Rattle.mon_catalogue.specs.Sets.{Sets, empty_set}
 use Rattle.mon_catalogue.specs.Progress as progress
-use Rattle.mon_catalogue.specs.Progress.{Progress, step, with_due, with_record, after_acl}
+use Rattle.mon_catalogue.specs.Progress.{Progress, step, with_due, after_acl}
+use Rattle.mon_catalogue.specs.inner.Parts.{with_record}
 use Rattle.deck_syntax.specs.declared.card.Card.TheVariants as card
 use Rattle.deck_syntax.specs.declared.deck_error.DeckError.{DeckError}
 use Rattle.deck_syntax.specs.declared.deck_error.DeckError.TheVariants.{Truncated}

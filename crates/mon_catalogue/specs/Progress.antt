@@ -58,15 +58,12 @@ abbrev pub after_acl : Version → ℕ → Sets → Head → Result (List Entry)
 after_acl version n sets head (Err _) = Refused (BadText n)
 after_acl version n sets head (Ok acl) = with_due version n sets head.name (empty_set head.owner head.group head.mode acl) head.count
 
-abbrev pub with_record : DataSet → List ℕ → DataSet
-with_record set line = record set { records = set.records ++ line ∷ [] }
-
 -- what one more line makes of it
 abbrev pub step : Progress → List ℕ → Progress
 step (SetDue version n sets) line = after_set_due version (n + 1) sets line
 step (ListDue version n sets head) line = after_acl version (n + 1) sets head (read_short line)
 step (RecordsDue version n sets name set left) line =
-    if is_record line then with_due version (n + 1) sets name (with_record set line) (left - 1) else Refused (BadText (n + 1))
+    if is_record line then with_due version (n + 1) sets name (record set { records = set.records ++ line ∷ [] }) (left - 1) else Refused (BadText (n + 1))
 step p line = p
 
 -- what the text says if it ends here: a set that isn't whole is refused at the line after the last

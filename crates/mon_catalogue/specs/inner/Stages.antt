@@ -10,7 +10,8 @@ use Rattle.mon_catalogue.specs.declared.version.Version.{Version}
 use Rattle.mon_catalogue.specs.declared.data_set.DataSet.{DataSet}
 use Rattle.mon_catalogue.specs.Records.{is_record}
 use Rattle.mon_catalogue.specs.Sets.{Sets, find_set}
-use Rattle.mon_catalogue.specs.Progress.{Progress, SetDue, ListDue, RecordsDue, Refused, OutOfMemory, stopped, with_record}
+use Rattle.mon_catalogue.specs.Progress.{Progress, SetDue, ListDue, RecordsDue, Refused, OutOfMemory, stopped}
+use Rattle.mon_catalogue.specs.inner.Parts.{with_record}
 
 abbrev pub progress_of : Version → ℕ → Sets → Stage → Progress
 progress_of version n sets stages.SetDue = SetDue version n sets
