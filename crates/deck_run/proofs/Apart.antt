@@ -10,7 +10,8 @@ use Rattle.mon_unit.specs.declared.tie.Target.{Target}
 use Rattle.mon_unit.specs.declared.tie.Target.TheVariants.{Untied, Data, Spool, Set}
 use Rattle.mon_unit.specs.declared.tie.Tie.{Tie}
 use Rattle.mon_unit.specs.State.{UnitState}
-use Rattle.mon_unit.specs.Tying.{tied_to, first_tie}
+use Rattle.mon_unit.specs.Tying.{tied_to}
+use Rattle.mon_unit.proofs.Changed.{first_tie}
 use Rattle.mon_unit.specs.Laws.{targets, TiedTo}
 use Rattle.deck_syntax.specs.declared.job_deck.UnitCard.{UnitCard}
 use Rattle.deck_syntax.specs.declared.job_deck.JobDeck.{JobDeck}

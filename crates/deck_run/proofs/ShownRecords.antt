@@ -7,7 +7,8 @@ use Rattle.mon_access.specs.declared.access.Decision.TheVariants.{Granted, Denie
 use Rattle.mon_access.specs.Accounts.{find_account}
 use Rattle.mon_catalogue.specs.declared.data_set.DataSet.{DataSet}
 use Rattle.mon_catalogue.specs.Sets.{Sets, find_set}
-use Rattle.mon_guard.specs.Deciding.{decision_on, to_read, by_decision}
+use Rattle.mon_guard.specs.Deciding.{decision_on, to_read}
+use Rattle.mon_guard.specs.inner.Parts.{by_decision}
 use Rattle.mon_command.specs.declared.command.Command.{Command}
 use Rattle.mon_command.specs.declared.command.Command.TheVariants as command
 use Rattle.mon_command.specs.Commanded.{Records, answer_text, shown_as}

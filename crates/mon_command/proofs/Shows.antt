@@ -11,7 +11,8 @@ use Rattle.interaction.specs.declared.answer.Reason.{Reason}
 use Rattle.mon_acl.specs.declared.text.AclText.{AclText}
 use Rattle.mon_acl.specs.Forms.{list_of_text}
 use Rattle.mon_guard.specs.Views.{AclPart, records_lent, acl_lent, names_lent}
-use Rattle.mon_guard.specs.Owning.{owner_denial, given, created, acl_set_unless}
+use Rattle.mon_guard.specs.Owning.{owner_denial, created}
+use Rattle.mon_guard.specs.inner.Parts.{given, acl_set_unless}
 use Rattle.mon_guard.specs.Laws as guard
 use Rattle.mon_command.specs.declared.command.Command.{Command}
 use Rattle.mon_command.specs.declared.command.Command.TheVariants.{Create, Delete, SetAcl, ShowAcl, List as Listing, Catalog}

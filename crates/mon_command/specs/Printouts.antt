@@ -1,13 +1,11 @@
 -- What is printed (own). The monitor's own lines begin with a word; a line that shows stored text begins with one blank.
-use Rattle.std.specs.Prelude.{ℕ, List, [], ◌++◌, length, codes, decimal, Option}
+use Rattle.std.specs.Prelude.{ℕ, List, ◌++◌, length, codes, decimal}
 use Rattle.std.specs.List.{flat_map}
-use Rattle.mon_acl.specs.declared.entries.Tag.{Tag}
 use Rattle.mon_acl.specs.declared.refusals.AclError.{AclError}
 use Rattle.mon_acl.specs.declared.refusals.AclError.TheVariants.{BadTag, BadQualifier, BadPerms, Missing, Twice, NoMask, TooMany}
 use Rattle.mon_acl.specs.Texts.{tag_word}
 use Rattle.mon_acl.specs.Printing.{mask_of, long_line}
 use Rattle.mon_guard.specs.Views.{AclPart, NamePart}
-use Rattle.std.specs.Option.{unwrap_or}
 
 -- a word behind another, and a number behind a word
 abbrev pub word : List ℕ → List ℕ
@@ -42,10 +40,6 @@ name_line shown = word shown.name ++ word shown.owner ++ word shown.group ++ num
 -- the names of data sets, and how many they are
 abbrev pub names_text : List NamePart → List ℕ
 names_text names = flat_map name_line names ++ count_line (codes "NAMES") (length names)
-
--- an entry of a permission list without its permissions: its type, and its qualifier if it has one
-abbrev pub entry_words : Tag → Option (List ℕ) → List ℕ
-entry_words tag name = tag_word tag ++ codes ":" ++ unwrap_or name [] ++ codes ":"
 
 -- why a permission list is refused
 abbrev pub list_refusal : AclError → List ℕ

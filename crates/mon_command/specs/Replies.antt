@@ -1,14 +1,16 @@
 -- What a command is told in one line (own).
-use Rattle.std.specs.Prelude.{ℕ, List, ◌++◌, codes}
+use Rattle.std.specs.Prelude.{ℕ, List, [], ◌++◌, codes}
+use Rattle.std.specs.Option.{unwrap_or}
+use Rattle.mon_acl.specs.Texts.{tag_word}
 use Rattle.interaction.specs.declared.answer.Reason.{Reason}
 use Rattle.interaction.specs.declared.answer.Reason.TheVariants as reason
 use Rattle.mon_command.specs.declared.reply.Reply.{Reply}
 use Rattle.mon_command.specs.declared.reply.Reply.TheVariants.{Done, NoAccount, Denied, NameTaken, CatalogueFull, BadList}
-use Rattle.mon_command.specs.Printouts.{entry_words, list_refusal}
+use Rattle.mon_command.specs.Printouts.{list_refusal}
 
 -- why something is denied: the entry that decided, or what is missing
 abbrev pub reason_text : Reason → List ℕ
-reason_text (reason.By tag name) = codes "BY " ++ entry_words tag name
+reason_text (reason.By tag name) = codes "BY " ++ tag_word tag ++ codes ":" ++ unwrap_or name [] ++ codes ":"
 reason_text reason.NoSet = codes "NO DATA SET"
 reason_text reason.NotOwner = codes "NOT OWNER"
 reason_text reason.NoUnit = codes "NO UNIT"

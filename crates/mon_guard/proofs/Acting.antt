@@ -11,9 +11,10 @@ use Rattle.interaction.specs.declared.answer.Reason.{Reason}
 use Rattle.interaction.specs.declared.answer.Reason.TheVariants.{NoSet, Mode as WrongMode}
 use Rattle.interaction.specs.declared.answer.Answer.{Answer}
 use Rattle.interaction.specs.declared.answer.Answer.TheVariants as answer
-use Rattle.mon_guard.specs.Deciding.{decision_on, by_decision}
+use Rattle.mon_guard.specs.Deciding.{decision_on}
+use Rattle.mon_guard.specs.inner.Parts.{by_decision, or_denied, ended}
 use Rattle.mon_guard.specs.Reasons.{reason_of}
-use Rattle.mon_guard.specs.Acting.{Act, Read, Write, End, Acted, asks, done, or_denied, acted_on, acted, only_answered, read_at, ended, left, changed}
+use Rattle.mon_guard.specs.Acting.{Act, Read, Write, End, Acted, asks, done, acted_on, acted, only_answered, read_at, left, changed}
 use Rattle.mon_guard.specs.Laws.{IsThere, IsGranted, IsFor, WhyNotAct, ActsWhereGranted}
 use Rattle.std.specs.Cmp.Lexicographic.{pointwise}
 use Rattle.mon_catalogue.specs.declared.data_set.DataSet.{DataSet}

@@ -13,7 +13,8 @@ use Rattle.mon_catalogue.specs.declared.data_set.DataSet.{DataSet}
 use Rattle.mon_catalogue.specs.Sets.{Sets, find_set}
 use Rattle.interaction.specs.declared.answer.Reason.{Reason}
 use Rattle.interaction.specs.declared.answer.Reason.TheVariants.{NoSet, NotOwner}
-use Rattle.mon_guard.specs.Deciding.{to_read, to_execute, decision_on, by_decision, where_granted, is_granted, may_be_shown}
+use Rattle.mon_guard.specs.Deciding.{to_read, to_execute, decision_on, where_granted, is_granted, may_be_shown}
+use Rattle.mon_guard.specs.inner.Parts.{by_decision}
 use Rattle.mon_guard.specs.Reasons.{reason_of}
 use Rattle.mon_guard.specs.Views.{AclPart, acl_part, name_part, names_shown}
 use Rattle.mon_guard.specs.Owning.{owner_denial}

@@ -15,7 +15,8 @@ use Rattle.mon_catalogue.specs.Writing.{Change}
 use Rattle.interaction.specs.declared.answer.Answer.TheVariants.{Done, Full}
 use Rattle.mon_guard.specs.Deciding.{to_read, to_execute, where_granted}
 use Rattle.mon_guard.specs.Views.{AclPart, acl_part}
-use Rattle.mon_guard.specs.Acting.{Acted, only_answered, position_after}
+use Rattle.mon_guard.specs.Acting.{Acted, only_answered}
+use Rattle.mon_guard.specs.inner.Parts.{position_after}
 use Rattle.mon_guard.specs.Owning.{new_set}
 
 abbrev pub owner_denial_of : Account → Option DataSet → Option Reason

@@ -1,18 +1,16 @@
 -- What a job does to the records of a data set: it reads at a position, writes a line, or ends the set at a position (own).
 -- Reading asks r; writing and ending ask w. Positions are counted from 0. A set of mode SEQ is written at the position; one of
 -- mode APPEND is written at its end, and can't be ended.
-use Rattle.std.specs.Prelude.{ℕ, ◌+◌, List, length, Option, None, Some, Result, Ok, Err, slice_get}
+use Rattle.std.specs.Prelude.{ℕ, ◌+◌, List, length, Option, None, Some, Ok, Err, slice_get}
 use Rattle.std.specs.Option.{option_map_or}
 use Rattle.mon_acl.specs.declared.entries.Perms.{Perms}
 use Rattle.mon_access.specs.declared.account.Account.{Account}
-use Rattle.mon_catalogue.specs.declared.mode.Mode.{Mode}
 use Rattle.mon_catalogue.specs.declared.mode.Mode.TheVariants.{Seq, Append}
 use Rattle.mon_catalogue.specs.declared.data_set.DataSet.{DataSet}
 use Rattle.mon_catalogue.specs.declared.data_set.SetFull.{SetFull}
 use Rattle.mon_catalogue.specs.Sets.{Sets, find_set}
 use Rattle.mon_catalogue.specs.Changes.{with_changed}
 use Rattle.mon_catalogue.specs.Writing.{Change, Put, Cut, Add, writing, change_refusal, recorded, records_after}
-use Rattle.interaction.specs.declared.answer.Reason.{Reason}
 use Rattle.interaction.specs.declared.answer.Reason.TheVariants as reason
 use Rattle.interaction.specs.declared.answer.Answer.{Answer}
 use Rattle.interaction.specs.declared.answer.Answer.TheVariants.{Done, Got, EndOfFile, Denied, Full}
@@ -39,39 +37,28 @@ abbrev pub read_at : ℕ → Option (List ℕ) → Acted
 read_at position None = only_answered EndOfFile
 read_at position (Some line) = record { answer = Got line; position = Some (position + 1); change = None }
 
--- where the position moves to: behind what was put there, or behind what is left; where a line was added it stays
-abbrev pub position_after : Change → List (List ℕ) → Option ℕ
-position_after (Add line) records = None
-position_after change records = Some (length (records_after change records))
-
--- a change of these records, where there is room for it
+-- a change of these records, where there is room for it; the position moves behind what was put there, or behind what is left,
+-- and where a line was added it stays
 abbrev pub changing : Change → List (List ℕ) → Acted
 changing change records =
     option_map_or (λ _. only_answered Full) (change_refusal change records)
-    (record { answer = Done; position = position_after change records; change = Some change })
-
--- the end of a set: the records before the position stay; of a set that is only added to all stay
-abbrev pub ended : Mode → ℕ → List (List ℕ) → Acted
-ended Seq position records = changing (Cut position) records
-ended Append position records = only_answered (Denied reason.Mode)
+    (record { answer = Done; position = elim change [ Add line ↦ None | put ↦ Some (length (records_after put records)) ]; change = Some change })
 
 abbrev pub asks : Act → Perms
 asks (Read position) = to_read
 asks act = to_write
 
--- what is granted, by the set's mode
+-- what is granted, by the set's mode: at the end of a set the records before the position stay; of a set that is only added to all
 abbrev pub done : Act → DataSet → Acted
 done (Read position) set = read_at position (slice_get set.records position)
 done (Write position line) set = changing (writing set.mode position line) set.records
-done (End position) set = ended set.mode position set.records
-
-abbrev pub or_denied : Result Acted Reason → Acted
-or_denied (Ok acted) = acted
-or_denied (Err why) = only_answered (Denied why)
+done (End position) set = elim set.mode [ Seq ↦ changing (Cut position) set.records | Append ↦ only_answered (Denied reason.Mode) ]
 
 -- an act on a set: done where the access check grants it on the list as it stands, and else denied
 abbrev pub acted_on : Account → Act → Option DataSet → Acted
-acted_on account act found = option_map_or (λ set. or_denied (where_granted account (asks act) set (done act set))) found (only_answered (Denied reason.NoSet))
+acted_on account act found =
+    option_map_or (λ set. elim (where_granted account (asks act) set (done act set)) [ Ok acted ↦ acted | Err why ↦ only_answered (Denied why) ]) found
+    (only_answered (Denied reason.NoSet))
 
 -- on the set of this name
 abbrev pub acted : Account → Act → Sets → List ℕ → Acted

@@ -1,7 +1,6 @@
 -- What an account may do to a data set: the access check on the set's owner, group and list, as they stand (own).
 use Rattle.std.specs.Prelude.{ℕ, Bool, true, false, List, Option, None, Some, Result, Ok, Err}
 use Rattle.mon_acl.specs.declared.entries.Perms.{Perms}
-use Rattle.mon_acl.specs.declared.entries.Entry.{Entry}
 pub use Rattle.mon_acl.specs.Permissions.{to_read, to_write, to_execute}
 use Rattle.mon_access.specs.declared.account.Account.{Account}
 use Rattle.mon_access.specs.declared.access.Decision.{Decision}
@@ -30,13 +29,10 @@ decided_of account (Some set) request = decided_as (decision_on account set requ
 abbrev pub decided : Account → Sets → List ℕ → Perms → Decided
 decided account sets name request = decided_of account (find_set name sets) request
 
-abbrev pub by_decision : {A : Type 0} → List Entry → Decision → A → Result A Reason
-by_decision acl decision.Granted granted = Ok granted
-by_decision acl (decision.Denied decider) granted = Err (reason_of acl decider)
-
 -- what is granted with this request, where the access check on the set grants it; else the entry that decides
 abbrev pub where_granted : {A : Type 0} → Account → Perms → DataSet → A → Result A Reason
-where_granted account request set granted = by_decision set.acl (decision_on account set request) granted
+where_granted account request set granted =
+    elim (decision_on account set request) [ decision.Granted ↦ Ok granted | decision.Denied decider ↦ Err (reason_of set.acl decider) ]
 
 abbrev pub is_granted : Decision → Bool
 is_granted decision.Granted = true

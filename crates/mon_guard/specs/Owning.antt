@@ -4,7 +4,6 @@ use Rattle.mon_acl.specs.declared.entries.Perms.{Perms}
 use Rattle.mon_acl.specs.declared.entries.Tag.{Tag}
 use Rattle.mon_acl.specs.declared.entries.Tag.TheVariants.{UserObj, GroupObj, Other}
 use Rattle.mon_acl.specs.declared.entries.Entry.{Entry}
-use Rattle.mon_acl.specs.declared.refusals.AclError.{AclError}
 use Rattle.mon_acl.specs.declared.text.AclText.{AclText}
 use Rattle.mon_acl.specs.Forms.{list_of_text}
 use Rattle.mon_access.specs.declared.account.Account.{Account}
@@ -28,18 +27,11 @@ owner_denial account sets name = option_map_or (λ set. if is_owner account set.
 abbrev pub removed : Account → Sets → List ℕ → Result (Unit {0}) Reason × Sets
 removed account sets name = option_map_or (λ reason. (Err reason, sets)) (owner_denial account sets name) (Ok tt, without_set name sets)
 
--- a list is given to the set only where the text spells one
-abbrev pub given : Result (List Entry) AclError → Sets → List ℕ → AclAnswer × Sets
-given (Ok list) sets name = (acl.Done, with_acl name list sets)
-given (Err error) sets name = (acl.BadList error, sets)
-
-abbrev pub acl_set_unless : Option Reason → Sets → List ℕ → AclText → AclAnswer × Sets
-acl_set_unless (Some reason) sets name text = (acl.Denied reason, sets)
-acl_set_unless None sets name text = given (list_of_text text) sets name
-
 -- the owner gives the set another list, and the text is tried last: no such set, not the owner, then the text's refusal
 abbrev pub acl_set : Account → Sets → List ℕ → AclText → AclAnswer × Sets
-acl_set account sets name text = acl_set_unless (owner_denial account sets name) sets name text
+acl_set account sets name text =
+    option_map_or (λ reason. (acl.Denied reason, sets)) (owner_denial account sets name)
+    (elim (list_of_text text) [ Ok list ↦ (acl.Done, with_acl name list sets) | Err error ↦ (acl.BadList error, sets) ])
 
 -- an entry without a qualifier
 abbrev pub plain : Tag → Perms → Entry

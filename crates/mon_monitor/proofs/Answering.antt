@@ -26,7 +26,8 @@ use Rattle.interaction.specs.declared.answer.Answer.{Answer}
 use Rattle.interaction.specs.declared.answer.Answer.TheVariants as answer
 use Rattle.mon_guard.specs.Deciding.{to_read, to_write, to_execute, decision_on, is_granted}
 use Rattle.mon_guard.specs.Views.{NamePart, name_part, names_shown, names_lent, records_lent, acl_lent}
-use Rattle.mon_guard.specs.Owning.{owner_denial, given, acl_set_unless}
+use Rattle.mon_guard.specs.Owning.{owner_denial}
+use Rattle.mon_guard.specs.inner.Parts.{given, acl_set_unless, ended}
 use Rattle.mon_guard.specs.Acting as acting
 use Rattle.mon_guard.specs.Acting.{Acted, only_answered, read_at, changing, acted}
 use Rattle.mon_guard.specs.Laws.{IsThere, IsGranted, IsFor, OwnsNamed}
@@ -243,7 +244,7 @@ module _ (account : Account) (units : UnitState) (sets : Sets) (p : ℕ) where
   ended_so u target set at mode =
       subst (λ (t : Target). Says (Endfile u) t answer.Done) (sym at.1)
       (ap (λ (a : Acted). a.answer) (granted_is (acting.End p) at.0 set at.2 at.3 (subst (IsFor (acting.End p)) (sym mode) tt))
-      ∙ ap (λ (m : Mode). (acting.ended m p set.records).answer) mode)
+      ∙ ap (λ (m : Mode). (ended m p set.records).answer) mode)
 
   done_so : (act : Act) (target : Target) → IsDoneAt act target → Says act target answer.Done
   done_so (Read u) target (inl (is, _)) = absurd (cc (is))

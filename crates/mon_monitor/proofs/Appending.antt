@@ -18,7 +18,8 @@ use Rattle.mon_catalogue.specs.Changes.{with_changed, without_set}
 use Rattle.mon_catalogue.specs.Writing.{Change, Add, writing, records_after, recorded}
 use Rattle.mon_catalogue.proofs.Changed.{other_sets_stay, named_set_changes}
 use Rattle.interaction.specs.declared.answer.Reason.{Reason}
-use Rattle.mon_guard.specs.Owning.{owner_denial, given, new_set, acl_set_unless}
+use Rattle.mon_guard.specs.Owning.{owner_denial, new_set}
+use Rattle.mon_guard.specs.inner.Parts.{given, acl_set_unless}
 use Rattle.mon_guard.specs.Laws.{IsThere}
 use Rattle.interaction.specs.declared.request.Act.{Act}
 use Rattle.interaction.specs.declared.request.Act.TheVariants.{Read, Write, Endfile, Rewind}

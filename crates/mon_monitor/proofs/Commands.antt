@@ -24,9 +24,10 @@ use Rattle.mon_catalogue.specs.Changes.{without_set, with_acl}
 use Rattle.mon_catalogue.proofs.Changed.{other_sets_stay, named_set_changes, order_stays}
 use Rattle.interaction.specs.declared.answer.Reason.{Reason}
 use Rattle.interaction.specs.declared.answer.Reason.TheVariants.{NoSet, NotOwner}
-use Rattle.mon_guard.specs.Deciding.{to_read, to_execute, decision_on, is_granted, by_decision, where_granted, may_be_shown}
+use Rattle.mon_guard.specs.Deciding.{to_read, to_execute, decision_on, is_granted, where_granted, may_be_shown}
+use Rattle.mon_guard.specs.inner.Parts.{by_decision, given, acl_set_unless}
 use Rattle.mon_guard.specs.Views.{AclPart, NamePart, acl_part, name_part, names_shown, names_lent}
-use Rattle.mon_guard.specs.Owning.{given, new_set, acl_set_unless}
+use Rattle.mon_guard.specs.Owning.{new_set}
 use Rattle.mon_command.specs.declared.command.Command.{Command}
 use Rattle.mon_command.specs.declared.command.Command.TheVariants.{Create, Delete, SetAcl, ShowAcl, List as Listing, Catalog}
 use Rattle.mon_command.specs.Commands.{account_of}

@@ -9,7 +9,8 @@ use Rattle.sno_syntax.specs.Programs.{Program}
 use Rattle.mon_unit.specs.declared.tie.Target.TheVariants.{Set}
 use Rattle.mon_unit.specs.declared.tie.Tie.{Tie}
 use Rattle.mon_unit.specs.State.{UnitState}
-use Rattle.mon_unit.specs.Tying.{first_tie, tied_to}
+use Rattle.mon_unit.specs.Tying.{tied_to}
+use Rattle.mon_unit.proofs.Changed.{first_tie}
 use Rattle.deck_syntax.specs.declared.job_deck.UnitCard.{UnitCard}
 use Rattle.deck_syntax.specs.declared.job_deck.JobDeck.{JobDeck}
 use Rattle.scheduler.specs.declared.refusal.LoadError.{LoadError}

@@ -17,8 +17,9 @@ use Rattle.mon_catalogue.proofs.Changed.{named_set_changes}
 use Rattle.interaction.specs.declared.answer.Reason.TheVariants.{Mode as WrongMode}
 use Rattle.interaction.specs.declared.answer.Answer.TheVariants.{Denied, Full}
 use Rattle.mon_guard.specs.Reasons.{reason_of}
-use Rattle.mon_guard.specs.Deciding.{to_read, to_write, decision_on, is_granted, by_decision}
-use Rattle.mon_guard.specs.Acting.{Acted, only_answered, read_at, changing, ended, or_denied, left, changed}
+use Rattle.mon_guard.specs.Deciding.{to_read, to_write, decision_on, is_granted}
+use Rattle.mon_guard.specs.inner.Parts.{by_decision, ended, or_denied}
+use Rattle.mon_guard.specs.Acting.{Acted, only_answered, read_at, changing, left, changed}
 use Rattle.interaction.specs.declared.request.Act.{Act}
 use Rattle.interaction.specs.declared.request.Act.TheVariants.{Read, Write, Endfile, Rewind}
 use Rattle.interaction.specs.declared.request.Request.{Request}
@@ -31,7 +32,8 @@ use Rattle.mon_unit.specs.declared.note.NoteAct.{NoteAct}
 use Rattle.mon_unit.specs.declared.note.NoteTarget.{NoteTarget}
 use Rattle.mon_unit.specs.State.{UnitState}
 use Rattle.mon_unit.specs.Tying.{tie_at}
-use Rattle.mon_unit.specs.Serving.{Reach, unit_of, note_act, note_target, noted, moved, spooled, on_set, acted_at, Effect, effect_of, set_at, set_of, changed_at, effect, serve}
+use Rattle.mon_unit.specs.Serving.{Reach, unit_of, note_act, note_target, noted, moved, spooled, on_set, acted_at, Effect, effect_of, set_at, set_of, effect, serve}
+use Rattle.mon_unit.proofs.Changed.{changed_at}
 use Rattle.mon_unit.specs.Laws.{Same}
 use Rattle.mon_unit.proofs.Looks.{serve_alike}
 use Rattle.mon_monitor.specs.Agreeing.{LooksAlike, Both, TiesFit}

@@ -22,7 +22,8 @@ use Rattle.mon_catalogue.proofs.Shorthand.{listed}
 use Rattle.interaction.specs.declared.answer.Reason.{Reason}
 use Rattle.interaction.specs.declared.answer.Answer.TheVariants as answer
 use Rattle.mon_guard.specs.Deciding.{to_read, to_write}
-use Rattle.mon_guard.specs.Owning.{owner_denial, given, new_set, acl_set_unless}
+use Rattle.mon_guard.specs.Owning.{owner_denial, new_set}
+use Rattle.mon_guard.specs.inner.Parts.{given, acl_set_unless}
 use Rattle.mon_guard.specs.Laws.{IsThere, IsGranted}
 use Rattle.mon_guard.proofs.Shorthand.{removed_unless, created_unless}
 use Rattle.interaction.specs.declared.request.Act.{Act}

@@ -10,10 +10,11 @@ use Rattle.mon_catalogue.specs.declared.data_set.SetFull.{SetFull}
 use Rattle.mon_catalogue.specs.Writing.{Change, writing, change_refusal}
 use Rattle.interaction.specs.declared.answer.Reason.{Reason}
 use Rattle.interaction.specs.declared.answer.Reason.TheVariants.{NoSet, NoUnit, InStream, SpoolUnit, Mode as WrongMode}
-use Rattle.mon_guard.specs.Deciding.{decision_on, by_decision}
+use Rattle.mon_guard.specs.Deciding.{decision_on}
+use Rattle.mon_guard.specs.inner.Parts.{by_decision, position_after, ended, or_denied}
 use Rattle.mon_guard.specs.Reasons.{reason_of}
 use Rattle.mon_guard.specs.Acting as acting
-use Rattle.mon_guard.specs.Acting.{Acted, only_answered, read_at, position_after, changing, ended, asks, done, or_denied, acted_on}
+use Rattle.mon_guard.specs.Acting.{Acted, only_answered, read_at, changing, asks, done, acted_on}
 use Rattle.interaction.specs.declared.request.Act.{Act}
 use Rattle.interaction.specs.declared.request.Act.TheVariants.{Read, Write, Endfile, Rewind}
 use Rattle.interaction.specs.declared.answer.Answer.TheVariants as answer

@@ -11,9 +11,10 @@ use Rattle.mon_catalogue.specs.Sets.{Sets, find_set}
 use Rattle.mon_catalogue.specs.Writing.{Change, Cut, writing, change_refusal}
 use Rattle.interaction.specs.declared.answer.Reason.{Reason}
 use Rattle.interaction.specs.declared.answer.Reason.TheVariants.{NoUnit, InStream, SpoolUnit}
-use Rattle.mon_guard.specs.Deciding.{decision_on, by_decision, to_write}
+use Rattle.mon_guard.specs.Deciding.{decision_on, to_write}
+use Rattle.mon_guard.specs.inner.Parts.{by_decision, position_after, ended, or_denied}
 use Rattle.mon_guard.specs.Acting as acting
-use Rattle.mon_guard.specs.Acting.{Acted, only_answered, read_at, position_after, changing, ended, or_denied, acted_on, acted, changed}
+use Rattle.mon_guard.specs.Acting.{Acted, only_answered, read_at, changing, acted_on, acted, changed}
 use Rattle.mon_guard.specs.Laws.{IsThere, IsGranted, IsFor, WhyNotAct}
 use Rattle.mon_guard.proofs.Acting.{acts_where_granted}
 use Rattle.interaction.specs.declared.request.Act.{Act}
@@ -22,7 +23,8 @@ use Rattle.interaction.specs.declared.answer.Answer.TheVariants.{Done, Denied}
 use Rattle.mon_unit.specs.declared.tie.Target.{Target}
 use Rattle.mon_unit.specs.declared.tie.Target.TheVariants.{Untied, Data, Spool, Set}
 use Rattle.mon_unit.specs.State.{UnitState}
-use Rattle.mon_unit.specs.Serving.{acted_at, set_at, changed_at}
+use Rattle.mon_unit.specs.Serving.{acted_at, set_at}
+use Rattle.mon_unit.proofs.Changed.{changed_at}
 use Rattle.mon_unit.specs.Laws.{AsksChange, AsksGuard, IsOfData, IsOfSpool, ChangedWhereGranted, DenialsSayWhy, target_of, position_of}
 use Rattle.mon_unit.proofs.Acting.{acted_cases, is_plain}
 use Rattle.mon_unit.proofs.Shorthand.{looked}

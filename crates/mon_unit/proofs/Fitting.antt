@@ -7,6 +7,7 @@ use Rattle.interaction.specs.declared.request.Act.TheVariants.{Read, Write, Endf
 use Rattle.interaction.specs.declared.request.Request.{Request}
 use Rattle.interaction.specs.declared.answer.Answer.TheVariants.{Denied}
 use Rattle.interaction.specs.declared.answer.Reason.{Reason}
+use Rattle.interaction.specs.declared.answer.Reason.TheVariants.{InStream}
 use Rattle.mon_acl.specs.declared.entries.Entry as acl
 use Rattle.mon_access.specs.declared.account.Account.{Account}
 use Rattle.mon_access.specs.declared.access.Decision.{Decision}
@@ -16,13 +17,14 @@ use Rattle.mon_catalogue.specs.declared.mode.Mode.TheVariants.{Seq, Append}
 use Rattle.mon_catalogue.specs.declared.data_set.DataSet.{DataSet}
 use Rattle.mon_catalogue.specs.declared.data_set.SetFull.{SetFull}
 use Rattle.mon_catalogue.specs.Writing.{Change, writing, change_refusal}
-use Rattle.mon_guard.specs.Deciding.{decision_on, by_decision, to_read, to_write}
+use Rattle.mon_guard.specs.Deciding.{decision_on, to_read, to_write}
+use Rattle.mon_guard.specs.inner.Parts.{by_decision, ended, or_denied}
 use Rattle.mon_guard.specs.Acting as acting
-use Rattle.mon_guard.specs.Acting.{Acted, read_at, ended, or_denied}
+use Rattle.mon_guard.specs.Acting.{Acted, read_at, only_answered}
 use Rattle.mon_unit.specs.declared.tie.Target.{Target}
 use Rattle.mon_unit.specs.declared.tie.Target.TheVariants.{Untied, Data, Spool, Set}
 use Rattle.mon_unit.specs.State.{UnitState}
-use Rattle.mon_unit.specs.Serving.{Reach, serve, acted_at, on_data, on_set, set_of}
+use Rattle.mon_unit.specs.Serving.{Reach, serve, rewound, acted_at, on_set, set_of}
 use Rattle.mon_unit.specs.Laws.{target_of, position_of}
 use Rattle.mon_unit.proofs.Shorthand.{looked}
 use Rattle.mon_guard.proofs.Shorthand.{made}
@@ -65,6 +67,9 @@ set_fits account (Write u line) p (Some set) =
 set_fits account (Endfile u) p (Some set) =
     decided_fits (Endfile u) (acting.done (acting.End p) set) (end_fits u p set.records set.mode) set.acl (decision_on account set to_write)
 set_fits account (Rewind u) p (Some set) = refl
+
+abbrev on_data : Act → ℕ → List (List ℕ) → Acted
+on_data act position deck = elim act [ Read u ↦ read_at position (slice_get deck position) | Rewind u ↦ rewound | other ↦ only_answered (Denied InStream) ]
 
 data_fits : (act : Act) (p : ℕ) (deck : List (List ℕ)) → FitsAct act (on_data act p deck)
 data_fits (Read u) p deck = read_fits u p (slice_get deck p)

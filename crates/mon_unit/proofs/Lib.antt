@@ -6,6 +6,7 @@ pub mod Fitting
 pub mod Runs
 pub mod Loans
 pub mod Looks
+pub mod Changed
 pub mod Apart
 pub mod Named
 pub mod Ordered

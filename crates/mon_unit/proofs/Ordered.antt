@@ -15,7 +15,8 @@ use Rattle.mon_catalogue.proofs.Changed.{named_set_changes}
 use Rattle.interaction.specs.declared.answer.Reason.{Reason}
 use Rattle.interaction.specs.declared.answer.Reason.TheVariants.{NoSet}
 use Rattle.mon_guard.specs.declared.answer.AclAnswer.{AclAnswer}
-use Rattle.mon_guard.specs.Owning.{owner_denial, given, acl_set_unless}
+use Rattle.mon_guard.specs.Owning.{owner_denial}
+use Rattle.mon_guard.specs.inner.Parts.{given, acl_set_unless}
 use Rattle.mon_guard.proofs.Shorthand.{owner_denial_of}
 use Rattle.mon_command.specs.declared.command.Command.{Command}
 use Rattle.mon_command.specs.declared.command.Command.TheVariants.{Create, Delete, SetAcl, ShowAcl, List as Listing, Catalog}

@@ -69,18 +69,6 @@ spooled act target units = units
 abbrev pub rewound : Acted
 rewound = record { answer = Done; position = Some 0; change = None }
 
--- the deck's data are read alone
-abbrev pub on_data : Act → ℕ → List (List ℕ) → Acted
-on_data (Read u) position deck = read_at position (slice_get deck position)
-on_data (Rewind u) position deck = rewound
-on_data act position deck = only_answered (Denied InStream)
-
--- the spool is written alone
-abbrev pub on_spool : Act → Acted
-on_spool (Read u) = only_answered (Denied SpoolUnit)
-on_spool (Endfile u) = only_answered (Denied SpoolUnit)
-on_spool act = only_answered Done
-
 -- a data set is asked for by the guard; to go back it isn't looked up
 abbrev pub on_set : Account → Act → ℕ → Option DataSet → Acted
 on_set account (Read u) position set = acted_on account (acting.Read position) set
@@ -88,11 +76,13 @@ on_set account (Write u line) position set = acted_on account (acting.Write posi
 on_set account (Endfile u) position set = acted_on account (acting.End position) set
 on_set account (Rewind u) position set = rewound
 
--- what an act comes to, by what its unit is tied to
+-- what an act comes to, by what its unit is tied to: the deck's data are read alone, and the spool is written alone
 abbrev pub acted_at : Account → Act → UnitState → ℕ → Target → Option DataSet → Acted
 acted_at account act units position Untied set = only_answered (Denied NoUnit)
-acted_at account act units position Data set = on_data act position units.deck
-acted_at account act units position Spool set = on_spool act
+acted_at account act units position Data set =
+    elim act [ Read u ↦ read_at position (slice_get units.deck position) | Rewind u ↦ rewound | other ↦ only_answered (Denied InStream) ]
+acted_at account act units position Spool set =
+    elim act [ Read u ↦ only_answered (Denied SpoolUnit) | Endfile u ↦ only_answered (Denied SpoolUnit) | other ↦ only_answered Done ]
 acted_at account act units position (Set name) set = on_set account act position set
 
 -- what a request does: the answer, the units then, and the change of the data set that it looked at
@@ -125,14 +115,8 @@ set_at act (Set name) = Some name
 abbrev pub set_of : UnitState → Request → Option (List ℕ)
 set_of units q = set_at q.act (tie_at units (unit_of q.act)).target
 
--- that data set alone is changed
-abbrev pub changed_at : Option (List ℕ) → Option Change → Sets → Sets
-changed_at name change sets = option_map_or (λ n. changed n change sets) name sets
-
-abbrev pub done_by : Option (List ℕ) → Effect → Sets → Answer × Reach
-done_by name e sets = (e.answer, record { sets = changed_at name e.change sets; units = e.units })
-
 -- AN EXCHANGE: the answer to an account's request, and what the requests reach then
 abbrev pub serve : Account → Reach → Request → Answer × Reach
 serve account reach q =
-    done_by (set_of reach.units q) (effect account reach.units q (option_and_then (λ name. find_set name reach.sets) (set_of reach.units q))) reach.sets
+    let e = effect account reach.units q (option_and_then (λ name. find_set name reach.sets) (set_of reach.units q)) in
+    (e.answer, record { sets = option_map_or (λ name. changed name e.change reach.sets) (set_of reach.units q) reach.sets; units = e.units })

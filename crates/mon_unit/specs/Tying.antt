@@ -18,12 +18,9 @@ tied_to target = record { target = target; position = 0 }
 abbrev pub first_target : ℕ → Target
 first_target u = if u == 5 then Data else if u == 6 then Spool else Untied
 
-abbrev pub first_tie : ℕ → Tie
-first_tie u = tied_to (first_target u)
-
 -- the units of a job before any card ties one
 abbrev pub new_units : List (List ℕ) → UnitState
-new_units deck = record { ties = map first_tie (range_with_len 0 100); deck = deck; spool = []; notes = [] }
+new_units deck = record { ties = map (λ u. tied_to (first_target u)) (range_with_len 0 100); deck = deck; spool = []; notes = [] }
 
 -- the tie of a unit
 abbrev pub tie_at : UnitState → ℕ → Tie

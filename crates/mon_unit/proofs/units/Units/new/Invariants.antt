@@ -1,7 +1,7 @@
 -- The ties so far are those of the first units.
 use Rattle.std.proofs.Common.{◌≡◌, map}
 use Rattle.std.specs.List.{range_with_len}
-use Rattle.mon_unit.specs.Tying.{first_tie}
+use Rattle.mon_unit.proofs.Changed.{first_tie}
 use Rattle.mon_unit.proofs.units.Units.new.Given as goal
 
 abbrev pub invariant-loop-unit : goal.invariant-loop-unit
