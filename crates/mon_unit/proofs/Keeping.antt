@@ -36,7 +36,8 @@ use Rattle.mon_unit.specs.declared.audit_request.Asked.{Asked}
 use Rattle.mon_unit.specs.declared.kept_line.KeptLine.{KeptLine}
 use Rattle.mon_unit.specs.declared.kept.KeptLines.{KeptLines}
 use Rattle.mon_unit.specs.AuditWords.{job_line, target_word}
-use Rattle.mon_unit.specs.AuditRequests.{act_word, grant_words, place_words, place_in, request_line, grant, asked_of}
+use Rattle.mon_unit.specs.AuditRequests.{act_word, place_words, place_in, request_line, grant, asked_of}
+use Rattle.mon_unit.specs.inner.AuditParts.{grant_words}
 use Rattle.mon_unit.specs.inner.KeptWords.{text_of, head_words, target_words, outcome_words, again_line}
 use Rattle.mon_unit.specs.inner.Keeping.{KeptFits, held, LineFits, Keeps, IsLineOf, named, looked, is_append, appends}
 

@@ -26,7 +26,10 @@ use Rattle.mon_command.specs.Commanded.{Served, Told, told_by, acl_reply, served
 use Rattle.mon_command.specs.Saying.{said_of}
 use Rattle.mon_command.specs.Commands.{account_of}
 use Rattle.mon_command.specs.Printouts.{word}
-use Rattle.mon_unit.specs.AuditCommands.{said_line, list_words, ordered_line, listed}
+use Rattle.mon_unit.specs.AuditCommands.{said_line, ordered_line, listed}
+
+abbrev list_words : Result (List Entry) AclError → List ℕ
+list_words read = elim read [ Ok list ↦ word (short_form list) | Err refusal ↦ [] ]
 
 -- what is said of a command, over the data sets as it leaves them
 abbrev pub line_after : Command → Served → List ℕ

@@ -1,16 +1,13 @@
 -- What the audit says of a command (own): who gives it, which, of which data set, and what was answered; a new list stands in the line whole.
-use Rattle.std.specs.Prelude.{ℕ, List, [], ◌++◌, codes, Result, Ok, Err}
+use Rattle.std.specs.Prelude.{ℕ, List, [], ◌++◌, codes, Ok, Err}
 use Rattle.std.specs.Option.{option_map_or}
-use Rattle.mon_acl.specs.declared.entries.Entry.{Entry}
-use Rattle.mon_acl.specs.declared.refusals.AclError.{AclError}
 use Rattle.mon_acl.specs.Forms.{list_of_text}
 use Rattle.mon_acl.specs.Printing.{short_form}
 use Rattle.mon_catalogue.specs.Modes.{mode_word}
 use Rattle.mon_catalogue.specs.Sets.{Sets, find_set}
 use Rattle.mon_command.specs.declared.command.Command.{Command}
 use Rattle.mon_command.specs.declared.command.Command.TheVariants.{Create, Delete, SetAcl, ShowAcl, List as Listing, Catalog}
-use Rattle.mon_command.specs.declared.reply.Reply.{Reply}
-use Rattle.mon_command.specs.declared.reply.Reply.TheVariants.{Done, NoAccount, Denied, NameTaken, CatalogueFull, BadList}
+use Rattle.mon_command.specs.declared.reply.Reply.TheVariants.{Done}
 use Rattle.mon_command.specs.declared.said.Said.{Said}
 use Rattle.mon_command.specs.declared.said.Said.TheVariants.{Told, Records, Entries, Names}
 use Rattle.mon_command.specs.Commanded.{Answer}
@@ -40,43 +37,21 @@ said_words (Names n) = codes " NAMES" ++ number n
 abbrev pub done_words : Command → List ℕ → List ℕ
 done_words (Create account name mode) list = word (mode_word mode)
 done_words (SetAcl account name text) list = list
-done_words (Delete account name) list = []
-done_words (ShowAcl account name) list = []
-done_words (Listing account name) list = []
-done_words (Catalog account) list = []
-
-abbrev pub if_reply_done : Reply → List ℕ → List ℕ
-if_reply_done Done words = words
-if_reply_done NoAccount words = []
-if_reply_done (Denied reason) words = []
-if_reply_done NameTaken words = []
-if_reply_done CatalogueFull words = []
-if_reply_done (BadList error) words = []
+done_words _ list = []
 
 abbrev pub if_done : Said → List ℕ → List ℕ
-if_done (Told reply) words = if_reply_done reply words
-if_done (Records n) words = []
-if_done (Entries n) words = []
-if_done (Names n) words = []
+if_done (Told Done) words = words
+if_done _ words = []
 
 -- the line of a command that this was said to, with the words of the list that it has set
 abbrev pub said_line : Command → Said → List ℕ → List ℕ
 said_line command said list =
     command_line (account_of command) (card_words command ++ said_words said ++ if_done said (done_words command list))
 
--- the list that a text spells
-abbrev pub list_words : Result (List Entry) AclError → List ℕ
-list_words (Ok list) = word (short_form list)
-list_words (Err refusal) = []
-
--- the list that a command is to set
+-- the list that a command is to set, where its text spells one
 abbrev pub spelled : Command → List ℕ
-spelled (SetAcl account name text) = list_words (list_of_text text)
-spelled (Create account name mode) = []
-spelled (Delete account name) = []
-spelled (ShowAcl account name) = []
-spelled (Listing account name) = []
-spelled (Catalog account) = []
+spelled (SetAcl account name text) = elim (list_of_text text) [ Ok list ↦ word (short_form list) | Err refusal ↦ [] ]
+spelled _ = []
 
 abbrev pub ordered_line : Command → Answer → List ℕ
 ordered_line command answer = said_line command (said_of answer) (spelled command)
@@ -84,8 +59,4 @@ ordered_line command answer = said_line command (said_of answer) (spelled comman
 -- That list stands in the data sets as the command has left them.
 abbrev pub listed : Command → Sets → List ℕ
 listed (SetAcl account name text) sets = option_map_or (λ set. word (short_form set.acl)) (find_set name sets) []
-listed (Create account name mode) sets = []
-listed (Delete account name) sets = []
-listed (ShowAcl account name) sets = []
-listed (Listing account name) sets = []
-listed (Catalog account) sets = []
+listed _ sets = []

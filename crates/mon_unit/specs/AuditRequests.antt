@@ -33,15 +33,10 @@ act_word Write = codes "WRITE"
 act_word Endfile = codes "ENDFILE"
 act_word Rewind = codes "REWIND"
 
--- the entry that granted it, if it was one that did
-abbrev pub grant_words : Option Reason → List ℕ
-grant_words None = []
-grant_words (Some reason) = word (reason_text reason)
-
--- why it is denied, or else that
+-- why it is denied, or else the entry that granted it, if it was one that did
 abbrev pub by_words : Option Reason → Answer → List ℕ
 by_words grant (Denied reason) = word (reason_text reason)
-by_words grant answer = grant_words grant
+by_words grant answer = option_map_or (λ reason. word (reason_text reason)) grant []
 
 -- at which statement, to do what, by which unit, of what, and how many records stand before the place
 abbrev pub place_words : Asked → List ℕ
@@ -57,9 +52,8 @@ request_line asked answer =
 -- what is asked of a data set's list; to go back to its first record the set isn't looked at
 abbrev pub permission : NoteAct → Option Perms
 permission Read = Some to_read
-permission Write = Some to_write
-permission Endfile = Some to_write
 permission Rewind = None
+permission _ = Some to_write
 
 -- the entry of the set's list that grants an act, if one does
 abbrev pub grant : Account → NoteAct → DataSet → Option Reason

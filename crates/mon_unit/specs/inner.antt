@@ -1,3 +1,4 @@
 pub mod Settling
 pub mod KeptWords
 pub mod Keeping
+pub mod AuditParts

@@ -7,7 +7,8 @@ ghost use Rattle.mon_catalogue.specs.Sets.{find_set};
 ghost use Rattle.mon_device.specs.Putting.{Puts};
 ghost use Rattle.mon_command.specs.Printouts.{word, number};
 ghost use Rattle.mon_command.specs.Replies.{reply_text};
-ghost use Rattle.mon_unit.specs.AuditCommands.{card_words, said_words, done_words, if_reply_done, if_done, said_line, listed};
+ghost use Rattle.mon_unit.specs.AuditCommands.{card_words, said_words, done_words, if_done, said_line, listed};
+ghost use Rattle.mon_unit.specs.inner.AuditParts.{if_reply_done};
 
 use mon_acl::Acl;
 use mon_catalogue::{Catalogue, Mode};

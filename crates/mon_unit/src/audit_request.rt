@@ -4,7 +4,8 @@ ghost use Rattle.mon_device.specs.Putting.{Puts};
 ghost use Rattle.mon_command.specs.Printouts.{word};
 ghost use Rattle.mon_command.specs.Replies.{reason_text};
 ghost use Rattle.mon_unit.specs.AuditWords.{target_word, outcome_word};
-ghost use Rattle.mon_unit.specs.AuditRequests.{act_word, grant_words, by_words, place_words, request_line, permission, grant, place_in};
+ghost use Rattle.mon_unit.specs.AuditRequests.{act_word, by_words, place_words, request_line, permission, grant, place_in};
+ghost use Rattle.mon_unit.specs.inner.AuditParts.{grant_words};
 
 use crate::note::NoteAct;
 use crate::tie::Target;

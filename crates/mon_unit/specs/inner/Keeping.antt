@@ -18,7 +18,8 @@ use Rattle.mon_unit.specs.Serving.{Reach}
 use Rattle.mon_unit.specs.declared.audit_request.Asked.{Asked}
 use Rattle.mon_unit.specs.declared.kept_line.KeptLine.{KeptLine}
 use Rattle.mon_unit.specs.declared.kept.KeptLines.{KeptLines}
-use Rattle.mon_unit.specs.AuditRequests.{grant_words, grant}
+use Rattle.mon_unit.specs.AuditRequests.{grant}
+use Rattle.mon_unit.specs.inner.AuditParts.{grant_words}
 use Rattle.mon_unit.specs.inner.KeptWords.{text_of, head_words, target_words}
 
 -- the data set that is read or written
