@@ -55,4 +55,4 @@ abbrev pub names_shown : Account → Sets → Sets
 names_shown account sets = filter (may_be_shown account) sets
 
 abbrev pub names_lent : Account → Sets → List NamePart
-names_lent account sets = map name_part (names_shown account sets)
+names_lent account sets = map name_part (filter (may_be_shown account) sets)

@@ -104,13 +104,9 @@ abbrev pub effect : Account → UnitState → Request → Option DataSet → Eff
 effect account units q set =
     let tie = tie_at units (unit_of q.act) in effect_of q tie.target units (acted_at account q.act units tie.position tie.target set)
 
--- the one data set that a request looks at
+-- the one data set that a request looks at: that of its unit's tie, but to go back none
 abbrev pub set_at : Act → Target → Option (List ℕ)
-set_at act Untied = None
-set_at act Data = None
-set_at act Spool = None
-set_at (Rewind u) (Set name) = None
-set_at act (Set name) = Some name
+set_at act target = elim target [ Set name ↦ elim act [ Rewind u ↦ None | other ↦ Some name ] | other ↦ None ]
 
 abbrev pub set_of : UnitState → Request → Option (List ℕ)
 set_of units q = set_at q.act (tie_at units (unit_of q.act)).target
