@@ -32,8 +32,8 @@ use Rattle.mon_unit.specs.declared.note.NoteAct.{NoteAct}
 use Rattle.mon_unit.specs.declared.note.NoteTarget.{NoteTarget}
 use Rattle.mon_unit.specs.State.{UnitState}
 use Rattle.mon_unit.specs.Tying.{tie_at}
-use Rattle.mon_unit.specs.Serving.{Reach, unit_of, note_act, note_target, noted, moved, spooled, on_set, acted_at, Effect, effect_of, set_at, set_of, effect, serve}
-use Rattle.mon_unit.proofs.Changed.{changed_at}
+use Rattle.mon_unit.specs.Serving.{Reach, unit_of, note_act, note_target, noted, moved, spooled, on_set, acted_at, set_at, set_of, serve}
+use Rattle.mon_unit.proofs.Changed.{Effect, effect_of, effect, changed_at}
 use Rattle.mon_unit.specs.Laws.{Same}
 use Rattle.mon_unit.proofs.Looks.{serve_alike}
 use Rattle.mon_monitor.specs.Agreeing.{LooksAlike, Both, TiesFit}

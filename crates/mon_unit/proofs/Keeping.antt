@@ -26,8 +26,8 @@ use Rattle.mon_unit.specs.declared.tie.Target.{Target}
 use Rattle.mon_unit.specs.declared.tie.Target.TheVariants.{Untied, Data, Spool, Set}
 use Rattle.mon_unit.specs.declared.service.UnitService.{UnitService}
 use Rattle.mon_unit.specs.Tying.{tie_at, tied_to}
-use Rattle.mon_unit.specs.Serving.{Reach, set_at, set_of, effect, serve}
-use Rattle.mon_unit.proofs.Changed.{changed_at}
+use Rattle.mon_unit.specs.Serving.{Reach, set_at, set_of, serve}
+use Rattle.mon_unit.proofs.Changed.{effect, changed_at}
 use Rattle.mon_unit.specs.Lent.{UnitAnswers, reach_of}
 use Rattle.mon_unit.proofs.Looks.{targets_stay}
 use Rattle.mon_command.specs.Printouts.{word, number}

@@ -23,8 +23,8 @@ use Rattle.mon_unit.specs.declared.note.NoteAct.{NoteAct}
 use Rattle.mon_unit.specs.declared.note.NoteTarget.{NoteTarget}
 use Rattle.mon_unit.specs.State.{UnitState}
 use Rattle.mon_unit.specs.Tying.{tie_at}
-use Rattle.mon_unit.specs.Serving.{Reach, unit_of, note_act, note_target, acted_at, noted, moved, spooled, Effect, set_at, set_of, effect, serve}
-use Rattle.mon_unit.proofs.Changed.{changed_at}
+use Rattle.mon_unit.specs.Serving.{Reach, unit_of, note_act, note_target, acted_at, noted, moved, spooled, set_at, set_of, serve}
+use Rattle.mon_unit.proofs.Changed.{Effect, effect, changed_at}
 use Rattle.mon_unit.specs.Runs.{run, run_cut}
 use Rattle.mon_unit.specs.Laws.{targets, TiedTo, Same, LooksOnce, OneLook, OneChange, KeepsToTies}
 use Rattle.mon_unit.proofs.Runs.{run_keeps, run_cut_keeps}

@@ -3,10 +3,9 @@ use Rattle.std.specs.Prelude.{ℕ, List, [], ◌∷◌, ◌++◌, Option, Some, 
 use Rattle.mon_access.specs.declared.account.Account.{Account}
 use Rattle.mon_catalogue.specs.declared.data_set.DataSet.{DataSet}
 use Rattle.mon_catalogue.specs.Sets.{Sets, find_set}
-use Rattle.mon_catalogue.specs.Writing.{Change}
 use Rattle.interaction.specs.declared.answer.Reason.TheVariants.{NoUnit, InStream, SpoolUnit}
 use Rattle.interaction.specs.declared.answer.Answer.{Answer}
-use Rattle.interaction.specs.declared.answer.Answer.TheVariants.{Done, Got, EndOfFile, Denied, Full}
+use Rattle.interaction.specs.declared.answer.Answer.TheVariants.{Done, Denied, Full}
 use Rattle.mon_guard.specs.Acting as acting
 use Rattle.mon_guard.specs.Acting.{Acted, only_answered, read_at, acted_on, changed}
 use Rattle.interaction.specs.declared.request.Act.{Act}
@@ -14,7 +13,6 @@ use Rattle.interaction.specs.declared.request.Act.TheVariants.{Read, Write, Endf
 use Rattle.interaction.specs.declared.request.Request.{Request}
 use Rattle.mon_unit.specs.declared.tie.Target.{Target}
 use Rattle.mon_unit.specs.declared.tie.Target.TheVariants.{Untied, Data, Spool, Set}
-use Rattle.mon_unit.specs.declared.tie.Tie.{Tie}
 use Rattle.mon_unit.specs.declared.note.NoteAct.{NoteAct}
 use Rattle.mon_unit.specs.declared.note.NoteAct.TheVariants as act
 use Rattle.mon_unit.specs.declared.note.NoteTarget.{NoteTarget}
@@ -85,25 +83,6 @@ acted_at account act units position Spool set =
     elim act [ Read u ↦ only_answered (Denied SpoolUnit) | Endfile u ↦ only_answered (Denied SpoolUnit) | other ↦ only_answered Done ]
 acted_at account act units position (Set name) set = on_set account act position set
 
--- what a request does: the answer, the units then, and the change of the data set that it looked at
-pub record Effect : Type 0 where
-  pub answer : Answer
-  pub units : UnitState
-  pub change : Option Change
-
-abbrev pub effect_of : Request → Target → UnitState → Acted → Effect
-effect_of q target units acted = record {
-  answer = acted.answer;
-  units = noted q.statement (note_act q.act) (note_target (unit_of q.act) target) acted.answer
-      (moved (unit_of q.act) acted.position (spooled q.act target units));
-  change = acted.change;
-}
-
--- what a request does, by the tie of its unit and by the data set that it looks at
-abbrev pub effect : Account → UnitState → Request → Option DataSet → Effect
-effect account units q set =
-    let tie = tie_at units (unit_of q.act) in effect_of q tie.target units (acted_at account q.act units tie.position tie.target set)
-
 -- the one data set that a request looks at: that of its unit's tie, but to go back none
 abbrev pub set_at : Act → Target → Option (List ℕ)
 set_at act target = elim target [ Set name ↦ elim act [ Rewind u ↦ None | other ↦ Some name ] | other ↦ None ]
@@ -114,5 +93,9 @@ set_of units q = set_at q.act (tie_at units (unit_of q.act)).target
 -- AN EXCHANGE: the answer to an account's request, and what the requests reach then
 abbrev pub serve : Account → Reach → Request → Answer × Reach
 serve account reach q =
-    let e = effect account reach.units q (option_and_then (λ name. find_set name reach.sets) (set_of reach.units q)) in
-    (e.answer, record { sets = option_map_or (λ name. changed name e.change reach.sets) (set_of reach.units q) reach.sets; units = e.units })
+    let u = unit_of q.act in
+    let tie = tie_at reach.units u in
+    let acted = acted_at account q.act reach.units tie.position tie.target (option_and_then (λ name. find_set name reach.sets) (set_of reach.units q)) in
+    let sets = option_map_or (λ name. changed name acted.change reach.sets) (set_of reach.units q) reach.sets in
+    let units = noted q.statement (note_act q.act) (note_target u tie.target) acted.answer (moved u acted.position (spooled q.act tie.target reach.units)) in
+    (acted.answer, record { sets = sets; units = units })
