@@ -26,7 +26,8 @@ use Rattle.deck_syntax.proofs.Standing.{refusals_stand}
 use Rattle.deck_syntax.specs.Refusing.{line_refusal, is_dollar_line}
 use Rattle.deck_syntax.specs.Jobs.{job_line_refusal, ends_job, after_job_line}
 use Rattle.deck_syntax.specs.Requests.{opened, set_acl_of, with_line, list_line_refusal, stream_refusal, request_on}
-use Rattle.deck_syntax.specs.Sections.{version_in, Open, Closed, InList, InJob, asked_then, requested, stream_section, sets_of, ends_catalogue, catalogue_refusal, catalogue_section, accounts_refusal, table_after, accounts_section, opening_refusal, opening_section, deck_of}
+use Rattle.deck_syntax.specs.Sections.{Open, Closed, InList, InJob, asked_then, requested, stream_section, sets_of, ends_catalogue, catalogue_refusal, catalogue_section, accounts_refusal, table_after, accounts_section, opening_refusal, opening_section, deck_of}
+use Rattle.deck_syntax.specs.inner.Parts.{version_in}
 use Rattle.mon_device.specs.Devices.{holding}
 use Rattle.mon_device.proofs.Holding.{holding-nothing}
 use Rattle.deck_driver.specs.declared.options.Counts.{Counts}

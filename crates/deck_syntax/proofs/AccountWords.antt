@@ -12,7 +12,8 @@ use Rattle.mon_text.specs.declared.stop.Stop.{Stop}
 use Rattle.mon_text.specs.declared.stop.Stop.TheVariants.{Refused, Memory}
 use Rattle.deck_syntax.specs.inner.Stops.{IfRefused}
 use Rattle.deck_syntax.specs.Refusing.{unless}
-use Rattle.deck_syntax.specs.Sections.{words_refusal, account_on}
+use Rattle.deck_syntax.specs.Sections.{account_on}
+use Rattle.deck_syntax.specs.inner.Parts.{words_refusal}
 use Rattle.std.specs.Option.{option_or}
 
 -- a word behind the first two is one of the others

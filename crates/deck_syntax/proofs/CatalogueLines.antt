@@ -7,7 +7,8 @@ use Rattle.deck_syntax.specs.declared.deck_error.DeckError.{DeckError}
 use Rattle.mon_text.specs.declared.stop.Stop.{Stop}
 use Rattle.mon_text.specs.declared.stop.Stop.TheVariants as stop
 use Rattle.deck_syntax.specs.Refusing.{line_refusal, lone_card_refusal}
-use Rattle.deck_syntax.specs.Sections.{ends_catalogue, catalogue_refusal, text_refusal}
+use Rattle.deck_syntax.specs.Sections.{ends_catalogue, catalogue_refusal}
+use Rattle.deck_syntax.specs.inner.Parts.{text_refusal}
 use Rattle.deck_syntax.specs.inner.Stops.{IfRefused}
 use Rattle.std.specs.Option.{option_or}
 

@@ -29,7 +29,8 @@ use Rattle.deck_syntax.specs.Decks.{Deck, Cards, Asked, Commands, Enters, Gives,
 use Rattle.deck_syntax.specs.Refusing.{line_refusal, lone_card_refusal, is_dollar_line}
 use Rattle.deck_syntax.specs.Jobs.{job_line_refusal, ends_job, after_job_line}
 use Rattle.deck_syntax.specs.Requests.{opened, with_line, set_acl_of, stream_refusal, request_on, list_line_refusal}
-use Rattle.deck_syntax.specs.Sections.{version_in, opening_refusal, accounts_refusal, table_after, text_refusal, sets_of, ends_catalogue, catalogue_refusal, Open, Closed, InList, InJob, asked_then, requested, refused_on_line, stopped, stream_section, refused_early, catalogue_section, accounts_section, opening_section, deck_of}
+use Rattle.deck_syntax.specs.Sections.{opening_refusal, accounts_refusal, table_after, sets_of, ends_catalogue, catalogue_refusal, Open, Closed, InList, InJob, asked_then, requested, refused_on_line, stopped, stream_section, refused_early, catalogue_section, accounts_section, opening_section, deck_of}
+use Rattle.deck_syntax.specs.inner.Parts.{version_in, text_refusal}
 use Rattle.deck_syntax.specs.CardLines.{IsLineWithin}
 use Rattle.deck_syntax.specs.Spelling.{IsDeck}
 use Rattle.deck_syntax.specs.Laws.{ending_of, IsLeftOpen, BeginsGood, GoodBeginnings}

@@ -37,11 +37,12 @@ use Rattle.deck_syntax.specs.Cards.{card_among, is_card}
 use Rattle.deck_syntax.specs.Decks.{Deck, Cards, Asked, Commands, Enters, Gives, Drains, Ending, Stopped}
 use Rattle.deck_syntax.specs.Refusing.{unless, line_refusal, lone_card_refusal, is_dollar_line}
 use Rattle.deck_syntax.specs.Requests.{opened, with_line, set_acl_of, stream_card_refusal, card_request, stream_refusal, request_on, end_refusal, list_text_refusal, is_list_character, acl_on}
-use Rattle.deck_syntax.specs.Sections.{version_in, heading_refusal, opening_refusal, account_on, table_refusal, account_refusal, accounts_refusal, table_after, text_refusal, sets_of, ends_catalogue, catalogue_refusal, Closed, InList, InJob, asked_then, requested, stream_section, catalogue_section, accounts_section, opening_section, deck_of}
+use Rattle.deck_syntax.specs.Sections.{opening_refusal, account_on, table_refusal, account_refusal, accounts_refusal, table_after, sets_of, ends_catalogue, catalogue_refusal, Closed, InList, InJob, asked_then, requested, stream_section, catalogue_section, accounts_section, opening_section, deck_of}
+use Rattle.deck_syntax.specs.inner.Parts.{version_in, heading_refusal, text_refusal}
 use Rattle.deck_syntax.specs.CardLines.{IsLineWithin, IsCard}
 use Rattle.deck_syntax.specs.Spelling.{AreBlank, SpellsAccount, SpellsAccounts, NamesOn, SpellsCreation, SpellsShort, version_words, IsListLine, SpellsLong, SpellsCommand, SpellsAsked, SpellsStream, IsDeck}
 use Rattle.deck_syntax.specs.JobSpelling.{SpellsJob, SpellsTurn}
-use Rattle.deck_syntax.specs.Jobs.{opened_job}
+use Rattle.deck_syntax.specs.inner.Parts.{opened_job}
 use Rattle.deck_syntax.proofs.Spelled.{both_hold, line_taken, blank_is_line, not_blank, no_dollar_blank, no_dollar_names, lone_card_taken}
 use Rattle.deck_syntax.proofs.Headings.{version_is, heading_taken, mode_read}
 use Rattle.deck_syntax.proofs.JobReading.{all_read}

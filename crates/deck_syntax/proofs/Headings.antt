@@ -17,7 +17,8 @@ use Rattle.deck_syntax.specs.declared.deck_error.DeckError.TheVariants.{UnknownC
 use Rattle.deck_syntax.specs.Cards.{card_among, is_card}
 use Rattle.deck_syntax.specs.Refusing.{unless, due_card_refusal}
 use Rattle.deck_syntax.specs.CardLines.{IsLineWithin, IsCard}
-use Rattle.deck_syntax.specs.Sections.{version_on, version_in, heading_refusal}
+use Rattle.deck_syntax.specs.Sections.{version_on}
+use Rattle.deck_syntax.specs.inner.Parts.{version_in, heading_refusal}
 use Rattle.deck_syntax.specs.Requests.{mode_on}
 use Rattle.deck_syntax.specs.Spelling.{version_words, AskForMode}
 use Rattle.deck_syntax.proofs.Spelled.{neither, passes, found_is_due}

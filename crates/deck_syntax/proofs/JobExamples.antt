@@ -7,7 +7,8 @@ use Rattle.deck_syntax.specs.declared.deck_error.DeckError.TheVariants.{BadName,
 use Rattle.deck_syntax.specs.declared.job.OpenJob.{OpenJob}
 use Rattle.deck_syntax.specs.Cards.{card_among}
 use Rattle.deck_syntax.specs.Decks.{Enters, Drains, Stopped}
-use Rattle.deck_syntax.specs.Jobs.{usual_limits, opened_job}
+use Rattle.deck_syntax.specs.Jobs.{usual_limits}
+use Rattle.deck_syntax.specs.inner.Parts.{opened_job}
 use Rattle.deck_syntax.specs.Requests.{stream_card_refusal}
 use Rattle.deck_syntax.specs.Sections.{Closed, InJob, refused_on_line, stream_section, refused_early, opening_section}
 

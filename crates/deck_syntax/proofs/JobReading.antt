@@ -13,7 +13,8 @@ use Rattle.deck_syntax.specs.Cards.{card_among, is_card}
 use Rattle.deck_syntax.specs.Decks.{Cards, Enters}
 use Rattle.deck_syntax.specs.Refusing.{unless, line_refusal, is_dollar_line}
 use Rattle.deck_syntax.specs.CardLines.{IsLineWithin, IsCard}
-use Rattle.deck_syntax.specs.Jobs.{is_job_card_line, program_text, has_begun, unit_card_refusal, unit_on, job_card_refusal, job_line_refusal, ends_job, with_unit, with_program_line, after_job_line}
+use Rattle.deck_syntax.specs.Jobs.{is_job_card_line, unit_card_refusal, unit_on, job_card_refusal, job_line_refusal, ends_job, after_job_line}
+use Rattle.deck_syntax.specs.inner.Parts.{program_text, has_begun, with_unit, with_program_line}
 use Rattle.deck_syntax.specs.Sections.{Closed, InJob, asked_then, stream_section}
 use Rattle.deck_syntax.specs.JobSpelling.{SpellsUnit, SpellsUnits, SpellsText, SpellsTexts}
 use Rattle.deck_syntax.proofs.Spelled.{neither, passes, taken_line, alone}

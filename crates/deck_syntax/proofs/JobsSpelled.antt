@@ -14,7 +14,8 @@ use Rattle.deck_syntax.specs.declared.turn.Turn.{Turn}
 use Rattle.deck_syntax.specs.Cards.{card_among}
 use Rattle.deck_syntax.specs.CardLines.{IsLineWithin, IsCard}
 use Rattle.deck_syntax.specs.Refusing.{unless}
-use Rattle.deck_syntax.specs.Jobs.{is_within, are_options, limits_refusal, job_refusal, opened_job, job_on, turn_refusal, turn_on}
+use Rattle.deck_syntax.specs.Jobs.{is_within, are_options, limits_refusal, job_refusal, job_on, turn_refusal}
+use Rattle.deck_syntax.specs.inner.Parts.{opened_job, turn_on}
 use Rattle.deck_syntax.specs.JobSpelling.{SpellsLimits, SpellsUnits, SpellsTexts, SpellsJob, SpellsTurn}
 use Rattle.deck_syntax.proofs.Spelled.{both_hold, neither, passes}
 use Rattle.deck_syntax.proofs.LimitsRead.{within_is, is_within_then, limits_read, limits_spelled}

@@ -31,17 +31,21 @@ use Rattle.deck_syntax.specs.declared.job.OpenJob.{OpenJob}
 use Rattle.deck_syntax.specs.Cards.{card_among, is_card, word_at}
 use Rattle.deck_syntax.specs.Decks.{Deck, Cards, Asked, Commands, Enters, Gives, Drains, Stopped, Refused}
 use Rattle.deck_syntax.specs.Refusing.{unless, line_refusal, lone_card_refusal, is_dollar_line}
-use Rattle.deck_syntax.specs.Requests.{mode_on, creation_refusal, opened, with_line, set_acl_of, set_acl_refusal, two_names_refusal, catalog_refusal}
+use Rattle.deck_syntax.specs.Requests.{mode_on, opened, with_line, set_acl_of, two_names_refusal}
+use Rattle.deck_syntax.specs.inner.Parts.{creation_refusal, set_acl_refusal, catalog_refusal}
 use Rattle.deck_syntax.specs.Requests.{stream_card_refusal, card_request, stream_refusal, request_on, end_refusal, list_text_refusal, list_line_refusal}
 use Rattle.deck_syntax.specs.Requests.{is_list_character, acl_on}
-use Rattle.deck_syntax.specs.Sections.{version_in, heading_refusal, opening_refusal, account_on, words_refusal, table_refusal, account_refusal}
-use Rattle.deck_syntax.specs.Sections.{accounts_refusal, table_after, text_refusal, sets_of, ends_catalogue, catalogue_refusal, Open, Closed, InList, InJob}
+use Rattle.deck_syntax.specs.Sections.{opening_refusal, account_on, table_refusal, account_refusal}
+use Rattle.deck_syntax.specs.inner.Parts.{version_in, heading_refusal, words_refusal}
+use Rattle.deck_syntax.specs.Sections.{accounts_refusal, table_after, sets_of, ends_catalogue, catalogue_refusal, Open, Closed, InList, InJob}
+use Rattle.deck_syntax.specs.inner.Parts.{text_refusal}
 use Rattle.deck_syntax.specs.Sections.{asked_then, requested, refused_on_line, stream_section, refused_early, catalogue_section, accounts_section, opening_section}
 use Rattle.deck_syntax.specs.Sections.{deck_of}
 use Rattle.deck_syntax.specs.CardLines.{IsLineWithin, IsCard}
 use Rattle.deck_syntax.specs.Spelling.{AreBlank, SpellsAccount, SpellsAccounts, NamesOn, SpellsCreation, SpellsShort, version_words, IsListLine, SpellsLong}
 use Rattle.deck_syntax.specs.Spelling.{SpellsAsked, SpellsStream, IsDeck}
-use Rattle.deck_syntax.specs.Jobs.{job_refusal, job_on, turn_on, job_line_refusal, ends_job, with_unit, with_program_line, after_job_line, unit_on, program_text}
+use Rattle.deck_syntax.specs.Jobs.{job_refusal, job_on, job_line_refusal, ends_job, after_job_line, unit_on}
+use Rattle.deck_syntax.specs.inner.Parts.{turn_on, with_unit, with_program_line, program_text}
 use Rattle.deck_syntax.specs.Laws.{ending_of}
 use Rattle.deck_syntax.proofs.Spelled.{both_hold, neither, passes, taken_line, alone, lone_card, found_is_due}
 use Rattle.deck_syntax.proofs.Headings.{heading_spelled, mode_spelled}

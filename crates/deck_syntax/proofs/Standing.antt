@@ -12,7 +12,8 @@ use Rattle.deck_syntax.specs.Decks.{Deck, Cards, Commands, Enters, Gives, Drains
 use Rattle.deck_syntax.specs.Refusing.{line_refusal, is_dollar_line}
 use Rattle.deck_syntax.specs.Jobs.{job_line_refusal, ends_job, after_job_line}
 use Rattle.deck_syntax.specs.Requests.{opened, with_line, set_acl_of, stream_refusal, request_on, list_line_refusal}
-use Rattle.deck_syntax.specs.Sections.{version_in, opening_refusal, accounts_refusal, table_after, sets_of, ends_catalogue, catalogue_refusal, Open, Closed, InList, InJob, asked_then, requested, refused_on_line, stream_section, refused_early, catalogue_section, accounts_section, opening_section, deck_of}
+use Rattle.deck_syntax.specs.Sections.{opening_refusal, accounts_refusal, table_after, sets_of, ends_catalogue, catalogue_refusal, Open, Closed, InList, InJob, asked_then, requested, refused_on_line, stream_section, refused_early, catalogue_section, accounts_section, opening_section, deck_of}
+use Rattle.deck_syntax.specs.inner.Parts.{version_in}
 use Rattle.deck_syntax.specs.Laws.{ending_of, Decides}
 use Rattle.deck_syntax.specs.Spelling.{IsDeck}
 use Rattle.deck_syntax.proofs.Complete.{deck_taken}

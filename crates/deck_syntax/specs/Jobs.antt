@@ -12,7 +12,6 @@ use Rattle.deck_syntax.specs.declared.deck_error.DeckError.TheVariants.{BadName,
 use Rattle.deck_syntax.specs.declared.card.Card.{Card}
 use Rattle.deck_syntax.specs.declared.card.Card.TheVariants.{Tie, EndJob}
 use Rattle.deck_syntax.specs.declared.job.OpenJob.{OpenJob}
-use Rattle.deck_syntax.specs.declared.turn.Turn.{Turn}
 use Rattle.deck_syntax.specs.Cards.{card_among, is_card, word_at}
 use Rattle.deck_syntax.specs.Refusing.{unless, line_refusal, is_dollar_line, further_refusal}
 use Rattle.std.specs.Option.{option_or}
@@ -69,11 +68,8 @@ with_option limits word =
     else record limits { steps = value_of (option_text word) }
 
 -- a job that is open has no line at first
-abbrev pub opened_job : List ℕ → Limits → OpenJob
-opened_job account limits = record { account = account; limits = limits; ties = []; lines = [] }
-
 abbrev pub job_on : List (List ℕ) → OpenJob
-job_on ws = opened_job (word_at 1 ws) (fold with_option usual_limits (drop 2 ws))
+job_on ws = record { account = word_at 1 ws; limits = fold with_option usual_limits (drop 2 ws); ties = []; lines = [] }
 
 -- ---- `$TURN`: a slot, and how many turns it is given
 
@@ -83,9 +79,6 @@ turn_refusal ws =
     (option_or (unless (is_count (word_at 1 ws) && is_count (word_at 2 ws)) BadNumber)
     (unless (is_within 8 (value_of (word_at 1 ws)) && is_within 1000000 (value_of (word_at 2 ws))) BadCard))
 
-abbrev pub turn_on : List (List ℕ) → Turn
-turn_on ws = record { slot = value_of (word_at 1 ws); count = value_of (word_at 2 ws) }
-
 -- ---- `$DRAIN`
 
 -- ---- where a job is open
@@ -93,13 +86,6 @@ turn_on ws = record { slot = value_of (word_at 1 ws); count = value_of (word_at 
 -- a card begins with a dollar sign, and not with two
 abbrev pub is_job_card_line : List ℕ → Bool
 is_job_card_line line = is_dollar_line line && not (is_dollar_line (drop 1 line))
-
--- any other line is one of the program, or of the data behind it: two dollar signs at its front stand for one
-abbrev pub program_text : List ℕ → List ℕ
-program_text line = if is_dollar_line line then drop 1 line else line
-
-abbrev pub has_begun : OpenJob → Bool
-has_begun job = not (length job.lines == 0)
 
 -- `$UNIT`: a unit, and a data set. Whether there is such a unit is tried where the job is loaded.
 abbrev pub unit_card_refusal : List (List ℕ) → Option DeckError
@@ -120,22 +106,18 @@ job_card_refusal None begun ws = Some (if begun then OutOfPlace else UnknownCard
 abbrev pub job_line_refusal : OpenJob → List ℕ → Option DeckError
 job_line_refusal job line =
     option_or (line_refusal 200 line)
-    (if is_job_card_line line then job_card_refusal (card_among (words line)) (has_begun job) (words line) else None)
+    (if is_job_card_line line then job_card_refusal (card_among (words line)) (not (length job.lines == 0)) (words line) else None)
 
 -- whether a good line ends the job
 abbrev pub ends_job : List ℕ → Bool
 ends_job line = is_job_card_line line && is_card EndJob (card_among (words line))
 
-abbrev pub with_unit : OpenJob → UnitCard → OpenJob
-with_unit job card = record job { ties = job.ties ++ card ∷ [] }
-
-abbrev pub with_program_line : OpenJob → List ℕ → OpenJob
-with_program_line job text = record job { lines = job.lines ++ text ∷ [] }
-
--- the job after a good line that does not end it
+-- the job after a good line that does not end it: a unit card, or a line of the program or of the data behind it, where two
+-- dollar signs at the front stand for one
 abbrev pub after_job_line : OpenJob → List ℕ → OpenJob
 after_job_line job line =
-    if is_job_card_line line then with_unit job (unit_on (words line)) else with_program_line job (program_text line)
+    if is_job_card_line line then record job { ties = job.ties ++ unit_on (words line) ∷ [] }
+    else record job { lines = job.lines ++ (if is_dollar_line line then drop 1 line else line) ∷ [] }
 
 -- a job that has ended, and its number
 abbrev pub job_deck_of : ℕ → OpenJob → JobDeck

@@ -3,6 +3,7 @@
 use Rattle.std.specs.Prelude.{ℕ, ◌==◌, ◌&&◌, ◌||◌, Bool, nat_lt, List, [], ◌∷◌, ◌++◌, length, Option, Some, None, is_some, unwrap_or, if◌then◌else◌, codes, not}
 use Rattle.std.specs.List.{list_all}
 use Rattle.mon_text.specs.Names.{is_name}
+use Rattle.mon_text.specs.Counts.{value_of}
 use Rattle.mon_text.specs.Characters.{is_printable, is_blank}
 use Rattle.mon_text.specs.Lines.{is_blank_line, words}
 use Rattle.mon_acl.specs.declared.text.AclText.TheVariants.{Short, Long}
@@ -20,7 +21,7 @@ use Rattle.deck_syntax.specs.declared.request.Request.{Request}
 use Rattle.deck_syntax.specs.declared.request.Request.TheVariants.{Nothing, Asks, OpensList, OpensJob, Turns, Drains, Stops}
 use Rattle.deck_syntax.specs.Cards.{card_among, is_card, word_at}
 use Rattle.deck_syntax.specs.Refusing.{unless, line_refusal, is_dollar_line, further_refusal}
-use Rattle.deck_syntax.specs.Jobs.{job_refusal, job_on, turn_refusal, turn_on}
+use Rattle.deck_syntax.specs.Jobs.{job_refusal, job_on, turn_refusal}
 use Rattle.std.specs.Option.{option_or}
 use Rattle.mon_text.specs.Beginnings.{without_leading}
 
@@ -35,26 +36,15 @@ two_names_refusal ws = option_or (unless (length ws == 3) BadCard) (names_refusa
 abbrev pub mode_on : List (List ℕ) → Option Mode
 mode_on ws = if length ws == 3 then Some Seq else if length ws == 4 then mode_of (word_at 3 ws) else None
 
-abbrev pub creation_refusal : List (List ℕ) → Option DeckError
-creation_refusal ws = option_or (unless (is_some (mode_on ws)) BadCard) (names_refusal ws)
-
--- `$SETACL`: behind the two names there may be a text
-abbrev pub set_acl_refusal : List (List ℕ) → Option DeckError
-set_acl_refusal ws = option_or (unless (nat_lt 2 (length ws)) BadCard) (names_refusal ws)
-
--- `$CATALOG`: a card that names an account
-abbrev pub catalog_refusal : List (List ℕ) → Option DeckError
-catalog_refusal ws = option_or (unless (length ws == 2) BadCard) (unless (is_name (word_at 1 ws)) BadName)
-
--- the words of a line in the stream
+-- the words of a line in the stream; behind the two names of `$SETACL` there may be a text, and `$CATALOG` names an account alone
 abbrev pub stream_card_refusal : Option Card → List (List ℕ) → Option DeckError
 stream_card_refusal None ws = Some UnknownCard
-stream_card_refusal (Some Create) ws = creation_refusal ws
+stream_card_refusal (Some Create) ws = option_or (unless (is_some (mode_on ws)) BadCard) (names_refusal ws)
 stream_card_refusal (Some Delete) ws = two_names_refusal ws
-stream_card_refusal (Some SetAcl) ws = set_acl_refusal ws
+stream_card_refusal (Some SetAcl) ws = option_or (unless (nat_lt 2 (length ws)) BadCard) (names_refusal ws)
 stream_card_refusal (Some ShowAcl) ws = two_names_refusal ws
 stream_card_refusal (Some Listing) ws = two_names_refusal ws
-stream_card_refusal (Some Catalog) ws = catalog_refusal ws
+stream_card_refusal (Some Catalog) ws = option_or (unless (length ws == 2) BadCard) (unless (is_name (word_at 1 ws)) BadName)
 stream_card_refusal (Some Job) ws = job_refusal ws
 stream_card_refusal (Some Turn) ws = turn_refusal ws
 stream_card_refusal (Some Drain) ws = further_refusal ws
@@ -88,7 +78,7 @@ card_request (Some ShowAcl) line ws = Asks (command.ShowAcl (word_at 1 ws) (word
 card_request (Some Listing) line ws = Asks (command.List (word_at 1 ws) (word_at 2 ws))
 card_request (Some Catalog) line ws = Asks (command.Catalog (word_at 1 ws))
 card_request (Some Job) line ws = OpensJob (job_on ws)
-card_request (Some Turn) line ws = Turns (turn_on ws)
+card_request (Some Turn) line ws = Turns (record { slot = value_of (word_at 1 ws); count = value_of (word_at 2 ws) })
 card_request (Some Drain) line ws = Drains
 card_request _ line ws = Stops
 

@@ -34,34 +34,25 @@ opening_refusal line = if is_blank_line line then None else lone_card_refusal ca
 abbrev pub account_on : List (List ℕ) → Account
 account_on ws = record { name = word_at 0 ws; primary = word_at 1 ws; groups = drop 2 ws }
 
--- at least two words, all of them names
-abbrev pub words_refusal : List (List ℕ) → Option DeckError
-words_refusal ws = option_or (unless (nat_lt 1 (length ws)) BadCard) (unless (list_all is_name ws) BadName)
-
 -- an account of another name before it, and not too many further groups
 abbrev pub table_refusal : List Account → Account → Option DeckError
 table_refusal accounts account =
     option_or (unless (not (is_some (find_account accounts account.name))) AccountTwice)
     (unless (not (nat_lt 16 (length account.groups))) TooManyGroups)
 
+-- at least two words, all of them names
 abbrev pub account_refusal : List Account → List (List ℕ) → Option DeckError
-account_refusal accounts ws = option_or (words_refusal ws) (table_refusal accounts (account_on ws))
+account_refusal accounts ws =
+    option_or (option_or (unless (nat_lt 1 (length ws)) BadCard) (unless (list_all is_name ws) BadName)) (table_refusal accounts (account_on ws))
 
 -- the version of the catalogue's text by the words of its card: `$CATALOGUE` alone, or with the word 2
 abbrev pub version_on : List (List ℕ) → Option Version
 version_on ws = if length ws == 1 then Some One else if (length ws == 2) && bytes_eq (word_at 1 ws) (codes "2") then Some Two else None
 
-abbrev pub heading_refusal : List (List ℕ) → Option DeckError
-heading_refusal ws = due_card_refusal card.Catalogue (is_some (version_on ws)) ws
-
--- that of a good card
-abbrev pub version_in : List (List ℕ) → Version
-version_in ws = unwrap_or (version_on ws) One
-
 -- in the account table: an account, a blank line, or the catalogue's card
 abbrev pub accounts_refusal : List Account → List ℕ → Option DeckError
 accounts_refusal accounts line =
-    if is_dollar_line line then heading_refusal (words line)
+    if is_dollar_line line then due_card_refusal card.Catalogue (is_some (version_on (words line))) (words line)
     else (if is_blank_line line then None else account_refusal accounts (words line))
 
 abbrev pub code_of_catalogue : CatalogueError → DeckError
@@ -69,10 +60,6 @@ code_of_catalogue (catalogue.NameTaken n) = NameTaken
 code_of_catalogue (catalogue.SetFull n) = SetFull
 code_of_catalogue (catalogue.CatalogueFull n) = CatalogueFull
 code_of_catalogue (catalogue.BadText n) = BadText
-
-abbrev pub text_refusal : Progress → Option DeckError
-text_refusal (progress.Refused e) = Some (code_of_catalogue e)
-text_refusal _ = None
 
 -- the data sets of a whole text
 abbrev pub sets_of : Progress → Sets
@@ -85,7 +72,9 @@ ends_catalogue p line = is_due p && not (is_blank_line line) && not (is_card car
 
 -- in the catalogue: the next line of its text, or the stream's card
 abbrev pub catalogue_refusal : Progress → List ℕ → Option DeckError
-catalogue_refusal p line = if ends_catalogue p line then lone_card_refusal card.Stream (words line) else text_refusal (step p line)
+catalogue_refusal p line =
+    if ends_catalogue p line then lone_card_refusal card.Stream (words line)
+    else elim (step p line) [ progress.Refused e ↦ Some (code_of_catalogue e) | other ↦ None ]
 
 -- Each section: the deck that its lines make, of which the first has number n.
 
@@ -149,7 +138,7 @@ abbrev pub accounts_section : ℕ → List Account → List (List ℕ) → Deck
 accounts_section n accounts [] = refused_early n Truncated accounts
 accounts_section n accounts (line ∷ lines) =
     option_map_or (λ code. refused_early n code accounts) (option_or (line_refusal 200 line) (accounts_refusal accounts line))
-    (if is_dollar_line line then catalogue_section (n + 1) accounts (progress.SetDue (version_in (words line)) 0 []) lines
+    (if is_dollar_line line then catalogue_section (n + 1) accounts (progress.SetDue (unwrap_or (version_on (words line)) One) 0 []) lines
     else accounts_section (n + 1) (table_after accounts line) lines)
 
 abbrev pub opening_section : ℕ → List (List ℕ) → Deck

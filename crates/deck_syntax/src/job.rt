@@ -6,7 +6,8 @@ ghost use Rattle.deck_syntax.specs.declared.deck_error.DeckError.TheVariants.{Ba
 ghost use Rattle.deck_syntax.specs.declared.card.Card.TheVariants as card;
 ghost use Rattle.deck_syntax.specs.Cards.{card_among, is_card};
 ghost use Rattle.deck_syntax.specs.Refusing.{unless, line_refusal};
-ghost use Rattle.deck_syntax.specs.Jobs.{sets_statements, sets_steps, are_options, option_text, has_number, is_limit, with_option, limits_refusal, usual_limits, job_refusal, opened_job, job_on, is_job_card_line, program_text, has_begun, unit_card_refusal, unit_on, job_card_refusal, job_line_refusal, ends_job, with_unit, with_program_line, after_job_line, job_deck_of};
+ghost use Rattle.deck_syntax.specs.Jobs.{sets_statements, sets_steps, are_options, option_text, has_number, is_limit, with_option, limits_refusal, usual_limits, job_refusal, job_on, is_job_card_line, unit_card_refusal, unit_on, job_card_refusal, job_line_refusal, ends_job, after_job_line, job_deck_of};
+ghost use Rattle.deck_syntax.specs.inner.Parts.{opened_job, program_text, has_begun, with_unit, with_program_line};
 ghost use Rattle.deck_syntax.specs.inner.Stops.{Answers};
 ghost use Rattle.std.specs.Option.{option_or};
 ghost use Rattle.std.specs.List.{fold};

@@ -7,7 +7,8 @@ ghost use Rattle.mon_catalogue.specs.Progress.{lines_taken, step, stopped, is_du
 ghost use Rattle.deck_syntax.specs.declared.card.Card.TheVariants as card;
 ghost use Rattle.deck_syntax.specs.declared.deck_error.DeckError.TheVariants.{BadName};
 ghost use Rattle.deck_syntax.specs.Refusing.{unless, line_refusal, lone_card_refusal, is_dollar_line};
-ghost use Rattle.deck_syntax.specs.Sections.{account_on, words_refusal, table_refusal, account_refusal, opening_refusal, accounts_refusal, version_on, version_in, heading_refusal, table_after, catalogue_refusal, ends_catalogue, text_refusal, sets_of};
+ghost use Rattle.deck_syntax.specs.Sections.{account_on, table_refusal, account_refusal, opening_refusal, accounts_refusal, version_on, table_after, catalogue_refusal, ends_catalogue, sets_of};
+ghost use Rattle.deck_syntax.specs.inner.Parts.{words_refusal, version_in, heading_refusal, text_refusal};
 ghost use Rattle.deck_syntax.specs.inner.Stops.{Answers, IfRefused};
 ghost use Rattle.std.specs.Option.{option_or};
 

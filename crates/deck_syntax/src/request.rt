@@ -9,7 +9,8 @@ ghost use Rattle.mon_command.specs.declared.command.Command.TheVariants as comma
 ghost use Rattle.deck_syntax.specs.declared.request.Request.TheVariants.{Asks, Drains, Stops};
 ghost use Rattle.deck_syntax.specs.Cards.{card_among, word_at};
 ghost use Rattle.deck_syntax.specs.Refusing.{line_refusal, is_dollar_line, further_refusal};
-ghost use Rattle.deck_syntax.specs.Requests.{names_refusal, two_names_refusal, mode_on, creation_refusal, set_acl_refusal, catalog_refusal, set_acl_on, stream_refusal, stream_card_refusal, card_request, request_on, behind_word, acl_on, end_refusal, list_text_refusal, list_line_refusal, is_list_character};
+ghost use Rattle.deck_syntax.specs.Requests.{names_refusal, two_names_refusal, mode_on, set_acl_on, stream_refusal, stream_card_refusal, card_request, request_on, behind_word, acl_on, end_refusal, list_text_refusal, list_line_refusal, is_list_character};
+ghost use Rattle.deck_syntax.specs.inner.Parts.{creation_refusal, set_acl_refusal, catalog_refusal};
 ghost use Rattle.deck_syntax.specs.inner.Stops.{Answers, IfRefused};
 ghost use Rattle.std.specs.Option.{option_or};
 

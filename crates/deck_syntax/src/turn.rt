@@ -4,7 +4,8 @@ ghost use Rattle.mon_text.specs.Counts.{is_count, value_of};
 ghost use Rattle.deck_syntax.specs.declared.deck_error.DeckError.TheVariants.{BadNumber};
 ghost use Rattle.deck_syntax.specs.Cards.{word_at};
 ghost use Rattle.deck_syntax.specs.Refusing.{unless};
-ghost use Rattle.deck_syntax.specs.Jobs.{turn_refusal, turn_on};
+ghost use Rattle.deck_syntax.specs.Jobs.{turn_refusal};
+ghost use Rattle.deck_syntax.specs.inner.Parts.{turn_on};
 ghost use Rattle.deck_syntax.specs.inner.Stops.{Answers};
 
 use crate::deck_error::DeckError;

@@ -11,7 +11,8 @@ use Rattle.deck_syntax.specs.declared.list.OpenList.{OpenList}
 use Rattle.deck_syntax.specs.declared.job.OpenJob.{OpenJob}
 use Rattle.deck_syntax.specs.Decks.{Asked, Commands, Enters, Gives, Drains}
 use Rattle.deck_syntax.specs.Refusing.{line_refusal, is_dollar_line}
-use Rattle.deck_syntax.specs.Jobs.{job_line_refusal, is_job_card_line, ends_job, with_unit, with_program_line, after_job_line, unit_on, program_text}
+use Rattle.deck_syntax.specs.Jobs.{job_line_refusal, is_job_card_line, ends_job, after_job_line, unit_on}
+use Rattle.deck_syntax.specs.inner.Parts.{with_unit, with_program_line, program_text}
 use Rattle.mon_text.specs.Lines.{words}
 use Rattle.deck_syntax.specs.Requests.{opened, with_line, set_acl_of, stream_refusal, request_on, list_line_refusal}
 use Rattle.deck_syntax.specs.Sections.{Open, Closed, InList, InJob, stream_section}

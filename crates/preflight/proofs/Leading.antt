@@ -20,7 +20,8 @@ use Rattle.deck_syntax.specs.declared.card.Card.TheVariants.{EndJob}
 use Rattle.deck_syntax.specs.Cards.{card_among, is_card}
 use Rattle.deck_syntax.specs.Decks.{Asked, Commands, Enters, Gives, Drains}
 use Rattle.deck_syntax.specs.Refusing.{line_refusal, is_dollar_line}
-use Rattle.deck_syntax.specs.Jobs.{has_begun, is_job_card_line, job_card_refusal, job_line_refusal, ends_job, after_job_line, with_unit, with_program_line, unit_on, program_text}
+use Rattle.deck_syntax.specs.Jobs.{is_job_card_line, job_card_refusal, job_line_refusal, ends_job, after_job_line, unit_on}
+use Rattle.deck_syntax.specs.inner.Parts.{has_begun, with_unit, with_program_line, program_text}
 use Rattle.deck_syntax.specs.Requests.{opened, with_line, set_acl_of, stream_refusal, request_on, list_line_refusal}
 use Rattle.deck_syntax.specs.Sections.{Open, Closed, InList, InJob}
 use Rattle.preflight.specs.declared.standing.Counts.{Counts}

@@ -2,7 +2,7 @@
 ghost use Rattle.std.specs.Prelude.{◌≡◌, true, [], IfOk};
 ghost use Rattle.preflight.specs.declared.standing.Pending.TheVariants as held;
 ghost use Rattle.preflight.specs.Tallies.{tally_of};
-ghost use Rattle.deck_syntax.specs.Jobs.{has_begun};
+ghost use Rattle.deck_syntax.specs.inner.Parts.{has_begun};
 ghost use Rattle.preflight.specs.inner.Standings.{HasRoom, IsLike, one_line, one_creation, one_job};
 ghost use Rattle.sno_cards.specs.Limits.{AreLimits};
 

@@ -6,7 +6,7 @@ use Rattle.sno_cards.specs.declared.limits.Limits.{Limits}
 use Rattle.deck_syntax.specs.declared.job.OpenJob.{OpenJob}
 use Rattle.deck_syntax.specs.declared.request.Request.{Request}
 use Rattle.deck_syntax.specs.Decks.{Asked}
-use Rattle.deck_syntax.specs.Jobs.{has_begun}
+use Rattle.deck_syntax.specs.inner.Parts.{has_begun}
 use Rattle.deck_syntax.specs.Sections.{Open, Closed, InList, InJob}
 use Rattle.preflight.specs.declared.tally.Tally.{Tally}
 use Rattle.preflight.specs.declared.standing.Counts.{Counts}
