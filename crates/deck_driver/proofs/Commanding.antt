@@ -10,7 +10,8 @@ use Rattle.deck_syntax.specs.declared.job.OpenJob.{OpenJob}
 use Rattle.mon_monitor.specs.SystemStates.{SystemState}
 use Rattle.mon_monitor.specs.Events.{Event, Serve, Load, Give, Drain}
 use Rattle.mon_monitor.specs.Printouts.{Printout, printout_text, printouts_text}
-use Rattle.mon_monitor.specs.Played.{Played, played, happened, and_played}
+use Rattle.mon_monitor.specs.Played.{Played, played, happened}
+use Rattle.mon_monitor.proofs.Parts.{and_played}
 use Rattle.mon_monitor.specs.Happening.{Happens, Breaks, Closes}
 use Rattle.mon_monitor.specs.History.{event_entries, history}
 use Rattle.mon_monitor.specs.Audit.{audit, event_lines, audit_of}

@@ -11,12 +11,14 @@ use Rattle.scheduler.specs.declared.job_end.JobEnd.{JobEnd}
 use Rattle.scheduler.specs.Printouts.{printout}
 use Rattle.scheduler.specs.States.{SchedulerState, job_in}
 use Rattle.scheduler.specs.Turns.{ends_by, turns}
-use Rattle.scheduler.specs.Marks.{Marks, mark_of, turn_as, Past, nothing, ends_then, until, never, marked, rounds, turns_left, is_done, has_free_slot}
+use Rattle.scheduler.specs.Marks.{Marks, mark_of, turn_as, Past, nothing, until, never, marked, rounds, turns_left, is_done, has_free_slot}
+use Rattle.scheduler.specs.inner.Parts.{ends_then}
 use Rattle.scheduler.proofs.Past.{either_way, until_stops, until_goes, until_append, unmarked}
 use Rattle.mon_monitor.specs.SystemStates.{SystemState, with_scheduler, first_system}
 use Rattle.mon_monitor.specs.Events.{Event, Serve, Load, Give, Drain}
 use Rattle.mon_monitor.specs.Printouts.{Printout, OfJob, printout_text, printouts_text}
-use Rattle.mon_monitor.specs.Played.{Played, and_played, of_turns, then_played, happened, played}
+use Rattle.mon_monitor.specs.Played.{Played, of_turns, then_played, happened, played}
+use Rattle.mon_monitor.proofs.Parts.{and_played}
 use Rattle.mon_monitor.specs.Laws.{CardByCard, DrainEmpties}
 use Rattle.mon_monitor.proofs.Playing.{ends_text}
 use Rattle.mon_monitor.specs.Isolation.{CommandsAgree}

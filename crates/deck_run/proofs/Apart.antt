@@ -17,7 +17,8 @@ use Rattle.deck_syntax.specs.declared.job_deck.UnitCard.{UnitCard}
 use Rattle.deck_syntax.specs.declared.job_deck.JobDeck.{JobDeck}
 use Rattle.scheduler.specs.declared.refusal.LoadError.{LoadError}
 use Rattle.scheduler.specs.States.{SlotState, SchedulerState, scheduler, seat_at, first_free, job_in}
-use Rattle.scheduler.specs.Loads.{first_units, tied_by, with_ties, program_in, load_refusal, slot_by, slot_in, loaded_by, job_loaded}
+use Rattle.scheduler.specs.Loads.{first_units, tied_by, with_ties, program_in, load_refusal, slot_in, loaded_by, job_loaded}
+use Rattle.scheduler.specs.inner.Parts.{slot_by}
 use Rattle.scheduler.specs.Marks.{Marks, never, rounds, turns_left, is_done, has_free_slot, room}
 use Rattle.mon_monitor.specs.SystemStates.{SystemState}
 use Rattle.mon_monitor.specs.Events.{Serve, Load, Give, Drain}

@@ -18,7 +18,8 @@ use Rattle.mon_unit.specs.Laws.{targets, KeepsToTies}
 use Rattle.mon_unit.proofs.Looks.{run_keeps_to_ties, cut_keeps_to_ties}
 use Rattle.scheduler.specs.States.{SlotState, SchedulerState, scheduler, seat_at, with_seat, job_in}
 use Rattle.scheduler.specs.Turns.{reached, after_turn, seat, ends_by}
-use Rattle.scheduler.specs.Marks.{Mark, Marks, mark_of, exchanges_at, may_break, ran_as, turn_as, Past, nothing, ends_then, until, never, rounds, turns_left, is_done, has_free_slot}
+use Rattle.scheduler.specs.Marks.{Mark, Marks, mark_of, exchanges_at, may_break, ran_as, turn_as, Past, nothing, until, never, rounds, turns_left, is_done, has_free_slot}
+use Rattle.scheduler.specs.inner.Parts.{ends_then}
 use Rattle.mon_monitor.specs.SystemStates.{SystemState}
 use Rattle.mon_monitor.specs.Events.{Event, Serve, Load, Give, Drain}
 use Rattle.mon_monitor.specs.Played.{happened, played}

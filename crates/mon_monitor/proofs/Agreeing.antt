@@ -7,12 +7,14 @@ use Rattle.scheduler.specs.declared.job_end.JobEnd.{JobEnd}
 use Rattle.scheduler.specs.declared.turned.Turned.{Turned}
 use Rattle.scheduler.specs.States.{SlotState, SchedulerState, first_free}
 use Rattle.scheduler.specs.Turns.{ends_by}
-use Rattle.scheduler.specs.Marks.{Marks, mark_of, turn_as, Past, nothing, ends_then, until, never, marked, rounds, turns_left, rounds_until, is_done, has_free_slot, drain, room}
+use Rattle.scheduler.specs.Marks.{Marks, mark_of, turn_as, Past, nothing, until, never, marked, rounds, turns_left, rounds_until, is_done, has_free_slot, drain, room}
+use Rattle.scheduler.specs.inner.Parts.{ends_then}
 use Rattle.scheduler.proofs.Past.{either_way, until_stops, until_goes}
 use Rattle.mon_monitor.specs.SystemStates.{SystemState, with_scheduler}
 use Rattle.mon_monitor.specs.Events.{Event, Serve, Load, Give, Drain}
-use Rattle.mon_monitor.specs.Printouts.{Printout, OfCommand, of_load}
-use Rattle.mon_monitor.specs.Played.{Played, and_played, of_turns, of_loading, then_played, happened, played}
+use Rattle.mon_monitor.specs.Printouts.{Printout, OfCommand}
+use Rattle.mon_monitor.proofs.Parts.{of_load, and_played}
+use Rattle.mon_monitor.specs.Played.{Played, of_turns, of_loading, then_played, happened, played}
 use Rattle.mon_monitor.specs.Agreeing.{SchedulersAgree, Agree}
 use Rattle.mon_monitor.specs.Isolation.{IsOwn, Isolated}
 use Rattle.mon_monitor.proofs.Turning.{scheduler_turn}

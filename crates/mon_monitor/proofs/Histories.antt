@@ -22,8 +22,9 @@ use Rattle.scheduler.proofs.Seats.{seat_length}
 use Rattle.scheduler.proofs.Past.{either_way, until_stops, until_goes, until_length}
 use Rattle.mon_monitor.specs.SystemStates.{SystemState, with_scheduler}
 use Rattle.mon_monitor.specs.Events.{Event, Serve, Load, Give, Drain}
-use Rattle.mon_monitor.specs.Printouts.{Printout, printouts_text, of_load}
-use Rattle.mon_monitor.specs.Played.{Played, loading, of_turns, and_played, happened, played}
+use Rattle.mon_monitor.specs.Printouts.{Printout, printouts_text}
+use Rattle.mon_monitor.proofs.Parts.{of_load, and_played}
+use Rattle.mon_monitor.specs.Played.{Played, loading, of_turns, happened, played}
 use Rattle.mon_monitor.specs.Laws.{CardByCard, PrintedInOrder, NotByMemory, AsUnmarked, PlayedUnmarked, LoadHasRoom, AccountsStay, SlotsStay}
 use Rattle.mon_monitor.proofs.Playing.{printouts_append}
 use Rattle.mon_monitor.proofs.Shorthand.{of_ends}

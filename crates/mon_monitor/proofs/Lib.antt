@@ -27,3 +27,4 @@ mod Example
 mod Examples
 pub mod Schedules
 pub mod Unseen
+pub mod Parts

@@ -15,7 +15,8 @@ use Rattle.deck_syntax.specs.declared.job_deck.UnitCard.{UnitCard}
 use Rattle.deck_syntax.specs.declared.job_deck.JobDeck.{JobDeck}
 use Rattle.scheduler.specs.declared.refusal.LoadError.{LoadError}
 use Rattle.scheduler.specs.States.{SlotState, seat_at, first_free, job_in}
-use Rattle.scheduler.specs.Loads.{first_units, with_ties, tied_by, program_in, load_refusal, slot_by, slot_in, loaded_by, job_loaded}
+use Rattle.scheduler.specs.Loads.{first_units, with_ties, tied_by, program_in, load_refusal, slot_in, loaded_by, job_loaded}
+use Rattle.scheduler.specs.inner.Parts.{slot_by}
 use Rattle.mon_monitor.specs.Isolation.{LoadsAgree}
 use Rattle.mon_monitor.proofs.Requests.{get_after_set}
 use Rattle.mon_monitor.proofs.Turning.{seat_after}

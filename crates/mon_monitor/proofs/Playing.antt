@@ -29,8 +29,9 @@ use Rattle.scheduler.specs.Marks.{Marks, Past, marked, drain, room, never, round
 use Rattle.scheduler.specs.Turning.{Passed, MarkedIs, DrainIs, RoomIs}
 use Rattle.mon_monitor.specs.SystemStates.{SystemState, with_scheduler, with_sets}
 use Rattle.mon_monitor.specs.Events.{Serve, Load, Give, Drain}
-use Rattle.mon_monitor.specs.Printouts.{Printout, OfCommand, OfRefused, printouts_text, printout_text, of_load}
-use Rattle.mon_monitor.specs.Played.{Played, loading, of_turns, of_loading, and_played, then_played, happened}
+use Rattle.mon_monitor.specs.Printouts.{Printout, OfCommand, OfRefused, printouts_text, printout_text}
+use Rattle.mon_monitor.proofs.Parts.{of_load, and_played}
+use Rattle.mon_monitor.specs.Played.{Played, loading, of_turns, of_loading, then_played, happened}
 use Rattle.mon_monitor.specs.Printed.{given_back}
 use Rattle.mon_monitor.specs.Audit.{audit, event_lines, loading_lines}
 use Rattle.mon_monitor.specs.History.{load_entry}

@@ -24,13 +24,14 @@ use Rattle.deck_syntax.specs.declared.job_deck.JobDeck.{JobDeck}
 use Rattle.scheduler.specs.declared.refusal.LoadError.{LoadError}
 use Rattle.scheduler.specs.declared.refusal.LoadError.TheVariants.{NoSlot, NoAccount}
 use Rattle.scheduler.specs.States.{SlotState, SchedulerState, scheduler, seat_at, with_seat, job_in, first_free}
-use Rattle.scheduler.specs.Loads.{missing, first_units, tied_by, with_ties, program_refusal, program_in, deck_refusal, loaded_slot, slot_by, slot_in, loaded_by, job_loaded}
+use Rattle.scheduler.specs.Loads.{missing, first_units, tied_by, with_ties, program_refusal, program_in, deck_refusal, loaded_slot, slot_in, loaded_by, job_loaded}
+use Rattle.scheduler.specs.inner.Parts.{slot_by, broken_turn, ends_then}
 use Rattle.scheduler.specs.Turns.{reached, ran, ends_by}
-use Rattle.scheduler.specs.Marks.{Mark, Marks, mark_of, passed_at, exchanges_at, may_break, ran_as, turn_as, Past, nothing, ends_then, until, never, is_done, has_free_slot, room}
+use Rattle.scheduler.specs.Marks.{Mark, Marks, mark_of, passed_at, exchanges_at, may_break, ran_as, turn_as, Past, nothing, until, never, is_done, has_free_slot, room}
 use Rattle.mon_monitor.specs.SystemStates.{SystemState}
 use Rattle.mon_monitor.specs.Events.{Event, Serve, Load, Give, Drain}
 use Rattle.mon_monitor.specs.Played.{happened, played}
-use Rattle.scheduler.specs.Exchanged.{whole_turn, broken_turn, asked_in}
+use Rattle.scheduler.specs.Exchanged.{whole_turn, asked_in}
 use Rattle.mon_monitor.specs.History.{Entry, Entered, Refused, Asked, Ordered, end_entry, turn_entries, entries_until, load_entry, event_entries, history, is_of, own}
 use Rattle.mon_monitor.specs.Headline.{IsJob, job_of, NumbersDiffer}
 use Rattle.mon_monitor.proofs.Histories.{event_accounts}

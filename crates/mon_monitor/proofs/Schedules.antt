@@ -24,7 +24,8 @@ use Rattle.scheduler.specs.declared.turned.Turned.{Turned}
 use Rattle.scheduler.specs.declared.turned.Turned.TheVariants.{Empty, Goes, Ended}
 use Rattle.scheduler.specs.States.{SlotState, SchedulerState, seat_at, with_seat, job_in}
 use Rattle.scheduler.specs.Turns.{reached, ran, after_turn, job_end, seat, told, turn_by, turn, Course, ends_by, turns}
-use Rattle.scheduler.specs.Marks.{Marks, mark_of, turn_as, Past, ends_then, until, never, marked, rounds, turns_left, is_done, drain}
+use Rattle.scheduler.specs.Marks.{Marks, mark_of, turn_as, Past, until, never, marked, rounds, turns_left, is_done, drain}
+use Rattle.scheduler.specs.inner.Parts.{ends_then}
 use Rattle.scheduler.specs.Rounds.{NoneByMemory}
 use Rattle.mon_device.specs.Putting.{Standing}
 use Rattle.scheduler.specs.Turning.{UntilIs, MarkedIs, DrainIs}

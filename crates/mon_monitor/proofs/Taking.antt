@@ -30,9 +30,10 @@ use Rattle.deck_syntax.specs.declared.job_deck.JobDeck.{JobDeck}
 use Rattle.scheduler.specs.declared.refusal.LoadError.{LoadError}
 use Rattle.scheduler.specs.declared.refusal.LoadError.TheVariants.{NoSlot}
 use Rattle.scheduler.specs.States.{SlotState, SchedulerState, seat_at, with_seat, job_in, first_free}
-use Rattle.scheduler.specs.Loads.{missing, program_in, deck_refusal, loaded_slot, slot_by, slot_in, loaded_by, job_loaded}
+use Rattle.scheduler.specs.Loads.{missing, program_in, deck_refusal, loaded_slot, slot_in, loaded_by, job_loaded}
+use Rattle.scheduler.specs.inner.Parts.{slot_by, broken_turn, ends_then}
 use Rattle.scheduler.specs.Turns.{reached, ran, after_turn, seat, told, ends_by}
-use Rattle.scheduler.specs.Marks.{Mark, Marks, mark_of, exchanges_at, may_break, ran_as, turn_as, Past, nothing, ends_then, until, never, rounds, turns_left, is_done, has_free_slot, room}
+use Rattle.scheduler.specs.Marks.{Mark, Marks, mark_of, exchanges_at, may_break, ran_as, turn_as, Past, nothing, until, never, rounds, turns_left, is_done, has_free_slot, room}
 use Rattle.scheduler.specs.Rounds.{RoomIsMade}
 use Rattle.mon_monitor.proofs.Unbroken.{turn_unbroken}
 use Rattle.scheduler.proofs.Past.{turn_length, until_goes, enough}
@@ -42,7 +43,7 @@ use Rattle.mon_monitor.specs.Abstraction.{system}
 use Rattle.mon_monitor.specs.Events.{Event, Serve, Load, Give, Drain}
 use Rattle.mon_monitor.specs.Played.{happened, played}
 use Rattle.mon_monitor.specs.Laws.{SlotsStay}
-use Rattle.scheduler.specs.Exchanged.{Exchanged, asked_by, whole_turn, broken_turn, asked_in}
+use Rattle.scheduler.specs.Exchanged.{Exchanged, asked_by, whole_turn, asked_in}
 use Rattle.mon_monitor.specs.History.{Entry, Entered, Refused, Asked, end_entry, turn_entries, entries_until, load_entry, event_entries, history}
 use Rattle.mon_monitor.specs.Headline.{exchanges}
 use Rattle.mon_monitor.specs.Turns.{Seats, Stage, left_as, IsTurn, TurnOf, given, in_rounds, Take, Turns, IsLowestFree, Loads, Brings, BringInOrder, IsUnbroken, TurnsCome}

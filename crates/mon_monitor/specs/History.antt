@@ -1,7 +1,7 @@
 -- The history (own): the one list of all that jobs ask and commands order, each over the data sets as they stand then, with
 -- what was answered; and of the jobs that enter and end. It goes as `played` does: event by event, turn by turn, and all that a
 -- turn asks stands together.
-use Rattle.std.specs.Prelude.{ℕ, ◌==◌, Bool, true, false, List, [], ◌∷◌, ◌++◌, length, map, filter, take, Option, Some, None, Result, Ok, Err, if◌then◌else◌, drop, replicate}
+use Rattle.std.specs.Prelude.{ℕ, ◌==◌, Bool, false, List, [], ◌∷◌, ◌++◌, length, map, filter, Option, Result, Ok, Err, if◌then◌else◌, drop, replicate}
 use Rattle.std.specs.List.{flat_map}
 use Rattle.mon_catalogue.specs.Sets.{Sets}
 use Rattle.mon_command.specs.declared.command.Command.{Command}
@@ -13,9 +13,9 @@ use Rattle.scheduler.specs.declared.refusal.LoadError.{LoadError}
 use Rattle.scheduler.specs.declared.turned.Turned.{Turned}
 use Rattle.scheduler.specs.declared.turned.Turned.TheVariants as turn
 use Rattle.scheduler.specs.States.{SchedulerState, job_in}
-use Rattle.scheduler.specs.Marks.{Mark, Marks, mark_of, turn_as, never, rounds, turns_left, is_done, has_free_slot, room}
+use Rattle.scheduler.specs.Marks.{Mark, Marks, mark_of, turn_as, never, rounds, turns_left, rounds_until, is_done, has_free_slot}
 use Rattle.scheduler.specs.Exchanged.{Exchanged, asked_in}
-use Rattle.mon_monitor.specs.SystemStates.{SystemState, with_scheduler}
+use Rattle.mon_monitor.specs.SystemStates.{SystemState}
 use Rattle.mon_monitor.specs.Events.{Event, Serve, Load, Give, Drain}
 use Rattle.mon_monitor.specs.Printouts.{Printout, OfCommand, OfJob, OfRefused}
 use Rattle.mon_monitor.specs.Played.{loading, happened}
@@ -35,9 +35,8 @@ pub data Entry : Type 0 where
 
 -- a job that has ended with its turn
 abbrev pub end_entry : Turned → List Entry
-end_entry turn.Empty = []
-end_entry turn.Goes = []
 end_entry (turn.Ended e) = Ended e ∷ []
+end_entry _ = []
 
 -- a turn of the job in a slot
 abbrev pub turn_entries : Option Mark → ℕ → SchedulerState → List Entry
@@ -63,7 +62,7 @@ load_entry deck (Err refusal) = Refused deck refusal ∷ []
 abbrev pub event_entries : Event → Marks → SystemState → List Entry
 event_entries (Serve command) m w = Ordered w.scheduler.sets command (answered w.accounts w.scheduler.sets command).answer ∷ []
 event_entries (Load deck) m w =
-    entries_of_rounds has_free_slot m w.scheduler ++ load_entry deck (loading deck (with_scheduler w (room m w.scheduler).after)).0
+    entries_of_rounds has_free_slot m w.scheduler ++ load_entry deck (loading deck (record w { scheduler = (rounds_until has_free_slot m w.scheduler).after })).0
 event_entries (Give slot count) m w = entries_until never (replicate count slot) m w.scheduler
 event_entries Drain m w = entries_of_rounds is_done m w.scheduler
 

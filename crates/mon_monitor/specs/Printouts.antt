@@ -21,8 +21,3 @@ printout_text (OfRefused n account refusal) = refusal_text n account refusal
 
 abbrev pub printouts_text : List Printout → List ℕ
 printouts_text printouts = flat_map printout_text printouts
-
--- of a job that was to be loaded
-abbrev pub of_load : JobDeck → Result ℕ LoadError → List Printout
-of_load deck (Ok slot) = []
-of_load deck (Err refusal) = OfRefused deck.number deck.account refusal ∷ []

@@ -11,7 +11,7 @@ pub record SystemState : Type 0 where
 
 -- before the first event all slots are empty
 abbrev pub first_system : ℕ → List Account → Sets → SystemState
-first_system slots accounts sets = record { accounts = accounts; scheduler = scheduler sets (replicate slots None) }
+first_system slots accounts sets = record { accounts = accounts; scheduler = record { sets = sets; slots = replicate slots None } }
 
 abbrev pub with_scheduler : SystemState → SchedulerState → SystemState
 with_scheduler w scheduler = record w { scheduler = scheduler }

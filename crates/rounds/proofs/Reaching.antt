@@ -8,7 +8,8 @@ use Rattle.scheduler.specs.Marks.{Marks}
 use Rattle.mon_monitor.specs.SystemStates.{SystemState, first_system}
 use Rattle.mon_monitor.specs.Events.{Event, Drain}
 use Rattle.mon_monitor.specs.Printouts.{printout_text, printouts_text}
-use Rattle.mon_monitor.specs.Played.{Played, and_played, then_played, happened, played}
+use Rattle.mon_monitor.specs.Played.{Played, then_played, happened, played}
+use Rattle.mon_monitor.proofs.Parts.{and_played}
 use Rattle.mon_monitor.specs.Laws.{CardByCard, DrainEmpties, AccountsStay, SlotsStay}
 use Rattle.deck_syntax.specs.declared.deck_error.DeckError.TheVariants.{Truncated}
 use Rattle.deck_syntax.specs.Decks.{Deck, Asked, Drains, Stopped, Refused}

@@ -31,7 +31,8 @@ use Rattle.scheduler.specs.Abstraction.{seat_of, seats_of}
 use Rattle.scheduler.specs.States.{SlotState, SchedulerState, scheduler, seat_at, with_seat, job_in}
 use Rattle.scheduler.specs.Turns.{reached, after_turn, job_end, seat, told, turned}
 use Rattle.scheduler.specs.Marks.{Mark, passed_at, exchanges_at, counted, may_break, ran_as, turn_as}
-use Rattle.scheduler.specs.Exchanged.{Exchanged, asked_by, whole_turn, broken_turn, asked_in}
+use Rattle.scheduler.specs.Exchanged.{Exchanged, asked_by, whole_turn, asked_in}
+use Rattle.scheduler.specs.inner.Parts.{broken_turn}
 use Rattle.scheduler.specs.AuditLines.{exchanged_lines, ended_line, end_lines, turn_lines}
 use Rattle.scheduler.specs.Turning.{TurnOr, ended_in}
 use Rattle.scheduler.specs.inner.Stepping.{Cut, BrokenOff, Whole, Stepped, SeatStep, Leaving, StepOr, one_in, jobs_in}

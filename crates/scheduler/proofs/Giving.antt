@@ -10,7 +10,8 @@ use Rattle.scheduler.specs.declared.turned.Turned.{Turned}
 use Rattle.scheduler.specs.declared.turned.Turned.TheVariants.{Empty, Goes, Ended}
 use Rattle.scheduler.specs.States.{SlotState, SchedulerState, seat_at, with_seat, job_in}
 use Rattle.scheduler.specs.Turns.{after_turn, job_end, seat, told, ends_by}
-use Rattle.scheduler.specs.Marks.{Mark, Marks, ran_as, nothing, ends_then, until, never}
+use Rattle.scheduler.specs.Marks.{Mark, Marks, ran_as, nothing, until, never}
+use Rattle.scheduler.specs.inner.Parts.{ends_then}
 use Rattle.scheduler.specs.Exchanged.{asked_in}
 use Rattle.scheduler.specs.AuditLines.{exchanged_lines, end_lines, lines_until}
 use Rattle.scheduler.specs.Turning.{TurnOr, UntilIs, MarkedIs}

@@ -25,7 +25,8 @@ use Rattle.scheduler.specs.declared.refusal.LoadError.TheVariants.{NoSlot, NoAcc
 use Rattle.scheduler.specs.declared.slot.Slot.{Slot}
 use Rattle.scheduler.specs.States.{SlotState, with_seat, first_free}
 use Rattle.scheduler.specs.Abstraction.{slot_of, seat_of, seats_of}
-use Rattle.scheduler.specs.Loads.{first_units, with_ties, ties_refusal, program_refusal, program_in, missing, deck_refusal, slot_by, slot_in, loaded_by, job_loaded}
+use Rattle.scheduler.specs.Loads.{first_units, with_ties, ties_refusal, program_refusal, program_in, missing, deck_refusal, slot_in, loaded_by, job_loaded}
+use Rattle.scheduler.specs.inner.Parts.{slot_by}
 use Rattle.scheduler.specs.inner.Spelling.{IsSpelled}
 use Rattle.scheduler.proofs.Seats.{map_set}
 

@@ -13,7 +13,8 @@ use Rattle.scheduler.specs.declared.turned.Turned.{Turned}
 use Rattle.scheduler.specs.declared.turned.Turned.TheVariants.{Ended}
 use Rattle.scheduler.specs.States.{SlotState, SchedulerState, seat_at, with_seat, job_in, first_free}
 use Rattle.scheduler.specs.Turns.{reached, ran, after_turn, seat, turned, turn_by, turn, ends_by}
-use Rattle.scheduler.specs.Marks.{Mark, Marks, mark_of, may_break, ran_as, turn_as, Past, nothing, ends_then, until, marked, rounds, turns_left, is_done, has_free_slot, drain, room}
+use Rattle.scheduler.specs.Marks.{Mark, Marks, mark_of, may_break, ran_as, turn_as, Past, nothing, until, marked, rounds, turns_left, is_done, has_free_slot, drain, room}
+use Rattle.scheduler.specs.inner.Parts.{ends_then}
 use Rattle.scheduler.specs.Rounds.{Unmarked, NoneByMemory, TakesOneMark, AtLast, Enough}
 use Rattle.scheduler.proofs.Begun.{Less, job_less}
 use Rattle.scheduler.proofs.Seats.{seat_length, none_at}

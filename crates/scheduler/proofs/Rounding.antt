@@ -11,7 +11,8 @@ use Rattle.scheduler.specs.declared.rounds.Goal.{Goal}
 use Rattle.scheduler.specs.declared.rounds.Goal.TheVariants as goal
 use Rattle.scheduler.specs.States.{SlotState, SchedulerState, job_in}
 use Rattle.scheduler.specs.Turns.{ends_by}
-use Rattle.scheduler.specs.Marks.{Marks, Past, nothing, ends_then, until, rounds, turns_left, rounds_until, is_done}
+use Rattle.scheduler.specs.Marks.{Marks, Past, nothing, until, rounds, turns_left, rounds_until, is_done}
+use Rattle.scheduler.specs.inner.Parts.{ends_then}
 use Rattle.scheduler.specs.AuditLines.{turn_lines, lines_until, lines_of_rounds}
 use Rattle.scheduler.specs.Turning.{TurnOr, Passed, UntilIs, RoundsAre, ended_in}
 use Rattle.scheduler.specs.inner.Rounding.{Ahead, RoundTo, Going, GoingTo, Unless, stop_of}

@@ -1,5 +1,5 @@
 -- What jobs ask in their turns (own): each request over the data sets as they stand then, with what was answered.
-use Rattle.std.specs.Prelude.{ℕ, Bool, true, false, List, [], ◌∷◌, take, Option, Some, None}
+use Rattle.std.specs.Prelude.{ℕ, List, [], ◌∷◌, take, if◌then◌else◌, Option, Some, None}
 use Rattle.interaction.specs.Interactions.{Returns, Asks}
 use Rattle.interaction.specs.Asking.{Asking}
 use Rattle.interaction.specs.declared.request.Request.{Request}
@@ -31,13 +31,8 @@ asked_by n account (Asks q f) reach =
 abbrev pub whole_turn : SlotState → Sets → List Exchanged
 whole_turn slot sets = asked_by slot.number slot.account (turn_of slot.job) (reached sets slot)
 
--- so much of it as was answered, where memory broke the turn off
-abbrev pub broken_turn : Bool → Mark → SlotState → Sets → List Exchanged
-broken_turn false m slot sets = whole_turn slot sets
-broken_turn true m slot sets = take (exchanges_at m slot sets) (whole_turn slot sets)
-
--- what is asked in a turn of a slot, with a mark where memory may break it off: nothing, where no job sits there
+-- what is asked in a turn of a slot: nothing, where no job sits there; where a mark says that memory breaks it off, what was answered
 abbrev pub asked_in : Option Mark → Option SlotState → Sets → List Exchanged
 asked_in m None sets = []
 asked_in None (Some slot) sets = whole_turn slot sets
-asked_in (Some m) (Some slot) sets = broken_turn (may_break slot.job) m slot sets
+asked_in (Some m) (Some slot) sets = if may_break slot.job then take (exchanges_at m slot sets) (whole_turn slot sets) else whole_turn slot sets

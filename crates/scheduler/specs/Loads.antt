@@ -75,12 +75,9 @@ loaded_slot account deck p = record {
   units = with_ties deck.ties (first_units deck.lines);
 }
 
-abbrev pub slot_by : JobDeck → Option Account → Option Program → Option SlotState
-slot_by deck account program = option_and_then (λ a. option_map (loaded_slot a deck) program) account
-
 -- the job of a deck that is not refused
 abbrev pub slot_in : List Account → JobDeck → Option SlotState
-slot_in accounts deck = slot_by deck (find_account accounts deck.account) (program_in (statements_of deck.lines))
+slot_in accounts deck = option_and_then (λ account. option_map (loaded_slot account deck) (program_in (statements_of deck.lines))) (find_account accounts deck.account)
 
 abbrev pub loaded_by : Option LoadError → Option ℕ → Option SlotState → List (Option SlotState) → Result ℕ LoadError × List (Option SlotState)
 loaded_by (Some refusal) n slot slots = (Err refusal, slots)

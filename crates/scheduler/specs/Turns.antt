@@ -10,7 +10,7 @@ use Rattle.mon_unit.specs.Serving.{Reach, serve}
 use Rattle.scheduler.specs.declared.job_end.JobEnd.{JobEnd}
 use Rattle.scheduler.specs.declared.turned.Turned.{Turned}
 use Rattle.scheduler.specs.declared.turned.Turned.TheVariants.{Empty, Goes, Ended}
-use Rattle.scheduler.specs.States.{SlotState, SchedulerState, scheduler, job_in, with_seat}
+use Rattle.scheduler.specs.States.{SlotState, SchedulerState, job_in, with_seat}
 
 -- what a job's requests reach
 abbrev pub reached : Sets → SlotState → Reach
@@ -43,7 +43,7 @@ told step.Goes slot = Goes
 told (step.Ended ending) slot = Ended (job_end slot ending)
 
 abbrev pub turned : ℕ → (Step × Job) × Reach → SlotState → SchedulerState → Turned × SchedulerState
-turned s r slot w = (told r.0.0 (after_turn slot r), scheduler r.1.sets (with_seat s (seat r.0.0 (after_turn slot r)) w.slots))
+turned s r slot w = (told r.0.0 (after_turn slot r), record { sets = r.1.sets; slots = with_seat s (seat r.0.0 (after_turn slot r)) w.slots })
 
 abbrev pub turn_by : ℕ → Option SlotState → SchedulerState → Turned × SchedulerState
 turn_by s None w = (Empty, w)

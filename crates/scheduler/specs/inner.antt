@@ -5,3 +5,4 @@ pub mod Alone
 pub mod Spelling
 pub mod Sharing
 pub mod Carding
+pub mod Parts

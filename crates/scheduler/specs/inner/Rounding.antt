@@ -7,7 +7,8 @@ use Rattle.scheduler.specs.declared.rounds.Goal.{Goal}
 use Rattle.scheduler.specs.declared.rounds.Goal.TheVariants as goal
 use Rattle.scheduler.specs.declared.turned.Turned.{Turned}
 use Rattle.scheduler.specs.States.{SchedulerState}
-use Rattle.scheduler.specs.Marks.{Marks, until, ends_then, rounds_until, is_done, has_free_slot}
+use Rattle.scheduler.specs.Marks.{Marks, until, rounds_until, is_done, has_free_slot}
+use Rattle.scheduler.specs.inner.Parts.{ends_then}
 use Rattle.scheduler.specs.AuditLines.{lines_until, lines_of_rounds}
 use Rattle.scheduler.specs.Turning.{TurnOr, ended_in}
 

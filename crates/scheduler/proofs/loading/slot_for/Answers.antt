@@ -1,7 +1,8 @@
 use Rattle.std.proofs.Common.{None, ap, ◌∙◌}
 use Rattle.std.proofs.lemmas.Result.{IfOk-weaker, IfErr-weaker, on_ok_weaker}
 use Rattle.sno_cards.specs.Statements.{statements_of}
-use Rattle.scheduler.specs.Loads.{program_in, slot_by}
+use Rattle.scheduler.specs.Loads.{program_in}
+use Rattle.scheduler.specs.inner.Parts.{slot_by}
 use Rattle.scheduler.proofs.Loads.{deck_refused_by, stop_refused_by}
 use Rattle.scheduler.proofs.loading.slot_for.Goals as goal
 
