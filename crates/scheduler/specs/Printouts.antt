@@ -10,14 +10,13 @@ use Rattle.mon_command.specs.declared.reply.Reply.TheVariants as reply
 use Rattle.mon_command.specs.Printouts.{word, number, stored_line}
 use Rattle.mon_command.specs.Replies.{reason_text, reply_line}
 use Rattle.mon_unit.specs.declared.note.Note.{Note}
-use Rattle.mon_unit.specs.declared.note.NoteAct.{NoteAct}
-use Rattle.mon_unit.specs.declared.note.NoteAct.TheVariants.{Read, Write, Endfile, Rewind}
 use Rattle.mon_unit.specs.declared.note.NoteTarget.{NoteTarget}
 use Rattle.mon_unit.specs.declared.note.NoteTarget.TheVariants.{Set, Unit as UnitOf}
 use Rattle.mon_unit.specs.declared.note.Why.{Why}
 use Rattle.mon_unit.specs.declared.note.Why.TheVariants.{Denied, Full}
 use Rattle.mon_unit.specs.declared.units.UnitError.{UnitError}
 use Rattle.mon_unit.specs.declared.units.UnitError.TheVariants.{UnitRange, UnitTwice}
+use Rattle.mon_unit.specs.AuditRequests.{act_word}
 use Rattle.scheduler.specs.declared.job_end.JobEnd.{JobEnd}
 use Rattle.scheduler.specs.declared.refusal.LoadError.{LoadError}
 use Rattle.scheduler.specs.declared.refusal.LoadError.TheVariants.{NoSlot, NoAccount, Cards, Syntax}
@@ -25,12 +24,6 @@ use Rattle.scheduler.specs.declared.refusal.LoadError.TheVariants.{NoSlot, NoAcc
 -- a job's own line
 abbrev pub job_line : ℕ → List ℕ → List ℕ
 job_line n account = codes "JOB" ++ number n ++ word account ++ codes "\n"
-
-abbrev pub act_word : NoteAct → List ℕ
-act_word Read = codes "READ"
-act_word Write = codes "WRITE"
-act_word Endfile = codes "ENDFILE"
-act_word Rewind = codes "REWIND"
 
 -- what was asked of: the data set, or the unit where there is none
 abbrev pub target_words : NoteTarget → List ℕ

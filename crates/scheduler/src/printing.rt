@@ -3,7 +3,8 @@ ghost use Rattle.std.specs.Prelude.{◌≡◌, ◌++◌, codes, length, take, On
 ghost use Rattle.std.specs.List.{flat_map};
 ghost use Rattle.mon_command.specs.Printouts.{word, number, stored_line};
 ghost use Rattle.mon_device.specs.Putting.{Puts};
-ghost use Rattle.scheduler.specs.Printouts.{job_line, act_word, target_words, exchange_words, note_words, note_line, statement_words, ending_words, ending_line, printout};
+ghost use Rattle.mon_unit.specs.AuditRequests.{act_word};
+ghost use Rattle.scheduler.specs.Printouts.{job_line, target_words, exchange_words, note_words, note_line, statement_words, ending_words, ending_line, printout};
 
 use crate::job_end::JobEnd;
 use crate::words::{print_number, print_word};
