@@ -20,8 +20,9 @@ use Rattle.deck_syntax.specs.Decks.{Asked, Commands, Enters, Gives, Drains, Card
 use Rattle.deck_syntax.specs.Sections.{asked_then, stopped}
 use Rattle.deck_syntax.specs.Jobs.{job_deck_of}
 use Rattle.deck_driver.specs.declared.options.Counts.{Counts}
-use Rattle.deck_driver.specs.RunStates.{over, events_of, events_in, at_end, nothing_counted, both_counted, one_counted, all_counted}
-use Rattle.deck_driver.specs.Printouts.{closing, verdict}
+use Rattle.deck_driver.specs.RunStates.{over, events_of, events_in, nothing_counted, both_counted, one_counted, all_counted}
+use Rattle.deck_driver.proofs.Verdicts.{at_end, verdict}
+use Rattle.deck_driver.specs.Printouts.{closing}
 use Rattle.deck_driver.specs.Feeds.{outcome_of, behind, more, concluded, Conclusion, Good, Bad, Outcome, Begins}
 use Rattle.deck_driver.specs.Audits.{told_to}
 use Rattle.deck_driver.specs.inner.Lines.{Served, ServeBreaks, Stopping, StopBreaks}

@@ -8,3 +8,4 @@ pub mod Pieces
 pub mod CardWords
 pub mod LineEnds
 pub mod Ending
+pub mod Verdicts

@@ -30,14 +30,9 @@ pub record ReadsBack (sets : Sets) : Type 0 where
 abbrev pub output_of_run_state : ℕ → Marks → RunState → List ℕ
 output_of_run_state jobs m s = let p = played_run_state jobs m s in printouts_text p.printouts ++ closing p.after.scheduler.sets s.cards.ending
 
--- a deck that is only read: whether it is refused
-abbrev pub verdict : Ending → List ℕ
-verdict Stopped = codes "DECK OK\n"
-verdict (Refused n code) = []
-
 -- what a deck is answered, where it is only to be checked or is to be run
 abbrev pub answer_to : Bool → ℕ → Marks → RunState → List ℕ
-answer_to check jobs m s = if check then verdict s.cards.ending else output_of_run_state jobs m s
+answer_to check jobs m s = if check then elim s.cards.ending [ Stopped ↦ codes "DECK OK\n" | Refused n code ↦ [] ] else output_of_run_state jobs m s
 
 -- what is written for these bytes, where memory breaks turns off as the marks say
 abbrev pub output_of : Options → Marks → List ℕ → List ℕ

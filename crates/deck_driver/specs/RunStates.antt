@@ -19,7 +19,7 @@ over w cards = record { system = w; cards = cards }
 
 -- a deck's stream begins over its accounts and its catalogue, with so many slots
 abbrev pub opening : ℕ → Deck → RunState
-opening slots deck = over (first_system slots deck.accounts deck.catalogue) deck.cards
+opening slots deck = record { system = first_system slots deck.accounts deck.catalogue; cards = deck.cards }
 
 -- what the cards ask for, where the next job has number k
 abbrev pub events_of : ℕ → List Asked → List Event
@@ -29,14 +29,9 @@ events_of k (Enters job ∷ asked) = Load (job_deck_of k job) ∷ events_of (suc
 events_of k (Gives turn ∷ asked) = Give turn.slot turn.count ∷ events_of k asked
 events_of k (Drains ∷ asked) = Drain ∷ events_of k asked
 
--- `$STOP` gives all turns that there are to give; a refusal gives none
-abbrev pub at_end : Ending → List Event
-at_end Stopped = Drain ∷ []
-at_end (Refused n code) = []
-
--- all events of a run_state, behind so many jobs
+-- all events of a run_state, behind so many jobs; `$STOP` gives all turns that there are to give, and a refusal gives none
 abbrev pub events_in : ℕ → RunState → List Event
-events_in jobs s = events_of (suc jobs) s.cards.asked ++ at_end s.cards.ending
+events_in jobs s = events_of (suc jobs) s.cards.asked ++ elim s.cards.ending [ Stopped ↦ Drain ∷ [] | Refused n code ↦ [] ]
 
 abbrev pub played_run_state : ℕ → Marks → RunState → Played
 played_run_state jobs m s = played (events_in jobs s) m s.system

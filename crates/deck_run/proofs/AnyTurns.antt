@@ -27,7 +27,8 @@ use Rattle.deck_syntax.specs.Decks.{Asked, Commands, Enters, Gives, Drains, Endi
 use Rattle.deck_syntax.specs.Laws.{ReadingSpells}
 use Rattle.deck_syntax.specs.Sections.{deck_of}
 use Rattle.deck_driver.specs.declared.options.Options.{Options}
-use Rattle.deck_driver.specs.RunStates.{RunState, events_of, at_end, events_in, played_run_state}
+use Rattle.deck_driver.specs.RunStates.{RunState, events_of, events_in, played_run_state}
+use Rattle.deck_driver.proofs.Verdicts.{at_end}
 use Rattle.deck_driver.specs.Printouts.{closing, output_of}
 use Rattle.deck_run.specs.Runs.{run_state_of, catalogue_after}
 use Rattle.deck_run.specs.Laws.{done, jobs_in}

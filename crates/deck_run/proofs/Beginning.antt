@@ -19,7 +19,8 @@ use Rattle.deck_syntax.specs.Sections.{deck_of}
 use Rattle.deck_syntax.specs.Spelling.{IsDeck}
 use Rattle.deck_syntax.proofs.Closing.{good_beginnings}
 use Rattle.deck_syntax.proofs.ComingBack.{comes_back}
-use Rattle.deck_driver.specs.RunStates.{opening, events_of, at_end, played_run_state}
+use Rattle.deck_driver.specs.RunStates.{opening, events_of, played_run_state}
+use Rattle.deck_driver.proofs.Verdicts.{at_end}
 use Rattle.mon_device.specs.Putting.{Standing}
 use Rattle.mon_device.proofs.Putting.{puts_then}
 use Rattle.deck_driver.specs.Abstraction.{told, audit_told, Took}

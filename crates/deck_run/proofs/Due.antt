@@ -37,7 +37,8 @@ use Rattle.deck_driver.specs.declared.section.Section.{Section}
 use Rattle.deck_driver.specs.declared.section.DeckState.{DeckState}
 use Rattle.deck_driver.specs.declared.section.DeckState.TheVariants as state
 use Rattle.deck_driver.specs.RunStates.{RunState, opening, all_counted}
-use Rattle.deck_driver.specs.Printouts.{verdict, answer_to, output_of}
+use Rattle.deck_driver.specs.Printouts.{answer_to, output_of}
+use Rattle.deck_driver.proofs.Verdicts.{verdict}
 use Rattle.deck_driver.specs.Feeds.{outcome, outcome_of, error_at, is_reading, concluded, sets_left, Outcome, Conclusion, Good, Bad}
 use Rattle.deck_driver.specs.Feeds.{more as after}
 use Rattle.deck_driver.specs.Abstraction.{outcome_from, audit_told}

@@ -15,7 +15,8 @@ use Rattle.mon_monitor.specs.Turns.{TurnsCome}
 use Rattle.deck_syntax.specs.Decks.{Asked, Commands, Enters, Gives, Drains, Ending, Stopped, Refused}
 use Rattle.deck_syntax.specs.Jobs.{job_deck_of}
 use Rattle.deck_syntax.specs.Sections.{deck_of}
-use Rattle.deck_driver.specs.RunStates.{events_of, at_end, played_run_state}
+use Rattle.deck_driver.specs.RunStates.{events_of, played_run_state}
+use Rattle.deck_driver.proofs.Verdicts.{at_end}
 use Rattle.deck_driver.specs.Printouts.{closing}
 use Rattle.deck_run.specs.Runs.{run_state_of}
 use Rattle.deck_run.specs.Headline.{asked_of, Headline}

@@ -17,7 +17,8 @@ use Rattle.mon_monitor.specs.Isolation.{IsOwn, Isolated}
 use Rattle.deck_syntax.specs.Decks.{Deck, Asked, Commands, Enters, Gives, Drains, Ending, Stopped, Refused}
 use Rattle.deck_syntax.specs.Laws.{ReadingSpells, GoodBeginnings}
 use Rattle.deck_syntax.specs.Sections.{deck_of}
-use Rattle.deck_driver.specs.RunStates.{RunState, opening, events_of, at_end, events_in}
+use Rattle.deck_driver.specs.RunStates.{RunState, opening, events_of, events_in}
+use Rattle.deck_driver.proofs.Verdicts.{at_end}
 use Rattle.deck_driver.specs.Printouts.{closing}
 use Rattle.deck_run.specs.Runs.{deck_ending, run_state_of, catalogue_after}
 use Rattle.deck_run.specs.Isolation.{IsOwnCard, EndAlike, DecksAlike, DecksIsolated}

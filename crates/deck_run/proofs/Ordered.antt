@@ -10,8 +10,9 @@ use Rattle.mon_monitor.specs.Laws.{AsUnmarked, CardByCard, PlayedUnmarked}
 use Rattle.deck_syntax.specs.Decks.{Asked, Commands, Enters, Gives, Drains, Ending}
 use Rattle.deck_syntax.specs.Jobs.{job_deck_of}
 use Rattle.deck_driver.specs.declared.options.Options.{Options}
-use Rattle.deck_driver.specs.RunStates.{RunState, events_of, at_end, events_in, played_run_state}
-use Rattle.deck_driver.specs.Printouts.{closing, verdict, answer_to, output_of_run_state, output_of}
+use Rattle.deck_driver.specs.RunStates.{RunState, events_of, events_in, played_run_state}
+use Rattle.deck_driver.proofs.Verdicts.{at_end, verdict}
+use Rattle.deck_driver.specs.Printouts.{closing, answer_to, output_of_run_state, output_of}
 use Rattle.deck_run.specs.Runs.{run_state_of}
 use Rattle.deck_run.specs.Laws.{done, jobs_in, rest_of_output, InOrder, InItsPlace, Unmarked}
 
