@@ -20,7 +20,8 @@ use Rattle.deck_syntax.specs.Decks.{Asked, Commands, Enters, Gives, Drains, Card
 use Rattle.deck_syntax.specs.Sections.{asked_then, stopped}
 use Rattle.deck_syntax.specs.Jobs.{job_deck_of}
 use Rattle.deck_driver.specs.declared.options.Counts.{Counts}
-use Rattle.deck_driver.specs.RunStates.{over, events_of, events_in, nothing_counted, both_counted, one_counted, all_counted}
+use Rattle.deck_driver.specs.RunStates.{over, events_of, events_in, nothing_counted, both_counted, all_counted}
+use Rattle.deck_driver.proofs.Counted.{one_counted}
 use Rattle.deck_driver.proofs.Verdicts.{at_end, verdict}
 use Rattle.deck_driver.specs.Printouts.{closing}
 use Rattle.deck_driver.specs.Feeds.{outcome_of, behind, more, concluded, Conclusion, Good, Bad, Outcome, Begins}
@@ -51,9 +52,14 @@ behind_behind t s j k o =
     ap (λ w. record { written = w; conclusion = more j (more k o.conclusion) }) (sym (append_assoc t s o.written))
     ∙ ap (λ (c : Conclusion). record { written = (t ++ s) ++ o.written; conclusion = c }) (more_more j k o.conclusion)
 
+one_more : (one : Asked) (asked : List Asked) → all_counted (one ∷ asked) ≡ both_counted (one_counted one) (all_counted asked)
+one_more (Commands command) asked = let all = all_counted asked in counts_are all.jobs (1 + all.commands) (0 + all.jobs) (1 + all.commands) (omega arith) refl
+one_more (Enters job) asked = let all = all_counted asked in counts_are (1 + all.jobs) all.commands (1 + all.jobs) (0 + all.commands) refl (omega arith)
+one_more _ asked = sym (nothing_and (all_counted asked))
+
 counted_first : (ending : Ending) (one : Asked) (asked : List Asked) (sets : Sets)
     → concluded (all_counted (one ∷ asked)) sets ending ≡ more (one_counted one) (concluded (all_counted asked) sets ending)
-counted_first Stopped one asked sets = refl
+counted_first Stopped one asked sets = ap (λ (c : Counts). Good c sets) (one_more one asked)
 counted_first (Refused n code) one asked sets = refl
 
 -- EVENTS

@@ -9,3 +9,4 @@ pub mod CardWords
 pub mod LineEnds
 pub mod Ending
 pub mod Verdicts
+pub mod Counted

@@ -41,18 +41,14 @@ abbrev pub sets_after : ℕ → Marks → RunState → Sets
 sets_after jobs m s = let p = played_run_state jobs m s in p.after.scheduler.sets
 
 -- how many jobs and commands there are
+abbrev pub all_counted : List Asked → Counts
+all_counted [] = record { jobs = 0; commands = 0 }
+all_counted (Commands command ∷ asked) = let later = all_counted asked in record later { commands = 1 + later.commands }
+all_counted (Enters job ∷ asked) = let later = all_counted asked in record later { jobs = 1 + later.jobs }
+all_counted (other ∷ asked) = all_counted asked
 
 abbrev pub nothing_counted : Counts
 nothing_counted = record { jobs = 0; commands = 0 }
 
 abbrev pub both_counted : Counts → Counts → Counts
 both_counted a b = record { jobs = a.jobs + b.jobs; commands = a.commands + b.commands }
-
-abbrev pub one_counted : Asked → Counts
-one_counted (Commands command) = record { jobs = 0; commands = 1 }
-one_counted (Enters job) = record { jobs = 1; commands = 0 }
-one_counted asked = nothing_counted
-
-abbrev pub all_counted : List Asked → Counts
-all_counted [] = nothing_counted
-all_counted (a ∷ asked) = both_counted (one_counted a) (all_counted asked)

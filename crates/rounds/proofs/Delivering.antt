@@ -10,8 +10,8 @@ use Rattle.mon_monitor.specs.Events.{Event, Drain}
 use Rattle.mon_monitor.specs.Printouts.{printouts_text}
 use Rattle.mon_monitor.specs.Played.{Played, then_played, played}
 use Rattle.mon_monitor.specs.Laws.{CardByCard, DrainEmpties, AccountsStay, SlotsStay}
-use Rattle.deck_syntax.specs.Decks.{Deck, Asked, Drains, Stopped}
-use Rattle.deck_driver.specs.RunStates.{one_counted, events_of, opening}
+use Rattle.deck_syntax.specs.Decks.{Deck, Asked, Enters, Drains, Stopped}
+use Rattle.deck_driver.specs.RunStates.{events_of, opening}
 use Rattle.deck_driver.specs.Printouts.{closing, output_of_run_state}
 use Rattle.deck_run.specs.Laws.{jobs_in, rest_of_output}
 use Rattle.deck_run.proofs.Ordered.{events_both, in_two, output_with}
@@ -30,7 +30,8 @@ no_jobs_more asked = jobs_with asked
   where
     jobs_with : (asked : List Asked) → jobs_in (asked ++ Drains ∷ []) ≡ jobs_in asked
     jobs_with [] = refl
-    jobs_with (one ∷ asked) = ap (λ (n : ℕ). (one_counted one).jobs + n) (jobs_with asked)
+    jobs_with (Enters job ∷ asked) = ap (λ (n : ℕ). 1 + n) (jobs_with asked)
+    jobs_with (_ ∷ asked) = jobs_with asked
 
 module _ (card_by_card : CardByCard) (drain_empties : DrainEmpties) (accounts_stay : AccountsStay) (slots_stay : SlotsStay) where
   pub each_alone : EachAlone

@@ -12,7 +12,7 @@ use Rattle.mon_monitor.specs.Played.{Played, then_played, happened, played}
 use Rattle.mon_monitor.proofs.Parts.{and_played}
 use Rattle.mon_monitor.specs.Laws.{CardByCard, DrainEmpties, AccountsStay, SlotsStay}
 use Rattle.deck_syntax.specs.declared.deck_error.DeckError.TheVariants.{Truncated}
-use Rattle.deck_syntax.specs.Decks.{Deck, Asked, Drains, Stopped, Refused}
+use Rattle.deck_syntax.specs.Decks.{Deck, Asked, Enters, Drains, Stopped, Refused}
 use Rattle.deck_syntax.specs.Sections.{deck_of}
 use Rattle.deck_driver.specs.declared.options.Options.{Options}
 use Rattle.deck_driver.specs.RunStates.{events_of, opening, sets_after}
@@ -45,7 +45,8 @@ handed_both (one ∷ texts) text (this, are) is = (this, handed_both texts text 
 
 jobs_more : (xs ys : List Asked) → jobs_in (xs ++ ys) ≡ jobs_in xs + jobs_in ys
 jobs_more [] ys = omega arith
-jobs_more (one ∷ xs) ys = omega (arith, jobs_more xs ys)
+jobs_more (Enters job ∷ xs) ys = omega (arith, jobs_more xs ys)
+jobs_more (_ ∷ xs) ys = jobs_more xs ys
 
 module _ (slots : ℕ) (accounts : List Account) (m : Marks) (sets : Sets) where
   abbrev pub first : SystemState
