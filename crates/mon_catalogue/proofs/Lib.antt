@@ -3,6 +3,7 @@ pub mod Shorthand
 pub mod Steps
 pub mod Texts
 pub mod Putting
+pub mod Gathering
 pub mod AtOnce
 pub mod Readings
 pub mod Acls
@@ -21,5 +22,4 @@ pub mod Bytes
 pub mod Printable
 pub mod Back
 pub mod Examples
-pub mod LinesPrintable
 pub mod Standing

@@ -1,10 +1,10 @@
 //! Lines one behind the other.
-ghost use Rattle.std.specs.Prelude.{◌≡◌, ◌==◌, ◌<◌, ◌≤◌, [], ◌∷◌, ◌++◌, length, take, slice_get, slice_index_or, IfSome, OnOk, OnErr};
+ghost use Rattle.std.specs.Prelude.{◌≡◌, ◌==◌, ◌+◌, ◌<◌, ◌≤◌, [], ◌∷◌, ◌++◌, length, take, slice_get, slice_index_or, IfSome, OnOk, OnErr};
 ghost use Rattle.std.specs.List.{AllByRecursion, concat, flat_map};
 ghost use Rattle.std.specs.Option.{option_map};
 ghost use Rattle.mon_device.specs.Putting.{Puts};
 ghost use Rattle.mon_text.specs.Lines.{IsLine};
-ghost use Rattle.mon_catalogue.specs.inner.Packing.{start_of};
+ghost use Rattle.mon_catalogue.specs.inner.Packing.{printed, start_of, PutsBut};
 
 use mon_device::Sink;
 use std::alloc::{AllocError, Global};
@@ -16,25 +16,35 @@ pub const ROOM: usize = 1_024;
 // Where a line ends at the most, so that four bytes say it.
 const LAST_END: usize = u32::MAX as usize;
 
-/// Lines in order, one behind the other in one piece of memory: 4,294,967,295 characters at the most.
+// How many bytes are put at once where lines stand as they are printed: few enough to be gathered by whoever takes them.
+const PIECE: usize = 2_048;
+
+// How many bytes are gathered where something stands before each line.
+const GATHERED: usize = 4_096;
+
+// From how many lines on it is worth the room to gather them.
+const MANY: usize = 16;
+
+/// Lines in order, one behind the other in one piece of memory, each with the LF that it is printed with: 4,294,967,295 bytes at
+/// the most.
 ///
-/// A contract sees them as a list.
+/// A contract sees them as a list, without LF.
 #[derive(Drop)]
 pub struct PackedLines {
-    // The characters of all lines. From where any line begins there is room for one of `ROOM` characters.
+    // The characters of all lines, with LF behind each. From where any line begins there is room for one of `ROOM` characters.
     bytes: Vec<u8>,
-    // Where each line ends: at `LAST_END` at the most.
+    // Where each line ends, behind its LF: at `LAST_END` at the most.
     ends: Vec<u32>,
 }
 
 impl Model for PackedLines {
-    ghost use Rattle.std.specs.Prelude.{ℕ, List, ◌∷◌, length, map, min, slice_index_or, vec_capacity};
+    ghost use Rattle.std.specs.Prelude.{ℕ, ◌-◌, List, ◌∷◌, length, map, min, slice_index_or, vec_capacity};
     ghost use Rattle.std.specs.List.{range_with_len, slice_range};
     ghost use Rattle.mon_catalogue.specs.inner.Packing.{pieces, IsPacked};
 
     ghost Value = { List (List ℕ) };
 
-    ghost view = { λ l. map (λ i. slice_range l.bytes.items (slice_index_or (0 ∷ l.ends.items) i 0) (slice_index_or l.ends.items i 0)) (range_with_len 0 (length l.ends.items)) };
+    ghost view = { λ l. map (λ i. slice_range l.bytes.items (slice_index_or (0 ∷ l.ends.items) i 0) (slice_index_or l.ends.items i 0 - 1)) (range_with_len 0 (length l.ends.items)) };
 
     ghost invariant = { λ l. IsPacked (min (vec_capacity l.bytes) 4294967295) l.ends.items l.bytes.items (pieces l.ends.items l.bytes.items) };
 }
@@ -83,7 +93,7 @@ impl PackedLines {
         ensures printable { IsLine result.now }
     {
         let start = self.start(at);
-        let end = self.ends[at] as usize;
+        let end = self.ends[at] as usize - 1;
         &self.bytes[start..end]
     }
 
@@ -110,11 +120,36 @@ impl PackedLines {
     pub fn characters(&self) -> usize
         ensures { result ≡ length (concat self.now) }
     {
-        self.bytes.len()
+        self.bytes.len() - self.ends.len()
     }
 
     /// Puts the lines where they stand, each with these bytes before it and LF behind it. It takes no memory.
     pub fn print<S: Sink>(&self, before: &[u8], sink: &mut S)
+        ensures { Puts (S.standing sink.old) (S.standing sink.new) (flat_map (λ line. before.now ++ line ++ 10 ∷ []) self.now) }
+    {
+        if before.is_empty() {
+            self.print_whole(sink);
+        } else if self.len() < MANY {
+            self.print_each(before, sink);
+        } else {
+            self.print_gathered(before, sink);
+        }
+    }
+
+    // Puts the lines as they stand in memory.
+    fn print_whole<S: Sink>(&self, sink: &mut S)
+        ensures { Puts (S.standing sink.old) (S.standing sink.new) (printed self.now) }
+    {
+        let mut from = 0;
+        while from < self.bytes.len() {
+            let to = (from + PIECE).min(self.bytes.len());
+            sink.put(&self.bytes[from..to]);
+            from = to;
+        }
+    }
+
+    // Puts the lines one by one.
+    fn print_each<S: Sink>(&self, before: &[u8], sink: &mut S)
         ensures { Puts (S.standing sink.old) (S.standing sink.new) (flat_map (λ line. before.now ++ line ++ 10 ∷ []) self.now) }
     {
         for index in 0..self.len() {
@@ -122,24 +157,41 @@ impl PackedLines {
         }
     }
 
+    // The same, by as many lines at once as can be gathered. It stays a call of its own, since its room is cleared on entry.
+    #[inline(never)]
+    fn print_gathered<S: Sink>(&self, before: &[u8], sink: &mut S)
+        ensures { Puts (S.standing sink.old) (S.standing sink.new) (flat_map (λ line. before.now ++ line ++ 10 ∷ []) self.now) }
+    {
+        let mut room = [0; GATHERED];
+        let mut filled = 0;
+        let mut start = 0;
+        for end in &self.ends {
+            let end = *end as usize;
+            filled = put_behind(&mut room, filled, before, &self.bytes[start..end], sink);
+            start = end;
+        }
+        sink.put(&room[..filled]);
+    }
+
     /// Adds a line at the end.
     ///
     /// # Errors
     ///
-    /// Where a growth was refused, or the lines would have more than 4,294,967,295 characters, with a last one shorter than
-    /// `ROOM` counted as if it had so many; the lines are then unchanged.
+    /// Where a growth was refused, or the lines would have more than 4,294,967,295 bytes, with a last one shorter than `ROOM`
+    /// counted as if it had so many; the lines are then unchanged.
     pub fn push(&mut self, line: &[u8]) -> Result<(), AllocError>
         requires { IsLine line.now }
         ensures added { OnOk result (self.new ≡ self.old ++ line.now ∷ []) }
         ensures unchanged { OnErr result (self.new ≡ self.old) }
     {
-        let room = line.len().max(ROOM);
+        let room = line.len().max(ROOM) + 1;
         if self.bytes.len() + room > LAST_END {
             return Err(AllocError);
         }
         self.bytes.reserve(room)?;
         self.ends.reserve(1)?;
         self.bytes.extend_from_slice(line).unwrap();
+        self.bytes.push_reserved(b'\n');
         self.ends.push_reserved(self.bytes.len() as u32);
         Ok(())
     }
@@ -154,6 +206,7 @@ impl PackedLines {
         let start = self.start(at);
         self.bytes.truncate(start);
         self.bytes.extend_from_slice(line).unwrap();
+        self.bytes.push_reserved(b'\n');
         self.ends[at] = self.bytes.len() as u32;
         self.ends.truncate(at + 1);
     }
@@ -168,4 +221,61 @@ impl PackedLines {
             self.ends.truncate(at);
         }
     }
+}
+
+// Gathers one more line behind what is gathered, and puts what it had no room for: how much is gathered then.
+#[inline(always)]
+fn put_behind<S: Sink>(
+    room: &mut [u8; GATHERED],
+    filled: usize,
+    before: &[u8],
+    line: &[u8],
+    sink: &mut S,
+) -> usize
+    requires { filled ≤ GATHERED }
+    ensures within { result ≤ GATHERED }
+    ensures put { PutsBut (S.standing sink.old) (S.standing sink.new) (take result room.new) (take filled room.old ++ (before.now ++ line.now)) }
+{
+    let length = before.len() + line.len();
+    if length <= GATHERED - filled {
+        gather(room, filled, before, line);
+        return filled + length;
+    }
+    sink.put(&room[..filled]);
+    if length <= GATHERED {
+        gather(room, 0, before, line);
+        return length;
+    }
+    sink.put(before);
+    sink.put(line);
+    0
+}
+
+// Puts what stands before a line, and the line, into the room behind what it has.
+#[inline(always)]
+fn gather(room: &mut [u8; GATHERED], filled: usize, before: &[u8], line: &[u8])
+    requires { filled + (length before.now + length line.now) ≤ GATHERED }
+    ensures { take (filled + (length before.now + length line.now)) room.new ≡ take filled room.old ++ (before.now ++ line.now) }
+{
+    place_before(room, filled, before);
+    place(room, filled + before.len(), line);
+}
+
+// Puts what stands before a line into the room. Mostly it is one blank, which needs no call.
+fn place_before(room: &mut [u8; GATHERED], at: usize, before: &[u8])
+    requires { at + length before.now ≤ GATHERED }
+    ensures { take (at + length before.now) room.new ≡ take at room.old ++ before.now }
+{
+    match before {
+        [byte] => room[at] = *byte,
+        _ => place(room, at, before),
+    }
+}
+
+// Puts bytes into the room.
+fn place(room: &mut [u8; GATHERED], at: usize, bytes: &[u8])
+    requires { at + length bytes.now ≤ GATHERED }
+    ensures { take (at + length bytes.now) room.new ≡ take at room.old ++ bytes.now }
+{
+    room[at..at + bytes.len()].copy_from_slice(bytes);
 }

@@ -12,12 +12,12 @@ overflow_add-at c = grind (arith, counted _ _ _ _ c.self.invariant)
 
 pub invariant_of-self : goal.invariant_of-self
 invariant_of-self c =
-    let now = put_so _ (min (vec_capacity c.extend_from_slice.new.self) 4294967295) c.args.at _ _ c.args.line.now c.args.self.now c.truncate-2.new.self.items c.extend_from_slice.new.self.items
+    let now = put_so _ (min (vec_capacity c.push_reserved.new.self) 4294967295) c.args.at _ _ c.args.line.now c.args.self.now c.truncate-2.new.self.items c.push_reserved.new.self.items
     c.requires.within (known _ _ _ _ c.self.view_is c.self.invariant) c.requires.printable (grind arith) (grind arith) (grind arith) in
     standing _ _ _ _ now
 
 pub returns : goal.returns
 returns c =
-    let now = put_so _ (min (vec_capacity c.extend_from_slice.new.self) 4294967295) c.args.at _ _ c.args.line.now c.args.self.now c.truncate-2.new.self.items c.extend_from_slice.new.self.items
+    let now = put_so _ (min (vec_capacity c.push_reserved.new.self) 4294967295) c.args.at _ _ c.args.line.now c.args.self.now c.truncate-2.new.self.items c.push_reserved.new.self.items
     c.requires.within (known _ _ _ _ c.self.view_is c.self.invariant) c.requires.printable (grind arith) (grind arith) (grind arith) in
     seen _ _ _ _ now

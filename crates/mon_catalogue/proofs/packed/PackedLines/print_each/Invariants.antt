@@ -2,7 +2,7 @@
 use Rattle.std.proofs.Common.{[], ◌∷◌, ◌++◌, take}
 use Rattle.std.specs.List.{flat_map}
 use Rattle.mon_device.specs.Putting.{Puts}
-use Rattle.mon_catalogue.proofs.packed.PackedLines.print.Given as goal
+use Rattle.mon_catalogue.proofs.packed.PackedLines.print_each.Given as goal
 
 abbrev pub invariant-loop-index : goal.invariant-loop-index
 invariant-loop-index g l =

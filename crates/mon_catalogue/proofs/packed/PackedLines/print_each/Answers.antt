@@ -2,7 +2,7 @@
 use Rattle.std.proofs.Common.{ℕ, List, [], ◌∷◌, ◌++◌, get_or, ap, arith}
 use Rattle.std.proofs.lemmas.List.{get_or_default}
 use Rattle.mon_device.proofs.Putting.{puts_nothing, puts_same, puts_each, puts_all}
-use Rattle.mon_catalogue.proofs.packed.PackedLines.print.Goals as goal
+use Rattle.mon_catalogue.proofs.packed.PackedLines.print_each.Goals as goal
 
 pub loop-index-init : goal.loop-index-init
 loop-index-init g c = puts_nothing _
