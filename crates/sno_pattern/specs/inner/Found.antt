@@ -7,6 +7,4 @@ use Rattle.sno_pattern.specs.declared.host.Looked.TheVariants as looked
 
 -- how it goes on with what the host told: with what was found
 abbrev pub with_found : Told → ℕ → (Pattern → Trying) → Trying
-with_found (Found looked) n go = go (pattern_found looked)
-with_found (Faulty f) n go = ends (Fault f) n
-with_found told n go = ends Failure n
+with_found told n go = elim told [ Found looked ↦ go (pattern_found looked) | Faulty f ↦ ends (Fault f) n | other ↦ ends Failure n ]
