@@ -14,7 +14,8 @@ use Rattle.deck_syntax.specs.Refusing.{unless, line_refusal, is_dollar_line}
 use Rattle.deck_syntax.specs.Requests.{end_refusal, list_text_refusal, list_line_refusal, is_list_character, stream_refusal, request_on, set_acl_of, with_line}
 use Rattle.deck_syntax.specs.Jobs.{ends_job, after_job_line}
 use Rattle.deck_syntax.specs.declared.request.Request.{Request}
-use Rattle.deck_syntax.specs.Sections.{Closed, InList, InJob, refused_early, requested, asked_then, stream_section}
+use Rattle.mon_catalogue.specs.Progress.{Progress, step}
+use Rattle.deck_syntax.specs.Sections.{Closed, InList, InJob, refused_early, requested, asked_then, stream_section, catalogue_section, catalogue_refusal, ends_catalogue, sets_of}
 use Rattle.deck_driver.specs.declared.options.Options.{Options}
 use Rattle.deck_driver.specs.declared.section.Section.{Section}
 use Rattle.deck_driver.specs.declared.section.Section.TheVariants as section
@@ -131,3 +132,11 @@ pub line_asks : (n : ℕ) (line : List ℕ) (ls : List (List ℕ)) (r : Request)
 line_asks n line ls r good is =
     ap (λ refusal. goes_on refusal n (requested (request_on line) (λ pending. stream_section (n + 1) pending ls))) good
     ∙ ap (λ (q : Request). requested q (λ pending. stream_section (n + 1) pending ls)) (sym is)
+
+-- and of the catalogue
+pub catalogue_asks : (n : ℕ) (accounts : List Account) (p : Progress) (line : List ℕ) (ls : List (List ℕ)) → option_or (line_refusal 5000 line) (catalogue_refusal p line) ≡ None
+    → ends_catalogue p line ≡ false → catalogue_section n accounts p (line ∷ ls) ≡ catalogue_section (n + 1) accounts (step p line) ls
+catalogue_asks n accounts p line ls good ends =
+    let ended : Deck = record { accounts = accounts; catalogue = sets_of p; cards = stream_section (n + 1) Closed ls } in
+    let further = catalogue_section (n + 1) accounts (step p line) ls in
+    ap (λ r. deck_goes_on r n accounts (if ends_catalogue p line then ended else further)) good ∙ ap (λ (b : Bool). if b then ended else further) ends

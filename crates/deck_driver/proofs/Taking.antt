@@ -17,19 +17,21 @@ use Rattle.deck_syntax.specs.Decks.{Asked}
 use Rattle.deck_syntax.specs.declared.request.Request.{Request}
 use Rattle.deck_syntax.specs.Refusing.{line_refusal}
 use Rattle.deck_syntax.specs.Requests.{stream_refusal, request_on}
-use Rattle.deck_syntax.specs.Sections.{Closed, asked_then, stopped, requested, stream_section}
+use Rattle.mon_access.specs.declared.account.Account.{Account}
+use Rattle.mon_catalogue.specs.Progress.{Progress, step}
+use Rattle.deck_syntax.specs.Sections.{Closed, asked_then, stopped, requested, stream_section, catalogue_section, catalogue_refusal, ends_catalogue}
 use Rattle.deck_driver.specs.declared.options.Counts.{Counts}
 use Rattle.deck_driver.specs.declared.options.Options.{Options}
 use Rattle.deck_driver.specs.declared.section.Section.{Section}
 use Rattle.deck_driver.specs.declared.section.Section.TheVariants as section
 use Rattle.deck_driver.specs.declared.section.DeckState.{DeckState}
 use Rattle.deck_driver.specs.declared.section.DeckState.TheVariants as state
-use Rattle.deck_driver.specs.RunStates.{RunState, over, nothing_counted, both_counted}
+use Rattle.deck_driver.specs.RunStates.{RunState, over, opening, nothing_counted, both_counted}
 use Rattle.deck_driver.specs.Printouts.{answer_to}
 use Rattle.deck_driver.specs.Feeds.{run_state_from, outcome_of, outcome, behind, is_reading, Good}
 use Rattle.deck_driver.specs.Audits.{told_to, told_from}
 use Rattle.deck_driver.specs.inner.Lines.{TookLine, LineBreaks, Served, ServeBreaks, Stopping, StopBreaks, MovedOn, MoveBreaks, EndsSection, run_state_behind, outcome_behind, told_behind}
-use Rattle.deck_driver.proofs.Following.{line_asks}
+use Rattle.deck_driver.proofs.Following.{catalogue_asks, line_asks}
 use Rattle.std.specs.Option.{option_or}
 
 -- nothing happened
@@ -43,6 +45,14 @@ unmoved options s s' line out counts a same = record {
   tells = λ rest n ls. ap (told_to options.check counts.jobs rest) (sym (same n ls));
   audited = puts_nothing a;
 }
+
+-- one more line of a data set of the catalogue
+pub record_taken : (options : Options) (accounts : List Account) (p p' : Progress) (line out : List ℕ) (counts : Counts) (a : Standing)
+    → option_or (line_refusal 5000 line) (catalogue_refusal p line) ≡ None → ends_catalogue p line ≡ false → p' ≡ step p line
+    → TookLine options (state.Reading (section.Catalogue accounts p)) line out counts (state.Reading (section.Catalogue accounts p')) out counts a a
+record_taken options accounts p p' line out counts a good ends is =
+    unmoved options (section.Catalogue accounts p) (section.Catalogue accounts p') line out counts a
+    (λ n ls. ap (λ (q : Progress). opening options.slots.number (catalogue_section (n + 1) accounts q ls)) is ∙ sym (ap (opening options.slots.number) (catalogue_asks n accounts p line ls good ends)))
 
 -- nothing was told of a line
 pub line_tells_none : (options : Options) (s : DeckState) (line : List ℕ) (counts : Counts) (a : Standing) → LineBreaks options s line counts a a

@@ -19,7 +19,9 @@ pub use job::OpenJob;
 pub use job_deck::{JobDeck, UnitCard, UnitCards};
 pub use job_limits::JobLimits;
 pub use list::OpenList;
-pub use reading::{finish_catalogue, opens_accounts, put_account_line, put_catalogue_line};
+pub use reading::{
+    finish_catalogue, opens_accounts, put_account_line, put_catalogue_line, put_record_line,
+};
 pub use request::{Request, ends_list, read_request};
 pub use turn::Turn;
 pub use words::from_blank;

@@ -1,5 +1,5 @@
 //! Reading a deck up to its stream, line by line: what a line of each section adds.
-ghost use Rattle.std.specs.Prelude.{◌≡◌, ◌+◌, ◌<◌, ◌≤◌, ◌^◌, ◌⊎◌, [], ◌∷◌, ◌++◌, not, true, None, Some, IsSome, IsErrOf, drop, if◌then◌else◌, IfOk, IfErr, OnOk, OnErr};
+ghost use Rattle.std.specs.Prelude.{◌≡◌, ◌+◌, ◌<◌, ◌≤◌, ◌^◌, ◌⊎◌, [], ◌∷◌, ◌++◌, not, true, false, None, Some, IsSome, IsErrOf, drop, if◌then◌else◌, IfOk, IfErr, OnOk, OnErr};
 ghost use Rattle.std.specs.List.{list_all};
 ghost use Rattle.mon_text.specs.Names.{is_name};
 ghost use Rattle.mon_text.specs.Lines.{IsLine, is_blank_line, words};
@@ -168,6 +168,24 @@ pub fn put_account_line(
         add_account(alloc, accounts, &words)?;
     }
     Ok(None)
+}
+
+/// Takes a line of the catalogue where it is a record of a data set that is not whole by it, and there is memory for it: whether so
+/// it is. Otherwise nothing has changed. It stays a call of its own, since most lines of a catalogue are records, and those need no
+/// room for what else a line may bring.
+#[inline(never)]
+#[tactic(auto, using(crate::proofs::CatalogueLines::goes_on_within, crate::proofs::CatalogueLines::taken_within))]
+pub fn put_record_line(loading: &mut Loading, text: &[u8]) -> bool
+    requires { lines_taken loading.old < 2 ^ 63 }
+    ensures good { result ≡ true → option_or (line_refusal 5000 text.now) (catalogue_refusal loading.old text.now) ≡ None }
+    ensures step { result ≡ true → (ends_catalogue loading.old text.now ≡ false) × (loading.new ≡ step loading.old text.now) }
+    ensures unchanged { result ≡ false → loading.new ≡ loading.old }
+    ensures counted { lines_taken loading.new ≤ lines_taken loading.old + 1 }
+{
+    match check_line(text, MOST_CATALOGUE_LINE_CHARACTERS) {
+        Ok(()) => loading.take_record(text),
+        Err(_) => false,
+    }
 }
 
 /// Takes a line of the catalogue: whether it is `$STREAM`. Else it is the next line of the catalogue's text.

@@ -1,5 +1,5 @@
 //! Reading a catalogue's text.
-ghost use Rattle.std.specs.Prelude.{◌≡◌, ℕ, ◌<◌, ◌≤◌, ◌+◌, ◌-◌, ◌^◌, List, [], length, true, false, Some, Ok, Err, IfOk, OnOk, IsErrOf, IsTrue};
+ghost use Rattle.std.specs.Prelude.{◌≡◌, ℕ, ◌<◌, ◌≤◌, ◌+◌, ◌-◌, ◌^◌, List, [], length, true, false, Some, Ok, Err, IfOk, OnOk, OnErr, IsErrOf, IsTrue};
 ghost use Rattle.mon_text.specs.Lines.{IsLine, is_blank_line};
 ghost use Rattle.mon_text.specs.declared.stop.Stop.{Stop};
 ghost use Rattle.mon_acl.specs.Reading.{read_short};
@@ -139,6 +139,38 @@ impl Loading {
         answer
     }
 
+    /// Whether more than one record is due.
+    #[inline(always)]
+    pub fn awaits_records(&self) -> bool
+        ensures { result ≡ true → is_due self.now ≡ false }
+    {
+        match &self.stage {
+            Stage::RecordsDue(_, _, left) => *left > 1,
+            _ => false,
+        }
+    }
+
+    /// Takes the next line where it is a record of a set that is not whole by it, and there is memory for it: whether so it is.
+    /// Otherwise nothing has changed.
+    pub fn take_record(&mut self, line: &[u8]) -> bool
+        requires few { lines_taken self.old < 2 ^ 63 }
+        requires printable { IsLine line.now }
+        ensures step { result ≡ true → (is_due self.old ≡ false) × (self.new ≡ step self.old line.now) × (stopped self.new ≡ None) }
+        ensures unchanged { result ≡ false → self.new ≡ self.old }
+        ensures counted { lines_taken self.new ≤ lines_taken self.old + 1 }
+    {
+        match &mut self.stage {
+            Stage::RecordsDue(_, set, left) if *left > 1 => {
+                if push_record(set, left, self.lines_taken + 1, line).is_err() {
+                    return false;
+                }
+                self.lines_taken += 1;
+                true
+            }
+            _ => false,
+        }
+    }
+
     /// The catalogue that the lines spell.
     ///
     /// # Errors
@@ -204,6 +236,7 @@ fn push_record(
     requires room { length set.old.records + left.old ≤ MOST_RECORDS }
     requires printable { IsLine line.now }
     ensures pushed { Pushes number set.old left.old line.now set.new left.new result }
+    ensures unchanged { OnErr result ((set.new ≡ set.old) × (left.new ≡ left.old)) }
 {
     if line.len() > MOST_RECORD_CHARACTERS {
         return Err(Stop::Refused(CatalogueError::BadText(number)));

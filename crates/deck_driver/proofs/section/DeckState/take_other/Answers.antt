@@ -1,5 +1,5 @@
 use Rattle.deck_driver.proofs.Taking.{untaken, not_read, broke_behind}
-use Rattle.deck_driver.proofs.section.DeckState.take_line.Goals as goal
+use Rattle.deck_driver.proofs.section.DeckState.take_other.Goals as goal
 
 pub returns-in-Stopped-clause-told : goal.returns-in-Stopped-clause-told
 returns-in-Stopped-clause-told g c = untaken c.args.options c.args.self.now c.args.text.now c.args.out.now c.args.counts.now _ (not_read c.args.self.now c.in-Stopped.is)
