@@ -1,3 +1,7 @@
+use Rattle.std.proofs.Common.{sym, ◌∙◌}
+use Rattle.mon_acl.specs.Forms.{list_of_text}
+use Rattle.mon_guard.specs.Owning.{owner_denial}
+use Rattle.mon_guard.proofs.Refused.{leaves}
 use Rattle.mon_guard.proofs.guard.Guard.set_acl.Goals as goal
 
 pub returns-in-Err-clause-denied : goal.returns-in-Err-clause-denied
@@ -5,3 +9,14 @@ returns-in-Err-clause-denied c = λ reason. (
   (λ same. absurd (let no = same in cc)),
   (λ denied. absurd (let no = (c.in-Err.ensures.denied reason).1 denied in cc)),
 )
+
+pub returns-in-Ok-Denied-clause-denied : goal.returns-in-Ok-Denied-clause-denied
+returns-in-Ok-Denied-clause-denied c = λ reason. (
+  (λ same. (c.in-Ok-Denied.ensures.denied reason).0 (let is = same in cc)),
+  (λ denied. let is = (c.in-Ok-Denied.ensures.denied reason).1 denied in cc),
+)
+
+pub returns-in-Ok-BadList-clause-unchanged : goal.returns-in-Ok-BadList-clause-unchanged
+returns-in-Ok-BadList-clause-unchanged c =
+    c.in-Ok-BadList.ensures.sets
+    ∙ leaves (owner_denial c.args.account.now c.args.catalogue.now c.args.name.now) (list_of_text c.args.text.now) c.args.catalogue.now c.args.name.now c.in-Ok-BadList.error (sym c.in-Ok-BadList.ensures.answer ∙ c.in-Ok-BadList.field-0-is)
