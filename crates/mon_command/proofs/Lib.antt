@@ -3,3 +3,4 @@ mod Names
 mod Words
 mod Changed
 mod Shows
+pub mod Refused
