@@ -1,5 +1,5 @@
 -- Parts of what a line is refused for, and of what it gives, by names of their own: for the code and for proofs.
-use Rattle.std.specs.Prelude.{ℕ, ◌==◌, Bool, not, List, ◌∷◌, ◌++◌, length, drop, if◌then◌else◌, nat_lt, unwrap_or, Option, Some, None, is_some}
+use Rattle.std.specs.Prelude.{ℕ, ◌==◌, Bool, not, List, [], ◌∷◌, ◌++◌, length, drop, if◌then◌else◌, nat_lt, unwrap_or, Option, Some, None, is_some}
 use Rattle.mon_text.specs.Counts.{value_of}
 use Rattle.sno_cards.specs.declared.limits.Limits.{Limits}
 use Rattle.deck_syntax.specs.declared.job_deck.UnitCard.{UnitCard}
