@@ -1,0 +1,17 @@
+use Rattle.std.proofs.Common.{◌≡◌, ℕ, List, [], ◌∙◌, ap, sym, drop, Result}
+use Rattle.std.specs.Option.{option_map_or}
+use Rattle.std.specs.Result.{result_ok}
+use Rattle.sno_cards.specs.Programs.{ProgramText}
+use Rattle.sno_cards.specs.declared.refusal.SyntaxError.{SyntaxError}
+use Rattle.mon_unit.specs.Tying.{new_units}
+use Rattle.scheduler.specs.Loads.{with_ties}
+use Rattle.scheduler.proofs.loading.parts_of.Goals as goal
+
+pub returns-clause-units : goal.returns-clause-units
+returns-clause-units c =
+    let lines = c.args.lines.now in
+    c.in_ok-units.ensures
+    ∙ ap (λ (behind : List (List ℕ)). with_ties c.args.ties.now (new_units behind))
+        (c.in_ok-data.ensures
+        ∙ (λ k. drop (c.data_from.ensures k) (c.as_slice.ensures k))
+        ∙ sym (ap (λ (read : Result ProgramText SyntaxError). option_map_or (λ good. drop good.data_from lines) (result_ok read) []) c.in_ok-cards.ensures.cards))
