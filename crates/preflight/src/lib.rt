@@ -23,6 +23,7 @@ pub use access::put_access;
 pub use fault::Fault;
 pub use front::{Front, read_front};
 pub use limits::{HandedIn, Limit, Limits, within};
+pub use lines::{first_line, whole_lines};
 pub use question::{Form, Question};
 pub use report::{put_report, report_streams};
 pub use submission::{Submission, examine};

@@ -13,8 +13,8 @@ use std::alloc::{AllocError, Global};
 /// How many characters a line has at the most.
 const MOST_LINE_CHARACTERS: usize = 200;
 
-// The first line of a text, without its line end, and the bytes behind that.
-pub(crate) fn first_line(text: &[u8]) -> (&[u8], &[u8])
+/// The first line of a text, without its line end, and the bytes behind that.
+pub fn first_line(text: &[u8]) -> (&[u8], &[u8])
     requires { 0 < length text.now }
     ensures parts { lines text.now ≡ result.0.now ∷ lines result.1.now }
     ensures less { length result.1.now < length text.now }
@@ -39,8 +39,12 @@ fn without_carriage_return(line: &[u8]) -> &[u8]
     }
 }
 
-// The lines of a text, each ended by LF. It takes no more memory than the text has, and one byte.
-pub(crate) fn whole_lines(alloc: Global, text: &[u8]) -> Result<Vec<u8>, AllocError>
+/// The lines of a text, each ended by LF. It takes no more memory than the text has, and one byte.
+///
+/// # Errors
+///
+/// Where a growth was refused.
+pub fn whole_lines(alloc: Global, text: &[u8]) -> Result<Vec<u8>, AllocError>
     ensures { IfOk result (λ whole. whole.items ≡ text_of (lines text.now)) }
 {
     let mut whole = Vec::with_capacity(alloc, text.len() + 1)?;

@@ -1,4 +1,3 @@
-mod Firsts
 mod Walking
 mod Weighed
 mod Reaching

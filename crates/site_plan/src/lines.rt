@@ -1,37 +1,10 @@
-//! The lines of a text, and the words of a line.
-ghost use Rattle.std.specs.Prelude.{◌≡◌, ◌∷◌, ◌++◌, ◌<◌, length, map, replicate, IfOk, OnOk};
-ghost use Rattle.std.specs.Str.Lines.{lines, strip_carriage_return};
+//! The words of a line, and lines that say nothing.
+ghost use Rattle.std.specs.Prelude.{◌≡◌, ◌++◌, map, replicate, IfOk, OnOk};
 ghost use Rattle.mon_text.specs.Lines.{words, is_blank_line};
 ghost use Rattle.site_plan.specs.Walks.{is_remark, is_skipped, stop_at};
 
-use mon_text::{Stop, first_line_end};
+use mon_text::Stop;
 use std::alloc::{AllocError, Global};
-
-// The first line of a text, without its line end, and the bytes behind that.
-pub(crate) fn first_line(text: &[u8]) -> (&[u8], &[u8])
-    requires { 0 < length text.now }
-    ensures parts { lines text.now ≡ result.0.now ∷ lines result.1.now }
-    ensures less { length result.1.now < length text.now }
-{
-    match first_line_end(text) {
-        Some(end) => {
-            let line = without_carriage_return(&text[..end]);
-            (line, &text[end + 1..])
-        }
-        None => (text, &text[text.len()..]),
-    }
-}
-
-// A CR before the LF belongs to the line end.
-fn without_carriage_return(line: &[u8]) -> &[u8]
-    ensures { result.now ≡ strip_carriage_return line.now }
-{
-    if line.last() == Some(&b'\r') {
-        &line[..line.len() - 1]
-    } else {
-        line
-    }
-}
 
 // The words of a line: its pieces between blanks, without the empty ones.
 pub(crate) fn words_of(alloc: Global, line: &[u8]) -> Result<Vec<&[u8]>, AllocError>

@@ -3,9 +3,10 @@ ghost use Rattle.std.specs.Prelude.{◌≡◌, ◌++◌, ◌<◌, ◌≤◌, len
 ghost use Rattle.std.specs.Str.Lines.{lines};
 ghost use Rattle.site_plan.specs.Owning.{head_with, head_in, head_on, bytes_of, sets_from, sets_of, with_set, held_by, holdings_of};
 
-use crate::lines::{first_line, words_of};
+use crate::lines::words_of;
 use mon_access::Accounts;
 use mon_text::{Name, read_count, read_name};
+use preflight::first_line;
 use std::alloc::{AllocError, Global};
 
 /// What an account owns.

@@ -3,9 +3,10 @@ ghost use Rattle.std.specs.Prelude.{◌≡◌, ◌++◌, codes, decimal, IfOk, O
 ghost use Rattle.std.specs.List.{flat_map};
 ghost use Rattle.site_plan.specs.Plans.{word_of, numbers_of, front_text, entry_text, end_text, plan_text};
 
-use crate::lines::{first_line, words_of};
+use crate::lines::words_of;
 use crate::taken::Taken;
 use mon_text::{Stop, put_number, read_count};
+use preflight::first_line;
 use std::alloc::{AllocError, Global};
 
 /// What becomes of a text.

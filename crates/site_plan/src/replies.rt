@@ -5,13 +5,13 @@ ghost use Rattle.mon_text.specs.Characters.{is_printable, is_blank};
 ghost use Rattle.site_plan.specs.Terms.{limit_name};
 ghost use Rattle.site_plan.specs.Replies.{is_no_blank, is_unprintable, is_never_good, first_bad, first_word, behind_word, second_word, mark_of, shown, shown_line, mark_line, line_at, heading, refusal_text, reason_text, reply_text, put_off_text};
 
-use crate::lines::{first_line, put_times};
+use crate::lines::put_times;
 use crate::reason::Reason;
 use crate::terms::limit_name;
 use deck_syntax::DeckError;
 use itoa::Buffer;
 use mon_text::{Name, put_number};
-use preflight::{Limit, Refusal, Why};
+use preflight::{Limit, Refusal, Why, first_line};
 use std::alloc::{AllocError, Global};
 
 /// How many characters of a line are shown at the most.

@@ -5,10 +5,11 @@ ghost use Rattle.mon_text.specs.Stops.{Gives};
 ghost use Rattle.preflight.specs.Submissions.{IfStopped};
 ghost use Rattle.site_plan.specs.Tables.{after_line, table_of, ended_lines};
 
-use crate::lines::{first_line, stop_at};
+use crate::lines::stop_at;
 use deck_syntax::{DeckError, put_account_line};
 use mon_access::Accounts;
 use mon_text::Stop;
+use preflight::{first_line, whole_lines};
 use std::alloc::{AllocError, Global};
 
 /// Why a line of the account table is refused.
@@ -61,15 +62,7 @@ pub fn read_table(alloc: Global, text: &[u8]) -> Result<Accounts, Stop<(u64, Tab
 pub fn whole_table(alloc: Global, text: &[u8]) -> Result<Vec<u8>, AllocError>
     ensures { IfOk result (λ whole. whole.items ≡ ended_lines (lines text.now)) }
 {
-    let mut whole = Vec::new(alloc);
-    let mut rest = text;
-    'lines: while !rest.is_empty() {
-        let (line, behind) = first_line(rest);
-        whole.extend_from_slice(line)?;
-        whole.push(b'\n')?;
-        rest = behind;
-    }
-    Ok(whole)
+    whole_lines(alloc, text)
 }
 
 fn take_line(alloc: Global, accounts: &mut Accounts, line: &[u8]) -> Result<(), Stop<TableFault>>

@@ -5,9 +5,9 @@ ghost use Rattle.mon_text.specs.Stops.{Gives};
 ghost use Rattle.preflight.specs.Submissions.{IfStopped};
 ghost use Rattle.site_plan.specs.Terms.{limit_name, limit_on, number_on, term_on, is_same_limit, is_same, with_term, after_line, number_of, limits_of, terms_in, terms_of};
 
-use crate::lines::{first_line, is_skipped, stop_at, words_of};
+use crate::lines::{is_skipped, stop_at, words_of};
 use mon_text::{Stop, read_count};
-use preflight::{Limit, Limits};
+use preflight::{Limit, Limits, first_line};
 use std::alloc::Global;
 
 /// What a site's file of limits says.
