@@ -143,8 +143,8 @@ fn read_unit(words: &Words<'_>) -> Result<UnitCard, Stop<DeckError>>
 
 // ---- where a job is open
 
-// Whether a line is a card: it begins with a dollar sign, and not with two.
-fn is_job_card_line(text: &[u8]) -> bool
+/// Whether a line is a card where a job is open: it begins with a dollar sign, and not with two.
+pub fn is_job_card_line(text: &[u8]) -> bool
     ensures { result ≡ is_job_card_line text.now }
 {
     begins_with_dollar(text) && !begins_with_dollar(&text[1..])

@@ -15,7 +15,7 @@ pub mod turn;
 mod words;
 
 pub use deck_error::DeckError;
-pub use job::OpenJob;
+pub use job::{OpenJob, is_job_card_line};
 pub use job_deck::{JobDeck, UnitCard, UnitCards};
 pub use job_limits::JobLimits;
 pub use list::OpenList;
@@ -24,4 +24,4 @@ pub use reading::{
 };
 pub use request::{Request, ends_list, read_request};
 pub use turn::Turn;
-pub use words::from_blank;
+pub use words::{MOST_LINE_CHARACTERS, from_blank, line_refusal};

@@ -38,13 +38,24 @@ pub(crate) fn check_line(text: &[u8], limit: usize) -> Result<(), Stop<DeckError
     ensures printable { OnOk result (IsLine text.now) }
     ensures memory { IsErrOf result Stop.Memory → line_refusal limit text.now ≡ None }
 {
+    match line_refusal(text, limit) {
+        Some(code) => Err(Stop::Refused(code)),
+        None => Ok(()),
+    }
+}
+
+/// What is wrong with a line by its length and its characters, if anything is: it may have `limit` characters. It takes no memory.
+#[inline(always)]
+pub fn line_refusal(text: &[u8], limit: usize) -> Option<DeckError>
+    ensures { result ≡ line_refusal limit text.now }
+{
     if text.len() > limit {
-        return Err(Stop::Refused(DeckError::LineTooLong));
+        Some(DeckError::LineTooLong)
+    } else if !is_line(text) {
+        Some(DeckError::BadCharacter)
+    } else {
+        None
     }
-    if !is_line(text) {
-        return Err(Stop::Refused(DeckError::BadCharacter));
-    }
-    Ok(())
 }
 
 fn is_line(text: &[u8]) -> bool

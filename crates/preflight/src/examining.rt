@@ -12,11 +12,13 @@ ghost use Rattle.preflight.specs.Tallies.{creates, tally_of};
 ghost use Rattle.preflight.specs.declared.standing.Pending.TheVariants as held;
 ghost use Rattle.preflight.specs.inner.Standings.{HasRoom, IsLike, Leads, IsRefusedAt, LeadsTo, IsRefusedFrom, Follows, IsRefusedThere, refusal_at, ended};
 
-use crate::lines::{first_line, is_job_card_line, line_refusal};
+use crate::lines::first_line;
 use crate::standing::{Counts, Pending, Standing, begun, thinned};
 use crate::tally::Tally;
 use crate::why::{Refusal, Why};
-use deck_syntax::{OpenJob, Request, ends_list, read_request};
+use deck_syntax::{
+    MOST_LINE_CHARACTERS, OpenJob, Request, ends_list, is_job_card_line, line_refusal, read_request,
+};
 use mon_command::Command;
 use mon_text::{Name, Stop};
 use std::alloc::Global;
@@ -211,7 +213,7 @@ fn after_job_line(
     if is_job_card_line(line) {
         return after_job_card(alloc, kept, counts, line);
     }
-    match line_refusal(line) {
+    match line_refusal(line, MOST_LINE_CHARACTERS) {
         Some(code) => Err(Stop::Refused(Why::Line(code))),
         None => Ok(Standing {
             pending: Pending::InJob(begun(alloc, kept)?),

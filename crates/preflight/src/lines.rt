@@ -1,17 +1,10 @@
 //! The lines of a text, as the reader of decks takes them.
 ghost use Rattle.std.specs.Prelude.{◌≡◌, ◌∷◌, ◌<◌, length, IfOk};
 ghost use Rattle.std.specs.Str.Lines.{lines, strip_carriage_return};
-ghost use Rattle.mon_text.specs.Lines.{is_line};
 ghost use Rattle.mon_catalogue.specs.Text.{text_of};
-ghost use Rattle.deck_syntax.specs.Refusing.{line_refusal, is_dollar_line};
-ghost use Rattle.deck_syntax.specs.Jobs.{is_job_card_line};
 
-use deck_syntax::DeckError;
 use mon_text::first_line_end;
 use std::alloc::{AllocError, Global};
-
-/// How many characters a line has at the most.
-const MOST_LINE_CHARACTERS: usize = 200;
 
 /// The first line of a text, without its line end, and the bytes behind that.
 pub fn first_line(text: &[u8]) -> (&[u8], &[u8])
@@ -56,40 +49,4 @@ pub fn whole_lines(alloc: Global, text: &[u8]) -> Result<Vec<u8>, AllocError>
         rest = behind;
     }
     Ok(whole)
-}
-
-// What is wrong with a line by its length and its characters.
-pub(crate) fn line_refusal(line: &[u8]) -> Option<DeckError>
-    ensures { result ≡ line_refusal 200 line.now }
-{
-    if line.len() > MOST_LINE_CHARACTERS {
-        Some(DeckError::LineTooLong)
-    } else if !is_line(line) {
-        Some(DeckError::BadCharacter)
-    } else {
-        None
-    }
-}
-
-fn is_line(line: &[u8]) -> bool
-    ensures { result ≡ is_line line.now }
-{
-    let mut printable = true;
-    for byte in line {
-        printable &= (b' '..=b'~').contains(byte);
-    }
-    printable
-}
-
-// Whether a line is a card where a job is open: it begins with a dollar sign, and not with two.
-pub(crate) fn is_job_card_line(line: &[u8]) -> bool
-    ensures { result ≡ is_job_card_line line.now }
-{
-    begins_with_dollar(line) && !begins_with_dollar(&line[1..])
-}
-
-fn begins_with_dollar(line: &[u8]) -> bool
-    ensures { result ≡ is_dollar_line line.now }
-{
-    line.first() == Some(&b'$')
 }
