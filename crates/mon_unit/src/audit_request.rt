@@ -97,7 +97,8 @@ pub(crate) fn print_reason_word<S: Sink>(reason: &Reason, sink: &mut S)
     print_reason(reason.copy(), sink);
 }
 
-pub(crate) fn act_word(act: NoteAct) -> &'static [u8]
+/// The word for what was asked.
+pub fn act_word(act: NoteAct) -> &'static [u8]
     ensures { result.now ≡ act_word act }
 {
     match act {

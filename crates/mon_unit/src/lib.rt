@@ -25,7 +25,7 @@ pub mod units;
 pub mod words;
 
 pub use audit_command::print_command;
-pub use audit_request::{Asked, grant, place, print_request};
+pub use audit_request::{Asked, act_word, grant, place, print_request};
 pub use audit_run::{print_deck_refused, print_stopped};
 pub use audited_service::AuditedService;
 pub use kept::KeptLines;

@@ -8,7 +8,7 @@ ghost use Rattle.scheduler.specs.AuditLines.{refusal_words, loaded_line, refused
 use crate::job_end::JobEnd;
 use crate::printing::print_ending_words;
 use crate::refusal::{LoadError, print_syntax_words, print_unit_words};
-use crate::words::{print_number, print_word};
+use mon_command::{print_number, print_word};
 use mon_device::Sink;
 use mon_text::Name;
 use sno_run::Ending;

@@ -25,7 +25,6 @@ mod sharing;
 mod slot;
 pub mod slots;
 pub mod turned;
-mod words;
 
 pub use auditing::{print_loaded, print_refused};
 pub use deck_syntax::{JobDeck, JobLimits, UnitCard, UnitCards};

@@ -3,16 +3,14 @@ ghost use Rattle.std.specs.Prelude.{◌≡◌, ◌++◌, codes, length, take, On
 ghost use Rattle.std.specs.List.{flat_map};
 ghost use Rattle.mon_command.specs.Printouts.{word, number, stored_line};
 ghost use Rattle.mon_device.specs.Putting.{Puts};
-ghost use Rattle.mon_unit.specs.AuditRequests.{act_word};
 ghost use Rattle.scheduler.specs.Printouts.{job_line, target_words, exchange_words, note_words, note_line, statement_words, ending_words, ending_line, printout};
 
 use crate::job_end::JobEnd;
-use crate::words::{print_number, print_word};
 use mon_catalogue::PackedLines;
-use mon_command::print_reason;
+use mon_command::{print_number, print_reason, print_word};
 use mon_device::{Sink, TextSink};
 use mon_text::Name;
-use mon_unit::{Note, NoteAct, NoteTarget, Why};
+use mon_unit::{Note, NoteTarget, Why, act_word};
 use sno_run::Ending;
 use std::alloc::AllocError;
 
@@ -110,17 +108,6 @@ fn print_exchange<S: Sink>(note: &Note, sink: &mut S)
     print_number(note.statement, sink);
     print_word(act_word(note.act), sink);
     print_target(&note.target, sink);
-}
-
-fn act_word(act: NoteAct) -> &'static [u8]
-    ensures { result.now ≡ act_word act }
-{
-    match act {
-        NoteAct::Read => b"READ",
-        NoteAct::Write => b"WRITE",
-        NoteAct::Endfile => b"ENDFILE",
-        NoteAct::Rewind => b"REWIND",
-    }
 }
 
 fn print_target<S: Sink>(target: &NoteTarget, sink: &mut S)

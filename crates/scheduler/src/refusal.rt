@@ -4,7 +4,7 @@ ghost use Rattle.mon_device.specs.Putting.{Puts};
 ghost use Rattle.scheduler.specs.Printouts.{unit_refusal, syntax_words, refused_words, refusal_text};
 
 use crate::printing::print_job_line;
-use crate::words::print_number;
+use mon_command::print_number;
 use mon_device::{Sink, TextSink};
 use mon_text::Name;
 use mon_unit::UnitError;
