@@ -1,13 +1,13 @@
 //! The printout of a command that lists records, put to a sink from where they stand. Nothing here takes memory.
-ghost use Rattle.std.specs.Prelude.{decimal, codes};
+ghost use Rattle.std.specs.Prelude.{codes};
 ghost use Rattle.mon_device.specs.Putting.{Puts};
 ghost use Rattle.mon_command.specs.Printouts.{word, count_line, records_text};
 ghost use Rattle.mon_command.specs.Commands.{card_line};
 ghost use Rattle.mon_catalogue.specs.Sets.{find_set};
 ghost use Rattle.mon_monitor.specs.Printed.{listing, records_of};
 
-use itoa::Buffer;
 use mon_catalogue::{Catalogue, Records};
+use mon_command::print_number;
 use mon_device::Sink;
 use mon_text::Name;
 
@@ -54,13 +54,7 @@ fn print_records<S: Sink>(records: &Records, sink: &mut S)
 fn print_count<S: Sink>(count: u64, sink: &mut S)
     ensures { Puts (S.standing sink.old) (S.standing sink.new) (count_line (codes "RECORDS") count) }
 {
-    sink.put(b"RECORDS ");
+    sink.put(b"RECORDS");
     print_number(count, sink);
     sink.put(b"\n");
-}
-
-fn print_number<S: Sink>(number: u64, sink: &mut S)
-    ensures { Puts (S.standing sink.old) (S.standing sink.new) (decimal number) }
-{
-    sink.put(Buffer::new().format(number).as_bytes());
 }
