@@ -15,11 +15,11 @@ use Rattle.deck_syntax.specs.declared.job_deck.UnitCard.{UnitCard}
 use Rattle.deck_syntax.specs.declared.job_deck.JobDeck.{JobDeck}
 use Rattle.scheduler.specs.declared.refusal.LoadError.{LoadError}
 use Rattle.scheduler.specs.declared.refusal.LoadError.TheVariants.{NoAccount, Cards, Syntax}
-use Rattle.scheduler.specs.Loads.{first_units, ties_refusal, program_refusal, missing, deck_refusal}
+use Rattle.scheduler.specs.Loads.{first_units, ties_refusal, refused_by, program_refusal, missing, deck_refusal}
 use Rattle.scheduler.proofs.Shorthand.{data_of}
-use Rattle.scheduler.specs.inner.Carding.{refused_by, cards_refused as first_tie_refused}
+use Rattle.scheduler.specs.inner.Carding.{cards_refused as first_tie_refused}
 use Rattle.deck_lint.specs.Refused.{listed, first_of, tied_after, tie_listed, ties_refused, syntax_listed, statements_refused, end_refused, cards_refused, program_refused, deck_refused}
-use Rattle.deck_lint.proofs.Tying.{all_by}
+use Rattle.scheduler.proofs.Carding.{all_by}
 
 -- LISTS
 

@@ -16,8 +16,7 @@ use Rattle.deck_syntax.specs.declared.job_deck.UnitCard.{UnitCard}
 use Rattle.deck_syntax.specs.declared.job_deck.JobDeck.{JobDeck}
 use Rattle.scheduler.specs.declared.refusal.LoadError.{LoadError}
 use Rattle.scheduler.specs.declared.refusal.LoadError.TheVariants.{NoAccount, Cards, Syntax}
-use Rattle.scheduler.specs.Loads.{missing}
-use Rattle.scheduler.specs.inner.Carding.{refused_by}
+use Rattle.scheduler.specs.Loads.{missing, refused_by}
 
 -- what there is, as a list
 abbrev pub listed : Option LoadError → List LoadError

@@ -1,25 +1,10 @@
 //! Why unit cards are refused: each by itself.
-ghost use Rattle.std.specs.Prelude.{◌≡◌, ◌++◌, ◌<◌, None, false, replicate, OnOk};
-ghost use Rattle.scheduler.specs.inner.Carding.{refused_by};
+ghost use Rattle.std.specs.Prelude.{◌≡◌, ◌++◌, false, replicate, OnOk};
+ghost use Rattle.scheduler.specs.Loads.{refused_by};
 ghost use Rattle.deck_lint.specs.Refused.{tie_listed, tied_after, ties_refused};
 
-use mon_unit::UnitError;
-use scheduler::{LoadError, UnitCard};
+use scheduler::{LoadError, UnitCard, tie_refused};
 use std::alloc::AllocError;
-
-// Why a unit can't be tied, if it can't, by which are tied already.
-fn tie_refused(tied: &[bool; 100], unit: u64) -> Option<UnitError>
-    ensures refusal { result ≡ refused_by unit tied.now }
-    ensures within { result ≡ None → unit < 100 }
-{
-    if unit == 0 || unit > 99 {
-        return Some(UnitError::UnitRange(unit));
-    }
-    if tied[unit as usize] {
-        return Some(UnitError::UnitTwice(unit));
-    }
-    None
-}
 
 // One card more: why it is refused; or its unit is tied.
 fn put_tie(unit: u64, tied: &mut [bool; 100], found: &mut Vec<LoadError>) -> Result<(), AllocError>

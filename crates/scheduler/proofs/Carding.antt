@@ -10,8 +10,8 @@ use Rattle.mon_unit.specs.declared.units.UnitError.TheVariants.{UnitRange, UnitT
 use Rattle.mon_unit.specs.State.{UnitState}
 use Rattle.mon_unit.specs.Tying.{new_units, is_a_set, tied_to, tie_refusal}
 use Rattle.deck_syntax.specs.declared.job_deck.UnitCard.{UnitCard}
-use Rattle.scheduler.specs.Loads.{tied_by, ties_refusal}
-use Rattle.scheduler.specs.inner.Carding.{refused_by, cards_refused}
+use Rattle.scheduler.specs.Loads.{tied_by, ties_refusal, refused_by}
+use Rattle.scheduler.specs.inner.Carding.{cards_refused}
 use Rattle.scheduler.proofs.Seats.{map_set}
 use Rattle.mon_unit.proofs.Shorthand.{or_untied}
 
@@ -37,7 +37,7 @@ cards_by (card ∷ cards) units =
 none_tied : (lines : List (List ℕ)) → map is_tied (new_units lines).ties ≡ replicate 100 false
 none_tied lines = refl
 
-all_by : (cards : List UnitCard) (lines : List (List ℕ)) → ties_refusal cards (new_units lines) ≡ cards_refused cards (replicate 100 false)
+pub all_by : (cards : List UnitCard) (lines : List (List ℕ)) → ties_refusal cards (new_units lines) ≡ cards_refused cards (replicate 100 false)
 all_by cards lines = cards_by cards (new_units lines) ∙ ap (cards_refused cards) (none_tied lines)
 
 -- where this card is refused, behind cards that are not

@@ -12,5 +12,5 @@ pub mod Alone
 pub mod Loads
 mod Shared
 mod Apart
-mod Carding
+pub mod Carding
 mod Examples

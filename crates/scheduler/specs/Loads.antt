@@ -1,5 +1,5 @@
 -- What loading a job does (own).
-use Rattle.std.specs.Prelude.{ℕ, List, [], ◌∷◌, drop, Option, Some, None, option_map, Result, Ok, Err, option_and_then}
+use Rattle.std.specs.Prelude.{ℕ, nat_lt, Bool, false, ◌==◌, ◌||◌, List, [], ◌∷◌, drop, Option, Some, None, option_map, Result, Ok, Err, option_and_then, if◌then◌else◌, slice_index_or}
 use Rattle.std.specs.Option.{option_or, option_map_or}
 use Rattle.std.specs.List.{fold}
 use Rattle.std.specs.Result.{result_ok}
@@ -14,6 +14,7 @@ use Rattle.mon_access.specs.declared.account.Account.{Account}
 use Rattle.mon_access.specs.Accounts.{find_account}
 use Rattle.mon_unit.specs.declared.tie.Target.TheVariants.{Set}
 use Rattle.mon_unit.specs.declared.units.UnitError.{UnitError}
+use Rattle.mon_unit.specs.declared.units.UnitError.TheVariants.{UnitRange, UnitTwice}
 use Rattle.mon_unit.specs.State.{UnitState}
 use Rattle.mon_unit.specs.Tying.{new_units, tie_refusal, tied_to, with_tie}
 use Rattle.deck_syntax.specs.declared.job_deck.UnitCard.{UnitCard}
@@ -38,6 +39,10 @@ with_ties cards units = fold (λ tied card. tied_by card tied) units cards
 abbrev pub ties_refusal : List UnitCard → UnitState → Option UnitError
 ties_refusal [] units = None
 ties_refusal (card ∷ cards) units = option_or (tie_refusal card.unit units) (ties_refusal cards (tied_by card units))
+
+-- one card, told by which units are tied already
+abbrev pub refused_by : ℕ → List Bool → Option UnitError
+refused_by u tied = if (u == 0) || nat_lt 99 u then Some (UnitRange u) else if slice_index_or tied u false then Some (UnitTwice u) else None
 
 -- THE PROGRAM
 

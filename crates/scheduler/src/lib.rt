@@ -30,6 +30,7 @@ pub use auditing::{print_loaded, print_refused};
 pub use deck_syntax::{JobDeck, JobLimits, UnitCard, UnitCards};
 pub use holder::Holder;
 pub use job_end::JobEnd;
+pub use loading::tie_refused;
 pub use printing::{print_end, put_printout};
 pub use refusal::{LoadError, print_refusal, put_refusal};
 pub use slots::Slots;

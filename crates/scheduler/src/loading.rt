@@ -1,5 +1,5 @@
 //! From a job's deck to what its slot holds.
-ghost use Rattle.std.specs.Prelude.{◌≡◌, ◌<◌, ℕ, List, drop, length, option_map, Some, None, Ok, IfOk, IfErr, IsOk, IsErrOf, OnOk};
+ghost use Rattle.std.specs.Prelude.{◌≡◌, ◌<◌, ℕ, List, drop, option_map, Some, None, Ok, IfOk, IfErr, IsOk, IsErrOf, OnOk};
 ghost use Rattle.mon_access.specs.Accounts.{find_account};
 ghost use Rattle.sno_cards.specs.Answers.{IfRefused};
 ghost use Rattle.sno_cards.specs.Statements.{statements_of};
@@ -7,11 +7,10 @@ ghost use Rattle.sno_syntax.specs.Refusals.{syntax_refusal};
 ghost use Rattle.sno_syntax.specs.Programs.{program_of, IsProgram};
 ghost use Rattle.mon_unit.specs.Tying.{new_units};
 ghost use Rattle.scheduler.specs.Abstraction.{slot_of};
-ghost use Rattle.scheduler.specs.Loads.{first_units, with_ties, ties_refusal, program_refusal, program_in, deck_refusal, slot_in};
+ghost use Rattle.scheduler.specs.Loads.{first_units, with_ties, ties_refusal, refused_by, program_refusal, program_in, deck_refusal, slot_in};
 ghost use Rattle.scheduler.specs.inner.Parts.{slot_by};
 ghost use Rattle.scheduler.specs.Memory.{DeckMayGrow};
 ghost use Rattle.scheduler.specs.inner.Spelling.{IsSpelled};
-ghost use Rattle.scheduler.specs.inner.Carding.{refused_by};
 
 use crate::refusal::LoadError;
 use crate::slot::Slot;
@@ -24,9 +23,8 @@ use sno_syntax::{Program, ProgramCards, parse, statements};
 use sno_text::Seed;
 use std::alloc::{AllocError, Global};
 
-// Why a unit can't be tied, if it can't, by which are tied already.
-fn tie_refused(tied: &[bool], unit: u64) -> Option<UnitError>
-    requires { length tied.now ≡ 100 }
+/// Why a unit can't be tied, if it can't, by which are tied already.
+pub fn tie_refused(tied: &[bool; 100], unit: u64) -> Option<UnitError>
     ensures refusal { result ≡ refused_by unit tied.now }
     ensures within { result ≡ None → unit < 100 }
 {
