@@ -3,7 +3,7 @@ ghost use Rattle.std.specs.Prelude.{◌≡◌, IfSome};
 ghost use Rattle.preflight.specs.Reports.{ReportedTo, status_of};
 
 use crate::options::{Asked, no_text, read_asked};
-use crate::streams::{ReviewFault, review_streams};
+use crate::streams::review_streams;
 use clap::Error;
 use clap::error::ErrorKind;
 use deck_lint::Tally;
@@ -62,21 +62,13 @@ pub fn run_listing<R: Read, W: Write, E: Write>(
 ) -> u8 {
     match review_streams(alloc, quiet, input, output) {
         Ok(tally) => status_of_listing(tally),
-        Err(fault) => tell(alloc, fault_of_listing(fault), errors),
+        Err(fault) => tell(alloc, fault, errors),
     }
 }
 
 // Warnings alone are no mistakes.
 fn status_of_listing(tally: Tally) -> u8 {
     if tally.mistakes > 0 { HAS_MISTAKES } else { 0 }
-}
-
-fn fault_of_listing(fault: ReviewFault) -> Fault {
-    match fault {
-        ReviewFault::Read => Fault::ReadFault,
-        ReviewFault::Write => Fault::WriteFault,
-        ReviewFault::Memory => Fault::Memory,
-    }
 }
 
 // Tells a fault, as far as that can be done, and gives its status.

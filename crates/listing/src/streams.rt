@@ -2,36 +2,13 @@
 
 use crate::review::Review;
 use deck_lint::Tally;
+use mon_device::streams::MOST_ATTEMPTS;
+use preflight::Fault;
 use std::alloc::{AllocError, Global};
 use std::io::{ErrorKind, Read, Write};
 
-/// How often a read that a signal interrupts is tried.
-const MOST_ATTEMPTS: u64 = 4_294_967_295;
-
 /// How many bytes are read at once.
 const PIECE: usize = 65_536;
-
-/// Why a review was not made, or not all of it.
-#[derive(Clone, Copy)]
-pub enum ReviewFault {
-    /// The reader failed.
-    Read,
-    /// The writer failed.
-    Write,
-    /// A growth was refused.
-    Memory,
-}
-
-impl From<AllocError> for ReviewFault {
-    ghost use Rattle.std.specs.Prelude.{◌≡◌};
-    ghost use Rattle.listing.specs.declared.streams.ReviewFault.TheVariants.{Memory};
-
-    ghost from_gives = { λ _ fault. fault ≡ Memory };
-
-    fn from(_: AllocError) -> ReviewFault {
-        ReviewFault::Memory
-    }
-}
 
 /// Reviews the deck that comes from one stream, and writes to another what is told of it: how much was found.
 ///
@@ -43,7 +20,7 @@ pub fn review_streams<R: Read, W: Write>(
     quiet: bool,
     input: &mut R,
     output: &mut W,
-) -> Result<Tally, ReviewFault> {
+) -> Result<Tally, Fault> {
     let mut review = Review::new(alloc, quiet);
     let mut buffer = buffer_of(alloc)?;
     let mut out = Vec::new(alloc);
@@ -66,15 +43,15 @@ fn buffer_of(alloc: Global) -> Result<Vec<u8>, AllocError> {
 }
 
 // Reads some bytes: how many; none at the end.
-fn read_piece<R: Read>(input: &mut R, buffer: &mut [u8]) -> Result<usize, ReviewFault> {
+fn read_piece<R: Read>(input: &mut R, buffer: &mut [u8]) -> Result<usize, Fault> {
     for _ in 0..MOST_ATTEMPTS {
         match input.read(buffer) {
             Ok(count) => return Ok(count),
             Err(error) if error.kind() == ErrorKind::Interrupted => {}
-            Err(_) => return Err(ReviewFault::Read),
+            Err(_) => return Err(Fault::ReadFault),
         }
     }
-    Err(ReviewFault::Read)
+    Err(Fault::ReadFault)
 }
 
 fn feed_piece(
@@ -91,12 +68,12 @@ fn feed_piece(
 }
 
 // Writes what was gathered, and gathers anew.
-fn write_out<W: Write>(output: &mut W, out: &mut Vec<u8>) -> Result<(), ReviewFault> {
+fn write_out<W: Write>(output: &mut W, out: &mut Vec<u8>) -> Result<(), Fault> {
     match output.write_all(out.as_slice()) {
         Ok(()) => {
             out.clear();
             Ok(())
         }
-        Err(_) => Err(ReviewFault::Write),
+        Err(_) => Err(Fault::WriteFault),
     }
 }
