@@ -2,20 +2,12 @@
 
 use crate::stage::{Due, SetHead, Sets, Stage};
 use deck_lint::{Reporter, first_card, is_line_code, words_of};
-use deck_syntax::{DeckError, put_catalogue_line};
+use deck_syntax::reading::MOST_CATALOGUE_LINE_CHARACTERS;
+use deck_syntax::{DeckError, line_refusal, put_catalogue_line};
 use mon_acl::Acl;
-use mon_catalogue::{Loading, Version};
-use mon_text::{LineError, Name, Stop, put_number, read_count, read_line, read_name};
+use mon_catalogue::{Loading, MOST_RECORD_CHARACTERS, MOST_SETS, Version};
+use mon_text::{Name, Stop, put_number, read_count, read_name};
 use std::alloc::{AllocError, Global};
-
-/// How many characters a line of the catalogue has at the most.
-const MOST_CHARACTERS: usize = 5_000;
-
-/// How many characters a record has at the most.
-const MOST_RECORD_CHARACTERS: usize = 1_024;
-
-/// How many data sets there are at the most.
-const MOST_SETS: usize = 1_000;
 
 /// The catalogue's beginning.
 pub(crate) fn opened(version: Version) -> Sets {
@@ -97,7 +89,7 @@ fn after_due_line(
             Ok((staying(version, Due::List, Some(head)), true))
         }
         Err(Stop::Refused(code)) => {
-            desk.refuse(alloc, code, text, MOST_CHARACTERS as u64, out)?;
+            refuse(desk, alloc, code, text, out)?;
             put_behind(code, &last, out)?;
             Ok((staying(version, Due::Card, last), is_line_code(code)))
         }
@@ -147,7 +139,7 @@ fn note_set(
         return Ok(());
     };
     match set_refusal(desk, name) {
-        Some(code) => desk.refuse(alloc, code, text, MOST_CHARACTERS as u64, out),
+        Some(code) => refuse(desk, alloc, code, text, out),
         None => {
             desk.sets.push(name.copy())?;
             Ok(())
@@ -173,11 +165,8 @@ fn tell_list_line(
     text: &[u8],
     out: &mut Vec<u8>,
 ) -> Result<(), AllocError> {
-    match line_refusal(alloc, text)? {
-        Some(code) => {
-            desk.refuse(alloc, code, text, MOST_CHARACTERS as u64, out)?;
-            put_within(last, out)
-        }
+    match line_refusal(text, MOST_CATALOGUE_LINE_CHARACTERS) {
+        Some(code) => refuse_within(desk, alloc, last, code, text, out),
         None => tell_list(desk, alloc, last, text, out),
     }
 }
@@ -200,16 +189,6 @@ fn tell_list(
     }
 }
 
-// Why a line of the catalogue is none.
-fn line_refusal(alloc: Global, text: &[u8]) -> Result<Option<DeckError>, AllocError> {
-    match read_line(alloc, text, MOST_CHARACTERS) {
-        Ok(_line) => Ok(None),
-        Err(Stop::Refused(LineError::LineTooLong)) => Ok(Some(DeckError::LineTooLong)),
-        Err(Stop::Refused(LineError::BadCharacter)) => Ok(Some(DeckError::BadCharacter)),
-        Err(Stop::Memory) => Err(AllocError),
-    }
-}
-
 // Tells what is wrong with a record, if anything is.
 fn tell_record(
     desk: &mut Reporter,
@@ -218,20 +197,41 @@ fn tell_record(
     text: &[u8],
     out: &mut Vec<u8>,
 ) -> Result<(), AllocError> {
-    match record_refusal(alloc, text)? {
+    match record_refusal(text) {
+        Some(code) => refuse_within(desk, alloc, last, code, text, out),
         None => Ok(()),
-        Some(code) => {
-            desk.refuse(alloc, code, text, MOST_CHARACTERS as u64, out)?;
-            put_within(last, out)
-        }
     }
 }
 
-fn record_refusal(alloc: Global, text: &[u8]) -> Result<Option<DeckError>, AllocError> {
-    match line_refusal(alloc, text)? {
-        None if text.len() > MOST_RECORD_CHARACTERS => Ok(Some(DeckError::BadText)),
-        refusal => Ok(refusal),
+fn record_refusal(text: &[u8]) -> Option<DeckError> {
+    match line_refusal(text, MOST_CATALOGUE_LINE_CHARACTERS) {
+        None if text.len() > MOST_RECORD_CHARACTERS => Some(DeckError::BadText),
+        refusal => refusal,
     }
+}
+
+// Tells why a line within a data set is refused.
+fn refuse_within(
+    desk: &mut Reporter,
+    alloc: Global,
+    last: &Option<SetHead>,
+    code: DeckError,
+    text: &[u8],
+    out: &mut Vec<u8>,
+) -> Result<(), AllocError> {
+    refuse(desk, alloc, code, text, out)?;
+    put_within(last, out)
+}
+
+fn refuse(
+    desk: &mut Reporter,
+    alloc: Global,
+    code: DeckError,
+    text: &[u8],
+    out: &mut Vec<u8>,
+) -> Result<(), AllocError> {
+    let most = MOST_CATALOGUE_LINE_CHARACTERS as u64;
+    desk.refuse(alloc, code, text, most, out)
 }
 
 /// Appends which data set is not whole, if one is.
