@@ -16,3 +16,4 @@ mod Mapping
 mod Joined
 mod Handed
 mod Pieces
+mod Damage

@@ -1,6 +1,6 @@
 -- A round without a text in whose part memory ran out (own). The text and its card are left out of the deck. In the plan it stands among
 -- the texts that do not run, by its number, and so does in the replies what its user is told.
-use Rattle.std.specs.Prelude.{◌≡◌, ℕ, ◌+◌, ◌-◌, Bool, true, false, not, ◌&&◌, nat_lt, List, [], ◌++◌, length, take, slice_index_or, if◌then◌else◌}
+use Rattle.std.specs.Prelude.{◌≡◌, ℕ, ◌+◌, ◌-◌, ◌<◌, ◌≤◌, ◌⊎◌, Bool, true, false, not, ◌&&◌, nat_lt, List, [], ◌++◌, length, take, slice_index_or, if◌then◌else◌}
 use Rattle.std.specs.List.{sum_by, between, insert, insert_slice, remove, remove_range, position_or_len}
 use Rattle.site_plan.specs.declared.plan.Entry.{Entry}
 use Rattle.site_plan.specs.declared.plan.Plan.{Plan}
@@ -76,3 +76,11 @@ pub record IsPutAmong (plan : Plan) (place : ℕ) (replies text : List ℕ) (aft
   pub replies_are : (let others = remove plan.entries.items place in told ≡ insert_slice replies (told_before late.taken.id others) (kept_of late text))
   pub head_is : after.head ≡ plan.head
   pub next_is : after.next ≡ plan.next
+
+-- the replies end before the place of this text
+abbrev pub EndBefore : Plan → ℕ → List ℕ → Type 0
+EndBefore plan text replies = (late : Entry) × (late ≡ slice_index_or plan.entries.items text late) × (length replies < told_before late.taken.id (remove plan.entries.items text))
+
+-- what is not as the plan says: there is no such text, the deck ends before it does, or the replies before its place
+abbrev pub IsDamaged : Plan → ℕ → List ℕ → List ℕ → Type 0
+IsDamaged plan text deck replies = (length plan.entries.items ≤ text) ⊎ ((length deck < bytes_before plan (text + 1)) ⊎ EndBefore plan text replies)

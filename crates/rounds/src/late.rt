@@ -1,8 +1,9 @@
 //! A text in whose part memory ran out is taken out of its round: it is put off, or refused where it was run alone.
-ghost use Rattle.std.specs.Prelude.{◌≡◌, ◌≤◌, ◌<◌, ◌+◌, ◌-◌, ◌^◌, ◌++◌, true, false, [], length, IfOk, OnOk};
+ghost use Rattle.std.specs.Prelude.{◌≡◌, ◌≤◌, ◌<◌, ◌+◌, ◌-◌, ◌^◌, ◌⊎◌, ◌++◌, true, false, [], length, IfOk, OnOk, IfErr, OnErr};
 ghost use Rattle.std.specs.List.{sum_by, between, insert, insert_slice, remove_range};
+ghost use Rattle.mon_text.specs.declared.stop.Stop.TheVariants as stops;
 ghost use Rattle.preflight.specs.Allowances.{told64};
-ghost use Rattle.rounds.specs.Late.{deck_bytes, bytes_before, deck_without, text_at, reply_bytes, does_run, is_behind, place_among, as_late, kept_of, IsPutAmong};
+ghost use Rattle.rounds.specs.Late.{deck_bytes, bytes_before, deck_without, text_at, reply_bytes, does_run, is_behind, place_among, as_late, kept_of, IsPutAmong, IsDamaged, EndBefore};
 
 use crate::damaged::Damaged;
 use crate::planning::Planned;
@@ -18,10 +19,11 @@ const FENCE_LENGTH: usize = 7;
 ///
 /// # Errors
 ///
-/// `Damaged` where there is no such text; `Memory` where a growth was refused.
+/// `Damaged` only where there is no such text, or deck or replies are shorter than the plan says; `Memory` where a growth was refused.
 pub fn without_text(alloc: Global, planned: Planned, text: usize) -> Result<Planned, Stop<Damaged>>
     ensures deck { IfOk result (λ rest. rest.deck.items ≡ deck_without planned.plan text planned.deck.items) }
     ensures put_among { IfOk result (λ rest. IsPutAmong planned.plan text planned.replies.items (text_at planned.plan text planned.deck.items) rest.plan rest.replies.items) }
+    ensures damaged { IfErr result (λ stop. (stop ≡ stops.Memory) ⊎ IsDamaged planned.plan text planned.deck.items planned.replies.items) }
 {
     let Planned {
         plan,
@@ -39,12 +41,13 @@ pub fn without_text(alloc: Global, planned: Planned, text: usize) -> Result<Plan
 }
 
 // Where the text of this place begins in the deck, and where its fence ends.
-fn place_in_deck(plan: &Plan, text: usize, length: usize) -> Result<(usize, usize), Stop<Damaged>>
-    requires { length < 2 ^ 64 - 1 }
+fn place_in_deck(plan: &Plan, text: usize, bytes: usize) -> Result<(usize, usize), Stop<Damaged>>
+    requires { bytes < 2 ^ 64 - 1 }
     ensures begin { IfOk result (λ ends. ends.0 ≡ bytes_before plan.now text) }
     ensures end { IfOk result (λ ends. ends.1 ≡ bytes_before plan.now (text + 1)) }
     ensures begins { IfOk result (λ ends. ends.0 ≤ ends.1) }
-    ensures ends { IfOk result (λ ends. ends.1 ≤ length) }
+    ensures ends { IfOk result (λ ends. ends.1 ≤ bytes) }
+    ensures damaged { OnErr result ((length plan.now.entries.items ≤ text) ⊎ (bytes < bytes_before plan.now (text + 1))) }
 {
     let entries = plan.entries.as_slice();
     if text >= entries.len() {
@@ -52,7 +55,7 @@ fn place_in_deck(plan: &Plan, text: usize, length: usize) -> Result<(usize, usiz
     }
     let begin = bytes_with(plan.head, &entries[..text]);
     let end = bytes_with(plan.head, &entries[..text + 1]);
-    within(begin, end, length)
+    within(begin, end, bytes)
 }
 
 // So many bytes and those that texts have in the deck.
@@ -81,6 +84,7 @@ fn within(begin: usize, end: usize, length: usize) -> Result<(usize, usize), Sto
     ensures end { IfOk result (λ ends. ends.1 ≡ end) }
     ensures begins { IfOk result (λ ends. ends.0 ≤ ends.1) }
     ensures ends { IfOk result (λ ends. ends.1 ≤ length) }
+    ensures damaged { OnErr result ((end < begin) ⊎ (length < end)) }
 {
     if begin <= end && end <= length {
         Ok((begin, end))
@@ -108,7 +112,8 @@ fn with_late(
     replies: Vec<u8>,
     late: &[u8],
 ) -> Result<(Plan, Vec<u8>), Stop<Damaged>>
-    ensures { IfOk result (λ after. IsPutAmong plan text replies.items late.now after.0 after.1.items) }
+    ensures put_among { IfOk result (λ after. IsPutAmong plan text replies.items late.now after.0 after.1.items) }
+    ensures damaged { IfErr result (λ stop. (stop ≡ stops.Memory) ⊎ ((length plan.entries.items ≤ text) ⊎ EndBefore plan text replies.items)) }
 {
     let mut plan = plan;
     if text >= plan.entries.len() {
@@ -234,7 +239,8 @@ fn with_told(
     replies: Vec<u8>,
     told: &[u8],
 ) -> Result<Vec<u8>, Stop<Damaged>>
-    ensures { IfOk result (λ all. all.items ≡ insert_slice replies.items (sum_by (λ entry. reply_bytes entry.verdict) before.now) told.now) }
+    ensures all { IfOk result (λ all. all.items ≡ insert_slice replies.items (sum_by (λ entry. reply_bytes entry.verdict) before.now) told.now) }
+    ensures damaged { IfErr result (λ stop. (stop ≡ stops.Memory) ⊎ (length replies.items < sum_by (λ entry. reply_bytes entry.verdict) before.now)) }
 {
     let offset = reply_bytes_of(before);
     inserted(alloc, replies, offset, told)
@@ -249,6 +255,7 @@ fn inserted(
 ) -> Result<Vec<u8>, Stop<Damaged>>
     ensures all { IfOk result (λ all. all.items ≡ insert_slice replies.items offset told.now) }
     ensures within { OnOk result (offset ≤ length replies.items) }
+    ensures damaged { IfErr result (λ stop. (stop ≡ stops.Memory) ⊎ (length replies.items < offset)) }
 {
     if offset > replies.len() {
         return Err(Stop::Refused(Damaged));
