@@ -7,7 +7,7 @@ use site_folder::{Folder, FolderError};
 use site_plan::User;
 use site_plan::users::uid_of_account;
 use std::alloc::{AllocError, Global};
-use std::fs::{DirBuilder, File, Metadata, OpenFile, OpenOptions, Permissions};
+use std::fs::{DirBuilder, DirEntry, File, Metadata, OpenFile, OpenOptions, Permissions};
 use std::io::{ErrorKind, Read, Seek, SeekFrom, Write};
 use std::os::unix::fs::{DirBuilderExt, MetadataExt, OpenOptionsExt, PermissionsExt, lchown};
 use std::rt::Files;
@@ -64,30 +64,26 @@ impl<R: System> Place<R> {
     /// The bytes of a file, if it is there.
     pub fn read(&self, name: &[u8]) -> Result<Option<Vec<u8>>, Fault> {
         let path = self.path(name)?;
-        match fs::read(&self.rt, path.as_str()) {
-            Ok(bytes) => Ok(Some(bytes)),
-            Err(error) if error.kind() == ErrorKind::NotFound => Ok(None),
-            Err(error) => Err(self.failed(&path, error)),
-        }
+        self.given(&path, if_there(fs::read(&self.rt, path.as_str())))
     }
 
     /// Appends the bytes of a file that has to be there.
     pub fn append(&self, name: &[u8], out: &mut Vec<u8>) -> Result<(), Fault> {
         let path = self.path(name)?;
-        match append_file(&self.rt, &path, out) {
-            Ok(()) => Ok(()),
-            Err(error) => Err(self.failed(&path, error)),
-        }
+        self.given(&path, append_file(&self.rt, &path, out))
     }
 
     /// Puts a file whole in the place of the one of this name.
     pub fn write(&mut self, name: &[u8], bytes: &[u8]) -> Result<(), Fault> {
+        self.put_file(name, bytes)?;
+        self.change(name)
+    }
+
+    fn put_file(&mut self, name: &[u8], bytes: &[u8]) -> Result<(), Fault> {
         let path = self.path(name)?;
         let reader = self.reader_of(name);
-        match self.put_whole(&path, bytes, reader) {
-            Ok(()) => self.change(name),
-            Err(error) => Err(self.failed(&path, error)),
-        }
+        let written = self.put_whole(&path, bytes, reader);
+        self.given(&path, written)
     }
 
     // Puts a file whole: it is written beside its place, brought to the disk, and takes the place by one call.
@@ -101,39 +97,32 @@ impl<R: System> Place<R> {
     /// A new file beside the place of this name, which it takes by `finish`. One that is there, as a crash leaves it, is no longer.
     pub fn begin(&self, name: &[u8]) -> Result<R::File, Fault> {
         let beside = self.beside(name)?;
-        match create_own(&self.rt, &beside) {
-            Ok(file) => Ok(file),
-            Err(error) => Err(self.failed(&beside, error)),
-        }
+        self.given(&beside, create_own(&self.rt, &beside))
     }
 
     /// Brings a file that was begun to the disk, in the place of the one of this name.
     pub fn finish(&mut self, name: &[u8], file: R::File) -> Result<(), Fault> {
+        self.put_in_place(name, file)?;
+        self.change(name)?;
+        self.settle_disk()
+    }
+
+    fn put_in_place(&self, name: &[u8], file: R::File) -> Result<(), Fault> {
         let path = self.path(name)?;
         let beside = self.beside(name)?;
-        match take_place(&self.rt, &beside, &path, file) {
-            Ok(()) => self.change(name)?,
-            Err(error) => return Err(self.failed(&path, error)),
-        }
-        self.settle_disk()
+        self.given(&path, take_place(&self.rt, &beside, &path, file))
     }
 
     /// Takes a file that was begun away.
     pub fn abandon(&self, name: &[u8], _file: R::File) -> Result<(), Fault> {
         let beside = self.beside(name)?;
-        match take_away(&self.rt, &beside) {
-            Ok(()) => Ok(()),
-            Err(error) => Err(self.failed(&beside, error)),
-        }
+        self.given(&beside, take_away(&self.rt, &beside))
     }
 
     /// Opens a file that has to be there.
     pub fn open(&self, name: &[u8]) -> Result<R::File, Fault> {
         let path = self.path(name)?;
-        match File::open(&self.rt, path.as_str()) {
-            Ok(file) => Ok(file),
-            Err(error) => Err(self.failed(&path, error)),
-        }
+        self.given(&path, File::open(&self.rt, path.as_str()))
     }
 
     // Where a file is written that is to have this name.
@@ -151,11 +140,23 @@ impl<R: System> Place<R> {
     ) -> io::Result<()> {
         let mut file = create_own(&self.rt, beside)?;
         file.write_all(bytes)?;
-        if let Some(uid) = reader {
-            let is_root = self.is_root_by(&file)?;
-            give_away(&self.rt, &file, beside, is_root, uid)?;
-        }
+        self.give_to_reader(&file, beside, reader)?;
         file.sync_all()
+    }
+
+    fn give_to_reader(
+        &mut self,
+        file: &R::File,
+        path: &String,
+        reader: Option<u32>,
+    ) -> io::Result<()> {
+        match reader {
+            Some(uid) => {
+                let is_root = self.is_root_by(file)?;
+                give_away(&self.rt, file, path, is_root, uid)
+            }
+            None => Ok(()),
+        }
     }
 
     // Whether root runs the program: he does where a file that it made is his.
@@ -163,7 +164,8 @@ impl<R: System> Place<R> {
         match self.is_root {
             Some(is_root) => Ok(is_root),
             None => {
-                let is_root = file.metadata()?.uid() == 0;
+                let seen = file.metadata()?;
+                let is_root = seen.uid() == 0;
                 self.is_root = Some(is_root);
                 Ok(is_root)
             }
@@ -172,35 +174,37 @@ impl<R: System> Place<R> {
 
     /// Removes a file, if it is there.
     pub fn erase(&mut self, name: &[u8]) -> Result<(), Fault> {
+        self.remove_file(name)?;
+        self.change(name)
+    }
+
+    fn remove_file(&self, name: &[u8]) -> Result<(), Fault> {
         let path = self.path(name)?;
-        match take_away(&self.rt, &path) {
-            Ok(()) => self.change(name),
-            Err(error) => Err(self.failed(&path, error)),
-        }
+        self.given(&path, take_away(&self.rt, &path))
     }
 
     /// Gives a file another name, if it is there.
     pub fn rename(&mut self, from: &[u8], to: &[u8]) -> Result<bool, Fault> {
+        let is_there = self.give_name(from, to)?;
+        if is_there {
+            self.change(from)?;
+            self.change(to)?;
+        }
+        Ok(is_there)
+    }
+
+    fn give_name(&self, from: &[u8], to: &[u8]) -> Result<bool, Fault> {
         let old = self.path(from)?;
         let new = self.path(to)?;
-        match fs::rename(&self.rt, old.as_str(), new.as_str()) {
-            Ok(()) => {
-                self.change(from)?;
-                self.change(to)?;
-                Ok(true)
-            }
-            Err(error) if error.kind() == ErrorKind::NotFound => Ok(false),
-            Err(error) => Err(self.failed(&old, error)),
-        }
+        let renamed = fs::rename(&self.rt, old.as_str(), new.as_str());
+        let given = self.given(&old, if_there(renamed))?;
+        Ok(given.is_some())
     }
 
     /// Who runs the program: the owner of a file of this name, which is made for it and removed.
     pub fn owner_of_new(&self, name: &[u8]) -> Result<u32, Fault> {
         let path = self.path(name)?;
-        match uid_of_new(&self.rt, &path) {
-            Ok(uid) => Ok(uid),
-            Err(error) => Err(self.failed(&path, error)),
-        }
+        self.given(&path, uid_of_new(&self.rt, &path))
     }
 
     /// After it, all that was changed is on the disk.
@@ -217,69 +221,60 @@ impl<R: System> Place<R> {
     /// The names in a folder, in the order of their bytes. A name that is no text is passed over.
     pub fn names(&self, folder: &[u8]) -> Result<Vec<Vec<u8>>, Fault> {
         let path = self.path(folder)?;
-        match sorted_names(&self.rt, &path) {
-            Ok(names) => Ok(names),
-            Err(error) => Err(self.failed(&path, error)),
-        }
+        self.given(&path, sorted_names(&self.rt, &path))
     }
 
     /// What the system says of a name, if it is there; a link is not followed.
     pub fn look(&self, name: &[u8]) -> Result<Option<Metadata>, Fault> {
         let path = self.path(name)?;
-        match fs::symlink_metadata(&self.rt, path.as_str()) {
-            Ok(seen) => Ok(Some(seen)),
-            Err(error) if error.kind() == ErrorKind::NotFound => Ok(None),
-            Err(error) => Err(self.failed(&path, error)),
-        }
+        self.given(
+            &path,
+            if_there(fs::symlink_metadata(&self.rt, path.as_str())),
+        )
     }
 
     /// Makes a folder. Its mode is this one, whatever the process's mask is.
     pub fn make_folder(&self, name: &[u8], mode: u32) -> Result<(), Fault> {
         let path = self.path(name)?;
-        match make_with_mode(&self.rt, &path, mode) {
-            Ok(()) => Ok(()),
-            Err(error) => Err(self.failed(&path, error)),
-        }
+        self.given(&path, make_with_mode(&self.rt, &path, mode))
     }
 
     /// Removes a folder that is empty.
     pub fn remove_folder(&self, name: &[u8]) -> Result<(), Fault> {
         let path = self.path(name)?;
-        match fs::remove_dir(&self.rt, path.as_str()) {
-            Ok(()) => Ok(()),
-            Err(error) => Err(self.failed(&path, error)),
-        }
+        self.given(&path, fs::remove_dir(&self.rt, path.as_str()))
     }
 
     /// Whether the last byte of a file that is there is a line end. Also where it may not be opened, or is no file.
     pub fn ends_line(&self, name: &[u8]) -> Result<bool, Fault> {
-        let path = self.path(name)?;
         match self.look(name)? {
-            Some(seen) if seen.is_file() => match last_byte(&self.rt, &path, seen.len()) {
-                Ok(last) => Ok(last == Some(b'\n')),
-                Err(error) if error.kind() == ErrorKind::PermissionDenied => Ok(true),
-                Err(error) => Err(self.failed(&path, error)),
-            },
+            Some(seen) if seen.is_file() => self.is_last_line_end(name, seen.len()),
             _ => Ok(true),
+        }
+    }
+
+    fn is_last_line_end(&self, name: &[u8], length: u64) -> Result<bool, Fault> {
+        let path = self.path(name)?;
+        match last_byte(&self.rt, &path, length) {
+            Ok(last) => Ok(last == Some(b'\n')),
+            Err(error) if error.kind() == ErrorKind::PermissionDenied => Ok(true),
+            Err(error) => Err(self.failed(&path, error)),
         }
     }
 
     /// Sets the mode of a file or a folder.
     pub fn set_mode(&self, name: &[u8], mode: u32) -> Result<(), Fault> {
         let path = self.path(name)?;
-        match fs::set_permissions(&self.rt, path.as_str(), Permissions::from_mode(mode)) {
-            Ok(()) => Ok(()),
-            Err(error) => Err(self.failed(&path, error)),
-        }
+        self.given(
+            &path,
+            fs::set_permissions(&self.rt, path.as_str(), Permissions::from_mode(mode)),
+        )
     }
 
     /// Gives a file or a folder to a user or to a group.
     pub fn give(&self, name: &[u8], uid: Option<u32>, gid: Option<u32>) -> Result<(), Fault> {
         let path = self.path(name)?;
-        match lchown(&self.rt, path.as_str(), uid, gid) {
-            Ok(()) => Ok(()),
-            Err(error) => Err(self.failed(&path, error)),
-        }
+        self.given(&path, lchown(&self.rt, path.as_str(), uid, gid))
     }
 
     /// That something is wrong with a name.
@@ -311,7 +306,15 @@ impl<R: System> Place<R> {
         self.users.as_slice()
     }
 
-    fn failed(&self, path: &String, error: io::Error) -> Fault {
+    // What a call on the file of this path gave, if it was not refused.
+    fn given<T: Drop>(&self, path: &str, called: io::Result<T>) -> Result<T, Fault> {
+        match called {
+            Ok(value) => Ok(value),
+            Err(error) => Err(self.failed(path, error)),
+        }
+    }
+
+    fn failed(&self, path: &str, error: io::Error) -> Fault {
         Fault::failed(self.rt.alloc(), path, error)
     }
 
@@ -406,11 +409,26 @@ fn folder_of(name: &[u8]) -> &[u8] {
     }
 }
 
+// What a call on a file gave, if the file is there.
+fn if_there<T: Drop>(called: io::Result<T>) -> io::Result<Option<T>> {
+    match called {
+        Ok(value) => Ok(Some(value)),
+        Err(error) if error.kind() == ErrorKind::NotFound => Ok(None),
+        Err(error) => Err(error),
+    }
+}
+
 // The owner of a file that is made for it, and removed.
 fn uid_of_new<R: System>(rt: &R, path: &String) -> io::Result<u32> {
-    let uid = create_own(rt, path)?.metadata()?.uid();
+    let uid = uid_of_created(rt, path)?;
     fs::remove_file(rt, path.as_str())?;
     Ok(uid)
+}
+
+fn uid_of_created<R: System>(rt: &R, path: &String) -> io::Result<u32> {
+    let file = create_own(rt, path)?;
+    let seen = file.metadata()?;
+    Ok(seen.uid())
 }
 
 fn make_with_mode<R: System>(rt: &R, path: &String, mode: u32) -> io::Result<()> {
@@ -439,9 +457,13 @@ fn last_byte<R: System>(rt: &R, path: &String, length: u64) -> io::Result<Option
     }
     let mut file = File::open(rt, path.as_str())?;
     file.seek(SeekFrom::End(-1))?;
-    let mut last = [0; 1];
-    match file.read(&mut last)? {
-        1 => Ok(Some(last[0])),
+    next_byte(&mut file)
+}
+
+fn next_byte<F: Read>(file: &mut F) -> io::Result<Option<u8>> {
+    let mut next = [0; 1];
+    match file.read(&mut next)? {
+        1 => Ok(Some(next[0])),
         _ => Ok(None),
     }
 }
@@ -491,13 +513,17 @@ fn take_away<R: System>(rt: &R, path: &String) -> io::Result<()> {
     match fs::remove_file(rt, path.as_str()) {
         Ok(()) => Ok(()),
         Err(error) if error.kind() == ErrorKind::NotFound => Ok(()),
-        Err(error) => {
-            if fs::symlink_metadata(rt, path.as_str())?.is_dir() {
-                fs::remove_dir_all(rt, path.as_str())
-            } else {
-                Err(error)
-            }
-        }
+        Err(error) => take_folder_away(rt, path, error),
+    }
+}
+
+// Removes a folder; where none is there, it is as the error says.
+fn take_folder_away<R: System>(rt: &R, path: &String, error: io::Error) -> io::Result<()> {
+    let seen = fs::symlink_metadata(rt, path.as_str())?;
+    if seen.is_dir() {
+        fs::remove_dir_all(rt, path.as_str())
+    } else {
+        Err(error)
     }
 }
 
@@ -509,12 +535,24 @@ fn sync_folder<R: System>(rt: &R, path: &String) -> io::Result<()> {
 fn sorted_names<R: System>(rt: &R, path: &String) -> io::Result<Vec<Vec<u8>>> {
     let mut names = Vec::new(rt.alloc());
     for entry in fs::read_dir(rt, path.as_str())? {
-        match entry {
-            Ok(entry) => names.push(Vec::from_slice(rt.alloc(), entry.file_name().as_bytes())?)?,
-            Err(error) if error.kind() == ErrorKind::InvalidFilename => {}
-            Err(error) => return Err(error),
-        }
+        add_name(rt.alloc(), entry, &mut names)?;
     }
     names.sort_unstable();
     Ok(names)
+}
+
+fn add_name<R: System>(
+    alloc: Global,
+    entry: io::Result<DirEntry<R>>,
+    names: &mut Vec<Vec<u8>>,
+) -> io::Result<()> {
+    match entry {
+        Ok(entry) => {
+            let name = Vec::from_slice(alloc, entry.file_name().as_bytes())?;
+            names.push(name)?;
+            Ok(())
+        }
+        Err(error) if error.kind() == ErrorKind::InvalidFilename => Ok(()),
+        Err(error) => Err(error),
+    }
 }
