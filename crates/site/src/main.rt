@@ -50,13 +50,14 @@ fn main(rt: HostRuntime) -> ExitCode {
 fn given_words(rt: &HostRuntime) -> Result<Asked, Error> {
     match words(rt) {
         Ok(words) => read_asked(rt.alloc(), words.as_slice()),
-        Err(error) if error.kind() == io::ErrorKind::InvalidData => Err(no_text(rt.alloc())?),
+        Err(error) if error.kind() == io::ErrorKind::InvalidData => Err(no_text(rt.alloc())),
         Err(_) => Err(Error::from(AllocError)),
     }
 }
 
 fn words<R: Env + AllocGlobal>(rt: &R) -> io::Result<Vec<String>> {
-    Ok(env::args(rt)?.collect(rt.alloc())?)
+    let words = env::args(rt)?;
+    Ok(words.collect(rt.alloc())?)
 }
 
 // Does what is asked, and gives the exit status.
@@ -87,12 +88,16 @@ fn run(rt: &HostRuntime, top: String) -> u8 {
 fn lock(rt: &HostRuntime, top: &str) -> Result<File, Fault> {
     let path = joined(rt.alloc(), top, "lock")?;
     match open_lock(rt, &path) {
-        Ok(file) => match file.try_lock() {
-            Ok(()) => Ok(file),
-            Err(TryLockError::WouldBlock) => Err(Fault::Held(path)),
-            Err(TryLockError::Error(error)) => Err(Fault::failed(rt.alloc(), &path, error)),
-        },
+        Ok(file) => hold(rt, path, file),
         Err(error) => Err(Fault::failed(rt.alloc(), &path, error)),
+    }
+}
+
+fn hold(rt: &HostRuntime, path: String, file: File) -> Result<File, Fault> {
+    match file.try_lock() {
+        Ok(()) => Ok(file),
+        Err(TryLockError::WouldBlock) => Err(Fault::Held(path)),
+        Err(TryLockError::Error(error)) => Err(Fault::failed(rt.alloc(), &path, error)),
     }
 }
 

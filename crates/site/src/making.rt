@@ -1,7 +1,7 @@
 //! `site init`: the folder of a site is made.
 use crate::fault::{Fault, Wrong};
 use crate::keeper::{accounts_in, terms_in, users_in};
-use crate::options::Init;
+use crate::options::{Init, Sources};
 use crate::place::{Place, System, read_there};
 use crate::status::UNENDED;
 use mon_access::Accounts;
@@ -30,12 +30,22 @@ const SYSTEM_USERS: &str = "/etc/passwd";
 // What a site is made of.
 #[derive(Drop)]
 struct Texts {
-    table: Vec<u8>,
-    accounts: Accounts,
-    limits: Vec<u8>,
-    demonstration: bool,
+    table: Table,
+    limits: Limits,
     users: Option<Vec<u8>>,
     catalogue: Vec<u8>,
+}
+
+#[derive(Drop)]
+struct Table {
+    text: Vec<u8>,
+    accounts: Accounts,
+}
+
+#[derive(Drop)]
+struct Limits {
+    text: Vec<u8>,
+    demonstration: bool,
 }
 
 // Whose the boxes are.
@@ -50,15 +60,18 @@ struct Owners {
 /// Makes the folder of a site. Nothing is made where one of the files that it is made of is not as it must be, or where the system has no
 /// user of a number.
 pub fn make_site<R: System>(rt: R, init: &Init) -> Result<(), Fault> {
-    let texts = read_texts(&rt, init)?;
-    let mut place = Place::new(rt, init.top.clone()?);
-    let is_new = make_top(&place)?;
-    match find_owners(&mut place, &texts) {
-        Ok(owners) => make_all(&mut place, &texts, &owners),
+    let texts = read_texts(&rt, &init.sources)?;
+    let top = init.top.clone()?;
+    let mut place = Place::new(rt, top);
+    make_in(&mut place, &texts)
+}
+
+fn make_in<R: System>(place: &mut Place<R>, texts: &Texts) -> Result<(), Fault> {
+    let is_new = make_top(place)?;
+    match find_owners(place, texts) {
+        Ok(owners) => make_all(place, texts, &owners),
         Err(fault) => {
-            if is_new {
-                place.remove_folder(b"")?;
-            }
+            remove_top(place, is_new)?;
             Err(fault)
         }
     }
@@ -67,35 +80,48 @@ pub fn make_site<R: System>(rt: R, init: &Init) -> Result<(), Fault> {
 fn make_all<R: System>(place: &mut Place<R>, texts: &Texts, owners: &Owners) -> Result<(), Fault> {
     make_files(place, texts, &owners.users)?;
     make_folders(place)?;
-    for index in 0..texts.accounts.len() {
-        if let Some(account) = texts.accounts.at(index) {
-            make_user(place, &account.name, &owners.system)?;
-        }
-    }
+    make_users(place, &texts.table.accounts, &owners.system)?;
     place.settle_disk()
 }
 
 // Finds whose the boxes are, before any is made.
 fn find_owners<R: System>(place: &mut Place<R>, texts: &Texts) -> Result<Owners, Fault> {
     let maker = place.owner_of_new(b"owner.tmp")?;
-    let users = match &texts.users {
-        Some(text) => text.clone()?,
-        None => all_of_one(place.rt.alloc(), maker, &texts.accounts)?,
-    };
-    let read = users_in(place.rt.alloc(), "users", texts.demonstration, &users)?;
-    place.set_users(read);
+    let users = users_by(place.rt.alloc(), maker, texts)?;
+    set_users(place, texts.limits.demonstration, &users)?;
+    let system = system_of(place, maker, &texts.table.accounts)?;
+    Ok(Owners { users, system })
+}
+
+fn users_by(alloc: Global, maker: u32, texts: &Texts) -> Result<Vec<u8>, AllocError> {
+    match &texts.users {
+        Some(text) => text.clone(),
+        None => all_of_one(alloc, maker, &texts.table.accounts),
+    }
+}
+
+fn set_users<R: System>(
+    place: &mut Place<R>,
+    demonstration: bool,
+    text: &[u8],
+) -> Result<(), Fault> {
+    let users = users_in(place.rt.alloc(), "users", demonstration, text)?;
+    place.set_users(users);
+    Ok(())
+}
+
+// The system's file of users, where root makes the site: it has each user of an account then.
+fn system_of<R: System>(
+    place: &Place<R>,
+    maker: u32,
+    accounts: &Accounts,
+) -> Result<Option<Vec<u8>>, Fault> {
     if maker != 0 {
-        return Ok(Owners {
-            users,
-            system: None,
-        });
+        return Ok(None);
     }
     let system = system_users(place)?;
-    check_groups(place, &texts.accounts, &system)?;
-    Ok(Owners {
-        users,
-        system: Some(system),
-    })
+    check_groups(place, accounts, &system)?;
+    Ok(Some(system))
 }
 
 // Whether the system knows each user of an account.
@@ -106,41 +132,65 @@ fn check_groups<R: System>(
 ) -> Result<(), Fault> {
     for index in 0..accounts.len() {
         if let Some(account) = accounts.at(index) {
-            if let Some(uid) = uid_of_account(place.users(), &account.name) {
-                let _group = group_of(place, system, uid)?;
-            }
+            check_group(place, &account.name, system)?;
         }
     }
     Ok(())
 }
 
-fn read_texts<R: System>(rt: &R, init: &Init) -> Result<Texts, Fault> {
-    let table = read_there(rt, &init.accounts)?;
-    let accounts = accounts_in(rt.alloc(), &init.accounts, &table)?;
-    let mut limits = limits_text(rt, init)?;
-    if init.users.is_none() {
-        limits.extend_from_slice(b"demonstration\n")?;
+fn check_group<R: System>(place: &Place<R>, account: &Name, system: &[u8]) -> Result<(), Fault> {
+    if let Some(uid) = uid_of_account(place.users(), account) {
+        let _group = group_of(place, system, uid)?;
     }
-    let terms = terms_in(rt.alloc(), limits_path(init), &limits)?;
+    Ok(())
+}
+
+fn read_texts<R: System>(rt: &R, sources: &Sources) -> Result<Texts, Fault> {
+    let table = read_table(rt, &sources.accounts)?;
+    let limits = read_limits(rt, sources)?;
+    let users = users_text(rt, sources, limits.demonstration)?;
+    let catalogue = catalogue_text(rt, sources)?;
     Ok(Texts {
         table,
-        accounts,
         limits,
-        demonstration: terms.demonstration,
-        users: users_text(rt, init, terms.demonstration)?,
-        catalogue: catalogue_text(rt, init)?,
+        users,
+        catalogue,
     })
 }
 
-fn limits_path(init: &Init) -> &str {
-    match &init.limits {
+fn read_table<R: System>(rt: &R, path: &str) -> Result<Table, Fault> {
+    let text = read_there(rt, path)?;
+    let accounts = accounts_in(rt.alloc(), path, &text)?;
+    Ok(Table { text, accounts })
+}
+
+fn read_limits<R: System>(rt: &R, sources: &Sources) -> Result<Limits, Fault> {
+    let text = limits_text(rt, sources)?;
+    let terms = terms_in(rt.alloc(), limits_path(sources), &text)?;
+    Ok(Limits {
+        text,
+        demonstration: terms.demonstration,
+    })
+}
+
+fn limits_path(sources: &Sources) -> &str {
+    match &sources.limits {
         Some(path) => path.as_str(),
         None => "limits",
     }
 }
 
-fn limits_text<R: System>(rt: &R, init: &Init) -> Result<Vec<u8>, Fault> {
-    match &init.limits {
+// The limits that are given; where no users are, it is a demonstration.
+fn limits_text<R: System>(rt: &R, sources: &Sources) -> Result<Vec<u8>, Fault> {
+    let mut text = given_limits(rt, sources)?;
+    if sources.users.is_none() {
+        text.extend_from_slice(b"demonstration\n")?;
+    }
+    Ok(text)
+}
+
+fn given_limits<R: System>(rt: &R, sources: &Sources) -> Result<Vec<u8>, Fault> {
+    match &sources.limits {
         Some(path) => read_there(rt, path),
         None => Ok(Vec::from_slice(rt.alloc(), USUAL_LIMITS)?),
     }
@@ -148,21 +198,29 @@ fn limits_text<R: System>(rt: &R, init: &Init) -> Result<Vec<u8>, Fault> {
 
 fn users_text<R: System>(
     rt: &R,
-    init: &Init,
+    sources: &Sources,
     demonstration: bool,
 ) -> Result<Option<Vec<u8>>, Fault> {
-    let Some(path) = &init.users else {
-        return Ok(None);
-    };
-    let text = read_there(rt, path)?;
-    let _users = users_in(rt.alloc(), path, demonstration, &text)?;
-    Ok(Some(text))
+    match &sources.users {
+        Some(path) => Ok(Some(read_users(rt, path, demonstration)?)),
+        None => Ok(None),
+    }
 }
 
-fn catalogue_text<R: System>(rt: &R, init: &Init) -> Result<Vec<u8>, Fault> {
-    let Some(path) = &init.catalogue else {
-        return Ok(Vec::from_slice(rt.alloc(), b"$CATALOGUE 2\n")?);
-    };
+fn read_users<R: System>(rt: &R, path: &str, demonstration: bool) -> Result<Vec<u8>, Fault> {
+    let text = read_there(rt, path)?;
+    let _users = users_in(rt.alloc(), path, demonstration, &text)?;
+    Ok(text)
+}
+
+fn catalogue_text<R: System>(rt: &R, sources: &Sources) -> Result<Vec<u8>, Fault> {
+    match &sources.catalogue {
+        Some(path) => read_catalogue(rt, path),
+        None => Ok(Vec::from_slice(rt.alloc(), b"$CATALOGUE 2\n")?),
+    }
+}
+
+fn read_catalogue<R: System>(rt: &R, path: &str) -> Result<Vec<u8>, Fault> {
     let text = read_there(rt, path)?;
     if text.ends_with(b"\n") {
         Ok(text)
@@ -178,14 +236,34 @@ fn make_top<R: System>(place: &Place<R>) -> Result<bool, Fault> {
             place.make_folder(b"", 0o755)?;
             Ok(true)
         }
-        Some(_) if place.names(b"")?.is_empty() => Ok(false),
-        Some(_) => Err(place.wrong(b"", Wrong::Words("is there already, and is not empty"))),
+        Some(_) => {
+            check_empty(place)?;
+            Ok(false)
+        }
+    }
+}
+
+fn check_empty<R: System>(place: &Place<R>) -> Result<(), Fault> {
+    let names = place.names(b"")?;
+    if names.is_empty() {
+        Ok(())
+    } else {
+        Err(place.wrong(b"", Wrong::Words("is there already, and is not empty")))
+    }
+}
+
+// Removes the folder itself, if it is new.
+fn remove_top<R: System>(place: &Place<R>, is_new: bool) -> Result<(), Fault> {
+    if is_new {
+        place.remove_folder(b"")
+    } else {
+        Ok(())
     }
 }
 
 fn make_files<R: System>(place: &mut Place<R>, texts: &Texts, users: &[u8]) -> Result<(), Fault> {
-    make_file(place, b"accounts", &texts.table, 0o640)?;
-    make_file(place, b"limits", &texts.limits, 0o640)?;
+    make_file(place, b"accounts", &texts.table.text, 0o640)?;
+    make_file(place, b"limits", &texts.limits.text, 0o640)?;
     make_file(place, b"catalogue", &texts.catalogue, 0o600)?;
     make_file(place, b"lock", b"", 0o600)?;
     make_file(place, b"users", users, 0o640)
@@ -226,27 +304,77 @@ fn make_folders<R: System>(place: &Place<R>) -> Result<(), Fault> {
     place.make_folder(b"out", 0o755)
 }
 
-// The folders of an account, if a user has it. Root gives the box to the user, and the folder of answers to his group.
+fn make_users<R: System>(
+    place: &Place<R>,
+    accounts: &Accounts,
+    system: &Option<Vec<u8>>,
+) -> Result<(), Fault> {
+    for index in 0..accounts.len() {
+        if let Some(account) = accounts.at(index) {
+            make_user(place, &account.name, system)?;
+        }
+    }
+    Ok(())
+}
+
+// Makes the folders of an account, if a user has it.
 fn make_user<R: System>(
     place: &Place<R>,
     account: &Name,
     system: &Option<Vec<u8>>,
 ) -> Result<(), Fault> {
-    let alloc = place.rt.alloc();
-    let Some(uid) = uid_of_account(place.users(), account) else {
-        return Ok(());
-    };
-    let drop_box = box_name(alloc, account)?;
-    let answers = answer_folder(alloc, account)?;
-    place.make_folder(&drop_box, 0o770)?;
-    place.make_folder(&answers, 0o750)?;
-    if let Some(system) = system {
-        let gid = group_of(place, system, uid)?;
-        place.give(&drop_box, Some(uid), None)?;
-        place.give(&answers, None, Some(gid))?;
+    match uid_of_account(place.users(), account) {
+        Some(uid) => {
+            let folders = UserFolders::of(place.rt.alloc(), account)?;
+            folders.make(place)?;
+            folders.give(place, uid, system)?;
+            folders.open(place)
+        }
+        None => Ok(()),
     }
-    place.set_mode(&drop_box, 0o2770)?;
-    place.set_mode(&answers, 0o2750)
+}
+
+// The names of the folders of a user.
+#[derive(Drop)]
+struct UserFolders {
+    drop_box: Vec<u8>,
+    answers: Vec<u8>,
+}
+
+impl UserFolders {
+    fn of(alloc: Global, account: &Name) -> Result<UserFolders, AllocError> {
+        let drop_box = box_name(alloc, account)?;
+        let answers = answer_folder(alloc, account)?;
+        Ok(UserFolders { drop_box, answers })
+    }
+
+    fn make<R: System>(&self, place: &Place<R>) -> Result<(), Fault> {
+        place.make_folder(&self.drop_box, 0o770)?;
+        place.make_folder(&self.answers, 0o750)
+    }
+
+    // Root gives the box to the user, and the folder of answers to his group.
+    fn give<R: System>(
+        &self,
+        place: &Place<R>,
+        uid: u32,
+        system: &Option<Vec<u8>>,
+    ) -> Result<(), Fault> {
+        match system {
+            Some(system) => {
+                let gid = group_of(place, system, uid)?;
+                place.give(&self.drop_box, Some(uid), None)?;
+                place.give(&self.answers, None, Some(gid))
+            }
+            None => Ok(()),
+        }
+    }
+
+    // Whoever is to use them may, from here on.
+    fn open<R: System>(&self, place: &Place<R>) -> Result<(), Fault> {
+        place.set_mode(&self.drop_box, 0o2770)?;
+        place.set_mode(&self.answers, 0o2750)
+    }
 }
 
 // The system's file of users; an empty text where there is none.
@@ -271,11 +399,15 @@ fn group_of<R: System>(place: &Place<R>, system: &[u8], uid: u32) -> Result<u32,
 // The group on a line NAME:PASSWORD:UID:GID:.., where it is this user's.
 fn group_on(line: &[u8], uid: u32) -> Option<u32> {
     let mut words = line.split(|byte| *byte == b':').skip(2);
-    let user = read_count(words.next()?).ok()?;
-    let group = read_count(words.next()?).ok()?;
+    let user = number_in(words.next())?;
+    let group = number_in(words.next())?;
     if user == u64::from(uid) {
         u32::try_from(group).ok()
     } else {
         None
     }
+}
+
+fn number_in(word: Option<&[u8]>) -> Option<u64> {
+    read_count(word?).ok()
 }

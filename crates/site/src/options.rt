@@ -25,6 +25,13 @@ pub enum Asked {
 pub struct Init {
     /// The path of the folder.
     pub top: String,
+    /// The files that it is made of.
+    pub sources: Sources,
+}
+
+/// The paths of the files that a site is made of.
+#[derive(Drop)]
+pub struct Sources {
     /// A file of accounts.
     pub accounts: String,
     /// A file of users; none in a demonstration.
@@ -42,52 +49,79 @@ pub struct Init {
 /// Where the words ask nothing. The text of the error, which is that of the help and the version too, is `clap`'s. Its kind is
 /// `OutOfMemory` where a growth was refused.
 pub fn read_asked<S: AsStr>(alloc: Global, words: &[S]) -> Result<Asked, Error> {
-    let matches = command(alloc)?.try_get_matches_from(words)?;
+    let command = command(alloc)?;
+    let matches = command.try_get_matches_from(words)?;
+    read_matches(alloc, &matches)
+}
+
+fn read_matches(alloc: Global, matches: &ArgMatches) -> Result<Asked, Error> {
     match matches.subcommand() {
         Some(("init", of)) => read_init(alloc, of),
         Some(("check", of)) => read_check(alloc, of),
         Some(("verify", of)) => read_verify(alloc, of),
-        Some(("status", of)) => Ok(Asked::Status(text_of(alloc, of, "DIR")?)),
-        Some((_, of)) => Ok(Asked::Run(text_of(alloc, of, "DIR")?)),
-        None => Err(nothing(alloc)?),
+        Some((name, of)) => read_folder(alloc, name, of),
+        None => Err(nothing(alloc)),
     }
 }
 
 fn read_init(alloc: Global, of: &ArgMatches) -> Result<Asked, Error> {
-    let users = maybe(alloc, of, "users")?;
-    if users.is_some() == of.get_flag("demonstration") {
-        return Err(one_of_two(alloc)?);
+    if of.get_str("users").is_some() == of.get_flag("demonstration") {
+        return Err(one_of_two(alloc));
     }
-    Ok(Asked::Init(Init {
-        top: text_of(alloc, of, "DIR")?,
-        accounts: text_of(alloc, of, "accounts")?,
+    let top = text_of(alloc, of, "DIR")?;
+    let sources = sources_of(alloc, of)?;
+    Ok(Asked::Init(Init { top, sources }))
+}
+
+fn sources_of(alloc: Global, of: &ArgMatches) -> Result<Sources, AllocError> {
+    let accounts = text_of(alloc, of, "accounts")?;
+    let users = maybe(alloc, of, "users")?;
+    let limits = maybe(alloc, of, "limits")?;
+    let catalogue = maybe(alloc, of, "catalogue")?;
+    Ok(Sources {
+        accounts,
         users,
-        limits: maybe(alloc, of, "limits")?,
-        catalogue: maybe(alloc, of, "catalogue")?,
-    }))
+        limits,
+        catalogue,
+    })
 }
 
 fn read_check(alloc: Global, of: &ArgMatches) -> Result<Asked, Error> {
-    let file = text_of(alloc, of, "FILE")?;
-    let account = text_of(alloc, of, "account")?;
-    match read_name(account.as_bytes()) {
-        Ok(account) => Ok(Asked::Check(file, account)),
-        Err(_) => Err(no_name(alloc)?),
+    match read_name(word(of, "account").as_bytes()) {
+        Ok(account) => {
+            let file = text_of(alloc, of, "FILE")?;
+            Ok(Asked::Check(file, account))
+        }
+        Err(_) => Err(no_name(alloc)),
     }
 }
 
 fn read_verify(alloc: Global, of: &ArgMatches) -> Result<Asked, Error> {
-    let top = text_of(alloc, of, "DIR")?;
-    let number = text_of(alloc, of, "N")?;
-    match read_count(number.as_bytes()) {
-        Ok(number) => Ok(Asked::Verify(top, number)),
-        Err(_) => Err(no_number(alloc)?),
+    match read_count(word(of, "N").as_bytes()) {
+        Ok(number) => {
+            let top = text_of(alloc, of, "DIR")?;
+            Ok(Asked::Verify(top, number))
+        }
+        Err(_) => Err(no_number(alloc)),
     }
 }
 
-// The text of a word that has to be there.
+// What is asked of a folder, and nothing beside it.
+fn read_folder(alloc: Global, name: &str, of: &ArgMatches) -> Result<Asked, Error> {
+    let top = text_of(alloc, of, "DIR")?;
+    Ok(match name {
+        "status" => Asked::Status(top),
+        _ => Asked::Run(top),
+    })
+}
+
+// A word that has to be there.
+fn word<'a>(of: &'a ArgMatches, id: &str) -> &'a str {
+    of.get_str(id).unwrap_or("")
+}
+
 fn text_of(alloc: Global, of: &ArgMatches, id: &str) -> Result<String, AllocError> {
-    String::from_str(alloc, of.get_str(id).unwrap_or(""))
+    String::from_str(alloc, word(of, id))
 }
 
 fn maybe(alloc: Global, of: &ArgMatches, id: &str) -> Result<Option<String>, AllocError> {
@@ -97,38 +131,54 @@ fn maybe(alloc: Global, of: &ArgMatches, id: &str) -> Result<Option<String>, All
     }
 }
 
-fn nothing(alloc: Global) -> Result<Error, AllocError> {
-    command(alloc)?.error(
+fn nothing(alloc: Global) -> Error {
+    refusal(
+        alloc,
         ErrorKind::MissingSubcommand,
         "one of init, run, status, check and verify is wanted",
     )
 }
 
-fn one_of_two(alloc: Global) -> Result<Error, AllocError> {
-    command(alloc)?.error(
+fn one_of_two(alloc: Global) -> Error {
+    refusal(
+        alloc,
         ErrorKind::ArgumentConflict,
         "one of --users and --demonstration is wanted",
     )
 }
 
-fn no_name(alloc: Global) -> Result<Error, AllocError> {
-    command(alloc)?.error(
+fn no_name(alloc: Global) -> Error {
+    refusal(
+        alloc,
         ErrorKind::ValueValidation,
         "a name is 1 to 31 characters: a letter, then letters, digits, `.`, `_` or `-`",
     )
 }
 
-fn no_number(alloc: Global) -> Result<Error, AllocError> {
-    command(alloc)?.error(ErrorKind::ValueValidation, "a round has a number")
+fn no_number(alloc: Global) -> Error {
+    refusal(alloc, ErrorKind::ValueValidation, "a round has a number")
 }
 
-/// The error for a word that is no text, and so no option.
-///
-/// # Errors
-///
-/// Where a growth was refused.
-pub fn no_text(alloc: Global) -> Result<Error, AllocError> {
-    command(alloc)?.error(ErrorKind::UnknownArgument, "a word is no text in UTF-8")
+/// The error for a word that is no text, and so no option. Its kind is `OutOfMemory` where a growth was refused.
+pub fn no_text(alloc: Global) -> Error {
+    refusal(
+        alloc,
+        ErrorKind::UnknownArgument,
+        "a word is no text in UTF-8",
+    )
+}
+
+// The error of this kind, or that of memory.
+fn refusal(alloc: Global, kind: ErrorKind, words: &str) -> Error {
+    match error_of_command(alloc, kind, words) {
+        Ok(error) => error,
+        Err(refused) => Error::from(refused),
+    }
+}
+
+fn error_of_command(alloc: Global, kind: ErrorKind, words: &str) -> Result<Error, AllocError> {
+    let mut command = command(alloc)?;
+    command.error(kind, words)
 }
 
 // What follows the list of commands in the help.
@@ -145,21 +195,25 @@ not as it must be; 4 where another run holds the lock.
 
 // The program's commands, as `clap` knows them.
 fn command<'a>(alloc: Global) -> Result<Command<'a>, AllocError> {
-    Command::new(alloc, "site")
+    let program = Command::new(alloc, "site")
         .version("0.1.0")
         .about(
             "Runs what the users of a system drop into a folder, in rounds, and gives each what is his",
         )
-        .after_help(AFTER_HELP)
-        .subcommand(init_command(alloc)?)?
-        .subcommand(of_folder(alloc, "run", "Runs what was dropped")?)?
-        .subcommand(of_folder(
-            alloc,
-            "status",
-            "Tells what stands, and what is not as it must be",
-        )?)?
-        .subcommand(check_command(alloc)?)?
-        .subcommand(verify_command(alloc)?)
+        .after_help(AFTER_HELP);
+    let program = add_command(program, init_command(alloc))?;
+    let program = add_command(program, run_command(alloc))?;
+    let program = add_command(program, status_command(alloc))?;
+    let program = add_command(program, check_command(alloc))?;
+    add_command(program, verify_command(alloc))
+}
+
+// The program with one command more, if that was made.
+fn add_command<'a>(
+    program: Command<'a>,
+    command: Result<Command<'a>, AllocError>,
+) -> Result<Command<'a>, AllocError> {
+    program.subcommand(command?)
 }
 
 fn of_folder<'a>(alloc: Global, name: &'a str, about: &'a str) -> Result<Command<'a>, AllocError> {
@@ -168,53 +222,69 @@ fn of_folder<'a>(alloc: Global, name: &'a str, about: &'a str) -> Result<Command
         .arg(place(alloc, "DIR", "The folder of the site"))
 }
 
+fn run_command<'a>(alloc: Global) -> Result<Command<'a>, AllocError> {
+    of_folder(alloc, "run", "Runs what was dropped")
+}
+
+fn status_command<'a>(alloc: Global) -> Result<Command<'a>, AllocError> {
+    of_folder(
+        alloc,
+        "status",
+        "Tells what stands, and what is not as it must be",
+    )
+}
+
 fn init_command<'a>(alloc: Global) -> Result<Command<'a>, AllocError> {
-    of_folder(alloc, "init", "Makes the folder of a site")?
-        .arg(named(
+    let command = of_folder(alloc, "init", "Makes the folder of a site")?;
+    let options = Vec::from_array(alloc, init_options(alloc))?;
+    command.args(options)
+}
+
+fn init_options<'a>(alloc: Global) -> [Arg<'a>; 5] {
+    [
+        named(
             alloc,
             "accounts",
             "The accounts: lines as behind $ACCOUNTS in a deck",
         )
-        .required(true))?
-        .arg(named(
+        .required(true),
+        named(
             alloc,
             "users",
             "The users: a number of the system and an account a line",
-        ))?
-        .arg(named(
+        ),
+        named(
             alloc,
             "limits",
             "What an account may hand in; usual limits where it is not given",
-        ))?
-        .arg(named(
+        ),
+        named(
             alloc,
             "catalogue",
             "The catalogue; an empty one where it is not given",
-        ))?
-        .arg(flag(
+        ),
+        flag(
             alloc,
             "demonstration",
             "All accounts are those of who makes the site",
-        ))
+        ),
+    ]
 }
 
 fn check_command<'a>(alloc: Global) -> Result<Command<'a>, AllocError> {
-    Command::new(alloc, "check")
+    let command = Command::new(alloc, "check")
         .about("Tells whether a text would be admitted")
-        .arg(place(alloc, "FILE", "The text"))?
-        .arg(
-            named(alloc, "account", "Whose text it is")
-                .value_name("NAME")
-                .required(true),
-        )
+        .arg(place(alloc, "FILE", "The text"))?;
+    command.arg(
+        named(alloc, "account", "Whose text it is")
+            .value_name("NAME")
+            .required(true),
+    )
 }
 
 fn verify_command<'a>(alloc: Global) -> Result<Command<'a>, AllocError> {
-    of_folder(alloc, "verify", "Runs a round again, and compares")?.arg(place(
-        alloc,
-        "N",
-        "The number of the round",
-    ))
+    let command = of_folder(alloc, "verify", "Runs a round again, and compares")?;
+    command.arg(place(alloc, "N", "The number of the round"))
 }
 
 // A word that has to be there.
