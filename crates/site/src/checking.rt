@@ -1,13 +1,11 @@
 //! `site check`: what a text would be told. `site verify`: a round is run again.
 use crate::auditing::run_compared;
 use crate::fault::{Fault, Wrong};
-use crate::keeper::file;
 use crate::place::{Place, System, read_there};
 use crate::serving::{part_deck_of, parts_of, plan_there};
 use mon_text::{Name, Stop};
 use preflight::examine;
 use rounds::{Round, RoundError};
-use site_folder::round_name;
 use site_plan::{Plan, Reason, reply, shown_name};
 
 /// What the user of an account would be told of a file, if its text is refused.
@@ -37,22 +35,30 @@ fn last_part(path: &str) -> &[u8] {
 pub fn verify<R: System>(rt: R, top: String, n: u64) -> Result<bool, Fault> {
     let place = Place::new(rt, top);
     let plan = plan_there(&place, n)?;
-    let parted = part_deck_of(&place, n, &plan)?;
-    match run_compared(&place, n, parted)? {
+    verify_plan(&place, n, &plan)
+}
+
+fn verify_plan<R: System>(place: &Place<R>, n: u64, plan: &Plan) -> Result<bool, Fault> {
+    let parted = part_deck_of(place, n, plan)?;
+    match run_compared(place, n, parted)? {
         None => Ok(false),
-        Some(Ok(round)) => is_same(&place, n, &plan, &round),
-        Some(Err(RoundError::Memory { .. })) => Err(Fault::Memory),
-        Some(Err(RoundError::Refused(line, code))) => {
-            let name = round_name(place.rt.alloc(), n, b".deck")?;
-            Err(place.wrong(&name, Wrong::Line(line, code.text())))
+        Some(Ok(round)) => is_same(place, n, plan, &round),
+        Some(Err(error)) => Err(fault_of_run(place, n, error)),
+    }
+}
+
+fn fault_of_run<R: System>(place: &Place<R>, n: u64, error: RoundError) -> Fault {
+    match error {
+        RoundError::Memory { .. } => Fault::Memory,
+        RoundError::Refused(line, code) => {
+            place.wrong_round_file(n, b".deck", Wrong::Line(line, code.text()))
         }
     }
 }
 
 fn is_same<R: System>(place: &Place<R>, n: u64, plan: &Plan, round: &Round) -> Result<bool, Fault> {
-    let alloc = place.rt.alloc();
-    let output = file(place, &round_name(alloc, n, b".out")?)?;
-    let parts = file(place, &round_name(alloc, n, b".parts")?)?;
-    let due = parts_of(alloc, plan, round)?;
+    let output = place.round_file(n, b".out")?;
+    let parts = place.round_file(n, b".parts")?;
+    let due = parts_of(place.rt.alloc(), plan, round)?;
     Ok(output.as_slice() == round.output.as_slice() && parts.as_slice() == due.as_slice())
 }

@@ -22,44 +22,70 @@ pub struct Drawn {
     pub file: Vec<u8>,
 }
 
-/// Claims all files in the boxes of the users, from this number on. Answers those that it claimed, and the next number. A box with
-/// which something is wrong is passed over, and told.
+/// Files that were claimed, in the order of their numbers.
+#[derive(Drop)]
+pub struct Claims {
+    /// The files.
+    pub drawn: Vec<Drawn>,
+    /// The number that the next one is given.
+    pub next: u64,
+}
+
+impl Claims {
+    // A file that was moved out of a box under the next number.
+    fn add(&mut self, alloc: Global, account: &Name, file: &[u8]) -> Result<(), AllocError> {
+        let file = Vec::from_slice(alloc, shown_name(file))?;
+        let taken = new_taken(account, self.next);
+        self.drawn.push(Drawn { taken, file })?;
+        self.next = self.next.saturating_add(1);
+        Ok(())
+    }
+}
+
+/// Claims all files in the boxes of the users. A box with which something is wrong is passed over, and told.
 pub fn claim<R: System>(
     place: &mut Place<R>,
     keeper: &Keeper,
-    first: u64,
+    claims: &mut Claims,
     passed: &mut Vec<Fault>,
-) -> Result<(Vec<Drawn>, u64), Fault> {
-    let mut drawn = Vec::new(place.rt.alloc());
-    let mut next = first;
+) -> Result<(), Fault> {
     for index in 0..keeper.accounts.len() {
         if let Some(account) = keeper.accounts.at(index) {
-            next = claim_box(place, &account.name, next, &mut drawn, passed)?;
+            claim_box(place, &account.name, claims, passed)?;
         }
     }
-    place.settle_disk()?;
-    Ok((drawn, next))
+    place.settle_disk()
 }
 
-// Claims the files in the box of an account, if a user has it.
+// Claims the files in the box of an account, if a user has it. Where one cannot be moved, it is told, and those behind it stay there.
 fn claim_box<R: System>(
     place: &mut Place<R>,
     account: &Name,
-    first: u64,
-    drawn: &mut Vec<Drawn>,
+    claims: &mut Claims,
     passed: &mut Vec<Fault>,
-) -> Result<u64, Fault> {
-    let Some(uid) = uid_of_account(place.users(), account) else {
-        return Ok(first);
-    };
-    let folder = box_name(place.rt.alloc(), account)?;
-    match names_in_box(place, &folder, uid) {
-        Ok(names) => claim_names(place, account, first, &folder, names, drawn, passed),
+) -> Result<(), Fault> {
+    match claim_from_box(place, account, claims) {
+        Ok(()) => Ok(()),
         Err(Fault::Memory) => Err(Fault::Memory),
         Err(fault) => {
             passed.push(fault)?;
-            Ok(first)
+            Ok(())
         }
+    }
+}
+
+fn claim_from_box<R: System>(
+    place: &mut Place<R>,
+    account: &Name,
+    claims: &mut Claims,
+) -> Result<(), Fault> {
+    match uid_of_account(place.users(), account) {
+        Some(uid) => {
+            let folder = box_name(place.rt.alloc(), account)?;
+            let names = names_in_box(place, &folder, uid)?;
+            claim_names(place, account, &folder, names, claims)
+        }
+        None => Ok(()),
     }
 }
 
@@ -75,43 +101,30 @@ fn names_in_box<R: System>(
     }
 }
 
-// Claims files of a box; where one cannot be moved, it is told, and those behind it stay there.
 fn claim_names<R: System>(
     place: &mut Place<R>,
     account: &Name,
-    first: u64,
     folder: &[u8],
     names: Vec<Vec<u8>>,
-    drawn: &mut Vec<Drawn>,
-    passed: &mut Vec<Fault>,
-) -> Result<u64, Fault> {
-    let mut next = first;
+    claims: &mut Claims,
+) -> Result<(), Fault> {
     for file in names {
-        match claim_file(place, account, next, folder, &file) {
-            Ok(false) => {}
-            Ok(true) => {
-                drawn.push(drawn_as(place.rt.alloc(), account, next, &file)?)?;
-                next = next.saturating_add(1);
-            }
-            Err(Fault::Memory) => return Err(Fault::Memory),
-            Err(fault) => {
-                passed.push(fault)?;
-                return Ok(next);
-            }
-        }
+        claim_name(place, account, folder, &file, claims)?;
     }
-    Ok(next)
+    Ok(())
 }
 
-fn drawn_as(alloc: Global, account: &Name, id: u64, file: &[u8]) -> Result<Drawn, AllocError> {
-    Ok(Drawn {
-        taken: Taken {
-            account: account.copy(),
-            id,
-            alone: false,
-        },
-        file: Vec::from_slice(alloc, shown_name(file))?,
-    })
+fn claim_name<R: System>(
+    place: &mut Place<R>,
+    account: &Name,
+    folder: &[u8],
+    file: &[u8],
+    claims: &mut Claims,
+) -> Result<(), Fault> {
+    if claim_file(place, account, claims.next, folder, file)? {
+        claims.add(place.rt.alloc(), account, file)?;
+    }
+    Ok(())
 }
 
 // Moves a file out of a box. A folder is left there, and what is gone is passed over.
@@ -124,16 +137,27 @@ fn claim_file<R: System>(
 ) -> Result<bool, Fault> {
     let from = name_in(place.rt.alloc(), folder, file)?;
     match place.look(&from)? {
-        Some(seen) if !seen.is_dir() => {
-            let taken = Taken {
-                account: account.copy(),
-                id,
-                alone: false,
-            };
-            let to = taken_name(place.rt.alloc(), &taken)?;
-            place.rename(&from, &to)
-        }
+        Some(seen) if !seen.is_dir() => move_out(place, &from, account, id),
         _ => Ok(false),
+    }
+}
+
+fn move_out<R: System>(
+    place: &mut Place<R>,
+    from: &[u8],
+    account: &Name,
+    id: u64,
+) -> Result<bool, Fault> {
+    let taken = new_taken(account, id);
+    let to = taken_name(place.rt.alloc(), &taken)?;
+    place.rename(from, &to)
+}
+
+fn new_taken(account: &Name, id: u64) -> Taken {
+    Taken {
+        account: account.copy(),
+        id,
+        alone: false,
     }
 }
 
@@ -141,12 +165,17 @@ fn claim_file<R: System>(
 pub fn all_taken<R: System>(place: &Place<R>) -> Result<Vec<Taken>, Fault> {
     let mut taken = Vec::new(place.rt.alloc());
     for name in place.names(b"taken")? {
-        if let Some(one) = Taken::read(place.rt.alloc(), &name)? {
-            taken.push(one)?;
-        }
+        add_taken(place.rt.alloc(), &name, &mut taken)?;
     }
     taken.sort_unstable_by_key(|one| one.id);
     Ok(taken)
+}
+
+fn add_taken(alloc: Global, name: &[u8], taken: &mut Vec<Taken>) -> Result<(), AllocError> {
+    if let Some(one) = Taken::read(alloc, name)? {
+        taken.push(one)?;
+    }
+    Ok(())
 }
 
 /// Looks at a claimed file: what it is, and, where it is its user's, its bytes.

@@ -10,6 +10,7 @@ mod making;
 mod options;
 mod place;
 mod planning;
+mod round_files;
 mod running;
 mod serving;
 mod status;

@@ -1,11 +1,10 @@
 //! Planning a round: claimed files are judged, put in order and fixed on the disk.
-use crate::claiming::{Drawn, all_taken, claim, look_at};
+use crate::claiming::{Claims, Drawn, all_taken, claim, look_at};
 use crate::fault::Fault;
 use crate::keeper::Keeper;
 use crate::place::{Place, System};
 use mon_text::Stop;
 use rounds::{Planned, plan_texts};
-use site_folder::round_name;
 use site_plan::{Judged, Plan, Taken, holdings, plan_text, read_plan};
 use std::alloc::{AllocError, Global};
 
@@ -20,31 +19,37 @@ pub fn plan_round<R: System>(
     n: u64,
     passed: &mut Vec<Fault>,
 ) -> Result<Option<Planned>, Fault> {
-    let Some((drawn, next)) = draw(place, keeper, n, passed)? else {
+    let claims = draw(place, keeper, n, passed)?;
+    if claims.drawn.is_empty() {
         return Ok(None);
-    };
-    let planned = make_plan(place, keeper, n, next, drawn)?;
-    fix(place, n, &planned)?;
+    }
+    let planned = plan_and_fix(place, keeper, n, claims)?;
     Ok(Some(planned))
 }
 
-// The files that a round is about, and the next number; none where there is no file.
+fn plan_and_fix<R: System>(
+    place: &mut Place<R>,
+    keeper: &Keeper,
+    n: u64,
+    claims: Claims,
+) -> Result<Planned, Fault> {
+    let planned = make_plan(place, keeper, n, claims)?;
+    fix(place, n, &planned)?;
+    Ok(planned)
+}
+
+// The files that a round is about.
 fn draw<R: System>(
     place: &mut Place<R>,
     keeper: &Keeper,
     n: u64,
     passed: &mut Vec<Fault>,
-) -> Result<Option<(Vec<Drawn>, u64)>, Fault> {
+) -> Result<Claims, Fault> {
     let standing = all_taken(place)?;
-    let first = next_number(place, n, &standing)?;
-    let (drawn, next) = match first_alone(&standing) {
-        Some(alone) => (alone_drawn(place.rt.alloc(), alone)?, first),
-        None => draw_all(place, keeper, n, standing, first, passed)?,
-    };
-    if drawn.is_empty() {
-        Ok(None)
-    } else {
-        Ok(Some((drawn, next)))
+    let next = next_number(place, n, &standing)?;
+    match first_alone(&standing) {
+        Some(alone) => Ok(alone_drawn(place.rt.alloc(), alone, next)?),
+        None => draw_all(place, keeper, n, standing, next, passed),
     }
 }
 
@@ -53,13 +58,14 @@ fn first_alone(standing: &[Taken]) -> Option<&Taken> {
     standing.iter().find(|one| one.alone)
 }
 
-fn alone_drawn(alloc: Global, taken: &Taken) -> Result<Vec<Drawn>, AllocError> {
+fn alone_drawn(alloc: Global, taken: &Taken, next: u64) -> Result<Claims, AllocError> {
+    let file = Vec::from_slice(alloc, b"-")?;
     let mut drawn = Vec::new(alloc);
     drawn.push(Drawn {
         taken: taken.copy(),
-        file: Vec::from_slice(alloc, b"-")?,
+        file,
     })?;
-    Ok(drawn)
+    Ok(Claims { drawn, next })
 }
 
 // The files that stand there already, and those that are claimed now.
@@ -68,15 +74,13 @@ fn draw_all<R: System>(
     keeper: &Keeper,
     n: u64,
     standing: Vec<Taken>,
-    first: u64,
+    next: u64,
     passed: &mut Vec<Fault>,
-) -> Result<(Vec<Drawn>, u64), Fault> {
-    let mut drawn = named(place, n, standing)?;
-    let (claimed, next) = claim(place, keeper, first, passed)?;
-    for one in claimed {
-        drawn.push(one)?;
-    }
-    Ok((drawn, next))
+) -> Result<Claims, Fault> {
+    let drawn = named(place, n, standing)?;
+    let mut claims = Claims { drawn, next };
+    claim(place, keeper, &mut claims, passed)?;
+    Ok(claims)
 }
 
 // Files that stand there already have the names that an earlier plan of this round gives, if one is there.
@@ -84,10 +88,20 @@ fn named<R: System>(place: &Place<R>, n: u64, standing: Vec<Taken>) -> Result<Ve
     let plan = plan_of(place, n)?;
     let mut drawn = Vec::new(place.rt.alloc());
     for taken in standing {
-        let file = Vec::from_slice(place.rt.alloc(), name_of(&plan, &taken))?;
-        drawn.push(Drawn { taken, file })?;
+        add_named(place.rt.alloc(), &plan, taken, &mut drawn)?;
     }
     Ok(drawn)
+}
+
+fn add_named(
+    alloc: Global,
+    plan: &Option<Plan>,
+    taken: Taken,
+    drawn: &mut Vec<Drawn>,
+) -> Result<(), AllocError> {
+    let file = Vec::from_slice(alloc, name_of(plan, &taken))?;
+    drawn.push(Drawn { taken, file })?;
+    Ok(())
 }
 
 fn name_of<'a>(plan: &'a Option<Plan>, taken: &Taken) -> &'a [u8] {
@@ -102,11 +116,14 @@ fn name_of<'a>(plan: &'a Option<Plan>, taken: &Taken) -> &'a [u8] {
 
 /// The plan of a round, if one is there that can be read.
 pub fn plan_of<R: System>(place: &Place<R>, n: u64) -> Result<Option<Plan>, Fault> {
-    let name = round_name(place.rt.alloc(), n, b".plan")?;
-    let Some(text) = place.read(&name)? else {
-        return Ok(None);
-    };
-    match read_plan(place.rt.alloc(), &text) {
+    match place.read_round_file(n, b".plan")? {
+        Some(text) => plan_in(place.rt.alloc(), &text),
+        None => Ok(None),
+    }
+}
+
+fn plan_in(alloc: Global, text: &[u8]) -> Result<Option<Plan>, Fault> {
+    match read_plan(alloc, text) {
         Ok(plan) => Ok(Some(plan)),
         Err(Stop::Refused(_)) => Ok(None),
         Err(Stop::Memory) => Err(Fault::Memory),
@@ -130,15 +147,25 @@ fn make_plan<R: System>(
     place: &Place<R>,
     keeper: &Keeper,
     n: u64,
-    next: u64,
-    drawn: Vec<Drawn>,
+    claims: Claims,
 ) -> Result<Planned, Fault> {
+    let Claims { drawn, next } = claims;
     let head = head_of(place, keeper)?;
-    let mut judged = judged_before(place, keeper, &head)?;
+    let judged = judge_all(place, keeper, &head, drawn)?;
+    Ok(plan_texts(place.rt.alloc(), n, next, head, judged)?)
+}
+
+fn judge_all<R: System>(
+    place: &Place<R>,
+    keeper: &Keeper,
+    head: &[u8],
+    drawn: Vec<Drawn>,
+) -> Result<Judged, Fault> {
+    let mut judged = judged_before(place, keeper, head)?;
     for one in drawn {
         judge_one(place, keeper, &mut judged, one)?;
     }
-    Ok(plan_texts(place.rt.alloc(), n, next, head, judged)?)
+    Ok(judged)
 }
 
 // Before the first file.
@@ -177,27 +204,35 @@ fn behind(bytes: &[u8], count: usize) -> &[u8] {
 
 // What stands in a deck before its first text.
 fn head_of<R: System>(place: &Place<R>, keeper: &Keeper) -> Result<Vec<u8>, Fault> {
-    let mut head = Vec::from_slice(place.rt.alloc(), FIRST_LINE)?;
-    head.extend_from_slice(&keeper.table)?;
+    let mut head = accounts_of(place.rt.alloc(), keeper)?;
     place.append(b"catalogue", &mut head)?;
     head.extend_from_slice(b"$STREAM\n")?;
     Ok(head)
 }
 
+// What stands in a deck before its catalogue.
+fn accounts_of(alloc: Global, keeper: &Keeper) -> Result<Vec<u8>, AllocError> {
+    let mut head = Vec::from_slice(alloc, FIRST_LINE)?;
+    head.extend_from_slice(&keeper.table)?;
+    Ok(head)
+}
+
 /// Fixes a plan on the disk. The deck is last: where it stands, the plan and the replies are its own.
 pub fn fix<R: System>(place: &mut Place<R>, n: u64, planned: &Planned) -> Result<(), Fault> {
-    let alloc = place.rt.alloc();
-    let text = plan_text(alloc, &planned.plan)?;
-    place.write(&round_name(alloc, n, b".plan")?, &text)?;
-    place.write(&round_name(alloc, n, b".replies")?, &planned.replies)?;
+    write_plan(place, n, &planned.plan)?;
+    place.write_round_file(n, b".replies", &planned.replies)?;
     place.settle_disk()?;
-    place.write(&round_name(alloc, n, b".deck")?, &planned.deck)?;
+    place.write_round_file(n, b".deck", &planned.deck)?;
     place.settle_disk()
+}
+
+fn write_plan<R: System>(place: &mut Place<R>, n: u64, plan: &Plan) -> Result<(), Fault> {
+    let text = plan_text(place.rt.alloc(), plan)?;
+    place.write_round_file(n, b".plan", &text)
 }
 
 /// Takes the deck of a round back, so that it is planned anew.
 pub fn unfix<R: System>(place: &mut Place<R>, n: u64) -> Result<(), Fault> {
-    let alloc = place.rt.alloc();
-    place.erase(&round_name(alloc, n, b".deck")?)?;
+    place.erase_round_file(n, b".deck")?;
     place.settle_disk()
 }

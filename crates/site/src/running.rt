@@ -7,7 +7,6 @@ use crate::planning::plan_round;
 use crate::serving::{Tally, serve, serve_there, settle_round};
 use crate::status::refuse_open;
 use mon_text::read_count;
-use site_folder::round_name;
 
 /// A round that was served, and what it came to.
 #[derive(Clone, Copy)]
@@ -31,57 +30,90 @@ pub struct Report {
 pub fn run_site<R: System>(rt: R, top: String, report: &mut Report) -> Result<(), Fault> {
     let (mut place, keeper) = open_site(rt, top)?;
     refuse_open(&place, &keeper)?;
-    let mut n = finish_last(&mut place, report)?;
-    let alone = number_alone(&place)?;
+    let next = finish_last(&mut place, report)?;
+    serve_dropped(&mut place, &keeper, next, report)
+}
+
+// Serves what users dropped, in rounds of which the first has this number.
+fn serve_dropped<R: System>(
+    place: &mut Place<R>,
+    keeper: &Keeper,
+    first: u64,
+    report: &mut Report,
+) -> Result<(), Fault> {
+    let alone = number_alone(place)?;
+    let mut n = first;
     for _ in 0..=alone {
-        if !serve_next(&mut place, &keeper, n, report)? {
-            return Ok(());
+        match serve_next(place, keeper, n, report)? {
+            Some(next) => n = next,
+            None => return Ok(()),
         }
-        n = n.saturating_add(1);
     }
     Ok(())
 }
 
 fn number_alone<R: System>(place: &Place<R>) -> Result<usize, Fault> {
-    Ok(all_taken(place)?.iter().filter(|one| one.alone).count())
+    let taken = all_taken(place)?;
+    Ok(taken.iter().filter(|one| one.alone).count())
 }
 
-// Plans a round and serves it. Answers whether there was one.
+// Plans a round and serves it. Answers the number of the next one, if there was one.
 fn serve_next<R: System>(
     place: &mut Place<R>,
     keeper: &Keeper,
     n: u64,
     report: &mut Report,
-) -> Result<bool, Fault> {
-    let Some(planned) = plan_round(place, keeper, n, &mut report.passed)? else {
-        return Ok(false);
-    };
-    let tally = serve(place, n, planned)?;
+) -> Result<Option<u64>, Fault> {
+    match plan_round(place, keeper, n, &mut report.passed)? {
+        Some(planned) => {
+            let next = note(report, n, serve(place, n, planned))?;
+            Ok(Some(next))
+        }
+        None => Ok(None),
+    }
+}
+
+// Notes what a round came to that was served, and answers the number of the next one.
+fn note(report: &mut Report, n: u64, served: Result<Tally, Fault>) -> Result<u64, Fault> {
+    let tally = served?;
     report.served.push(Served { n, tally })?;
-    Ok(true)
+    Ok(n.saturating_add(1))
+}
+
+// How far a round has come.
+#[derive(Clone, Copy)]
+enum Stage {
+    // Its plan is not fixed.
+    Open,
+    // It is to be run.
+    Planned,
+    // It was run, and is to be settled.
+    Committed,
+    Done,
 }
 
 // Brings the last round to its end, and answers the number of the next one.
 fn finish_last<R: System>(place: &mut Place<R>, report: &mut Report) -> Result<u64, Fault> {
     let n = last_round(place)?;
-    if n == 0 || stands(place, n, b".done")? {
-        return Ok(n.saturating_add(1));
+    match stage_of(place, n)? {
+        Stage::Open => Ok(n),
+        Stage::Planned => note(report, n, serve_there(place, n)),
+        Stage::Committed => note(report, n, settle_round(place, n)),
+        Stage::Done => Ok(n.saturating_add(1)),
     }
-    let tally = if stands(place, n, b".out")? {
-        settle_round(place, n)?
-    } else if stands(place, n, b".deck")? {
-        serve_there(place, n)?
-    } else {
-        return Ok(n);
-    };
-    report.served.push(Served { n, tally })?;
-    Ok(n.saturating_add(1))
 }
 
-/// Whether a file of a round stands.
-pub fn stands<R: System>(place: &Place<R>, n: u64, ending: &[u8]) -> Result<bool, Fault> {
-    let name = round_name(place.rt.alloc(), n, ending)?;
-    Ok(place.look(&name)?.is_some())
+// How far the last round has come; one of number 0 is none, and done.
+fn stage_of<R: System>(place: &Place<R>, n: u64) -> Result<Stage, Fault> {
+    if n == 0 || place.has_round_file(n, b".done")? {
+        Ok(Stage::Done)
+    } else if place.has_round_file(n, b".out")? {
+        Ok(Stage::Committed)
+    } else if place.has_round_file(n, b".deck")? {
+        Ok(Stage::Planned)
+    } else {
+        Ok(Stage::Open)
+    }
 }
 
 /// The highest number of a round of which a file stands; 0 where there is none.

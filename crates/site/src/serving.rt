@@ -1,7 +1,6 @@
 //! Serving a round that is planned: its texts are run, and each is given what is its own.
 use crate::auditing::run_audited;
 use crate::fault::{Fault, Wrong};
-use crate::keeper::file;
 use crate::place::{Place, System};
 use crate::planning::{fix, plan_of, unfix};
 use deck_driver::Options;
@@ -9,7 +8,7 @@ use deck_syntax::DeckError;
 use mon_device::Sink;
 use mon_text::Stop;
 use rounds::{Parted, Planned, Round, RoundError, part_deck, parts_text, run_round, without_text};
-use site_folder::{Standing, deliver, round_name, settle};
+use site_folder::{Standing, deliver, settle};
 use site_plan::{Plan, Verdict};
 use std::alloc::{AllocError, Global};
 
@@ -22,6 +21,14 @@ pub struct Tally {
     pub refused: u64,
     /// How many were put off.
     pub put_off: u64,
+}
+
+// What came of an attempt to serve a planned round.
+#[derive(Clone, Copy)]
+enum Attempt {
+    Served(Tally),
+    // A growth was refused while the text of this place was served, counted from 0.
+    Short(usize),
 }
 
 // How the run of a planned round ended.
@@ -43,17 +50,27 @@ pub fn serve_there<R: System>(place: &mut Place<R>, n: u64) -> Result<Tally, Fau
 pub fn serve<R: System>(place: &mut Place<R>, n: u64, planned: Planned) -> Result<Tally, Fault> {
     let mut planned = planned;
     for _ in 0..=planned.plan.entries.len() {
-        let Planned {
-            plan,
-            deck,
-            replies,
-        } = planned;
-        match run_planned(place, n, &plan, deck)? {
-            Ran::Whole(round) => return hand_out(place, n, &plan, &replies, round),
-            Ran::Short(text) => planned = put_off(place, n, text)?,
+        match serve_once(place, n, planned)? {
+            Attempt::Served(tally) => return Ok(tally),
+            Attempt::Short(text) => planned = put_off(place, n, text)?,
         }
     }
     Err(Fault::Memory)
+}
+
+fn serve_once<R: System>(place: &mut Place<R>, n: u64, planned: Planned) -> Result<Attempt, Fault> {
+    let Planned {
+        plan,
+        deck,
+        replies,
+    } = planned;
+    match run_planned(place, n, &plan, deck)? {
+        Ran::Whole(round) => {
+            let tally = hand_out(place, n, &plan, &replies, round)?;
+            Ok(Attempt::Served(tally))
+        }
+        Ran::Short(text) => Ok(Attempt::Short(text)),
+    }
 }
 
 /// Settles a round that is committed.
@@ -67,12 +84,9 @@ fn settle_on<R: System>(place: &mut Place<R>, n: u64) -> Result<(), Fault> {
     let alloc = place.rt.alloc();
     match settle(alloc, place, n) {
         Ok(Standing::Done) => Ok(()),
-        Ok(Standing::Open) => Err(damaged(place, n, b".out")?),
-        Ok(Standing::Damaged) => Err(damaged(place, n, b".parts")?),
-        Err(error) => {
-            let name = round_name(alloc, n, b".out")?;
-            Err(place.fault_of(error, &name))
-        }
+        Ok(Standing::Open) => Err(damaged(place, n, b".out")),
+        Ok(Standing::Damaged) => Err(damaged(place, n, b".parts")),
+        Err(error) => Err(place.fault_of_round(n, error)),
     }
 }
 
@@ -80,13 +94,12 @@ fn settle_on<R: System>(place: &mut Place<R>, n: u64) -> Result<(), Fault> {
 pub fn plan_there<R: System>(place: &Place<R>, n: u64) -> Result<Plan, Fault> {
     match plan_of(place, n)? {
         Some(plan) => Ok(plan),
-        None => Err(damaged(place, n, b".plan")?),
+        None => Err(damaged(place, n, b".plan")),
     }
 }
 
-fn damaged<R: System>(place: &Place<R>, n: u64, ending: &[u8]) -> Result<Fault, AllocError> {
-    let name = round_name(place.rt.alloc(), n, ending)?;
-    Ok(place.wrong(&name, Wrong::Words("is damaged")))
+fn damaged<R: System>(place: &Place<R>, n: u64, ending: &[u8]) -> Fault {
+    place.wrong_round_file(n, ending, Wrong::Words("is damaged"))
 }
 
 // Runs the texts of a round.
@@ -143,8 +156,7 @@ fn bad_catalogue<R: System>(place: &Place<R>, line: u64, before: u64, code: Deck
 
 /// Takes the deck of a round that stands on the disk apart, by its plan.
 pub fn part_deck_of<R: System>(place: &Place<R>, n: u64, plan: &Plan) -> Result<Parted, Fault> {
-    let name = round_name(place.rt.alloc(), n, b".deck")?;
-    let deck = file(place, &name)?;
+    let deck = place.round_file(n, b".deck")?;
     part_of(place, n, plan, deck)
 }
 
@@ -156,7 +168,7 @@ fn part_of<R: System>(
 ) -> Result<Parted, Fault> {
     match part_deck(place.rt.alloc(), plan, deck) {
         Ok(parted) => Ok(parted),
-        Err(Stop::Refused(_)) => Err(damaged(place, n, b".deck")?),
+        Err(Stop::Refused(_)) => Err(damaged(place, n, b".deck")),
         Err(Stop::Memory) => Err(Fault::Memory),
     }
 }
@@ -183,11 +195,8 @@ fn hand_out<R: System>(
     let parts = parts_of(alloc, plan, &round)?;
     match deliver(alloc, place, n, replies, &parts, &round.output) {
         Ok(true) => Ok(tally_of(plan)),
-        Ok(false) => Err(damaged(place, n, b".replies")?),
-        Err(error) => {
-            let name = round_name(alloc, n, b".out")?;
-            Err(place.fault_of(error, &name))
-        }
+        Ok(false) => Err(damaged(place, n, b".replies")),
+        Err(error) => Err(place.fault_of_round(n, error)),
     }
 }
 
@@ -218,22 +227,23 @@ fn counted(tally: Tally, verdict: Verdict) -> Tally {
 fn put_off<R: System>(place: &mut Place<R>, n: u64, text: usize) -> Result<Planned, Fault> {
     let planned = planned_there(place, n)?;
     match without_text(place.rt.alloc(), planned, text) {
-        Ok(planned) => {
-            unfix(place, n)?;
-            fix(place, n, &planned)?;
-            Ok(planned)
-        }
-        Err(Stop::Refused(_)) => Err(damaged(place, n, b".deck")?),
+        Ok(planned) => fix_anew(place, n, planned),
+        Err(Stop::Refused(_)) => Err(damaged(place, n, b".deck")),
         Err(Stop::Memory) => Err(Fault::Memory),
     }
 }
 
+fn fix_anew<R: System>(place: &mut Place<R>, n: u64, planned: Planned) -> Result<Planned, Fault> {
+    unfix(place, n)?;
+    fix(place, n, &planned)?;
+    Ok(planned)
+}
+
 // What stands on the disk of a round that is planned.
 fn planned_there<R: System>(place: &Place<R>, n: u64) -> Result<Planned, Fault> {
-    let alloc = place.rt.alloc();
     let plan = plan_there(place, n)?;
-    let replies = file(place, &round_name(alloc, n, b".replies")?)?;
-    let deck = file(place, &round_name(alloc, n, b".deck")?)?;
+    let replies = place.round_file(n, b".replies")?;
+    let deck = place.round_file(n, b".deck")?;
     Ok(Planned {
         plan,
         deck,

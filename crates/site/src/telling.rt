@@ -3,7 +3,7 @@ use crate::claiming::all_taken;
 use crate::fault::{FAILED, Fault};
 use crate::keeper::{Keeper, open_site};
 use crate::place::{Place, System};
-use crate::running::{Report, Served, last_round, stands};
+use crate::running::{Report, Served, last_round};
 use crate::status::faults_of;
 use mon_text::Name;
 use rounds::box_name;
@@ -118,8 +118,7 @@ fn tell_standing<R: Teller>(rt: &R, place: &Place<R>, keeper: &Keeper) -> Result
     if !faults.grave.is_empty() {
         return Ok(FAILED);
     }
-    tell_last(rt, place)?;
-    tell_boxes(rt, place, keeper)?;
+    tell_work(rt, place, keeper)?;
     Ok(if faults.boxes.is_empty() { 0 } else { FAILED })
 }
 
@@ -129,18 +128,34 @@ fn tell_faults<R: Eprint>(rt: &R, faults: &[Fault]) {
     }
 }
 
+// Tells what was done, and what waits.
+fn tell_work<R: Teller>(rt: &R, place: &Place<R>, keeper: &Keeper) -> Result<(), Fault> {
+    tell_last(rt, place)?;
+    tell_boxes(rt, place, keeper)
+}
+
 // Tells where the last round stands, and how many claimed files there are.
 fn tell_last<R: Teller>(rt: &R, place: &Place<R>) -> Result<(), Fault> {
     let n = last_round(place)?;
-    let claimed = all_taken(place)?.len();
+    let claimed = number_taken(place)?;
+    tell_last_round(rt, place, n)?;
+    let _told = println!(rt; "files claimed: {claimed}");
+    Ok(())
+}
+
+fn number_taken<R: System>(place: &Place<R>) -> Result<usize, Fault> {
+    let taken = all_taken(place)?;
+    Ok(taken.len())
+}
+
+fn tell_last_round<R: Teller>(rt: &R, place: &Place<R>, n: u64) -> Result<(), Fault> {
     let _told = if n == 0 {
         println!(rt; "last round: none yet")
-    } else if stands(place, n, b".done")? {
+    } else if place.has_round_file(n, b".done")? {
         println!(rt; "last round: {n}, done")
     } else {
         println!(rt; "last round: {n}, not done: the next run goes on with it")
     };
-    let _told = println!(rt; "files claimed: {claimed}");
     Ok(())
 }
 
