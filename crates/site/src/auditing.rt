@@ -25,24 +25,42 @@ pub fn run_audited<R: System>(
     parted: Parted,
 ) -> Result<Result<Round, RoundError>, Fault> {
     let name = audit_name(place, n)?;
-    let mut room = Room::new(place.rt.alloc())?;
-    let writer = StdWriter::<R::File, Brand>::new(place.begin(&name)?);
+    let room = Room::new(place.rt.alloc())?;
+    let file = place.begin(&name)?;
+    let (told, file) = run_to_file(place, parted, room, file);
+    end_audit(place, &name, file, told)
+}
+
+// Runs a round whose audit goes to a file, and gives the file back.
+fn run_to_file<R: System>(
+    place: &Place<R>,
+    parted: Parted,
+    room: Room,
+    file: R::File,
+) -> (Told, R::File) {
+    let mut room = room;
+    let writer = StdWriter::<R::File, Brand>::new(file);
     let mut devices = Devices::new(MemReader::new(b""), writer);
     let told = run_told(place.rt.alloc(), parted, &mut devices, &mut room);
-    let file = devices.writer.into_inner();
-    match told.ended {
-        Ok(round) if told.is_whole => {
-            place.finish(&name, file)?;
-            Ok(Ok(round))
-        }
-        Ok(_) => {
-            place.abandon(&name, file)?;
-            Err(place.wrong(&name, Wrong::Words("cannot be written")))
-        }
-        Err(error) => {
-            place.abandon(&name, file)?;
-            Ok(Err(error))
-        }
+    (told, devices.writer.into_inner())
+}
+
+// The audit of a round takes its place where all is there, and else is gone.
+fn end_audit<R: System>(
+    place: &mut Place<R>,
+    name: &[u8],
+    file: R::File,
+    told: Told,
+) -> Result<Result<Round, RoundError>, Fault> {
+    let Told { ended, is_whole } = told;
+    if is_whole && ended.is_ok() {
+        place.finish(name, file)?;
+        return Ok(ended);
+    }
+    place.abandon(name, file)?;
+    match ended {
+        Ok(_) => Err(place.wrong(name, Wrong::Words("cannot be written"))),
+        Err(error) => Ok(Err(error)),
     }
 }
 
@@ -52,19 +70,37 @@ pub fn run_compared<R: System>(
     n: u64,
     parted: Parted,
 ) -> Result<Option<Result<Round, RoundError>>, Fault> {
-    let alloc = place.rt.alloc();
+    let stored = stored_audit(place, n)?;
+    let room = Room::new(place.rt.alloc())?;
+    Ok(run_against(place.rt.alloc(), parted, room, stored))
+}
+
+fn stored_audit<R: System>(place: &Place<R>, n: u64) -> Result<Stored<R::File>, Fault>
+    ensures { IfOk result (λ stored. stored.has_failed ≡ false) }
+{
     let name = audit_name(place, n)?;
-    let mut room = Room::new(alloc)?;
-    let stored = Stored::new(alloc, place.open(&name)?)?;
+    let file = place.open(&name)?;
+    Ok(Stored::new(place.rt.alloc(), file)?)
+}
+
+fn run_against<F: Read + Drop>(
+    alloc: Global,
+    parted: Parted,
+    room: Room,
+    stored: Stored<F>,
+) -> Option<Result<Round, RoundError>>
+    requires { stored.has_failed ≡ false }
+{
+    let mut room = room;
     let mut devices = Devices::new(MemReader::new(b""), stored);
     let told = run_told(alloc, parted, &mut devices, &mut room);
     if !told.is_whole {
-        return Ok(None);
+        return None;
     }
     let is_at_end = devices.writer.is_at_end();
     match told.ended {
-        Ok(_) if !is_at_end => Ok(None),
-        ended => Ok(Some(ended)),
+        Ok(_) if !is_at_end => None,
+        ended => Some(ended),
     }
 }
 
