@@ -30,13 +30,18 @@ pub fn open_site<R: System>(rt: R, top: String) -> Result<(Place<R>, Keeper), Fa
 fn read_keeper<R: System>(place: &Place<R>) -> Result<Keeper, Fault> {
     let terms = terms_of(place)?;
     let text = file(place, b"accounts")?;
-    let accounts = accounts_in(place.rt.alloc(), &place.path(b"accounts")?, &text)?;
+    let accounts = accounts_of(place, &text)?;
     let table = whole_table(place.rt.alloc(), &text)?;
     Ok(Keeper {
         table,
         accounts,
         terms,
     })
+}
+
+fn accounts_of<R: System>(place: &Place<R>, table: &[u8]) -> Result<Accounts, Fault> {
+    let path = place.path(b"accounts")?;
+    accounts_in(place.rt.alloc(), &path, table)
 }
 
 /// A file that has to be there.
@@ -49,7 +54,8 @@ pub fn file<R: System>(place: &Place<R>, name: &[u8]) -> Result<Vec<u8>, Fault> 
 
 fn terms_of<R: System>(place: &Place<R>) -> Result<Terms, Fault> {
     let text = file(place, b"limits")?;
-    terms_in(place.rt.alloc(), &place.path(b"limits")?, &text)
+    let path = place.path(b"limits")?;
+    terms_in(place.rt.alloc(), &path, &text)
 }
 
 /// What a text of limits says.
@@ -73,12 +79,8 @@ fn wrong_terms(line: u64, fault: TermsFault) -> Wrong {
 
 fn users_of<R: System>(place: &Place<R>, terms: &Terms) -> Result<Vec<User>, Fault> {
     let text = file(place, b"users")?;
-    users_in(
-        place.rt.alloc(),
-        &place.path(b"users")?,
-        terms.demonstration,
-        &text,
-    )
+    let path = place.path(b"users")?;
+    users_in(place.rt.alloc(), &path, terms.demonstration, &text)
 }
 
 /// The users that a text gives.

@@ -20,6 +20,8 @@ const WRITERS: u32 = 0o022;
 /// That a file is cut off within a line, or that its last line lacks its end.
 pub const UNENDED: Wrong = Wrong::Words("its last line has no line end");
 
+const MISSING: Wrong = Wrong::Words("is missing");
+
 /// What a place has to be.
 #[derive(Clone, Copy)]
 struct Due {
@@ -69,22 +71,39 @@ pub fn faults_of<R: System>(place: &Place<R>, keeper: &Keeper) -> Result<Faults,
         grave: Vec::new(alloc),
         boxes: Vec::new(alloc),
     };
-    let Some(top) = place.look(b"")? else {
-        faults
-            .grave
-            .push(place.wrong(b"", Wrong::Words("is missing")))?;
-        return Ok(faults);
-    };
-    check_own(place, top.uid(), &mut faults.grave)?;
-    check_users(place, keeper, top.uid(), &mut faults)?;
+    match place.look(b"")? {
+        Some(top) => check_all(place, keeper, top.uid(), &mut faults)?,
+        None => faults.grave.push(place.wrong(b"", MISSING))?,
+    }
     Ok(faults)
+}
+
+fn check_all<R: System>(
+    place: &Place<R>,
+    keeper: &Keeper,
+    owner: u32,
+    faults: &mut Faults,
+) -> Result<(), Fault> {
+    check_own(place, owner, &mut faults.grave)?;
+    check_users(place, keeper, owner, faults)
 }
 
 /// Refuses a site with which something is wrong, except a box; and one that is not of who runs the program.
 pub fn refuse_open<R: System>(place: &Place<R>, keeper: &Keeper) -> Result<(), Fault> {
-    if let Some(fault) = faults_of(place, keeper)?.grave.into_iter().next() {
-        return Err(fault);
+    refuse_faults(place, keeper)?;
+    refuse_stranger(place)
+}
+
+fn refuse_faults<R: System>(place: &Place<R>, keeper: &Keeper) -> Result<(), Fault> {
+    let faults = faults_of(place, keeper)?;
+    match faults.grave.into_iter().next() {
+        Some(fault) => Err(fault),
+        None => Ok(()),
     }
+}
+
+// Refuses a site that is not of who runs the program.
+fn refuse_stranger<R: System>(place: &Place<R>) -> Result<(), Fault> {
     let uid = place.owner_of_new(b"rounds/owner.tmp")?;
     match place.look(b"")? {
         Some(seen) if seen.uid() != uid => { Err(place.wrong(b"", Wrong::Owner(seen.uid(), uid))) }
@@ -108,6 +127,10 @@ fn check_own<R: System>(place: &Place<R>, uid: u32, faults: &mut Vec<Fault>) -> 
     for (name, due) in due {
         check(place, name, uid, due, faults)?;
     }
+    check_end(place, faults)
+}
+
+fn check_end<R: System>(place: &Place<R>, faults: &mut Vec<Fault>) -> Result<(), Fault> {
     if !place.ends_line(b"catalogue")? {
         faults.push(place.wrong(b"catalogue", UNENDED))?;
     }
@@ -135,15 +158,36 @@ fn check_user<R: System>(
     account: &Name,
     faults: &mut Faults,
 ) -> Result<(), Fault> {
-    let alloc = place.rt.alloc();
-    let Some(uid) = uid_of_account(place.users(), account) else {
-        return Ok(());
-    };
-    if let Some(fault) = fault_of_box(place, &box_name(alloc, account)?, uid)? {
-        faults.boxes.push(fault)?;
+    match uid_of_account(place.users(), account) {
+        Some(uid) => {
+            check_box(place, uid, account, &mut faults.boxes)?;
+            check_answers(place, owner, account, &mut faults.grave)
+        }
+        None => Ok(()),
     }
-    let folder = answer_folder(alloc, account)?;
-    check(place, &folder, owner, FOLDER, &mut faults.grave)
+}
+
+fn check_box<R: System>(
+    place: &Place<R>,
+    uid: u32,
+    account: &Name,
+    faults: &mut Vec<Fault>,
+) -> Result<(), Fault> {
+    let name = box_name(place.rt.alloc(), account)?;
+    if let Some(fault) = fault_of_box(place, &name, uid)? {
+        faults.push(fault)?;
+    }
+    Ok(())
+}
+
+fn check_answers<R: System>(
+    place: &Place<R>,
+    owner: u32,
+    account: &Name,
+    faults: &mut Vec<Fault>,
+) -> Result<(), Fault> {
+    let name = answer_folder(place.rt.alloc(), account)?;
+    check(place, &name, owner, FOLDER, faults)
 }
 
 /// What is wrong with the box of this user, for which it is not claimed from. It is the user's, or the keeper's.
@@ -152,14 +196,11 @@ pub fn fault_of_box<R: System>(
     name: &[u8],
     uid: u32,
 ) -> Result<Option<Fault>, Fault> {
-    let Some(seen) = place.look(name)? else {
-        return Ok(Some(place.wrong(name, Wrong::Words("is missing"))));
+    let wrong = match place.look(name)? {
+        Some(seen) => wrong_in(&seen, owner_of_box(place, &seen, uid)?, BOX),
+        None => Some(MISSING),
     };
-    let owner = owner_of_box(place, &seen, uid)?;
-    match wrong_in(&seen, owner, BOX) {
-        Some(wrong) => Ok(Some(place.wrong(name, wrong))),
-        None => Ok(None),
-    }
+    Ok(wrong.map(|wrong| place.wrong(name, wrong)))
 }
 
 // Who a box's owner has to be: the keeper where he is, and else the user.
@@ -178,7 +219,7 @@ fn check<R: System>(
     faults: &mut Vec<Fault>,
 ) -> Result<(), Fault> {
     let wrong = match place.look(name)? {
-        None => Some(Wrong::Words("is missing")),
+        None => Some(MISSING),
         Some(seen) => wrong_in(&seen, uid, due),
     };
     if let Some(wrong) = wrong {
