@@ -22,19 +22,42 @@ pub fn review_streams<R: Read, W: Write>(
     output: &mut W,
 ) -> Result<Tally, Fault> {
     let mut review = Review::new(alloc, quiet);
-    let mut buffer = buffer_of(alloc)?;
     let mut out = Vec::new(alloc);
-    for _ in 0..u64::MAX {
-        let count = read_piece(input, &mut buffer)?;
-        if count == 0 {
-            break;
-        }
-        feed_piece(alloc, &mut review, &buffer, count, &mut out)?;
-        write_out(output, &mut out)?;
-    }
+    review_pieces(alloc, &mut review, input, output, &mut out)?;
     let tally = review.finish(alloc, &mut out)?;
     write_out(output, &mut out)?;
     Ok(tally)
+}
+
+// Reviews what comes, up to the end of the stream.
+fn review_pieces<R: Read, W: Write>(
+    alloc: Global,
+    review: &mut Review,
+    input: &mut R,
+    output: &mut W,
+    out: &mut Vec<u8>,
+) -> Result<(), ReviewFault> {
+    let mut buffer = buffer_of(alloc)?;
+    for _ in 0..u64::MAX {
+        let count = read_piece(input, &mut buffer)?;
+        if count == 0 {
+            return Ok(());
+        }
+        review_piece(alloc, review, &buffer, count, output, out)?;
+    }
+    Ok(())
+}
+
+fn review_piece<W: Write>(
+    alloc: Global,
+    review: &mut Review,
+    buffer: &[u8],
+    count: usize,
+    output: &mut W,
+    out: &mut Vec<u8>,
+) -> Result<(), ReviewFault> {
+    feed_piece(alloc, review, buffer, count, out)?;
+    write_out(output, out)
 }
 
 // A buffer for reads.
