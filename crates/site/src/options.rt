@@ -117,7 +117,10 @@ fn read_folder(alloc: Global, name: &str, of: &ArgMatches) -> Result<Asked, Erro
 
 // A word that has to be there.
 fn word<'a>(of: &'a ArgMatches, id: &str) -> &'a str {
-    of.get_str(id).unwrap_or("")
+    match of.get_str(id) {
+        Some(word) => word,
+        None => "",
+    }
 }
 
 fn text_of(alloc: Global, of: &ArgMatches, id: &str) -> Result<String, AllocError> {
