@@ -196,11 +196,24 @@ pub fn fault_of_box<R: System>(
     name: &[u8],
     uid: u32,
 ) -> Result<Option<Fault>, Fault> {
-    let wrong = match place.look(name)? {
-        Some(seen) => wrong_in(&seen, owner_of_box(place, &seen, uid)?, BOX),
-        None => Some(MISSING),
-    };
-    Ok(wrong.map(|wrong| place.wrong(name, wrong)))
+    match wrong_with_box(place, name, uid)? {
+        Some(wrong) => Ok(Some(place.wrong(name, wrong))),
+        None => Ok(None),
+    }
+}
+
+fn wrong_with_box<R: System>(
+    place: &Place<R>,
+    name: &[u8],
+    uid: u32,
+) -> Result<Option<Wrong>, Fault> {
+    match place.look(name)? {
+        Some(seen) => {
+            let owner = owner_of_box(place, &seen, uid)?;
+            Ok(wrong_in(&seen, owner, BOX))
+        }
+        None => Ok(Some(MISSING)),
+    }
 }
 
 // Who a box's owner has to be: the keeper where he is, and else the user.
