@@ -16,13 +16,15 @@ abbrev pub is_same_word : List ℕ → List ℕ → Bool
 is_same_word a b = pointwise nat_eq (map to_ascii_lowercase a) (map to_ascii_lowercase b)
 
 abbrev pub is_control_name : List ℕ → Bool
-is_control_name word = is_same_word word (codes "LIST") || is_same_word word (codes "UNLIST") || is_same_word word (codes "EJECT")
+is_control_name word =
+    is_same_word word (codes "LIST") || is_same_word word (codes "UNLIST") || is_same_word word (codes "EJECT")
 
 -- `*` begins a comment, `-` a control card, whose name goes up to a blank or the end, `+` or `.` a continuation; anything else,
 -- or nothing, a new line of statements
 abbrev pub kind_of : List ℕ → CardKind
 kind_of [] = Start
-kind_of (mark ∷ rest) = if mark == 42 then Comment
+kind_of (mark ∷ rest) =
+    if mark == 42 then Comment
     else if mark == 45 then (if is_control_name (before_first is_blank rest) then Control else UnknownControl)
     else if mark == 43 || mark == 46 then Continuation
     else Start

@@ -44,12 +44,14 @@ is_continuation_card card = is_continuation (kind_of card.text)
 -- what continues a line: the cards up to the next start
 abbrev pub continued : List Card → List Placed
 continued [] = []
-continued (card ∷ cards) = if is_continuation_card card then placed_on card.number 1 (without_mark card.text) ++ continued cards else []
+continued (card ∷ cards) =
+    if is_continuation_card card then placed_on card.number 1 (without_mark card.text) ++ continued cards else []
 
 -- each start, joined with what continues it
 abbrev pub joined : List Card → List (List Placed)
 joined [] = []
-joined (card ∷ cards) = if is_continuation_card card then joined cards
+joined (card ∷ cards) =
+    if is_continuation_card card then joined cards
     else (placed_on card.number 1 card.text ++ continued cards) ∷ joined cards
 
 -- STATEMENTS
@@ -67,7 +69,8 @@ ends_statement (Some quote) c = false
 -- a line, or the rest of one within which a literal may be open, cut at each `;` outside literals
 abbrev pub pieces : Option ℕ → List Placed → List (List Placed)
 pieces literal [] = [] ∷ []
-pieces literal (c ∷ cs) = if ends_statement literal c.code then [] ∷ pieces (literal_after literal c.code) cs
+pieces literal (c ∷ cs) =
+    if ends_statement literal c.code then [] ∷ pieces (literal_after literal c.code) cs
     else onto_first c (pieces (literal_after literal c.code) cs)
 
 -- a piece of blanks alone is no statement
@@ -115,5 +118,6 @@ program_ended_by end_line lines = record {
 
 -- the program that these lines are, or its first refusal; without an END line, it is refused at the card after the last
 abbrev pub statements_of : List (List ℕ) → Result ProgramText SyntaxError
-statements_of lines = option_map_or Err (first_refusal false (numbered 1 (before_first is_end_line lines)))
+statements_of lines =
+    option_map_or Err (first_refusal false (numbered 1 (before_first is_end_line lines)))
     (ok_or (option_map (λ end_line. program_ended_by end_line lines) (find is_end_line lines)) (refused_card (length lines + 1) NoEndLine))

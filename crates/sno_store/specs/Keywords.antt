@@ -11,7 +11,8 @@ abbrev pub first_keywords : ℕ → Keywords
 first_keywords limit = record { anchor = pos 0; full_scan = pos 0; trim = pos 0; statement_limit = limit; maximum_length = 5000; begun = 0; statement = 0 }
 
 abbrev pub keyword_named : List ℕ → Option Keyword
-keyword_named name = if bytes_eq name (codes "ANCHOR") then Some Anchor
+keyword_named name =
+    if bytes_eq name (codes "ANCHOR") then Some Anchor
     else if bytes_eq name (codes "FULLSCAN") then Some FullScan
     else if bytes_eq name (codes "TRIM") then Some Trim
     else if bytes_eq name (codes "STLIMIT") then Some StatementLimit
