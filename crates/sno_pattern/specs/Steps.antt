@@ -89,26 +89,34 @@ module _ (text : List ℕ) where
   row go (Meet (pattern.NotAny s)) r c pending n = provided (first_passes (λ x. not (is_one_of s x)) (drop c text)) n (go r (c + 1) pending n)
   row go (Meet (pattern.Span s)) r c pending n =
       provided (first_passes (is_one_of s) (drop c text)) n (go r (c + prefix_len (is_one_of s) (drop c text)) pending n)
-  row go (Meet (pattern.Break s)) r c pending n = provided (nat_lt (c + position_or_len (is_one_of s) (drop c text)) (length text)) n
-      (go r (c + position_or_len (is_one_of s) (drop c text)) pending n)
+  row go (Meet (pattern.Break s)) r c pending n =
+      provided (nat_lt (c + position_or_len (is_one_of s) (drop c text)) (length text)) n (go r (c + position_or_len (is_one_of s) (drop c text)) pending n)
   row go (Meet pattern.Arb) r c pending n = at_each go r (range_with_len c (length text + 1 - c)) pending n
   row go (Meet pattern.Bal) r c pending n = at_each go r (balanced_ends text c) pending n
   row go (Meet (pattern.Cat a b)) r c pending n = go (Meet a ∷ Meet b ∷ r) c pending n
-  row go (Meet (pattern.Alt a b)) r c pending n = on_failure (go (Meet a ∷ r) c pending n) (λ n'. go (Meet b ∷ r) c pending n')
-  row go (Meet (pattern.Arbno p)) r c pending n = on_failure (go r c pending n) (λ n'. go (Meet p ∷ More p c ∷ r) c pending n')
+  row go (Meet (pattern.Alt a b)) r c pending n =
+      on_failure (go (Meet a ∷ r) c pending n) (λ n'. go (Meet b ∷ r) c pending n')
+  row go (Meet (pattern.Arbno p)) r c pending n =
+      on_failure (go r c pending n) (λ n'. go (Meet p ∷ More p c ∷ r) c pending n')
   row go (More p d) r c pending n =
       if nat_eq c d then ends Failure n else on_failure (go r c pending n) (λ n'. go (Meet p ∷ More p c ∷ r) c pending n')
   row go (Meet (pattern.Conditional p v)) r c pending n = go (Meet p ∷ EndConditional v c ∷ r) c pending n
   row go (EndConditional v d) r c pending n = go r c (pending ++ record { variable = v; text = part text d c } ∷ []) n
   row go (Meet (pattern.Immediate p v)) r c pending n = go (Meet p ∷ EndImmediate v c ∷ r) c pending n
-  row go (EndImmediate v d) r c pending n = ask (Assign v (Part (part text d c))) >>= λ told. if_given told n (go r c pending n)
-  row go (Meet (pattern.Cursor v)) r c pending n = ask (Assign v (Cursor c)) >>= λ told. if_given told n (go r c pending n)
-  row go (Meet (pattern.Defer v)) r c pending n = ask (LookUp v) >>= λ told.
-      elim told [ Found looked ↦ go (Meet (pattern_found looked) ∷ r) c pending n | Faulty f ↦ ends (Fault f) n | other ↦ ends Failure n ]
+  row go (EndImmediate v d) r c pending n = do
+    told ← ask (Assign v (Part (part text d c)))
+    if_given told n (go r c pending n)
+  row go (Meet (pattern.Cursor v)) r c pending n = do
+    told ← ask (Assign v (Cursor c))
+    if_given told n (go r c pending n)
+  row go (Meet (pattern.Defer v)) r c pending n = do
+    told ← ask (LookUp v)
+    elim told [ Found looked ↦ go (Meet (pattern_found looked) ∷ r) c pending n | Faulty f ↦ ends (Fault f) n | other ↦ ends Failure n ]
   row go (Meet pattern.Fail) r c pending n = ends Failure n
   row go (Meet pattern.Abort) r c pending n = ends WholeFails n
   row go (Meet pattern.Fence) r c pending n = on_failure (go r c pending n) (λ n'. ends WholeFails n')
-  row go (Meet pattern.Succeed) r c pending n = on_failure (go r c pending n) (λ n'. go (Meet pattern.Succeed ∷ r) c pending n')
+  row go (Meet pattern.Succeed) r c pending n =
+      on_failure (go r c pending n) (λ n'. go (Meet pattern.Succeed ∷ r) c pending n')
 
   -- taking a goal off is one step, and no goal left is success and takes none. The depth bounds how deep attempts stand in
   -- one another; as many as there are steps are enough
@@ -137,8 +145,9 @@ settle from (Fault f) n next = Returns (record { end = end.Fault f; left = n })
 -- so many starts from one on
 abbrev pub from_starts : List ℕ → Pattern → ℕ → ℕ → ℕ → Interaction Look Told Finish
 from_starts text p zero at n = Returns (record { end = end.NoMatch; left = n })
-from_starts text p (suc k) at n = outcome text (Meet p ∷ []) at [] n >>= λ o.
-    settle at o.end o.left (λ n'. from_starts text p k (at + 1) n')
+from_starts text p (suc k) at n = do
+  o ← outcome text (Meet p ∷ []) at [] n
+  settle at o.end o.left (λ n'. from_starts text p k (at + 1) n')
 
 -- the match with the steps that it leaves
 abbrev pub counted_match : List ℕ → Pattern → (anchored : Bool) → (limit : ℕ) → Interaction Look Told Finish
