@@ -8,7 +8,8 @@ use Rattle.std.specs.Option.{option_eq}
 
 -- the card that a word names: one of the sections, of the stream, or of jobs and of turns
 abbrev pub card_of : List ℕ → Option Card
-card_of word = if bytes_eq word (codes "$ACCOUNTS") then Some Accounts
+card_of word =
+    if bytes_eq word (codes "$ACCOUNTS") then Some Accounts
     else if bytes_eq word (codes "$CATALOGUE") then Some Catalogue
     else if bytes_eq word (codes "$SET") then Some Set
     else if bytes_eq word (codes "$STREAM") then Some Stream

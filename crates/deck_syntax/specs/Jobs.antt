@@ -55,14 +55,16 @@ limits_refusal (word ∷ other ∷ _) =
 
 -- the number of words and the options; a name; and then the numbers
 abbrev pub job_refusal : List (List ℕ) → Option DeckError
-job_refusal ws = option_or (unless (nat_lt 1 (length ws) && are_options (drop 2 ws)) BadCard)
+job_refusal ws =
+    option_or (unless (nat_lt 1 (length ws) && are_options (drop 2 ws)) BadCard)
     (option_or (unless (is_name (word_at 1 ws)) BadName) (limits_refusal (drop 2 ws)))
 
 abbrev pub usual_limits : Limits
 usual_limits = record { statements = 50000; steps = 1000000 }
 
 abbrev pub with_option : Limits → List ℕ → Limits
-with_option limits word = if sets_statements word then record limits { statements = value_of (option_text word) }
+with_option limits word =
+    if sets_statements word then record limits { statements = value_of (option_text word) }
     else record limits { steps = value_of (option_text word) }
 
 -- a job that is open has no line at first
@@ -72,7 +74,8 @@ job_on ws = record { account = word_at 1 ws; limits = fold with_option usual_lim
 -- ---- `$TURN`: a slot, and how many turns it is given
 
 abbrev pub turn_refusal : List (List ℕ) → Option DeckError
-turn_refusal ws = option_or (unless (length ws == 3) BadCard)
+turn_refusal ws =
+    option_or (unless (length ws == 3) BadCard)
     (option_or (unless (is_count (word_at 1 ws) && is_count (word_at 2 ws)) BadNumber)
     (unless (is_within 8 (value_of (word_at 1 ws)) && is_within 1000000 (value_of (word_at 2 ws))) BadCard))
 
@@ -86,7 +89,8 @@ is_job_card_line line = is_dollar_line line && not (is_dollar_line (drop 1 line)
 
 -- `$UNIT`: a unit, and a data set. Whether there is such a unit is tried where the job is loaded.
 abbrev pub unit_card_refusal : List (List ℕ) → Option DeckError
-unit_card_refusal ws = option_or (unless (length ws == 3) BadCard)
+unit_card_refusal ws =
+    option_or (unless (length ws == 3) BadCard)
     (option_or (unless (is_count (word_at 1 ws)) BadNumber) (unless (is_name (word_at 2 ws)) BadName))
 
 abbrev pub unit_on : List (List ℕ) → UnitCard
@@ -100,7 +104,8 @@ job_card_refusal (Some _) begun ws = Some OutOfPlace
 job_card_refusal None begun ws = Some (if begun then OutOfPlace else UnknownCard)
 
 abbrev pub job_line_refusal : OpenJob → List ℕ → Option DeckError
-job_line_refusal job line = option_or (line_refusal 200 line)
+job_line_refusal job line =
+    option_or (line_refusal 200 line)
     (if is_job_card_line line then job_card_refusal (card_among (words line)) (not (length job.lines == 0)) (words line) else None)
 
 -- whether a good line ends the job
@@ -110,9 +115,11 @@ ends_job line = is_job_card_line line && is_card EndJob (card_among (words line)
 -- the job after a good line that does not end it: a unit card, or a line of the program or of the data behind it, where two
 -- dollar signs at the front stand for one
 abbrev pub after_job_line : OpenJob → List ℕ → OpenJob
-after_job_line job line = if is_job_card_line line then record job { ties = job.ties ++ unit_on (words line) ∷ [] }
+after_job_line job line =
+    if is_job_card_line line then record job { ties = job.ties ++ unit_on (words line) ∷ [] }
     else record job { lines = job.lines ++ (if is_dollar_line line then drop 1 line else line) ∷ [] }
 
 -- a job that has ended, and its number
 abbrev pub job_deck_of : ℕ → OpenJob → JobDeck
-job_deck_of number job = record { number = number; account = job.account; limits = job.limits; ties = job.ties; lines = job.lines }
+job_deck_of number job =
+    record { number = number; account = job.account; limits = job.limits; ties = job.ties; lines = job.lines }

@@ -19,7 +19,8 @@ line_refusal limit line = if nat_lt limit (length line) then Some LineTooLong el
 
 -- the words of a line that has to be this card, with words behind it that fit: another card, known or not, is refused first
 abbrev pub due_card_refusal : Card → Bool → List (List ℕ) → Option DeckError
-due_card_refusal due fits ws = option_or (unless (is_some (card_among ws)) UnknownCard)
+due_card_refusal due fits ws =
+    option_or (unless (is_some (card_among ws)) UnknownCard)
     (option_or (unless (is_card due (card_among ws)) OutOfPlace)
     (unless fits BadCard))
 

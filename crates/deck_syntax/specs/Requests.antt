@@ -65,7 +65,8 @@ acl_on line = behind_word (behind_word (behind_word line))
 
 -- without a text the lines of a list follow
 abbrev pub set_acl_on : List ℕ → List (List ℕ) → Request
-set_acl_on line ws = if length ws == 3 then OpensList (word_at 1 ws) (word_at 2 ws)
+set_acl_on line ws =
+    if length ws == 3 then OpensList (word_at 1 ws) (word_at 2 ws)
     else Asks (command.SetAcl (word_at 1 ws) (word_at 2 ws) (Short (acl_on line)))
 
 -- what a good card asks for

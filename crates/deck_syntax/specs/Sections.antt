@@ -36,7 +36,8 @@ account_on ws = record { name = word_at 0 ws; primary = word_at 1 ws; groups = d
 
 -- an account of another name before it, and not too many further groups
 abbrev pub table_refusal : List Account → Account → Option DeckError
-table_refusal accounts account = option_or (unless (not (is_some (find_account accounts account.name))) AccountTwice)
+table_refusal accounts account =
+    option_or (unless (not (is_some (find_account accounts account.name))) AccountTwice)
     (unless (not (nat_lt 16 (length account.groups))) TooManyGroups)
 
 -- at least two words, all of them names
@@ -71,7 +72,8 @@ ends_catalogue p line = is_due p && not (is_blank_line line) && not (is_card car
 
 -- in the catalogue: the next line of its text, or the stream's card
 abbrev pub catalogue_refusal : Progress → List ℕ → Option DeckError
-catalogue_refusal p line = if ends_catalogue p line then lone_card_refusal card.Stream (words line)
+catalogue_refusal p line =
+    if ends_catalogue p line then lone_card_refusal card.Stream (words line)
     else elim (step p line) [ progress.Refused e ↦ Some (code_of_catalogue e) | other ↦ None ]
 
 -- Each section: the deck that its lines make, of which the first has number n.
@@ -105,12 +107,15 @@ requested request.Stops rest = stopped
 
 abbrev pub stream_section : ℕ → Open → List (List ℕ) → Cards
 stream_section n pending [] = refused_on_line n Truncated
-stream_section n Closed (line ∷ lines) = option_map_or (refused_on_line n) (option_or (line_refusal 200 line) (stream_refusal line))
+stream_section n Closed (line ∷ lines) =
+    option_map_or (refused_on_line n) (option_or (line_refusal 200 line) (stream_refusal line))
     (requested (request_on line) (λ pending. stream_section (n + 1) pending lines))
-stream_section n (InList list) (line ∷ lines) = option_map_or (refused_on_line n) (list_line_refusal line)
+stream_section n (InList list) (line ∷ lines) =
+    option_map_or (refused_on_line n) (list_line_refusal line)
     (if is_dollar_line line then asked_then (Commands (set_acl_of list)) (stream_section (n + 1) Closed lines)
     else stream_section (n + 1) (InList (with_line list line)) lines)
-stream_section n (InJob job) (line ∷ lines) = option_map_or (refused_on_line n) (job_line_refusal job line)
+stream_section n (InJob job) (line ∷ lines) =
+    option_map_or (refused_on_line n) (job_line_refusal job line)
     (if ends_job line then asked_then (Enters job) (stream_section (n + 1) Closed lines)
     else stream_section (n + 1) (InJob (after_job_line job line)) lines)
 

@@ -45,7 +45,8 @@ turn_entries m s w = map Asked (asked_in m (job_in s w) w.sets) ++ end_entry (tu
 -- turns of the jobs in these slots, until the scheduler is one to stop at
 abbrev pub entries_until : (SchedulerState → Bool) → List ℕ → Marks → SchedulerState → List Entry
 entries_until stop [] m w = []
-entries_until stop (s ∷ E) m w = if stop w then []
+entries_until stop (s ∷ E) m w =
+    if stop w then []
     else turn_entries (mark_of m) s w ++ entries_until stop E (drop 1 m) (turn_as (mark_of m) s w).1
 
 -- rounds of turns, until the scheduler is one to stop at

@@ -53,7 +53,8 @@ turn_lines m s w = exchanged_lines (asked_in m (job_in s w) w.sets) ++ end_lines
 -- of turns of the jobs in these slots, until the scheduler is one to stop at
 abbrev pub lines_until : (SchedulerState → Bool) → List ℕ → Marks → SchedulerState → List ℕ
 lines_until stop [] m w = []
-lines_until stop (s ∷ E) m w = if stop w then []
+lines_until stop (s ∷ E) m w =
+    if stop w then []
     else turn_lines (mark_of m) s w ++ lines_until stop E (drop 1 m) (turn_as (mark_of m) s w).1
 
 -- of rounds of turns, until the scheduler is one to stop at

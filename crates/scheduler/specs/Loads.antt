@@ -63,7 +63,8 @@ missing refusal None = Some refusal
 
 -- why a job is not loaded where a slot is free: its account, its unit cards, its program
 abbrev pub deck_refusal : List Account → JobDeck → Option LoadError
-deck_refusal accounts deck = option_or (missing NoAccount (find_account accounts deck.account))
+deck_refusal accounts deck =
+    option_or (missing NoAccount (find_account accounts deck.account))
     (option_or (option_map Cards (ties_refusal deck.ties (first_units deck.lines))) (program_refusal (statements_of deck.lines)))
 
 -- why a job is not loaded

@@ -68,7 +68,8 @@ nothing m w = record { ends = []; after = w; marks = m }
 -- turns of the jobs in these slots, in this order, until a scheduler is one to stop at
 abbrev pub until : (SchedulerState → Bool) → List ℕ → Marks → SchedulerState → Past
 until stop [] m w = nothing m w
-until stop (s ∷ E) m w = if stop w then nothing m w
+until stop (s ∷ E) m w =
+    if stop w then nothing m w
     else let later = until stop E (drop 1 m) (turn_as (mark_of m) s w).1 in record later { ends = ends_by s (turn_as (mark_of m) s w).0 ++ later.ends }
 
 abbrev pub never : SchedulerState → Bool

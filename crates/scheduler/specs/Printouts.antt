@@ -59,7 +59,8 @@ ending_line end n = codes "END" ++ ending_words end ++ codes " AFTER" ++ number 
 
 -- what a job that has ended prints
 abbrev pub printout : JobEnd → List ℕ
-printout end = job_line end.number end.account ++ flat_map stored_line end.spool ++ flat_map note_line end.notes
+printout end =
+    job_line end.number end.account ++ flat_map stored_line end.spool ++ flat_map note_line end.notes
     ++ ending_line end.ending end.statements
 
 -- a unit card that ties a unit that there is not, or once more
@@ -69,7 +70,8 @@ unit_refusal (UnitTwice unit) = codes "U1 UNIT" ++ number unit
 
 -- where the program is refused: the card counted from the job's first, and its column
 abbrev pub syntax_words : SyntaxError → List ℕ
-syntax_words error = code_symbol error.code ++ codes " CARD" ++ number error.place.card ++ codes " COLUMN" ++ number error.place.column
+syntax_words error =
+    code_symbol error.code ++ codes " CARD" ++ number error.place.card ++ codes " COLUMN" ++ number error.place.column
 
 abbrev pub refused_words : List ℕ → List ℕ
 refused_words why = codes "REFUSED " ++ why ++ codes "\n"
