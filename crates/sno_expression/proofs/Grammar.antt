@@ -2,7 +2,7 @@
 use Rattle.std.proofs.Common.{◌≡◌, List, [], ◌∷◌, refl, sym, ap, ◌∙◌}
 use Rattle.std.specs.Prelude.{Bool, true, false, Option, Some, None}
 use Rattle.sno_lexer.specs.declared.token.Token.{Token}
-use Rattle.sno_expression.specs.Expressions.{Expression, HasLevels}
+use Rattle.sno_expression.specs.Expressions.{Expression}
 use Rattle.sno_expression.specs.Spelling.{Spells}
 use Rattle.sno_expression.specs.inner.Walks.{Walk, take}
 use Rattle.sno_expression.specs.inner.Reading.{State, read, result, Reading, Read, and_then, answer, start, reading, walk}
@@ -12,17 +12,17 @@ use Rattle.sno_expression.proofs.Feeding.{complete}
 use Rattle.sno_expression.proofs.Sound.{sound}
 use Rattle.sno_expression.proofs.Steps.{walk_of, read_walks, is_some, end_walks}
 
--- two trees with levels that spell the same tokens are one
+-- two trees that spell the same tokens are one
 pub one_expression : OneExpression
-one_expression t u ts v s w r =
-    let a = complete false t s.0 ts [] v tt s.1 tt in
-    let b = complete false u r.0 ts [] w tt r.1 tt in
+one_expression t u ts s r =
+    let a = complete false t s.0 ts [] tt s.1 tt in
+    let b = complete false u r.0 ts [] tt r.1 tt in
     cc
 
 pub reads_exactly : ReadsExactly
 reads_exactly alone ts rest t e = (
-  λ h. let r = sound alone ts rest t h in (r.levels, r.suits, (r.blank, r.spells)),
-  λ h. complete alone t h.2.0 ts rest h.0 h.1 h.2.1 e,
+  λ h. let r = sound alone ts rest t h in (r.suits, (r.blank, r.spells)),
+  λ h. complete alone t h.1.0 ts rest h.0 h.1.1 e,
 )
 
 -- is there a tree, and nothing left
@@ -39,14 +39,14 @@ takes_read (t ∷ ts) alone s = at (read alone s t) (take alone (walk s) t) (rea
     at None w e on = sym (ap (λ (w : Option Walk). then_takes w (λ v. takes_all alone v ts)) e)
     at (Some v) w e on = sym (ap (λ (w : Option Walk). then_takes w (λ v. takes_all alone v ts)) e) ∙ on v
 
-spelled : (a : Reading) (ts : List Token) → reading false ts ≡ a → is_whole a ≡ true → (t : Expression) × HasLevels t × Spells t ts
-spelled (Read (Some t) []) ts e h = let r = sound false ts [] t e in (t, r.levels, (r.blank, r.spells))
+spelled : (a : Reading) (ts : List Token) → reading false ts ≡ a → is_whole a ≡ true → (t : Expression) × Spells t ts
+spelled (Read (Some t) []) ts e h = let r = sound false ts [] t e in (t, (r.blank, r.spells))
 spelled (Read None []) ts e h = cc
 spelled (Read o (u ∷ m)) ts e h = cc
 
--- the walk takes the tokens to the end exactly where a tree with levels spells them
+-- the walk takes the tokens to the end exactly where a tree spells them
 pub walks_exactly : WalksExactly
 walks_exactly ts = (
   λ h. spelled (reading false ts) ts refl (sym (takes_read ts false start) ∙ h),
-  λ h. takes_read ts false start ∙ ap is_whole (complete false h.0 h.2.0 ts [] h.1 tt h.2.1 tt),
+  λ h. takes_read ts false start ∙ ap is_whole (complete false h.0 h.1.0 ts [] tt h.1.1 tt),
 )

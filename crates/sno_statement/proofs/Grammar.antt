@@ -5,7 +5,7 @@ use Rattle.sno_lexer.specs.declared.token.Token.{Token}
 use Rattle.sno_statement.specs.declared.fault.Fault.{Fault}
 use Rattle.sno_statement.specs.declared.fault.FaultKind.TheVariants.{Unfit}
 use Rattle.sno_statement.specs.declared.statement.Statement.{Statement as AStatement}
-use Rattle.sno_statement.specs.Statements.{Statement, StatementHasLevels}
+use Rattle.sno_statement.specs.Statements.{Statement}
 use Rattle.sno_statement.specs.Spelling.{Spells}
 use Rattle.sno_statement.specs.Lacking.{lacking_in}
 use Rattle.sno_statement.specs.inner.Walking.{Walk, take, begins, may_end}
@@ -23,9 +23,9 @@ use Rattle.sno_statement.proofs.Marked.{none_marked, marked_none}
 use Rattle.sno_statement.proofs.Placing.{places_noted}
 use Rattle.sno_statement.proofs.Tested.{fitting_read, fitting_passes}
 
--- a statement with levels is the only one that its tokens spell
+-- a statement is the only one that its tokens spell
 pub one_statement : OneStatement
-one_statement s t ts v p w q = cc (statement_read s ts v p, statement_read t ts w q)
+one_statement s t ts p q = cc (statement_read s ts p, statement_read t ts q)
 
 -- the walk refuses nothing exactly where it takes the tokens to the end
 end_passes : (b : Bool) (i : ℕ) → is_none (if b then None else Some (FaultAt i Unfit)) ≡ b
@@ -55,20 +55,19 @@ some_statement None (Some s) a e = (s, refl)
 some_statement None None a e = cc
 some_statement (Some f) o a e = cc
 
--- the walk takes the tokens exactly where a statement with levels spells them
+-- the walk takes the tokens exactly where a statement spells them
 pub taken : Taken
 taken ts = (
   λ e. let r = some_statement (refusal ts) (statement_in ts) (agrees ts) e in
-      let q = statement_sound ts r.0 r.1 in
-      (r.0, q.0, q.1),
-  λ s. no_refusal (refusal ts) (statement_in ts) s.0 (agrees ts) (statement_read s.0 ts s.1 s.2),
+      (r.0, statement_sound ts r.0 r.1),
+  λ s. no_refusal (refusal ts) (statement_in ts) s.0 (agrees ts) (statement_read s.0 ts s.1),
 )
 
 -- it notes nothing exactly where a variable stands in each place that needs one
 pub notes_exactly : NotesExactly
-notes_exactly ts s v p = (
-  λ e. none_marked (lacking_in ts s) 0 (sym (places_noted s ts v p) ∙ e),
-  λ h. places_noted s ts v p ∙ marked_none (lacking_in ts s) 0 h,
+notes_exactly ts s p = (
+  λ e. none_marked (lacking_in ts s) 0 (sym (places_noted s ts p) ∙ e),
+  λ h. places_noted s ts p ∙ marked_none (lacking_in ts s) 0 h,
 )
 
 pub not_noted : (o : Option ℕ) (f : Option Fault) → earlier o f ≡ None → o ≡ None
@@ -84,11 +83,11 @@ pub parsed_ok : (ts : List Token) (s : AStatement) → fitting (statement_in ts)
 parsed_ok ts s e =
     let r = fitting_read ts (statement_in ts) (statement_of s) e in
     let q = statement_sound ts (statement_of s) r.0 in
-    (q.0, r.1, q.1, λ u v p. let k = statement_read u ts v p in cc)
+    (r.1, q, λ u p. let k = statement_read u ts p in cc)
 
 -- where nothing is at fault one is read that has them
 pub one_fits : (ts : List Token) → fault ts ≡ None → fitting (statement_in ts) ≡ None → ⊥
 one_fits ts e d =
     let r = some_statement (refusal ts) (statement_in ts) (agrees ts) (not_refused (noted ts) (refusal ts) e) in
     let q = statement_sound ts r.0 r.1 in
-    fitting_passes ts (statement_in ts) r.0 r.1 ((notes_exactly ts r.0 q.0 q.1).0 (not_noted (noted ts) (refusal ts) e)) d
+    fitting_passes ts (statement_in ts) r.0 r.1 ((notes_exactly ts r.0 q).0 (not_noted (noted ts) (refusal ts) e)) d

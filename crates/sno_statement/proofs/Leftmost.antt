@@ -133,13 +133,13 @@ left_quiet v (t ∷ left) s k j = ap (λ (o : Option Walk). then_note o (λ u. l
 -- PLACES THAT LACK A VARIABLE
 
 lacks_noted : (ts : List Token) (i : ℕ) → noted ts ≡ Some i → Lacks ts i
-lacks_noted ts i e rest s v p =
+lacks_noted ts i e rest s p =
     at (noted (ts ++ rest)) refl (subst (λ (o : Option ℕ). Before (noted (ts ++ rest)) o) e (noted_no_later ts rest))
   where
     at : (o : Option ℕ) → noted (ts ++ rest) ≡ o → Before o (Some i) → (n : ℕ) × (n ≤ i) × (get_or (lacking_in (ts ++ rest) s) n false ≡ true)
     at None d b = absurd b
     at (Some q) d b =
-        let l = marked_least (lacking_in (ts ++ rest) s) 0 q (sym (places_noted s (ts ++ rest) v p) ∙ d) in
+        let l = marked_least (lacking_in (ts ++ rest) s) 0 q (sym (places_noted s (ts ++ rest) p) ∙ d) in
         let h = l.place in
         (l.n, omega (arith, h, b), l.there)
 
@@ -150,18 +150,18 @@ completed ts v e = (taken (ts ++ completion v)).0 (taken_on ts (completion v) be
 completed_notes : (ts : List Token) (v : Walk) (e : along begins ts ≡ Some v) → marked (lacking_in (ts ++ completion v) (completed ts v e).0) none 0 ≡ noted ts
 completed_notes ts v e =
     let q = completed ts v e in
-    sym (places_noted q.0 (ts ++ completion v) q.1 q.2) ∙ noted_whole ts (completion v) v e (λ k j. quiet_completion k v j)
+    sym (places_noted q.0 (ts ++ completion v) q.1) ∙ noted_whole ts (completion v) v e (λ k j. quiet_completion k v j)
 
 none_lacks : (ts : List Token) (v : Walk) → along begins ts ≡ Some v → noted ts ≡ None → (j : ℕ) → Lacks ts j → ⊥
 none_lacks ts v e d j l =
     let q = completed ts v e in
-    let h = l (completion v) q.0 q.1 q.2 in
+    let h = l (completion v) q.0 q.1 in
     unmarked (lacking_in (ts ++ completion v) q.0) 0 (completed_notes ts v e ∙ d) h.0 h.2
 
 none_before : (ts : List Token) (v : Walk) (i : ℕ) → along begins ts ≡ Some v → noted ts ≡ Some i → (j : ℕ) → j < i → Lacks ts j → ⊥
 none_before ts v i e d j b l =
     let q = completed ts v e in
-    let h = l (completion v) q.0 q.1 q.2 in
+    let h = l (completion v) q.0 q.1 in
     let m = marked_least (lacking_in (ts ++ completion v) q.0) 0 i (completed_notes ts v e ∙ d) in
     let p = m.place in
     let a = m.least h.0 h.2 in
@@ -358,10 +358,10 @@ is_found ts f b =
 pub none_fit : (ts : List Token) → fault ts ≡ None → IsFit ts
 none_fit ts e =
     let q = (taken ts).0 (not_refused (noted ts) (refusal ts) e) in
-    (q.0, q.1, (notes_exactly ts q.0 q.1 q.2).0 (not_noted (noted ts) (refusal ts) e), q.2)
+    (q.0, (notes_exactly ts q.0 q.1).0 (not_noted (noted ts) (refusal ts) e), q.1)
 
 pub fit_none : (ts : List Token) → IsFit ts → fault ts ≡ None
-fit_none ts s = ap (λ (o : Option ℕ). earlier o (refusal ts)) ((notes_exactly ts s.0 s.1 s.3).1 s.2) ∙ (taken ts).1 (s.0, s.1, s.3)
+fit_none ts s = ap (λ (o : Option ℕ). earlier o (refusal ts)) ((notes_exactly ts s.0 s.2).1 s.1) ∙ (taken ts).1 (s.0, s.2)
 
 pub fault_is_leftmost : FaultIsLeftmost
 fault_is_leftmost ts = (λ f. (found ts f, is_found ts f), (none_fit ts, fit_none ts))

@@ -1,5 +1,5 @@
 -- A walk over the tokens of a tree notes the places that lack a variable.
-use Rattle.std.proofs.Common.{arith, ◌≡◌, ℕ, ◌+◌, ◌-◌, List, [], ◌∷◌, ◌++◌, refl, sym, ap, ◌∙◌, subst}
+use Rattle.std.proofs.Common.{arith, ◌≡◌, ◌≢◌, ℕ, ◌+◌, ◌-◌, List, [], ◌∷◌, ◌++◌, refl, sym, ap, ◌∙◌, subst}
 use Rattle.std.specs.Prelude.{Bool, true, false, not, ◌&&◌, Option, Some, None, if◌then◌else◌}
 use Rattle.sno_lexer.specs.declared.token.Mark.{Mark}
 use Rattle.sno_lexer.specs.declared.token.Mark.TheVariants as mark
@@ -17,7 +17,7 @@ use Rattle.sno_expression.specs.declared.walking.Position.TheVariants.{AtStart, 
 use Rattle.sno_expression.specs.declared.walking.Move.{Move}
 use Rattle.sno_expression.specs.declared.walking.Move.TheVariants as move
 use Rattle.sno_expression.specs.Marks.{unary_of, needs_variable, operand_is_variable}
-use Rattle.sno_expression.specs.Expressions.{Expression, Arguments, Identifier, Constant, Keyword, Unevaluated, Group, Call, TableItem, Unary, Binary, NoArguments, Omitted, Argument, AreSome, IsOperand, HasLevels, HaveLevels, is_variable}
+use Rattle.sno_expression.specs.Expressions.{Expression, Arguments, Identifier, Constant, Keyword, Unevaluated, Group, Call, TableItem, Unary, Binary, NoArguments, Omitted, Argument, IsOperand, is_variable}
 use Rattle.sno_expression.specs.Spelling.{spaced, Joins, Parts, SpellsTo, SpellTo}
 use Rattle.sno_expression.proofs.Before.{as_prefix}
 use Rattle.sno_expression.specs.inner.Walking.{begin, prefixed, joined, first, go_on, stops, step, begins_variable, is_misfit, misfit_index, inner_of, outer_of, ends, after_operand, paren_of}
@@ -187,9 +187,9 @@ parted (Argument args t) k j ps f m n p =
     ap (noted_from k j (At (OfCall ∷ ps) (In f AfterOperand))) p.2
     ∙ stepped k j (OfCall ∷ ps) f AfterOperand p.0 p.1 token.Comma n (move.Within AtStart) refl
 
-call_closed : (args : Arguments) (k : SubjectKind) (j : ℕ) (ps : List Paren) (f : Field) (d e : Bool) (rest : List Token) → AreSome args
+call_closed : (args : Arguments) (k : SubjectKind) (j : ℕ) (ps : List Paren) (f : Field) (d e : Bool) (rest : List Token) → args ≢ NoArguments
     → noted_from k j (past ps f args) (spaced d e token.Close ∷ rest) ≡ noted_from k (j + 1) (At ps (In f AfterOperand)) rest
-call_closed NoArguments k j ps f d e rest s = absurd s
+call_closed NoArguments k j ps f d e rest s = absurd (s refl)
 call_closed (Omitted args) k j ps f d e rest s = stepped k j (OfCall ∷ ps) f AtStart d e token.Close rest (move.Out AfterOperand) refl
 call_closed (Argument args t) k j ps f d e rest s = stepped k j (OfCall ∷ ps) f AfterOperand d e token.Close rest (move.Out AfterOperand) refl
 
@@ -216,37 +216,37 @@ suited false t i = tt
 
 mutual
   pub tree_noted : (t : Expression) (k : SubjectKind) (i : ℕ) (w : Walk) (ps : List Paren) (f : Field) (b needed : Bool) (ts rest : List Token)
-      → Due w ps f b needed → HasLevels t → Suits (stops (alone f) (inner_of ps)) t → SpellsTo b t ts rest → Apart rest
+      → Due w ps f b needed → Suits (stops (alone f) (inner_of ps)) t → SpellsTo b t ts rest → Apart rest
       → noted_from k i w ts ≡ marked (lacking needed t) (λ j. noted_from k j (At ps (In f AfterOperand)) rest) i
-  tree_noted (Identifier n) k i w ps f b needed ts rest d v u s x =
+  tree_noted (Identifier n) k i w ps f b needed ts rest d u s x =
       ap (noted_from k i w) s.1
       ∙ (d k i s.0 (token.Identifier n) rest (move.Within (AfterIdentifier needed)) refl
       ∙ (ap (λ (c : Bool). least (note c i) (noted_from k (i + 1) (At ps (In f (AfterIdentifier needed))) rest)) (and_false needed)
       ∙ named k (i + 1) ps f needed rest x))
-  tree_noted (Constant c) k i w ps f b needed ts rest d v u s x =
+  tree_noted (Constant c) k i w ps f b needed ts rest d u s x =
       ap (noted_from k i w) s.1
       ∙ (d k i s.0 (token.Constant c) rest (move.Within AfterOperand) refl
       ∙ ap (λ (c : Bool). least (note c i) (noted_from k (i + 1) (At ps (In f AfterOperand)) rest)) (and_true needed))
-  tree_noted (Keyword n) k i w ps f b needed ts rest d v u s x =
+  tree_noted (Keyword n) k i w ps f b needed ts rest d u s x =
       ap (noted_from k i w) s.1
       ∙ (d k i false (token.Mark mark.Ampersand) (spaced false s.0 (token.Identifier n) ∷ rest) (move.Within AfterPrefix) refl
       ∙ (ap (λ (c : Bool). least (note c i) (noted_from k (i + 1) (At ps (In f AfterPrefix)) (spaced false s.0 (token.Identifier n) ∷ rest))) (and_true needed)
       ∙ ap (least (note needed i)) (stepped k (i + 1) ps f AfterPrefix false s.0 (token.Identifier n) rest (move.Within AfterOperand) refl)))
-  tree_noted (Unevaluated n) k i w ps f b needed ts rest d v u s x =
+  tree_noted (Unevaluated n) k i w ps f b needed ts rest d u s x =
       ap (noted_from k i w) s.1
       ∙ (d k i false (token.Mark mark.Star) (spaced false s.0 (token.Identifier n) ∷ rest) (move.Within AfterPrefix) refl
       ∙ (ap (λ (c : Bool). least (note c i) (noted_from k (i + 1) (At ps (In f AfterPrefix)) (spaced false s.0 (token.Identifier n) ∷ rest))) (and_true needed)
       ∙ ap (least (note needed i)) (stepped k (i + 1) ps f AfterPrefix false s.0 (token.Identifier n) rest (move.Within AfterOperand) refl)))
-  tree_noted (Group t) k i w ps f b needed ts rest d v u s x =
+  tree_noted (Group t) k i w ps f b needed ts rest d u s x =
       ap (noted_from k i w) s.5
       ∙ (d k i s.1 token.Open s.0 (move.Into OfGroup AtStart) refl
       ∙ (ap (λ (c : Bool). least (note c i) (noted_from k (i + 1) (At (OfGroup ∷ ps) (In f AtStart)) s.0)) (and_true needed)
       ∙ ap (least (note needed i)) (
-      tree_noted t k (i + 1) (At (OfGroup ∷ ps) (In f AtStart)) (OfGroup ∷ ps) f s.2 false s.0 (spaced s.3 s.4 token.Close ∷ rest) (due_start (OfGroup ∷ ps) f s.2) v tt s.6 refl
+      tree_noted t k (i + 1) (At (OfGroup ∷ ps) (In f AtStart)) (OfGroup ∷ ps) f s.2 false s.0 (spaced s.3 s.4 token.Close ∷ rest) (due_start (OfGroup ∷ ps) f s.2) tt s.6 refl
       ∙ (marked_same (lacking false t) (λ j. noted_from k j (At (OfGroup ∷ ps) (In f AfterOperand)) (spaced s.3 s.4 token.Close ∷ rest)) (λ j. noted_from k (j + 1) (At ps (In f AfterOperand)) rest) (i + 1)
       (λ j. stepped k j (OfGroup ∷ ps) f AfterOperand s.3 s.4 token.Close rest (move.Out AfterOperand) refl)
       ∙ sym (marked_append (lacking false t) (false ∷ []) (λ j. noted_from k j (At ps (In f AfterOperand)) rest) (i + 1))))))
-  tree_noted (Call n args) k i w ps f b needed ts rest d v u s x =
+  tree_noted (Call n args) k i w ps f b needed ts rest d u s x =
       let back : i + 1 - 1 ≡ i = omega arith in
       ap (noted_from k i w) s.5
       ∙ (d k i s.1 (token.Identifier n) (spaced false s.2 token.Open ∷ s.0) (move.Within (AfterIdentifier needed)) refl
@@ -255,11 +255,11 @@ mutual
       ∙ (ap (λ (c : Bool). least (note c (i + 1 - 1)) (noted_from k (i + 1 + 1) (At (OfCall ∷ ps) (In f AtStart)) s.0)) (and_true needed)
       ∙ (ap (λ (p : ℕ). least (note needed p) (noted_from k (i + 1 + 1) (At (OfCall ∷ ps) (In f AtStart)) s.0)) back
       ∙ ap (least (note needed i)) (
-      args_noted args k (i + 1 + 1) ps f s.0 (spaced s.3 s.4 token.Close ∷ rest) v.1 s.6 (close_apart args s.3 s.4 rest)
+      args_noted args k (i + 1 + 1) ps f s.0 (spaced s.3 s.4 token.Close ∷ rest) s.6 (close_apart args s.3 s.4 rest)
       ∙ (marked_same (lacking_among args) (λ j. noted_from k j (past ps f args) (spaced s.3 s.4 token.Close ∷ rest)) (λ j. noted_from k (j + 1) (At ps (In f AfterOperand)) rest) (i + 1 + 1)
-      (λ j. call_closed args k j ps f s.3 s.4 rest v.0)
+      (λ j. call_closed args k j ps f s.3 s.4 rest s.7)
       ∙ sym (marked_append (lacking_among args) (false ∷ []) (λ j. noted_from k j (At ps (In f AfterOperand)) rest) (i + 1 + 1)))))))))
-  tree_noted (TableItem n t) k i w ps f b needed ts rest d v u s x =
+  tree_noted (TableItem n t) k i w ps f b needed ts rest d u s x =
       let back : i + 1 - 1 ≡ i = omega arith in
       ap (noted_from k i w) s.6
       ∙ (d k i s.1 (token.Identifier n) (spaced false s.2 token.OpenAngle ∷ s.0) (move.Within (AfterIdentifier needed)) refl
@@ -268,40 +268,40 @@ mutual
       ∙ (ap (λ (c : Bool). least (note c (i + 1 - 1)) (noted_from k (i + 1 + 1) (At (OfItem ∷ ps) (In f AtStart)) s.0)) (and_true needed)
       ∙ (ap (λ (p : ℕ). least (note needed p) (noted_from k (i + 1 + 1) (At (OfItem ∷ ps) (In f AtStart)) s.0)) back
       ∙ ap (least (note needed i)) (
-      tree_noted t k (i + 1 + 1) (At (OfItem ∷ ps) (In f AtStart)) (OfItem ∷ ps) f s.3 false s.0 (spaced s.4 s.5 token.CloseAngle ∷ rest) (due_start (OfItem ∷ ps) f s.3) v tt s.7 refl
+      tree_noted t k (i + 1 + 1) (At (OfItem ∷ ps) (In f AtStart)) (OfItem ∷ ps) f s.3 false s.0 (spaced s.4 s.5 token.CloseAngle ∷ rest) (due_start (OfItem ∷ ps) f s.3) tt s.7 refl
       ∙ (marked_same (lacking false t) (λ j. noted_from k j (At (OfItem ∷ ps) (In f AfterOperand)) (spaced s.4 s.5 token.CloseAngle ∷ rest)) (λ j. noted_from k (j + 1) (At ps (In f AfterOperand)) rest) (i + 1 + 1)
       (λ j. stepped k j (OfItem ∷ ps) f AfterOperand s.4 s.5 token.CloseAngle rest (move.Out AfterOperand) refl)
       ∙ sym (marked_append (lacking false t) (false ∷ []) (λ j. noted_from k j (At ps (In f AfterOperand)) rest) (i + 1 + 1)))))))))
-  tree_noted (Unary o t) k i w ps f b needed ts rest d v u s x =
+  tree_noted (Unary o t) k i w ps f b needed ts rest d u s x =
       ap (noted_from k i w) s.3
       ∙ (d k i false (token.Mark s.1) s.0 (move.Within (AfterUnary (operand_is_variable o))) (ap prefixed (as_prefix s.1 o s.2))
       ∙ (ap (λ (c : Bool). least (note (needed && not c) i) (noted_from k (i + 1) (At ps (In f (AfterUnary (operand_is_variable o)))) s.0)) (indirect s.1 o t s.2)
       ∙ ap (least (note (needed && not (is_variable (Unary o t))) i))
-      (tree_noted t k (i + 1) (At ps (In f (AfterUnary (operand_is_variable o)))) ps f false (operand_is_variable o) s.0 rest (due_unary ps f (operand_is_variable o)) v.1
-      (suited (stops (alone f) (inner_of ps)) t v.0) s.4 x)))
-  tree_noted (Binary o l r) k i w ps f b needed ts rest d v u s x =
+      (tree_noted t k (i + 1) (At ps (In f (AfterUnary (operand_is_variable o)))) ps f false (operand_is_variable o) s.0 rest (due_unary ps f (operand_is_variable o))
+      (suited (stops (alone f) (inner_of ps)) t s.5) s.4 x)))
+  tree_noted (Binary o l r) k i w ps f b needed ts rest d u s x =
       let c : stops (alone f) (inner_of ps) ≡ false = held (stops (alone f) (inner_of ps)) o l r u in
-      tree_noted l k i w ps f b needed ts s.0 d v.2 (free (stops (alone f) (inner_of ps)) l c) s.2 (apart_joins o r s.0 s.1 rest s.3 s.4)
+      tree_noted l k i w ps f b needed ts s.0 d (free (stops (alone f) (inner_of ps)) l c) s.2 (apart_joins o r s.0 s.1 rest s.3 s.4)
       ∙ (marked_same (lacking needed l) (λ j. noted_from k j (At ps (In f AfterOperand)) s.0) (marked (between o ++ lacking (needs_variable o) r) (λ j. noted_from k j (At ps (In f AfterOperand)) rest)) i
       (λ j. let w = join_noted o k j ps f s.0 s.1 c s.3 in
       w.2
       ∙ (marked_same (between o) (λ i. noted_from k i w.0 s.1) (marked (lacking (needs_variable o) r) (λ j. noted_from k j (At ps (In f AfterOperand)) rest)) j
-      (λ h. tree_noted r k h w.0 ps f true (needs_variable o) s.1 rest w.1 v.3 (free (stops (alone f) (inner_of ps)) r c) s.4 x)
+      (λ h. tree_noted r k h w.0 ps f true (needs_variable o) s.1 rest w.1 (free (stops (alone f) (inner_of ps)) r c) s.4 x)
       ∙ sym (marked_append (between o) (lacking (needs_variable o) r) (λ j. noted_from k j (At ps (In f AfterOperand)) rest) j)))
       ∙ sym (marked_append (lacking needed l) (between o ++ lacking (needs_variable o) r) (λ j. noted_from k j (At ps (In f AfterOperand)) rest) i))
 
-  args_noted : (args : Arguments) (k : SubjectKind) (i : ℕ) (ps : List Paren) (f : Field) (ts rest : List Token) → HaveLevels args → SpellTo args ts rest → ApartAfter args rest
+  args_noted : (args : Arguments) (k : SubjectKind) (i : ℕ) (ps : List Paren) (f : Field) (ts rest : List Token) → SpellTo args ts rest → ApartAfter args rest
       → noted_from k i (At (OfCall ∷ ps) (In f AtStart)) ts ≡ marked (lacking_among args) (λ j. noted_from k j (past ps f args) rest) i
-  args_noted NoArguments k i ps f ts rest v s x = ap (noted_from k i (At (OfCall ∷ ps) (In f AtStart))) s
-  args_noted (Omitted args) k i ps f ts rest v s x =
-      args_noted args k i ps f ts s.0 v s.1 (apart_parts args s.0 rest s.2)
+  args_noted NoArguments k i ps f ts rest s x = ap (noted_from k i (At (OfCall ∷ ps) (In f AtStart))) s
+  args_noted (Omitted args) k i ps f ts rest s x =
+      args_noted args k i ps f ts s.0 s.1 (apart_parts args s.0 rest s.2)
       ∙ (marked_same (lacking_among args) (λ j. noted_from k j (past ps f args) s.0) (marked (comma_behind args) (λ j. noted_from k j (At (OfCall ∷ ps) (In f AtStart)) rest)) i (λ j. parted args k j ps f s.0 rest s.2)
       ∙ sym (marked_append (lacking_among args) (comma_behind args) (λ j. noted_from k j (At (OfCall ∷ ps) (In f AtStart)) rest) i))
-  args_noted (Argument args t) k i ps f ts rest v s x =
-      args_noted args k i ps f ts s.0 v.0 s.3 (apart_parts args s.0 s.1 s.4)
+  args_noted (Argument args t) k i ps f ts rest s x =
+      args_noted args k i ps f ts s.0 s.3 (apart_parts args s.0 s.1 s.4)
       ∙ (marked_same (lacking_among args) (λ j. noted_from k j (past ps f args) s.0) (marked (comma_behind args ++ lacking false t) (λ j. noted_from k j (At (OfCall ∷ ps) (In f AfterOperand)) rest)) i
       (λ j. parted args k j ps f s.0 s.1 s.4
       ∙ (marked_same (comma_behind args) (λ i. noted_from k i (At (OfCall ∷ ps) (In f AtStart)) s.1) (marked (lacking false t) (λ j. noted_from k j (At (OfCall ∷ ps) (In f AfterOperand)) rest)) j
-      (λ h. tree_noted t k h (At (OfCall ∷ ps) (In f AtStart)) (OfCall ∷ ps) f s.2 false s.1 rest (due_start (OfCall ∷ ps) f s.2) v.1 tt s.5 x)
+      (λ h. tree_noted t k h (At (OfCall ∷ ps) (In f AtStart)) (OfCall ∷ ps) f s.2 false s.1 rest (due_start (OfCall ∷ ps) f s.2) tt s.5 x)
       ∙ sym (marked_append (comma_behind args) (lacking false t) (λ j. noted_from k j (At (OfCall ∷ ps) (In f AfterOperand)) rest) j)))
       ∙ sym (marked_append (lacking_among args) (comma_behind args ++ lacking false t) (λ j. noted_from k j (At (OfCall ∷ ps) (In f AfterOperand)) rest) i))

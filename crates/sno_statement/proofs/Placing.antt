@@ -17,14 +17,14 @@ use Rattle.sno_expression.specs.declared.tree.UnaryOperator.TheVariants as unary
 use Rattle.sno_expression.specs.declared.walking.Position.TheVariants.{AtStart, AfterUnary, AfterOperand}
 use Rattle.sno_expression.specs.declared.walking.Move.{Move}
 use Rattle.sno_expression.specs.declared.walking.Move.TheVariants as move
-use Rattle.sno_expression.specs.Expressions.{Expression, Arguments, Identifier, Constant, Keyword, Unevaluated, Group, Call, TableItem, Unary, Binary, NoArguments, Omitted, Argument, IsOperand, HasLevels, is_variable}
+use Rattle.sno_expression.specs.Expressions.{Expression, Arguments, Identifier, Constant, Keyword, Unevaluated, Group, Call, TableItem, Unary, Binary, NoArguments, Omitted, Argument, IsOperand, is_variable}
 use Rattle.sno_expression.specs.Spelling.{spaced, Joins, Parts, SpellsTo, SpellTo}
 use Rattle.sno_expression.specs.inner.Walking.{begin, opens_bracket}
 use Rattle.sno_expression.specs.inner.Reading.{Stops}
 use Rattle.sno_statement.specs.declared.walking.Field.TheVariants.{Subject, Pattern, Object as Given, Target as InComputed}
 use Rattle.sno_statement.specs.declared.walking.Stage.TheVariants.{First, In, AfterEquals, AfterColon, AfterOutcome, InTarget, AfterTarget}
 use Rattle.sno_statement.specs.declared.walking.SubjectKind.{SubjectKind}
-use Rattle.sno_statement.specs.Statements.{Target, To, Computed, Goto, NoGoto, Always, OnSuccess, OnFailure, OnBoth, Object, NoObject, NullObject, ValueObject, NoBody, Does, Statement, Says, TargetHasLevels, GotoHasLevels, ObjectHasLevels, StatementHasLevels, may_be_set}
+use Rattle.sno_statement.specs.Statements.{Target, To, Computed, Goto, NoGoto, Always, OnSuccess, OnFailure, OnBoth, Object, NoObject, NullObject, ValueObject, NoBody, Does, Statement, Says, may_be_set}
 use Rattle.sno_statement.specs.inner.Kinds.{kind_of, can_be_set}
 use Rattle.sno_statement.specs.Spelling.{TargetTo, OutcomeTo, LeadsTo, GotoTo, ObjectTo, Spells}
 use Rattle.sno_statement.specs.declared.walking.Role.{Role}
@@ -38,16 +38,16 @@ use Rattle.sno_statement.proofs.Roles.{Apart, dollar, kind_spelled}
 use Rattle.sno_statement.proofs.Completing.{goto_stops, object_stops, pattern_stops}
 use Rattle.sno_statement.proofs.Marked.{marked, none, marked_append, marked_same, raised}
 use Rattle.sno_statement.proofs.Placed.{Due, moved_in, due_start, stepped, tree_noted}
-use Rattle.sno_statement.proofs.Shorthand.{PatternHasLevels, PatternTo, ColonTo, lacking_pattern}
+use Rattle.sno_statement.proofs.Shorthand.{PatternTo, ColonTo, lacking_pattern}
 
 -- TARGETS AND GOTOS
 
 -- the element of a target
-element : (k : SubjectKind) (i : ℕ) (l : Option Outcome) (c : Bool) (t : Expression) (m rest : List Token) → HasLevels (Unary Indirect t) → SpellsTo c (Unary Indirect t) m rest → Apart rest
+element : (k : SubjectKind) (i : ℕ) (l : Option Outcome) (c : Bool) (t : Expression) (m rest : List Token) → SpellsTo c (Unary Indirect t) m rest → Apart rest
     → noted_from k i (At [] (InTarget l)) m ≡ marked (lacking false (Unary Indirect t)) (λ j. noted_from k j (At [] (In (InComputed l) AfterOperand)) rest) i
-element k i l c t m rest v s x =
+element k i l c t m rest s x =
     first (dollar s.1 s.2) s.3
-    ∙ tree_noted (Unary Indirect t) k i (At [] (In (InComputed l) AtStart)) [] (InComputed l) c false m rest (due_start [] (InComputed l) c) v tt s x
+    ∙ tree_noted (Unary Indirect t) k i (At [] (In (InComputed l) AtStart)) [] (InComputed l) c false m rest (due_start [] (InComputed l) c) tt s x
   where
     first : s.1 ≡ Dollar → m ≡ spaced c false (token.Mark s.1) ∷ s.0 → noted_from k i (At [] (InTarget l)) m ≡ noted_from k i (At [] (In (InComputed l) AtStart)) m
     first e d =
@@ -57,84 +57,84 @@ element k i l c t m rest v s x =
         ∙ sym (ap (noted_from k i (At [] (In (InComputed l) AtStart))) g))
 
 -- what stands within the parentheses of a target, and the one that closes it
-inside : (t : Target) (k : SubjectKind) (i : ℕ) (l : Option Outcome) (ts rest : List Token) → TargetHasLevels t → TargetTo t ts rest
+inside : (t : Target) (k : SubjectKind) (i : ℕ) (l : Option Outcome) (ts rest : List Token) → TargetTo t ts rest
     → (m : List Token) × (b : Bool) × (a : Bool) × (ts ≡ spaced b a token.Open ∷ m)
     × (least None (noted_from k (i + 1) (At [] (InTarget l)) m) ≡ marked (lacking_target t) (λ j. noted_from k j (At [] (AfterTarget l)) rest) i)
-inside (To n) k i l ts rest v s =
+inside (To n) k i l ts rest s =
     (spaced s.2 s.3 (token.Part (Label n)) ∷ spaced s.4 s.5 token.Close ∷ rest, s.0, s.1, s.6, refl)
-inside (Computed t) k i l ts rest v s = (
+inside (Computed t) k i l ts rest s = (
   s.0,
   s.1,
   s.2,
   s.6,
-  element k (i + 1) l s.3 t s.0 (spaced s.4 s.5 token.Close ∷ rest) v s.7 refl
+  element k (i + 1) l s.3 t s.0 (spaced s.4 s.5 token.Close ∷ rest) s.7 refl
       ∙ (marked_same (lacking false (Unary Indirect t)) (λ j. noted_from k j (At [] (In (InComputed l) AfterOperand)) (spaced s.4 s.5 token.Close ∷ rest)) (λ j. noted_from k (j + 1) (At [] (AfterTarget l)) rest) (i + 1)
       (λ j. refl)
       ∙ sym (marked_append (lacking false (Unary Indirect t)) (false ∷ []) (λ j. noted_from k j (At [] (AfterTarget l)) rest) (i + 1))),
 )
 
-target_noted : (t : Target) (k : SubjectKind) (i : ℕ) (l : Option Outcome) (ts rest : List Token) → TargetHasLevels t → TargetTo t ts rest
+target_noted : (t : Target) (k : SubjectKind) (i : ℕ) (l : Option Outcome) (ts rest : List Token) → TargetTo t ts rest
     → noted_from k i (At [] (AfterOutcome l)) ts ≡ marked (lacking_target t) (λ j. noted_from k j (At [] (AfterTarget l)) rest) i
-target_noted t k i l ts rest v s =
-    let p = inside t k i l ts rest v s in ap (noted_from k i (At [] (AfterOutcome l))) p.3 ∙ p.4
+target_noted t k i l ts rest s =
+    let p = inside t k i l ts rest s in ap (noted_from k i (At [] (AfterOutcome l))) p.3 ∙ p.4
 
-always_noted : (t : Target) (k : SubjectKind) (i : ℕ) (ts rest : List Token) → TargetHasLevels t → TargetTo t ts rest
+always_noted : (t : Target) (k : SubjectKind) (i : ℕ) (ts rest : List Token) → TargetTo t ts rest
     → noted_from k i (At [] AfterColon) ts ≡ marked (lacking_target t) (λ j. noted_from k j (At [] (AfterTarget None)) rest) i
-always_noted t k i ts rest v s =
-    let p = inside t k i None ts rest v s in ap (noted_from k i (At [] AfterColon)) p.3 ∙ p.4
+always_noted t k i ts rest s =
+    let p = inside t k i None ts rest s in ap (noted_from k i (At [] AfterColon)) p.3 ∙ p.4
 
-outcome_noted : (o : Outcome) (t : Target) (k : SubjectKind) (i : ℕ) (ts rest : List Token) → TargetHasLevels t → OutcomeTo o t ts rest
+outcome_noted : (o : Outcome) (t : Target) (k : SubjectKind) (i : ℕ) (ts rest : List Token) → OutcomeTo o t ts rest
     → noted_from k i (At [] AfterColon) ts ≡ marked (false ∷ lacking_target t) (λ j. noted_from k j (At [] (AfterTarget (Some (other o)))) rest) i
-outcome_noted o t k i ts rest v s =
-    ap (noted_from k i (At [] AfterColon)) s.3 ∙ target_noted t k (i + 1) (Some (other o)) s.0 rest v s.4
+outcome_noted o t k i ts rest s =
+    ap (noted_from k i (At [] AfterColon)) s.3 ∙ target_noted t k (i + 1) (Some (other o)) s.0 rest s.4
 
 -- the other outcome behind it
-second_noted : (o : Outcome) (t : Target) (k : SubjectKind) (i : ℕ) (ts : List Token) → TargetHasLevels t → OutcomeTo (other o) t ts []
+second_noted : (o : Outcome) (t : Target) (k : SubjectKind) (i : ℕ) (ts : List Token) → OutcomeTo (other o) t ts []
     → noted_from k i (At [] (AfterTarget (Some (other o)))) ts ≡ marked (false ∷ lacking_target t) none i
-second_noted Success t k i ts v s = ap (noted_from k i (At [] (AfterTarget (Some Failure)))) s.3 ∙ target_noted t k (i + 1) None s.0 [] v s.4
-second_noted Failure t k i ts v s = ap (noted_from k i (At [] (AfterTarget (Some Success)))) s.3 ∙ target_noted t k (i + 1) None s.0 [] v s.4
+second_noted Success t k i ts s = ap (noted_from k i (At [] (AfterTarget (Some Failure)))) s.3 ∙ target_noted t k (i + 1) None s.0 [] s.4
+second_noted Failure t k i ts s = ap (noted_from k i (At [] (AfterTarget (Some Success)))) s.3 ∙ target_noted t k (i + 1) None s.0 [] s.4
 
-both_noted : (o : Outcome) (t u : Target) (k : SubjectKind) (i : ℕ) (ts m : List Token) → TargetHasLevels t → TargetHasLevels u → OutcomeTo o t ts m → OutcomeTo (other o) u m []
+both_noted : (o : Outcome) (t u : Target) (k : SubjectKind) (i : ℕ) (ts m : List Token) → OutcomeTo o t ts m → OutcomeTo (other o) u m []
     → noted_from k i (At [] AfterColon) ts ≡ marked (false ∷ (lacking_target t ++ false ∷ lacking_target u)) none i
-both_noted o t u k i ts m v w s d =
-    outcome_noted o t k i ts m v s
-    ∙ (marked_same (false ∷ lacking_target t) (λ j. noted_from k j (At [] (AfterTarget (Some (other o)))) m) (marked (false ∷ lacking_target u) none) i (λ j. second_noted o u k j m w d)
+both_noted o t u k i ts m s d =
+    outcome_noted o t k i ts m s
+    ∙ (marked_same (false ∷ lacking_target t) (λ j. noted_from k j (At [] (AfterTarget (Some (other o)))) m) (marked (false ∷ lacking_target u) none) i (λ j. second_noted o u k j m d)
     ∙ sym (marked_append (false ∷ lacking_target t) (false ∷ lacking_target u) none i))
 
 -- the outcome that a goto names first
 first_named : (o : Outcome) (t : Target) (ts rest : List Token) → OutcomeTo o t ts rest → named_first ts ≡ o
 first_named o t ts rest s = ap named_first s.3
 
-leads_noted : (g : Goto) (k : SubjectKind) (i : ℕ) (ts : List Token) → GotoHasLevels g → LeadsTo g ts
+leads_noted : (g : Goto) (k : SubjectKind) (i : ℕ) (ts : List Token) → LeadsTo g ts
     → least None (noted_from k (i + 1) (At [] AfterColon) ts) ≡ marked (lacking_goto (named_first ts) g) none i
-leads_noted NoGoto k i ts v s = absurd s
-leads_noted (Always t) k i ts v s = always_noted t k (i + 1) ts [] v s
-leads_noted (OnSuccess t) k i ts v s = outcome_noted Success t k (i + 1) ts [] v s
-leads_noted (OnFailure t) k i ts v s = outcome_noted Failure t k (i + 1) ts [] v s
-leads_noted (OnBoth s f) k i ts v (inl p) =
-    both_noted Success s f k (i + 1) ts p.0 v.0 v.1 p.1 p.2
+leads_noted NoGoto k i ts s = absurd s
+leads_noted (Always t) k i ts s = always_noted t k (i + 1) ts [] s
+leads_noted (OnSuccess t) k i ts s = outcome_noted Success t k (i + 1) ts [] s
+leads_noted (OnFailure t) k i ts s = outcome_noted Failure t k (i + 1) ts [] s
+leads_noted (OnBoth s f) k i ts (inl p) =
+    both_noted Success s f k (i + 1) ts p.0 p.1 p.2
     ∙ ap (λ (o : Outcome). marked (lacking_goto o (OnBoth s f)) none i) (sym (first_named Success s ts p.0 p.1))
-leads_noted (OnBoth s f) k i ts v (inr p) =
-    both_noted Failure f s k (i + 1) ts p.0 v.1 v.0 p.1 p.2
+leads_noted (OnBoth s f) k i ts (inr p) =
+    both_noted Failure f s k (i + 1) ts p.0 p.1 p.2
     ∙ ap (λ (o : Outcome). marked (lacking_goto o (OnBoth s f)) none i) (sym (first_named Failure f ts p.0 p.1))
 
 -- a walk behind which a goto may come
 abbrev MayGo : Walk → Type 0
 MayGo w = (k : SubjectKind) (i : ℕ) (c : Bool) (ts : List Token) → noted_from k i w (spaced true c (token.Part Colon) ∷ ts) ≡ least None (noted_from k (i + 1) (At [] AfterColon) ts)
 
-colon_noted : (w : Walk) (g : Goto) (k : SubjectKind) (i : ℕ) (ts : List Token) → MayGo w → GotoHasLevels g → ColonTo g ts → noted_from k i w ts ≡ marked (lacking_goto (named_first ts) g) none i
-colon_noted w g k i ts h v s =
+colon_noted : (w : Walk) (g : Goto) (k : SubjectKind) (i : ℕ) (ts : List Token) → MayGo w → ColonTo g ts → noted_from k i w ts ≡ marked (lacking_goto (named_first ts) g) none i
+colon_noted w g k i ts h s =
     ap (noted_from k i w) s.2
     ∙ (h k i s.1 s.0
-    ∙ (leads_noted g k i s.0 v s.3
+    ∙ (leads_noted g k i s.0 s.3
     ∙ ap (λ (o : Outcome). marked (lacking_goto o g) none i) (sym (ap named_first s.2))))
 
-goto_noted : (w : Walk) (g : Goto) (k : SubjectKind) (i : ℕ) (ts : List Token) → MayGo w → GotoHasLevels g → GotoTo g ts → noted_from k i w ts ≡ marked (lacking_goto (named_first ts) g) none i
-goto_noted w NoGoto k i ts h v s = ap (noted_from k i w) s
-goto_noted w (Always t) k i ts h v s = colon_noted w (Always t) k i ts h v s
-goto_noted w (OnSuccess t) k i ts h v s = colon_noted w (OnSuccess t) k i ts h v s
-goto_noted w (OnFailure t) k i ts h v s = colon_noted w (OnFailure t) k i ts h v s
-goto_noted w (OnBoth t u) k i ts h v s = colon_noted w (OnBoth t u) k i ts h v s
+goto_noted : (w : Walk) (g : Goto) (k : SubjectKind) (i : ℕ) (ts : List Token) → MayGo w → GotoTo g ts → noted_from k i w ts ≡ marked (lacking_goto (named_first ts) g) none i
+goto_noted w NoGoto k i ts h s = ap (noted_from k i w) s
+goto_noted w (Always t) k i ts h s = colon_noted w (Always t) k i ts h s
+goto_noted w (OnSuccess t) k i ts h s = colon_noted w (OnSuccess t) k i ts h s
+goto_noted w (OnFailure t) k i ts h s = colon_noted w (OnFailure t) k i ts h s
+goto_noted w (OnBoth t u) k i ts h s = colon_noted w (OnBoth t u) k i ts h s
 
 go_first : MayGo (At [] First)
 go_first k i c ts = refl
@@ -248,31 +248,31 @@ abbrev MaySet : Walk → SubjectKind → Bool → Type 0
 MaySet w k u = (i : ℕ) (ts : List Token) → noted_from k i w (spaced true true (token.Part Equals) ∷ ts) ≡ least (note u 0) (noted_from k (i + 1) (At [] AfterEquals) ts)
 
 behind_noted : (o : Object) (g : Goto) (w : Walk) (k : SubjectKind) (i : ℕ) (u : Bool) (m q : List Token)
-    → MayGo w → MaySet w k u → ObjectHasLevels o → GotoHasLevels g → ObjectTo o m q → GotoTo g q
+    → MayGo w → MaySet w k u → ObjectTo o m q → GotoTo g q
     → noted_from k i w m ≡ least (note (used o u) 0) (marked (lacking_object o) (marked (lacking_goto (named_first q) g) none) i)
-behind_noted NoObject g w k i u m q h z v y s d = ap (noted_from k i w) s ∙ goto_noted w g k i q h y d
-behind_noted NullObject g w k i u m q h z v y s d =
-    ap (noted_from k i w) s ∙ (z i q ∙ ap (least (note u 0)) (goto_noted (At [] AfterEquals) g k (i + 1) q go_equals y d))
-behind_noted (ValueObject t) g w k i u m q h z v y s d =
+behind_noted NoObject g w k i u m q h z s d = ap (noted_from k i w) s ∙ goto_noted w g k i q h d
+behind_noted NullObject g w k i u m q h z s d =
+    ap (noted_from k i w) s ∙ (z i q ∙ ap (least (note u 0)) (goto_noted (At [] AfterEquals) g k (i + 1) q go_equals d))
+behind_noted (ValueObject t) g w k i u m q h z s d =
     ap (noted_from k i w) s.1
     ∙ (z i s.0
     ∙ ap (least (note u 0)) (
-    tree_noted t k (i + 1) (At [] AfterEquals) [] Given true false s.0 q due_equals v tt s.2 (stops_apart false q (goto_stops false g q d))
+    tree_noted t k (i + 1) (At [] AfterEquals) [] Given true false s.0 q due_equals tt s.2 (stops_apart false q (goto_stops false g q d))
     ∙ marked_same (lacking false t) (λ j. noted_from k j (At [] (In Given AfterOperand)) q) (marked (lacking_goto (named_first q) g) none) (i + 1)
-    (λ j. goto_noted (At [] (In Given AfterOperand)) g k j q go_object y d)))
+    (λ j. goto_noted (At [] (In Given AfterOperand)) g k j q go_object d)))
 
 pattern_noted : (p : Option Expression) (o : Object) (g : Goto) (k : SubjectKind) (i : ℕ) (m n q : List Token)
-    → PatternHasLevels p → ObjectHasLevels o → GotoHasLevels g → PatternTo p m n → ObjectTo o n q → GotoTo g q
+    → PatternTo p m n → ObjectTo o n q → GotoTo g q
     → noted_from k i (At [] (In Subject AfterOperand)) m
     ≡ least (note (used o (not (can_be_set k (is_some p)))) 0) (marked (lacking_pattern p) (marked (lacking_object o) (marked (lacking_goto (named_first q) g) none)) i)
-pattern_noted None o g k i m n q v w y c d e =
+pattern_noted None o g k i m n q c d e =
     ap (noted_from k i (At [] (In Subject AfterOperand))) c
-    ∙ behind_noted o g (At [] (In Subject AfterOperand)) k i (not (can_be_set k false)) n q go_subject (λ j ts. refl) w y d e
-pattern_noted (Some p) o g k i m n q v w y c d e =
-    tree_noted p k i (At [] (In Subject AfterOperand)) [] Pattern true false m n due_pattern v tt c (stops_apart false n (object_stops false o g n q d e))
+    ∙ behind_noted o g (At [] (In Subject AfterOperand)) k i (not (can_be_set k false)) n q go_subject (λ j ts. refl) d e
+pattern_noted (Some p) o g k i m n q c d e =
+    tree_noted p k i (At [] (In Subject AfterOperand)) [] Pattern true false m n due_pattern tt c (stops_apart false n (object_stops false o g n q d e))
     ∙ (marked_same (lacking false p) (λ j. noted_from k j (At [] (In Pattern AfterOperand)) n)
     (λ j. least (note (used o (not (can_be_set k true))) 0) (marked (lacking_object o) (marked (lacking_goto (named_first q) g) none) j)) i
-    (λ j. behind_noted o g (At [] (In Pattern AfterOperand)) k j (not (can_be_set k true)) n q go_pattern (λ j ts. refl) w y d e)
+    (λ j. behind_noted o g (At [] (In Pattern AfterOperand)) k j (not (can_be_set k true)) n q go_pattern (λ j ts. refl) d e)
     ∙ raised (used o (not (can_be_set k true))) (lacking false p) (marked (lacking_object o) (marked (lacking_goto (named_first q) g) none)) i)
 
 -- THE SUBJECT
@@ -316,16 +316,16 @@ lifted (Unary o t) u on i h = ap (λ (c : Bool). least (note c 0) (marked (lacki
 lifted (Binary o l r) u on i h = absurd i
 
 subject_noted : (s : Expression) (p : Option Expression) (o : Object) (g : Goto) (b : Bool) (ts l m q : List Token)
-    → IsOperand s → HasLevels s → PatternHasLevels p → ObjectHasLevels o → GotoHasLevels g → SpellsTo b s ts l → PatternTo p l m → ObjectTo o m q → GotoTo g q
+    → IsOperand s → SpellsTo b s ts l → PatternTo p l m → ObjectTo o m q → GotoTo g q
     → noted ts ≡ marked (lacking_in ts (Says (Does s p o) g)) none 0
-subject_noted s p o g b ts l m q i v w x y c d e f =
+subject_noted s p o g b ts l m q i c d e f =
     let a : Apart l = stops_apart true l (pattern_stops p o g l m q d e f) in
     let rest : ℕ → Option ℕ = marked (lacking_goto (named_first q) g) none in
-    tree_noted s (subject_kind ts) 0 begins [] Subject b false ts l (due_first b) v i c a
+    tree_noted s (subject_kind ts) 0 begins [] Subject b false ts l (due_first b) i c a
     ∙ (ap (λ (k : SubjectKind). marked (lacking false s) (λ j. noted_from k j (At [] (In Subject AfterOperand)) l) 0) (kind_spelled s b ts l i c a)
     ∙ (marked_same (lacking false s) (λ j. noted_from (kind_of s) j (At [] (In Subject AfterOperand)) l)
     (λ j. least (note (is_wrong s p o) 0) (marked (lacking_pattern p) (marked (lacking_object o) rest) j)) 0
-    (λ j. pattern_noted p o g (kind_of s) j l m q w x y d e f
+    (λ j. pattern_noted p o g (kind_of s) j l m q d e f
     ∙ ap (λ (u : Bool). least (note u 0) (marked (lacking_pattern p) (marked (lacking_object o) rest) j)) (wrong_used s p o))
     ∙ (raised (is_wrong s p o) (lacking false s) (marked (lacking_pattern p) (marked (lacking_object o) rest)) 0
     ∙ (lifted s (is_wrong s p o) (marked (lacking_pattern p) (marked (lacking_object o) rest)) i (wrong_variable s p o)
@@ -337,12 +337,11 @@ subject_noted s p o g b ts l m q i v w x y c d e f =
     (sym (tree_names s b ts l c ∙ (pattern_names p l m d ∙ object_names o m q e))))))))))
 
 -- what a walk notes in a statement are the places that lack a variable
-pub places_noted : (s : Statement) (ts : List Token) → StatementHasLevels s → Spells s ts → noted ts ≡ marked (lacking_in ts s) none 0
-places_noted (Says NoBody g) ts v q =
+pub places_noted : (s : Statement) (ts : List Token) → Spells s ts → noted ts ≡ marked (lacking_in ts s) none 0
+places_noted (Says NoBody g) ts q =
     ap noted q.1
-    ∙ (goto_noted begins g (subject_kind q.0) 0 q.0 go_first v.1 q.2
+    ∙ (goto_noted begins g (subject_kind q.0) 0 q.0 go_first q.2
     ∙ ap (λ (n : List Token). marked (lacking_goto (named_first n) g) none 0) (sym q.1))
-places_noted (Says (Does s p o) g) ts v q =
-    let l = v.0 in
+places_noted (Says (Does s p o) g) ts q =
     let b = q.1 in
-    subject_noted s p o g b.2 ts b.0 b.1 q.0 l.0 l.1 l.2 l.3 v.1 b.3 b.4 b.5 q.2
+    subject_noted s p o g b.2 ts b.0 b.1 q.0 b.6 b.3 b.4 b.5 q.2

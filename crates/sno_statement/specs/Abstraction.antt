@@ -11,7 +11,7 @@ use Rattle.sno_statement.specs.declared.statement.Object.{Object as AnObject}
 use Rattle.sno_statement.specs.declared.statement.Object.TheVariants as object
 use Rattle.sno_statement.specs.declared.statement.Body.{Body as ABody}
 use Rattle.sno_statement.specs.declared.statement.Statement.{Statement as AStatement}
-use Rattle.sno_statement.specs.Statements.{Target, To, Computed, Goto, NoGoto, Always, OnSuccess, OnFailure, OnBoth, Object, NoObject, NullObject, ValueObject, Body, NoBody, Does, Statement, Says, StatementHasLevels}
+use Rattle.sno_statement.specs.Statements.{Target, To, Computed, Goto, NoGoto, Always, OnSuccess, OnFailure, OnBoth, Object, NoObject, NullObject, ValueObject, Body, NoBody, Does, Statement, Says}
 use Rattle.sno_statement.specs.Spelling.{Spells}
 use Rattle.sno_statement.specs.Lacking.{StatementHasVariables}
 use Rattle.sno_statement.specs.Faults.{IsLeftmostFault}
@@ -39,10 +39,9 @@ body_of (Some b) = Does (expression_of b.subject) (expressions_of b.pattern) (ob
 abbrev pub statement_of : AStatement → Statement
 statement_of s = Says (body_of s.body) (goto_of s.goto)
 
--- the statement that the tokens spell, with levels and with a variable in each place that needs one, and the only one that
--- they spell; or their leftmost fault
+-- the statement that the tokens spell, with a variable in each place that needs one, and the only one that they spell; or
+-- their leftmost fault
 abbrev pub Parsed : List Token → Result AStatement Fault → Type 0
 Parsed ts (Ok s) =
-    StatementHasLevels (statement_of s) × StatementHasVariables ts (statement_of s) × Spells (statement_of s) ts
-    × ((t : Statement) → StatementHasLevels t → Spells t ts → t ≡ statement_of s)
+    StatementHasVariables ts (statement_of s) × Spells (statement_of s) ts × ((t : Statement) → Spells t ts → t ≡ statement_of s)
 Parsed ts (Err f) = IsLeftmostFault ts f

@@ -7,7 +7,7 @@ use Rattle.sno_lexer.specs.declared.token.Part.TheVariants.{Equals, Colon, On, L
 use Rattle.sno_lexer.specs.declared.token.Token.{Token}
 use Rattle.sno_lexer.specs.declared.token.TokenKind.TheVariants as token
 use Rattle.sno_expression.specs.declared.tree.UnaryOperator.TheVariants.{Indirect}
-use Rattle.sno_expression.specs.Expressions.{Expression, Unary}
+use Rattle.sno_expression.specs.Expressions.{Expression, Unary, IsOperand}
 use Rattle.sno_expression.specs.Spelling.{spaced, SpellsTo}
 use Rattle.sno_statement.specs.Statements.{Target, To, Computed, Goto, NoGoto, Always, OnSuccess, OnFailure, OnBoth, Object, NoObject, NullObject, ValueObject, Body, NoBody, Does, Statement, Says}
 
@@ -42,10 +42,11 @@ ObjectTo NoObject ts rest = ts ≡ rest
 ObjectTo NullObject ts rest = ts ≡ spaced true true (token.Part Equals) ∷ rest
 ObjectTo (ValueObject t) ts rest = (m : List Token) × (ts ≡ spaced true true (token.Part Equals) ∷ m) × SpellsTo true t m rest
 
--- a blank stands before a pattern
+-- the subject is one element, and a blank stands before a pattern
 abbrev pub BodyTo : Body → List Token → List Token → Type 0
 BodyTo NoBody ts rest = ts ≡ rest
 BodyTo (Does s p o) ts rest = (m n : List Token) × (b : Bool) × SpellsTo b s ts m × MatchOption p (m ≡ n) (λ t. SpellsTo true t m n) × ObjectTo o n rest
+    × IsOperand s
 
 -- the tokens are those of the statement
 abbrev pub Spells : Statement → List Token → Type 0

@@ -23,11 +23,11 @@ pub only_given : (text : List Placed) (r : Result TokenList LexFault) → HasTok
 only_given text r h = ap (with_place text) (sym (nothing_else_tells_it (text_of text) (length (label_of text)) r h))
 
 spelled_by : (text : List Placed) (s : Statement) (r : Result TokenList LexFault) → HasTokens text r → AreTokensOf s (with_place text r) → TextSpells text s
-spelled_by text s (Ok list) h a = (list, h, a.0, a.1, a.2)
+spelled_by text s (Ok list) h a = (list, h, a.0, a.1)
 spelled_by text s (Err fault) h a = absurd a
 
 pub text_spells : (text : List Placed) (s : Statement) → AreTokensOf s (tokens_of text) → TextSpells text s
 text_spells text s a = spelled_by text s (given text) (given_stands text) a
 
 pub tokens_spell : (text : List Placed) (s : Statement) → TextSpells text s → AreTokensOf s (tokens_of text)
-tokens_spell text s p = subst (λ (r : Result TokenList SyntaxError). AreTokensOf s r) (sym (only_given text (Ok p.0) p.1)) (p.2, p.3, p.4)
+tokens_spell text s p = subst (λ (r : Result TokenList SyntaxError). AreTokensOf s r) (sym (only_given text (Ok p.0) p.1)) (p.2, p.3)

@@ -22,7 +22,7 @@ use Rattle.sno_syntax.specs.inner.Tokens.{AreTokensOf}
 use Rattle.sno_syntax.proofs.Behind.{given, given_stands, tokens_spell}
 
 statement_spelled : (s : Statement) (tokens : Result TokenList SyntaxError) → AreTokensOf s tokens → statement_on tokens ≡ Some s
-statement_spelled s (Ok list) a = statement_read s list.tokens a.0 a.2
+statement_spelled s (Ok list) a = statement_read s list.tokens a.1
 statement_spelled s (Err refusal) a = absurd a
 
 statements_spelled : (labels : LabelList) (i : ℕ) (texts : List (List Placed)) (ss : List Statement) → SpellFrom labels i texts ss
@@ -48,7 +48,7 @@ no_fault text offsets (Some f) e = absurd cc
 clean_spells : (text : List Placed) (r : Result TokenList LexFault) → HasTokens text r → stage_refusal text (with_place text r) ≡ None
     → (s : Statement) × TextSpells text s
 clean_spells text (Err fault) h e = absurd cc
-clean_spells text (Ok list) h e = let q = none_fit list.tokens (no_fault text list.offsets (fault list.tokens) e) in (q.0, (list, h, q.1, q.2, q.3))
+clean_spells text (Ok list) h e = let q = none_fit list.tokens (no_fault text list.offsets (fault list.tokens) e) in (q.0, (list, h, q.1, q.2))
 
 label_clean : (text : List Placed) (label : Option SyntaxCode) (later : Option SyntaxError) → label_first text label later ≡ None → (label ≡ None)
     × (later ≡ None)

@@ -20,7 +20,7 @@ use Rattle.sno_statement.proofs.Leftmost.{fit_none}
 -- what spells a statement is not refused
 pub clean : (text : List Placed) (s : Statement) (tokens : Result TokenList SyntaxError) → AreTokensOf s tokens → stage_refusal text tokens ≡ None
 clean text s (Err refusal) spells = absurd spells
-clean text s (Ok list) spells = ap (option_map (fault_refusal text list.offsets)) (fit_none list.tokens (s, spells.0, spells.1, spells.2))
+clean text s (Ok list) spells = ap (option_map (fault_refusal text list.offsets)) (fit_none list.tokens (s, spells.0, spells.1))
 
 pub no_refusal : (labels : LabelList) (text : List Placed) (s : Statement) → SpellsBehind labels text s → statement_refusal labels text ≡ None
 no_refusal labels text s spells =

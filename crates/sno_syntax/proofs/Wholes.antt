@@ -17,7 +17,7 @@ use Rattle.sno_syntax.proofs.Spelled.{no_refusal}
 
 one_of_tokens : (s t : Statement) (tokens : Result TokenList SyntaxError) → AreTokensOf s tokens → AreTokensOf t tokens → s ≡ t
 one_of_tokens s t (Err f) a b = absurd a
-one_of_tokens s t (Ok list) a b = one_statement s t list.tokens a.0 a.2 b.0 b.2
+one_of_tokens s t (Ok list) a b = one_statement s t list.tokens a.1 b.1
 
 one_behind : (labels : LabelList) (text : List Placed) (s t : Statement) → SpellsBehind labels text s → SpellsBehind labels text t → s ≡ t
 one_behind labels text s t a b = one_of_tokens s t (tokens_of text) (tokens_spell text s a.1) (tokens_spell text t b.1)

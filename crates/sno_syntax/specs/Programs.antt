@@ -4,7 +4,7 @@ use Rattle.std.specs.Prelude.{◌≡◌, ℕ, ◌+◌, List, [], ◌∷◌, map,
 use Rattle.sno_cards.specs.Programs.{ProgramText}
 use Rattle.sno_cards.specs.Texts.{Placed}
 use Rattle.sno_lexer.specs.Listed.{TokenList}
-use Rattle.sno_statement.specs.Statements.{Statement, StatementHasLevels}
+use Rattle.sno_statement.specs.Statements.{Statement}
 use Rattle.sno_statement.specs.Spelling.{Spells}
 use Rattle.sno_statement.specs.Lacking.{StatementHasVariables}
 use Rattle.sno_statement.specs.Abstraction.{statement_of}
@@ -19,9 +19,9 @@ pub record Program : Type 0 where
   pub labels : LabelList
   pub start : Start
 
--- what stands in a text behind its label spells the statement, with levels and with a variable in each place that needs one
+-- what stands in a text behind its label spells the statement, with a variable in each place that needs one
 abbrev pub TextSpells : List Placed → Statement → Type 0
-TextSpells text s = (list : TokenList) × HasTokens text (Ok list) × StatementHasLevels s × StatementHasVariables list.tokens s × Spells s list.tokens
+TextSpells text s = (list : TokenList) × HasTokens text (Ok list) × StatementHasVariables list.tokens s × Spells s list.tokens
 
 -- a text spells a statement behind its label, where these labels are defined before it
 abbrev pub SpellsBehind : LabelList → List Placed → Statement → Type 0

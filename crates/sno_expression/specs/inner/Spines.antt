@@ -5,7 +5,7 @@ use Rattle.sno_expression.specs.declared.tree.BinaryOperator.{BinaryOperator}
 use Rattle.sno_expression.specs.declared.tree.Expression.{Expression}
 use Rattle.sno_expression.specs.declared.tree.Expression.TheVariants as tree
 use Rattle.sno_expression.specs.declared.tree.Pending.{Pending}
-use Rattle.sno_expression.specs.Expressions.{binds_into_right}
+use Rattle.sno_expression.specs.inner.Levels.{binds_into_right}
 
 -- may the operator stand right under each of these
 abbrev pub is_under_all : BinaryOperator → List Pending → Bool

@@ -12,7 +12,7 @@ returns-in-Ok-clause-spelled c =
     let s = statement_of c.in-Ok.statement in
     let parsed = rw (c.tokens-2.ensures.value, c.in-Ok.is) at c.in_ok-statement.ensures in
     text_spells c.args.text.now s
-    (subst (λ (r : Result TokenList SyntaxError). AreTokensOf s r) (sym c.in_ok-tokens.ensures.tokens) (parsed.0, parsed.1, parsed.2))
+    (subst (λ (r : Result TokenList SyntaxError). AreTokensOf s r) (sym c.in_ok-tokens.ensures.tokens) (parsed.0, parsed.1))
 
 pub returns-clause-refused : goal.returns-clause-refused
 returns-clause-refused c =
