@@ -1,22 +1,17 @@
 -- Where a tree lacks a variable: for each of its tokens, whether an element begins there that should be a variable and is
 -- none (own).
 use Rattle.std.specs.Prelude.{Bool, false, not, ◌&&◌, ◌++◌, List, [], ◌∷◌}
-use Rattle.sno_expression.specs.declared.tree.BinaryOperator.{BinaryOperator}
 use Rattle.sno_expression.specs.declared.tree.BinaryOperator.TheVariants.{Concatenation}
 use Rattle.sno_expression.specs.Marks.{needs_variable, operand_is_variable}
 use Rattle.sno_expression.specs.Expressions.{Expression, Arguments, Identifier, Constant, Keyword, Unevaluated, Group, Call, TableItem, Unary, Binary, NoArguments, Omitted, Argument, is_variable}
-
--- between two operands stands a mark, and none where they are concatenated
-abbrev pub between : BinaryOperator → List Bool
-between Concatenation = []
-between _ = false ∷ []
 
 -- behind the arguments so far stands a comma, and none where there are none
 abbrev pub comma_behind : Arguments → List Bool
 comma_behind NoArguments = []
 comma_behind _ = false ∷ []
 
--- for each token of a tree, does an element begin there that should be a variable and is none; needed: should the tree be one
+-- for each token of a tree, does an element begin there that should be a variable and is none; needed: should the tree be
+-- one; between two operands stands a mark, and none where they are concatenated
 abbrev mutual
   pub lacking : Bool → Expression → List Bool
   lacking needed (Identifier n) = false ∷ []
@@ -27,7 +22,7 @@ abbrev mutual
   lacking needed (Call f args) = needed ∷ false ∷ (lacking_among args ++ false ∷ [])
   lacking needed (TableItem n t) = needed ∷ false ∷ (lacking false t ++ false ∷ [])
   lacking needed (Unary s t) = (needed && not (is_variable (Unary s t))) ∷ lacking (operand_is_variable s) t
-  lacking needed (Binary o l r) = lacking needed l ++ (between o ++ lacking (needs_variable o) r)
+  lacking needed (Binary o l r) = lacking needed l ++ (elim o [ Concatenation ↦ [] | other ↦ false ∷ [] ] ++ lacking (needs_variable o) r)
 
   pub lacking_among : Arguments → List Bool
   lacking_among NoArguments = []

@@ -26,7 +26,8 @@ use Rattle.sno_statement.specs.declared.walking.Stage.TheVariants.{In}
 use Rattle.sno_statement.specs.declared.walking.SubjectKind.{SubjectKind}
 use Rattle.sno_statement.specs.inner.Walking.{Walk, At, role_by, role, alone, in_field, advanced}
 use Rattle.sno_statement.specs.inner.Faults.{is_unset, note, least, noted_from, then_note}
-use Rattle.sno_expression.specs.Lacking.{between, comma_behind, lacking, lacking_among}
+use Rattle.sno_expression.specs.Lacking.{comma_behind, lacking, lacking_among}
+use Rattle.sno_expression.specs.inner.Variables.{between}
 use Rattle.sno_statement.proofs.Strides.{taken_sets}
 use Rattle.sno_statement.proofs.Roles.{Apart}
 use Rattle.sno_statement.proofs.Marked.{marked, marked_append, marked_same, least_nothing}

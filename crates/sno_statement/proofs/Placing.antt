@@ -33,7 +33,8 @@ use Rattle.sno_expression.specs.Marks.{operand_is_variable}
 use Rattle.sno_statement.specs.inner.Walking.{Walk, At, begins, other, role_by, stands, advanced, enter, continued, at_first, after_equals, after_subject}
 use Rattle.sno_statement.specs.inner.Faults.{note, least, noted_from, then_note, noted, is_unset, subject_kind}
 use Rattle.sno_expression.specs.Lacking.{lacking}
-use Rattle.sno_statement.specs.Lacking.{is_wrong, lacking_object, lacking_body, lacking_target, lacking_goto, named_first, lacking_in}
+use Rattle.sno_statement.specs.inner.Variables.{is_wrong}
+use Rattle.sno_statement.specs.Lacking.{lacking_object, lacking_body, lacking_target, lacking_goto, named_first, lacking_in}
 use Rattle.sno_statement.proofs.Roles.{Apart, dollar, kind_spelled}
 use Rattle.sno_statement.proofs.Completing.{goto_stops, object_stops, pattern_stops}
 use Rattle.sno_statement.proofs.Marked.{marked, none, marked_append, marked_same, raised}

@@ -9,8 +9,8 @@ use Rattle.sno_expression.specs.Lacking.{lacking}
 use Rattle.sno_expression.specs.inner.Variables.{lacks}
 use Rattle.sno_expression.proofs.Tested.{marked, marked_both, marked_first, tested}
 use Rattle.sno_statement.specs.Statements.{Target, To, Computed, Goto, NoGoto, Always, OnSuccess, OnFailure, OnBoth, Object, NoObject, NullObject, ValueObject, Body, NoBody, Does, Statement, Says}
-use Rattle.sno_statement.specs.Lacking.{is_wrong, lacking_object, lacking_body, lacking_target, lacking_goto, named_first, lacking_in, StatementHasVariables}
-use Rattle.sno_statement.specs.inner.Variables.{target_lacks, goto_lacks, pattern_lacks, object_lacks, body_lacks, statement_lacks, fitting}
+use Rattle.sno_statement.specs.Lacking.{lacking_object, lacking_body, lacking_target, lacking_goto, named_first, lacking_in, StatementHasVariables}
+use Rattle.sno_statement.specs.inner.Variables.{is_wrong, target_lacks, goto_lacks, pattern_lacks, object_lacks, body_lacks, statement_lacks, fitting}
 use Rattle.sno_statement.proofs.Shorthand.{lacking_pattern}
 
 target_tested : (t : Target) → marked (lacking_target t) ≡ target_lacks t

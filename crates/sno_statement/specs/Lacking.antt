@@ -13,20 +13,17 @@ use Rattle.sno_expression.specs.Lacking.{lacking}
 use Rattle.sno_statement.specs.Statements.{Target, To, Computed, Goto, NoGoto, Always, OnSuccess, OnFailure, OnBoth, Object, NoObject, NullObject, ValueObject, Body, NoBody, Does, Statement, Says, may_be_set}
 use Rattle.std.specs.Option.{option_map_or}
 
--- should the subject be a variable and is none: an object is given, and the subject may not be assigned to
-abbrev pub is_wrong : Expression → Option Expression → Object → Bool
-is_wrong s p NoObject = false
-is_wrong s p _ = not (may_be_set s (is_some p))
-
 -- for each token of a part of a statement; before an object stands its `=`
 abbrev pub lacking_object : Object → List Bool
 lacking_object NoObject = []
 lacking_object NullObject = false ∷ []
 lacking_object (ValueObject t) = false ∷ lacking false t
 
+-- where an object is given the subject has to be one that may be assigned to
 abbrev pub lacking_body : Body → List Bool
 lacking_body NoBody = []
-lacking_body (Does s p o) = lacking (is_wrong s p o) s ++ (option_map_or (lacking false) p [] ++ lacking_object o)
+lacking_body (Does s p o) = lacking (elim o [ NoObject ↦ false | given ↦ not (may_be_set s (is_some p)) ]) s
+    ++ (option_map_or (lacking false) p [] ++ lacking_object o)
 
 -- for each token of a target, with its parentheses
 abbrev pub lacking_target : Target → List Bool

@@ -1,9 +1,13 @@
 -- Whether a statement lacks a variable, as a test.
-use Rattle.std.specs.Prelude.{Bool, false, ◌||◌, Option, Some, None, if◌then◌else◌}
+use Rattle.std.specs.Prelude.{Bool, false, not, ◌||◌, Option, Some, None, is_some, if◌then◌else◌}
 use Rattle.sno_expression.specs.Expressions.{Expression}
 use Rattle.sno_expression.specs.inner.Variables.{lacks}
-use Rattle.sno_statement.specs.Statements.{Target, To, Computed, Goto, NoGoto, Always, OnSuccess, OnFailure, OnBoth, Object, NoObject, NullObject, ValueObject, Body, NoBody, Does, Statement, Says}
-use Rattle.sno_statement.specs.Lacking.{is_wrong}
+use Rattle.sno_statement.specs.Statements.{Target, To, Computed, Goto, NoGoto, Always, OnSuccess, OnFailure, OnBoth, Object, NoObject, NullObject, ValueObject, Body, NoBody, Does, Statement, Says, may_be_set}
+
+-- should the subject be a variable and is none: an object is given, and the subject may not be assigned to
+abbrev pub is_wrong : Expression → Option Expression → Object → Bool
+is_wrong s p NoObject = false
+is_wrong s p _ = not (may_be_set s (is_some p))
 
 abbrev pub target_lacks : Target → Bool
 target_lacks (To l) = false
