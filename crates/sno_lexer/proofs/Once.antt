@@ -15,8 +15,8 @@ use Rattle.sno_lexer.specs.declared.fault.LexFault.{LexFault}
 use Rattle.sno_lexer.specs.inner.Classes.{found, further, kind_of, text_of, token_of}
 use Rattle.sno_lexer.specs.inner.Lexing.{after, on_action, stage, start, taken, with_first}
 use Rattle.sno_lexer.specs.Listed.{TokenList}
-use Rattle.sno_lexer.specs.Following.{IsEnd, IsFault, Stands, TellText, fault_of, is_some_text}
-use Rattle.sno_lexer.proofs.Apart.{is_apart}
+use Rattle.sno_lexer.specs.Following.{IsFault, Stands, TellText, fault_of}
+use Rattle.sno_lexer.proofs.Apart.{IsEnd, is_apart, is_some_text}
 use Rattle.sno_lexer.specs.Laws.{NothingElseTellsIt}
 use Rattle.sno_lexer.proofs.Contexts.{Knows, at_start, knows_after}
 use Rattle.sno_lexer.proofs.Faults.{good_or}

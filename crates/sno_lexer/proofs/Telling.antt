@@ -17,8 +17,8 @@ use Rattle.sno_lexer.specs.inner.Classes.{found, further, is_blank_or_end, kind_
 use Rattle.sno_lexer.specs.inner.Lexing.{after, on_action, stage, start, taken, with_first}
 use Rattle.sno_lexer.specs.Lexed.{lexed}
 use Rattle.sno_lexer.specs.Listed.{TokenList}
-use Rattle.sno_lexer.specs.Following.{TellText, Told}
-use Rattle.sno_lexer.proofs.Apart.{is_apart}
+use Rattle.sno_lexer.specs.Following.{TellText, IsLexed}
+use Rattle.sno_lexer.proofs.Apart.{Told, is_apart}
 use Rattle.sno_lexer.specs.Laws.{TokensTellTheText}
 use Rattle.sno_lexer.proofs.Contexts.{Knows, at_start, knows_after}
 use Rattle.sno_lexer.proofs.Faults.{IsTaken, found_refused, found_taken}
@@ -156,6 +156,10 @@ told [] s before at k h = ([], drop s.skip [], refl, refl, drop-nil s.skip)
 told (c ∷ cs) s before at k h =
     turn s before at c cs (nat_lt 0 s.skip) (c == 32) (found s (c ∷ cs)) k refl refl refl h (λ v others g n. told cs v others (at + 1) g n)
 
+is_lexed : (text : List ℕ) (from : ℕ) (r : Result TokenList LexFault) → Told r from true [] (drop from text) → IsLexed text from r
+is_lexed text from (Ok list) h = h
+is_lexed text from (Err fault) h = h
+
 pub tokens_tell_the_text : TokensTellTheText
 tokens_tell_the_text text from =
-    to_zero (lexed text from) 0 from true [] (drop from text) refl (told (drop from text) start [] from at_start (omega arith))
+    is_lexed text from (lexed text from) (to_zero (lexed text from) 0 from true [] (drop from text) refl (told (drop from text) start [] from at_start (omega arith)))
