@@ -1,5 +1,5 @@
 -- Runs of operators as lists.
-use Rattle.std.proofs.Common.{◌≡◌, refl, sym, ap, ap₂, ◌∙◌, List, [], ◌∷◌, Vec, Box, Global}
+use Rattle.std.proofs.Common.{◌≡◌, refl, sym, ap, ap₂, ◌∙◌, List, Vec, Box, Global}
 use Rattle.sno_expression.specs.declared.tree.BinaryOperator.{BinaryOperator}
 use Rattle.sno_expression.specs.declared.tree.Expression.{Expression as AnExpression}
 use Rattle.sno_expression.specs.declared.tree.Expression.TheVariants as tree

@@ -6,7 +6,6 @@ use Rattle.sno_statement.specs.declared.fault.Fault.{Fault}
 use Rattle.sno_statement.specs.declared.fault.FaultKind.TheVariants.{Unfit}
 use Rattle.sno_statement.specs.declared.statement.Statement.{Statement as AStatement}
 use Rattle.sno_statement.specs.Statements.{Statement}
-use Rattle.sno_statement.specs.Spelling.{Spells}
 use Rattle.sno_statement.specs.Lacking.{lacking_in}
 use Rattle.sno_statement.specs.inner.Walking.{Walk, take, begins, may_end}
 use Rattle.sno_statement.specs.inner.Faults.{FaultAt, refused_as, then_on, refusal_from, refusal, noted, earlier, fault}

@@ -1,5 +1,5 @@
 -- A walk takes the tokens to the end exactly where they are read as a statement.
-use Rattle.std.proofs.Common.{arith, ◌≡◌, ℕ, ◌+◌, List, [], ◌∷◌, refl, sym, ap, ◌∙◌, subst}
+use Rattle.std.proofs.Common.{◌≡◌, ℕ, List, [], ◌∷◌, refl, sym, ◌∙◌, subst}
 use Rattle.std.specs.Prelude.{Bool, true, false, Option, Some, None, is_some}
 use Rattle.sno_lexer.specs.declared.token.Mark.TheVariants.{Dollar}
 use Rattle.sno_lexer.specs.declared.token.Outcome.{Outcome}
@@ -8,21 +8,18 @@ use Rattle.sno_lexer.specs.declared.token.Part.TheVariants.{On, Label}
 use Rattle.sno_lexer.specs.declared.token.Token.{Token}
 use Rattle.sno_lexer.specs.declared.token.TokenKind.{TokenKind}
 use Rattle.sno_lexer.specs.declared.token.TokenKind.TheVariants as token
-use Rattle.sno_expression.specs.declared.tree.UnaryOperator.TheVariants.{Indirect}
-use Rattle.sno_expression.specs.Expressions.{Expression, Unary}
+use Rattle.sno_expression.specs.Expressions.{Expression}
 use Rattle.sno_expression.specs.Spelling.{spaced}
 use Rattle.sno_expression.specs.inner.Reading.{Reading, Read, reading}
 use Rattle.sno_statement.specs.declared.walking.Role.{Role}
 use Rattle.sno_statement.specs.declared.walking.Role.TheVariants.{Assigns, Goes, Follows, Touches}
 use Rattle.sno_statement.specs.declared.walking.Field.TheVariants.{Subject, Pattern, Object, Target as InComputed}
 use Rattle.sno_statement.specs.declared.walking.Stage.TheVariants.{AfterEquals, AfterColon, AfterOutcome, InTarget, AfterLabel, AfterTarget}
-use Rattle.sno_statement.specs.declared.walking.SubjectKind.{SubjectKind}
-use Rattle.sno_statement.specs.Statements.{Target, To, Computed, Goto, NoGoto, Always, OnBoth, NoObject, NullObject, ValueObject, Body, NoBody, Does, Says}
+use Rattle.sno_statement.specs.Statements.{Target, To, Computed, Goto, Always, OnBoth, NoObject, NullObject, ValueObject, Body, NoBody, Does}
 use Rattle.sno_statement.specs.inner.Walking.{At, role, advanced, begins, other, at_first, after_subject, after_pattern, after_object, after_element, after_equals, after_colon, after_outcome, after_target}
-use Rattle.sno_statement.specs.inner.Faults.{is_unset, subject_kind}
 use Rattle.sno_statement.specs.inner.Reading.{Aim, Missed, Aimed, closed_by, closing, computed, inside_by, inside, target_by, target_in, at_last, always, both, next_by, next, chosen, goto_by, goto_in, going, ends_by, ending, giving, by_object, object_in, by_pattern, pattern_then, matching, by_subject, subject_then, acting, by_first, statement_in}
 use Rattle.sno_expression.proofs.Sound.{sound}
-use Rattle.sno_statement.proofs.Roles.{indirect_of, Apart, apart, kind_spelled}
+use Rattle.sno_statement.proofs.Roles.{indirect_of}
 use Rattle.sno_statement.proofs.Strides.{on_walk, walked, left, after_field, enter_walks}
 
 -- a walk behind the parenthesis of a target, or before it, by what is read there

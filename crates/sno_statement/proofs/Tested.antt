@@ -1,6 +1,6 @@
 -- The test for what lacks a variable says what it should.
-use Rattle.std.proofs.Common.{◌≡◌, ℕ, ◌+◌, List, [], ◌∷◌, ◌++◌, refl, sym, ap, ◌∙◌}
-use Rattle.std.specs.Prelude.{Bool, true, false, nat_le, ◌||◌, Option, Some, None, if◌then◌else◌}
+use Rattle.std.proofs.Common.{◌≡◌, List, ◌∷◌, ◌++◌, refl, sym, ◌∙◌}
+use Rattle.std.specs.Prelude.{Bool, true, false, ◌||◌, Option, Some, None, if◌then◌else◌}
 use Rattle.sno_lexer.specs.declared.token.Outcome.{Outcome}
 use Rattle.sno_lexer.specs.declared.token.Outcome.TheVariants.{Success, Failure}
 use Rattle.sno_lexer.specs.declared.token.Token.{Token}

@@ -1,6 +1,6 @@
 -- Where a statement lacks a variable: for each of its tokens, whether an element begins there that should be a variable and
 -- is none (own).
-use Rattle.std.specs.Prelude.{◌≡◌, Bool, false, not, ◌++◌, List, [], ◌∷◌, Option, is_some}
+use Rattle.std.specs.Prelude.{◌≡◌, Bool, false, not, ◌++◌, List, [], ◌∷◌, is_some}
 use Rattle.std.specs.List.{list_any}
 use Rattle.sno_lexer.specs.declared.token.Outcome.{Outcome}
 use Rattle.sno_lexer.specs.declared.token.Outcome.TheVariants.{Success, Failure}
@@ -8,7 +8,7 @@ use Rattle.sno_lexer.specs.declared.token.Part.TheVariants.{On}
 use Rattle.sno_lexer.specs.declared.token.Token.{Token}
 use Rattle.sno_lexer.specs.declared.token.TokenKind.TheVariants as token
 use Rattle.sno_expression.specs.declared.tree.UnaryOperator.TheVariants.{Indirect}
-use Rattle.sno_expression.specs.Expressions.{Expression, Unary}
+use Rattle.sno_expression.specs.Expressions.{Unary}
 use Rattle.sno_expression.specs.Lacking.{lacking}
 use Rattle.sno_statement.specs.Statements.{Target, To, Computed, Goto, NoGoto, Always, OnSuccess, OnFailure, OnBoth, Object, NoObject, NullObject, ValueObject, Body, NoBody, Does, Statement, Says, may_be_set}
 use Rattle.std.specs.Option.{option_map_or}

@@ -1,13 +1,13 @@
 -- The tokens of a statement behind its label (own; after the SNOBOL4 book, chapter 1), part by part: each time the tokens of
 -- a part, and then the rest.
-use Rattle.std.specs.Prelude.{◌≡◌, Bool, true, List, [], ◌∷◌, Option, Some, None, ◌⊎◌, MatchOption}
+use Rattle.std.specs.Prelude.{◌≡◌, Bool, true, List, [], ◌∷◌, ◌⊎◌, MatchOption}
 use Rattle.sno_lexer.specs.declared.token.Outcome.{Outcome}
 use Rattle.sno_lexer.specs.declared.token.Outcome.TheVariants.{Success, Failure}
 use Rattle.sno_lexer.specs.declared.token.Part.TheVariants.{Equals, Colon, On, Label}
 use Rattle.sno_lexer.specs.declared.token.Token.{Token}
 use Rattle.sno_lexer.specs.declared.token.TokenKind.TheVariants as token
 use Rattle.sno_expression.specs.declared.tree.UnaryOperator.TheVariants.{Indirect}
-use Rattle.sno_expression.specs.Expressions.{Expression, Unary, IsOperand}
+use Rattle.sno_expression.specs.Expressions.{Unary, IsOperand}
 use Rattle.sno_expression.specs.Spelling.{spaced, SpellsTo}
 use Rattle.sno_statement.specs.Statements.{Target, To, Computed, Goto, NoGoto, Always, OnSuccess, OnFailure, OnBoth, Object, NoObject, NullObject, ValueObject, Body, NoBody, Does, Statement, Says}
 

@@ -1,5 +1,5 @@
 -- What may be the child of an operator's node, on either side, and the trees that have nothing else.
-use Rattle.std.specs.Prelude.{◌≡◌, Bool, nat_lt, nat_eq, ◌||◌, ◌&&◌, not}
+use Rattle.std.specs.Prelude.{Bool, nat_lt, nat_eq, ◌||◌, ◌&&◌, not}
 use Rattle.sno_expression.specs.declared.tree.BinaryOperator.{BinaryOperator}
 use Rattle.sno_expression.specs.Expressions.{Expression, Arguments, Group, Call, TableItem, Unary, Binary, NoArguments, Omitted, Argument, precedence, is_right_associative, Fits, IsOperand}
 
