@@ -1,7 +1,6 @@
 -- Labels (after Griswold, Poage and Polonsky, "The SNOBOL4 Programming Language", 2nd edition, chapter 1; which labels are
 -- refused is own).
 use Rattle.std.specs.Prelude.{ℕ, Bool, false, not, ◌||◌, bytes_eq, codes, is_some, List, [], ◌∷◌, Option, Some, None, if◌then◌else◌}
-use Rattle.std.specs.List.{before_first}
 use Rattle.std.specs.Map.{lookup}
 use Rattle.mon_text.specs.Characters.{is_letter_or_digit}
 use Rattle.sno_cards.specs.declared.refusal.SyntaxCode.{SyntaxCode}

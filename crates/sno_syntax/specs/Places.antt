@@ -1,5 +1,5 @@
 -- Where a program is refused (own).
-use Rattle.std.specs.Prelude.{ℕ, ◌+◌, ◌-◌, ◌^◌, min, List, [], ◌∷◌, map, get_or, if◌then◌else◌}
+use Rattle.std.specs.Prelude.{ℕ, ◌+◌, ◌-◌, ◌^◌, min, List, map, get_or, if◌then◌else◌}
 use Rattle.mon_text.specs.Characters.{is_blank}
 use Rattle.sno_cards.specs.declared.refusal.Place.{Place}
 use Rattle.sno_cards.specs.declared.refusal.SyntaxError.{SyntaxError}

@@ -12,13 +12,11 @@ use Rattle.sno_cards.specs.declared.refusal.SyntaxCode.{SyntaxCode}
 use Rattle.sno_cards.specs.declared.refusal.SyntaxCode.TheVariants.{BadConstant, BlankMissing, Unexpected, VariableNeeded, StatementTooLarge, BadEnd}
 use Rattle.sno_cards.specs.Programs.{ProgramText}
 use Rattle.sno_cards.specs.Texts.{Placed, text_of}
-use Rattle.sno_lexer.specs.declared.fault.FaultKind.{FaultKind as LexKind}
 use Rattle.sno_lexer.specs.declared.fault.FaultKind.TheVariants as lex
 use Rattle.sno_lexer.specs.declared.fault.LexFault.{LexFault}
 use Rattle.sno_lexer.specs.Listed.{TokenList}
 use Rattle.sno_lexer.specs.Following.{IsLexed}
 use Rattle.sno_lexer.specs.Lexed.{lexed}
-use Rattle.sno_statement.specs.declared.fault.FaultKind.{FaultKind}
 use Rattle.sno_statement.specs.declared.fault.FaultKind.TheVariants.{MissingBlank, Unfit, NoVariable}
 use Rattle.sno_statement.specs.declared.fault.Fault.{Fault}
 use Rattle.sno_statement.specs.Faults.{IsLeftmostFault}
