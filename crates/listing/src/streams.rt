@@ -36,7 +36,7 @@ fn review_pieces<R: Read, W: Write>(
     input: &mut R,
     output: &mut W,
     out: &mut Vec<u8>,
-) -> Result<(), ReviewFault> {
+) -> Result<(), Fault> {
     let mut buffer = buffer_of(alloc)?;
     for _ in 0..u64::MAX {
         let count = read_piece(input, &mut buffer)?;
@@ -55,7 +55,7 @@ fn review_piece<W: Write>(
     count: usize,
     output: &mut W,
     out: &mut Vec<u8>,
-) -> Result<(), ReviewFault> {
+) -> Result<(), Fault> {
     feed_piece(alloc, review, buffer, count, out)?;
     write_out(output, out)
 }
