@@ -291,6 +291,24 @@ fn close_angle(alloc: Global, stack: Stack, spine: Spine) -> Result<Step, AllocE
     }
 }
 
+// One more argument of a call is due.
+#[inline(always)]
+fn argument_begins(
+    alloc: Global,
+    name: Characters,
+    arguments: Arguments,
+    hole: Hole,
+    below: Stack,
+) -> Result<Step, AllocError>
+    ensures { IfOk result (λ s. step_of s ≡ Next (states.At (states.InCall name (arguments_of arguments) (hole_of hole) (stack_of below)) (states.Due states.Begin))) }
+{
+    let frame = Box::new(alloc, Frame::InCall(name, arguments, hole, below))?;
+    Ok(Step::Next(State {
+        stack: Stack::Above(frame),
+        spot: Spot::Due(Hole::Begin),
+    }))
+}
+
 fn comma(alloc: Global, stack: Stack, spine: Spine) -> Result<Step, AllocError>
     ensures { IfOk result (λ s. step_of s ≡ stepped (comma (stack_of stack) (spine_tree spine)) (ended (stack_of stack) (spine_tree spine))) }
 {
@@ -301,11 +319,7 @@ fn comma(alloc: Global, stack: Stack, spine: Spine) -> Result<Step, AllocError>
             Frame::InGroup(_, _) => Ok(Step::End(None)),
             Frame::InCall(name, arguments, hole, below) => {
                 let arguments = add_argument(alloc, arguments, tree)?;
-                let frame = Box::new(alloc, Frame::InCall(name, arguments, hole, below))?;
-                Ok(Step::Next(State {
-                    stack: Stack::Above(frame),
-                    spot: Spot::Due(Hole::Begin),
-                }))
+                argument_begins(alloc, name, arguments, hole, below)
             }
             Frame::InItem(_, _, _) => Ok(Step::End(None)),
         },
@@ -322,11 +336,7 @@ fn empty_before_comma(alloc: Global, stack: Stack) -> Result<Step, AllocError>
             Frame::InGroup(_, _) => Ok(Step::End(None)),
             Frame::InCall(name, arguments, hole, below) => {
                 let arguments = omit_argument(alloc, arguments)?;
-                let frame = Box::new(alloc, Frame::InCall(name, arguments, hole, below))?;
-                Ok(Step::Next(State {
-                    stack: Stack::Above(frame),
-                    spot: Spot::Due(Hole::Begin),
-                }))
+                argument_begins(alloc, name, arguments, hole, below)
             }
             Frame::InItem(_, _, _) => Ok(Step::End(None)),
         },
