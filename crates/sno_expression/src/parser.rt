@@ -253,6 +253,21 @@ fn begin(
     }
 }
 
+// A call has its last argument.
+#[inline(always)]
+fn call_ends(
+    alloc: Global,
+    name: Characters,
+    arguments: Arguments,
+    hole: Hole,
+    below: Stack,
+) -> Result<Step, AllocError>
+    ensures { IfOk result (λ s. step_of s ≡ Next (states.At (stack_of below) (states.Whole (fill (hole_of hole) (expressions.Call name (arguments_of arguments)))))) }
+{
+    let call = Box::new(alloc, Call { name, arguments })?;
+    whole(alloc, below, hole, Expression::Call(call))
+}
+
 fn close(alloc: Global, stack: Stack, spine: Spine) -> Result<Step, AllocError>
     ensures { IfOk result (λ s. step_of s ≡ stepped (close (stack_of stack) (spine_tree spine)) (ended (stack_of stack) (spine_tree spine))) }
 {
@@ -266,8 +281,7 @@ fn close(alloc: Global, stack: Stack, spine: Spine) -> Result<Step, AllocError>
             }
             Frame::InCall(name, arguments, hole, below) => {
                 let arguments = add_argument(alloc, arguments, tree)?;
-                let call = Box::new(alloc, Call { name, arguments })?;
-                whole(alloc, below, hole, Expression::Call(call))
+                call_ends(alloc, name, arguments, hole, below)
             }
             Frame::InItem(_, _, _) => Ok(Step::End(None)),
         },
@@ -353,8 +367,7 @@ fn empty_at_end(alloc: Global, stack: Stack) -> Result<Step, AllocError>
             Frame::InGroup(_, _) => Ok(Step::End(None)),
             Frame::InCall(name, arguments, hole, below) => {
                 let arguments = omit_argument(alloc, arguments)?;
-                let call = Box::new(alloc, Call { name, arguments })?;
-                whole(alloc, below, hole, Expression::Call(call))
+                call_ends(alloc, name, arguments, hole, below)
             }
             Frame::InItem(_, _, _) => Ok(Step::End(None)),
         },
