@@ -194,6 +194,19 @@ impl Text {
         Text::of_bytes(alloc, bytes)
     }
 
+    /// The text with a number in decimal behind it.
+    ///
+    /// # Errors
+    ///
+    /// Where a growth was refused.
+    pub fn with_digits(&self, alloc: Global, digits: &[u8]) -> Result<Text, AllocError> {
+        let first = self.as_bytes();
+        let mut bytes = room_for(alloc, first.len(), digits.len())?;
+        bytes.extend_from_slice(first).unwrap();
+        bytes.extend_from_slice(digits).unwrap();
+        Text::of_bytes(alloc, bytes)
+    }
+
     /// So many of a text, one after the other.
     ///
     /// # Errors
