@@ -194,17 +194,28 @@ impl Text {
         Text::of_bytes(alloc, bytes)
     }
 
-    /// The text with a number in decimal behind it.
+    /// The text with a number in decimal behind it, where both have at most so many characters.
     ///
     /// # Errors
     ///
     /// Where a growth was refused.
-    pub fn with_digits(&self, alloc: Global, digits: &[u8]) -> Result<Text, AllocError> {
+    pub fn numbered(
+        &self,
+        alloc: Global,
+        number: i64,
+        most: u64,
+    ) -> Result<Option<Text>, AllocError> {
+        let mut buffer = Buffer::new();
+        let digits = buffer.format(number).as_bytes();
         let first = self.as_bytes();
+        if (first.len() + digits.len()) as u64 > most {
+            return Ok(None);
+        }
         let mut bytes = room_for(alloc, first.len(), digits.len())?;
         bytes.extend_from_slice(first).unwrap();
         bytes.extend_from_slice(digits).unwrap();
-        Text::of_bytes(alloc, bytes)
+        let text = Text::of_bytes(alloc, bytes)?;
+        Ok(Some(text))
     }
 
     /// So many of a text, one after the other.
