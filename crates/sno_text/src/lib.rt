@@ -20,4 +20,4 @@ pub use named::{Name, Named};
 pub use node::Node;
 pub use pattern::{MOST_DEPTH, Pat};
 pub use seed::Seed;
-pub use text::{Text, without_trailing_blanks};
+pub use text::{MOST_SPELLED, Text, spelled, spelled_number, without_trailing_blanks};

@@ -39,6 +39,28 @@ impl Model for Text {
     ghost invariant = { λ t. IsLine (option_map_or (λ r. r.value.items) t.bytes []) × IfSome t.bytes (λ r. 0 < length r.value.items) };
 }
 
+/// How many characters are spelled in a room.
+pub const MOST_SPELLED: usize = 64;
+
+/// Two runs of characters one behind the other in a room, and how many they are, where they have room there.
+#[inline(always)]
+pub fn spelled(first: &[u8], second: &[u8], room: &mut [u8; MOST_SPELLED]) -> Option<usize> {
+    let end = first.len() + second.len();
+    if end > MOST_SPELLED {
+        return None;
+    }
+    room[..first.len()].copy_from_slice(first);
+    room[first.len()..end].copy_from_slice(second);
+    Some(end)
+}
+
+/// The same where a number in decimal is the second.
+#[inline(always)]
+pub fn spelled_number(first: &[u8], number: i64, room: &mut [u8; MOST_SPELLED]) -> Option<usize> {
+    let mut buffer = Buffer::new();
+    spelled(first, buffer.format(number).as_bytes(), room)
+}
+
 /// A text without the blanks at its end.
 pub fn without_trailing_blanks(text: &[u8]) -> &[u8]
     ensures { result.now ≡ without_trailing_blanks text.now }

@@ -14,7 +14,7 @@ ghost use Rattle.sno_variables.specs.Bindings.{assigned};
 ghost use Rattle.sno_variables.specs.inner.Exchanging.{values_now};
 
 use crate::exchanging::{exchange_known, take_back};
-use crate::lookup::{assign_all, place_of, place_of_text};
+use crate::lookup::{Spelled, assign_all, place_of, place_of_text};
 use crate::recent::Recent;
 use crate::variable::{Found, Variable};
 use indexmap::IndexMap;
@@ -126,6 +126,35 @@ impl Variables {
                 None => Found::Plain(&variable.value),
             },
             None => Found::Null,
+        }
+    }
+
+    /// The variable of a name that some characters spell, if it was named before. It takes no memory.
+    #[inline(always)]
+    fn find_spelled(&self, characters: &[u8]) -> Option<&Variable> {
+        let hint = self.recent.place(characters);
+        if let Some((key, variable)) = self.variables.get_index(hint) {
+            if key.text().as_bytes() == characters {
+                return Some(variable);
+            }
+        }
+        match self.variables.get_full(Spelled { characters }) {
+            Some((place, _, variable)) => {
+                self.recent.found_at(characters, place);
+                Some(variable)
+            }
+            None => None,
+        }
+    }
+
+    /// The value of the variable whose name some characters spell, where it was named before and its use reads no record.
+    pub fn spelled(&self, characters: &[u8]) -> Option<&Value> {
+        match self.find_spelled(characters) {
+            Some(variable) => match variable.input {
+                Some(_) => None,
+                None => Some(&variable.value),
+            },
+            None => None,
         }
     }
 
