@@ -1,6 +1,5 @@
 //! Variables in the map that holds them: where they stand, and several assigned at once.
 ghost use Rattle.std.specs.Prelude.{◌≡◌, ◌≤◌, ◌<◌, ◌+◌, nat_eq, length, position};
-ghost use Rattle.std.specs.Hash as fed;
 ghost use Rattle.std.specs.Map.{keys_of};
 ghost use Rattle.std.specs.Cmp.Lexicographic.{pointwise};
 ghost use Rattle.indexmap.specs.IndexMap.{spare};
@@ -14,7 +13,6 @@ use indexmap::{Equivalent, IndexMap};
 use sno_declarations::Bindings;
 use sno_text::{Name, Named, Seed, Text};
 use sno_value::Value;
-use std::hash::{Hash, Hasher};
 
 /// The place of a name, which is told it, and so are names like it that will be formed.
 #[inline(never)]
@@ -83,21 +81,17 @@ pub(crate) fn place_of(
 }
 
 /// Characters by which a name is looked up before a text is made of them.
-#[derive(Clone, Copy)]
+#[derive(Clone, Copy, PartialEq, Eq, Hash)]
 pub(crate) struct Spelled<'a> {
     pub(crate) characters: &'a [u8],
 }
 
-impl Hash for Spelled<'_> {
-    ghost hash_input = { fed.slice fed.u8 };
-
-    fn hash<H: Hasher>(&self, state: &mut H) {
-        self.characters.hash(state);
-    }
-}
-
 impl Equivalent<Name> for Spelled<'_> {
     ghost equivalent = { λ q k. pointwise nat_eq q.characters.now k };
+
+    ghost respects_hash = { ? };
+
+    ghost respects_eq = { ? };
 
     fn equivalent(&self, key: &Name) -> bool {
         self.characters == key.text().as_bytes()
