@@ -129,19 +129,19 @@ impl Variables {
         }
     }
 
-    /// The variable of a name that some characters spell, if it was named before. It takes no memory.
+    /// The name that some characters spell and its variable, if it was named before. It takes no memory.
     #[inline(always)]
-    fn find_spelled(&self, characters: &[u8]) -> Option<&Variable> {
+    fn find_spelled(&self, characters: &[u8]) -> Option<(&Name, &Variable)> {
         let hint = self.recent.place(characters);
         if let Some((key, variable)) = self.variables.get_index(hint) {
             if key.text().as_bytes() == characters {
-                return Some(variable);
+                return Some((key, variable));
             }
         }
         match self.variables.get_full(Spelled { characters }) {
-            Some((place, _, variable)) => {
+            Some((place, key, variable)) => {
                 self.recent.found_at(characters, place);
-                Some(variable)
+                Some((key, variable))
             }
             None => None,
         }
@@ -150,10 +150,18 @@ impl Variables {
     /// The value of the variable whose name some characters spell, where it was named before and its use reads no record.
     pub fn spelled(&self, characters: &[u8]) -> Option<&Value> {
         match self.find_spelled(characters) {
-            Some(variable) => match variable.input {
+            Some((_, variable)) => match variable.input {
                 Some(_) => None,
                 None => Some(&variable.value),
             },
+            None => None,
+        }
+    }
+
+    /// The text of the name that some characters spell, where it was named before.
+    pub fn spelled_name(&self, characters: &[u8]) -> Option<&Text> {
+        match self.find_spelled(characters) {
+            Some((name, _)) => Some(name.text()),
             None => None,
         }
     }
