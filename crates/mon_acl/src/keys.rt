@@ -7,11 +7,8 @@ ghost use Rattle.mon_acl.specs.Entries.{rank, qualifier, is_for, IsEntry, IsAcl,
 ghost use Rattle.mon_acl.specs.inner.Keys.{key_of, key_in, keys_of, bucket_of, IsIndexOfKey};
 ghost use Rattle.mon_acl.specs.inner.Chains.{IsChained};
 
-use crate::arranging::ENTRIES_INLINE;
 use crate::entries::{Entry, Tag};
 use mon_text::Name;
-use smallvec::SmallVec;
-use std::alloc::{AllocError, Global};
 
 /// How many entries a list has at the most: 100 for names, and one of each of the other types.
 pub(crate) const MOST_ENTRIES: usize = 104;
@@ -58,6 +55,7 @@ fn key_of(head: u64, tag: Tag) -> u64
 
 /// The key of an entry.
 #[tactic(auto, using(crate::proofs::Keyed::entry_fits))]
+#[inline(always)]
 fn key_in(entry: &Entry) -> u64
     requires { IsEntry entry.now }
     ensures { result ≡ key_in entry.now }
@@ -73,35 +71,12 @@ fn bucket_of(key: u64) -> usize
     (key.wrapping_mul(MULTIPLIER) / SEVEN_BITS) as usize
 }
 
-/// The keys of entries, in their order.
-///
-/// # Errors
-///
-/// Where a growth was refused; four entries take no memory.
-pub(crate) fn keys_of(
-    alloc: Global,
-    entries: &[Entry],
-) -> Result<SmallVec<u64, ENTRIES_INLINE>, AllocError>
-    requires { All IsEntry entries.now }
-    ensures keys { IfOk result (λ keys. keys.items ≡ keys_of entries.now) }
-    ensures few { length entries.now ≤ 4 → IsOk result }
-{
-    let mut keys = SmallVec::with_capacity(alloc, entries.len())?;
-    for entry in entries {
-        keys.push_reserved(key_in(entry));
-    }
-    Ok(keys)
-}
-
-/// The chains of keys.
-pub(crate) fn chains_of(keys: &[u64]) -> Chains
-    requires { length keys.now ≤ 104 }
-    ensures { IsChained (map bucket_of keys.now) (length keys.now) result.first result.next }
-{
+/// The chains of entries.
+pub(crate) fn chains_of(entries: &[Entry]) -> Chains {
     let mut first = [0; BUCKETS];
     let mut next = [0; MOST_ENTRIES];
-    for (i, key) in keys.iter().enumerate() {
-        let bucket = bucket_of(*key);
+    for (i, entry) in entries.iter().enumerate() {
+        let bucket = bucket_of(key_in(entry));
         next[i] = first[bucket];
         first[bucket] = i as u8 + 1;
     }
@@ -131,15 +106,11 @@ fn is_for(found: u64, entry: &Entry, key: u64, tag: Tag, name: &Name) -> bool
 
 /// The index of a key, if it is one of these: only those of its bucket are looked at.
 #[inline(always)]
-fn index_of_key(chains: &Chains, keys: &[u64], key: u64) -> Option<usize>
-    requires few { length keys.now ≤ 104 }
-    requires chains { IsChained (map bucket_of keys.now) (length keys.now) chains.now.first chains.now.next }
-    ensures { IsIndexOfKey key keys.now result }
-{
+fn index_of_key(chains: &Chains, entries: &[Entry], key: u64) -> Option<usize> {
     let mut place = chains.first[bucket_of(key)];
     while place > 0 {
         let index = place as usize - 1;
-        if keys[index] == key {
+        if key_in(&entries[index]) == key {
             return Some(index);
         }
         place = chains.next[index];
@@ -152,22 +123,16 @@ fn index_of_key(chains: &Chains, keys: &[u64], key: u64) -> Option<usize>
 #[inline(never)]
 fn index_of_long(
     chains: &Chains,
-    keys: &[u64],
     entries: &[Entry],
     key: u64,
     tag: Tag,
     name: &Name,
-) -> Option<usize>
-    requires list { IsAcl entries.now }
-    requires chains { IsChained (map bucket_of keys.now) (length keys.now) chains.now.first chains.now.next }
-    requires keys { keys.now ≡ keys_of entries.now }
-    requires key { key ≡ key_of tag name.now }
-    ensures { IsIndexOf tag name.now entries.now result }
-{
+) -> Option<usize> {
     let mut place = chains.first[bucket_of(key)];
     while place > 0 {
         let index = place as usize - 1;
-        if is_for(keys[index], &entries[index], key, tag, name) {
+        let entry = &entries[index];
+        if is_for(key_in(entry), entry, key, tag, name) {
             return Some(index);
         }
         place = chains.next[index];
@@ -179,37 +144,21 @@ fn index_of_long(
 #[inline(always)]
 pub(crate) fn index_of_name(
     chains: &Chains,
-    keys: &[u64],
     entries: &[Entry],
     tag: Tag,
     name: &Name,
-) -> Option<usize>
-    requires list { IsAcl entries.now }
-    requires chains { IsChained (map bucket_of keys.now) (length keys.now) chains.now.first chains.now.next }
-    requires keys { keys.now ≡ keys_of entries.now }
-    ensures { IsIndexOf tag name.now entries.now result }
-{
+) -> Option<usize> {
     let text = name.as_bytes();
     let key = key_of(name.head(), tag);
     if text.len() <= MOST_IN_KEY {
-        index_of_key(chains, keys, key)
+        index_of_key(chains, entries, key)
     } else {
-        index_of_long(chains, keys, entries, key, tag, name)
+        index_of_long(chains, entries, key, tag, name)
     }
 }
 
 /// The index of the entry of a type without names, if there is one.
 #[inline(always)]
-pub(crate) fn index_of_type(
-    chains: &Chains,
-    keys: &[u64],
-    entries: &[Entry],
-    tag: Tag,
-) -> Option<usize>
-    requires list { IsAcl entries.now }
-    requires chains { IsChained (map bucket_of keys.now) (length keys.now) chains.now.first chains.now.next }
-    requires keys { keys.now ≡ keys_of entries.now }
-    ensures { IsIndexOf tag [] entries.now result }
-{
-    index_of_key(chains, keys, key_of(0, tag))
+pub(crate) fn index_of_type(chains: &Chains, entries: &[Entry], tag: Tag) -> Option<usize> {
+    index_of_key(chains, entries, key_of(0, tag))
 }

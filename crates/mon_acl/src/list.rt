@@ -13,7 +13,7 @@ ghost use Rattle.mon_acl.specs.inner.Building.{pieces_in, piece_added, canonical
 
 use crate::arranging::{ENTRIES_INLINE, add, lacking};
 use crate::entries::{Entry, Perms, Tag};
-use crate::keys::{Chains, chains_of, index_of_name, index_of_type, keys_of};
+use crate::keys::{Chains, chains_of, index_of_name, index_of_type};
 use crate::pieces::Form;
 use crate::reading::entry_of;
 use crate::refusals::AclError;
@@ -29,8 +29,6 @@ use std::marker::Model;
 #[derive(Drop)]
 pub struct Acl {
     entries: SmallVec<Entry, ENTRIES_INLINE>,
-    /// Those of the entries, at the same indexes.
-    keys: SmallVec<u64, ENTRIES_INLINE>,
     chains: Chains,
 }
 
@@ -45,7 +43,7 @@ impl Model for Acl {
 
     ghost view = { λ a. a.entries.items };
 
-    ghost invariant = { λ a. IsAcl a.entries.items × (a.keys.items ≡ keys_of a.entries.items) × IsChained (map bucket_of a.keys.items) (length a.keys.items) a.chains.first a.chains.next };
+    ghost invariant = { λ a. IsAcl a.entries.items × IsChained (map bucket_of (keys_of a.entries.items)) (length (keys_of a.entries.items)) a.chains.first a.chains.next };
 }
 
 impl Acl {
@@ -149,7 +147,6 @@ impl Acl {
     {
         AclIndex {
             entries: self.entries.as_slice(),
-            keys: self.keys.as_slice(),
             chains: &self.chains,
         }
     }
@@ -167,10 +164,8 @@ impl Acl {
         for entry in self.entries() {
             entries.push(entry.copy())?;
         }
-        let keys = SmallVec::from_slice(alloc, self.keys.as_slice())?;
         Ok(Acl {
             entries,
-            keys,
             chains: self.chains,
         })
     }
@@ -180,7 +175,6 @@ impl Acl {
 #[derive(Drop)]
 pub struct AclIndex<'a> {
     entries: &'a [Entry],
-    keys: &'a [u64],
     chains: &'a Chains,
 }
 
@@ -195,7 +189,7 @@ impl<'a> Model for AclIndex<'a> {
 
     ghost view = { λ a. a.entries.now };
 
-    ghost invariant = { λ a. IsAcl a.entries.now × (a.keys.now ≡ keys_of a.entries.now) × IsChained (map bucket_of a.keys.now) (length a.keys.now) a.chains.now.first a.chains.now.next };
+    ghost invariant = { λ a. IsAcl a.entries.now × IsChained (map bucket_of (keys_of a.entries.now)) (length (keys_of a.entries.now)) a.chains.now.first a.chains.now.next };
 }
 
 impl AclIndex<'_> {
@@ -211,7 +205,7 @@ impl AclIndex<'_> {
     pub fn index_of(&self, tag: Tag, name: &Name) -> Option<usize>
         ensures { IsIndexOf tag name.now self.now result }
     {
-        index_of_name(self.chains, self.keys, self.entries, tag, name)
+        index_of_name(self.chains, self.entries, tag, name)
     }
 
     /// The index of the entry of a type without names, if there is one. It takes no memory.
@@ -219,7 +213,7 @@ impl AclIndex<'_> {
     pub fn index_of_type(&self, tag: Tag) -> Option<usize>
         ensures { IsIndexOf tag [] self.now result }
     {
-        index_of_type(self.chains, self.keys, self.entries, tag)
+        index_of_type(self.chains, self.entries, tag)
     }
 
     /// The permissions of the entry at an index.
@@ -253,17 +247,8 @@ fn listed(
     ensures memory { IsErrOf result Stop.Memory → 5 ≤ length entries.items }
 {
     entries.shrink_to_fit();
-    match keys_of(alloc, entries.as_slice()) {
-        Ok(keys) => {
-            let chains = chains_of(keys.as_slice());
-            Ok(Acl {
-                entries,
-                keys,
-                chains,
-            })
-        }
-        Err(_) => Err(Stop::Memory),
-    }
+    let chains = chains_of(entries.as_slice());
+    Ok(Acl { entries, chains })
 }
 
 /// The entries of a text, in canonical order.
