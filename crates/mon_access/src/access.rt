@@ -47,6 +47,7 @@ fn decided(granted: bool, decider: Decider) -> Decision
 }
 
 /// Whether groups are granted what some one of their entries holds, or what none does.
+#[inline(always)]
 fn is_granted_to_groups(acl: &AclIndex, held: bool, request: Perms) -> bool
     requires { IsAcl acl.now }
     ensures { result ≡ (if list_any (has_tag tag.Mask) acl.now then some_holds (has_tag tag.Mask) acl.now request && held
