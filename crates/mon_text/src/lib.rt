@@ -4,6 +4,7 @@
 #![tactic(auto)]
 
 pub mod count;
+pub mod drafts;
 pub mod ended_line;
 pub mod line;
 pub mod line_feed;

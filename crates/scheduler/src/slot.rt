@@ -16,6 +16,7 @@ use mon_access::Account;
 use mon_catalogue::Catalogue;
 use mon_device::Sink;
 use mon_guard::Guard;
+use mon_text::drafts::d_kept;
 use mon_unit::{AuditedService, KeptLines, UnitService, Units};
 use sno_run::{Ending, Job, Step, statement_turn};
 use std::alloc::Global;
@@ -116,6 +117,7 @@ pub(crate) fn step_at<S: Sink>(
     catalogue: &mut Catalogue,
     seat: &mut Option<Slot>,
     audit: &mut S,
+    none: &mut KeptLines,
 ) -> Option<Step>
     requires fit { CacheFits guard.old catalogue.old }
     ensures step { SeatStep (seat_of seat.old) catalogue.old result (seat_of seat.new) catalogue.new (S.standing audit.old) (S.standing audit.new) }
@@ -124,6 +126,10 @@ pub(crate) fn step_at<S: Sink>(
     match seat {
         None => None,
         Some(slot) => {
+            if d_kept() {
+                none.number = slot.number;
+                return Some(turn_of(alloc, guard, catalogue, slot, audit, none));
+            }
             let mut kept = KeptLines::none(slot.number);
             Some(turn_of(alloc, guard, catalogue, slot, audit, &mut kept))
         }

@@ -8,7 +8,7 @@ use mon_text::Stop;
 use sno_semantics::{Evaluated, Halt};
 use sno_store::Store;
 use sno_text::Fault;
-use sno_value::{Outcome, Place, Value, place_of};
+use sno_value::{Outcome, Place, Value, place_in, place_of};
 use std::alloc::AllocError;
 
 /// An item, by what is a table and what is a key, or the fault `WrongType`. It takes no memory.
@@ -49,6 +49,33 @@ pub fn held_item(
             Ok(Some((key.into_value(), value)))
         }
         None => Ok(None),
+    }
+}
+
+/// An item of a table, by what is a key.
+#[inline(always)]
+pub fn item_in(table: u32, key: Value, state: &Store) -> Result<Option<Value>, AllocError>
+{
+    match place_in(table, key) {
+        Some(place) => {
+            let value = state.item(&place)?;
+            Ok(Some(value))
+        }
+        None => Ok(None),
+    }
+}
+
+/// Sets an item of a table, and tells the fault where it does not.
+#[inline(always)]
+pub fn set_item_in(table: u32, key: Value, value: Value, state: &mut Store) -> Result<Option<Fault>, AllocError>
+{
+    match place_in(table, key) {
+        Some(place) => match state.set_item(place, value) {
+            Ok(()) => Ok(None),
+            Err(Stop::Refused(fault)) => Ok(Some(fault)),
+            Err(Stop::Memory) => Err(AllocError),
+        },
+        None => Ok(Some(Fault::WrongType)),
     }
 }
 

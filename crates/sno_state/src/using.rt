@@ -14,6 +14,7 @@ ghost use Rattle.sno_state.specs.inner.Parts.{stored, write_text};
 
 use interaction::{Act, Answer, Request, Service};
 use mon_text::Line;
+use mon_text::drafts::{d_text, d_write};
 use sno_declarations::laws::records_follow;
 use sno_declarations::{Input, Output};
 use sno_semantics::{Evaluated, Halt};
@@ -156,6 +157,11 @@ fn write_value<S: Service>(
     ensures runs { Executes S.answers (write_text output (text_of value.now) state.now) service.old result (λ got. (got, state.now)) service.new }
     ensures ready { S.ready service.new }
 {
+    if d_text() {
+        if let Value::Text(text) = value {
+            return write_records(alloc, output, text, state, service);
+        }
+    }
     match value.to_text(alloc)? {
         Some(text) => match write_records(alloc, output, &text, state, service) {
             Ok(got) => Ok(got),
@@ -196,6 +202,19 @@ pub fn assigned<S: Service>(
     ensures counted { state.new.keywords.begun ≡ state.old.keywords.begun }
     ensures ready { S.ready service.new }
 {
+    if d_write() {
+        return match state.output(name) {
+            Some(output) => {
+                let got = write_value(alloc, output, &value, state, service)?;
+                let _output = state.set(name, value)?;
+                Ok(got)
+            }
+            None => {
+                let _none = state.set(name, value)?;
+                Ok(Evaluated::Gives(Value::null()))
+            }
+        };
+    }
     let kept = value.copy()?;
     match state.set(name, value)? {
         Some(output) => match write_value(alloc, output, &kept, state, service) {

@@ -52,6 +52,16 @@ impl Key {
     }
 }
 
+/// The place that a table and a key are, if that is a key.
+#[inline(always)]
+pub fn place_in(table: u32, key: Value) -> Option<Place>
+{
+    match Key::of(key) {
+        Some(key) => Some(Place { table, key }),
+        None => None,
+    }
+}
+
 /// The place that a table and a key are, if they are such.
 pub fn place_of(table: &Value, key: Value) -> Option<Place>
     ensures place { result ≡ place_of table.now key }

@@ -22,7 +22,7 @@ pub mod value;
 
 pub use calculating::{Operation, affirm, arith, negate};
 pub use joining::{alternate, concat};
-pub use key::{Key, Place, place_of};
+pub use key::{Key, Place, place_in, place_of};
 pub use outcome::Outcome;
 pub use primitive::{
     CharacterPattern, Comparison, NumberPattern, Primitive, argument, primitive_named,

@@ -8,6 +8,7 @@ use crate::key::Place;
 use crate::value::Value;
 use indexmap::IndexMap;
 use mon_text::Stop;
+use mon_text::drafts::d_room;
 use sno_text::{Fault, Seed};
 use std::alloc::{AllocError, Global};
 use std::marker::Model;
@@ -101,6 +102,13 @@ impl Tables {
     {
         if !self.has_room(&place) {
             return Err(Stop::Refused(Fault::Length));
+        }
+        if d_room() && self.items.len() == self.items.capacity() {
+            let more = 15 * self.items.len().max(64);
+            match self.items.reserve(more) {
+                Ok(()) => {}
+                Err(_) => return Err(Stop::Memory),
+            }
         }
         match self.items.insert(place, value) {
             Ok(_) => Ok(()),

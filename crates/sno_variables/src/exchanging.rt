@@ -10,6 +10,7 @@ use crate::lookup::place_of;
 use crate::recent::Recent;
 use crate::variable::Variable;
 use indexmap::IndexMap;
+use mon_text::drafts::d_null;
 use sno_declarations::Prototype;
 use sno_text::{Name, Named, Seed};
 use sno_value::Value;
@@ -43,6 +44,9 @@ fn exchange_at(variables: &mut IndexMap<Name, Variable, Seed>, place: usize, val
     ensures distinct { AreDistinct variables.new.entries }
 {
     if let Some(variable) = variables.get_index_mut(place) {
+        if d_null() && variable.value.is_null() && value.is_null() {
+            return;
+        }
         mem::swap(&mut variable.value, value);
     }
 }

@@ -129,6 +129,16 @@ impl Variables {
         }
     }
 
+    /// Where assignments to a variable are to be written.
+    #[inline(always)]
+    pub fn output(&self, name: &Named) -> Option<Output>
+    {
+        match self.find(name) {
+            Some(variable) => variable.output,
+            None => None,
+        }
+    }
+
     /// The value of a variable once more.
     ///
     /// # Errors
