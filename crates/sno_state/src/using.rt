@@ -158,9 +158,19 @@ fn write_value<S: Service>(
     ensures ready { S.ready service.new }
 {
     if d_text() {
-        if let Value::Text(text) = value {
-            return write_records(alloc, output, text, state, service);
-        }
+        let made = match value {
+            Value::Text(_) => None,
+            _ => match value.to_text(alloc)? {
+                Some(text) => Some(text),
+                None => return Ok(Evaluated::Halts(Halt::Fault(Fault::WrongType))),
+            },
+        };
+        let text = match (value, &made) {
+            (Value::Text(text), _) => text,
+            (_, Some(text)) => text,
+            _ => return Ok(Evaluated::Halts(Halt::Fault(Fault::WrongType))),
+        };
+        return write_records(alloc, output, text, state, service);
     }
     match value.to_text(alloc)? {
         Some(text) => match write_records(alloc, output, &text, state, service) {
