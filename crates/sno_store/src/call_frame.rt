@@ -91,6 +91,21 @@ fn fill(
     fit(values, &[], prototype.locals.len())
 }
 
+// Null for what is missing, and for the locals; arguments that no parameter takes are left out.
+#[inline(always)]
+fn fit_moved(values: &mut Vec<Value>, prototype: &Prototype) -> Result<(), AllocError>
+{
+    let most = 1 + prototype.parameters.len();
+    while values.len() > most {
+        values.pop();
+    }
+    let all = most + prototype.locals.len();
+    while values.len() < all {
+        values.push(Value::null())?;
+    }
+    Ok(())
+}
+
 /// A further call, for which there is room.
 fn add(levels: &mut Vec<CallFrame>, level: CallFrame)
     requires { vec_len levels.old < vec_capacity levels.old }
@@ -142,7 +157,7 @@ impl CallStack {
     }
 
     /// Room for the values of a call.
-    fn room(&mut self, alloc: Global) -> Vec<Value>
+    pub(crate) fn room(&mut self, alloc: Global) -> Vec<Value>
         ensures room { result.items ≡ [] }
         ensures same { self.new ≡ self.old }
     {
@@ -191,6 +206,29 @@ impl CallStack {
         let function = function.copy()?;
         let mut values = self.room(alloc);
         fill(&mut values, &function.definition().prototype, arguments)?;
+        self.levels.reserve(1)?;
+        variables.exchange(alloc, &function.definition().prototype, &mut values)?;
+        let level = CallFrame {
+            function,
+            values,
+            statement,
+        };
+        add(&mut self.levels, level);
+        Ok(())
+    }
+
+    /// A further call, with arguments that stand behind null.
+    pub fn begin_moved(
+        &mut self,
+        alloc: Global,
+        function: Function,
+        values: Vec<Value>,
+        statement: KeywordNumber,
+        variables: &mut Variables,
+    ) -> Result<(), AllocError>
+    {
+        let mut values = values;
+        fit_moved(&mut values, &function.definition().prototype)?;
         self.levels.reserve(1)?;
         variables.exchange(alloc, &function.definition().prototype, &mut values)?;
         let level = CallFrame {
