@@ -18,6 +18,7 @@ use crate::slots::{MANY_TURNS, Slots};
 use mon_catalogue::Catalogue;
 use mon_device::Sink;
 use mon_guard::Guard;
+use mon_unit::KeptLines;
 use sno_run::{Ending, Step};
 use std::alloc::{AllocError, Global};
 
@@ -83,6 +84,7 @@ impl Slots {
         slot: u8,
         ends: &mut Vec<JobEnd>,
         audit: &mut S,
+        none: &mut KeptLines,
     )
         requires fit { CacheFits guard.old catalogue.old }
         requires room { vec_len ends.old + min 1 (jobs_in (slots_in self.old)) ≤ vec_capacity ends.old }
@@ -93,7 +95,7 @@ impl Slots {
         ensures size { length (slots_in self.new) ≡ length (slots_in self.old) }
         ensures fit { CacheFits guard.new catalogue.new }
     {
-        match self.step(alloc, guard, catalogue, slot, audit) {
+        match self.step(alloc, guard, catalogue, slot, audit, none) {
             None => (),
             Some(Step::Goes) => (),
             Some(Step::Ended(ending)) => self.keep_end(alloc, slot, ending, ends, audit),
@@ -124,8 +126,9 @@ impl Slots {
         // No more jobs end than turns are given, or sit in slots.
         let mut ends = Vec::with_capacity(alloc, order.len().min(8))?;
         self.begin_turns(alloc, order.len() as u64);
+        let mut none = KeptLines::none(0);
         for number in order {
-            self.turn_into(alloc, guard, catalogue, *number, &mut ends, audit);
+            self.turn_into(alloc, guard, catalogue, *number, &mut ends, audit, &mut none);
         }
         self.end_turns();
         Ok(ends)
@@ -178,8 +181,9 @@ impl Slots {
         ensures size { length (slots_in self.new) ≡ length (slots_in self.old) }
         ensures fit { CacheFits guard.new catalogue.new }
     {
+        let mut none = KeptLines::none(0);
         for _ in 0..count {
-            match self.step(alloc, guard, catalogue, slot, audit) {
+            match self.step(alloc, guard, catalogue, slot, audit, &mut none) {
                 None => return None,
                 Some(Step::Goes) => (),
                 Some(Step::Ended(ending)) => {
@@ -200,6 +204,7 @@ impl Slots {
         slot: u8,
         ends: &mut Vec<JobEnd>,
         audit: &mut S,
+        none: &mut KeptLines,
     )
         requires fit { CacheFits guard.old catalogue.old }
         requires room { vec_len ends.old + jobs_in (slots_in self.old) ≤ vec_capacity ends.old }
@@ -209,7 +214,7 @@ impl Slots {
         ensures fit { CacheFits guard.new catalogue.new }
     {
         if self.has_job(slot) && !goal.is_met_beside_a_job(self) {
-            self.turn_into(alloc, guard, catalogue, slot, ends, audit);
+            self.turn_into(alloc, guard, catalogue, slot, ends, audit, none);
         }
     }
 
@@ -222,6 +227,7 @@ impl Slots {
         goal: Goal,
         ends: &mut Vec<JobEnd>,
         audit: &mut S,
+        none: &mut KeptLines,
     )
         requires fit { CacheFits guard.old catalogue.old }
         requires room { vec_len ends.old + jobs_in (slots_in self.old) ≤ vec_capacity ends.old }
@@ -231,7 +237,7 @@ impl Slots {
     {
         let count = self.len() as u8;
         for number in 0..count {
-            self.turn_unless(alloc, guard, catalogue, goal, number + 1, ends, audit);
+            self.turn_unless(alloc, guard, catalogue, goal, number + 1, ends, audit, none);
         }
     }
 
@@ -291,6 +297,7 @@ impl Slots {
         looks: bool,
         ends: &mut Vec<JobEnd>,
         audit: &mut S,
+        none: &mut KeptLines,
     )
         requires fit { CacheFits guard.old catalogue.old }
         requires busy { stop_of goal (scheduler catalogue.old (slots_in self.old)) ≡ false }
@@ -303,7 +310,7 @@ impl Slots {
     {
         match self.lone_on_way(goal, looks) {
             Some(slot) => self.turns_of_lone(alloc, guard, catalogue, slot, ends, audit),
-            None => self.round(alloc, guard, catalogue, goal, ends, audit),
+            None => self.round(alloc, guard, catalogue, goal, ends, audit, none),
         }
     }
 
@@ -328,9 +335,10 @@ impl Slots {
         self.begin_rounds(alloc, goal);
         // Whether a job is alone is asked before the first round, and after each in which a job has ended.
         let mut looks = true;
+        let mut none = KeptLines::none(0);
         'rounds: while !goal.is_met(self) {
             let ended = ends.len();
-            self.some_rounds(alloc, guard, catalogue, goal, looks, &mut ends, audit);
+            self.some_rounds(alloc, guard, catalogue, goal, looks, &mut ends, audit, &mut none);
             looks = ends.len() > ended;
         }
         self.end_turns();

@@ -116,6 +116,7 @@ pub(crate) fn step_at<S: Sink>(
     catalogue: &mut Catalogue,
     seat: &mut Option<Slot>,
     audit: &mut S,
+    none: &mut KeptLines,
 ) -> Option<Step>
     requires fit { CacheFits guard.old catalogue.old }
     ensures step { SeatStep (seat_of seat.old) catalogue.old result (seat_of seat.new) catalogue.new (S.standing audit.old) (S.standing audit.new) }
@@ -124,8 +125,8 @@ pub(crate) fn step_at<S: Sink>(
     match seat {
         None => None,
         Some(slot) => {
-            let mut kept = KeptLines::none(slot.number);
-            Some(turn_of(alloc, guard, catalogue, slot, audit, &mut kept))
+            none.number = slot.number;
+            Some(turn_of(alloc, guard, catalogue, slot, audit, none))
         }
     }
 }

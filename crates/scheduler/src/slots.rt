@@ -19,6 +19,7 @@ use mon_catalogue::Catalogue;
 use mon_device::Sink;
 use mon_guard::Guard;
 use mon_text::Stop;
+use mon_unit::KeptLines;
 use sno_run::{Ending, Step};
 use sno_text::Seed;
 use std::alloc::{AllocError, Global};
@@ -185,6 +186,7 @@ impl Slots {
         catalogue: &mut Catalogue,
         slot: u8,
         audit: &mut S,
+        none: &mut KeptLines,
     ) -> Option<Step>
         requires fit { CacheFits guard.old catalogue.old }
         ensures step { StepOr slot (scheduler catalogue.old (slots_in self.old)) result (scheduler catalogue.new (slots_in self.new)) (S.standing audit.old) (S.standing audit.new) }
@@ -193,7 +195,7 @@ impl Slots {
     {
         match self.index_of(slot) {
             None => None,
-            Some(index) => step_at(alloc, guard, catalogue, &mut self.items[index], audit),
+            Some(index) => step_at(alloc, guard, catalogue, &mut self.items[index], audit, none),
         }
     }
 
@@ -286,7 +288,8 @@ impl Slots {
         ensures size { length (slots_in self.new) ≡ length (slots_in self.old) }
         ensures fit { CacheFits guard.new catalogue.new }
     {
-        match self.step(alloc, guard, catalogue, slot, audit) {
+        let mut none = KeptLines::none(0);
+        match self.step(alloc, guard, catalogue, slot, audit, &mut none) {
             None => Turned::Empty,
             Some(Step::Goes) => Turned::Goes,
             Some(Step::Ended(ending)) => Turned::Ended(self.take_out(alloc, slot, ending, audit)),
