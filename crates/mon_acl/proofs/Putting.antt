@@ -1,5 +1,5 @@
 -- The parts of the printed forms, put to a sink one behind the other.
-use Rattle.std.proofs.Common.{◌≡◌, ◌∙◌, ap, ℕ, ◌≤◌, ◌-◌, List, [], ◌∷◌, ◌++◌, length, take, drop, get_or, Option}
+use Rattle.std.proofs.Common.{◌≡◌, ◌∙◌, ap, subst, ℕ, ◌≤◌, ◌-◌, List, [], ◌∷◌, ◌++◌, length, take, drop, get_or, Option}
 use Rattle.std.specs.Prelude.{flat_map}
 use Rattle.mon_device.specs.Putting.{Standing, Puts}
 use Rattle.mon_device.proofs.Putting.{puts_same, puts_then}
@@ -23,6 +23,10 @@ head_put a b c d e word name entry is_word is_name one two three four =
     puts_then a d e (tag_word entry.tag ++ 58 ∷ qualifier entry) (58 ∷ [])
     (puts_then a b d (tag_word entry.tag) (58 ∷ qualifier entry) (puts_same a b word (tag_word entry.tag) is_word one)
     (puts_then b c d (58 ∷ []) (qualifier entry) two (puts_same c d name (qualifier entry) is_name three))) four
+
+-- the line of an entry under a mask that is the same
+pub line_so : (a b : Standing) (mask given : Option Perms) (entry : Entry) → given ≡ mask → Puts a b (long_line given entry) → Puts a b (long_line mask entry)
+line_so a b mask given entry same put = subst (λ (m : Option Perms). Puts a b (long_line m entry)) same put
 
 pub line_put : (a b c d : Standing) (mask left : Option Perms) (entry : Entry) → left ≡ effective mask entry
     → Puts a b (entry_text entry) → Puts b c (effective_text left) → Puts c d (10 ∷ []) → Puts a d (long_line mask entry)

@@ -1,3 +1,4 @@
+pub mod Rights
 pub mod Permissions
 pub mod Entries
 pub mod Texts

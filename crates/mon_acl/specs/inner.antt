@@ -1,3 +1,4 @@
+pub mod Bits
 pub mod Building
 pub mod Keys
 pub mod Chains

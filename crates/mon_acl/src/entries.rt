@@ -11,14 +11,39 @@ use mon_device::TextSink;
 use mon_text::Name;
 use std::alloc::AllocError;
 use std::cmp::Ordering;
+use std::marker::Model;
 
 /// Permissions: to read, to write, to execute.
+///
+/// They lie in three bits of one byte, so that two are compared and joined as numbers.
 #[derive(Clone, Copy, Default)]
 pub struct Perms {
-    pub read: bool,
-    pub write: bool,
-    pub execute: bool,
+    bits: u8,
 }
+
+impl Model for Perms {
+    ghost use Rattle.std.specs.Prelude.{◌<◌};
+    ghost use Rattle.mon_acl.specs.Rights.{Rights};
+
+    ghost Value = { Rights };
+
+    ghost use Rattle.mon_acl.specs.inner.Bits.{rights_of, bits_of, bits_back};
+
+    ghost view = { λ p. rights_of p.bits };
+
+    ghost invariant = { λ p. p.bits < 8 };
+
+    ghost inverse = { λ rights. record { bits = bits_of rights } };
+
+    ghost inverse_ok = { λ p h i. record { bits = bits_back p.bits h i } };
+}
+
+// The bits of the permissions.
+const READ: u8 = 4;
+
+const WRITE: u8 = 2;
+
+const EXECUTE: u8 = 1;
 
 /// The types of entries (acl(5) "ACL ENTRIES"), in canonical order.
 #[derive(Clone, Copy, Debug, Default, PartialEq, Eq)]
@@ -52,26 +77,46 @@ impl Perms {
         ensures { result ≡ record { read = read; write = write; execute = execute } }
     {
         Perms {
-            read,
-            write,
-            execute,
+            bits: u8::from(read) * READ + u8::from(write) * WRITE + u8::from(execute) * EXECUTE,
         }
+    }
+
+    /// Whether reading is permitted.
+    #[inline(always)]
+    pub fn read(self) -> bool
+        ensures { result ≡ self.read }
+    {
+        self.bits & READ != 0
+    }
+
+    /// Whether writing is permitted.
+    #[inline(always)]
+    pub fn write(self) -> bool
+        ensures { result ≡ self.write }
+    {
+        self.bits & WRITE != 0
+    }
+
+    /// Whether executing is permitted.
+    #[inline(always)]
+    pub fn execute(self) -> bool
+        ensures { result ≡ self.execute }
+    {
+        self.bits & EXECUTE != 0
     }
 
     /// Whether each permission of the request is held.
     pub fn contains(self, request: Perms) -> bool
         ensures { result ≡ holds self request }
     {
-        (!request.read || self.read)
-            && (!request.write || self.write)
-            && (!request.execute || self.execute)
+        self.bits & request.bits == request.bits
     }
 
     /// Whether this is exactly one of the three permissions.
     pub fn is_one(self) -> bool
         ensures { result ≡ is_one self }
     {
-        match (self.read, self.write, self.execute) {
+        match (self.read(), self.write(), self.execute()) {
             (true, false, false) | (false, true, false) | (false, false, true) => true,
             _ => false,
         }
@@ -82,10 +127,19 @@ impl Perms {
         ensures { result ≡ common self other }
     {
         Perms {
-            read: self.read && other.read,
-            write: self.write && other.write,
-            execute: self.execute && other.execute,
+            bits: self.bits & other.bits,
         }
+    }
+}
+
+/// The same mask once more, where a loop asks for it again and again.
+#[inline(always)]
+pub fn copy_of_mask(mask: &Option<Perms>) -> Option<Perms>
+    ensures { result ≡ mask.now }
+{
+    match mask {
+        Some(perms) => Some(*perms),
+        None => None,
     }
 }
 

@@ -15,7 +15,7 @@ mod reading;
 pub mod refusals;
 pub mod text;
 
-pub use entries::{Entry, Perms, Tag};
+pub use entries::{Entry, Perms, Tag, copy_of_mask};
 pub use list::{Acl, AclIndex};
 pub use refusals::AclError;
 pub use text::{AclText, Bytes};

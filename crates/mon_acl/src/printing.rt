@@ -3,7 +3,7 @@ ghost use Rattle.std.specs.Prelude.{flat_map};
 ghost use Rattle.mon_device.specs.Putting.{Puts};
 ghost use Rattle.mon_acl.specs.Printing.{perms_text, entry_head, entry_text, effective_text, next_text, short_form, long_line, long_form};
 
-use crate::entries::{Entry, Perms, place_of};
+use crate::entries::{Entry, Perms, copy_of_mask, place_of};
 use crate::list::Acl;
 use mon_device::Sink;
 
@@ -13,9 +13,9 @@ impl Perms {
         ensures { Puts (S.standing sink.old) (S.standing sink.new) (perms_text self) }
     {
         let places = [
-            place_of(self.read, b'r'),
-            place_of(self.write, b'w'),
-            place_of(self.execute, b'x'),
+            place_of(self.read(), b'r'),
+            place_of(self.write(), b'w'),
+            place_of(self.execute(), b'x'),
         ];
         sink.put(&places);
     }
@@ -103,6 +103,6 @@ fn print_lines<S: Sink>(entries: &[Entry], mask: Option<Perms>, sink: &mut S)
     ensures { Puts (S.standing sink.old) (S.standing sink.new) (flat_map (long_line mask) entries.now) }
 {
     for entry in entries {
-        entry.print_line(mask, sink);
+        entry.print_line(copy_of_mask(&mask), sink);
     }
 }
