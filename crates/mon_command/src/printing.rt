@@ -9,7 +9,7 @@ ghost use Rattle.mon_command.specs.declared.command.Command.TheVariants as comma
 ghost use Rattle.mon_command.specs.Printouts.{word, number, stored_line, count_line, records_text, name_line, acl_text, list_refusal};
 
 use itoa::Buffer;
-use mon_acl::{AclError, Entry, Perms, Tag};
+use mon_acl::{AclError, Entry, Perms, Tag, copy_of_mask};
 use mon_catalogue::Records;
 use mon_device::Sink;
 use mon_guard::{AclView, NameView};
@@ -120,7 +120,7 @@ fn put_entries(entries: &[Entry], mask: Option<Perms>, out: &mut Vec<u8>) -> Res
     ensures { OnOk result (out.new.items ≡ out.old.items ++ flat_map (λ entry. word (long_line mask entry)) entries.now) }
 {
     for entry in entries {
-        put_acl_line(entry, mask, out)?;
+        put_acl_line(entry, copy_of_mask(&mask), out)?;
     }
     Ok(())
 }
