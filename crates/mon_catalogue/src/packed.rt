@@ -1,5 +1,5 @@
 //! Lines one behind the other.
-ghost use Rattle.std.specs.Prelude.{◌≡◌, ◌==◌, ◌+◌, ◌<◌, ◌≤◌, [], ◌∷◌, ◌++◌, length, take, slice_get, slice_index_or, IfSome, OnOk, OnErr};
+ghost use Rattle.std.specs.Prelude.{◌≡◌, ◌==◌, ◌+◌, ◌<◌, ◌≤◌, [], ◌∷◌, ◌++◌, length, take, slice_get, slice_index_or, vec_len, vec_capacity, IfSome, OnOk, OnErr};
 ghost use Rattle.std.specs.List.{AllByRecursion, concat, flat_map};
 ghost use Rattle.std.specs.Option.{option_map};
 ghost use Rattle.mon_device.specs.Putting.{Puts};
@@ -24,6 +24,12 @@ const GATHERED: usize = 4_096;
 
 // From how many lines on it is worth the room to gather them.
 const MANY: usize = 16;
+
+// Up to how many bytes no more room is taken than a few lines want.
+const FEW: usize = 4_096;
+
+// How many bytes of room are taken beside a line's own while there are few.
+const SPARE: usize = 256;
 
 /// Lines in order, one behind the other in one piece of memory, each with the LF that it is printed with: 4,294,967,295 bytes at
 /// the most.
@@ -188,7 +194,7 @@ impl PackedLines {
         if self.bytes.len() + room > LAST_END {
             return Err(AllocError);
         }
-        self.bytes.reserve(room)?;
+        make_room(&mut self.bytes, room)?;
         self.ends.reserve(1)?;
         self.bytes.extend_from_slice(line).unwrap();
         self.bytes.push_reserved(b'\n');
@@ -220,6 +226,40 @@ impl PackedLines {
             self.bytes.truncate(start);
             self.ends.truncate(at);
         }
+    }
+}
+
+// Makes room for one more line behind others, mostly by a test alone.
+#[inline(always)]
+fn make_room(bytes: &mut Vec<u8>, room: usize) -> Result<(), AllocError>
+    requires { room ≤ 4294967295 }
+    ensures items { bytes.new.items ≡ bytes.old.items }
+    ensures len { vec_len bytes.new ≡ vec_len bytes.old }
+    ensures ok { OnOk result (vec_len bytes.new + room ≤ vec_capacity bytes.new) }
+    ensures capacity { vec_capacity bytes.old ≤ vec_capacity bytes.new }
+    ensures err { OnErr result (vec_capacity bytes.new ≡ vec_capacity bytes.old) }
+{
+    if room <= bytes.capacity() - bytes.len() {
+        return Ok(());
+    }
+    take_room(bytes, room)
+}
+
+// Takes room for one more line: while there are few, no more than a few lines want, and else twice what there was at the least.
+// It stays a call, since there mostly is some.
+#[inline(never)]
+fn take_room(bytes: &mut Vec<u8>, room: usize) -> Result<(), AllocError>
+    requires { room ≤ 4294967295 }
+    ensures items { bytes.new.items ≡ bytes.old.items }
+    ensures len { vec_len bytes.new ≡ vec_len bytes.old }
+    ensures ok { OnOk result (vec_len bytes.new + room ≤ vec_capacity bytes.new) }
+    ensures capacity { vec_capacity bytes.old ≤ vec_capacity bytes.new }
+    ensures err { OnErr result (vec_capacity bytes.new ≡ vec_capacity bytes.old) }
+{
+    if bytes.len() < FEW {
+        bytes.reserve_exact(room + SPARE)
+    } else {
+        bytes.reserve(room)
     }
 }
 
