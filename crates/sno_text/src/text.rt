@@ -1,5 +1,6 @@
 //! Texts, which are shared.
 ghost use Rattle.std.specs.Prelude.{◌≡◌, ◌==◌, ◌<◌, ◌≤◌, ◌+◌, ◌*◌, ◌++◌, [], length, take, drop, nat_eq, refl, vec_capacity, Some, IfOk, OnErr};
+ghost use Rattle.std.specs.Option.{MatchOption};
 ghost use Rattle.std.specs.List.{slice_range, repeat};
 ghost use Rattle.std.specs.Fmt.{signed_decimal};
 ghost use Rattle.std.specs.Ordering.{nat_cmp};
@@ -192,6 +193,33 @@ impl Text {
         bytes.extend_from_slice(new.as_bytes()).unwrap();
         bytes.extend_from_slice(&old[to..]).unwrap();
         Text::of_bytes(alloc, bytes)
+    }
+
+    /// The text with a number in decimal behind it, where both have at most so many characters.
+    ///
+    /// # Errors
+    ///
+    /// Where a growth was refused.
+    pub fn with_number(
+        &self,
+        alloc: Global,
+        number: i64,
+        most: u64,
+    ) -> Result<Option<Text>, AllocError>
+        ensures value { IfOk result (λ joined. MatchOption joined (most < length (self.now ++ signed_decimal number)) (λ text. (text ≡ self.now ++ signed_decimal number) × (length text ≤ most))) }
+        ensures memory { OnErr result (length (self.now ++ signed_decimal number) ≤ most) }
+    {
+        let mut buffer = Buffer::new();
+        let digits = buffer.format(number).as_bytes();
+        let text = self.as_bytes();
+        if (text.len() + digits.len()) as u64 > most {
+            return Ok(None);
+        }
+        let mut bytes = room_for(alloc, text.len(), digits.len())?;
+        bytes.extend_from_slice(text).unwrap();
+        bytes.extend_from_slice(digits).unwrap();
+        let joined = Text::of_bytes(alloc, bytes)?;
+        Ok(Some(joined))
     }
 
     /// So many of a text, one after the other.
