@@ -1,6 +1,7 @@
 -- A text so many times, and once more.
-use Rattle.std.proofs.Common.{◌≡◌, ℕ, zero, suc, ◌*◌, List, [], ◌∷◌, ◌++◌, length, arith, refl, sym, ap, ◌∙◌, append_assoc, append-nil, length-append}
+use Rattle.std.proofs.Common.{◌≡◌, ℕ, zero, suc, ◌*◌, ◌+◌, ◌<◌, ◌≤◌, List, [], ◌∷◌, ◌++◌, length, arith, refl, sym, ap, ◌∙◌, append_assoc, append-nil, length-append}
 use Rattle.std.proofs.Math.Nat.{suc-mul}
+use Rattle.std.proofs.lemmas.Nat.{mul-le}
 use Rattle.mon_text.specs.Lines.{IsLine}
 use Rattle.sno_text.proofs.Printable.{line_of_join}
 use Rattle.std.specs.List.{repeat}
@@ -27,3 +28,20 @@ length-repeated (suc n) text =
     let more = length-repeated n text in
     let times = suc-mul n (length text) in
     length-append text (repeat n text) ∙ omega (arith, more, times)
+
+pub has_room : (n times long : ℕ) → n < times → n * long + long ≤ times * long
+has_room n times long h =
+    let more = suc-mul n long in
+    let within : suc n * long ≤ times * long = mul-le (suc n) long times long (omega arith) (omega arith) in
+    omega (arith, more, within)
+
+pub counted_on : (n long : ℕ) → n * long + long ≡ (n + 1) * long
+counted_on n long =
+    let next : suc n ≡ n + 1 = omega arith in
+    let more = suc-mul n long in
+    omega (arith, more) ∙ ap (λ (k : ℕ). k * long) next
+
+pub once_more : (xs : List ℕ) (n : ℕ) (text : List ℕ) → (xs ++ repeat n text) ++ text ≡ xs ++ repeat (n + 1) text
+once_more xs n text =
+    let next : suc n ≡ n + 1 = omega arith in
+    append_assoc xs (repeat n text) text ∙ ap (λ (ys : List ℕ). xs ++ ys) (sym (repeated_more n text) ∙ ap (λ (k : ℕ). repeat k text) next)

@@ -1,5 +1,5 @@
 //! Texts, which are shared.
-ghost use Rattle.std.specs.Prelude.{◌≡◌, ◌==◌, ◌<◌, ◌≤◌, ◌+◌, ◌*◌, ◌++◌, [], length, take, drop, nat_eq, refl, vec_capacity, Some, IfOk, OnErr};
+ghost use Rattle.std.specs.Prelude.{◌≡◌, ◌==◌, ◌<◌, ◌≤◌, ◌+◌, ◌*◌, ◌++◌, [], length, take, drop, nat_eq, refl, vec_len, vec_capacity, Some, IfOk, OnErr};
 ghost use Rattle.std.specs.Option.{MatchOption};
 ghost use Rattle.std.specs.List.{slice_range, repeat};
 ghost use Rattle.std.specs.Fmt.{signed_decimal};
@@ -40,6 +40,9 @@ impl Model for Text {
     ghost invariant = { λ t. IsLine (option_map_or (λ r. r.value.items) t.bytes []) × IfSome t.bytes (λ r. 0 < length r.value.items) };
 }
 
+// Below how many characters a text that is repeated is put character by character.
+const SHORT: usize = 8;
+
 /// A text without the blanks at its end.
 pub fn without_trailing_blanks(text: &[u8]) -> &[u8]
     ensures { result.now ≡ without_trailing_blanks text.now }
@@ -60,6 +63,52 @@ fn room_for(alloc: Global, bytes: usize, more: usize) -> Result<Vec<u8>, AllocEr
     match bytes.checked_add(more) {
         Some(all) => Vec::with_capacity(alloc, all),
         None => Err(AllocError),
+    }
+}
+
+// Puts a text so many times behind others, for which there is room.
+fn put_repeated(bytes: &mut Vec<u8>, text: &[u8], times: usize)
+    requires { vec_len bytes.old + times * length text.now ≤ vec_capacity bytes.old }
+    ensures { bytes.new.items ≡ bytes.old.items ++ repeat times text.now }
+{
+    if text.len() < SHORT {
+        put_short(bytes, text, times);
+    } else {
+        put_long(bytes, text, times);
+    }
+}
+
+// The same by single characters, which needs no call for each time.
+#[inline(always)]
+fn put_short(bytes: &mut Vec<u8>, text: &[u8], times: usize)
+    requires { vec_len bytes.old + times * length text.now ≤ vec_capacity bytes.old }
+    ensures { bytes.new.items ≡ bytes.old.items ++ repeat times text.now }
+{
+    for _ in 0..times {
+        put_each(bytes, text);
+    }
+}
+
+// Puts the characters of a text behind others, for which there is room, one by one.
+#[inline(always)]
+fn put_each(bytes: &mut Vec<u8>, text: &[u8])
+    requires { vec_len bytes.old + length text.now ≤ vec_capacity bytes.old }
+    ensures value { bytes.new.items ≡ bytes.old.items ++ text.now }
+    ensures len { vec_len bytes.new ≡ vec_len bytes.old + length text.now }
+    ensures room { vec_capacity bytes.new ≡ vec_capacity bytes.old }
+{
+    for byte in text {
+        bytes.push_reserved(*byte);
+    }
+}
+
+// The same by all characters at once each time.
+fn put_long(bytes: &mut Vec<u8>, text: &[u8], times: usize)
+    requires { vec_len bytes.old + times * length text.now ≤ vec_capacity bytes.old }
+    ensures { bytes.new.items ≡ bytes.old.items ++ repeat times text.now }
+{
+    for _ in 0..times {
+        bytes.extend_from_slice(text).unwrap();
     }
 }
 
@@ -237,9 +286,7 @@ impl Text {
         }
         let all = text.len().checked_mul(times).ok_or(AllocError)?;
         let mut bytes = Vec::with_capacity(alloc, all)?;
-        for _ in 0..times {
-            bytes.extend_from_slice(text)?;
-        }
+        put_repeated(&mut bytes, text, times);
         Text::of_bytes(alloc, bytes)
     }
 

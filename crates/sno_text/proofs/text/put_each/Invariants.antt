@@ -1,0 +1,11 @@
+-- The characters so far stand behind the others.
+use Rattle.std.proofs.Common.{◌≡◌, ◌+◌, ◌++◌, take}
+use Rattle.std.specs.Prelude.{vec_len, vec_capacity}
+use Rattle.sno_text.proofs.text.put_each.Given as goal
+
+abbrev pub invariant-loop-byte : goal.invariant-loop-byte
+invariant-loop-byte l = record {
+  items : l.bytes.items ≡ l.fn.bytes.items ++ take l.byte-index l.text;
+  len : vec_len l.bytes ≡ vec_len l.fn.bytes + l.byte-index;
+  room : vec_capacity l.bytes ≡ vec_capacity l.fn.bytes;
+}
