@@ -6,5 +6,5 @@ use Rattle.sno_value.proofs.texts.replaced.Goals as goal
 
 pub of_bytes-requires : goal.of_bytes-requires
 of_bytes-requires c =
-    rw c.loop-byte.invariant
+    rw c.loop-byte.invariant.items
     (line_of_replaced c.args.from.now c.args.to.now (take c.loop-byte.byte-index c.args.text.now) c.requires.to (line_of_take c.loop-byte.byte-index c.args.text.now c.requires.text))
