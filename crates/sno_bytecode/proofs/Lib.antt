@@ -5,3 +5,4 @@ pub mod Falling
 pub mod Going
 pub mod Runs
 pub mod Taking
+pub mod Setting
