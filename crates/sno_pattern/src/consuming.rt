@@ -104,7 +104,7 @@ pub(crate) fn looked<H: MatchHost>(
 fn more(
     text: &[u8],
     pattern: &Rc<Node>,
-    from: usize,
+    from: u32,
     at: usize,
     trail: &mut Trail,
     left: &mut u64,
@@ -118,7 +118,7 @@ fn more(
         return Ok(Turn::Stay(Ended::OutOfSteps));
     }
     *left -= 1;
-    if at == from {
+    if at == from as usize {
         back(text, trail, left)
     } else {
         one_more(text, pattern, at, trail, *left)
@@ -140,7 +140,7 @@ fn variable_in(node: &Node) -> Result<Text, AllocError>
 fn put_by(
     text: &[u8],
     node: &Node,
-    from: usize,
+    from: u32,
     at: usize,
     trail: &mut Trail,
     left: &mut u64,
@@ -155,8 +155,11 @@ fn put_by(
     }
     *left -= 1;
     let variable = variable_in(node)?;
-    let to = at;
-    trail.wait(Waiting { variable, from, to })?;
+    trail.wait(Waiting {
+        variable,
+        from: from as usize,
+        to: at,
+    })?;
     Ok(Turn::Go(at))
 }
 
@@ -166,7 +169,7 @@ fn assign_part<H: MatchHost>(
     alloc: Global,
     text: &[u8],
     node: &Node,
-    from: usize,
+    from: u32,
     at: usize,
     trail: &mut Trail,
     left: &mut u64,
@@ -186,7 +189,7 @@ fn assign_part<H: MatchHost>(
     }
     *left -= 1;
     let variable = variable_in(node)?;
-    let taken = Taken::Part(part_of(alloc, text, from, at)?);
+    let taken = Taken::Part(part_of(alloc, text, from as usize, at)?);
     match assigned(text, &variable, taken, at, trail, left, host) {
         Ok(turn) => Ok(turn),
         Err(e) => Err(e),

@@ -121,7 +121,7 @@ fn matches_in<H: MatchHost>(
 ///
 /// # Errors
 ///
-/// Where a growth was refused; then the host stands as its calls so far left it.
+/// Where a growth was refused, or four bytes do not say a cursor or how much is ahead; then the host stands as its calls so far left it.
 pub fn matches<H: MatchHost>(
     alloc: Global,
     pattern: &Pat,

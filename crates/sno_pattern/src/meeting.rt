@@ -14,7 +14,7 @@ use crate::choice_points::{Ended, Turn};
 use crate::consuming::{assigned, looked};
 use crate::host::{MatchHost, Taken};
 use crate::steps::plain;
-use crate::trail::{Goal, Kind, Role, Trail};
+use crate::trail::{Goal, Kind, Role, Trail, fits};
 use sno_text::Node;
 use sno_text::reach::{Reach, misses, reached};
 use std::alloc::{AllocError, Global};
@@ -80,11 +80,13 @@ fn descend<'a>(
                 }
             }
             Node::Conditional(_, p, _) => {
-                put(Role::EndConditional(at), node, trail)?;
+                fits(at)?;
+                put(Role::EndConditional(at as u32), node, trail)?;
                 node = p;
             }
             Node::Immediate(_, p, _) => {
-                put(Role::EndImmediate(at), node, trail)?;
+                fits(at)?;
+                put(Role::EndImmediate(at as u32), node, trail)?;
                 node = p;
             }
             _ => return Ok(Some((node, at))),

@@ -7,7 +7,7 @@ ghost use Rattle.sno_pattern.specs.inner.Meeting.{IsQuiet, IsEntered, IsParted};
 ghost use Rattle.sno_pattern.specs.inner.Stack.{waiting_of, AllWithin, Led};
 
 use crate::choice_points::{Ended, Turn, back, balanced, each};
-use crate::trail::{Goal, Kind, Role, Trail};
+use crate::trail::{Goal, Kind, Role, Trail, fits};
 use sno_text::Node;
 use sno_text::reach::{Reach, next_balanced, reached};
 use std::alloc::AllocError;
@@ -26,8 +26,9 @@ pub(crate) fn one_more(
     requires all { AllWithin (length text.now) trail.old.opens }
     ensures { IfOk result (λ turn. Led text.now trail.old.opens (row text.now (outcome text.now) (Meet (rows.Arbno (pattern_of pattern.now.value))) trail.old.goals at (waiting_of text.now trail.old.waits) left) left turn trail.new left) }
 {
+    fits(at)?;
     trail.push(Goal {
-        role: Role::More(at),
+        role: Role::More(at as u32),
         node: pattern.clone()?,
     })?;
     trail.leave(Kind::Second(pattern.clone()?), at)?;

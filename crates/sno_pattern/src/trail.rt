@@ -1,8 +1,8 @@
 //! What is still ahead of a match: the goals that are met next, the assignments that wait, and the choices that are open.
 //!
 //! The goals stand in one vector, each with the place of those behind it. So choices share them, a goal takes no memory of its
-//! own, and where a choice is taken all that came after it is cut off.
-ghost use Rattle.std.specs.Prelude.{◌≡◌, [], ◌∷◌, ◌++◌, drop, IfOk, IfSome};
+//! own, and where a choice is taken all that came after it is cut off. Places and cursors take four bytes each.
+ghost use Rattle.std.specs.Prelude.{◌≡◌, ◌<◌, ◌≤◌, [], ◌∷◌, ◌++◌, drop, vec_len, vec_capacity, IfOk, OnOk, OnErr, IfSome};
 ghost use Rattle.std.specs.Option.{MatchOption};
 ghost use Rattle.sno_pattern.specs.inner.Stack.{goal_of, trial_of, nothing_ahead};
 
@@ -17,11 +17,11 @@ pub(crate) enum Role {
     /// It is met.
     Meet,
     /// Another turn of it in ARBNO, if the last one, from this cursor on, moved on.
-    More(usize),
+    More(u32),
     /// What its part matched from this cursor on waits to be assigned to its variable.
-    EndConditional(usize),
+    EndConditional(u32),
     /// What its part matched from this cursor on is assigned to its variable now.
-    EndImmediate(usize),
+    EndImmediate(u32),
 }
 
 /// What is still to be met: a pattern, and what is to be done about it.
@@ -56,32 +56,46 @@ pub(crate) enum Kind {
 #[derive(Drop)]
 pub(crate) struct Cell {
     goal: Goal,
-    rest: usize,
+    rest: u32,
 }
 
 /// An open choice: how its goals are tried and from which cursor, their place, and how much was kept and waited before it.
 #[derive(Drop)]
 pub(crate) struct Open {
     kind: Kind,
-    at: usize,
-    top: usize,
-    kept: usize,
-    waits: usize,
+    at: u32,
+    top: u32,
+    kept: u32,
+    waits: u32,
+}
+
+// The last place that four bytes say.
+const LAST: usize = u32::MAX as usize;
+
+/// Tests that four bytes can say a cursor.
+#[inline(always)]
+pub(crate) fn fits(at: usize) -> Result<(), AllocError>
+    ensures { OnOk result (at ≤ LAST) }
+{
+    if at > LAST {
+        return Err(AllocError);
+    }
+    Ok(())
 }
 
 /// What is still ahead. The place of a goal is how many stand up to it, so that 0 is no goal's.
 #[derive(Drop)]
 pub(crate) struct Trail {
     cells: Vec<Cell>,
-    top: usize,
+    top: u32,
     /// Up to here choices need the goals.
-    kept: usize,
+    kept: u32,
     waits: Vec<Waiting>,
     opens: Vec<Open>,
 }
 
 impl Model for Trail {
-    ghost use Rattle.std.specs.Prelude.{reverse};
+    ghost use Rattle.std.specs.Prelude.{reverse, vec_capacity};
     ghost use Rattle.std.specs.Coded.{codes};
     ghost use Rattle.sno_text.specs.inner.Codes.{pattern_code};
     ghost use Rattle.sno_pattern.specs.inner.Stack.{Ahead};
@@ -90,11 +104,11 @@ impl Model for Trail {
 
     ghost coded = { Prim.hlevel (codes, pattern_code) };
 
-    ghost use Rattle.sno_pattern.specs.inner.Cells.{ahead_of, IsTrail};
+    ghost use Rattle.sno_pattern.specs.inner.Cells.{ahead_of, IsTrail, HavePlaces};
 
     ghost view = { λ t. ahead_of (reverse t.cells.items) t.top t.waits.items (reverse t.opens.items) };
 
-    ghost invariant = { λ t. IsTrail (reverse t.cells.items) t.top t.kept t.waits.items (reverse t.opens.items) };
+    ghost invariant = { λ t. IsTrail (reverse t.cells.items) t.top t.kept t.waits.items (reverse t.opens.items) × HavePlaces (vec_capacity t.cells) (vec_capacity t.waits) };
 }
 
 impl Goal {
@@ -106,6 +120,40 @@ impl Goal {
         let role = self.role;
         Ok(Goal { role, node })
     }
+}
+
+// How many have room at first.
+const FIRST_ROOM: usize = 8;
+
+// Room for as many again, but for no more than have places. It stays a call, since there mostly is some.
+#[cold]
+#[inline(never)]
+fn make_room<T: Drop>(items: &mut Vec<T>) -> Result<(), AllocError>
+    requires { vec_capacity items.old ≤ LAST }
+    ensures same { items.new.items ≡ items.old.items }
+    ensures room { OnOk result (vec_len items.new < vec_capacity items.new) }
+    ensures places { vec_capacity items.new ≤ LAST }
+{
+    let more = items.len().max(FIRST_ROOM).min(LAST - items.len());
+    if more == 0 {
+        return Err(AllocError);
+    }
+    items.reserve_exact(more)
+}
+
+// Puts an item behind the others, where it has a place.
+#[inline(always)]
+fn place<T: Drop>(items: &mut Vec<T>, item: T) -> Result<(), AllocError>
+    requires { vec_capacity items.old ≤ LAST }
+    ensures placed { OnOk result (items.new.items ≡ items.old.items ++ item ∷ []) }
+    ensures same { OnErr result (items.new.items ≡ items.old.items) }
+    ensures places { vec_capacity items.new ≤ LAST }
+{
+    if items.len() == items.capacity() {
+        make_room(items)?;
+    }
+    items.push_reserved(item);
+    Ok(())
 }
 
 impl Trail {
@@ -137,14 +185,14 @@ impl Trail {
     ///
     /// # Errors
     ///
-    /// Where a growth was refused; so it is for each call here.
+    /// Where a growth was refused, or a place or a cursor did not fit in four bytes; so it is for each call here.
     #[inline(always)]
     pub(crate) fn push(&mut self, goal: Goal) -> Result<(), AllocError>
         ensures { IfOk result (λ u. self.new ≡ record { goals = goal_of goal ∷ self.old.goals; waits = self.old.waits; opens = self.old.opens }) }
     {
         let rest = self.top;
-        self.cells.push(Cell { goal, rest })?;
-        self.top = self.cells.len();
+        place(&mut self.cells, Cell { goal, rest })?;
+        self.top = self.cells.len() as u32;
         Ok(())
     }
 
@@ -155,7 +203,7 @@ impl Trail {
         if self.top == 0 {
             return None;
         }
-        Some(&self.cells[self.top - 1].goal)
+        Some(&self.cells[self.top as usize - 1].goal)
     }
 
     /// Goes past the goal in front.
@@ -163,7 +211,7 @@ impl Trail {
         ensures { self.new ≡ record { goals = drop 1 self.old.goals; waits = self.old.waits; opens = self.old.opens } }
     {
         if self.top > 0 {
-            self.top = self.cells[self.top - 1].rest;
+            self.top = self.cells[self.top as usize - 1].rest;
         }
     }
 
@@ -175,8 +223,9 @@ impl Trail {
         if self.top == 0 {
             return Ok(None);
         }
-        if self.top <= self.kept || self.top < self.cells.len() {
-            let cell = &self.cells[self.top - 1];
+        let top = self.top as usize;
+        if self.top <= self.kept || top < self.cells.len() {
+            let cell = &self.cells[top - 1];
             let goal = cell.goal.copy()?;
             self.top = cell.rest;
             return Ok(Some(goal));
@@ -194,7 +243,7 @@ impl Trail {
     pub(crate) fn wait(&mut self, waiting: Waiting) -> Result<(), AllocError>
         ensures { IfOk result (λ u. self.new ≡ record { goals = self.old.goals; waits = self.old.waits ++ waiting ∷ []; opens = self.old.opens }) }
     {
-        Ok(self.waits.push(waiting)?)
+        Ok(place(&mut self.waits, waiting)?)
     }
 
     /// The assignments that wait, the oldest first.
@@ -209,15 +258,16 @@ impl Trail {
     pub(crate) fn leave(&mut self, kind: Kind, at: usize) -> Result<(), AllocError>
         ensures { IfOk result (λ u. self.new ≡ record { goals = self.old.goals; waits = self.old.waits; opens = record { trial = trial_of kind; goals = self.old.goals; at = at; waits = self.old.waits } ∷ self.old.opens }) }
     {
+        fits(at)?;
         let open = Open {
             kind,
-            at,
+            at: at as u32,
             top: self.top,
             kept: self.kept,
-            waits: self.waits.len(),
+            waits: self.waits.len() as u32,
         };
         self.opens.push(open)?;
-        self.kept = self.cells.len();
+        self.kept = self.cells.len() as u32;
         Ok(())
     }
 
@@ -229,11 +279,11 @@ impl Trail {
         match self.opens.pop() {
             None => None,
             Some(open) => {
-                self.cells.truncate(self.kept);
-                self.waits.truncate(open.waits);
+                self.cells.truncate(self.kept as usize);
+                self.waits.truncate(open.waits as usize);
                 self.top = open.top;
                 self.kept = open.kept;
-                Some((open.kind, open.at))
+                Some((open.kind, open.at as usize))
             }
         }
     }

@@ -32,3 +32,8 @@ pub record IsTrail (cells : List Cell) (top kept : ℕ) (waits : List Waiting) (
   pub room : kept ≤ length cells
   pub behind : AreBehind cells
   pub needed : AreKept kept (length waits) opens
+
+-- there is room for so many goals and assignments that four bytes can say the place of each
+pub record HavePlaces (cells waits : ℕ) : Type 0 where
+  pub goals : cells ≤ 4294967295
+  pub assignments : waits ≤ 4294967295

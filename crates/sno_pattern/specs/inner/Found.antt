@@ -3,7 +3,6 @@ use Rattle.std.specs.Prelude.{ℕ}
 use Rattle.sno_text.specs.Patterns.{Pattern}
 use Rattle.sno_pattern.specs.Looks.{Told, Found, Faulty}
 use Rattle.sno_pattern.specs.Steps.{Failure, Fault, Trying, ends, pattern_found}
-use Rattle.sno_pattern.specs.declared.host.Looked.TheVariants as looked
 
 -- how it goes on with what the host told: with what was found
 abbrev pub with_found : Told → ℕ → (Pattern → Trying) → Trying

@@ -1,4 +1,4 @@
-use Rattle.std.proofs.Common.{◌+◌, ◌∙◌, sym, arith}
+use Rattle.std.proofs.Common.{◌∙◌, sym, arith}
 use Rattle.sno_text.specs.Nodes.{pattern_of}
 use Rattle.sno_pattern.proofs.Reaches.{nowhere_of}
 use Rattle.sno_pattern.proofs.Pushing.{skip_one}

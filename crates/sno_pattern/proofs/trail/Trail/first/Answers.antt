@@ -8,4 +8,4 @@ pub returns : goal.returns
 returns c =
     let s = c.self.inside in
     behind_one _ _ _ (ap (λ (a : Ahead). a.goals) (sym c.self.view_is)
-    ∙ in_front s.cells.items s.top s.kept s.waits.items (reverse s.opens.items) c.self.invariant c.index.result.now c.if-self-eq0.false c.index.ensures)
+    ∙ in_front s.cells.items s.top s.kept s.waits.items (reverse s.opens.items) c.self.invariant.0 c.index.result.now c.if-self-eq0.false c.index.ensures)

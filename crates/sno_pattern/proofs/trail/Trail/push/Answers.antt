@@ -7,5 +7,5 @@ pub returns : goal.returns
 returns c =
     let s = c.self.inside in
     rw (← c.self.view_is) (put s.cells.items s.top s.kept s.waits.items
-    (reverse s.opens.items) c.self.invariant _ c.push.new.self.items c.len-self-inside.result c.in_ok-push.ensures.items
-    (c.len-self-inside.ensures ∙ c.push.new.self.ok.0) refl)
+    (reverse s.opens.items) c.self.invariant.0 _ c.place.new.items.items c.len.result c.in_ok-place.ensures.placed
+    (c.len.ensures ∙ c.place.new.items.ok.0) refl)
