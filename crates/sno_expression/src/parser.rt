@@ -253,6 +253,21 @@ fn begin(
     }
 }
 
+// A call has its last argument.
+#[inline(always)]
+fn call_ends(
+    alloc: Global,
+    name: Characters,
+    arguments: Arguments,
+    hole: Hole,
+    below: Stack,
+) -> Result<Step, AllocError>
+    ensures { IfOk result (λ s. step_of s ≡ Next (states.At (stack_of below) (states.Whole (fill (hole_of hole) (expressions.Call name (arguments_of arguments)))))) }
+{
+    let call = Box::new(alloc, Call { name, arguments })?;
+    whole(alloc, below, hole, Expression::Call(call))
+}
+
 fn close(alloc: Global, stack: Stack, spine: Spine) -> Result<Step, AllocError>
     ensures { IfOk result (λ s. step_of s ≡ stepped (close (stack_of stack) (spine_tree spine)) (ended (stack_of stack) (spine_tree spine))) }
 {
@@ -266,8 +281,7 @@ fn close(alloc: Global, stack: Stack, spine: Spine) -> Result<Step, AllocError>
             }
             Frame::InCall(name, arguments, hole, below) => {
                 let arguments = add_argument(alloc, arguments, tree)?;
-                let call = Box::new(alloc, Call { name, arguments })?;
-                whole(alloc, below, hole, Expression::Call(call))
+                call_ends(alloc, name, arguments, hole, below)
             }
             Frame::InItem(_, _, _) => Ok(Step::End(None)),
         },
@@ -291,6 +305,24 @@ fn close_angle(alloc: Global, stack: Stack, spine: Spine) -> Result<Step, AllocE
     }
 }
 
+// One more argument of a call is due.
+#[inline(always)]
+fn argument_begins(
+    alloc: Global,
+    name: Characters,
+    arguments: Arguments,
+    hole: Hole,
+    below: Stack,
+) -> Result<Step, AllocError>
+    ensures { IfOk result (λ s. step_of s ≡ Next (states.At (states.InCall name (arguments_of arguments) (hole_of hole) (stack_of below)) (states.Due states.Begin))) }
+{
+    let frame = Box::new(alloc, Frame::InCall(name, arguments, hole, below))?;
+    Ok(Step::Next(State {
+        stack: Stack::Above(frame),
+        spot: Spot::Due(Hole::Begin),
+    }))
+}
+
 fn comma(alloc: Global, stack: Stack, spine: Spine) -> Result<Step, AllocError>
     ensures { IfOk result (λ s. step_of s ≡ stepped (comma (stack_of stack) (spine_tree spine)) (ended (stack_of stack) (spine_tree spine))) }
 {
@@ -301,11 +333,7 @@ fn comma(alloc: Global, stack: Stack, spine: Spine) -> Result<Step, AllocError>
             Frame::InGroup(_, _) => Ok(Step::End(None)),
             Frame::InCall(name, arguments, hole, below) => {
                 let arguments = add_argument(alloc, arguments, tree)?;
-                let frame = Box::new(alloc, Frame::InCall(name, arguments, hole, below))?;
-                Ok(Step::Next(State {
-                    stack: Stack::Above(frame),
-                    spot: Spot::Due(Hole::Begin),
-                }))
+                argument_begins(alloc, name, arguments, hole, below)
             }
             Frame::InItem(_, _, _) => Ok(Step::End(None)),
         },
@@ -322,11 +350,7 @@ fn empty_before_comma(alloc: Global, stack: Stack) -> Result<Step, AllocError>
             Frame::InGroup(_, _) => Ok(Step::End(None)),
             Frame::InCall(name, arguments, hole, below) => {
                 let arguments = omit_argument(alloc, arguments)?;
-                let frame = Box::new(alloc, Frame::InCall(name, arguments, hole, below))?;
-                Ok(Step::Next(State {
-                    stack: Stack::Above(frame),
-                    spot: Spot::Due(Hole::Begin),
-                }))
+                argument_begins(alloc, name, arguments, hole, below)
             }
             Frame::InItem(_, _, _) => Ok(Step::End(None)),
         },
@@ -343,8 +367,7 @@ fn empty_at_end(alloc: Global, stack: Stack) -> Result<Step, AllocError>
             Frame::InGroup(_, _) => Ok(Step::End(None)),
             Frame::InCall(name, arguments, hole, below) => {
                 let arguments = omit_argument(alloc, arguments)?;
-                let call = Box::new(alloc, Call { name, arguments })?;
-                whole(alloc, below, hole, Expression::Call(call))
+                call_ends(alloc, name, arguments, hole, below)
             }
             Frame::InItem(_, _, _) => Ok(Step::End(None)),
         },
