@@ -137,9 +137,9 @@ impl Section {
     fn open_catalogue(&mut self, alloc: Global, version: Version)
         ensures { (accounts : List Account) → self.old ≡ sections.Accounts accounts → self.new ≡ sections.Catalogue accounts (SetDue version 0 []) }
     {
-        if let Section::Accounts(accounts) = mem::replace(self, Section::Opening) {
-            *self = Section::Catalogue(accounts, Loading::new(alloc, version));
-        }
+        let section = mem::replace(self, Section::Opening);
+        let section = section.with_catalogue(Loading::new(alloc, version));
+        self.go_on_as(section);
     }
 
     // The lines of a permission list follow.
@@ -147,9 +147,9 @@ impl Section {
     fn open_list(&mut self, alloc: Global, account: Name, name: Name)
         ensures { (w : AnyMonitor) → self.old ≡ sections.Stream w → self.new ≡ sections.List w (opened account name) }
     {
-        if let Section::Stream(monitor) = mem::replace(self, Section::Opening) {
-            *self = Section::List(monitor, OpenList::new(alloc, account, name));
-        }
+        let section = mem::replace(self, Section::Opening);
+        let section = section.with_list(OpenList::new(alloc, account, name));
+        self.go_on_as(section);
     }
 
     // The lines of a job follow.
@@ -157,8 +157,50 @@ impl Section {
     fn open_job(&mut self, job: OpenJob)
         ensures { (w : AnyMonitor) → self.old ≡ sections.Stream w → self.new ≡ sections.Job w job }
     {
-        if let Section::Stream(monitor) = mem::replace(self, Section::Opening) {
-            *self = Section::Job(monitor, job);
+        let section = mem::replace(self, Section::Opening);
+        let section = section.with_job(job);
+        self.go_on_as(section);
+    }
+
+    // Goes on as this section. What stood here is dropped, in this one place.
+    #[inline(always)]
+    fn go_on_as(&mut self, section: Section)
+        ensures { self.new ≡ section }
+    {
+        *self = section;
+    }
+
+    // The section behind this one where the catalogue follows the accounts; any other section stays. It is apart, and takes the
+    // section whole, so that what is left of it is dropped nowhere.
+    #[inline(always)]
+    fn with_catalogue(self, loading: Loading) -> Section
+        ensures { (accounts : List Account) → self ≡ sections.Accounts accounts → result ≡ sections.Catalogue accounts loading }
+    {
+        match self {
+            Section::Accounts(accounts) => Section::Catalogue(accounts, loading),
+            other => other,
+        }
+    }
+
+    // The section where the lines of a permission list follow a card; any other stays.
+    #[inline(always)]
+    fn with_list(self, list: OpenList) -> Section
+        ensures { (w : AnyMonitor) → self ≡ sections.Stream w → result ≡ sections.List w list }
+    {
+        match self {
+            Section::Stream(monitor) => Section::List(monitor, list),
+            other => other,
+        }
+    }
+
+    // The section where the lines of a job follow a card; any other stays.
+    #[inline(always)]
+    fn with_job(self, job: OpenJob) -> Section
+        ensures { (w : AnyMonitor) → self ≡ sections.Stream w → result ≡ sections.Job w job }
+    {
+        match self {
+            Section::Stream(monitor) => Section::Job(monitor, job),
+            other => other,
         }
     }
 }

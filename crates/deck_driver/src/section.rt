@@ -168,7 +168,7 @@ impl DeckState {
     {
         match self {
             DeckState::Reading(section) => section,
-            _ => unreachable!(),
+            _other => unreachable!(),
         }
     }
 
