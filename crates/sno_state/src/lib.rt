@@ -18,7 +18,7 @@ mod primitives;
 pub mod resting;
 mod using;
 
-pub use calling::{Entry, MOST_CALLS, begin, enter};
+pub use calling::{MOST_CALLS, begin, enter};
 pub use compiled::CompiledProgram;
 pub use items::{held_item, item, set_item};
 pub use keywords::{keyword, set_keyword};

@@ -1,6 +1,6 @@
 -- Values for a call, and how it begins and ends.
-use Rattle.std.proofs.Common.{◌≡◌, ℕ, zero, suc, ◌+◌, List, [], ◌∷◌, ◌++◌, length, slice_get, reverse, refl, sym, ap, ap₂, ◌∙◌, arith}
-use Rattle.std.proofs.lemmas.List.{append_assoc, append-nil, length-append, reverse-append}
+use Rattle.std.proofs.Common.{◌≡◌, ℕ, zero, suc, ◌+◌, List, [], ◌∷◌, ◌++◌, length, take, slice_get, reverse, ◌<◌, ◌≤◌, refl, sym, ap, ap₂, ◌∙◌, arith}
+use Rattle.std.proofs.lemmas.List.{length-append, length-take, reverse-append}
 use Rattle.std.specs.Prelude.{unwrap_or}
 use Rattle.sno_value.specs.declared.value.Value.{Value}
 use Rattle.sno_value.specs.Values.{null}
@@ -17,22 +17,51 @@ use Rattle.sno_store.specs.inner.Filling.{fitted, values_for}
 
 -- VALUES FOR A CALL
 
-fitted_one : (n : ℕ) (ws : List Value) → fitted (suc n) ws ≡ fitted n ws ++ unwrap_or (slice_get ws n) null ∷ []
-fitted_one zero [] = refl
-fitted_one zero (w ∷ ws) = refl
-fitted_one (suc n) [] = ap (λ l. null ∷ l) (fitted_one n [])
-fitted_one (suc n) (w ∷ ws) = ap (λ l. w ∷ l) (fitted_one n ws)
+-- further values are left out
+pub cut_fitted : (n : ℕ) (xs : List Value) → fitted n (take n xs) ≡ fitted n xs
+cut_fitted zero xs = refl
+cut_fitted (suc n) [] = refl
+cut_fitted (suc n) (x ∷ xs) = ap (λ l. x ∷ l) (cut_fitted n xs)
 
-pub one_fitted : (n : ℕ) (ws before now : List Value) → now ≡ before ++ fitted n ws → now ++ unwrap_or (slice_get ws n) null ∷ [] ≡ before ++ fitted (n + 1) ws
-one_fitted n ws before now is =
-    let one : n + 1 ≡ suc n = omega arith in
-    ap (λ l. l ++ unwrap_or (slice_get ws n) null ∷ []) is ∙ append_assoc before (fitted n ws) (unwrap_or (slice_get ws n) null ∷ [])
-    ∙ ap (λ l. before ++ l) (sym (fitted_one n ws)) ∙ ap (λ m. before ++ fitted m ws) (sym one)
+-- null where one is missing
+pub one_padded : (n : ℕ) (xs : List Value) → length xs < n → fitted n (xs ++ null ∷ []) ≡ fitted n xs
+one_padded zero xs less = absurd (omega (arith, less))
+one_padded (suc n) [] less = refl
+one_padded (suc n) (x ∷ xs) less = ap (λ l. x ∷ l) (one_padded n xs (omega (arith, less)))
 
-pub none_fitted : (ws before : List Value) → before ≡ before ++ fitted 0 ws
-none_fitted ws before = sym (append-nil before)
+pub all_padded : (n : ℕ) (xs : List Value) → length xs ≡ n → fitted n xs ≡ xs
+all_padded zero [] is = refl
+all_padded zero (x ∷ xs) is = absurd (omega (arith, is))
+all_padded (suc n) [] is = absurd (omega (arith, is))
+all_padded (suc n) (x ∷ xs) is = ap (λ l. x ∷ l) (all_padded n xs (omega (arith, is)))
 
-pub ruleset fitting = (one_fitted, none_fitted)
+pub ruleset padding = (one_padded, all_padded)
+
+fitted_both : (m n : ℕ) (xs : List Value) → length xs ≤ m → fitted (m + n) xs ≡ fitted m xs ++ fitted n []
+fitted_both zero n [] le =
+    let none : zero + n ≡ n = omega arith in
+    ap (λ k. fitted k []) none
+fitted_both zero n (x ∷ xs) le = absurd (omega (arith, le))
+fitted_both (suc m) n [] le =
+    let more : suc m + n ≡ suc (m + n) = omega arith in
+    ap (λ k. fitted k []) more ∙ ap (λ l. null ∷ l) (fitted_both m n [] (omega arith))
+fitted_both (suc m) n (x ∷ xs) le =
+    let more : suc m + n ≡ suc (m + n) = omega arith in
+    ap (λ k. fitted k (x ∷ xs)) more ∙ ap (λ l. x ∷ l) (fitted_both m n xs (omega (arith, le)))
+
+-- values that stand there, the last first, with null behind them
+pub turned_filled : (p : Prototype) (turned with_null there : List Value) (count all : ℕ) → with_null ≡ reverse (turned ++ null ∷ []) → count ≡ 1 + length p.parameters
+    → all ≡ count + length p.locals → there ≡ take count with_null → fitted all there ≡ values_for p (reverse turned)
+turned_filled p turned with_null there count all is counted whole kept =
+    let few : length (take count with_null) ≤ count = omega (arith, length-take count with_null) in
+    let first : with_null ≡ null ∷ reverse turned = is ∙ reverse-append turned (null ∷ []) in
+    let one : 1 + length p.parameters ≡ suc (length p.parameters) = omega arith in
+    ap (λ k. fitted k there) whole
+    ∙ ap (λ l. fitted (count + length p.locals) l) kept
+    ∙ fitted_both count (length p.locals) (take count with_null) few
+    ∙ ap (λ l. l ++ fitted (length p.locals) []) (cut_fitted count with_null
+    ∙ ap (λ l. fitted count l) first
+    ∙ ap (λ k. fitted k (null ∷ reverse turned)) (counted ∙ one))
 
 length_fitted : (n : ℕ) (ws : List Value) → length (fitted n ws) ≡ n
 length_fitted zero ws = refl

@@ -1,7 +1,8 @@
 //! What a call has to restore, and how calls begin and end.
-ghost use Rattle.std.specs.Prelude.{◌≡◌, ◌<◌, ◌^◌, ◌∷◌, ◌++◌, [], length, drop, slice_get, unwrap_or, option_map, vec_len, vec_capacity, IfOk, OnOk, OnErr};
+ghost use Rattle.std.specs.Prelude.{◌≡◌, ◌<◌, ◌≤◌, ◌^◌, ◌∷◌, ◌++◌, [], length, take, drop, reverse, slice_get, unwrap_or, option_map, vec_len, vec_capacity, IfOk, OnOk, OnErr};
 ghost use Rattle.sno_value.specs.Values.{null};
-ghost use Rattle.sno_variables.specs.Bindings.{assigned};
+ghost use Rattle.sno_declarations.specs.Prototypes.{names_of};
+ghost use Rattle.sno_variables.specs.Bindings.{assigned, paired};
 ghost use Rattle.sno_store.specs.Calls.{bindings_of, level_with, saved_by, statement_of};
 ghost use Rattle.sno_store.specs.inner.Parts.{value_given};
 ghost use Rattle.sno_store.specs.inner.Filling.{fitted, values_for};
@@ -9,7 +10,7 @@ ghost use Rattle.sno_store.specs.inner.Filling.{fitted, values_for};
 use crate::keyword::KeywordNumber;
 use sno_declarations::{Function, Prototype};
 use sno_value::Value;
-use sno_variables::{Variables, value_at};
+use sno_variables::Variables;
 use std::alloc::{AllocError, Global};
 use std::marker::Model;
 use std::mem;
@@ -62,33 +63,39 @@ impl Model for CallStack {
     ghost view = { λ l. reverse l.levels.items };
 }
 
-// So many values behind others: those that are missing are null, and further ones are left out.
-#[tactic(auto, using(crate::proofs::Calling::fitting))]
+// At most so many of the first values.
 #[inline(always)]
-fn fit(values: &mut Vec<Value>, arguments: &[Value], count: usize) -> Result<(), AllocError>
-    ensures { OnOk result (values.new.items ≡ values.old.items ++ fitted count arguments.now) }
+fn cut(values: &mut Vec<Value>, count: usize)
+    ensures { values.new.items ≡ take count values.old.items }
 {
-    let mut at = 0;
-    while at < count {
-        let value = value_at(arguments, at)?;
-        values.push(value)?;
-        at += 1;
+    if values.len() > count {
+        values.truncate(count);
+    }
+}
+
+// Null behind others, up to so many values.
+#[tactic(auto, using(crate::proofs::Calling::padding))]
+#[inline(always)]
+fn pad(values: &mut Vec<Value>, count: usize) -> Result<(), AllocError>
+    requires { length values.old.items ≤ count }
+    ensures { OnOk result (values.new.items ≡ fitted count values.old.items) }
+{
+    while values.len() < count {
+        values.push(Value::null())?;
     }
     Ok(())
 }
 
-/// What a call gives the function's variables.
-fn fill(
-    values: &mut Vec<Value>,
-    prototype: &Prototype,
-    arguments: &[Value],
-) -> Result<(), AllocError>
-    requires { values.old.items ≡ [] }
-    ensures { OnOk result (values.new.items ≡ values_for prototype.now arguments.now) }
+// What a call gives the function's variables, where the arguments stand there, the last first.
+#[inline(always)]
+fn fill(values: &mut Vec<Value>, prototype: &Prototype) -> Result<(), AllocError>
+    ensures { OnOk result (values.new.items ≡ values_for prototype.now (reverse values.old.items)) }
 {
     values.push(Value::null())?;
-    fit(values, arguments, prototype.parameters.len())?;
-    fit(values, &[], prototype.locals.len())
+    values.reverse();
+    let count = 1 + prototype.parameters.as_slice().len();
+    cut(values, count);
+    pad(values, count + prototype.locals.as_slice().len())
 }
 
 /// A further call, for which there is room.
@@ -142,7 +149,8 @@ impl CallStack {
     }
 
     /// Room for the values of a call.
-    fn room(&mut self, alloc: Global) -> Vec<Value>
+    #[inline(always)]
+    pub fn room(&mut self, alloc: Global) -> Vec<Value>
         ensures room { result.items ≡ [] }
         ensures same { self.new ≡ self.old }
     {
@@ -170,7 +178,8 @@ impl CallStack {
         first
     }
 
-    /// A further call, with arguments: its variables have what it gives them.
+    /// A further call, with arguments that stand there, the last first: its variables have what it gives them. It keeps the
+    /// room of the arguments.
     ///
     /// # Errors
     ///
@@ -179,18 +188,37 @@ impl CallStack {
     pub fn begin(
         &mut self,
         alloc: Global,
-        function: &Function,
-        arguments: &[Value],
+        function: Function,
+        arguments: Vec<Value>,
         statement: KeywordNumber,
         variables: &mut Variables,
     ) -> Result<(), AllocError>
-        ensures begun { OnOk result (self.new ≡ level_with function.now statement variables.old ∷ self.old) }
-        ensures assigned { OnOk result (variables.new ≡ assigned (bindings_of function.now.prototype arguments.now) variables.old) }
+        ensures begun { OnOk result (self.new ≡ level_with function statement variables.old ∷ self.old) }
+        ensures assigned { OnOk result (variables.new ≡ assigned (bindings_of function.prototype (reverse arguments.items)) variables.old) }
         ensures unchanged { OnErr result ((self.new ≡ self.old) × (variables.new ≡ variables.old)) }
     {
-        let function = function.copy()?;
-        let mut values = self.room(alloc);
-        fill(&mut values, &function.definition().prototype, arguments)?;
+        let mut values = arguments;
+        fill(&mut values, &function.definition().prototype)?;
+        self.begin_with(alloc, function, values, statement, variables)
+    }
+
+    // A further call, with a value for each of its variables.
+    #[tactic(auto, using(crate::proofs::Calling::beginning))]
+    #[inline(always)]
+    fn begin_with(
+        &mut self,
+        alloc: Global,
+        function: Function,
+        values: Vec<Value>,
+        statement: KeywordNumber,
+        variables: &mut Variables,
+    ) -> Result<(), AllocError>
+        requires { length values.items ≡ length (names_of function.prototype) }
+        ensures begun { OnOk result (self.new ≡ level_with function statement variables.old ∷ self.old) }
+        ensures assigned { OnOk result (variables.new ≡ assigned (paired (names_of function.prototype) values.items) variables.old) }
+        ensures unchanged { OnErr result ((self.new ≡ self.old) × (variables.new ≡ variables.old)) }
+    {
+        let mut values = values;
         self.levels.reserve(1)?;
         variables.exchange(alloc, &function.definition().prototype, &mut values)?;
         let level = CallFrame {
