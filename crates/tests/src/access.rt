@@ -5,49 +5,57 @@ use mon_acl::{Acl, Perms};
 use mon_text::{Name, read_name};
 use std::alloc::Global;
 
-const NONE: Perms = Perms {
+/// What is asked for, as a table can have it.
+#[derive(Clone, Copy)]
+struct Asked {
+    read: bool,
+    write: bool,
+    execute: bool,
+}
+
+const NONE: Asked = Asked {
     read: false,
     write: false,
     execute: false,
 };
 
-const R: Perms = Perms {
+const R: Asked = Asked {
     read: true,
     write: false,
     execute: false,
 };
 
-const W: Perms = Perms {
+const W: Asked = Asked {
     read: false,
     write: true,
     execute: false,
 };
 
-const X: Perms = Perms {
+const X: Asked = Asked {
     read: false,
     write: false,
     execute: true,
 };
 
-const RW: Perms = Perms {
+const RW: Asked = Asked {
     read: true,
     write: true,
     execute: false,
 };
 
-const RX: Perms = Perms {
+const RX: Asked = Asked {
     read: true,
     write: false,
     execute: true,
 };
 
-const WX: Perms = Perms {
+const WX: Asked = Asked {
     read: false,
     write: true,
     execute: true,
 };
 
-const RWX: Perms = Perms {
+const RWX: Asked = Asked {
     read: true,
     write: true,
     execute: true,
@@ -78,7 +86,7 @@ enum Who {
 struct Case {
     meaning: &'static str,
     list: &'static [u8],
-    rows: &'static [(Who, Perms, Decision)],
+    rows: &'static [(Who, Asked, Decision)],
 }
 
 /// Entries by index: 0 `user::`, 1 hugo, 2 lisa, 3 `group::`, 4 ops, 5 staff, 6 `mask::`, 7 `other::`.
@@ -311,7 +319,8 @@ fn anna_and_admin() -> Option<(Name, Name)> {
 }
 
 /// Whether an account is answered so by a data set of anna and the group admin with this list.
-fn is_answered(alloc: Global, acl: &Acl, who: Who, request: Perms, wanted: Decision) -> bool {
+fn is_answered(alloc: Global, acl: &Acl, who: Who, asked: Asked, wanted: Decision) -> bool {
+    let request = Perms::new(asked.read, asked.write, asked.execute);
     match (account(alloc, names_of(who)), anna_and_admin()) {
         (Some(account), Some((owner, group))) => {
             check(&account, &owner, &group, acl, request) == wanted
@@ -320,9 +329,9 @@ fn is_answered(alloc: Global, acl: &Acl, who: Who, request: Perms, wanted: Decis
     }
 }
 
-fn are_answered(alloc: Global, acl: &Acl, rows: &[(Who, Perms, Decision)]) -> bool {
-    for (who, request, wanted) in rows {
-        if !is_answered(alloc, acl, *who, *request, *wanted) {
+fn are_answered(alloc: Global, acl: &Acl, rows: &[(Who, Asked, Decision)]) -> bool {
+    for (who, asked, wanted) in rows {
+        if !is_answered(alloc, acl, *who, *asked, *wanted) {
             return false;
         }
     }
