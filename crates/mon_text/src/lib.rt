@@ -17,5 +17,5 @@ pub use ended_line::EndedLine;
 pub use line::{Line, LineError, read_line, split_words};
 pub use line_feed::{LineFeed, MOST_KEPT_BYTES, first_line_end};
 pub use lines::Lines;
-pub use name::{BadName, Name, read_name};
+pub use name::{BadName, Name, leading_name, read_name};
 pub use stop::Stop;
