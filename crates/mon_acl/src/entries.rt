@@ -255,10 +255,13 @@ impl Entry {
     pub(crate) fn compare(&self, other: &Entry) -> Ordering
         ensures { result ≡ compared self.now other.now }
     {
-        match self.tag.rank().cmp(&other.tag.rank()) {
-            Ordering::Less => Ordering::Less,
-            Ordering::Equal => self.compare_qualifier(other),
-            Ordering::Greater => Ordering::Greater,
+        let (own, its) = (self.tag.rank(), other.tag.rank());
+        if own < its {
+            Ordering::Less
+        } else if own > its {
+            Ordering::Greater
+        } else {
+            self.compare_qualifier(other)
         }
     }
 
