@@ -54,7 +54,7 @@ word_filled Group more = refl
 word_filled Mask more = refl
 word_filled Other more = refl
 
-entry_filled : (e : Entry) (more : List ℕ) → is_filled (entry_text e ++ more) ≡ true
+pub entry_filled : (e : Entry) (more : List ℕ) → is_filled (entry_text e ++ more) ≡ true
 entry_filled e more =
     ap (λ (t : List ℕ). is_filled (t ++ more)) (in_fields e)
     ∙ ap is_filled (append_assoc (tag_word e.tag) (58 ∷ (qualifier e ++ 58 ∷ perms_text e.perms)) more)

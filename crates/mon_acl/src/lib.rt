@@ -10,6 +10,7 @@ mod keys;
 pub mod laws;
 pub mod list;
 mod pieces;
+mod plain;
 pub mod printing;
 mod reading;
 pub mod refusals;

@@ -9,13 +9,13 @@ ghost use Rattle.mon_acl.specs.Texts.{IsShortText, IsLongText, pieces, long_piec
 ghost use Rattle.mon_acl.specs.Refusals.{acl_refusal, long_refusal};
 ghost use Rattle.mon_acl.specs.Entries.{IsAcl, IsCanonical, IsIndexOf};
 ghost use Rattle.mon_acl.specs.Reading.{MayGrow, read_pieces, read_short, read_long};
-ghost use Rattle.mon_acl.specs.inner.Building.{pieces_in, piece_added, canonical_entries_of};
+ghost use Rattle.mon_acl.specs.inner.Building.{pieces_in, entry_added, canonical_entries_of};
 
 use crate::arranging::{ENTRIES_INLINE, add, lacking};
 use crate::entries::{Entry, Perms, Tag};
 use crate::keys::{Chains, chains_of, index_of_name, index_of_type, keys_of};
 use crate::pieces::Form;
-use crate::reading::entry_of;
+use crate::plain::next_entry;
 use crate::refusals::AclError;
 use mon_device::TextSink;
 use mon_text::{Name, Stop};
@@ -279,26 +279,26 @@ fn read_entries(
     let mut n = 1;
     let mut rest = Some(text);
     let commented = form.has_comments(text);
-    while let Some((piece, after)) = form.next(commented, rest) {
-        read_piece(&mut entries, n, piece)?;
+    while let Some((entry, after)) = next_entry(form, commented, n, rest) {
+        put_entry(&mut entries, n, entry)?;
         n += 1;
         rest = after;
     }
     Ok(entries)
 }
 
-/// Reads the `n`-th piece, and puts its entry among those before it.
-fn read_piece(
+/// Puts the entry of the `n`-th piece among those before it.
+fn put_entry(
     entries: &mut SmallVec<Entry, ENTRIES_INLINE>,
     n: u64,
-    piece: &[u8],
+    entry: Result<Entry, AclError>,
 ) -> Result<(), Stop<AclError>>
     requires { IsCanonical entries.old.items }
-    ensures added { Gives (λ _. entries.new.items) result (piece_added n piece.now entries.old.items) }
-    ensures memory { IsErrOf result Stop.Memory → IsOk (piece_added n piece.now entries.old.items) × (entries.old.capacity ≤ small_vec_len entries.old) }
+    ensures added { Gives (λ _. entries.new.items) result (entry_added n entry entries.old.items) }
+    ensures memory { IsErrOf result Stop.Memory → IsOk (entry_added n entry entries.old.items) × (entries.old.capacity ≤ small_vec_len entries.old) }
     ensures capacity { entries.old.capacity ≤ entries.new.capacity }
 {
-    match entry_of(n, piece) {
+    match entry {
         Ok(entry) => add(entries, entry, n),
         Err(refusal) => Err(Stop::Refused(refusal)),
     }

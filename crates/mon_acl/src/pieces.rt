@@ -2,7 +2,7 @@
 ghost use Rattle.std.specs.Prelude.{◌≡◌, ◌==◌, ◌<◌, ◌∷◌, [], false, MatchOption, IfSome, option_copied};
 ghost use Rattle.std.specs.List.{list_all, list_any};
 ghost use Rattle.mon_acl.specs.Texts.{is_gap, is_hash, without_comment};
-ghost use Rattle.mon_acl.specs.inner.Building.{pieces_left, left};
+ghost use Rattle.mon_acl.specs.inner.Building.{pieces_left, left, separator_of};
 ghost use Rattle.mon_acl.specs.declared.pieces.Form.TheVariants as form;
 
 use crate::fields::{cut, is_gap};
@@ -26,6 +26,16 @@ impl Form {
             found |= *byte == b'#';
         }
         found
+    }
+
+    /// What stands between entries.
+    pub(crate) fn separator(self) -> u8
+        ensures { result ≡ separator_of self }
+    {
+        match self {
+            Form::Short => b',',
+            Form::Long => b'\n',
+        }
     }
 
     /// The text of the next entry, and what is left behind it; none where no entry is left. Where there are no comments none is

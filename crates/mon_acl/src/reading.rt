@@ -24,7 +24,7 @@ fn type_of(word: &[u8]) -> Option<Tag>
 }
 
 /// The type of an entry of the same word that has a qualifier.
-fn named_type(tag: Tag) -> Option<Tag>
+pub(crate) fn named_type(tag: Tag) -> Option<Tag>
     ensures { result ≡ named_type tag }
 {
     match tag {
@@ -108,7 +108,7 @@ fn perms_of(field: &[u8]) -> Option<Perms>
 }
 
 /// Whether a byte is the letter of a permission, or `-`.
-fn is_place(byte: u8, letter: u8) -> bool
+pub(crate) fn is_place(byte: u8, letter: u8) -> bool
     ensures { result ≡ (byte == letter || byte == 45) }
 {
     byte == letter || byte == b'-'

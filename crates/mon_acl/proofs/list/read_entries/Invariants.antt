@@ -6,8 +6,8 @@ use Rattle.mon_acl.specs.inner.Building.{pieces_in, pieces_left, left}
 use Rattle.mon_acl.proofs.Steps.{IsReadTo}
 use Rattle.mon_acl.proofs.list.read_entries.Given as goal
 
-abbrev pub invariant-loop-piece : goal.invariant-loop-piece
-invariant-loop-piece l = record {
+abbrev pub invariant-loop-entry : goal.invariant-loop-entry
+invariant-loop-entry l = record {
   counted : l.n + left (option_copied l.rest) ≤ length l.text + 2;
   canonical : IsCanonical l.entries.items;
   room : 4 ≤ l.entries.capacity;
@@ -15,5 +15,5 @@ invariant-loop-piece l = record {
   read : IsReadTo (pieces_in l.form l.text) (pieces_left l.form (option_copied l.rest)) l.n l.entries.items;
 }
 
-abbrev pub decreases-loop-piece : goal.decreases-loop-piece
-decreases-loop-piece l = left (option_copied l.rest)
+abbrev pub decreases-loop-entry : goal.decreases-loop-entry
+decreases-loop-entry l = left (option_copied l.rest)
