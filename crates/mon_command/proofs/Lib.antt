@@ -4,3 +4,4 @@ mod Words
 mod Changed
 mod Shows
 pub mod Refused
+mod Pieces

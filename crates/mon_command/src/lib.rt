@@ -8,6 +8,7 @@ pub mod laws;
 mod printing;
 pub mod printout;
 pub mod reply;
+mod room;
 pub mod said;
 pub mod serving;
 

@@ -8,6 +8,7 @@ ghost use Rattle.mon_command.specs.Commanded.{Records as Listed, printed};
 ghost use Rattle.mon_command.specs.declared.command.Command.TheVariants as command;
 ghost use Rattle.mon_command.specs.Printouts.{word, number, stored_line, count_line, records_text, name_line, acl_text, list_refusal};
 
+use crate::room::{MOST_ON_LINE, place_name, place_number, put_first};
 use itoa::Buffer;
 use mon_acl::{AclError, Entry, Perms, Tag, copy_of_mask};
 use mon_catalogue::Records;
@@ -133,25 +134,19 @@ fn put_acl_line(entry: &Entry, mask: Option<Perms>, out: &mut Vec<u8>) -> Result
     entry.put_line(mask, out)
 }
 
-// Appends a data set's name, its owner, its group and the number of its records.
+// Appends a data set's name, its owner, its group and the number of its records. The line is put together in a room first, where
+// there is always room for it.
 #[inline(never)]
 pub(crate) fn put_name(shown: &NameView, out: &mut Vec<u8>) -> Result<(), AllocError>
     ensures { OnOk result (out.new.items ≡ out.old.items ++ name_line shown.now) }
 {
-    let (name, owner, group) = (
-        shown.name.as_bytes(),
-        shown.owner.as_bytes(),
-        shown.group.as_bytes(),
-    );
-    let mut digits = Buffer::new();
-    let records = digits.format(shown.records).as_bytes();
-    out.reserve(name.len() + owner.len() + group.len() + records.len() + 5)?;
-    put_word_in_room(name, out);
-    put_word_in_room(owner, out);
-    put_word_in_room(group, out);
-    put_word_in_room(records, out);
-    out.push_reserved(b'\n');
-    Ok(())
+    let mut room = [0; MOST_ON_LINE];
+    let end = place_name(&mut room, 0, shown.name);
+    let end = place_name(&mut room, end, shown.owner);
+    let end = place_name(&mut room, end, shown.group);
+    let end = place_number(&mut room, end, shown.records);
+    room[end] = b'\n';
+    put_first(&room, end + 1, out)
 }
 
 // Appends a command's own line: the card's word, an account and a data set.
