@@ -180,49 +180,60 @@ or_false true = refl
 or_false false = refl
 
 -- ---- the groups of an account, one after the other
-module _ (account : Account) (group : List ℕ) (es : List Entry) (request : Perms) (valid : All IsEntry es) where
-  pub all_groups : found (is_so_far account group account.groups) es request ≡ found (is_for_group account group) es request
+module _ (account : Account) (es : List Entry) (request : Perms) (valid : All IsEntry es) where
+  pub all_groups : found (is_so_far account account.groups) es request ≡ found (is_for_named_group account) es request
   all_groups =
-      alike (is_so_far account group account.groups) (is_for_group account group) es request
-      (λ k d h. let e = get_or es k d in
-      sym (or_assoc (is_for_owning_group account group e) (stands_at (rank Group ∷ account.primary) e) (is_for_one_of account.groups e))
-      ∙ ap (λ (b : Bool). is_for_owning_group account group e || b) (sym (named_group account e (valid k d h))))
+      alike (is_so_far account account.groups) (is_for_named_group account) es request (λ k d h. sym (named_group account (get_or es k d) (valid k d h)))
 
-  pub no_group : joined (found (is_for_owning_group account group) es request) (found (stands_at (rank Group ∷ account.primary)) es request) ≡ found (is_so_far account group []) es request
-  no_group =
-      sym (together (is_for_owning_group account group) (stands_at (rank Group ∷ account.primary)) es request)
-      ∙ alike (λ (e : Entry). is_for_owning_group account group e || stands_at (rank Group ∷ account.primary) e) (is_so_far account group []) es request
-      (λ k d h. sym (or_false _))
+  pub no_group : found (stands_at (rank Group ∷ account.primary)) es request ≡ found (is_so_far account []) es request
+  no_group = alike (stands_at (rank Group ∷ account.primary)) (is_so_far account []) es request (λ k d h. sym (or_false _))
 
   pub one_more : (i : ℕ) (name : List ℕ) → i < length account.groups → name ≡ get_or account.groups i name →
-      joined (found (is_so_far account group (take i account.groups)) es request) (found (stands_at (rank Group ∷ name)) es request)
-      ≡ found (is_so_far account group (take (i + 1) account.groups)) es request
+      joined (found (is_so_far account (take i account.groups)) es request) (found (stands_at (rank Group ∷ name)) es request)
+      ≡ found (is_so_far account (take (i + 1) account.groups)) es request
   one_more i name h is =
-      sym (together (is_so_far account group (take i account.groups)) (stands_at (rank Group ∷ name)) es request)
-      ∙ alike (λ (e : Entry). is_so_far account group (take i account.groups) e || stands_at (rank Group ∷ name) e) (is_so_far account group (take (i + 1) account.groups)) es request
+      sym (together (is_so_far account (take i account.groups)) (stands_at (rank Group ∷ name)) es request)
+      ∙ alike (λ (e : Entry). is_so_far account (take i account.groups) e || stands_at (rank Group ∷ name) e) (is_so_far account (take (i + 1) account.groups)) es request
       (λ k d l. more (get_or es k d))
     where
-      more : (e : Entry) → (is_so_far account group (take i account.groups) e || stands_at (rank Group ∷ name) e) ≡ is_so_far account group (take (i + 1) account.groups) e
+      more : (e : Entry) → (is_so_far account (take i account.groups) e || stands_at (rank Group ∷ name) e) ≡ is_so_far account (take (i + 1) account.groups) e
       more e =
-          let first = is_for_owning_group account group e || stands_at (rank Group ∷ account.primary) e in
+          let first = stands_at (rank Group ∷ account.primary) e in
           sym (or_assoc first (is_for_one_of (take i account.groups) e) (stands_at (rank Group ∷ name) e))
           ∙ ap (λ (b : Bool). first || b)
           (ap (λ (n : List ℕ). is_for_one_of (take i account.groups) e || stands_at (rank Group ∷ n) e) is
           ∙ sym (list_any_more (λ (n : List ℕ). stands_at (rank Group ∷ n) e) account.groups i name h))
 
   -- what some of them hold all of them hold
-  pub held_already : (i : ℕ) → found (is_so_far account group (take i account.groups)) es request ≡ Holding → Holding ≡ found (is_for_group account group) es request
+  pub held_already : (i : ℕ) → found (is_so_far account (take i account.groups)) es request ≡ Holding → Holding ≡ found (is_for_named_group account) es request
   held_already i h =
       sym (ap (λ (f : Found). joined f (found (is_for_one_of (drop i account.groups)) es request)) h)
-      ∙ sym (together (is_so_far account group (take i account.groups)) (is_for_one_of (drop i account.groups)) es request)
-      ∙ alike (λ (e : Entry). is_so_far account group (take i account.groups) e || is_for_one_of (drop i account.groups) e) (is_so_far account group account.groups) es request
+      ∙ sym (together (is_so_far account (take i account.groups)) (is_for_one_of (drop i account.groups)) es request)
+      ∙ alike (λ (e : Entry). is_so_far account (take i account.groups) e || is_for_one_of (drop i account.groups) e) (is_so_far account account.groups) es request
       (λ k d l. whole (get_or es k d))
       ∙ all_groups
     where
-      whole : (e : Entry) → (is_so_far account group (take i account.groups) e || is_for_one_of (drop i account.groups) e) ≡ is_so_far account group account.groups e
+      whole : (e : Entry) → (is_so_far account (take i account.groups) e || is_for_one_of (drop i account.groups) e) ≡ is_so_far account account.groups e
       whole e =
-          let first = is_for_owning_group account group e || stands_at (rank Group ∷ account.primary) e in
+          let first = stands_at (rank Group ∷ account.primary) e in
           sym (or_assoc first (is_for_one_of (take i account.groups) e) (is_for_one_of (drop i account.groups) e))
           ∙ ap (λ (b : Bool). first || b)
           (sym (list_any-append (λ (n : List ℕ). stands_at (rank Group ∷ n) e) (take i account.groups) (drop i account.groups))
           ∙ ap (λ (names : List (List ℕ)). is_for_one_of names e) (take-append-drop i account.groups))
+
+or_swaps : (a b : Bool) → (a || b) ≡ (b || a)
+or_swaps true true = refl
+or_swaps true false = refl
+or_swaps false true = refl
+or_swaps false false = refl
+
+-- ---- the named groups of an account, and then the owning one
+module _ (account : Account) (group : List ℕ) (es : List Entry) (request : Perms) where
+  pub owning_last : joined (found (is_for_named_group account) es request) (found (is_for_owning_group account group) es request) ≡ found (is_for_group account group) es request
+  owning_last =
+      sym (together (is_for_named_group account) (is_for_owning_group account group) es request)
+      ∙ alike (λ (e : Entry). is_for_named_group account e || is_for_owning_group account group e) (is_for_group account group) es request
+      (λ k d h. or_swaps (is_for_named_group account (get_or es k d)) (is_for_owning_group account group (get_or es k d)))
+
+  pub named_hold : Holding ≡ found (is_for_named_group account) es request → Holding ≡ found (is_for_group account group) es request
+  named_hold h = ap (λ (f : Found). joined f (found (is_for_owning_group account group) es request)) h ∙ owning_last

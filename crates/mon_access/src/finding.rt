@@ -2,7 +2,7 @@
 ghost use Rattle.std.specs.Prelude.{◌≡◌, ◌∷◌, None, true};
 ghost use Rattle.mon_acl.specs.Entries.{rank, has_tag, is_qualified, IsCanonical, IsAcl};
 ghost use Rattle.mon_acl.specs.Permissions.{holds};
-ghost use Rattle.mon_access.specs.Matches.{is_in_group, is_for_user, is_for_owning_group, is_for_group, some_holds};
+ghost use Rattle.mon_access.specs.Matches.{is_in_group, is_for_user, is_for_owning_group, is_for_named_group, is_for_group, some_holds};
 ghost use Rattle.mon_access.specs.inner.Kinds.{found, judged, joined, is_holding, stands_at};
 
 use crate::account::Account;
@@ -112,13 +112,13 @@ fn of_owning_group_to(acl: &AclIndex, account: &Account, group: &Name, request: 
     }
 }
 
-/// What the entries of the account's groups say.
-pub(crate) fn of_groups(acl: &AclIndex, account: &Account, group: &Name, request: Perms) -> Found
+/// What the entries of the account's groups by name say.
+#[inline(always)]
+fn of_named_groups(acl: &AclIndex, account: &Account, request: Perms) -> Found
     requires { IsAcl acl.now }
-    ensures { result ≡ found (is_for_group account.now group.now) acl.now request }
+    ensures { result ≡ found (is_for_named_group account.now) acl.now request }
 {
-    let owning = of_owning_group_to(acl, account, group, request);
-    let mut so_far = owning.joined(of_name(acl, Tag::Group, &account.primary, request));
+    let mut so_far = of_name(acl, Tag::Group, &account.primary, request);
     for name in account.groups.names() {
         if let Found::Holding = so_far {
             return so_far;
@@ -126,4 +126,17 @@ pub(crate) fn of_groups(acl: &AclIndex, account: &Account, group: &Name, request
         so_far = so_far.joined(of_name(acl, Tag::Group, name, request));
     }
     so_far
+}
+
+/// What the entries of the account's groups say. Whether the owning group is one of them takes a comparison with each, so it is
+/// asked only where no entry by name holds the request.
+pub(crate) fn of_groups(acl: &AclIndex, account: &Account, group: &Name, request: Perms) -> Found
+    requires { IsAcl acl.now }
+    ensures { result ≡ found (is_for_group account.now group.now) acl.now request }
+{
+    let named = of_named_groups(acl, account, request);
+    if let Found::Holding = named {
+        return named;
+    }
+    named.joined(of_owning_group_to(acl, account, group, request))
 }

@@ -10,7 +10,7 @@ use Rattle.mon_acl.specs.Entries.{rank, sort_key}
 use Rattle.mon_access.specs.declared.account.Account.{Account}
 use Rattle.mon_access.specs.declared.finding.Found.{Found}
 use Rattle.mon_access.specs.declared.finding.Found.TheVariants.{Nobody, Lacking, Holding}
-use Rattle.mon_access.specs.Matches.{is_for_owning_group, some_holds}
+use Rattle.mon_access.specs.Matches.{some_holds}
 
 abbrev pub found_of : Bool → Bool → ℕ → Found
 found_of true some first = Holding
@@ -47,6 +47,6 @@ stands_at key e = is_eq (slice_cmp nat_cmp (sort_key e) key)
 abbrev pub is_for_one_of : List (List ℕ) → Entry → Bool
 is_for_one_of names e = list_any (λ name. stands_at (rank Group ∷ name) e) names
 
--- an entry for the owning group, for the account's primary group, or for one of these
-abbrev pub is_so_far : Account → List ℕ → List (List ℕ) → Entry → Bool
-is_so_far account group names e = (is_for_owning_group account group e || stands_at (rank Group ∷ account.primary) e) || is_for_one_of names e
+-- an entry for the account's primary group, or for one of these
+abbrev pub is_so_far : Account → List (List ℕ) → Entry → Bool
+is_so_far account names e = stands_at (rank Group ∷ account.primary) e || is_for_one_of names e

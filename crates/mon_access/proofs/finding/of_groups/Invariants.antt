@@ -1,6 +1,0 @@
-use Rattle.std.proofs.Common.{◌≡◌, take}
-use Rattle.mon_access.specs.inner.Kinds.{found, is_so_far}
-use Rattle.mon_access.proofs.finding.of_groups.Given as goal
-
-abbrev pub invariant-loop-name : goal.invariant-loop-name
-invariant-loop-name l = l.so_far ≡ found (is_so_far l.account l.group (take l.name-index l.account.groups)) l.acl l.request
