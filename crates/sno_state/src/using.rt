@@ -1,7 +1,7 @@
 //! A variable used, and assigned a value.
-ghost use Rattle.std.specs.Prelude.{◌≡◌, ◌≤◌, true, false, length, IfOk, OnErr};
-ghost use Rattle.interaction.specs.Interactions.{Returns, ask};
-ghost use Rattle.sno_value.specs.Values.{null, text_of};
+ghost use Rattle.std.specs.Prelude.{◌≡◌, ◌≤◌, length, IfOk, OnErr};
+ghost use Rattle.interaction.specs.Interactions.{ask};
+ghost use Rattle.sno_value.specs.Values.{text_of};
 ghost use Rattle.sno_value.specs.declared.value.Value.TheVariants as value;
 ghost use Rattle.interaction.specs.Asking.{RunsTo, Executes};
 ghost use Rattle.interaction.specs.declared.request.Act.TheVariants.{Write as Writing};
@@ -10,14 +10,14 @@ ghost use Rattle.sno_variables.specs.Variables.{Reads};
 ghost use Rattle.sno_store.specs.States.{kept_of};
 ghost use Rattle.sno_state.specs.Asking.{request};
 ghost use Rattle.sno_state.specs.Using.{used_by, used, write_all, assigned};
-ghost use Rattle.sno_state.specs.inner.Parts.{stored, write_text};
+ghost use Rattle.sno_state.specs.inner.Parts.{stored, write_text, written_on, writing_got};
 
 use interaction::{Act, Answer, Request, Service};
 use mon_text::Line;
 use sno_declarations::laws::records_follow;
 use sno_declarations::{Input, Output};
 use sno_semantics::{Evaluated, Halt};
-use sno_store::{Found, Store};
+use sno_store::{Found, Replaced, Store};
 use sno_text::{Fault, Named, Text};
 use sno_value::Value;
 use std::alloc::{AllocError, Global};
@@ -114,6 +114,28 @@ fn write<S: Service>(
     }
 }
 
+/// What writing the records of a value comes to.
+#[derive(Clone, Copy)]
+pub enum WriteEnd {
+    /// All are written.
+    Done,
+    /// One is not written, and those behind it are not tried.
+    Fails,
+    /// The value has no text.
+    NoText,
+}
+
+/// What an assignment gets then.
+pub fn writing_got(writing: WriteEnd) -> Evaluated
+    ensures { result ≡ writing_got writing }
+{
+    match writing {
+        WriteEnd::Done => Evaluated::Gives(Value::null()),
+        WriteEnd::Fails => Evaluated::Fails,
+        WriteEnd::NoText => Evaluated::Halts(Halt::Fault(Fault::WrongType)),
+    }
+}
+
 /// Writes the records of a text in their order, up to the first that is not written.
 #[tactic(auto, using(interaction::proofs::Held::talking))]
 fn write_records<S: Service>(
@@ -122,9 +144,9 @@ fn write_records<S: Service>(
     text: &Text,
     state: &Store,
     service: &mut S,
-) -> Result<Evaluated, AllocError>
+) -> Result<WriteEnd, AllocError>
     requires { S.ready service.old }
-    ensures runs { Executes S.answers (write_all output.unit (records output.format text.now) state.now) service.old result (λ got. (got, state.now)) service.new }
+    ensures runs { Executes S.answers (write_all output.unit (records output.format text.now) state.now) service.old result (λ writing. (writing_got writing, state.now)) service.new }
     ensures ready { S.ready service.new }
 {
     records_follow();
@@ -134,10 +156,10 @@ fn write_records<S: Service>(
         let line = output.format.record(alloc, text, from)?;
         match write(output.unit, line, state, service)? {
             Answer::Done => {}
-            _ => return Ok(Evaluated::Fails),
+            _ => return Ok(WriteEnd::Fails),
         }
         if text.len() - from <= characters {
-            return Ok(Evaluated::Gives(Value::null()));
+            return Ok(WriteEnd::Done);
         }
         from += characters;
     }
@@ -151,29 +173,90 @@ fn write_value<S: Service>(
     value: &Value,
     state: &Store,
     service: &mut S,
-) -> Result<Evaluated, AllocError>
+) -> Result<WriteEnd, AllocError>
     requires { S.ready service.old }
-    ensures runs { Executes S.answers (write_text output (text_of value.now) state.now) service.old result (λ got. (got, state.now)) service.new }
+    ensures runs { Executes S.answers (write_text output (text_of value.now) state.now) service.old result (λ writing. (writing_got writing, state.now)) service.new }
+    ensures ready { S.ready service.new }
+{
+    match value {
+        Value::Text(text) => match write_records(alloc, output, text, state, service) {
+            Ok(writing) => Ok(writing),
+            Err(e) => Err(e),
+        },
+        _ => write_other(alloc, output, value, state, service),
+    }
+}
+
+/// Writes any value in this way: its text is made first. It stays a call, since what is written nearly always is a text.
+#[inline(never)]
+#[tactic(auto, using(interaction::proofs::Held::talking))]
+fn write_other<S: Service>(
+    alloc: Global,
+    output: Output,
+    value: &Value,
+    state: &Store,
+    service: &mut S,
+) -> Result<WriteEnd, AllocError>
+    requires { S.ready service.old }
+    ensures runs { Executes S.answers (write_text output (text_of value.now) state.now) service.old result (λ writing. (writing_got writing, state.now)) service.new }
     ensures ready { S.ready service.new }
 {
     match value.to_text(alloc)? {
         Some(text) => match write_records(alloc, output, &text, state, service) {
-            Ok(got) => Ok(got),
+            Ok(writing) => Ok(writing),
             Err(e) => Err(e),
         },
-        None => Ok(Evaluated::Halts(Halt::Fault(Fault::WrongType))),
+        None => Ok(WriteEnd::NoText),
     }
 }
 
-/// Assigns a value to a variable where nothing is written, and tells whether so it is; what the variable had takes the value's
-/// place. Otherwise nothing has changed. It takes no memory.
-#[inline(always)]
-pub fn replaced(name: &Named, value: &mut Value, state: &mut Store) -> bool
-    ensures assigned { result ≡ true → assigned name.now value.old state.old ≡ Returns (Evaluated.Gives null, state.new) }
-    ensures unchanged { result ≡ false → (state.new ≡ state.old) × (value.new ≡ value.old) }
-    ensures counted { state.new.keywords.begun ≡ state.old.keywords.begun }
+/// Writes the value that a variable has from where it stands, where the variable is associated with a unit.
+#[tactic(auto, using(interaction::proofs::Held::talking))]
+pub fn write_variable<S: Service>(
+    alloc: Global,
+    name: &Named,
+    state: &Store,
+    service: &mut S,
+) -> Result<WriteEnd, AllocError>
+    requires { S.ready service.old }
+    ensures runs { Executes S.answers (written_on name.now state.now) service.old result (λ writing. (writing_got writing, state.now)) service.new }
+    ensures ready { S.ready service.new }
 {
-    state.replace(name, value)
+    match state.written(name) {
+        Some((value, output)) => match write_value(alloc, output, value, state, service) {
+            Ok(writing) => Ok(writing),
+            Err(e) => Err(e),
+        },
+        None => Ok(WriteEnd::Done),
+    }
+}
+
+/// Assigns a value to a variable that was most likely not named before: it is not looked for first.
+///
+/// # Errors
+///
+/// Where a growth was refused; some records may have been written then.
+#[inline(never)]
+#[tactic(auto, using(interaction::proofs::Held::talking, crate::proofs::OnVariable::assigned_on))]
+pub fn assigned_first<S: Service>(
+    alloc: Global,
+    name: &Named,
+    value: Value,
+    state: &mut Store,
+    service: &mut S,
+) -> Result<Evaluated, AllocError>
+    requires { S.ready service.old }
+    ensures runs { Executes S.answers (assigned name.now value state.old) service.old result (λ got. (got, state.new)) service.new }
+    ensures counted { state.new.keywords.begun ≡ state.old.keywords.begun }
+    ensures ready { S.ready service.new }
+{
+    match state.set(name, value)? {
+        Some(_) => match write_variable(alloc, name, state, service) {
+            Ok(writing) => Ok(writing_got(writing)),
+            Err(e) => Err(e),
+        },
+        None => Ok(Evaluated::Gives(Value::null())),
+    }
 }
 
 /// Assigns a value to a variable: it is stored, and its records are written where the variable is associated with a unit.
@@ -183,7 +266,7 @@ pub fn replaced(name: &Named, value: &mut Value, state: &mut Store) -> bool
 /// # Errors
 ///
 /// Where a growth was refused; some records may have been written then.
-#[tactic(auto, using(interaction::proofs::Held::talking))]
+#[tactic(auto, using(interaction::proofs::Held::talking, crate::proofs::OnVariable::assigned_on))]
 pub fn assigned<S: Service>(
     alloc: Global,
     name: &Named,
@@ -196,12 +279,13 @@ pub fn assigned<S: Service>(
     ensures counted { state.new.keywords.begun ≡ state.old.keywords.begun }
     ensures ready { S.ready service.new }
 {
-    let kept = value.copy()?;
-    match state.set(name, value)? {
-        Some(output) => match write_value(alloc, output, &kept, state, service) {
-            Ok(got) => Ok(got),
+    let mut value = value;
+    match state.replace(name, &mut value) {
+        Replaced::Quiet => Ok(Evaluated::Gives(Value::null())),
+        Replaced::Written => match write_variable(alloc, name, state, service) {
+            Ok(writing) => Ok(writing_got(writing)),
             Err(e) => Err(e),
         },
-        None => Ok(Evaluated::Gives(Value::null())),
+        Replaced::Unnamed => assigned_first(alloc, name, value, state, service),
     }
 }

@@ -1,11 +1,12 @@
 //! The variables of a job by their names.
-ghost use Rattle.std.specs.Prelude.{◌≡◌, ◌∷◌, ◌++◌, ◌≤◌, [], true, false, length, drop, if◌then◌else◌, None, position, slice_get, unwrap_or, OnOk, OnErr, IfOk, IfErr};
+ghost use Rattle.std.specs.Prelude.{◌≡◌, ◌∷◌, ◌++◌, ◌≤◌, [], true, false, length, drop, if◌then◌else◌, None, Some, position, slice_get, unwrap_or, OnOk, OnErr, IfOk, IfErr, IfSome};
 ghost use Rattle.std.specs.Borrow.{sem};
-ghost use Rattle.std.specs.Option.{option_copied, option_copied_mut};
+ghost use Rattle.std.specs.Option.{option_copied, option_copied_mut, MatchOption};
 ghost use Rattle.std.specs.Map.{lookup, keys_of};
 ghost use Rattle.std.specs.Prelude.{nat_eq};
 ghost use Rattle.std.specs.Cmp.Lexicographic.{pointwise};
 ghost use Rattle.sno_variables.specs.Variables.{variable_of, value_of, use_of, seen, is_named, put, given, reading, writing, detached, noted};
+ghost use Rattle.sno_variables.specs.declared.variable.Replaced.TheVariants as replaced;
 ghost use Rattle.sno_variables.specs.inner.Lending.{LendsVariable};
 ghost use Rattle.sno_value.specs.Values.{null};
 ghost use Rattle.sno_declarations.specs.Prototypes.{names_of, are_different};
@@ -16,7 +17,7 @@ ghost use Rattle.sno_variables.specs.inner.Exchanging.{values_now};
 use crate::exchanging::{exchange_known, take_back};
 use crate::lookup::{assign_all, place_of, place_of_text};
 use crate::recent::Recent;
-use crate::variable::{Found, Variable};
+use crate::variable::{Found, Replaced, Variable};
 use indexmap::IndexMap;
 use sno_declarations::{Bindings, Input, Output, Prototype};
 use sno_text::{Name, Named, Seed, Text};
@@ -195,25 +196,40 @@ impl Variables {
         Ok(None)
     }
 
-    /// Exchanges the value of a variable for another, where it was named before and is not to be written, and tells whether so
-    /// it is. Otherwise nothing has changed. It takes no memory.
+    /// Exchanges the value of a variable for another, where it was named before, and tells whether that is to be written. Otherwise
+    /// nothing has changed. It takes no memory.
     #[inline(never)]
-    #[tactic(auto, using(crate::proofs::Changing::giving, crate::proofs::Changing::put_back))]
-    pub fn replace(&mut self, name: &Named, value: &mut Value) -> bool
-        ensures given { result ≡ true → self.new ≡ given name.now value.old self.old }
-        ensures output { result ≡ true → (variable_of name.now self.old).output ≡ None }
-        ensures unchanged { result ≡ false → (self.new ≡ self.old) × (value.new ≡ value.old) }
+    #[tactic(auto, using(crate::proofs::Changing::giving))]
+    pub fn replace(&mut self, name: &Named, value: &mut Value) -> Replaced
+        ensures quiet { result ≡ replaced.Quiet → (self.new ≡ given name.now value.old self.old) × ((variable_of name.now self.old).output ≡ None) }
+        ensures written { result ≡ replaced.Written → self.new ≡ given name.now value.old self.old }
+        ensures unchanged { result ≡ replaced.Unnamed → (self.new ≡ self.old) × (value.new ≡ value.old) }
     {
         match self.find_mut(name) {
             Some(variable) => {
-                if variable.output.is_none() {
-                    mem::swap(&mut variable.value, value);
-                    true
-                } else {
-                    false
+                mem::swap(&mut variable.value, value);
+                match variable.output {
+                    Some(_) => Replaced::Written,
+                    None => Replaced::Quiet,
                 }
             }
-            None => false,
+            None => Replaced::Unnamed,
+        }
+    }
+
+    /// The value of a variable, and where it is to be written, if so it is.
+    #[inline(always)]
+    #[tactic(auto, using(crate::proofs::Changing::giving))]
+    pub fn written(&self, name: &Named) -> Option<(&Value, Output)>
+        ensures output { MatchOption result ((variable_of name.now self.now).output ≡ None) (λ pair. (variable_of name.now self.now).output ≡ Some pair.1) }
+        ensures value { IfSome result (λ pair. pair.0.now ≡ value_of name.now self.now) }
+    {
+        match self.find(name) {
+            Some(variable) => match variable.output {
+                Some(output) => Some((&variable.value, output)),
+                None => None,
+            },
+            None => None,
         }
     }
 

@@ -20,9 +20,9 @@ returns-then-len-from-clause-runs g c =
     let said = c.characters-characters.ensures in
     let is : IsFormat c.args.output.format = is_format c.args.output.format c.characters-characters.result said.value said.positive said.fits in
     let last : length c.args.text.now - c.loop-line.from ≤ c.characters-characters.result = omega (arith, c.if-len-from.true, c.len.ensures) in
-    rw c.null.ensures (c.loop-line.invariant.held _ c.write.new.service
+    c.loop-line.invariant.held _ c.write.new.service
     (ends_at g.S.Service.answers c.records_follow.ensures c.args.output.unit c.args.output.format is c.args.text.now c.args.state.now c.loop-line.from c.characters-characters.result c.in_ok-line.line c.in_ok-write.field-0
-    c.loop-line.service c.write.new.service said.value c.in_ok-line.ensures.laid_out c.in_ok-write.ensures.held c.in-Done.is last))
+    c.loop-line.service c.write.new.service said.value c.in_ok-line.ensures.laid_out c.in_ok-write.ensures.held c.in-Done.is last)
 
 pub loop-line-preserved : goal.loop-line-preserved
 loop-line-preserved g c =
