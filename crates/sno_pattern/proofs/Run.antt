@@ -10,14 +10,14 @@ use Rattle.sno_pattern.specs.declared.ending.Pending.{Pending}
 use Rattle.sno_pattern.specs.declared.ending.MatchEnd.{MatchEnd}
 use Rattle.sno_pattern.specs.declared.ending.MatchEnd.TheVariants as end
 use Rattle.sno_pattern.specs.Looks.{Look, Told, Fits}
-use Rattle.sno_pattern.specs.Steps.{Meet, End, Success, Failure, Outcome, Trying, outcome, Finish, settle, from_starts, match_of}
+use Rattle.sno_pattern.specs.Steps.{Goal, Meet, End, Success, Failure, Outcome, Trying, row, outcome, Finish, settle, from_starts, match_of}
 use Rattle.sno_pattern.specs.declared.choice_points.Turn.{Turn}
 use Rattle.sno_pattern.specs.declared.choice_points.Turn.TheVariants.{Go, Stay}
 use Rattle.sno_pattern.specs.declared.choice_points.Ended.{Ended}
 use Rattle.sno_pattern.specs.inner.Running.{finishing}
-use Rattle.sno_pattern.specs.inner.Stack.{Ahead, waiting_of, end_of, resume, turned, Moved}
+use Rattle.sno_pattern.specs.inner.Stack.{Ahead, Choice, waiting_of, end_of, resume, turned, Entering, Moved}
 use Rattle.sno_pattern.proofs.Table.{none_left}
-use Rattle.sno_pattern.proofs.Pushing.{resume_last}
+use Rattle.sno_pattern.proofs.Pushing.{resume_last, moved_as, cut_as}
 
 -- what holds in any case holds on an error
 pub err_holds : {T E P : Type 0} (r : Result T E) → P → OnErr r P
@@ -58,6 +58,36 @@ module _ {S : Type 0} (tells : S → Look → Told → S → Type 0) (broken : S
       k.held o t (subst (λ (z : Trying). RunsTo tells Fits z t o t)
       (sym (ap (λ gs. resume text now.opens (outcome text gs c p n)) e
       ∙ ap (resume text now.opens) (none_left text c p n) ∙ resume_last text now.opens (Success c p) n tt)) (refl, refl))
+
+-- the same over choices that were open before: whatever the turn comes out as, an attempt with those comes out as
+module _ {S : Type 0} (tells : S → Look → Told → S → Type 0) (broken : S → Look → S → Type 0) (text : List ℕ) (s : S) (old : List Choice)
+    (whole : Trying) (limit : ℕ) where
+  abbrev pub Since : S → Turn → Ahead → ℕ → Type 0
+  Since t turn now n = Moved tells broken text s old whole limit t turn now n
+
+  module _ (t : S) (turn : Turn) (now : Ahead) (n : ℕ) (k : Since t turn now n) where
+    pub since_turn : {u : S} {next : Turn} {new : Ahead} {m : ℕ} → Moved tells broken text t now.opens (turned text now turn n) n u next new m
+        → Since u next new m
+    since_turn d = record {
+      held = λ b v x. k.held b v (d.held b v x);
+      cut = λ v x. k.cut v (d.cut v x);
+      fewer = (let f = d.fewer in let g = k.fewer in omega arith);
+      all = d.all;
+      here = d.here;
+    }
+
+    pub since_cut : StopsIn tells Fits broken (resume text old whole) s t
+    since_cut = k.cut t (cut_here tells Fits broken (resume text now.opens (turned text now turn n)) t)
+
+    -- a part was gone down to, and met as it comes to
+    module _ {p : Pattern} {r : List Goal} {c : ℕ} {w : List Pending} {new : List Choice} {m : ℕ}
+        (i : Entering text now.opens (turned text now turn n) n p r c w new m) (t' : Trying) (same : row text (outcome text) (Meet p) r c w m ≡ t') where
+      pub since_part : {u : S} {next : Turn} {newer : Ahead} {j : ℕ} → Moved tells broken text t new t' m u next newer j → Since u next newer j
+      since_part d = since_turn (moved_as tells broken text t now.opens (turned text now turn n) n t' new m (i.comes ∙ ap (resume text new) same)
+          (let f = i.fewer in omega arith) d)
+
+      pub since_breaks : (u : S) → StopsIn tells Fits broken (resume text new t') t u → StopsIn tells Fits broken (resume text old whole) s u
+      since_breaks u d = k.cut u (cut_as tells broken text t now.opens (turned text now turn n) n t' new u (i.comes ∙ ap (resume text new) same) d)
 
 -- so far: whatever the starts that are left come to, the match comes to
 pub record Came {S : Type 0} (tells : S → Look → Told → S → Type 0) (broken : S → Look → S → Type 0) (text : List ℕ) (a : Pattern) (s : S)

@@ -7,6 +7,7 @@ ghost use Rattle.sno_text.specs.inner.Reaching.{reached};
 ghost use Rattle.sno_text.specs.declared.reach.Reach.TheVariants.{Nowhere};
 ghost use Rattle.sno_pattern.specs.declared.ending.Pending.{Pending as Waits};
 ghost use Rattle.sno_pattern.specs.Steps.{Goal as Aim, Meet, Failure, ends, at_each, outcome};
+ghost use Rattle.sno_pattern.specs.declared.choice_points.Turn.TheVariants.{Go};
 ghost use Rattle.sno_pattern.specs.inner.Stack.{waiting_of, AllWithin, Led};
 
 use crate::trail::{Kind, Role, Trail};
@@ -95,43 +96,44 @@ fn skip(text: &[u8], trail: &Trail, from: usize, left: &mut u64) -> usize
     }
 }
 
-/// The goals ahead from a cursor, and where they fail from each later one.
+/// From which cursor the goals ahead are tried, and where they fail from each later one. It stays a call, and tells a number, which
+/// takes no room in its caller's frame.
 #[inline(never)]
 pub(crate) fn each(
     text: &[u8],
     from: usize,
     trail: &mut Trail,
     left: &mut u64,
-) -> Result<Turn, AllocError>
+) -> Result<usize, AllocError>
     requires cursor { from ≤ length text.now }
     requires all { AllWithin (length text.now) trail.old.opens }
-    ensures { IfOk result (λ turn. Led text.now trail.old.opens (at_each (outcome text.now) trail.old.goals (range_with_len from (length text.now + 1 - from)) (waiting_of text.now trail.old.waits) left.old) left.old turn trail.new left.new) }
+    ensures { IfOk result (λ place. Led text.now trail.old.opens (at_each (outcome text.now) trail.old.goals (range_with_len from (length text.now + 1 - from)) (waiting_of text.now trail.old.waits) left.old) left.old (Go place) trail.new left.new) }
 {
     let at = skip(text, trail, from, left);
     if at >= text.len() {
-        return Ok(Turn::Go(at));
+        return Ok(at);
     }
     trail.leave(Kind::Each, at + 1)?;
-    Ok(Turn::Go(at))
+    Ok(at)
 }
 
-/// The goals ahead from a cursor, and where they fail from each later one before which parentheses are in pairs.
+/// The same, where they fail from each later one before which parentheses are in pairs.
 #[inline(never)]
 pub(crate) fn balanced(
     text: &[u8],
     at: usize,
     trail: &mut Trail,
     left: u64,
-) -> Result<Turn, AllocError>
+) -> Result<usize, AllocError>
     requires cursor { at ≤ length text.now }
     requires all { AllWithin (length text.now) trail.old.opens }
-    ensures { IfOk result (λ turn. Led text.now trail.old.opens (at_each (outcome text.now) trail.old.goals (at ∷ balanced_ends text.now at) (waiting_of text.now trail.old.waits) left) left turn trail.new left) }
+    ensures { IfOk result (λ place. Led text.now trail.old.opens (at_each (outcome text.now) trail.old.goals (at ∷ balanced_ends text.now at) (waiting_of text.now trail.old.waits) left) left (Go place) trail.new left) }
 {
     match next_balanced(text, at) {
-        None => Ok(Turn::Go(at)),
+        None => Ok(at),
         Some(next) => {
             trail.leave(Kind::Balanced, next)?;
-            Ok(Turn::Go(at))
+            Ok(at)
         }
     }
 }
@@ -146,8 +148,8 @@ pub(crate) fn back(text: &[u8], trail: &mut Trail, left: &mut u64) -> Result<Tur
         None => Ok(Turn::Stay(Ended::Failure)),
         Some((kind, at)) => match kind {
             Kind::Second(node) => Ok(Turn::Meet(node, at)),
-            Kind::Each => each(text, at, trail, left),
-            Kind::Balanced => balanced(text, at, trail, *left),
+            Kind::Each => Ok(Turn::Go(each(text, at, trail, left)?)),
+            Kind::Balanced => Ok(Turn::Go(balanced(text, at, trail, *left)?)),
             Kind::Whole => Ok(Turn::Stay(Ended::WholeFails)),
         },
     }

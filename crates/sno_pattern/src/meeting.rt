@@ -4,19 +4,20 @@ ghost use Rattle.std.specs.Option.{MatchOption};
 ghost use Rattle.interaction.specs.Holding.{StopsIn};
 ghost use Rattle.sno_text.specs.Nodes.{pattern_of};
 ghost use Rattle.sno_pattern.specs.declared.choice_points.Ended.TheVariants.{OutOfSteps};
+ghost use Rattle.sno_pattern.specs.declared.host.Taken.TheVariants.{Cursor};
 ghost use Rattle.sno_pattern.specs.declared.choice_points.Turn.TheVariants.{Stay};
 ghost use Rattle.sno_pattern.specs.Looks.{Fits};
 ghost use Rattle.sno_pattern.specs.Steps.{Meet, outcome};
-ghost use Rattle.sno_pattern.specs.inner.Meeting.{IsEntered};
-ghost use Rattle.sno_pattern.specs.inner.Stack.{Second, goal_as, waiting_of, AllWithin, Entering, Led, Moved, resume, rank};
+ghost use Rattle.sno_pattern.specs.inner.Meeting.{pattern_met, IsPlain};
+ghost use Rattle.sno_pattern.specs.inner.Stack.{Second, goal_as, waiting_of, AllWithin, Entering, Led, Moved, resume, rank, assigning};
 
 use crate::choice_points::{Ended, Turn};
 use crate::consuming::{assigned, looked};
 use crate::host::{MatchHost, Taken};
 use crate::steps::plain;
 use crate::trail::{Goal, Kind, Role, Trail, fits};
-use sno_text::Node;
 use sno_text::reach::{Reach, misses, reached};
+use sno_text::{Named, Node, Text};
 use std::alloc::{AllocError, Global};
 use std::rc::Rc;
 
@@ -38,6 +39,15 @@ fn leave(other: &Rc<Node>, at: usize, trail: &mut Trail) -> Result<(), AllocErro
     Ok(trail.leave(Kind::Second(node), at)?)
 }
 
+/// A part that has no parts, told apart where it is found: one that asks the host what its variable is, one that has the cursor
+/// assigned, or another.
+#[derive(Clone, Copy)]
+pub(crate) enum Part<'a> {
+    Defer(&'a Named),
+    Cursor(&'a Text),
+    Plain(&'a Rc<Node>),
+}
+
 /// Goes down to the part of a pattern that is met first and has no parts, and takes the steps on the way; not where they end.
 fn descend<'a>(
     text: &[u8],
@@ -45,10 +55,10 @@ fn descend<'a>(
     from: usize,
     trail: &mut Trail,
     left: &mut u64,
-) -> Result<Option<(&'a Rc<Node>, usize)>, AllocError>
+) -> Result<Option<(Part<'a>, usize)>, AllocError>
     requires cursor { from ≤ length text.now }
     requires all { AllWithin (length text.now) trail.old.opens }
-    ensures { IfOk result (λ found. MatchOption found (Led text.now trail.old.opens (outcome text.now (Meet (pattern_of pattern.now.value) ∷ trail.old.goals) from (waiting_of text.now trail.old.waits) left.old) left.old (Stay OutOfSteps) trail.new left.new) (λ part. Entering text.now trail.old.opens (outcome text.now (Meet (pattern_of pattern.now.value) ∷ trail.old.goals) from (waiting_of text.now trail.old.waits) left.old) left.old (pattern_of part.0.now.value) trail.new.goals part.1 (waiting_of text.now trail.new.waits) trail.new.opens left.new × (IsEntered (pattern_of part.0.now.value) → ⊥))) }
+    ensures { IfOk result (λ found. MatchOption found (Led text.now trail.old.opens (outcome text.now (Meet (pattern_of pattern.now.value) ∷ trail.old.goals) from (waiting_of text.now trail.old.waits) left.old) left.old (Stay OutOfSteps) trail.new left.new) (λ part. Entering text.now trail.old.opens (outcome text.now (Meet (pattern_of pattern.now.value) ∷ trail.old.goals) from (waiting_of text.now trail.old.waits) left.old) left.old (pattern_met part.0) trail.new.goals part.1 (waiting_of text.now trail.new.waits) trail.new.opens left.new × IsPlain part.0)) }
 {
     let mut node = pattern;
     let mut at = from;
@@ -89,49 +99,72 @@ fn descend<'a>(
                 put(Role::EndImmediate(at as u32), node, trail)?;
                 node = p;
             }
-            _ => return Ok(Some((node, at))),
+            Node::Defer(variable) => return Ok(Some((Part::Defer(variable), at))),
+            Node::Cursor(variable) => return Ok(Some((Part::Cursor(variable), at))),
+            _ => return Ok(Some((Part::Plain(node), at))),
         }
     }
     Ok(None)
 }
 
-/// Meets a pattern, with the goals ahead behind it.
-pub(crate) fn meet<H: MatchHost>(
-    alloc: Global,
+/// Asks for the assignment of a cursor.
+fn assign_cursor<H: MatchHost>(
     text: &[u8],
-    pattern: &Rc<Node>,
-    from: usize,
+    variable: &Text,
+    at: usize,
     trail: &mut Trail,
     left: &mut u64,
     host: &mut H,
 ) -> Result<Turn, AllocError>
     requires ready { H.ready host.old }
-    requires cursor { from ≤ length text.now }
+    requires cursor { at ≤ length text.now }
     requires all { AllWithin (length text.now) trail.old.opens }
-    ensures moved { IfOk result (λ turn. Moved H.tells H.broken text.now host.old trail.old.opens (outcome text.now (Meet (pattern_of pattern.now.value) ∷ trail.old.goals) from (waiting_of text.now trail.old.waits) left.old) left.old host.new turn trail.new left.new) }
-    ensures falls { IfOk result (λ turn. rank turn left.new < 3 * left.old + 1) }
-    ensures cut { OnErr result (StopsIn H.tells Fits H.broken (resume text.now trail.old.opens (outcome text.now (Meet (pattern_of pattern.now.value) ∷ trail.old.goals) from (waiting_of text.now trail.old.waits) left.old)) host.old host.new) }
+    ensures moved { IfOk result (λ turn. Moved H.tells H.broken text.now host.old trail.old.opens (assigning text.now variable.now (Cursor at) trail.old.goals at (waiting_of text.now trail.old.waits) left.old) left.old host.new turn trail.new left.new) }
+    ensures cut { OnErr result (StopsIn H.tells Fits H.broken (resume text.now trail.old.opens (assigning text.now variable.now (Cursor at) trail.old.goals at (waiting_of text.now trail.old.waits) left.old)) host.old host.new) }
     ensures ready { H.ready host.new }
 {
-    let Some((node, at)) = descend(text, pattern, from, trail, left)? else {
-        return Ok(Turn::Stay(Ended::OutOfSteps));
-    };
-    let top: &Node = node;
-    match top {
-        Node::Defer(variable) => match looked(alloc, text, variable, at, trail, left, host) {
-            Ok(turn) => Ok(turn),
-            Err(e) => Err(e),
-        },
-        Node::Cursor(variable) => {
-            let taken = Taken::Cursor(at as u64);
-            match assigned(text, variable, taken, at, trail, left, host) {
-                Ok(turn) => Ok(turn),
-                Err(e) => Err(e),
-            }
-        }
-        _ => match plain(text, node, at, trail, left) {
-            Ok(turn) => Ok(turn),
-            Err(e) => Err(e),
-        },
+    let taken = Taken::Cursor(at as u64);
+    match assigned(text, variable, taken, at, trail, left, host) {
+        Ok(turn) => Ok(turn),
+        Err(e) => Err(e),
     }
+}
+
+/// Meets a pattern, and then what its variable stands for as long as that is met next, with the goals ahead behind it. So a
+/// pattern that begins with itself is met again and again in one loop.
+pub(crate) fn meet<H: MatchHost>(
+    alloc: Global,
+    text: &[u8],
+    pattern: Rc<Node>,
+    start: usize,
+    trail: &mut Trail,
+    left: &mut u64,
+    host: &mut H,
+) -> Result<Turn, AllocError>
+    requires ready { H.ready host.old }
+    requires cursor { start ≤ length text.now }
+    requires all { AllWithin (length text.now) trail.old.opens }
+    ensures moved { IfOk result (λ turn. Moved H.tells H.broken text.now host.old trail.old.opens (outcome text.now (Meet (pattern_of pattern.value) ∷ trail.old.goals) start (waiting_of text.now trail.old.waits) left.old) left.old host.new turn trail.new left.new) }
+    ensures falls { IfOk result (λ turn. rank turn left.new < 3 * left.old + 1) }
+    ensures cut { OnErr result (StopsIn H.tells Fits H.broken (resume text.now trail.old.opens (outcome text.now (Meet (pattern_of pattern.value) ∷ trail.old.goals) start (waiting_of text.now trail.old.waits) left.old)) host.old host.new) }
+    ensures ready { H.ready host.new }
+{
+    let mut node = pattern;
+    let mut from = start;
+    while let Some((part, at)) = descend(text, &node, from, trail, left)? {
+        match part {
+            Part::Defer(variable) => match looked(alloc, text, variable, at, trail, left, host)? {
+                Turn::Meet(next, place) => {
+                    node = next;
+                    from = place;
+                }
+                turn => return Ok(turn),
+            },
+            Part::Cursor(variable) => {
+                return Ok(assign_cursor(text, variable, at, trail, left, host)?);
+            }
+            Part::Plain(node) => return Ok(plain(text, node, at, trail, left)?),
+        }
+    }
+    Ok(Turn::Stay(Ended::OutOfSteps))
 }

@@ -46,7 +46,7 @@ pub(crate) fn run<H: MatchHost>(
     loop {
         match turn {
             Turn::Meet(node, at) => {
-                turn = meet(alloc, text, &node, at, trail, &mut left, host)?;
+                turn = meet(alloc, text, node, at, trail, &mut left, host)?;
             }
             Turn::Go(at) => match trail.next()? {
                 None => return Ok(Attempt { out: Ok(at), left }),

@@ -69,9 +69,9 @@ fn parted(
 {
     let top: &Node = node;
     match top {
-        Node::Arb => each(text, at, trail, left),
+        Node::Arb => Ok(Turn::Go(each(text, at, trail, left)?)),
         Node::Bal => match next_balanced(text, at) {
-            Some(next) => balanced(text, next, trail, *left),
+            Some(next) => Ok(Turn::Go(balanced(text, next, trail, *left)?)),
             None => back(text, trail, left),
         },
         Node::Arbno(_, p) => one_more(text, p, at, trail, *left),

@@ -2,6 +2,9 @@
 use Rattle.std.specs.Prelude.{Option, Some, None}
 use Rattle.sno_text.specs.Patterns.{Pattern}
 use Rattle.sno_text.specs.Patterns as pattern
+use Rattle.sno_text.specs.Nodes.{pattern_of}
+use Rattle.sno_pattern.specs.declared.meeting.Part.{Part}
+use Rattle.sno_pattern.specs.declared.meeting.Part.TheVariants as part
 
 -- a pattern that asks the host nothing when it is taken
 abbrev pub IsQuiet : Pattern → Type 0
@@ -33,3 +36,14 @@ first_part (pattern.Cat a b) = Some a
 first_part (pattern.Conditional a v) = Some a
 first_part (pattern.Immediate a v) = Some a
 first_part _ = None
+
+-- a part that was told apart, as the pattern that it is
+abbrev pub pattern_met : Part → Pattern
+pattern_met (part.Defer v) = pattern.Defer v.now
+pattern_met (part.Cursor v) = pattern.Cursor v.now
+pattern_met (part.Plain node) = pattern_of node.now.value
+
+-- one that is neither of the others asks nothing, and none of its parts is met at once
+abbrev pub IsPlain : Part → Type 0
+IsPlain (part.Plain node) = IsQuiet (pattern_of node.now.value) × (IsEntered (pattern_of node.now.value) → ⊥)
+IsPlain _ = Unit {0}

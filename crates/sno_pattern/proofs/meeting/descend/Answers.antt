@@ -92,6 +92,28 @@ loop-left-preserved c =
     rw (c.in_ok-put-in-Immediate.ensures, sym c.deref-top.ensures ∙ c.in-Immediate.is)
     (immediate_met i (pattern_of c.in-Immediate.p.value) c.in-Immediate.field-2 (ap pattern_of (sym c.deref-top.ensures ∙ c.in-Immediate.is)))
 
+pub returns-in-Defer : goal.returns-in-Defer
+returns-in-Defer c =
+    let text = c.args.text.now in
+    let t0 =
+    outcome text (Meet (pattern_of c.args.pattern.now.value) ∷ c.args.trail.now.goals) c.args.from
+    (waiting_of text c.args.trail.now.waits) c.args.left.now in
+    let k = c.loop-left in
+    let i = pays text c.args.trail.now.opens t0 c.args.left.now (pattern_of k.node.now.value) k.trail.goals k.at
+    (waiting_of text k.trail.waits) k.trail.opens k.left c.loop-left-test.true k.invariant in
+    (rw (ap pattern_of (sym c.deref-top.ensures ∙ c.in-Defer.is)) at i, tt)
+
+pub returns-in-Cursor : goal.returns-in-Cursor
+returns-in-Cursor c =
+    let text = c.args.text.now in
+    let t0 =
+    outcome text (Meet (pattern_of c.args.pattern.now.value) ∷ c.args.trail.now.goals) c.args.from
+    (waiting_of text c.args.trail.now.waits) c.args.left.now in
+    let k = c.loop-left in
+    let i = pays text c.args.trail.now.opens t0 c.args.left.now (pattern_of k.node.now.value) k.trail.goals k.at
+    (waiting_of text k.trail.waits) k.trail.opens k.left c.loop-left-test.true k.invariant in
+    (rw (ap pattern_of (sym c.deref-top.ensures ∙ c.in-Cursor.is)) at i, tt)
+
 pub returns-in_default : goal.returns-in_default
 returns-in_default c =
     let text = c.args.text.now in
@@ -101,7 +123,7 @@ returns-in_default c =
     let k = c.loop-left in
     let i = pays text c.args.trail.now.opens t0 c.args.left.now (pattern_of k.node.now.value) k.trail.goals k.at
     (waiting_of text k.trail.waits) k.trail.opens k.left c.loop-left-test.true k.invariant in
-    (i, search rules)
+    (i, (search rules, search rules))
 
 pub returns : goal.returns
 returns c =

@@ -3,17 +3,17 @@ use Rattle.std.proofs.lemmas.Result.{IfOk-weaker}
 use Rattle.sno_pattern.proofs.Pushing.{arb, bal, fence, aborts}
 use Rattle.sno_pattern.proofs.steps.parted.Goals as goal
 
-pub returns-in-Arb : goal.returns-in-Arb
-returns-in-Arb c =
+pub returns-in_ok-each-in-Arb : goal.returns-in_ok-each-in-Arb
+returns-in_ok-each-in-Arb c =
     let a = c.args.trail.now in
-    rw (sym c.deref-top.ensures ∙ c.in-Arb.is) (IfOk-weaker _ _ _
-    (λ t b. arb c.args.text.now a.goals c.args.at a.waits a.opens c.requires.all c.args.left.now b) c.each.ensures)
+    rw (sym c.deref-top.ensures ∙ c.in-Arb.is) (arb c.args.text.now a.goals c.args.at a.waits a.opens c.requires.all c.args.left.now
+    c.in_ok-each-in-Arb.ensures)
 
-pub returns-in-Some : goal.returns-in-Some
-returns-in-Some c =
+pub returns-in_ok-balanced-in-Some : goal.returns-in_ok-balanced-in-Some
+returns-in_ok-balanced-in-Some c =
     let a = c.args.trail.now in
-    rw (sym c.deref-top.ensures ∙ c.in-Bal.is) (IfOk-weaker _ _ _
-    (λ t b. bal c.args.text.now a.goals c.args.at a.waits a.opens c.requires.all c.args.left.now _ c.in-Some.ensures.next b) c.balanced.ensures)
+    rw (sym c.deref-top.ensures ∙ c.in-Bal.is) (bal c.args.text.now a.goals c.args.at a.waits a.opens c.requires.all c.args.left.now _
+    c.in-Some.ensures.next c.in_ok-balanced-in-Some.ensures)
 
 pub returns-in-None : goal.returns-in-None
 returns-in-None c =
