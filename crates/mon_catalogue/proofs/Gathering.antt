@@ -1,7 +1,9 @@
 -- Lines that are gathered before they are put.
-use Rattle.std.proofs.Common.{◌≡◌, ◌∙◌, ap, sym, ℕ, ◌+◌, ◌-◌, ◌<◌, ◌≤◌, List, [], ◌∷◌, ◌++◌, length, take, get_or, append_assoc, append-nil, arith}
+use Rattle.std.proofs.Common.{◌≡◌, ◌∙◌, ap, sym, ℕ, ◌+◌, ◌-◌, ◌<◌, ◌≤◌, List, [], ◌∷◌, ◌++◌, length, take, drop, get_or, append_assoc, append-nil, arith}
+use Rattle.std.specs.Prelude.{slice_set}
 use Rattle.std.specs.List.{flat_map, slice_range}
-use Rattle.std.proofs.lemmas.List.{take_all, take_more}
+use Rattle.std.proofs.lemmas.List.{length-append, length-drop, length-take-le, take_all, take_more, take_more_set, take-append-le, take-take}
+use Rattle.std.proofs.Math.Seq.{take-append-add}
 use Rattle.std.proofs.lemmas.List.Concat.{flat_map-append}
 use lib.Seq.{take-add}
 use Rattle.mon_device.specs.Putting.{Standing, Puts}
@@ -42,3 +44,29 @@ pub all_gathered : (before : List ℕ) (lines : List (List ℕ)) (i : ℕ) (had 
 all_gathered before lines i had a b c whole so_far last =
     let f = λ (l : List ℕ). before ++ l ++ 10 ∷ [] in
     puts_same a c (so_far.0 ++ had) (flat_map f lines) (so_far.2 ∙ ap (flat_map f) (take_all i lines whole)) (puts_then a b c so_far.0 had so_far.1 last)
+
+-- a byte is set, and a block laid behind it: of the block so much as is wanted
+pub block_laid : (room block place more rest : List ℕ) (at byte count : ℕ) → at < length room → count ≤ length block → place ≡ block ++ more
+    → take (at + 1 + count) (take (at + 1) (slice_set room at byte) ++ (place ++ rest)) ≡ take at room ++ ((byte ∷ []) ++ take count block)
+block_laid room block place more rest at byte count inside enough is =
+    let had = take at room ++ byte ∷ [] in
+    let long : length had ≡ at + 1 = length-append (take at room) (byte ∷ []) ∙ ap (λ (n : ℕ). n + 1) (length-take-le at room (omega (arith, inside))) in
+    let laid : place ++ rest ≡ block ++ (more ++ rest) = ap (λ (v : List ℕ). v ++ rest) is ∙ append_assoc block more rest in
+    ap (λ (v : List ℕ). take (at + 1 + count) (v ++ (place ++ rest))) (take_more_set room at byte inside) ∙ ap (λ (v : List ℕ). take (at + 1 + count) (had ++ v)) laid
+    ∙ ap (λ (n : ℕ). take (n + count) (had ++ (block ++ (more ++ rest)))) (sym long)
+    ∙ take-append-add had (block ++ (more ++ rest)) count ∙ ap (λ (v : List ℕ). had ++ v) (take-append-le count block (more ++ rest) enough) ∙ append_assoc (take at room) (byte ∷ []) (take count block)
+
+-- of a block that something begins with so much as is wanted
+pub block_begins : (had has block rest : List ℕ) (byte count : ℕ) → count ≤ 128 → block ≡ take 128 rest → has ≡ had ++ ((byte ∷ []) ++ take count block)
+    → has ≡ had ++ ((byte ∷ []) ++ take count rest)
+block_begins had has block rest byte count short same is =
+    is ∙ ap (λ (v : List ℕ). had ++ ((byte ∷ []) ++ v)) (ap (take count) same ∙ take-take count 128 rest short)
+
+-- a line stands at the begin of what there is from it on
+pub line_begins : (text : List ℕ) (start end : ℕ) → end ≤ length text → take (end - start) (slice_range text start (length text)) ≡ slice_range text start end
+line_begins text start end within = take-take (end - start) (length text - start) (drop start text) (omega (arith, within))
+
+pub line_fits : (text : List ℕ) (start end : ℕ) → start ≤ end → end ≤ length text → end - start ≤ length (slice_range text start (length text))
+line_fits text start end onward within =
+    let left = length-drop start text in
+    omega (arith, onward, within, left, length-take-le (length text - start) (drop start text) (omega (arith, left)))

@@ -1,5 +1,5 @@
 //! Lines one behind the other.
-ghost use Rattle.std.specs.Prelude.{◌≡◌, ◌==◌, ◌+◌, ◌<◌, ◌≤◌, [], ◌∷◌, ◌++◌, length, take, slice_get, slice_index_or, vec_len, vec_capacity, IfSome, OnOk, OnErr};
+ghost use Rattle.std.specs.Prelude.{◌≡◌, ℕ, ◌==◌, ◌+◌, ◌<◌, ◌≤◌, [], ◌∷◌, ◌++◌, length, take, drop, slice_get, slice_index_or, vec_len, vec_capacity, IfSome, OnOk, OnErr};
 ghost use Rattle.std.specs.List.{AllByRecursion, concat, flat_map};
 ghost use Rattle.std.specs.Option.{option_map};
 ghost use Rattle.mon_device.specs.Putting.{Puts};
@@ -21,6 +21,9 @@ const PIECE: usize = 2_048;
 
 // How many bytes are gathered where something stands before each line.
 const GATHERED: usize = 4_096;
+
+// How many bytes are copied at once where a line has no more: such a number takes no call and no loop.
+const WIDE: usize = 128;
 
 // From how many lines on it is worth the room to gather them.
 const MANY: usize = 16;
@@ -133,12 +136,10 @@ impl PackedLines {
     pub fn print<S: Sink>(&self, before: &[u8], sink: &mut S)
         ensures { Puts (S.standing sink.old) (S.standing sink.new) (flat_map (λ line. before.now ++ line ++ 10 ∷ []) self.now) }
     {
-        if before.is_empty() {
-            self.print_whole(sink);
-        } else if self.len() < MANY {
-            self.print_each(before, sink);
-        } else {
-            self.print_gathered(before, sink);
+        match before {
+            [] => self.print_whole(sink),
+            [byte] if self.len() >= MANY => self.print_gathered(*byte, sink),
+            _ => self.print_each(before, sink),
         }
     }
 
@@ -165,15 +166,17 @@ impl PackedLines {
 
     // The same, by as many lines at once as can be gathered. It stays a call of its own, since its room is cleared on entry.
     #[inline(never)]
-    fn print_gathered<S: Sink>(&self, before: &[u8], sink: &mut S)
-        ensures { Puts (S.standing sink.old) (S.standing sink.new) (flat_map (λ line. before.now ++ line ++ 10 ∷ []) self.now) }
+    fn print_gathered<S: Sink>(&self, before: u8, sink: &mut S)
+        ensures { Puts (S.standing sink.old) (S.standing sink.new) (flat_map (λ line. (before ∷ []) ++ line ++ 10 ∷ []) self.now) }
     {
         let mut room = [0; GATHERED];
         let mut filled = 0;
         let mut start = 0;
+        let bytes = self.bytes.as_slice();
         for end in &self.ends {
             let end = *end as usize;
-            filled = put_behind(&mut room, filled, before, &self.bytes[start..end], sink);
+            let rest = &bytes[start..];
+            filled = put_next(&mut room, filled, before, rest, end - start, sink);
             start = end;
         }
         sink.put(&room[..filled]);
@@ -263,8 +266,56 @@ fn take_room(bytes: &mut Vec<u8>, room: usize) -> Result<(), AllocError>
     }
 }
 
-// Gathers one more line behind what is gathered, and puts what it had no room for: how much is gathered then.
+// Gathers the first of the lines that are left, which has `count` bytes, and puts what it had no room for: how much is gathered then.
+//
+// A short line is copied with what follows it, by a length that is known: what is too much is overwritten by the next line, or not put.
 #[inline(always)]
+fn put_next<S: Sink>(
+    room: &mut [u8; GATHERED],
+    filled: usize,
+    before: u8,
+    rest: &[u8],
+    count: usize,
+    sink: &mut S,
+) -> usize
+    requires filled { filled ≤ GATHERED }
+    requires within { count ≤ length rest.now }
+    ensures within { result ≤ GATHERED }
+    ensures put { PutsBut (S.standing sink.old) (S.standing sink.new) (take result room.new) (take filled room.old ++ ((before ∷ []) ++ take count rest.now)) }
+{
+    if count <= WIDE && filled < GATHERED - WIDE {
+        if let Some(block) = rest.first_chunk::<WIDE>() {
+            gather_block(room, filled, before, block);
+            return filled + 1 + count;
+        }
+    }
+    put_behind(room, filled, &[before], &rest[..count], sink)
+}
+
+// Puts a byte and a block behind it into the room.
+#[inline(always)]
+fn gather_block(room: &mut [u8; GATHERED], filled: usize, before: u8, block: &[u8; WIDE])
+    requires { filled + WIDE < GATHERED }
+    ensures { (count : ℕ) → count ≤ WIDE → take (filled + 1 + count) room.new ≡ take filled room.old ++ ((before ∷ []) ++ take count block.now) }
+{
+    room[filled] = before;
+    lay(&mut room[filled + 1..], block);
+}
+
+// Puts a block at the begin of a place that has room for it.
+#[inline(always)]
+fn lay(place: &mut [u8], block: &[u8; WIDE])
+    requires { WIDE ≤ length place.old }
+    ensures { place.new ≡ block.now ++ drop WIDE place.old }
+{
+    if let Some(begin) = place.first_chunk_mut::<WIDE>() {
+        *begin = *block;
+    }
+}
+
+// Gathers one more line behind what is gathered, and puts what it had no room for: how much is gathered then. It stays a call, since
+// most lines are short.
+#[inline(never)]
 fn put_behind<S: Sink>(
     room: &mut [u8; GATHERED],
     filled: usize,

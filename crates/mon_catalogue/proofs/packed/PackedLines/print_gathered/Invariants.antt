@@ -6,7 +6,7 @@ use Rattle.mon_catalogue.proofs.packed.PackedLines.print_gathered.Given as goal
 
 abbrev pub invariant-loop-end : goal.invariant-loop-end
 invariant-loop-end g l = record {
-  put : PutsBut (g.S.Sink.standing l.fn.sink) (g.S.Sink.standing l.sink) (take l.filled l.room) (flat_map (λ line. l.before ++ line ++ 10 ∷ []) (take l.end-index l.fn.self));
+  put : PutsBut (g.S.Sink.standing l.fn.sink) (g.S.Sink.standing l.sink) (take l.filled l.room) (flat_map (λ line. (l.before ∷ []) ++ line ++ 10 ∷ []) (take l.end-index l.fn.self));
   within : l.filled ≤ 4096;
   begins : l.start ≡ start_of l.end-index l.fn.self;
 }
