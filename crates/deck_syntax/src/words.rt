@@ -20,6 +20,9 @@ use std::marker::Model;
 /// How many characters a line has at the most outside the catalogue.
 pub const MOST_LINE_CHARACTERS: usize = 200;
 
+// How many characters are tested at once where a line has so many: such a number takes no loop.
+const BLOCK: usize = 32;
+
 // A line, read with at most `limit` characters. Memory is told only where it has no refusal.
 pub(crate) fn line_of(alloc: Global, text: &[u8], limit: usize) -> Result<Line, Stop<DeckError>>
     ensures answers { Answers (line_refusal limit text.now) result }
@@ -33,6 +36,7 @@ pub(crate) fn line_of(alloc: Global, text: &[u8], limit: usize) -> Result<Line, 
 }
 
 // Tests a line with at most `limit` characters.
+#[inline(always)]
 pub(crate) fn check_line(text: &[u8], limit: usize) -> Result<(), Stop<DeckError>>
     ensures answers { Answers (line_refusal limit text.now) result }
     ensures printable { OnOk result (IsLine text.now) }
@@ -58,7 +62,27 @@ pub fn line_refusal(text: &[u8], limit: usize) -> Option<DeckError>
     }
 }
 
+// The characters of a long line are tested by blocks, of which the last may have some that the one before it has.
+#[inline(always)]
 fn is_line(text: &[u8]) -> bool
+    ensures { result ≡ is_line text.now }
+{
+    if text.len() < BLOCK {
+        return are_printable(text);
+    }
+    let mut from = 0;
+    while from < text.len() - BLOCK {
+        if !are_printable(&text[from..from + BLOCK]) {
+            return false;
+        }
+        from += BLOCK;
+    }
+    are_printable(&text[text.len() - BLOCK..])
+}
+
+// Whether all of these characters are printable.
+#[inline(always)]
+fn are_printable(text: &[u8]) -> bool
     ensures { result ≡ is_line text.now }
 {
     let mut printable = true;
