@@ -136,10 +136,13 @@ impl PackedLines {
     pub fn print<S: Sink>(&self, before: &[u8], sink: &mut S)
         ensures { Puts (S.standing sink.old) (S.standing sink.new) (flat_map (λ line. before.now ++ line ++ 10 ∷ []) self.now) }
     {
-        match before {
-            [] => self.print_whole(sink),
-            [byte] if self.len() >= MANY => self.print_gathered(*byte, sink),
-            _ => self.print_each(before, sink),
+        if before.is_empty() {
+            self.print_whole(sink);
+        } else {
+            match only_byte(before) {
+                Some(byte) if self.len() >= MANY => self.print_gathered(byte, sink),
+                _ => self.print_each(before, sink),
+            }
         }
     }
 
@@ -229,6 +232,16 @@ impl PackedLines {
             self.bytes.truncate(start);
             self.ends.truncate(at);
         }
+    }
+}
+
+// The byte that bytes are, where they are one.
+fn only_byte(bytes: &[u8]) -> Option<u8>
+    ensures { IfSome result (λ byte. bytes.now ≡ byte ∷ []) }
+{
+    match bytes {
+        [byte] => Some(*byte),
+        _ => None,
     }
 }
 
