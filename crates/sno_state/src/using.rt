@@ -266,6 +266,7 @@ pub fn assigned_first<S: Service>(
 /// # Errors
 ///
 /// Where a growth was refused; some records may have been written then.
+#[inline(always)]
 #[tactic(auto, using(interaction::proofs::Held::talking, crate::proofs::OnVariable::assigned_on))]
 pub fn assigned<S: Service>(
     alloc: Global,
