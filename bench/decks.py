@@ -14,6 +14,7 @@ The cases, at their whole size (HALVES is 2, and 1 gives half of it):
   stream     one set of one record, and 1,000,000 $LIST cards of it
 
 decks.py sets SETS COMMANDS: so many sets as in `commands`, and so many commands but $CATALOG and $DELETE.
+decks.py drains JOBS: so many jobs of three statements, with $DRAIN behind each.
 decks.py programs STATEMENTS: no deck, but the cards of a SNOBOL4 program: so many statements of 1,000 tokens each.
 """
 
@@ -177,6 +178,14 @@ def some_sets(sets, commands):
     yield "$STOP"
 
 
+def drains(jobs):
+    """Small jobs, each run to its end before the next is loaded, as the texts of a site's round are."""
+    yield from ("$ACCOUNTS", "anna admin", "$CATALOGUE", "$STREAM")
+    for i in range(jobs):
+        yield from ("$JOB anna", "  N = %d" % i, "  M = N * 2 + 1", "  OUTPUT = N ' GIVES ' M", "END", "$EOJ", "$DRAIN")
+    yield "$STOP"
+
+
 PHRASE = "F(A,'B') + 1 * (C D)"  # 13 tokens
 
 
@@ -225,6 +234,8 @@ if __name__ == "__main__":
     words = sys.argv[1:]
     if len(words) == 3 and words[0] == "sets":
         write_lines(some_sets(int(words[1]), int(words[2])), sys.stdout)
+    elif len(words) == 2 and words[0] == "drains":
+        write_lines(drains(int(words[1])), sys.stdout)
     elif len(words) == 2 and words[0] == "programs":
         write_lines(program(int(words[1])), sys.stdout)
     elif len(words) in (1, 2) and words[0] in CASES:

@@ -5,7 +5,8 @@ ghost use Rattle.mon_catalogue.specs.Progress.{SetDue};
 ghost use Rattle.deck_syntax.specs.Decks.{Commands};
 ghost use Rattle.deck_syntax.specs.Requests.{opened, set_acl_of};
 ghost use Rattle.deck_syntax.specs.Sections.{Closed, InList, asked_then, stream_section, refused_on_line};
-ghost use Rattle.deck_syntax.specs.inner.Stops.{IfRefused};
+ghost use Rattle.deck_syntax.specs.Jobs.{job_line_refusal, ends_job, after_job_line};
+ghost use Rattle.deck_syntax.specs.inner.Stops.{Answers, IfRefused};
 ghost use Rattle.mon_monitor.specs.declared.monitor.Monitor.{Monitor as AnyMonitor};
 ghost use Rattle.deck_driver.specs.declared.section.Section.TheVariants as sections;
 ghost use Rattle.deck_driver.specs.declared.section.DeckState.TheVariants as states;
@@ -72,8 +73,11 @@ impl Section {
                 }
                 self.take_card(alloc, options, text, counts, out, audit)
             }
-            Section::List(_, list) => Ok(take_list_line(alloc, list, text)?),
-            Section::Job(_, job) => Ok(job.take_line(alloc, text)?),
+            Section::List(monitor, list) => {
+                monitor.give_way();
+                Ok(take_list_line(alloc, list, text)?)
+            }
+            Section::Job(monitor, job) => Ok(take_job_line(alloc, monitor, job, text)?),
         }
     }
 
@@ -242,4 +246,27 @@ fn take_list_line(alloc: Global, list: &mut OpenList, text: &[u8]) -> Result<boo
     }
     list.text.push_line(text)?;
     Ok(false)
+}
+
+// Takes a line where a job is open: whether it ends the job. Where a growth is refused, what is kept for cards gives way, and it is tried
+// once more.
+#[inline(always)]
+fn take_job_line(
+    alloc: Global,
+    monitor: &mut Monitor,
+    job: &mut OpenJob,
+    text: &[u8],
+) -> Result<bool, Stop<DeckError>>
+    ensures answers { Answers (job_line_refusal job.old text.now) result }
+    ensures ends { IfOk result (λ ends. ends ≡ ends_job text.now) }
+    ensures taken { IfOk result (λ ends. job.new ≡ (if ends then job.old else after_job_line job.old text.now)) }
+    ensures kept { monitor.new ≡ monitor.old }
+{
+    let answer = job.take_line(alloc, text);
+    if let Err(Stop::Memory) = answer {
+        if monitor.give_way() {
+            return job.take_line(alloc, text);
+        }
+    }
+    answer
 }

@@ -11,6 +11,7 @@
 #![tactic(auto)]
 
 pub mod auditing;
+mod card_reserve;
 pub mod holder;
 mod holding;
 pub mod job_end;

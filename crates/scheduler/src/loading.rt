@@ -12,6 +12,7 @@ ghost use Rattle.scheduler.specs.inner.Parts.{slot_by};
 ghost use Rattle.scheduler.specs.Memory.{DeckMayGrow};
 ghost use Rattle.scheduler.specs.inner.Spelling.{IsSpelled};
 
+use crate::card_reserve::CardReserve;
 use crate::refusal::LoadError;
 use crate::slot::Slot;
 use deck_syntax::{JobDeck, UnitCard, UnitCards};
@@ -164,13 +165,13 @@ fn slot_of_account(
     alloc: Global,
     seed: Seed,
     account: &Account,
-    deck: JobDeck,
+    deck: &JobDeck,
 ) -> Result<Slot, Stop<LoadError>>
-    requires { ties_refusal deck.ties (first_units deck.lines) ≡ None }
-    ensures slot { IfOk result (λ slot. slot_by deck (Some account.now) (program_in (statements_of deck.lines)) ≡ Some (slot_of slot)) }
-    ensures clean { OnOk result (program_refusal (statements_of deck.lines) ≡ None) }
-    ensures refused { IfErr result (IfRefused (λ refusal. program_refusal (statements_of deck.lines) ≡ Some refusal)) }
-    ensures memory { IsErrOf result Stop.Memory → IsOk (statements_of deck.lines) }
+    requires { ties_refusal deck.now.ties (first_units deck.now.lines) ≡ None }
+    ensures slot { IfOk result (λ slot. slot_by deck.now (Some account.now) (program_in (statements_of deck.now.lines)) ≡ Some (slot_of slot)) }
+    ensures clean { OnOk result (program_refusal (statements_of deck.now.lines) ≡ None) }
+    ensures refused { IfErr result (IfRefused (λ refusal. program_refusal (statements_of deck.now.lines) ≡ Some refusal)) }
+    ensures memory { IsErrOf result Stop.Memory → IsOk (statements_of deck.now.lines) }
 {
     let Parts { units, program } = parts_of(alloc, seed, &deck.lines, &deck.ties)?;
     let account = account.copy(alloc)?;
@@ -183,20 +184,43 @@ fn slot_of_account(
     })
 }
 
-// What a slot is to hold for the job.
+// What a slot is to hold for the job, in the memory that there is.
+fn slot_at_once(
+    alloc: Global,
+    seed: Seed,
+    accounts: &Accounts,
+    deck: &JobDeck,
+) -> Result<Slot, Stop<LoadError>>
+    ensures slot { IfOk result (λ slot. slot_in accounts.now deck.now ≡ Some (slot_of slot)) }
+    ensures clean { OnOk result (deck_refusal accounts.now deck.now ≡ None) }
+    ensures refused { IfErr result (IfRefused (λ refusal. deck_refusal accounts.now deck.now ≡ Some refusal)) }
+    ensures memory { IsErrOf result Stop.Memory → DeckMayGrow accounts.now deck.now }
+{
+    match account_of(accounts, deck) {
+        Ok(account) => slot_of_account(alloc, seed, account, deck),
+        Err(refusal) => Err(Stop::Refused(refusal)),
+    }
+}
+
+// What a slot is to hold for the job. Where a growth is refused, what is kept for cards gives way, and it is tried once more.
 pub(crate) fn slot_for(
     alloc: Global,
     seed: Seed,
     accounts: &Accounts,
-    deck: JobDeck,
+    deck: &JobDeck,
+    kept: &mut CardReserve,
 ) -> Result<Slot, Stop<LoadError>>
-    ensures slot { IfOk result (λ slot. slot_in accounts.now deck ≡ Some (slot_of slot)) }
-    ensures clean { OnOk result (deck_refusal accounts.now deck ≡ None) }
-    ensures refused { IfErr result (IfRefused (λ refusal. deck_refusal accounts.now deck ≡ Some refusal)) }
-    ensures memory { IsErrOf result Stop.Memory → DeckMayGrow accounts.now deck }
+    ensures slot { IfOk result (λ slot. slot_in accounts.now deck.now ≡ Some (slot_of slot)) }
+    ensures clean { OnOk result (deck_refusal accounts.now deck.now ≡ None) }
+    ensures refused { IfErr result (IfRefused (λ refusal. deck_refusal accounts.now deck.now ≡ Some refusal)) }
+    ensures memory { IsErrOf result Stop.Memory → DeckMayGrow accounts.now deck.now }
+    ensures kept { kept.new ≡ kept.old }
 {
-    match account_of(accounts, &deck) {
-        Ok(account) => slot_of_account(alloc, seed, account, deck),
-        Err(refusal) => Err(Stop::Refused(refusal)),
+    let slot = slot_at_once(alloc, seed, accounts, deck);
+    if let Err(Stop::Memory) = slot {
+        if kept.give_way() {
+            return slot_at_once(alloc, seed, accounts, deck);
+        }
     }
+    slot
 }

@@ -1,7 +1,7 @@
 //! Memory that is kept aside, so that one job that takes all the memory there is leaves some to others.
 //!
 //! Nothing touches it, so no page of it is used. Under a limit of the address space it is in nobody's hands until it is given up.
-ghost use Rattle.std.specs.Prelude.{◌≡◌, ◌≤◌, ◌/◌, true, false, max, vec_len, vec_capacity};
+ghost use Rattle.std.specs.Prelude.{◌≡◌, ◌⊎◌, ◌<◌, ◌≤◌, ◌/◌, ◌==◌, not, nat_le, true, false, max, vec_len, vec_capacity};
 
 use std::alloc::Global;
 
@@ -66,8 +66,18 @@ impl Reserve {
         }
     }
 
-    // Keeps what can be had: all, or half of it, and so on.
+    // Whether all of it is kept.
+    fn is_whole(&self) -> bool
+        ensures { result ≡ nat_le self.now.size (vec_capacity self.now.block) }
+    {
+        self.size as usize <= self.block.capacity()
+    }
+
+    // Keeps what can be had: all, or half of it, and so on. Where all is kept, it stays.
     pub(crate) fn take(&mut self, alloc: Global) {
+        if self.is_whole() {
+            return;
+        }
         for halvings in 0..HALVINGS {
             if self.keep(alloc, (self.size >> halvings) as usize) {
                 return;
@@ -75,12 +85,39 @@ impl Reserve {
         }
     }
 
-    // Keeps a little, if it can be had.
+    // Keeps a little, if it can be had. What is kept already stays.
     pub(crate) fn take_little(&mut self, alloc: Global)
         ensures at_most { vec_capacity self.new.block ≤ max (vec_capacity self.old.block) 98304 }
+        ensures stays { vec_capacity self.old.block ≤ vec_capacity self.new.block }
         ensures size { self.new.size ≡ self.old.size }
     {
-        self.keep(alloc, LITTLE);
+        if self.block.capacity() < LITTLE {
+            self.keep(alloc, LITTLE);
+        }
+    }
+
+    // Keeps all of it from now on, if all is kept and a little can be had beside it; else gives up all.
+    pub(crate) fn stay(&mut self, alloc: Global)
+        ensures stays { (self.new ≡ self.old) ⊎ (vec_capacity self.new.block ≡ 0) }
+        ensures whole { vec_capacity self.old.block < self.old.size → vec_capacity self.new.block ≡ 0 }
+        ensures size { self.new.size ≡ self.old.size }
+    {
+        if !self.is_whole() || !Reserve::of(alloc, 0).keep(alloc, LITTLE) {
+            self.give_up();
+        }
+    }
+
+    // Gives up all: whether there was any.
+    pub(crate) fn give_way(&mut self) -> bool
+        ensures told { result ≡ not (vec_capacity self.old.block == 0) }
+        ensures none { vec_capacity self.new.block ≡ 0 }
+        ensures size { self.new.size ≡ self.old.size }
+    {
+        if self.block.capacity() == 0 {
+            return false;
+        }
+        self.give_up();
+        true
     }
 
     // Keeps all again, where there is room for twice as much, so that others are left as much.

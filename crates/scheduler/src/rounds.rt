@@ -127,7 +127,7 @@ impl Slots {
         for number in order {
             self.turn_into(alloc, guard, catalogue, *number, &mut ends, audit);
         }
-        self.end_turns();
+        self.end_turns(alloc);
         Ok(ends)
     }
 
@@ -150,7 +150,7 @@ impl Slots {
     {
         self.begin_turns_of(alloc, slot, count);
         let end = self.turns_of_one(alloc, guard, catalogue, slot, count, audit);
-        self.end_turns();
+        self.end_turns(alloc);
         end
     }
 
@@ -333,7 +333,7 @@ impl Slots {
             self.some_rounds(alloc, guard, catalogue, goal, looks, &mut ends, audit);
             looks = ends.len() > ended;
         }
-        self.end_turns();
+        self.end_turns(alloc);
         Ok(ends)
     }
 

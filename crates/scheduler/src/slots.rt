@@ -1,8 +1,9 @@
 //! Slots.
-ghost use Rattle.std.specs.Prelude.{◌≡◌, ◌<◌, ◌≤◌, ◌+◌, ◌↔◌, IsTrue, length, Some, None, Ok, Err, IfOk, IfErr, IsErrOf, OnErr, IsSome, IfSome, position, is_some, is_none, replicate, vec_capacity};
+ghost use Rattle.std.specs.Prelude.{◌≡◌, ◌<◌, ◌≤◌, ◌+◌, ◌↔◌, IsTrue, length, Some, None, Ok, Err, IfOk, IfErr, IsErrOf, OnErr, IsSome, IfSome, position, is_some, is_none, replicate};
 ghost use Rattle.std.specs.List.{list_any, list_all};
 
 use crate::auditing::print_ended;
+use crate::card_reserve::CardReserve;
 use crate::holder::Holder;
 use crate::holding::most_held;
 use crate::job_end::JobEnd;
@@ -35,7 +36,7 @@ pub struct Slots {
     // By which what the jobs name is hashed.
     seed: Seed,
     // What jobs must leave to cards and commands, and what one must leave to the others.
-    for_cards: Reserve,
+    for_cards: CardReserve,
     for_jobs: Reserve,
     ghost some: { 1 ≤ length items.items },
     ghost few: { length items.items ≤ 8 },
@@ -76,7 +77,7 @@ impl Slots {
         Ok(Slots {
             items,
             seed,
-            for_cards: for_jobs.another(alloc),
+            for_cards: CardReserve::like(alloc, &for_jobs),
             for_jobs,
         })
     }
@@ -147,7 +148,7 @@ impl Slots {
         let Some(index) = free_in(&self.items) else {
             return Err(Stop::Refused(LoadError::NoSlot));
         };
-        let slot = slot_for(alloc, self.seed, accounts, deck)?;
+        let slot = slot_for(alloc, self.seed, accounts, &deck, &mut self.for_cards)?;
         self.items[index] = Some(slot);
         Ok(index as u8 + 1)
     }
@@ -264,12 +265,18 @@ impl Slots {
         }
     }
 
-    // After turns: cards and commands have what was kept for them.
-    pub(crate) fn end_turns(&mut self)
+    // After turns: what was kept for cards and commands stays for the next turns, until one of these needs it.
+    pub(crate) fn end_turns(&mut self, alloc: Global)
         ensures slots { slots_in self.new ≡ slots_in self.old }
-        ensures none { vec_capacity self.new.for_cards.block ≡ 0 }
     {
-        self.for_cards.give_up();
+        self.for_cards.stay(alloc);
+    }
+
+    /// Gives up what is kept for cards and commands, for one that needs memory: whether anything was kept.
+    pub fn give_way(&mut self) -> bool
+        ensures { self.new ≡ self.old }
+    {
+        self.for_cards.give_way()
     }
 
     /// One turn of the job in a slot. Slots are counted from 1; one that there isn't is empty. The lines of the turn are put to the audit.
