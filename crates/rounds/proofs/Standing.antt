@@ -14,7 +14,7 @@ use Rattle.deck_driver.specs.declared.fault.RunError.TheVariants.{DeckRefused}
 use Rattle.deck_driver.specs.declared.feed.DeckFeed.{DeckFeed}
 use Rattle.deck_driver.specs.declared.options.Counts.{Counts}
 use Rattle.deck_driver.specs.declared.options.Options.{Options}
-use Rattle.deck_driver.specs.Feeds.{Outcome, Good, Bad, IsReadBack, is_reading}
+use Rattle.deck_driver.specs.Feeds.{Outcome, Good, Bad, EndsLine, IsReadBack, is_reading}
 use Rattle.deck_driver.specs.Audits.{audit_for}
 use Rattle.deck_driver.specs.Abstraction.{told, audit_told, Took}
 use Rattle.deck_driver.specs.Printouts.{output_of, ReadsBack}
@@ -37,8 +37,8 @@ audits_both first second more rest is = ap (λ (t : List ℕ). first ++ t) is �
 -- the head was served
 pub head_stands : (options : Options) (head : List ℕ) (r r' : Running) (a b c : Standing) → Stands options [] [] r a b → Took r.output.items r.feed head r'.output.items r'.feed b c
     → r'.ends.items ≡ r.ends.items → r'.printed ≡ [] → r'.feed.fed ≡ r.feed.fed + length head → r'.feed.options ≡ r.feed.options → IsReadBack r'.feed.options.check r'.feed.state
-    → Stands options head [] r' a c
-head_stands options head r r' a b c s took same_ends empty fed options_are back = record {
+    → (EndsLine head → is_reading r'.feed.state ≡ true → r'.feed.line ≡ []) → Stands options head [] r' a c
+head_stands options head r r' a b c s took same_ends empty fed options_are back settled = record {
   marks = s.marks ++ took.marks;
   tells = λ rest bytes.
       took.is rest bytes ∙ s.tells (took.marks ++ rest) (head ++ bytes)
@@ -54,6 +54,7 @@ head_stands options head r r' a b c s took same_ends empty fed options_are back 
       ∙ s.audits (took.marks ++ rest) (head ++ bytes)
       ∙ audits_both s.audit took.audit (audit_told (took.marks ++ rest) r.feed (head ++ bytes)) (audit_told rest r'.feed bytes) (took.tells rest bytes);
   audited = puts_then a b c s.audit took.audit s.audited took.audited;
+  settled = λ ends. settled (subst EndsLine (append-nil head) ends);
 }
 
 -- a text and its fence were served
@@ -93,6 +94,7 @@ goes_further options head done one r r' a b c s took settled more_ends empty fed
           ∙ s.audits (took.marks ++ rest) (with_fence one ++ bytes)
           ∙ audits_both s.audit took.audit (audit_told (took.marks ++ rest) r.feed (with_fence one ++ bytes)) (audit_told rest r'.feed bytes) (took.tells rest bytes);
       audited = puts_then a b c s.audit took.audit s.audited took.audited;
+      settled = λ ends. settled;
     }
 
 -- the end was served: what comes of the deck, and what is told of it, is what comes of its end

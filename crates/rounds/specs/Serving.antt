@@ -1,5 +1,5 @@
 -- A round's run (own): what its deck comes to, as far as it was read.
-use Rattle.std.specs.Prelude.{◌≡◌, ℕ, false, List, [], ◌∷◌, ◌++◌, length, Ok}
+use Rattle.std.specs.Prelude.{◌≡◌, ◌⊎◌, ℕ, ◌+◌, true, false, List, [], ◌∷◌, ◌++◌, length, take, slice_get, Some, Ok, codes}
 use Rattle.std.specs.Str.Lines.{lines}
 use Rattle.mon_access.specs.declared.account.Account.{Account}
 use Rattle.mon_catalogue.specs.Sets.{Sets}
@@ -12,7 +12,7 @@ use Rattle.deck_driver.specs.declared.feed.DeckFeed.{DeckFeed}
 use Rattle.deck_driver.specs.declared.options.Counts.{Counts}
 use Rattle.deck_driver.specs.declared.options.Options.{Options}
 use Rattle.deck_driver.specs.RunStates.{opening}
-use Rattle.deck_driver.specs.Feeds.{Outcome, Good, Bad, outcome_of, IsReadBack}
+use Rattle.deck_driver.specs.Feeds.{Outcome, Good, Bad, outcome_of, Begins, EndsLine, is_reading, IsReadBack}
 use Rattle.deck_driver.specs.Audits.{audit_for}
 use Rattle.deck_driver.specs.Abstraction.{told, audit_told}
 use Rattle.deck_driver.specs.Printouts.{closing, output_of, ReadsBack}
@@ -23,7 +23,7 @@ use Rattle.preflight.specs.Rounds.{Handed}
 use Rattle.rounds.specs.declared.running.Round.{Round}
 use Rattle.rounds.specs.declared.running.Running.{Running}
 use Rattle.rounds.specs.Delivery.{delivered}
-use Rattle.rounds.specs.Compositions.{front_text, round_text, IsGoodRound, ends_of, cut_at}
+use Rattle.rounds.specs.Compositions.{with_fence, front_text, round_text, IsGoodRound, ends_of, cut_at}
 
 -- what is told of a round's deck: all that happens in it, and then that it has come to its end
 abbrev pub round_audit : Options → Marks → List ℕ → List ℕ
@@ -44,6 +44,37 @@ pub record IsServed (options : Options) (m : Marks) (head : List ℕ) (submissio
       → options.check ≡ false → IsGoodRound head submissions table accounts sets texts → ReadsBack (delivered options.slots.number accounts 0 m sets texts).sets
   pub audited : Puts a b (round_audit options m (round_text head submissions))
 
+-- ---- where a round stops
+
+-- A round stopped in this piece of its deck, behind what was done: with some marks for the turns in them, all that is told of what was
+-- done was put to the audit, and then a beginning of what is told of the piece.
+pub record StopsWithin (options : Options) (done piece : List ℕ) (a b : Standing) : Type 0 where
+  pub marks : Marks
+  pub before : List ℕ
+  pub is_all : EndsLine done → (rest : Marks) → audit_for options (marks ++ rest) done ≡ before
+  pub more : List ℕ
+  pub begins : (rest : Marks) → Begins (before ++ more) (audit_for options (marks ++ rest) (done ++ piece))
+  pub audited : Puts a b (before ++ more)
+
+-- it stopped in its head
+abbrev pub StopsInHead : Options → List ℕ → ℕ → Standing → Standing → Type 0
+StopsInHead options head k a b = (k ≡ 0) × StopsWithin options [] head a b
+
+-- in the text of this number, or in its fence
+pub record StopsInText (options : Options) (head : List ℕ) (submissions : List Submission) (k : ℕ) (a b : Standing) : Type 0 where
+  pub index : ℕ
+  pub number : k ≡ index + 1
+  pub text : Submission
+  pub is : slice_get submissions index ≡ Some text
+  pub stops : StopsWithin options (front_text head (take index submissions)) (with_fence text) a b
+
+-- at its end
+abbrev pub StopsAtEnd : Options → List ℕ → List Submission → ℕ → Standing → Standing → Type 0
+StopsAtEnd options head submissions k a b = (k ≡ length submissions + 1) × StopsWithin options (front_text head submissions) (codes "$STOP\n") a b
+
+abbrev pub StopsIn : Options → List ℕ → List Submission → ℕ → Standing → Standing → Type 0
+StopsIn options head submissions k a b = StopsInHead options head k a b ⊎ (StopsInText options head submissions k a b ⊎ StopsAtEnd options head submissions k a b)
+
 -- ---- within a run
 
 -- what comes of the deck of these bytes
@@ -62,6 +93,21 @@ pub record Stands (options : Options) (head : List ℕ) (submissions : List Subm
   pub back : IsReadBack running.feed.options.check running.feed.state
   pub audit : List ℕ
   pub audits : (rest : Marks) (bytes : List ℕ) → audit_for options (marks ++ rest) (front_text head submissions ++ bytes) ≡ audit ++ audit_told rest running.feed bytes
+  pub audited : Puts a b audit
+  pub settled : EndsLine (front_text head submissions) → is_reading running.feed.state ≡ true → running.feed.line ≡ []
+
+-- with some marks for the turns in it, what was put to the audit begins what is told of this piece, whatever follows
+pub record BeginsTelling (f : DeckFeed) (piece : List ℕ) (a b : Standing) : Type 0 where
+  pub marks : Marks
+  pub audit : List ℕ
+  pub tells : (rest : Marks) (bytes : List ℕ) → Begins audit (audit_told (marks ++ rest) f (piece ++ bytes))
+  pub audited : Puts a b audit
+
+-- what is told of the deck's end here
+pub record BeginsEnding (f : DeckFeed) (a b : Standing) : Type 0 where
+  pub marks : Marks
+  pub audit : List ℕ
+  pub tells : (rest : Marks) → Begins audit (audit_told (marks ++ rest) f [])
   pub audited : Puts a b audit
 
 -- with some marks for the turns in it, the deck is refused in this piece, whatever follows

@@ -1,6 +1,6 @@
 //! Laws over rounds: each function's contract is one.
 ghost use Rattle.rounds.specs.Order.{FairOrder};
-ghost use Rattle.rounds.specs.Laws.{EachAlone, Delivers, EachTells, EachItsPart, EachItsOwn, GoesOn};
+ghost use Rattle.rounds.specs.Laws.{EachAlone, Delivers, EachTells, EachItsPart, EachItsOwn, EachItsDue, EachItsReply, GoesOn};
 
 /// The order of a round is fair: each text has its place in it, each account's stand in their own order, and nowhere is an
 /// account ahead of another, that has texts left, by more than one.
@@ -52,6 +52,18 @@ pub fn each_its_part()
 /// What `parts_text` gives each text that ran is its own piece of the output, cut where the printouts end; and the last is the catalogue.
 pub fn each_its_own()
     ensures { EachItsOwn }
+{}
+
+/// What a round owes by such parts is cut of its replies for those whose texts do not run, and of its output for those whose texts ran.
+pub fn each_its_due()
+    ensures { EachItsDue }
+{
+    site_folder::laws::owes_each_its_own();
+}
+
+/// What `parts_text` gives each text that is refused is its own reply.
+pub fn each_its_reply()
+    ensures { EachItsReply }
 {}
 
 /// A round's deck is never refused, and what a round leaves is good for the next: for ever.

@@ -1,5 +1,5 @@
 //! A round's run: its deck is fed text by text, and where each text's printout ends is noted.
-ghost use Rattle.std.specs.Prelude.{◌≡◌, ℕ, List, ◌+◌, ◌<◌, ◌≤◌, ◌^◌, [], ◌∷◌, ◌++◌, true, length, Ok, Err, IfOk, OnOk, codes};
+ghost use Rattle.std.specs.Prelude.{◌≡◌, ◌⊎◌, ℕ, List, ◌+◌, ◌<◌, ◌^◌, [], ◌∷◌, ◌++◌, true, length, Ok, Err, IfOk, OnOk, codes};
 ghost use Rattle.mon_access.specs.declared.account.Account.{Account};
 ghost use Rattle.mon_catalogue.specs.Sets.{Sets};
 ghost use Rattle.mon_device.specs.Putting.{Standing, Puts};
@@ -15,7 +15,7 @@ ghost use Rattle.deck_run.specs.Runs.{deck_ending};
 ghost use Rattle.preflight.specs.declared.submission.Submission.{Submission as AnySubmission};
 ghost use Rattle.preflight.specs.Rounds.{Handed};
 ghost use Rattle.rounds.specs.Compositions.{with_fence, front_text, round_text, IsGoodRound};
-ghost use Rattle.rounds.specs.Serving.{IsServed, Stands, IsBad, IsBadAtEnd, Finishes, HasEnded};
+ghost use Rattle.rounds.specs.Serving.{IsServed, StopsWithin, StopsInText, StopsAtEnd, StopsIn, Stands, BeginsTelling, BeginsEnding, IsBad, IsBadAtEnd, Finishes, HasEnded};
 
 use deck_driver::{DeckFeed, Options, RunError};
 use deck_syntax::DeckError;
@@ -76,7 +76,7 @@ pub fn run_round<A: Sink>(
     ensures refused { (n : ℕ) (code : AnyCode) → result ≡ Err (RoundError.Refused n code) → deck_ending (round_text head.items texts.now) ≡ Refused n code }
     ensures never { (table : List (List ℕ)) (accounts : List Account) (sets : Sets) (handed : List Handed) → IsGoodRound head.items texts.now table accounts sets handed
         → (n : ℕ) (code : AnyCode) → result ≡ Err (RoundError.Refused n code) → ⊥ }
-    ensures memory { (k : ℕ) → result ≡ Err (RoundError.Memory k) → k ≤ length texts.now + 1 }
+    ensures memory { (k : ℕ) → result ≡ Err (RoundError.Memory k) → StopsIn options head.items texts.now k (A.standing audit.old) (A.standing audit.new) }
 {
     crate::laws::each_its_part();
     preflight::laws::never_refused();
@@ -110,7 +110,7 @@ fn serve_round<A: Sink>(
     requires { length (round_text head.items texts.now) < 2 ^ 63 }
     ensures ended { IfOk result (λ round. (marks : Marks) × HasEnded options marks head.items texts.now round (A.standing audit.old) (A.standing audit.new)) }
     ensures refused { (n : ℕ) (code : AnyCode) → result ≡ Err (RoundError.Refused n code) → deck_ending (round_text head.items texts.now) ≡ Refused n code }
-    ensures memory { (k : ℕ) → result ≡ Err (RoundError.Memory k) → k ≤ length texts.now + 1 }
+    ensures memory { (k : ℕ) → result ≡ Err (RoundError.Memory k) → StopsIn options head.items texts.now k (A.standing audit.old) (A.standing audit.new) }
 {
     match begin(alloc, options, head, audit) {
         Ok(running) => serve_rest(running, alloc, texts, audit),
@@ -130,7 +130,8 @@ fn serve_rest<A: Sink>(
         → IfOk result (λ round. (marks : Marks) × HasEnded options marks head texts.now round a (A.standing audit.new)) }
     ensures refused { (options : AnyOptions) (head : List ℕ) (a : Standing) → Stands options head [] running a (A.standing audit.old) → (n : ℕ) (code : AnyCode) → result ≡ Err (RoundError.Refused n code)
         → deck_ending (round_text head texts.now) ≡ Refused n code }
-    ensures memory { (k : ℕ) → result ≡ Err (RoundError.Memory k) → k ≤ length texts.now + 1 }
+    ensures memory { (options : AnyOptions) (head : List ℕ) (a : Standing) → Stands options head [] running a (A.standing audit.old) → (k : ℕ) → result ≡ Err (RoundError.Memory k)
+        → StopsInText options head texts.now k a (A.standing audit.new) ⊎ StopsAtEnd options head texts.now k a (A.standing audit.new) }
 {
     let mut running = running;
     serve_texts(&mut running, alloc, texts, audit)?;
@@ -179,6 +180,7 @@ fn begin<A: Sink>(
     requires { length head.items < 2 ^ 63 }
     ensures stands { IfOk result (λ running. Stands options head.items [] running (A.standing audit.old) (A.standing audit.new)) }
     ensures refused { (n : ℕ) (code : AnyCode) → result ≡ Err (RunError.DeckRefused n code) → (bytes : List ℕ) → deck_ending (head.items ++ bytes) ≡ Refused n code }
+    ensures begun { StopsWithin options [] head.items (A.standing audit.old) (A.standing audit.new) }
 {
     let mut running = start(alloc, options)?;
     serve(&mut running, alloc, &head, audit)?;
@@ -197,7 +199,8 @@ fn serve_texts<A: Sink>(
         → OnOk result (Stands options head texts.now running.new a (A.standing audit.new)) }
     ensures refused { (options : AnyOptions) (head : List ℕ) (a : Standing) → Stands options head [] running.old a (A.standing audit.old) → (n : ℕ) (code : AnyCode) → result ≡ Err (RoundError.Refused n code)
         → deck_ending (round_text head texts.now) ≡ Refused n code }
-    ensures memory { (k : ℕ) → result ≡ Err (RoundError.Memory k) → k ≤ length texts.now }
+    ensures memory { (options : AnyOptions) (head : List ℕ) (a : Standing) → Stands options head [] running.old a (A.standing audit.old) → (k : ℕ) → result ≡ Err (RoundError.Memory k)
+        → StopsInText options head texts.now k a (A.standing audit.new) }
 {
     let mut number: u64 = 0;
     for text in texts {
@@ -222,6 +225,7 @@ fn serve_text<A: Sink>(
     ensures stands { (options : AnyOptions) (head : List ℕ) (done : List AnySubmission) (a : Standing) → Stands options head done running.old a (A.standing audit.old)
         → OnOk result (Stands options head (done ++ text.now ∷ []) running.new a (A.standing audit.new)) }
     ensures refused { (n : ℕ) (code : AnyCode) → result ≡ Err (RunError.DeckRefused n code) → IsBad n code running.old.output.items running.old.feed (with_fence text.now) }
+    ensures begun { BeginsTelling running.old.feed (with_fence text.now) (A.standing audit.old) (A.standing audit.new) }
 {
     serve(running, alloc, &text.text, audit)?;
     serve(running, alloc, b"$DRAIN\n", audit)?;
@@ -239,6 +243,8 @@ fn end<A: Sink>(running: Running, alloc: Global, audit: &mut A) -> Result<Round,
         → IfOk result (λ round. (marks : Marks) × HasEnded options marks head done round a (A.standing audit.new)) }
     ensures refused { (options : AnyOptions) (head : List ℕ) (done : List AnySubmission) (a : Standing) → Stands options head done running a (A.standing audit.old) → (n : ℕ) (code : AnyCode) → result ≡ Err (RunError.DeckRefused n code)
         → deck_ending (round_text head done) ≡ Refused n code }
+    ensures begun { (options : AnyOptions) (head : List ℕ) (done : List AnySubmission) (a : Standing) → Stands options head done running a (A.standing audit.old)
+        → StopsWithin options (front_text head done) (codes "$STOP\n") a (A.standing audit.new) }
 {
     let mut running = running;
     serve(&mut running, alloc, b"$STOP\n", audit)?;
@@ -251,6 +257,7 @@ fn finish_round<A: Sink>(running: Running, alloc: Global, audit: &mut A) -> Resu
     ensures ends { IfOk result (λ round. round.ends.items ≡ running.ends.items) }
     ensures ended { IfOk result (λ round. Finishes running round (A.standing audit.old) (A.standing audit.new)) }
     ensures refused { (n : ℕ) (code : AnyCode) → result ≡ Err (RunError.DeckRefused n code) → IsBadAtEnd n code running.feed }
+    ensures begun { BeginsEnding running.feed (A.standing audit.old) (A.standing audit.new) }
 {
     let Running {
         feed,
@@ -274,6 +281,7 @@ fn serve<A: Sink>(
     requires empty { running.old.printed ≡ [] }
     ensures told { OnOk result (Took running.old.output.items running.old.feed piece.now running.new.output.items running.new.feed (A.standing audit.old) (A.standing audit.new)) }
     ensures refused { (n : ℕ) (code : AnyCode) → result ≡ Err (RunError.DeckRefused n code) → IsBad n code running.old.output.items running.old.feed piece.now }
+    ensures begun { BeginsTelling running.old.feed piece.now (A.standing audit.old) (A.standing audit.new) }
     ensures settled { EndsLine piece.now → OnOk result (is_reading running.new.feed.state ≡ true → running.new.feed.line ≡ []) }
     ensures empty { OnOk result (running.new.printed ≡ []) }
     ensures ends { running.new.ends.items ≡ running.old.ends.items }

@@ -4,5 +4,6 @@ mod Acting
 mod Paying
 mod Committing
 mod Back
+mod Owing
 mod Remembering
 mod Pieces

@@ -1,9 +1,9 @@
 -- What holds of rounds and crashes: each is the contract of a function in `laws`.
-use Rattle.std.specs.Prelude.{◌≡◌, ℕ, List, None, Some, is_some, true}
+use Rattle.std.specs.Prelude.{◌≡◌, ℕ, List, ◌++◌, length, None, Some, is_some, true}
 use Rattle.std.specs.List.{AllByRecursion}
 use Rattle.site_folder.specs.Files.{Files}
-use Rattle.site_folder.specs.Parts.{Act, IsSpellable, parts_text, acts_of}
-use Rattle.site_folder.specs.Rounds.{settled, output_name, committed, IsSettling, IsCommitting, IsDelivering}
+use Rattle.site_folder.specs.Parts.{Act, IsSpellable, parts_text, acts_of, total, puts_of, removals_of}
+use Rattle.site_folder.specs.Rounds.{Owed, owed_by, settled, output_name, committed, IsSettling, IsCommitting, IsDelivering}
 
 -- whatever a crash on the way left, to settle it comes to the same files as without the crash
 abbrev pub Settles : Type 0
@@ -27,3 +27,11 @@ StaysSettled = (n : ℕ) (files : Files) → settled n (settled n files) ≡ set
 -- the text of acts is read as these acts
 abbrev pub ReadsBack : Type 0
 ReadsBack = (acts : List Act) → AllByRecursion IsSpellable acts → acts_of (parts_text acts) ≡ Some acts
+
+-- Acts that put as many bytes as the replies have, and behind them others that put as many as the output: a round that has these parts can be
+-- paid, the first are given their bytes of the replies, and the others theirs of the output.
+abbrev pub OwesEachItsOwn : Type 0
+OwesEachItsOwn = (of_replies of_output : List Act) (replies output : List ℕ) → AllByRecursion IsSpellable of_replies → AllByRecursion IsSpellable of_output
+    → total of_replies ≡ length replies → total of_output ≡ length output
+    → owed_by replies (parts_text (of_replies ++ of_output)) output
+    ≡ Some (record { puts = puts_of of_replies replies ++ puts_of of_output output; removals = removals_of of_replies ++ removals_of of_output })

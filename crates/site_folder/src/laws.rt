@@ -1,5 +1,5 @@
 //! Laws over rounds and crashes: each function's contract is one.
-ghost use Rattle.site_folder.specs.Laws.{Settles, Commits, DeliversAfterACrash, StaysSettled, ReadsBack};
+ghost use Rattle.site_folder.specs.Laws.{Settles, Commits, DeliversAfterACrash, StaysSettled, ReadsBack, OwesEachItsOwn};
 
 /// Whatever a crash left while a round was settled, to settle it comes to the same files as without the crash.
 pub fn settles()
@@ -26,4 +26,9 @@ pub fn stays_settled()
 /// What `put_part` and `put_removal` append is read as what was appended.
 pub fn reads_back()
     ensures { ReadsBack }
+{}
+
+/// What a round owes is cut of its replies for those whose acts stand first, and of its output for the others.
+pub fn owes_each_its_own()
+    ensures { OwesEachItsOwn }
 {}

@@ -1,5 +1,7 @@
+use Rattle.std.specs.Prelude.{codes}
 use Rattle.std.proofs.lemmas.Result.{err_from_is_err_and}
 use Rattle.rounds.proofs.Standing.{ends_so, refused_by_stop, refused_at_end, passed_up}
+use Rattle.rounds.proofs.Stopping.{stops_within, stops_behind}
 use Rattle.rounds.proofs.running.end.Goals as goal
 
 pub returns-in_err-serve-clause-refused : goal.returns-in_err-serve-clause-refused
@@ -15,3 +17,10 @@ returns-clause-ended g c = λ options head done a s.
 pub returns-clause-refused : goal.returns-clause-refused
 returns-clause-refused g c = λ options head done a s n code same.
     refused_at_end options head done c.args.running c.serve.new.running n code a _ _ s c.in_ok-serve.ensures.told (c.finish_round.ensures.refused n code same)
+
+pub returns-in_err-serve-clause-begun : goal.returns-in_err-serve-clause-begun
+returns-in_err-serve-clause-begun g c = λ options head done a s. stops_within options head done c.args.running a _ s _ (codes "$STOP\n") c.serve.ensures.begun
+
+pub returns-clause-begun : goal.returns-clause-begun
+returns-clause-begun g c = λ options head done a s.
+    stops_behind options head done c.args.running a _ s _ (codes "$STOP\n") _ c.serve.new.running.feed _ c.in_ok-serve.ensures.told c.finish_round.ensures.begun

@@ -1,5 +1,6 @@
 use Rattle.std.proofs.lemmas.Result.{err_from_is_err_and}
 use Rattle.rounds.proofs.Standing.{finishes, bad_at_end, passed_up}
+use Rattle.rounds.proofs.Stopping.{ending_of}
 use Rattle.rounds.proofs.running.finish_round.Goals as goal
 
 pub returns-in_err-finish-clause-refused : goal.returns-in_err-finish-clause-refused
@@ -10,3 +11,18 @@ returns-in_err-finish-clause-refused g c = λ n code same.
 
 pub returns-clause-ended : goal.returns-clause-ended
 returns-clause-ended g c = finishes c.args.running _ c.args.running.printed c.finish.new.out _ _ _ c.requires c.in_ok-finish.ensures.ended c.in_ok-move_out.ensures.moved
+
+pub returns-in_err-finish-clause-begun : goal.returns-in_err-finish-clause-begun
+returns-in_err-finish-clause-begun g c =
+    let begun = c.finish.ensures.begun in
+    ending_of c.args.running.feed _ _ begun.0 begun.2 begun.3 begun.4
+
+pub returns-in_err-move_out-clause-begun : goal.returns-in_err-move_out-clause-begun
+returns-in_err-move_out-clause-begun g c =
+    let begun = c.finish.ensures.begun in
+    ending_of c.args.running.feed _ _ begun.0 begun.2 begun.3 begun.4
+
+pub returns-clause-begun : goal.returns-clause-begun
+returns-clause-begun g c =
+    let begun = c.finish.ensures.begun in
+    ending_of c.args.running.feed _ _ begun.0 begun.2 begun.3 begun.4

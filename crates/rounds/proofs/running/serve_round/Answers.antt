@@ -1,4 +1,4 @@
-use Rattle.std.proofs.Common.{◌∙◌, arith}
+use Rattle.std.proofs.Common.{◌∙◌, inl, inr, arith}
 use Rattle.rounds.proofs.Standing.{head_within, refused_in_head, told_refused, told_memory}
 use Rattle.rounds.proofs.running.serve_round.Goals as goal
 
@@ -20,4 +20,7 @@ returns-in-Err-clause-refused g c = λ n code same.
     (c.begin.ensures.refused n code (c.in-Err.is ∙ told_refused c.in-Err.error c.told_of.result n code c.told_of.ensures.refused same))
 
 pub returns-in-Err-clause-memory : goal.returns-in-Err-clause-memory
-returns-in-Err-clause-memory g c = λ k same. omega (arith, told_memory c.told_of.result k 0 c.told_of.ensures.memory same)
+returns-in-Err-clause-memory g c = λ k same. inl (told_memory c.told_of.result k 0 c.told_of.ensures.memory same, c.begin.ensures.begun)
+
+pub returns-in-Ok-clause-memory : goal.returns-in-Ok-clause-memory
+returns-in-Ok-clause-memory g c = λ k same. inr (c.serve_rest.ensures.memory c.args.options c.args.head.items (g.A.Sink.standing c.args.audit.now) c.in-Ok.ensures.stands k same)

@@ -3,9 +3,10 @@ use Rattle.std.specs.Prelude.{codes}
 use Rattle.std.proofs.lemmas.Result.{err_from_is_err_and}
 use Rattle.deck_driver.specs.Abstraction.{Took}
 use Rattle.rounds.specs.Compositions.{fence}
-use Rattle.rounds.specs.Serving.{IsBad}
+use Rattle.rounds.specs.Serving.{IsBad, BeginsTelling}
 use Rattle.rounds.proofs.Served.{took_both, bad_first, bad_then}
 use Rattle.rounds.proofs.Standing.{goes_further}
+use Rattle.rounds.proofs.Stopping.{telling_first, telling_then}
 use Rattle.rounds.proofs.running.serve_text.Goals as goal
 
 pub returns-in_err-serve-clause-refused : goal.returns-in_err-serve-clause-refused
@@ -39,3 +40,34 @@ returns-in-Ok-clause-stands g c = λ options head done a s.
     (omega (arith, c.in_ok-serve.ensures.fed, c.in_ok-serve-2.ensures.fed, ap length c.deref.ensures.value, length-append c.args.text.now.text.items fence))
     (c.serve-2.ensures.options ∙ c.serve.ensures.options)
     (c.in_ok-serve-2.ensures.reads_back (c.in_ok-serve.ensures.reads_back s.back))
+
+pub returns-in_err-serve-clause-begun : goal.returns-in_err-serve-clause-begun
+returns-in_err-serve-clause-begun g c =
+    let f = c.args.running.now.feed in
+    let a = g.A.Sink.standing c.args.audit.now in
+    let b = g.A.Sink.standing c.serve.new.audit in
+    subst (λ (piece : List ℕ). BeginsTelling f (piece ++ fence) a b) c.deref.ensures.value (telling_first f c.deref.result.now fence a b c.serve.ensures.begun)
+
+pub returns-in_err-serve-2-clause-begun : goal.returns-in_err-serve-2-clause-begun
+returns-in_err-serve-2-clause-begun g c =
+    let f = c.args.running.now.feed in
+    let a = g.A.Sink.standing c.args.audit.now in
+    let d = g.A.Sink.standing c.serve-2.new.audit in
+    subst (λ (piece : List ℕ). BeginsTelling f (piece ++ fence) a d) c.deref.ensures.value
+    (telling_then _ _ f c.serve.new.running.feed c.deref.result.now fence a _ d c.in_ok-serve.ensures.told c.serve-2.ensures.begun)
+
+pub returns-in-Ok-clause-begun : goal.returns-in-Ok-clause-begun
+returns-in-Ok-clause-begun g c =
+    let f = c.args.running.now.feed in
+    let a = g.A.Sink.standing c.args.audit.now in
+    let d = g.A.Sink.standing c.serve-2.new.audit in
+    subst (λ (piece : List ℕ). BeginsTelling f (piece ++ fence) a d) c.deref.ensures.value
+    (telling_then _ _ f c.serve.new.running.feed c.deref.result.now fence a _ d c.in_ok-serve.ensures.told c.serve-2.ensures.begun)
+
+pub returns-in-Err-clause-begun : goal.returns-in-Err-clause-begun
+returns-in-Err-clause-begun g c =
+    let f = c.args.running.now.feed in
+    let a = g.A.Sink.standing c.args.audit.now in
+    let d = g.A.Sink.standing c.serve-2.new.audit in
+    subst (λ (piece : List ℕ). BeginsTelling f (piece ++ fence) a d) c.deref.ensures.value
+    (telling_then _ _ f c.serve.new.running.feed c.deref.result.now fence a _ d c.in_ok-serve.ensures.told c.serve-2.ensures.begun)

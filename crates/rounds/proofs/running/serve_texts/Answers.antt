@@ -1,5 +1,6 @@
-use Rattle.std.proofs.Common.{◌∙◌, refl, take, arith}
+use Rattle.std.proofs.Common.{◌≡◌, ◌+◌, ◌∙◌, refl, take, arith}
 use Rattle.rounds.proofs.Standing.{none_stand, next_stands, all_stand, text_within, texts_within, refused_in_text, told_refused, told_memory}
+use Rattle.rounds.proofs.Stopping.{stops_in_text}
 use Rattle.rounds.proofs.running.serve_texts.Goals as goal
 
 pub loop-text-init : goal.loop-text-init
@@ -33,8 +34,11 @@ returns-in-Err-clause-refused g c = λ options head a s n code same.
     (c.serve_text.ensures.refused n code (c.in-Err.is ∙ told_refused c.in-Err.error c.told_of.result n code c.told_of.ensures.refused same))
 
 pub returns-in-Err-clause-memory : goal.returns-in-Err-clause-memory
-returns-in-Err-clause-memory g c = λ k same.
-    omega (arith, told_memory c.told_of.result k _ c.told_of.ensures.memory same, c.loop-text.invariant.number, c.loop-text-test.true)
+returns-in-Err-clause-memory g c = λ options head a s k same.
+    let i = c.loop-text.text-index in
+    let number : k ≡ i + 1 = omega (arith, told_memory c.told_of.result k _ c.told_of.ensures.memory same, c.loop-text.invariant.number) in
+    stops_in_text options head c.args.texts.now i k c.text-item.result c.loop-text.running a _ _ c.loop-text-test.true c.text-item.is number
+    (c.loop-text.invariant.stands options head a s) c.serve_text.ensures.begun
 
 pub returns-clause-stands : goal.returns-clause-stands
 returns-clause-stands g c = λ options head a s.

@@ -1,6 +1,7 @@
 use Rattle.std.proofs.Common.{◌∙◌, List, ℕ, [], ap, sym}
 use Rattle.mon_device.proofs.Putting.{puts_nothing}
 use Rattle.deck_driver.specs.Abstraction.{told}
+use Rattle.rounds.proofs.Stopping.{none_ends}
 use Rattle.rounds.proofs.running.start.Goals as goal
 
 pub returns : goal.returns
@@ -15,4 +16,5 @@ returns c = λ a. record {
   audit = [];
   audits = λ rest bytes. sym (c.new-feed.ensures.audit rest bytes);
   audited = puts_nothing a;
+  settled = λ ends. none_ends ends;
 }
