@@ -6,7 +6,8 @@ python3 audits.py --store CASES    writes these audits
 
 In the audit's order stand the commands with their replies, and the jobs that end or are refused; in its job's lines each denial, each FULL
 and each line for the spool. Each request on a data set that was granted names an entry, and no other does. A line is one of LINE: so no
-record's text is in it. The last line says how the deck came to its end."""
+record's text is in it. So does each command that lists records, and each data set that a CATALOG shows; what only an owner may do says so.
+The last line says how the deck came to its end."""
 import os
 import random
 import re
@@ -32,8 +33,10 @@ LINE = re.compile(
     r'|ASKED (?P<st>\d+) (?P<act>READ|WRITE|ENDFILE|REWIND) (?P<unit>\d+) (?P<target>%(name)s|\.DATA|\.SPOOL|\.NONE) (?P<place>\d+) '
     r'(?P<outcome>GOT|DONE|EOF|FULL|DENIED)(?: (?P<by>%(reason)s))?)'
     r'|COMMAND 0 (?P<who>%(name)s) (?P<card>CREATE|DELETE|SETACL|SHOWACL|LIST|CATALOG)(?: (?P<set>%(name)s))? '
-    r'(?P<reply>DONE(?: (?P<new>SEQ|APPEND|[a-zA-Z0-9._:,-]+))?|(?:RECORDS|ENTRIES|NAMES) \d+|DENIED (?:%(reason)s)|REFUSED [A-Z0-9: a-z]+)'
-    % {'name': NAME, 'reason': REASON})
+    r'(?P<reply>DONE(?: (?P<new>SEQ|APPEND|(?!BY )[a-zA-Z0-9._:,-]+))?|(?:RECORDS|ENTRIES|NAMES) \d+|DENIED (?:%(reason)s)|REFUSED [A-Z0-9: a-z]+?)'
+    r'(?: BY (?P<grant>owner|%(entry)s))?|COMMAND 0 (?P<shown_to>%(name)s) CATALOG SHOWN (?P<shown>%(name)s) BY %(entry)s'
+    % {'name': NAME, 'reason': REASON, 'entry': ENTRY})
+GRANTS = {'DELETE': ('owner',), 'SETACL': ('owner',), 'SHOWACL': ('owner', 'entry'), 'LIST': ('entry',)}  # by what these may be granted
 
 
 class Unfit(Exception):
@@ -68,17 +71,38 @@ def named_rightly(said):
     return on_a_set == (said['by'] is not None and said['by'].startswith('BY '))
 
 
+def granted_rightly(said):
+    """By what a command was granted is said exactly of what was done or shown, but for CREATE, and CATALOG, which has its lines."""
+    if said['reply'].startswith(('DENIED ', 'REFUSED ')) or said['card'] not in GRANTS:
+        return said['grant'] is None
+    return said['grant'] is not None and ('owner' if said['grant'] == 'owner' else 'entry') in GRANTS[said['card']]
+
+
+def names_of(block):
+    """The names that the printout of a CATALOG shows."""
+    return [line.split(' ')[1] for line in block if line.startswith(' ')]
+
+
 def printed(audit):
     """What has to be printed, by the audit alone, but for texts: for each block its first line, its notes, how many lines are spooled
-    (or None), and its last line."""
-    notes, spooled = {}, {}
+    (or None), and its last line. Of a CATALOG the notes are the names that are shown."""
+    notes, spooled, shown = {}, {}, None
     for line in audit:
         said = LINE.fullmatch(line)
         if said is None:
             raise Unfit('no line of an audit: %r' % line)
+        if said['shown']:
+            if shown is None or shown[0] != said['shown_to']:
+                raise Unfit('it does not stand behind a CATALOG of its account: %r' % line)
+            shown[1].append(said['shown'])
+            continue
+        shown = None
         if said['card']:
+            if not granted_rightly(said):
+                raise Unfit('it does not say by what it was granted, or says a wrong thing: %r' % line)
+            shown = (said['who'], []) if said['card'] == 'CATALOG' else None
             reply = 'DONE' if said['new'] else said['reply']
-            yield ' '.join(filter(None, [said['card'], said['who'], said['set']])), [], None, reply
+            yield ' '.join(filter(None, [said['card'], said['who'], said['set']])), shown[1] if shown else [], None, reply
             continue
         head = 'JOB %s %s' % (said['n'], said['account'])
         if said['refused']:
@@ -107,6 +131,8 @@ def fit(out, err, audit):
     wanted = list(printed(audit[:-1]))
     for block, (head, notes, spooled, last) in zip(found, wanted):
         inner = block[1:-1]
+        if head.startswith('CATALOG ') and names_of(inner) != notes:
+            raise Unfit('%r shows %r, and the audit %r' % (head, names_of(inner), notes))
         if spooled is not None and (len(inner) != spooled + len(notes) or inner[spooled:] != notes):
             raise Unfit('%r notes %r, and the audit %r' % (head, inner[spooled:], notes))
         if (block[0], block[-1]) != (head, last):

@@ -320,7 +320,21 @@ class Monitor:
             line += ' ' + further
         elif reply == ['DONE'] and word == 'SETACL':
             line += ' ' + short_line(self.sets[name].acl)
-        self.audit.append(line)
+        who = account, self.accounts.get(account)
+        self.audit.append(line + self.granted(word, who, name, reply[-1]))
+        for shown_name, data_set in self.sets.items() if word == 'CATALOG' and account in self.accounts else ():
+            if decider(who, data_set, 'x') is None:
+                self.audit.append('COMMAND 0 %s CATALOG SHOWN %s BY %s' % (account, shown_name, grantor(who, data_set, 'x')))
+
+    def granted(self, word, who, name, last):
+        """By what the audit says that a command was granted which is done or shows something; what it shows it leaves as it is."""
+        if last == 'DONE' and word in ('DELETE', 'SETACL'):
+            return ' BY owner'
+        if last.startswith('RECORDS '):
+            return ' BY ' + grantor(who, self.sets[name], 'r')
+        if last.startswith('ENTRIES '):
+            return ' BY owner' if who[0] == self.sets[name].owner else ' BY ' + grantor(who, self.sets[name], 'x')
+        return ''
 
     def served(self, word, account, name, further):
         """What is further on the card: of CREATE the mode, of SETACL the list, to be read."""

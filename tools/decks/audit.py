@@ -23,13 +23,14 @@ OF_JOB = re.compile(
     rb' (?P<place>%(n)b) (?:(?P<outcome>GOT|DONE|EOF|FULL)(?: (?P<by>%(entry)b))?|(?P<denied>DENIED) (?P<why>%(entry)b|%(why)b)))' % _WORDS)
 OF_COMMAND = re.compile(
     rb'COMMAND (?P<job>0) (?P<account>%(name)b) (?:(?P<card>CREATE|DELETE|SETACL|SHOWACL|LIST) (?P<set>%(name)b)|(?P<catalog>CATALOG))'
-    rb' (?:(?P<done>DONE)(?: (?P<now>%(now)b))?|(?P<shown>RECORDS|ENTRIES|NAMES) (?P<count>%(n)b)'
+    rb' (?:(?P<done>DONE)(?: (?P<now>%(now)b))?(?: (?P<owner>BY owner))?|(?P<shown>RECORDS|ENTRIES|NAMES) (?P<count>%(n)b)(?: (?P<by>%(entry)b|BY owner))?'
+    rb'|(?<=CATALOG )(?P<named>SHOWN) (?P<name>%(name)b) (?P<granted>%(entry)b)'
     rb'|(?P<denied>DENIED) (?P<why>%(entry)b|%(why)b)|(?P<unserved>REFUSED) (?P<code>%(code)b))' % _WORDS)
 OF_RUN = re.compile(rb'RUN (?P<job>0) (?P<account>\.NONE) (?:(?P<stopped>STOPPED)|(?P<refused>REFUSED) (?P<code>LINE %(n)b %(code)b))' % _WORDS)
-# By the columns behind the number of the line, the parts that may stand in each; a line has one of them at most.
-PARTS = {b'job': ['job'], b'account': ['account'], b'event': ['loaded', 'refused', 'ended', 'act', 'card', 'catalog', 'stopped'], b'set': ['set'],
-         b'statement': ['statement'], b'unit': ['unit'], b'place': ['place'], b'answer': ['outcome', 'denied', 'done', 'shown', 'unserved'],
-         b'more': ['by', 'why', 'now', 'count', 'code', 'end']}
+# By the columns behind the number of the line, the parts that may stand in each; of some commands two stand in the last.
+PARTS = {b'job': ['job'], b'account': ['account'], b'event': ['loaded', 'refused', 'ended', 'act', 'card', 'catalog', 'stopped'], b'set': ['set', 'name'],
+         b'statement': ['statement'], b'unit': ['unit'], b'place': ['place'], b'answer': ['outcome', 'denied', 'done', 'shown', 'named', 'unserved'],
+         b'more': ['why', 'now', 'count', 'code', 'end', 'owner', 'by', 'granted']}
 COLUMNS = (b'line', *PARTS)
 
 
@@ -72,7 +73,7 @@ def event_of(lines: Lines, line: bytes) -> Event:
     if said is None:
         raise lines.refused(f'an audit has no such line: {shown(line)}')
     parts = said.groupdict(b'')
-    return Event(kind, (b'%d' % lines.number, *(b''.join(parts.get(part, b'') for part in some) for some in PARTS.values())))
+    return Event(kind, (b'%d' % lines.number, *(b' '.join(parts[part] for part in some if parts.get(part)) for some in PARTS.values())))
 
 
 @dataclass(frozen=True)

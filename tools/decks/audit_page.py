@@ -11,7 +11,7 @@ BEGINNINGS = (b'JOB ', b'COMMAND ', b'RUN ')  # of the first line of an audit
 # What was done, by what was asked and how it was answered. To find no further record is to have read.
 DONE_WORDS = {(b'READ', b'GOT'): b'read', (b'READ', b'EOF'): b'found the end', (b'WRITE', b'DONE'): b'wrote',
               (b'WRITE', b'FULL'): b'found no room', (b'ENDFILE', b'DONE'): b'cut off the rest',
-              (b'LIST', b'RECORDS'): b'listed the records', (b'SHOWACL', b'ENTRIES'): b'saw the list',
+              (b'LIST', b'RECORDS'): b'listed the records', (b'SHOWACL', b'ENTRIES'): b'saw the list', (b'CATALOG', b'SHOWN'): b'saw the name',
               (b'CREATE', b'DONE'): b'created it', (b'DELETE', b'DONE'): b'deleted it', (b'SETACL', b'DONE'): b'set the list'}
 TRIED_WORDS = {b'READ': b'read', b'WRITE': b'write', b'ENDFILE': b'cut off the rest', b'LIST': b'list the records',
                b'SHOWACL': b'see the list', b'CREATE': b'create it', b'DELETE': b'delete it', b'SETACL': b'set the list'}
@@ -31,7 +31,7 @@ class Summary:
 
     def take(self, event: Event) -> None:
         self.jobs += event.enters()
-        self.commands += event.kind == b'COMMAND'
+        self.commands += event.kind == b'COMMAND' and event.of(b'answer') != b'SHOWN'
         self.denied += event.is_denied()
         if event.kind == b'RUN':
             self.ending = _ended(event)
@@ -100,7 +100,7 @@ def _write_changes(changes: List[Event], page: BinaryIO) -> None:
     page.write(text_of([b'<table>', b'<caption>What changed permission lists, and in which line of the audit</caption>',
                         *markup.titles(b'Line', b'Account', b'Card', b'Data set', b'List'), b'<tbody>']))
     for event in changes:
-        entries = event.of(b'more').split(b',') if event.of(b'event') == b'SETACL' else []
+        entries = event.of(b'more').split(b' ')[0].split(b',') if event.of(b'event') == b'SETACL' else []
         list_now = b', '.join(b'<code>%s</code>' % entry for entry in entries)
         markup.write_row(event.of(b'line'), [markup.cell([words], b'') for words in
                                              (event.of(b'account'), event.of(b'event'), event.of(b'set'), list_now)], page)

@@ -11,7 +11,7 @@ JOB 2 eve REFUSED M2 NO ACCOUNT
 JOB 1 lisa ASKED 2 READ 5 .DATA 0 GOT
 JOB 1 lisa ASKED 3 READ 8 PAYROLL 0 GOT BY user:lisa:
 JOB 1 lisa ASKED 4 WRITE 8 PAYROLL 1 DENIED BY mask::
-COMMAND 0 anna SETACL PAYROLL DONE user::rwx,group::---,other::---
+COMMAND 0 anna SETACL PAYROLL DONE user::rwx,group::---,other::--- BY owner
 JOB 3 hugo LOADED
 JOB 1 lisa ASKED 5 READ 8 PAYROLL 1 DENIED BY other::
 JOB 3 hugo ASKED 2 WRITE 9 LOG 7 DONE BY group:ops:
@@ -22,7 +22,7 @@ JOB 1 lisa ASKED 8 WRITE 6 .SPOOL 0 DONE
 JOB 1 lisa ASKED 9 READ 7 .NONE 0 DENIED NO UNIT
 JOB 1 lisa ENDED NORMAL AFTER 9
 COMMAND 0 hugo LIST PAYROLL DENIED BY other::
-COMMAND 0 anna LIST PAYROLL RECORDS 3
+COMMAND 0 anna LIST PAYROLL RECORDS 3 BY user::
 COMMAND 0 anna SETACL PAYROLL REFUSED A4 MISSING group::
 COMMAND 0 anna CREATE NOTES DONE APPEND
 COMMAND 0 eve CATALOG REFUSED M2 NO ACCOUNT
@@ -30,6 +30,8 @@ JOB 3 hugo ENDED FAULT TYPE AT 3 AFTER 3
 JOB 4 hugo REFUSED P3 CARD 1 COLUMN 8
 COMMAND 0 anna DELETE LOG DENIED NOT OWNER
 COMMAND 0 anna CATALOG NAMES 2
+COMMAND 0 anna CATALOG SHOWN PAYROLL BY user::
+COMMAND 0 anna CATALOG SHOWN NOTES BY group:ops:
 '''
 TABLE = b'''line  job  account  event    set      statement  unit  place  answer  more
    4    1  lisa     READ     PAYROLL          3     8      0  GOT     BY user:lisa:
@@ -57,7 +59,7 @@ class Asked(Trying):
         self.assertEqual(self.audit('--set', 'PAYROLL', '--account', 'lisa'), TABLE)
         long = AUDIT.replace(b'lisa', b'l' * 31).replace(b'ASKED 4 ', b'ASKED 18446744073709551615 ')
         rows = self.audit('--set', 'PAYROLL', text=long).splitlines()
-        self.assertEqual({row.index(b' BY ') for row in rows if b' BY ' in row}, {rows[0].index(b'  more') + 1})
+        self.assertEqual({row.index(b'  BY ') for row in rows if b'  BY ' in row}, {rows[0].index(b'  more')})
 
     def test_without_a_question_each_line_is_a_row(self):
         self.assertEqual(self.lines(), list(range(1, AUDIT.count(b'\n') + 1)))
@@ -67,26 +69,26 @@ class Asked(Trying):
     def test_rows_have_what_the_lines_say(self):
         rows = {int(row['line']): list(row.values())[1:] for row in csv.DictReader(io.StringIO(self.audit('--csv').decode()))}
         for line, row in ((1, '1|lisa|LOADED||||||'), (2, '2|eve|REFUSED||||||M2 NO ACCOUNT'), (3, '1|lisa|READ|.DATA|2|5|0|GOT|'),
-                          (6, '0|anna|SETACL|PAYROLL||||DONE|user::rwx,group::---,other::---'), (10, '3|hugo|WRITE|LOG|2|9|8|FULL|BY group:ops:'),
+                          (6, '0|anna|SETACL|PAYROLL||||DONE|user::rwx,group::---,other::--- BY owner'), (10, '3|hugo|WRITE|LOG|2|9|8|FULL|BY group:ops:'),
                           (12, '1|lisa|ENDFILE|GONE|7|8|0|DENIED|NO DATA SET'), (15, '1|lisa|ENDED||||||NORMAL AFTER 9'),
-                          (17, '0|anna|LIST|PAYROLL||||RECORDS|3'), (18, '0|anna|SETACL|PAYROLL||||REFUSED|A4 MISSING group::'),
+                          (17, '0|anna|LIST|PAYROLL||||RECORDS|3 BY user::'), (18, '0|anna|SETACL|PAYROLL||||REFUSED|A4 MISSING group::'),
                           (19, '0|anna|CREATE|NOTES||||DONE|APPEND'), (20, '0|eve|CATALOG|||||REFUSED|M2 NO ACCOUNT'),
-                          (21, '3|hugo|ENDED||||||FAULT TYPE AT 3 AFTER 3'), (24, '0|anna|CATALOG|||||NAMES|2')):
+                          (21, '3|hugo|ENDED||||||FAULT TYPE AT 3 AFTER 3'), (24, '0|anna|CATALOG|||||NAMES|2'), (26, '0|anna|CATALOG|NOTES||||SHOWN|BY group:ops:')):
             self.assertEqual(rows[line], row.split('|'))
 
     def test_each_question_has_its_lines(self):
-        for words, lines in ((['--set', 'PAYROLL'], [4, 5, 6, 8, 11, 16, 17, 18]), (['--set', 'NONE'], []), (['--account', 'eve'], [2, 20]),
+        for words, lines in ((['--set', 'PAYROLL'], [4, 5, 6, 8, 11, 16, 17, 18, 25]), (['--set', 'NONE'], []), (['--account', 'eve'], [2, 20]),
                              (['--denied'], [5, 8, 12, 14, 16, 23]), (['--denied', '--set', 'PAYROLL'], [5, 8, 16]),
                              (['--denied', '--set', 'PAYROLL', '--account', 'lisa'], [5, 8]), (['--lists'], [6, 19]),
-                             (['--lists', '--account', 'hugo'], []), (['--from', '3'], list(range(7, 25))), (['--to', '1'], list(range(1, 16))),
+                             (['--lists', '--account', 'hugo'], []), (['--from', '3'], list(range(7, 27))), (['--to', '1'], list(range(1, 16))),
                              (['--from', '3', '--to', '3'], list(range(7, 22))), (['--from', '2', '--to', '2'], [2]),
-                             (['--from', '1', '--to', '2'], [1, 2]), (['--from', '4'], [22, 23, 24]), (['--from', '3', '--denied'], [8, 12, 14, 16, 23])):
+                             (['--from', '1', '--to', '2'], [1, 2]), (['--from', '4'], list(range(22, 27))), (['--from', '3', '--denied'], [8, 12, 14, 16, 23])):
             self.assertEqual(self.lines(*words), lines, words)
 
     def test_the_last_line_says_how_the_run_came_to_its_end(self):
         for line, event, more in ((b'RUN 0 .NONE STOPPED\n', 'STOPPED', ''), (b'RUN 0 .NONE REFUSED LINE 17 E4 TRUNCATED\n', 'REFUSED', 'LINE 17 E4 TRUNCATED')):
             row = self.audit('--csv', text=AUDIT + line).decode().splitlines()[-1]
-            self.assertEqual(row, f'25,0,.NONE,{event},,,,,,{more}')
+            self.assertEqual(row, f'27,0,.NONE,{event},,,,,,{more}')
             self.assertEqual(self.lines('--denied', '--from', '4', text=AUDIT + line), [23])
 
     def test_a_job_that_has_not_ended_is_followed_to_the_end(self):
@@ -115,6 +117,8 @@ class Asked(Trying):
                 (b'JOB 1 lisa LOADED', b'', 1, 'an audit has no such line: \n'), (b'JOB 1 lisa LOADED', b'JOB 1 lisa', 1, 'an audit has no such line'),
                 (b'JOB 1 lisa LOADED', b'RUN 0 .NONE REFUSED', 1, 'an audit has no such line'),
                 (b'JOB 1 lisa LOADED', b'RUN 1 lisa STOPPED', 1, 'an audit has no such line'),
+                (b'CATALOG SHOWN NOTES', b'LIST LOG SHOWN NOTES', 26, 'an audit has no such line'), (b'NOTES BY group:ops:', b'NOTES', 26, 'an audit has no such line'),
+                (b'--- BY owner', b'--- BY user', 6, 'an audit has no such line'), (b'RECORDS 3 BY', b'RECORDS 3 FOR', 17, 'an audit has no such line'),
                 (b'.DATA 0 GOT', b'.TAPE 0 GOT', 3, 'an audit has no such line'), (b'.DATA 0 GOT', b'.DATA 0 LOST', 3, 'an audit has no such line'),
                 (b'DONE APPEND', b'DONE <b>', 19, 'an audit has no such line'), (b'DONE user::rwx,', b'DONE user::rwx,<b>,', 6, 'an audit has no such line'),
                 (b'BY mask::', b'BY mask', 5, 'an audit has no such line'), (b'DENIED BY mask::', b'DENIED', 5, 'an audit has no such line'),
@@ -165,10 +169,10 @@ class Made(Trying):
         self.assertEqual(page.texts('caption'), ['What each account did with each data set', 'What changed permission lists, and in which line of the audit'])
         self.assertEqual(page.rows(), [
             ['col: Data set', 'col: lisa', 'col: anna', 'col: hugo'],
-            ['row: PAYROLL', 'read\nwrite denied by mask::\nread denied by other::', 'set the list\nlisted the records\nset the list refused: A4 MISSING group::',
+            ['row: PAYROLL', 'read\nwrite denied by mask::\nread denied by other::', 'set the list\nlisted the records\nsaw the name\nset the list refused: A4 MISSING group::',
              'list the records denied by other::'],
             ['row: LOG', '', 'delete it denied: NOT OWNER', 'wrote\nfound no room'],
-            ['row: GONE', 'cut off the rest denied: NO DATA SET', '', ''], ['row: NOTES', '', 'created it', ''],
+            ['row: GONE', 'cut off the rest denied: NO DATA SET', '', ''], ['row: NOTES', '', 'created it\nsaw the name', ''],
             ['col: Line', 'col: Account', 'col: Card', 'col: Data set', 'col: List'],
             ['row: 6', 'anna', 'SETACL', 'PAYROLL', 'user::rwx, group::---, other::---'], ['row: 19', 'anna', 'CREATE', 'NOTES', '']])
         self.assertEqual(page.texts('p')[-1], 'In all 4 jobs, 8 commands and 6 denials. The audit does not say how the run ended.')
@@ -188,7 +192,7 @@ class Made(Trying):
 
     def test_what_is_no_audit_has_no_page(self):
         self.write('old', b'the old page')
-        for text, line, message in ((AUDIT + b'x\n', 25, 'an audit has no such line: x'), (b'JOB 1\n', 1, 'an audit has no such line: JOB 1'),
-                                    (AUDIT[:-3], 24, 'the file ends within this line'), (b'RUN\n', 1, 'the line account,set,permission,answer,entry is due')):
+        for text, line, message in ((AUDIT + b'x\n', 27, 'an audit has no such line: x'), (b'JOB 1\n', 1, 'an audit has no such line: JOB 1'),
+                                    (AUDIT[:-3], 26, 'the file ends within this line'), (b'RUN\n', 1, 'the line account,set,permission,answer,entry is due')):
             self.is_refused_at(deck('page', self.write('audit', text), '-o', self.path('old')), 'audit', line, message)
             self.assertEqual(self.read('old'), b'the old page')

@@ -6,6 +6,7 @@ use Rattle.mon_acl.specs.declared.entries.Entry.{Entry}
 use Rattle.mon_acl.specs.declared.entries.Tag.TheVariants.{UserObj, GroupObj, Other}
 use Rattle.mon_access.specs.declared.account.Account.{Account}
 use Rattle.mon_access.specs.AccessCheck.{decision}
+use Rattle.mon_access.specs.Accounts.{find_account}
 use Rattle.mon_catalogue.specs.declared.mode.Mode.TheVariants.{Seq}
 use Rattle.mon_catalogue.specs.Sets.{Sets}
 use Rattle.interaction.specs.declared.answer.Reason.TheVariants.{By, NoSet}
@@ -134,7 +135,8 @@ payroll =
     ++ codes "ADA 100\nBOB 200\n\n$STREAM\n$LIST lisa PAYROLL\n$LIST hugo PAYROLL\n$LIST anna GONE\n$STOP\n"
 
 abbrev lists : List ℕ → List ℕ → commands.Answer → AnEntry
-lists account name answer = let deck = deck_of (lines payroll) in Ordered deck.catalogue (command.List account name) answer
+lists account name answer =
+    let deck = deck_of (lines payroll) in Ordered (find_account deck.accounts account) deck.catalogue (command.List account name) answer
 
 -- Its history, with four slots: three records; denied by `other::---`; and denied, as there is no such data set.
 abbrev payroll_listed : List AnEntry
@@ -166,13 +168,13 @@ payroll_in_order m =
       two ∷ three ∷ [],
       stage m,
       refl,
-      (deck.catalogue, lisa, refl, refl),
+      (find_account deck.accounts (codes "lisa"), deck.catalogue, lisa, refl, refl),
       (
         two ∷ [],
         three ∷ [],
         stage m,
         refl,
-        (deck.catalogue, hugo_is_denied, refl, refl),
-        (three ∷ [], [], stage m, refl, (deck.catalogue, none_there, refl, refl), ([], [], stage m, refl, ([], refl, (refl, refl)), (refl, refl))),
+        (find_account deck.accounts (codes "hugo"), deck.catalogue, hugo_is_denied, refl, refl),
+        (three ∷ [], [], stage m, refl, (find_account deck.accounts (codes "anna"), deck.catalogue, none_there, refl, refl), ([], [], stage m, refl, ([], refl, (refl, refl)), (refl, refl))),
       ),
     )

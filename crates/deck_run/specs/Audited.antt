@@ -16,7 +16,7 @@ use Rattle.deck_driver.specs.Printouts.{output_of}
 use Rattle.deck_run.specs.Runs.{HoldsBeginning}
 use Rattle.deck_run.specs.Headline.{history_of}
 
--- THE LAW: for every deck that is run, the audit has the line of each entry of the history, in its order: of that history of which the
+-- THE LAW: for every deck that is run, the audit has the lines of each entry of the history, in its order: of that history of which the
 -- headline says what stands in it.
 abbrev pub Audited : Type 0
 Audited = (options : Options) (m : Marks) (bytes : List ℕ) → options.check ≡ false → audit_for options m bytes ≡ flat_map audit_line (history_of options m bytes)

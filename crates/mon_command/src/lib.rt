@@ -17,4 +17,4 @@ pub use printing::{print_number, print_word, put_listing};
 pub use printout::Printout;
 pub use reply::{Reply, print_reason};
 pub use said::Said;
-pub use serving::{put_answered, serve};
+pub use serving::{put_answered, put_unlisted, serve};

@@ -7,7 +7,7 @@ ghost use Rattle.std.specs.List.{flat_map};
 ghost use Rattle.mon_guard.specs.Views.{records_lent, acl_lent, names_lent};
 ghost use Rattle.mon_guard.specs.Owning.{created, removed, acl_set};
 ghost use Rattle.mon_guard.specs.Cache.{CacheFits};
-ghost use Rattle.mon_command.specs.Commanded.{Names, Records as Listed, Shown, told_by, creation_reply, removal_reply, acl_reply, shown_as, served, answered, commanded};
+ghost use Rattle.mon_command.specs.Commanded.{Told, Names, Records as Listed, Shown, told_by, creation_reply, removal_reply, acl_reply, shown_as, served, answered, printed, commanded};
 ghost use Rattle.mon_command.specs.Saying.{said_of};
 ghost use Rattle.mon_command.specs.Printouts.{name_line, names_text};
 ghost use Rattle.mon_command.specs.inner.Names.{shown_at};
@@ -112,6 +112,25 @@ fn put_list(
         },
         None => Reply::NoAccount,
     };
+    put_unlisted(alloc, account, name, reply, out)
+}
+
+/// Appends the printout of a command that lists records, where it is told this instead, and says what was answered.
+///
+/// # Errors
+///
+/// Where a growth was refused; nothing was appended then.
+pub fn put_unlisted(
+    alloc: Global,
+    account: &Name,
+    name: &Name,
+    reply: Reply,
+    out: &mut Vec<u8>,
+) -> Result<Said, AllocError>
+    ensures printed { OnOk result (out.new.items ≡ out.old.items ++ printed (commands.List account.now name.now) (Told reply)) }
+    ensures said { IfOk result (λ said. said ≡ said_of (Told reply)) }
+    ensures nothing { OnErr result (out.new.items ≡ out.old.items) }
+{
     let command = Command::List {
         account: account.copy(),
         name: name.copy(),

@@ -160,7 +160,7 @@ module _ (changed : units.ChangedWhereGranted) (accounts : List Account) (name :
       → Keeps name first (sets_after accounts before x)
   entry_keeps before (Asked e) stands not h =
       request_keeps changed e.account e.reach e.request name first (subst (λ (s : Sets). Keeps name first s) (sym stands.0) h)
-  entry_keeps before (Ordered sets command answer) stands not h =
+  entry_keeps before (Ordered known sets command answer) stands not h =
       command_keeps name first sets (subst (λ (s : Sets). Keeps name first s) (sym stands.0) h) accounts command
       (λ is. not (subst (λ (a : commands.Answer). HasDeleted name command a) (sym stands.1) is))
   entry_keeps before (Entered deck) stands not h = h

@@ -45,8 +45,8 @@ run_at_its_load : (accounts : List Account) (deck : JobDeck) (command : Command)
 run_at_its_load accounts deck command events before after e rest free h =
     let one = loads_alone accounts deck before h.2 h.0 free h.4 in
     let next = h.5 in
-    let all : Entered deck ∷ Asked e ∷ rest ≡ one.0 ∷ Ordered next.4.0 command next.4.1 ∷ next.1 =
-    h.3 ∙ ap (λ (l : List Entry). l ++ h.1) one.1 ∙ ap (λ (l : List Entry). one.0 ∷ l) (next.3 ∙ ap (λ (l : List Entry). l ++ next.1) next.4.2) in
+    let all : Entered deck ∷ Asked e ∷ rest ≡ one.0 ∷ Ordered next.4.0 next.4.1 command next.4.2 ∷ next.1 =
+    h.3 ∙ ap (λ (l : List Entry). l ++ h.1) one.1 ∙ ap (λ (l : List Entry). one.0 ∷ l) (next.3 ∙ ap (λ (l : List Entry). l ++ next.1) next.4.3) in
     cc (all)
 
 -- A TURN IS NOT ANOTHER SLOT'S

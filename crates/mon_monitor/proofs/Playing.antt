@@ -1,6 +1,6 @@
 -- What the calls do is what the definitions say.
 use Rattle.std.proofs.Common.{◌≡◌, ℕ, List, [], ◌∷◌, ◌++◌, length, Option, Some, None, true, Result, Ok, Err, refl, ap, sym, ◌∙◌, subst, append_assoc, append-nil}
-use Rattle.std.specs.Prelude.{OnOk, OnErr, replicate}
+use Rattle.std.specs.Prelude.{OnOk, OnErr, OnSome, replicate}
 use Rattle.std.specs.List.{flat_map}
 use Rattle.std.proofs.lemmas.List.Concat.{flat_map-append}
 use Rattle.mon_text.specs.declared.stop.Stop.{Stop}
@@ -11,11 +11,13 @@ use Rattle.mon_access.specs.Accounts.{find_account}
 use Rattle.mon_catalogue.specs.Sets.{Sets}
 use Rattle.mon_command.specs.declared.command.Command.{Command}
 use Rattle.mon_command.specs.declared.command.Command.TheVariants.{List as Listing}
+use Rattle.mon_command.specs.Commands.{account_of}
 use Rattle.mon_command.specs.Commanded.{answered, commanded}
 use Rattle.mon_command.specs.declared.said.Said.{Said}
 use Rattle.mon_command.specs.Saying.{said_of}
 use Rattle.mon_command.proofs.Shorthand.{served_if_known}
-use Rattle.mon_unit.specs.AuditCommands.{ordered_line, said_line, listed}
+use Rattle.mon_unit.specs.AuditCommands.{ordered_lines}
+use Rattle.mon_unit.specs.inner.AuditParts.{lines_after}
 use Rattle.mon_unit.proofs.Ordered.{ordered_is}
 use Rattle.deck_syntax.specs.declared.job_deck.JobDeck.{JobDeck}
 use Rattle.scheduler.specs.declared.job_end.JobEnd.{JobEnd}
@@ -185,9 +187,13 @@ pub given_end : (s n : ℕ) (w w' : SystemState) (before after : List ℕ) (end 
 given_end s n w w' before after end a b accounts is printed =
     given s n w w' before after (end ∷ []) a b accounts is (printed ∙ ap (λ (t : List ℕ). before ++ t) (sym (append-nil (printout end))))
 
+-- all that is said of a command
+abbrev pub lines_of : SystemState → Command → List ℕ
+lines_of w command = ordered_lines (find_account w.accounts (account_of command)) w.scheduler.sets command (answered w.accounts w.scheduler.sets command).answer
+
 -- a command
 pub served : (command : Command) (w w' : SystemState) (before after text line : List ℕ) (a b : Standing) → w' ≡ with_sets w (commanded w.accounts w.scheduler.sets command).sets
-    → text ≡ (commanded w.accounts w.scheduler.sets command).printout → after ≡ before ++ text → line ≡ ordered_line command (answered w.accounts w.scheduler.sets command).answer
+    → text ≡ (commanded w.accounts w.scheduler.sets command).printout → after ≡ before ++ text → line ≡ lines_of w command
     → Puts a b line → HappensUnmarked (Serve command) w before w' after a b
 served command w w' before after text line a b is printout put told audited =
     let printouts = OfCommand (commanded w.accounts w.scheduler.sets command).printout ∷ [] in (
@@ -197,7 +203,7 @@ served command w w' before after text line a b is printout put told audited =
         is = λ rest. ap (λ (v : SystemState). let p : Played = record { printouts = printouts; after = v; marks = rest } in p) (sym is);
         printed = put ∙ ap (λ (t : List ℕ). before ++ t) (printout ∙ sym (append-nil (commanded w.accounts w.scheduler.sets command).printout));
         lines = line;
-        tells = λ rest. append-nil (ordered_line command (answered w.accounts w.scheduler.sets command).answer) ∙ sym told;
+        tells = λ rest. append-nil (lines_of w command) ∙ sym told;
         audited = audited;
       },
       refl,
@@ -216,9 +222,13 @@ pub unheard : (account name : List ℕ) (w : SystemState) (before after : List �
     → after ≡ before ++ (commanded w.accounts w.scheduler.sets (Listing account name)).printout → HappensUnmarked (Serve (Listing account name)) w before w after a a
 unheard account name w before after a failed put =
     let command = Listing account name in
-    served command w w before after (commanded w.accounts w.scheduler.sets command).printout (ordered_line command (answered w.accounts w.scheduler.sets command).answer) a a
+    served command w w before after (commanded w.accounts w.scheduler.sets command).printout (lines_of w command) a a
     (ap (λ (sets : Sets). with_sets w sets) (sym (listing_leaves w.accounts w.scheduler.sets account name))) refl put refl
-    (puts_failed a a (ordered_line command (answered w.accounts w.scheduler.sets command).answer) failed refl)
+    (puts_failed a a (lines_of w command) failed refl)
+
+-- what was appended, where something was said
+pub listed_so : {P : Type 0} (o : Option Said) (said : Said) → o ≡ Some said → OnSome o P → P
+listed_so {P} o said is h = subst (λ (x : Option Said). OnSome x P) is h
 
 -- nothing was appended before it was served
 pub served_behind : {E : Type 0} (r : Result (Unit {0}) E) (command : Command) (w w' : SystemState) (before now after : List ℕ) (a b : Standing) → now ≡ before
@@ -226,12 +236,15 @@ pub served_behind : {E : Type 0} (r : Result (Unit {0}) E) (command : Command) (
 served_behind r command w w' before now after a b same h = subst (λ (t : List ℕ). OnOk r (HappensUnmarked (Serve command) w t w' after a b)) same h
 
 -- what was said of it is said of its answer
-pub said_so : (command : Command) (w w' : SystemState) (said : Said) (sets : Sets) → said ≡ said_of (answered w.accounts w.scheduler.sets command).answer
-    → w' ≡ with_sets w (commanded w.accounts w.scheduler.sets command).sets → sets ≡ w'.scheduler.sets
-    → said_line command said (listed command sets) ≡ ordered_line command (answered w.accounts w.scheduler.sets command).answer
-said_so command w w' said sets is system same =
-    ap (λ (s : Said). said_line command s (listed command sets)) is
-    ∙ ap (λ (v : Sets). said_line command (said_of (answered w.accounts w.scheduler.sets command).answer) (listed command v)) (same ∙ ap (λ (v : SystemState). v.scheduler.sets) system)
+pub said_so : (command : Command) (w w' : SystemState) (said : Said) (accounts : List Account) (sets : Sets) → said ≡ said_of (answered w.accounts w.scheduler.sets command).answer
+    → w' ≡ with_sets w (commanded w.accounts w.scheduler.sets command).sets → accounts ≡ w'.accounts → sets ≡ w'.scheduler.sets
+    → lines_after (find_account accounts (account_of command)) sets command said ≡ lines_of w command
+said_so command w w' said accounts sets is system known same =
+    ap (λ (s : Said). lines_after (find_account accounts (account_of command)) sets command s) is
+    ∙ ap (λ (l : List Account). lines_after (find_account l (account_of command)) sets command (said_of (answered w.accounts w.scheduler.sets command).answer))
+    (known ∙ ap (λ (v : SystemState). v.accounts) system)
+    ∙ ap (λ (v : Sets). lines_after (find_account w.accounts (account_of command)) v command (said_of (answered w.accounts w.scheduler.sets command).answer))
+    (same ∙ ap (λ (v : SystemState). v.scheduler.sets) system)
     ∙ ordered_is w.accounts w.scheduler.sets command
 
 -- a job that is loaded, or refused

@@ -18,6 +18,7 @@ use Rattle.mon_unit.specs.Serving.{Reach, serve}
 use Rattle.mon_unit.specs.Runs.{run}
 use Rattle.mon_unit.proofs.Runs.{passed_begins}
 use Rattle.mon_catalogue.specs.Sets.{Sets}
+use Rattle.mon_command.specs.Commands.{account_of}
 use Rattle.mon_command.specs.Commanded.{answered}
 use Rattle.deck_syntax.specs.declared.job_deck.UnitCard.{UnitCard}
 use Rattle.deck_syntax.specs.declared.job_deck.JobDeck.{JobDeck}
@@ -357,7 +358,7 @@ module _ (accounts : List Account) (J : ℕ → Option JobDeck) (numbered : (n :
 
       event_far : (e : Event) (E : List Event) (m : Marks) (f : SchedulerState) (H : List Entry) → NumbersDiffer (e ∷ E) → length f.slots ≢ 0 → Far (e ∷ E) H f.slots → Happens e m f H E
       event_far (Serve command) E m f H differ some far =
-          let entry = Ordered f.sets command (answered accounts f.sets command).answer in
+          let entry = Ordered (find_account accounts (account_of command)) f.sets command (answered accounts f.sets command).answer in
           as_far accounts J (Serve command ∷ E) E H (H ++ entry ∷ []) f.slots (λ n. refl) (λ n. ordered_by_none n H entry refl) far
       event_far (Load deck) E m f H differ some far =
           let g = (room m f).after in

@@ -192,7 +192,7 @@ module _ (changed : units.ChangedWhereGranted) (name : List ℕ) (place : ℕ) (
   entry_holds : (accounts : List Account) (sets : Sets) (x : Entry) → StandsOver accounts sets x → (¬ Overwrites name x) → Holds name place line sets
       → Holds name place line (sets_after accounts sets x)
   entry_holds accounts sets (Asked e) over not h = request_holds e over.1 not (subst (λ (s : Sets). Holds name place line s) (sym over.0) h)
-  entry_holds accounts sets (Ordered before command a) over not h =
+  entry_holds accounts sets (Ordered known before command a) over not h =
       command_holds before (subst (λ (s : Sets). Holds name place line s) (sym over.0) h) accounts command
       (λ is. not (subst (λ (b : commands.Answer). HasDeleted name command b) (sym over.1) is))
   entry_holds accounts sets (Entered deck) over not h = h

@@ -21,6 +21,7 @@ use Rattle.sno_syntax.specs.Programs.{Program}
 use Rattle.mon_access.specs.declared.account.Account.{Account}
 use Rattle.mon_access.specs.Accounts.{find_account}
 use Rattle.mon_catalogue.specs.Sets.{Sets}
+use Rattle.mon_command.specs.Commands.{account_of}
 use Rattle.mon_command.specs.Commanded.{answered}
 use Rattle.mon_unit.specs.Serving.{Reach, serve}
 use Rattle.mon_unit.specs.Runs.{run, passed}
@@ -364,7 +365,7 @@ module _ (accounts : List Account) (made : (w : SchedulerState) (m : Marks) → 
 
   card_brings : (e : Event) (m : Marks) (f : SchedulerState) → length f.slots ≢ 0 → Going f.slots
       → Brings accounts e (staged f.slots m) (event_entries e m (system accounts f)) (stage_after e m f)
-  card_brings (Serve command) m f some going = (f.sets, (answered accounts f.sets command).answer, refl, refl)
+  card_brings (Serve command) m f some going = (find_account accounts (account_of command), f.sets, (answered accounts f.sets command).answer, refl, refl)
   card_brings (Load deck) m f some going =
       let g = room m f in
       let free = some_free (first_free g.after.slots) (made f m some) in
@@ -485,7 +486,7 @@ load_unbroken accounts deck before entry after (inr h) = subst IsUnbroken (sym h
 card_unbroken : (accounts : List Account) (e : Event) (before : Stage) (entries : List Entry) (after : Stage) → Brings accounts e before entries after
     → NoMark before.marks → AllUnbroken entries × NoMark after.marks
 card_unbroken accounts (Serve command) before entries after h none =
-    (subst AllUnbroken (sym h.2) (tt, tt), subst (λ (x : Stage). NoMark x.marks) (sym h.3) none)
+    (subst AllUnbroken (sym h.3) (tt, tt), subst (λ (x : Stage). NoMark x.marks) (sym h.4) none)
 card_unbroken accounts (Load deck) before entries after h none =
     let all = turns_unbroken (in_rounds (list_any is_none)) before h.0 h.2 h.4 none in (
       subst AllUnbroken (sym h.3) (unbroken_both h.0 (h.1 ∷ []) all.0 (load_unbroken accounts deck h.2.seats h.1 after.seats h.5, tt)),

@@ -31,7 +31,7 @@ HasDeleted name (Delete _ other) answer = (other ≡ name) × (answer ≡ Told r
 HasDeleted name _ answer = ⊥
 
 abbrev pub Deletes : List ℕ → Entry → Type 0
-Deletes name (Ordered sets command answer) = HasDeleted name command answer
+Deletes name (Ordered known sets command answer) = HasDeleted name command answer
 Deletes name _ = ⊥
 
 -- none of these entries deletes the set of this name

@@ -1,11 +1,11 @@
--- THE AUDIT (own): a line for each entry of the history, in its order. What a line has of a request, and of a command, mon_unit says; and of
--- jobs, scheduler.
+-- THE AUDIT (own): a line for each entry of the history, in its order, and behind that of a CATALOG one for each data set that it shows. What
+-- a line has of a request, and of a command, mon_unit says; and of jobs, scheduler.
 use Rattle.std.specs.Prelude.{ℕ, List}
 use Rattle.std.specs.List.{flat_map}
 use Rattle.deck_syntax.specs.declared.job_deck.JobDeck.{JobDeck}
 use Rattle.scheduler.specs.Marks.{Marks}
 use Rattle.scheduler.specs.AuditLines.{loaded_line, refused_line, ended_line, exchanged_line}
-use Rattle.mon_unit.specs.AuditCommands.{ordered_line}
+use Rattle.mon_unit.specs.AuditCommands.{ordered_lines}
 use Rattle.mon_monitor.specs.SystemStates.{SystemState}
 use Rattle.mon_monitor.specs.Events.{Event}
 use Rattle.mon_monitor.specs.Played.{loading}
@@ -16,7 +16,7 @@ audit_line (Entered deck) = loaded_line deck.number deck.account
 audit_line (Refused deck refusal) = refused_line deck.number deck.account refusal
 audit_line (Asked e) = exchanged_line e
 audit_line (Ended end) = ended_line end
-audit_line (Ordered sets command answer) = ordered_line command answer
+audit_line (Ordered known sets command answer) = ordered_lines known sets command answer
 
 -- what the audit says of these entries
 abbrev pub audit : List Entry → List ℕ

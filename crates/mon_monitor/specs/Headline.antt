@@ -210,7 +210,8 @@ cards_of (Drain ∷ events) = cards_of events
 -- an entry stands over these data sets, and is answered as they say
 abbrev pub StandsOver : List Account → Sets → Entry → Type 0
 StandsOver accounts sets (Asked e) = (e.reach.sets ≡ sets) × (e.answer ≡ (serve e.account e.reach e.request).0)
-StandsOver accounts sets (Ordered before command answer) = (before ≡ sets) × (answer ≡ (answered accounts before command).answer)
+StandsOver accounts sets (Ordered known before command answer) =
+    (before ≡ sets) × (answer ≡ (answered accounts before command).answer) × (known ≡ find_account accounts (account_of command))
 StandsOver accounts sets (Entered deck) = Unit {0}
 StandsOver accounts sets (Refused deck refusal) = Unit {0}
 StandsOver accounts sets (Ended end) = Unit {0}
@@ -218,7 +219,7 @@ StandsOver accounts sets (Ended end) = Unit {0}
 -- the data sets that an entry leaves where it stands over these
 abbrev pub sets_after : List Account → Sets → Entry → Sets
 sets_after accounts sets (Asked e) = (serve e.account e.reach e.request).1.sets
-sets_after accounts sets (Ordered before command answer) = (answered accounts before command).sets
+sets_after accounts sets (Ordered known before command answer) = (answered accounts before command).sets
 sets_after accounts sets (Entered deck) = sets
 sets_after accounts sets (Refused deck refusal) = sets
 sets_after accounts sets (Ended end) = sets
@@ -268,7 +269,9 @@ ShowsRightly account sets (SetAcl _ name text) answer = (reply : Reply) × (answ
 
 -- A command: these are the laws `changes_where_granted`, `shows_where_granted` and `denials_say_why` of mon_command, and what is told
 -- otherwise, at its answer. By a name that is taken, and by denials, everyone is told whether there is such a data set.
-pub record IsRightCommand (accounts : List Account) (sets : Sets) (command : Command) (answer : commands.Answer) : Type 0 where
+pub record IsRightCommand (accounts : List Account) (known : Option Account) (sets : Sets) (command : Command) (answer : commands.Answer) : Type 0 where
+  -- Its account is the one that its card names, if there is one.
+  pub by : known ≡ find_account accounts (account_of command)
   -- An account that is unknown is told so, and nothing else.
   pub unknown : find_account accounts (account_of command) ≡ None → answer ≡ Told reply.NoAccount
   -- CREATE makes a data set for every account that is known, where its name is free and there is room; DELETE removes one for its
@@ -284,7 +287,7 @@ pub record IsRightCommand (accounts : List Account) (sets : Sets) (command : Com
 -- an entry got, changed and showed what was granted, and its denial says why
 abbrev pub IsRight : List Account → Entry → Type 0
 IsRight accounts (Asked e) = IsRightRequest e
-IsRight accounts (Ordered sets command answer) = IsRightCommand accounts sets command answer
+IsRight accounts (Ordered known sets command answer) = IsRightCommand accounts known sets command answer
 IsRight accounts (Entered deck) = Unit {0}
 IsRight accounts (Refused deck refusal) = Unit {0}
 IsRight accounts (Ended end) = Unit {0}

@@ -3,8 +3,11 @@
 -- turn asks stands together.
 use Rattle.std.specs.Prelude.{ℕ, ◌==◌, Bool, false, List, [], ◌∷◌, ◌++◌, length, map, filter, Option, Result, Ok, Err, if◌then◌else◌, drop, replicate}
 use Rattle.std.specs.List.{flat_map}
+use Rattle.mon_access.specs.declared.account.Account.{Account}
+use Rattle.mon_access.specs.Accounts.{find_account}
 use Rattle.mon_catalogue.specs.Sets.{Sets}
 use Rattle.mon_command.specs.declared.command.Command.{Command}
+use Rattle.mon_command.specs.Commands.{account_of}
 use Rattle.mon_command.specs.Commanded as commands
 use Rattle.mon_command.specs.Commanded.{answered, printed}
 use Rattle.deck_syntax.specs.declared.job_deck.JobDeck.{JobDeck}
@@ -30,8 +33,8 @@ pub data Entry : Type 0 where
   Asked : Exchanged → Entry
   -- a job has ended
   Ended : JobEnd → Entry
-  -- a command is served over these data sets, and is answered
-  Ordered : Sets → Command → commands.Answer → Entry
+  -- a command of this account, if it is known, is served over these data sets, and is answered
+  Ordered : Option Account → Sets → Command → commands.Answer → Entry
 
 -- a job that has ended with its turn
 abbrev pub end_entry : Turned → List Entry
@@ -60,7 +63,8 @@ load_entry deck (Err refusal) = Refused deck refusal ∷ []
 
 -- one event: a command is served; a job enters, behind the turns that make room for it; turns are taken
 abbrev pub event_entries : Event → Marks → SystemState → List Entry
-event_entries (Serve command) m w = Ordered w.scheduler.sets command (answered w.accounts w.scheduler.sets command).answer ∷ []
+event_entries (Serve command) m w =
+    Ordered (find_account w.accounts (account_of command)) w.scheduler.sets command (answered w.accounts w.scheduler.sets command).answer ∷ []
 event_entries (Load deck) m w =
     entries_of_rounds has_free_slot m w.scheduler ++ load_entry deck (loading deck (record w { scheduler = (rounds_until has_free_slot m w.scheduler).after })).0
 event_entries (Give slot count) m w = entries_until never (replicate count slot) m w.scheduler
@@ -77,7 +81,7 @@ printout_of (Entered deck) = []
 printout_of (Refused deck refusal) = OfRefused deck.number deck.account refusal ∷ []
 printout_of (Asked e) = []
 printout_of (Ended e) = OfJob e ∷ []
-printout_of (Ordered sets command answer) = OfCommand (printed command answer) ∷ []
+printout_of (Ordered known sets command answer) = OfCommand (printed command answer) ∷ []
 
 -- what entries print, in order
 abbrev pub printouts_in : List Entry → List Printout
@@ -89,7 +93,7 @@ card_of (Entered deck) = Load deck ∷ []
 card_of (Refused deck refusal) = Load deck ∷ []
 card_of (Asked e) = []
 card_of (Ended e) = []
-card_of (Ordered sets command answer) = Serve command ∷ []
+card_of (Ordered known sets command answer) = Serve command ∷ []
 
 -- the cards that entries answer, in order
 abbrev pub cards_in : List Entry → List Event
@@ -101,7 +105,7 @@ is_of n (Entered deck) = deck.number == n
 is_of n (Refused deck refusal) = deck.number == n
 is_of n (Asked e) = e.number == n
 is_of n (Ended e) = e.number == n
-is_of n (Ordered sets command answer) = false
+is_of n (Ordered known sets command answer) = false
 
 -- the job's own entries
 abbrev pub own : ℕ → List Entry → List Entry

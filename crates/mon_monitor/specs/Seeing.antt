@@ -31,7 +31,7 @@ ReadsAt name place e = IsRead e.request.act × (target_of e.reach.units e.reques
 -- the data set of this name is written, ended or deleted: that is asked, and done
 abbrev pub Overwrites : List ℕ → Entry → Type 0
 Overwrites name (Asked e) = (target_of e.reach.units e.request ≡ Set name) × (note_act e.request.act ≢ note.Rewind) × (e.answer ≡ Done)
-Overwrites name (Ordered sets command answer) = HasDeleted name command answer
+Overwrites name (Ordered known sets command answer) = HasDeleted name command answer
 Overwrites name _ = ⊥
 
 -- Wherever one of these entries wrote a line, and a later one reads at that place with nothing between that overwrites the data set,

@@ -115,7 +115,8 @@ Loads accounts deck before entry after = ((entry ≡ Entered deck) × IsLoaded a
 -- What one card brings: a command its one entry, and no turn; a job, where all slots are taken, turns until one is free, and then its
 -- one entry; `$TURN` turns of its slot; `$DRAIN` and `$STOP` turns until all slots are empty.
 abbrev pub Brings : List Account → Event → Stage → List Entry → Stage → Type 0
-Brings accounts (Serve command) before entries after = (sets : Sets) × (answer : commands.Answer) × (entries ≡ Ordered sets command answer ∷ []) × (after ≡ before)
+Brings accounts (Serve command) before entries after =
+    (known : Option Account) × (sets : Sets) × (answer : commands.Answer) × (entries ≡ Ordered known sets command answer ∷ []) × (after ≡ before)
 Brings accounts (Load deck) before entries after = (turns : List Entry) × (entry : Entry) × (mid : Stage) × (entries ≡ turns ++ entry ∷ [])
     × Turns (in_rounds (list_any is_none)) before turns mid × Loads accounts deck mid.seats entry after.seats × (after.marks ≡ mid.marks)
 Brings accounts (Give slot count) before entries after = Turns (given slot count) before entries after

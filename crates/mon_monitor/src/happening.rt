@@ -3,7 +3,7 @@
 //! Where a growth is refused nothing is appended; jobs that ended are then lost, and the monitor is of no more use. An audit then has a
 //! beginning of what the event tells.
 ghost use Rattle.std.specs.Prelude.{◌≡◌, ◌++◌, true, false, None, IfOk, IfSome, OnOk, OnSome, OnErr};
-ghost use Rattle.mon_command.specs.Commanded.{answered, commanded};
+ghost use Rattle.mon_command.specs.Commanded.{Told, answered, printed, commanded};
 ghost use Rattle.mon_command.specs.Saying.{said_of};
 ghost use Rattle.mon_command.specs.declared.command.Command.TheVariants as commands;
 ghost use Rattle.mon_monitor.specs.Abstraction.{system_of};
@@ -17,7 +17,7 @@ ghost use Rattle.mon_monitor.specs.Happening.{Does, Happens, HappensUnmarked, Br
 use crate::monitor::Monitor;
 use crate::printed::{Piece, Printed};
 use mon_catalogue::Catalogue;
-use mon_command::{Command, Said, put_listing};
+use mon_command::{Command, Reply, Said, put_listing, put_unlisted};
 use mon_device::Sink;
 use mon_text::{Name, Stop};
 use mon_unit::print_command;
@@ -46,7 +46,7 @@ impl Monitor {
         ensures nothing { OnErr result (out.new ≡ out.old) }
     {
         let said = self.put_served(alloc, &command, out)?;
-        print_command(&command, &said, self.catalogue(), audit);
+        print_command(self.accounts(), &command, &said, self.catalogue(), audit);
         Ok(())
     }
 
@@ -68,32 +68,35 @@ impl Monitor {
         ensures broken { OnErr result (Breaks (event_lines (Serve (commands.List account name))) (system_of self.old) (S.standing audit.old) (S.standing audit.new)) }
         ensures nothing { OnErr result (out.new ≡ out.old) }
     {
-        let done = self.put_unheard(&account, &name, out, audit)?;
+        let done = self.put_unheard(alloc, &account, &name, out, audit);
         if done {
+            self.give_way_to(out);
             return Ok(());
         }
         self.serve_command(alloc, Command::List { account, name }, out, audit)
     }
 
-    // Serves a command that lists records, where nobody listens to the audit and `put_listed` does so: whether it did.
+    // Serves a command that lists records, where nobody listens to the audit and `put_listed` does so in the memory that there is: whether it
+    // did.
     #[tactic(auto, using(crate::proofs::Playing::unheard))]
     fn put_unheard<S: Sink>(
         &self,
+        alloc: Global,
         account: &Name,
         name: &Name,
         out: &mut Printed,
         audit: &S,
-    ) -> Result<bool, AllocError>
-        ensures happens { IfOk result (λ done. done ≡ true → HappensUnmarked (Serve (commands.List account.now name.now)) (system_of self.now) out.old (system_of self.now) out.new (S.standing audit.now) (S.standing audit.now)) }
-        ensures left { IfOk result (λ done. done ≡ false → out.new ≡ out.old) }
-        ensures nothing { OnErr result (out.new ≡ out.old) }
+    ) -> bool
+        ensures happens { result ≡ true → HappensUnmarked (Serve (commands.List account.now name.now)) (system_of self.now) out.old (system_of self.now) out.new (S.standing audit.now) (S.standing audit.now) }
+        ensures left { result ≡ false → out.new ≡ out.old }
     {
         if audit.listens() {
-            return Ok(false);
+            return false;
         }
-        match self.put_listed(account, name, out)? {
-            Some(_) => Ok(true),
-            None => Ok(false),
+        match self.put_listed(alloc, account, name, out) {
+            Ok(Some(_)) => true,
+            Ok(None) => false,
+            Err(_) => false,
         }
     }
 
@@ -110,37 +113,55 @@ impl Monitor {
         ensures nothing { OnErr result (out.new ≡ out.old) }
     {
         if let Command::List { account, name } = command {
-            return match self.put_listed(account, name, out)? {
-                Some(count) => Ok(Said::Records(count)),
-                None => self.print_other(alloc, command, out),
+            return match self.put_listed(alloc, account, name, out) {
+                Ok(Some(said)) => {
+                    self.give_way_to(out);
+                    Ok(said)
+                }
+                Ok(None) => self.print_other(alloc, command, out),
+                Err(_) => self.print_other(alloc, command, out),
             };
         }
         self.print_other(alloc, command, out)
     }
 
-    // Appends the printout of a command that lists records, where they are granted: how many they are. Records that are many are shown
-    // from where they stand. Few that come behind pieces are left to `print_other`, and nothing is appended then.
+    // Where a printout shows data sets, a text may have to be made of it before these change, for which what is kept for commands gives way.
+    fn give_way_to(&mut self, out: &Printed)
+        ensures { self.new ≡ self.old }
+    {
+        if !out.rest.is_empty() {
+            self.give_way();
+        }
+    }
+
+    // Appends the printout of a command that lists records, and says what was answered. Records that are many are shown from where they
+    // stand. Few that come behind pieces are left to `print_other`, and nothing is appended then.
     fn put_listed(
         &self,
+        alloc: Global,
         account: &Name,
         name: &Name,
         out: &mut Printed,
-    ) -> Result<Option<u64>, AllocError>
+    ) -> Result<Option<Said>, AllocError>
         ensures printed { IfOk result (λ listed. OnSome listed (out.new ≡ out.old ++ (commanded (system_of self.now).accounts (system_of self.now).scheduler.sets (commands.List account.now name.now)).printout)) }
-        ensures said { IfOk result (λ listed. IfSome listed (λ count. Said.Records count ≡ said_of (answered (system_of self.now).accounts (system_of self.now).scheduler.sets (commands.List account.now name.now)).answer)) }
+        ensures said { IfOk result (λ listed. IfSome listed (λ said. said ≡ said_of (answered (system_of self.now).accounts (system_of self.now).scheduler.sets (commands.List account.now name.now)).answer)) }
         ensures left { IfOk result (λ listed. listed ≡ None → out.new ≡ out.old) }
         ensures nothing { OnErr result (out.new ≡ out.old) }
     {
         match self.listed(account, name) {
-            Some(records) if records.len() > FEW_RECORDS => {
+            Ok(records) if records.len() > FEW_RECORDS => {
                 self.print_listing(account, name, out)?;
-                Ok(Some(records.len()))
+                Ok(Some(Said::Records(records.len())))
             }
-            Some(records) if out.rest.is_empty() => {
+            Ok(records) if out.rest.is_empty() => {
                 put_listing(account, name, records, &mut out.text)?;
-                Ok(Some(records.len()))
+                Ok(Some(Said::Records(records.len())))
             }
-            Some(_) | None => Ok(None),
+            Ok(_) => Ok(None),
+            Err(reply) => {
+                let said = print_unlisted(alloc, account, name, reply, out)?;
+                Ok(Some(said))
+            }
         }
     }
 
@@ -293,4 +314,25 @@ impl Monitor {
         out.put_ends_and_sets(ends, printed)?;
         Ok(sets)
     }
+}
+
+// Appends the printout of a command that lists records, where it is told this instead, as a text, behind pieces as one of them.
+fn print_unlisted(
+    alloc: Global,
+    account: &Name,
+    name: &Name,
+    reply: Reply,
+    out: &mut Printed,
+) -> Result<Said, AllocError>
+    ensures printed { OnOk result (out.new ≡ out.old ++ printed (commands.List account.now name.now) (Told reply)) }
+    ensures said { IfOk result (λ said. said ≡ said_of (Told reply)) }
+    ensures nothing { OnErr result (out.new ≡ out.old) }
+{
+    if out.rest.is_empty() {
+        return put_unlisted(alloc, account, name, reply, &mut out.text);
+    }
+    let mut text = Vec::new(alloc);
+    let said = put_unlisted(alloc, account, name, reply, &mut text)?;
+    out.put_piece(Piece::Text(text))?;
+    Ok(said)
 }

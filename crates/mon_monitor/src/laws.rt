@@ -97,10 +97,13 @@ pub fn reads_see_writes()
     mon_unit::laws::changed_where_granted();
 }
 
-/// Each record that a job gets of a data set, and each change of one, has a line in the audit that names the entry which granted it.
+/// Each record that a job gets of a data set, and each change of one, has a line in the audit that names the entry which granted it; and so has
+/// what a command shows or changes, or that its account is the owner.
 pub fn accesses_are_named()
     ensures { AccessesAreNamed }
 {
+    mon_unit::audit_laws::entries_are_named();
     mon_unit::audit_laws::grants_are_named();
     mon_unit::audit_laws::changes_are_named();
+    mon_guard::laws::lends_where_granted();
 }

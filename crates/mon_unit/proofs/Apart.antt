@@ -1,13 +1,17 @@
 -- Words with blanks between them are told apart.
 use Rattle.std.proofs.Common.{◌≡◌, ℕ, ◌<◌, ◌^◌, Bool, true, false, ◌&&◌, ◌||◌, List, [], ◌∷◌, ◌++◌, get_or, refl, sym, ap, ◌∙◌, true≢false, append_assoc}
-use Rattle.std.specs.Prelude.{decimal, codes, ◌==◌, if◌then◌else◌}
+use Rattle.std.specs.Prelude.{decimal, codes, ◌==◌, if◌then◌else◌, drop, IfSome}
+use Rattle.std.specs.Option.{option_map_or}
 use Rattle.std.specs.List.{list_all}
 use Rattle.std.proofs.lemmas.Bool.Decides.{Decides-eqb}
 use Rattle.std.proofs.lemmas.Fmt.{decimal_injective}
 use Rattle.mon_text.specs.Characters.{is_letter, is_digit}
 use Rattle.mon_text.specs.Names.{is_name_character, IsName}
 use Rattle.mon_catalogue.proofs.Counts.{digits_of_decimal}
+use Rattle.mon_acl.specs.declared.entries.Tag.{Tag}
+use Rattle.mon_acl.specs.declared.entries.Tag.TheVariants.{UserObj, User, GroupObj, Group, Mask, Other}
 use Rattle.interaction.specs.declared.answer.Reason.{Reason}
+use Rattle.interaction.specs.declared.answer.Reason.TheVariants.{By, NoSet, NotOwner, NoUnit, InStream, SpoolUnit, Mode as WrongMode}
 use Rattle.interaction.specs.declared.answer.Answer.{Answer}
 use Rattle.interaction.specs.declared.answer.Answer.TheVariants.{Done, Got, EndOfFile, Denied, Full}
 use Rattle.mon_unit.specs.declared.tie.Target.{Target}
@@ -18,7 +22,9 @@ use Rattle.std.proofs.Common.{Option, Some, None}
 use Rattle.mon_unit.specs.declared.audit_request.Asked.{Asked}
 use Rattle.mon_unit.specs.AuditWords.{target_word, outcome_word}
 use Rattle.mon_unit.specs.AuditRequests.{act_word, by_words, request_line}
-use Rattle.mon_unit.specs.AuditLaws.{IsNamed, IsSound, SaysTheSame, TellsApart}
+use Rattle.mon_command.specs.Printouts.{word}
+use Rattle.mon_command.specs.Replies.{reason_text}
+use Rattle.mon_unit.specs.AuditLaws.{IsNamed, IsEntryNamed, IsReasonNamed, IsSound, without_text, grantor, SaysTheSame, TellsApart}
 
 -- WORDS
 
@@ -135,6 +141,127 @@ target_back Spool h = refl
 target_back (Set name) h =
     ap (λ (b : Bool). if b then (if get_or name 1 0 == 78 then Untied else if get_or name 1 0 == 68 then Data else Spool) else Set name) (name_undotted name h)
 
+-- the name characters in front
+word_in : List ℕ → List ℕ
+word_in [] = []
+word_in (c ∷ cs) = if is_name_character c then c ∷ word_in cs else []
+
+word_back : (name : List ℕ) → IsWord name → word_in (name ++ 58 ∷ []) ≡ name
+unfolding word_in
+word_back [] h = refl
+word_back (c ∷ cs) h =
+    let parts = both (is_name_character c) (list_all is_name_character cs) h in
+    ap (λ (b : Bool). if b then c ∷ word_in (cs ++ 58 ∷ []) else []) parts.0 ∙ ap (λ (l : List ℕ). c ∷ l) (word_back cs parts.1)
+
+-- an entry by what stands behind its type's colon: of this type where no name stands there, else of that one
+named_at : Tag → Tag → List ℕ → Reason
+named_at plain qualified w = if get_or w 0 0 == 58 then By plain None else By qualified (Some (word_in w))
+
+named_back : (plain qualified : Tag) (name : List ℕ) → IsName name → named_at plain qualified (name ++ 58 ∷ []) ≡ By qualified (Some name)
+unfolding named_at
+named_back plain qualified [] h = absurd (true≢false (sym h))
+named_back plain qualified (c ∷ cs) h =
+    ap (λ (b : Bool). if b then By plain None else By qualified (Some (word_in (c ∷ (cs ++ 58 ∷ []))))) (by (c == 58) refl)
+    ∙ ap (λ (w : List ℕ). By qualified (Some w)) (word_back (c ∷ cs) (name_is (c ∷ cs) h))
+  where
+    by : (b : Bool) → (c == 58) ≡ b → (c == 58) ≡ false
+    by false e = e
+    by true e =
+        let letter = (both (is_letter c) (list_all is_name_character cs) (both (is_letter c && list_all is_name_character cs) _ h).0).0 in
+        absurd (true≢false (sym letter ∙ ap is_letter ((Decides-eqb c 58).0 e)))
+
+entry_at : List ℕ → Reason
+entry_at w =
+    if get_or w 3 0 == 117 then named_at UserObj User (drop 8 w)
+    else if get_or w 3 0 == 103 then named_at GroupObj Group (drop 9 w)
+    else if get_or w 3 0 == 109 then By Mask None
+    else By Other None
+
+reason_at : List ℕ → Reason
+reason_at w =
+    if get_or w 0 0 == 66 then entry_at w
+    else if get_or w 0 0 == 73 then InStream
+    else if get_or w 0 0 == 83 then SpoolUnit
+    else if get_or w 0 0 == 77 then WrongMode
+    else if get_or w 3 0 == 68 then NoSet
+    else if get_or w 3 0 == 32 then NotOwner
+    else NoUnit
+
+reason_back : (reason : Reason) → IsEntryNamed reason → reason_at (reason_text reason) ≡ reason
+unfolding reason_at entry_at named_at
+reason_back (By UserObj None) h = refl
+reason_back (By UserObj (Some name)) h = absurd (true≢false (sym h))
+reason_back (By User None) h = absurd (true≢false (sym h))
+reason_back (By User (Some name)) h = named_back UserObj User name h
+reason_back (By GroupObj None) h = refl
+reason_back (By GroupObj (Some name)) h = absurd (true≢false (sym h))
+reason_back (By Group None) h = absurd (true≢false (sym h))
+reason_back (By Group (Some name)) h = named_back GroupObj Group name h
+reason_back (By Mask None) h = refl
+reason_back (By Mask (Some name)) h = absurd (true≢false (sym h))
+reason_back (By Other None) h = refl
+reason_back (By Other (Some name)) h = absurd (true≢false (sym h))
+reason_back NoSet h = refl
+reason_back NotOwner h = refl
+reason_back NoUnit h = refl
+reason_back InStream h = refl
+reason_back SpoolUnit h = refl
+reason_back WrongMode h = refl
+
+-- all that stands behind the outcome: why it is denied, or else the entry that granted it, if one did
+abbrev told : Option Reason → Answer → Option Reason
+told grant (Denied reason) = Some reason
+told grant Done = grant
+told grant (Got line) = grant
+told grant EndOfFile = grant
+told grant Full = grant
+
+told_at : List ℕ → Option Reason
+told_at [] = None
+told_at (c ∷ w) = Some (reason_at w)
+
+abbrev grant_text : Option Reason → List ℕ
+grant_text grant = option_map_or (λ reason. word (reason_text reason)) grant []
+
+grant_back : (grant : Option Reason) → IfSome grant IsEntryNamed → told_at (grant_text grant) ≡ grant
+unfolding told_at
+grant_back None h = refl
+grant_back (Some reason) h = ap (λ (r : Reason). Some r) (reason_back reason h)
+
+told_back : (grant : Option Reason) (answer : Answer) → IfSome grant IsEntryNamed → IsReasonNamed answer → told_at (by_words grant answer) ≡ told grant answer
+told_back grant (Denied reason) h named = grant_back (Some reason) named
+told_back grant Done h named = grant_back grant h
+told_back grant (Got line) h named = grant_back grant h
+told_back grant EndOfFile h named = grant_back grant h
+told_back grant Full h named = grant_back grant h
+
+outcome_at : List ℕ → Option Reason → Answer
+outcome_at w told =
+    if get_or w 0 0 == 71 then Got []
+    else if get_or w 0 0 == 69 then EndOfFile
+    else if get_or w 0 0 == 70 then Full
+    else if get_or w 1 0 == 79 then Done
+    else option_map_or Denied told Done
+
+outcome_back : (grant : Option Reason) (answer : Answer) → outcome_at (outcome_word answer) (told grant answer) ≡ without_text answer
+unfolding outcome_at
+outcome_back grant (Denied reason) = refl
+outcome_back grant Done = refl
+outcome_back grant (Got line) = refl
+outcome_back grant EndOfFile = refl
+outcome_back grant Full = refl
+
+grantor_at : List ℕ → Option Reason → Option Reason
+grantor_at w told = if get_or w 1 0 == 69 then None else told
+
+grantor_back : (grant : Option Reason) (answer : Answer) → grantor_at (outcome_word answer) (told grant answer) ≡ grantor grant answer
+unfolding grantor_at
+grantor_back grant (Denied reason) = refl
+grantor_back grant Done = refl
+grantor_back grant (Got line) = refl
+grantor_back grant EndOfFile = refl
+grantor_back grant Full = refl
+
 -- THE LINE
 
 -- the line, word by word
@@ -188,7 +315,7 @@ last_off (x ∷ xs) (y ∷ ys) h =
     let others : xs ++ (10 ∷ []) ≡ ys ++ (10 ∷ []) = cc in
     ap (λ (l : List ℕ). x ∷ l) (last_off xs ys others) ∙ ap (λ (c : ℕ). c ∷ ys) first
 
-module _ (a b : Asked) (x y : Answer) (sound : IsSound a) (its : IsSound b) where
+module _ (a b : Asked) (x y : Answer) (sound : IsSound a x) (its : IsSound b y) where
   abbrev first_words : List ℕ
   first_words = words_of (decimal a.number) a.account (decimal a.statement) (act_word a.act) (decimal a.unit) (target_word a.target) (decimal a.place) (outcome_word x) (by_words a.grant x)
 
@@ -207,6 +334,8 @@ module _ (a b : Asked) (x y : Answer) (sound : IsSound a) (its : IsSound b) wher
       let r6 = split (target_word a.target) (target_word b.target) _ _ (target_is a.target sound.target) (target_is b.target its.target) refl refl (tail r5.1) in
       let r7 = split (decimal a.place) (decimal b.place) _ _ (number_is a.place sound.place) (number_is b.place its.place) refl refl (tail r6.1) in
       let r8 = split (outcome_word x) (outcome_word y) _ _ (outcome_is x) (outcome_is y) (by_follows a.grant x) (by_follows b.grant y) (tail r7.1) in
+      let same : told a.grant x ≡ told b.grant y =
+      sym (told_back a.grant x sound.grant sound.reason) ∙ ap told_at (last_off (by_words a.grant x) (by_words b.grant y) r8.1) ∙ told_back b.grant y its.grant its.reason in
       record {
         number = decimal_injective a.number b.number sound.number its.number r1.0;
         account = r2.0;
@@ -215,8 +344,12 @@ module _ (a b : Asked) (x y : Answer) (sound : IsSound a) (its : IsSound b) wher
         unit = decimal_injective a.unit b.unit sound.unit its.unit r5.0;
         target = sym (target_back a.target sound.target) ∙ ap target_at r6.0 ∙ target_back b.target its.target;
         place = decimal_injective a.place b.place sound.place its.place r7.0;
-        outcome = r8.0;
-        by = last_off (by_words a.grant x) (by_words b.grant y) r8.1;
+        outcome =
+            sym (outcome_back a.grant x) ∙ ap (λ (w : List ℕ). outcome_at w (told a.grant x)) r8.0 ∙ ap (outcome_at (outcome_word y)) same
+            ∙ outcome_back b.grant y;
+        by =
+            sym (grantor_back a.grant x) ∙ ap (λ (w : List ℕ). grantor_at w (told a.grant x)) r8.0 ∙ ap (grantor_at (outcome_word y)) same
+            ∙ grantor_back b.grant y;
       }
     where
       tail : {c d : ℕ} {xs ys : List ℕ} → c ∷ xs ≡ d ∷ ys → xs ≡ ys

@@ -9,6 +9,7 @@ pub mod Looks
 pub mod Changed
 pub mod Apart
 pub mod Named
+mod Catalogs
 pub mod Ordered
 mod Unheard
 pub mod Keeping

@@ -21,8 +21,9 @@ use Rattle.mon_unit.specs.Laws.{target_of, position_of, IsRead, AsksChange, GotW
 use Rattle.mon_catalogue.specs.Writing.{Change}
 use Rattle.mon_access.specs.Granting.{granting}
 use Rattle.mon_access.specs.GrantingLaws.{NamedWhereGranted, NamesAnEntry}
+use Rattle.mon_unit.specs.AuditGrants.{granting_entry}
 use Rattle.mon_unit.specs.AuditRequests.{permission, grant, asked_of}
-use Rattle.mon_unit.specs.AuditLaws.{GrantsAreNamed, ReadsAreNamed, ChangesAreNamed}
+use Rattle.mon_unit.specs.AuditLaws.{EntriesAreNamed, GrantsAreNamed, ReadsAreNamed, ChangesAreNamed}
 
 -- what is made of an entry that is there
 abbrev made : List Entry → Option ℕ → Option Reason
@@ -36,15 +37,17 @@ made_there entries (Some i) there = ((λ h. by (slice_get entries i) (there i re
     by None h = h
     by (Some e) h = refl
 
-pub grants_are_named : NamedWhereGranted → NamesAnEntry → GrantsAreNamed
-grants_are_named where_granted an_entry account act set request is =
+-- an entry is named exactly where the access check grants the request
+pub entries_are_named : NamedWhereGranted → NamesAnEntry → EntriesAreNamed
+entries_are_named where_granted an_entry account set request =
     let named = where_granted account set.owner set.group set.acl request in
     let there = made_there set.acl (granting account set.owner set.group set.acl request) (an_entry account set.owner set.group set.acl request) in
-    let whole : made set.acl (granting account set.owner set.group set.acl request) ≡ grant account act set =
-    ap (λ (p : Option Perms). option_map (λ e. By e.tag e.name) (option_and_then (λ r. option_and_then (slice_get set.acl) (granting account set.owner set.group set.acl r)) p)) (sym is) in (
-      (λ h. subst IsSome whole (there.0 (named.0 h))),
-      (λ h. named.1 (there.1 (subst IsSome (sym whole) h))),
-    )
+    ((λ h. there.0 (named.0 h)), (λ h. named.1 (there.1 h)))
+
+pub grants_are_named : EntriesAreNamed → GrantsAreNamed
+grants_are_named law account act set request is =
+    let whole : granting_entry account set request ≡ grant account act set = ap (λ (p : Option Perms). option_and_then (granting_entry account set) p) (sym is) in
+    ((λ h. subst IsSome whole ((law account set request).0 h)), (λ h. (law account set request).1 (subst IsSome (sym whole) h)))
 
 -- a grant on the data set that a request looks at is that of the line
 module _ (law : GrantsAreNamed) (n : ℕ) (account : Account) (reach : Reach) (statement : ℕ) (a : Act) (name : List ℕ) (set : DataSet) where

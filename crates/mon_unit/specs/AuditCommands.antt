@@ -1,10 +1,11 @@
--- What the audit says of a command (own): who gives it, which, of which data set, and what was answered; a new list stands in the line whole.
-use Rattle.std.specs.Prelude.{ℕ, List, [], ◌++◌, codes, Ok, Err}
-use Rattle.std.specs.Option.{option_map_or}
+-- What the audit says of a command (own): who gives it, which, of which data set, what was answered, and by what it was granted; a new list
+-- stands in the line whole. Behind the line of a CATALOG stand those of the data sets that it shows.
+use Rattle.std.specs.Prelude.{ℕ, List, [], ◌++◌, codes, Option, Ok, Err}
 use Rattle.mon_acl.specs.Forms.{list_of_text}
 use Rattle.mon_acl.specs.Printing.{short_form}
 use Rattle.mon_catalogue.specs.Modes.{mode_word}
-use Rattle.mon_catalogue.specs.Sets.{Sets, find_set}
+use Rattle.mon_access.specs.declared.account.Account.{Account}
+use Rattle.mon_catalogue.specs.Sets.{Sets}
 use Rattle.mon_command.specs.declared.command.Command.{Command}
 use Rattle.mon_command.specs.declared.command.Command.TheVariants.{Create, Delete, SetAcl, ShowAcl, List as Listing, Catalog}
 use Rattle.mon_command.specs.declared.reply.Reply.TheVariants.{Done}
@@ -15,7 +16,10 @@ use Rattle.mon_command.specs.Saying.{said_of}
 use Rattle.mon_command.specs.Commands.{account_of}
 use Rattle.mon_command.specs.Printouts.{word, number}
 use Rattle.mon_command.specs.Replies.{reply_text}
+use Rattle.mon_unit.specs.declared.audit_grant.Grant.{Grant}
 use Rattle.mon_unit.specs.AuditWords.{command_line}
+use Rattle.mon_unit.specs.AuditGrants.{known_grant, last_words}
+use Rattle.mon_unit.specs.AuditCatalogs.{shown_lines}
 
 -- the card's word, and the data set's name
 abbrev pub card_words : Command → List ℕ
@@ -43,20 +47,17 @@ abbrev pub if_done : Said → List ℕ → List ℕ
 if_done (Told Done) words = words
 if_done _ words = []
 
--- the line of a command that this was said to, with the words of the list that it has set
-abbrev pub said_line : Command → Said → List ℕ → List ℕ
-said_line command said list =
-    command_line (account_of command) (card_words command ++ said_words said ++ if_done said (done_words command list))
+-- the line of a command that this was said to, with the words of the list that it has set, and by what it was granted
+abbrev pub said_line : Command → Said → List ℕ → Option Grant → List ℕ
+said_line command said list grant =
+    command_line (account_of command) (card_words command ++ said_words said ++ if_done said (done_words command list) ++ last_words said grant)
 
 -- the list that a command is to set, where its text spells one
 abbrev pub spelled : Command → List ℕ
 spelled (SetAcl account name text) = elim (list_of_text text) [ Ok list ↦ word (short_form list) | Err refusal ↦ [] ]
 spelled _ = []
 
-abbrev pub ordered_line : Command → Answer → List ℕ
-ordered_line command answer = said_line command (said_of answer) (spelled command)
-
--- That list stands in the data sets as the command has left them.
-abbrev pub listed : Command → Sets → List ℕ
-listed (SetAcl account name text) sets = option_map_or (λ set. word (short_form set.acl)) (find_set name sets) []
-listed _ sets = []
+-- all that is said of a command of this account, if it is known, that was answered so over these data sets
+abbrev pub ordered_lines : Option Account → Sets → Command → Answer → List ℕ
+ordered_lines known sets command answer =
+    said_line command (said_of answer) (spelled command) (known_grant known sets command) ++ shown_lines known sets command

@@ -1,6 +1,6 @@
 -- What the audit says of a job's request (own): who asks, at which statement, to do what, by which unit, of what, at which place; what came
 -- of it; and which entry of the data set's list granted it, or why it is denied.
-use Rattle.std.specs.Prelude.{ℕ, List, [], ◌++◌, length, codes, Option, None, Some, option_map, slice_get}
+use Rattle.std.specs.Prelude.{ℕ, List, [], ◌++◌, length, codes, Option, None, Some}
 use Rattle.std.specs.Option.{option_and_then, option_map_or}
 use Rattle.mon_acl.specs.declared.entries.Perms.{Perms}
 use Rattle.mon_acl.specs.Permissions.{to_read, to_write}
@@ -10,7 +10,6 @@ use Rattle.mon_catalogue.specs.declared.mode.Mode.TheVariants.{Append}
 use Rattle.mon_catalogue.specs.declared.data_set.DataSet.{DataSet}
 use Rattle.mon_catalogue.specs.Sets.{Sets, find_set}
 use Rattle.interaction.specs.declared.answer.Reason.{Reason}
-use Rattle.interaction.specs.declared.answer.Reason.TheVariants.{By}
 use Rattle.interaction.specs.declared.answer.Answer.{Answer}
 use Rattle.interaction.specs.declared.answer.Answer.TheVariants.{Denied}
 use Rattle.interaction.specs.declared.request.Request.{Request}
@@ -21,9 +20,9 @@ use Rattle.mon_unit.specs.Tying.{tie_at}
 use Rattle.mon_unit.specs.Serving.{Reach, unit_of, note_act, set_at}
 use Rattle.mon_command.specs.Printouts.{word, number}
 use Rattle.mon_command.specs.Replies.{reason_text}
-use Rattle.mon_access.specs.Granting.{granting}
 use Rattle.mon_unit.specs.declared.audit_request.Asked.{Asked}
 use Rattle.mon_unit.specs.AuditWords.{job_line, target_word, outcome_word}
+use Rattle.mon_unit.specs.AuditGrants.{granting_entry}
 
 -- THE LINE
 
@@ -57,9 +56,7 @@ permission _ = Some to_write
 
 -- the entry of the set's list that grants an act, if one does
 abbrev pub grant : Account → NoteAct → DataSet → Option Reason
-grant account act set =
-    option_map (λ e. By e.tag e.name)
-    (option_and_then (λ request. option_and_then (slice_get set.acl) (granting account set.owner set.group set.acl request)) (permission act))
+grant account act set = option_and_then (granting_entry account set) (permission act)
 
 -- how many records stand before the place: what is written to a set of mode APPEND is put behind all of them
 abbrev pub place_in : NoteAct → Mode → ℕ → ℕ → ℕ

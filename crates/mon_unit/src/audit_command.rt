@@ -1,48 +1,87 @@
-//! The line of a command. Nothing here takes memory.
+//! The lines of a command. Nothing here takes memory.
 ghost use Rattle.std.specs.Prelude.{◌≡◌, ◌++◌, [], codes};
 ghost use Rattle.std.specs.Option.{option_map_or};
 ghost use Rattle.mon_acl.specs.Printing.{short_form};
+ghost use Rattle.mon_access.specs.Accounts.{find_account};
 ghost use Rattle.mon_catalogue.specs.Modes.{mode_word};
 ghost use Rattle.mon_catalogue.specs.Sets.{find_set};
 ghost use Rattle.mon_device.specs.Putting.{Puts};
+ghost use Rattle.mon_command.specs.Commands.{account_of};
 ghost use Rattle.mon_command.specs.Printouts.{word, number};
 ghost use Rattle.mon_command.specs.Replies.{reply_text};
-ghost use Rattle.mon_unit.specs.AuditCommands.{card_words, said_words, done_words, if_done, said_line, listed};
-ghost use Rattle.mon_unit.specs.inner.AuditParts.{if_reply_done};
+ghost use Rattle.mon_unit.specs.AuditGrants.{last_words};
+ghost use Rattle.mon_unit.specs.AuditCommands.{card_words, said_words, done_words, if_done, said_line};
+ghost use Rattle.mon_unit.specs.inner.AuditParts.{if_reply_done, listed, grant_after, lines_after};
 
+use crate::audit_catalog::print_shown;
+use crate::audit_grant::print_granted_by;
+use mon_access::Accounts;
 use mon_acl::Acl;
 use mon_catalogue::{Catalogue, Mode};
 use mon_command::{Command, Reply, Said, print_number, print_word};
 use mon_device::Sink;
 use mon_text::Name;
 
-/// Puts the line of a command that this was said to, over the data sets as it has left them.
-pub fn print_command<S: Sink>(command: &Command, said: &Said, sets: &Catalogue, sink: &mut S)
-    ensures { Puts (S.standing sink.old) (S.standing sink.new) (said_line command.now said.now (listed command.now sets.now)) }
+/// Puts the lines of a command of one of these accounts that this was said to, over the data sets as it has left them.
+pub fn print_command<S: Sink>(
+    accounts: &Accounts,
+    command: &Command,
+    said: &Said,
+    sets: &Catalogue,
+    sink: &mut S,
+)
+    ensures { Puts (S.standing sink.old) (S.standing sink.new) (lines_after (find_account accounts.now (account_of command.now)) sets.now command.now said.now) }
 {
     if sink.listens() {
-        print_line(command, said, sets, sink);
+        print_lines(accounts, command, said, sets, sink);
     }
 }
 
 // It stays a call, since mostly nobody listens.
 #[inline(never)]
-fn print_line<S: Sink>(command: &Command, said: &Said, sets: &Catalogue, sink: &mut S)
-    ensures { Puts (S.standing sink.old) (S.standing sink.new) (said_line command.now said.now (listed command.now sets.now)) }
+fn print_lines<S: Sink>(
+    accounts: &Accounts,
+    command: &Command,
+    said: &Said,
+    sets: &Catalogue,
+    sink: &mut S,
+)
+    ensures { Puts (S.standing sink.old) (S.standing sink.new) (lines_after (find_account accounts.now (account_of command.now)) sets.now command.now said.now) }
+{
+    print_line(accounts, command, said, sets, sink);
+    print_shown(accounts, command, sets, sink);
+}
+
+fn print_line<S: Sink>(
+    accounts: &Accounts,
+    command: &Command,
+    said: &Said,
+    sets: &Catalogue,
+    sink: &mut S,
+)
+    ensures { Puts (S.standing sink.old) (S.standing sink.new) (said_line command.now said.now (listed command.now sets.now) (grant_after (find_account accounts.now (account_of command.now)) sets.now command.now)) }
 {
     sink.put(b"COMMAND 0");
     print_word(command.account().as_bytes(), sink);
-    print_what(command, said, sets, sink);
+    print_what(accounts, command, said, sets, sink);
     sink.put(b"\n");
 }
 
-// Puts what is asked, and what came of it.
-fn print_what<S: Sink>(command: &Command, said: &Said, sets: &Catalogue, sink: &mut S)
-    ensures { Puts (S.standing sink.old) (S.standing sink.new) (card_words command.now ++ said_words said.now ++ if_done said.now (done_words command.now (listed command.now sets.now))) }
+// Puts what is asked, what came of it, and by what it was granted.
+fn print_what<S: Sink>(
+    accounts: &Accounts,
+    command: &Command,
+    said: &Said,
+    sets: &Catalogue,
+    sink: &mut S,
+)
+    ensures { Puts (S.standing sink.old) (S.standing sink.new) (card_words command.now ++ said_words said.now ++ if_done said.now (done_words command.now (listed command.now sets.now))
+        ++ last_words said.now (grant_after (find_account accounts.now (account_of command.now)) sets.now command.now)) }
 {
     print_card(command, sink);
     print_said(said, sink);
     print_if_done(command, said, sets, sink);
+    print_granted_by(accounts, command, said, sets, sink);
 }
 
 fn print_card<S: Sink>(command: &Command, sink: &mut S)

@@ -1,14 +1,21 @@
 //! Laws of the audit's lines. Each is the contract of a function that does nothing, or only cites laws of the crates below.
-ghost use Rattle.mon_unit.specs.AuditLaws.{GrantsAreNamed, ReadsAreNamed, ChangesAreNamed, TextsAreLeftOut, TellsApart};
+ghost use Rattle.mon_unit.specs.AuditLaws.{EntriesAreNamed, GrantsAreNamed, ReadsAreNamed, ChangesAreNamed, TextsAreLeftOut, TellsApart};
 
 use mon_access::granting_laws;
+
+/// There is an entry to name of a request exactly where the access check grants it.
+pub fn entries_are_named()
+    ensures { EntriesAreNamed }
+{
+    granting_laws::named_where_granted();
+    granting_laws::names_an_entry();
+}
 
 /// A line names an entry exactly where the access check grants what the act asks of the data set's list.
 pub fn grants_are_named()
     ensures { GrantsAreNamed }
 {
-    granting_laws::named_where_granted();
-    granting_laws::names_an_entry();
+    entries_are_named();
 }
 
 /// Each record that a job gets from a data set is told with the entry by which it was granted.

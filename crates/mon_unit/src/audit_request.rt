@@ -7,10 +7,11 @@ ghost use Rattle.mon_unit.specs.AuditWords.{target_word, outcome_word};
 ghost use Rattle.mon_unit.specs.AuditRequests.{act_word, by_words, place_words, request_line, permission, grant, place_in};
 ghost use Rattle.mon_unit.specs.inner.AuditParts.{grant_words};
 
+use crate::audit_grant::granting_entry;
 use crate::note::NoteAct;
 use crate::tie::Target;
 use interaction::{Answer, Reason};
-use mon_access::{Account, granting};
+use mon_access::Account;
 use mon_acl::Perms;
 use mon_catalogue::{DataSet, Mode};
 use mon_command::{print_number, print_reason, print_word};
@@ -136,10 +137,7 @@ fn outcome_word(answer: &Answer) -> &'static [u8]
 pub fn grant(account: &Account, act: NoteAct, set: &DataSet) -> Option<Reason>
     ensures { result ≡ grant account.now act set.now }
 {
-    let request = permission(act)?;
-    let index = granting(account, &set.owner, &set.group, &set.acl, request)?;
-    let entry = set.acl.entry(index)?.copy();
-    Some(Reason::By(entry.tag, entry.name))
+    granting_entry(account, set, permission(act)?)
 }
 
 // What an act asks of a data set's list.

@@ -9,7 +9,9 @@
 //! exchange.
 #![tactic(auto)]
 
+pub mod audit_catalog;
 pub mod audit_command;
+pub mod audit_grant;
 pub mod audit_laws;
 pub mod audit_request;
 pub mod audit_run;
@@ -25,6 +27,7 @@ pub mod units;
 pub mod words;
 
 pub use audit_command::print_command;
+pub use audit_grant::{Grant, granting_entry};
 pub use audit_request::{Asked, act_word, grant, place, print_request};
 pub use audit_run::{print_deck_refused, print_stopped};
 pub use audited_service::AuditedService;

@@ -1,7 +1,8 @@
 use Rattle.std.proofs.Common.{ap, sym}
 use Rattle.mon_command.specs.declared.command.Command.{Command}
 use Rattle.mon_device.proofs.Putting.{puts_nothing, puts_same}
-use Rattle.mon_unit.specs.AuditCommands.{done_words, listed}
+use Rattle.mon_unit.specs.AuditCommands.{done_words}
+use Rattle.mon_unit.specs.inner.AuditParts.{listed}
 use Rattle.mon_unit.proofs.audit_command.print_done.Goals as goal
 
 pub returns-in-Delete : goal.returns-in-Delete

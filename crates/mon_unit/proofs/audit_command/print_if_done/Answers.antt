@@ -1,7 +1,8 @@
 use Rattle.std.proofs.Common.{ap, sym}
 use Rattle.mon_command.specs.declared.said.Said.{Said}
 use Rattle.mon_device.proofs.Putting.{puts_nothing, puts_same}
-use Rattle.mon_unit.specs.AuditCommands.{done_words, if_done, listed}
+use Rattle.mon_unit.specs.AuditCommands.{done_words, if_done}
+use Rattle.mon_unit.specs.inner.AuditParts.{listed}
 use Rattle.mon_unit.proofs.audit_command.print_if_done.Goals as goal
 
 pub returns-in-Records : goal.returns-in-Records

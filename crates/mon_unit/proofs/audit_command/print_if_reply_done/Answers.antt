@@ -1,8 +1,8 @@
 use Rattle.std.proofs.Common.{ap, sym}
 use Rattle.mon_command.specs.declared.reply.Reply.{Reply}
 use Rattle.mon_device.proofs.Putting.{puts_nothing, puts_same}
-use Rattle.mon_unit.specs.AuditCommands.{done_words, listed}
-use Rattle.mon_unit.specs.inner.AuditParts.{if_reply_done}
+use Rattle.mon_unit.specs.AuditCommands.{done_words}
+use Rattle.mon_unit.specs.inner.AuditParts.{if_reply_done, listed}
 use Rattle.mon_unit.proofs.audit_command.print_if_reply_done.Goals as goal
 
 pub returns-in-NoAccount : goal.returns-in-NoAccount

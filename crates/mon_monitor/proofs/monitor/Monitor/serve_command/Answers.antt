@@ -9,7 +9,8 @@ pub returns-clause-happens : goal.returns-clause-happens
 returns-clause-happens g c =
     served c.args.command (system_of c.args.self.now) (system_of c.put_served.new.self) c.args.out.now c.put_served.new.out _ _ _ _
     c.in_ok-said.ensures.system refl c.in_ok-said.ensures.printed
-    (said_so c.args.command (system_of c.args.self.now) (system_of c.put_served.new.self) c.in_ok-said.said c.catalogue.result.now c.in_ok-said.ensures.said c.in_ok-said.ensures.system c.catalogue.ensures)
+    (said_so c.args.command (system_of c.args.self.now) (system_of c.put_served.new.self) c.in_ok-said.said c.accounts.result.now c.catalogue.result.now c.in_ok-said.ensures.said c.in_ok-said.ensures.system c.accounts.ensures
+    c.catalogue.ensures)
     c.print_command.ensures
 
 pub returns-in_err-said-clause-broken : goal.returns-in_err-said-clause-broken
