@@ -66,7 +66,7 @@ module _ (never_refused : NeverRefused) (card_by_card : CardByCard) (drain_empti
         let bytes : round_text front [] ≡ text_of (round_lines table sets done) =
         ap (λ (t : List ℕ). t ++ codes "$STOP\n") (append-nil front ∙ is) ∙ sym (text_both (front_lines table sets done) (codes "$STOP" ∷ []))
         ∙ ap (λ (ls : List (List ℕ)). text_of ls) (stop_behind table sets done) in
-        let never = never_refused table accounts sets done good.table_is good.names_differ good.stored good.printable handed in
+        let never = never_refused table accounts sets done good.begins.table_is good.begins.names_differ good.begins.stored good.begins.printable handed in
         let deck : deck_of (lines (round_text front [])) ≡ round_deck accounts sets done =
         ap (λ (t : List ℕ). deck_of (lines t)) bytes ∙ ap deck_of never.2 ∙ never.1 in
         let all = whole_output slots accounts m sets card_by_card drain_empties accounts_stay slots_stay options done at before (round_text front []) run refl deck so_far in
@@ -81,8 +81,8 @@ module _ (never_refused : NeverRefused) (card_by_card : CardByCard) (drain_empti
         let front' = front ++ with_fence submission in
         let is' : front' ≡ text_of (front_lines table sets (done ++ text ∷ [])) =
         ap₂ (λ (f t : List ℕ). f ++ (t ++ codes "$DRAIN\n")) is text_is ∙ sym (text_behind table sets done text) in
-        let cut = cut_deck table accounts sets good.table_is good.names_differ good.stored good.printable (done ++ text ∷ []) both in
-        let reads = front_reads table accounts sets good.table_is good.names_differ good.stored good.printable (done ++ text ∷ []) both in
+        let cut = cut_deck table accounts sets good.begins.table_is good.begins.names_differ good.begins.stored good.begins.printable (done ++ text ∷ []) both in
+        let reads = front_reads table accounts sets good.begins.table_is good.begins.names_differ good.begins.stored good.begins.printable (done ++ text ∷ []) both in
         let output : output_of options m front' ≡ before ++ part =
         cut_output slots accounts m sets card_by_card drain_empties accounts_stay slots_stay options (done ++ text ∷ []) (next slots accounts m sets at text) (before ++ part) front' cut.0 run refl
         (ap (λ (t : List ℕ). deck_of (lines t)) is' ∙ ap deck_of reads ∙ cut.1) reached in
@@ -103,16 +103,18 @@ module _ (never_refused : NeverRefused) (card_by_card : CardByCard) (drain_empti
 pub each_its_part : NeverRefused → CardByCard → DrainEmpties → AccountsStay → SlotsStay → EachItsPart
 each_its_part never_refused card_by_card drain_empties accounts_stay slots_stay options m head submissions table accounts sets texts run good =
     let alone : IsGoodRound (text_of (front_lines table sets [])) [] table accounts sets [] = record {
-      head_is = ap (λ (ls : List (List ℕ)). text_of ls) (append-nil (head_lines table sets)) ∙ sym (head_is table sets);
-      table_is = good.table_is;
-      names_differ = good.names_differ;
-      stored = good.stored;
-      printable = good.printable;
+      begins = record {
+        head_is = ap (λ (ls : List (List ℕ)). text_of ls) (append-nil (head_lines table sets)) ∙ sym (head_is table sets);
+        table_is = good.begins.table_is;
+        names_differ = good.begins.names_differ;
+        stored = good.begins.stored;
+        printable = good.begins.printable;
+      };
       texts_are = tt;
     } in
     let slots = options.slots.number in
     let d = delivered slots accounts 0 m sets texts in
-    let front : head ≡ text_of (front_lines table sets []) = good.head_is ∙ head_is table sets ∙ ap (λ (ls : List (List ℕ)). text_of ls) (sym (append-nil (head_lines table sets))) in
+    let front : head ≡ text_of (front_lines table sets []) = good.begins.head_is ∙ head_is table sets ∙ ap (λ (ls : List (List ℕ)). text_of ls) (sym (append-nil (head_lines table sets))) in
     let all =
     parted never_refused card_by_card drain_empties accounts_stay slots_stay options m run table accounts sets alone submissions texts good.texts_are [] (start slots accounts m sets) [] head tt front
     (reached_none slots accounts m sets) in record {

@@ -37,11 +37,11 @@ module _ (never_refused : NeverRefused) where
   good_ends head submissions table accounts sets texts good =
       let handed = all_handed submissions texts good.texts_are in
       let front : front_text head submissions ≡ text_of (front_lines table sets texts) =
-      ap₂ (λ (h t : List ℕ). h ++ t) (good.head_is ∙ head_is table sets) (stream_is submissions texts good.texts_are) ∙ sym (text_both (head_lines table sets) (stream_lines texts)) in
+      ap₂ (λ (h t : List ℕ). h ++ t) (good.begins.head_is ∙ head_is table sets) (stream_is submissions texts good.texts_are) ∙ sym (text_both (head_lines table sets) (stream_lines texts)) in
       let bytes : round_text head submissions ≡ text_of (round_lines table sets texts) =
       ap (λ (t : List ℕ). t ++ codes "$STOP\n") front ∙ sym (text_both (front_lines table sets texts) (codes "$STOP" ∷ []))
       ∙ ap (λ (ls : List (List ℕ)). text_of ls) (stop_behind table sets texts) in
-      let never = never_refused table accounts sets texts good.table_is good.names_differ good.stored good.printable handed in
+      let never = never_refused table accounts sets texts good.begins.table_is good.begins.names_differ good.begins.stored good.begins.printable handed in
       ap deck_ending bytes ∙ ap (λ (ls : List (List ℕ)). (deck_of ls).cards.ending) never.2 ∙ ap (λ deck. deck.cards.ending) never.1
 
   pub goes_on : GoesOn
@@ -49,6 +49,6 @@ module _ (never_refused : NeverRefused) where
   goes_on options table accounts sets (round ∷ rounds) are differ stored printable admitted = record {
     ends =
         good_ends (head_text (text_of table) sets) round.submissions table accounts sets round.texts
-        (record { head_is = refl; table_is = are; names_differ = differ; stored = stored; printable = printable; texts_are = admitted.0 });
+        (record { begins = record { head_is = refl; table_is = are; names_differ = differ; stored = stored; printable = printable }; texts_are = admitted.0 });
     later = λ left is back. goes_on options table accounts left rounds are differ back.stored back.printable admitted.1;
   }

@@ -10,10 +10,13 @@ pub mod Reaching
 pub mod Cutting
 pub mod GoingOn
 pub mod Composed
+pub mod GoodHeads
 pub mod Served
 pub mod Standing
+pub mod Stopping
 mod Mapping
 mod Joined
 mod Handed
 mod Pieces
+mod Dues
 mod Damage

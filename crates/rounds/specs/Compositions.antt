@@ -40,13 +40,24 @@ AreAdmitted [] (text ∷ texts) = ⊥
 AreAdmitted (submission ∷ submissions) [] = ⊥
 AreAdmitted (submission ∷ submissions) (text ∷ texts) = (submission.text.items ≡ text_of text.lines) × IsHanded text × AreAdmitted submissions texts
 
--- a head of good accounts, and of data sets that can be written; and texts that were admitted
-pub record IsGoodRound (head : List ℕ) (submissions : List Submission) (table : List (List ℕ)) (accounts : List Account) (sets : Sets) (texts : List Handed) : Type 0 where
+-- a head of good accounts, and of data sets that can be written
+pub record IsGoodHead (head : List ℕ) (table : List (List ℕ)) (accounts : List Account) (sets : Sets) : Type 0 where
   pub head_is : head ≡ head_text (text_of table) sets
   pub table_is : SpellsAccounts table accounts
   pub names_differ : HaveDifferentNames accounts
   pub stored : IsStored sets
   pub printable : ArePrintable sets
+
+-- that of some accounts and data sets: no more stands in it, and no less
+pub record IsWholeHead (head : List ℕ) : Type 0 where
+  pub table : List (List ℕ)
+  pub accounts : List Account
+  pub sets : Sets
+  pub good : IsGoodHead head table accounts sets
+
+-- such a head, and texts that were admitted
+pub record IsGoodRound (head : List ℕ) (submissions : List Submission) (table : List (List ℕ)) (accounts : List Account) (sets : Sets) (texts : List Handed) : Type 0 where
+  pub begins : IsGoodHead head table accounts sets
   pub texts_are : AreAdmitted submissions texts
 
 -- ---- whose is which part of the output

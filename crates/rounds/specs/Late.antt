@@ -75,6 +75,7 @@ pub record IsPutAmong (plan : Plan) (place : ℕ) (replies text : List ℕ) (aft
   pub entries_are : (let others = remove plan.entries.items place in after.entries.items ≡ insert others (place_among late.taken.id others) (as_late late text))
   pub replies_are : (let others = remove plan.entries.items place in told ≡ insert_slice replies (told_before late.taken.id others) (kept_of late text))
   pub head_is : after.head ≡ plan.head
+  pub catalogue_is : after.catalogue ≡ plan.catalogue
   pub next_is : after.next ≡ plan.next
 
 -- the replies end before the place of this text

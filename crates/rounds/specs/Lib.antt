@@ -1,6 +1,7 @@
 pub mod Order
 pub mod Delivery
 pub mod Compositions
+pub mod Beginnings
 pub mod Laws
 pub mod Serving
 pub mod Planning

@@ -131,6 +131,7 @@ fn put_entry(plan: &mut Plan, place: usize, entry: Entry) -> Result<(), AllocErr
     requires { place ≤ length plan.old.entries.items }
     ensures entries { OnOk result (plan.new.entries.items ≡ insert plan.old.entries.items place entry) }
     ensures head { plan.new.head ≡ plan.old.head }
+    ensures catalogue { plan.new.catalogue ≡ plan.old.catalogue }
     ensures next { plan.new.next ≡ plan.old.next }
 {
     match plan.entries.insert(place, entry) {

@@ -5,6 +5,7 @@
 //! wrote.
 #![tactic(auto)]
 
+pub mod beginning;
 pub mod composing;
 pub mod damaged;
 pub mod late;
@@ -16,6 +17,7 @@ pub mod parts;
 pub mod planning;
 pub mod running;
 
+pub use beginning::{Beginning, Head, begin_round};
 pub use composing::{compose, compose_head, put_stop, put_text};
 pub use damaged::Damaged;
 pub use late::without_text;

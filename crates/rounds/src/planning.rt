@@ -1,10 +1,11 @@
 //! A round is planned: the texts that run are put in their order behind the head of a deck, and the others are answered.
-ghost use Rattle.std.specs.Prelude.{◌≡◌, ◌++◌, ◌∷◌, [], map, IfOk, OnOk, length};
+ghost use Rattle.std.specs.Prelude.{◌≡◌, ◌++◌, ◌∷◌, [], Some, map, IfOk, OnOk, length};
 ghost use Rattle.std.specs.List.{flat_map};
 ghost use Rattle.rounds.specs.Order.{served};
-ghost use Rattle.rounds.specs.Compositions.{with_fence, front_text};
+ghost use Rattle.rounds.specs.Compositions.{with_fence, front_text, IsWholeHead};
 ghost use Rattle.rounds.specs.Planning.{order_of, deck_of, seen, runs_as, refused_as, planned};
 
+use crate::beginning::Head;
 use crate::composing::{put_stop, put_text};
 use crate::order::in_turns;
 use site_plan::{Desk, Entry, Judged, Plan, Refused, Runs, Taken, Verdict};
@@ -22,7 +23,8 @@ pub struct Planned {
     pub replies: Vec<u8>,
 }
 
-/// The plan of what was judged for the round of this number, behind a head; the next claimed file gets this number.
+/// The plan of what was judged for the round of this number, behind a head, in which nothing may be left open; the next claimed file gets
+/// this number.
 ///
 /// # Errors
 ///
@@ -31,13 +33,15 @@ pub fn plan_texts(
     alloc: Global,
     n: u64,
     next: u64,
-    head: Vec<u8>,
+    head: Head,
     judged: Judged,
 ) -> Result<Planned, AllocError>
-    ensures deck { IfOk result (λ p. p.deck.items ≡ deck_of head.items (order_of n judged.desks.items)) }
+    requires { IsWholeHead head.text.items }
+    ensures deck { IfOk result (λ p. p.deck.items ≡ deck_of head.text.items (order_of n judged.desks.items)) }
     ensures entries { IfOk result (λ p. map seen p.plan.entries.items ≡ planned (order_of n judged.desks.items) judged.refused.items) }
     ensures replies { IfOk result (λ p. p.replies.items ≡ flat_map (λ text. text.reply.items) judged.refused.items) }
-    ensures head { IfOk result (λ p. p.plan.head ≡ length head.items) }
+    ensures head { IfOk result (λ p. p.plan.head ≡ length head.text.items) }
+    ensures catalogue { IfOk result (λ p. p.plan.catalogue ≡ Some head.catalogue) }
     ensures next { IfOk result (λ p. p.plan.next ≡ next) }
 {
     let Judged { desks, refused } = judged;
@@ -61,24 +65,27 @@ fn queues_of(alloc: Global, desks: Vec<Desk>) -> Result<Vec<VecDeque<Runs>>, All
 fn plan_order(
     alloc: Global,
     next: u64,
-    head: Vec<u8>,
+    head: Head,
     order: &[Runs],
     refused: &[Refused],
 ) -> Result<Planned, AllocError>
-    ensures deck { IfOk result (λ p. p.deck.items ≡ deck_of head.items order.now) }
+    ensures deck { IfOk result (λ p. p.deck.items ≡ deck_of head.text.items order.now) }
     ensures entries { IfOk result (λ p. map seen p.plan.entries.items ≡ planned order.now refused.now) }
     ensures replies { IfOk result (λ p. p.replies.items ≡ flat_map (λ text. text.reply.items) refused.now) }
-    ensures head { IfOk result (λ p. p.plan.head ≡ length head.items) }
+    ensures head { IfOk result (λ p. p.plan.head ≡ length head.text.items) }
+    ensures catalogue { IfOk result (λ p. p.plan.catalogue ≡ Some head.catalogue) }
     ensures next { IfOk result (λ p. p.plan.next ≡ next) }
 {
     let entries = entries_of(alloc, order, refused)?;
     let replies = replies_of(alloc, refused)?;
+    let Head { text, catalogue } = head;
     let plan = Plan {
         entries,
-        head: head.len() as u64,
+        head: text.len() as u64,
+        catalogue: Some(catalogue),
         next,
     };
-    let mut deck = head;
+    let mut deck = text;
     put_order(&mut deck, order)?;
     Ok(Planned {
         plan,

@@ -1,37 +1,42 @@
 //! What the keeper's files say: the accounts, the users and the limits.
+ghost use Rattle.std.specs.Prelude.{◌≡◌, Ok, IfOk};
+ghost use Rattle.site_plan.specs.Tables.{table_of};
+
 use crate::fault::{Fault, Wrong};
 use crate::place::{Place, System};
 use mon_access::Accounts;
 use mon_text::Stop;
-use site_plan::terms::TermsFault;
-use site_plan::{Terms, User, limit_name, read_table, read_terms, read_users, whole_table};
+use site_plan::{
+    TableFault, Terms, TermsFault, User, UsersFault, limit_name, read_table, read_terms, read_users,
+};
 use std::alloc::Global;
 
 /// What the keeper's files say, but for the users.
 #[derive(Drop)]
 pub struct Keeper {
-    /// The text of the account table, each line ended by LF.
+    /// The text of the account table.
     pub table: Vec<u8>,
     /// The accounts.
     pub accounts: Accounts,
     /// The limits.
     pub terms: Terms,
+    /// The accounts are those that the table gives.
+    ghost read: { table_of table.items ≡ Ok accounts },
 }
 
 /// The folder of a site, and what its keeper's files say.
 pub fn open_site<R: System>(rt: R, top: String) -> Result<(Place<R>, Keeper), Fault> {
     let mut place = Place::new(rt, top);
     let keeper = read_keeper(&place)?;
-    let users = users_of(&place, &keeper.terms)?;
+    let users = users_of(&place, &keeper)?;
     place.set_users(users);
     Ok((place, keeper))
 }
 
 fn read_keeper<R: System>(place: &Place<R>) -> Result<Keeper, Fault> {
     let terms = terms_of(place)?;
-    let text = file(place, b"accounts")?;
-    let accounts = accounts_of(place, &text)?;
-    let table = whole_table(place.rt.alloc(), &text)?;
+    let table = file(place, b"accounts")?;
+    let accounts = accounts_of(place, &table)?;
     Ok(Keeper {
         table,
         accounts,
@@ -39,7 +44,9 @@ fn read_keeper<R: System>(place: &Place<R>) -> Result<Keeper, Fault> {
     })
 }
 
-fn accounts_of<R: System>(place: &Place<R>, table: &[u8]) -> Result<Accounts, Fault> {
+fn accounts_of<R: System>(place: &Place<R>, table: &[u8]) -> Result<Accounts, Fault>
+    ensures { IfOk result (λ accounts. table_of table.now ≡ Ok accounts) }
+{
     let path = place.path(b"accounts")?;
     accounts_in(place.rt.alloc(), &path, table)
 }
@@ -77,39 +84,59 @@ fn wrong_terms(line: u64, fault: TermsFault) -> Wrong {
     }
 }
 
-fn users_of<R: System>(place: &Place<R>, terms: &Terms) -> Result<Vec<User>, Fault> {
+fn users_of<R: System>(place: &Place<R>, keeper: &Keeper) -> Result<Vec<User>, Fault> {
     let text = file(place, b"users")?;
     let path = place.path(b"users")?;
-    users_in(place.rt.alloc(), &path, terms.demonstration, &text)
+    let demonstration = keeper.terms.demonstration;
+    users_in(
+        place.rt.alloc(),
+        &path,
+        demonstration,
+        &keeper.accounts,
+        &text,
+    )
 }
 
-/// The users that a text gives.
+/// The users that a text gives, each with one of these accounts.
 pub fn users_in(
     alloc: Global,
     path: &str,
     demonstration: bool,
+    accounts: &Accounts,
     text: &[u8],
 ) -> Result<Vec<User>, Fault> {
-    match read_users(alloc, demonstration, text) {
+    match read_users(alloc, demonstration, accounts, text) {
         Ok(users) => Ok(users),
-        Err(Stop::Refused((line, fault))) => Err(Fault::wrong(
-            alloc,
-            path,
-            Wrong::Line(line, fault.text()),
-        )),
+        Err(Stop::Refused((line, fault))) => {
+            Err(Fault::wrong(alloc, path, wrong_users(line, fault)))
+        }
         Err(Stop::Memory) => Err(Fault::Memory),
     }
 }
 
+fn wrong_users(line: u64, fault: UsersFault) -> Wrong {
+    match fault {
+        UsersFault::NoUser => Wrong::Words(fault.text()),
+        _ => Wrong::Line(line, fault.text()),
+    }
+}
+
 /// The accounts that a text gives.
-pub fn accounts_in(alloc: Global, path: &str, table: &[u8]) -> Result<Accounts, Fault> {
+pub fn accounts_in(alloc: Global, path: &str, table: &[u8]) -> Result<Accounts, Fault>
+    ensures { IfOk result (λ accounts. table_of table.now ≡ Ok accounts) }
+{
     match read_table(alloc, table) {
         Ok(accounts) => Ok(accounts),
-        Err(Stop::Refused((line, fault))) => Err(Fault::wrong(
-            alloc,
-            path,
-            Wrong::Line(line, fault.text()),
-        )),
+        Err(Stop::Refused((line, fault))) => {
+            Err(Fault::wrong(alloc, path, wrong_table(line, fault)))
+        }
         Err(Stop::Memory) => Err(Fault::Memory),
+    }
+}
+
+fn wrong_table(line: u64, fault: TableFault) -> Wrong {
+    match fault {
+        TableFault::NoAccount => Wrong::Words(fault.text()),
+        _ => Wrong::Line(line, fault.text()),
     }
 }

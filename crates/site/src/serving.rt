@@ -1,10 +1,10 @@
 //! Serving a round that is planned: its texts are run, and each is given what is its own.
 use crate::auditing::run_audited;
+use crate::catalogue::refuse_other;
 use crate::fault::{Fault, Wrong};
 use crate::place::{Place, System};
 use crate::planning::{fix, plan_of, unfix};
 use deck_driver::Options;
-use deck_syntax::DeckError;
 use mon_device::Sink;
 use mon_text::Stop;
 use rounds::{Parted, Planned, Round, RoundError, part_deck, parts_text, run_round, without_text};
@@ -98,7 +98,8 @@ pub fn plan_there<R: System>(place: &Place<R>, n: u64) -> Result<Plan, Fault> {
     }
 }
 
-fn damaged<R: System>(place: &Place<R>, n: u64, ending: &[u8]) -> Fault {
+/// That a file of a round is not as it must be.
+pub fn damaged<R: System>(place: &Place<R>, n: u64, ending: &[u8]) -> Fault {
     place.wrong_round_file(n, ending, Wrong::Words("is damaged"))
 }
 
@@ -111,17 +112,13 @@ fn run_planned<R: System>(
 ) -> Result<Ran, Fault> {
     let parted = part_of(place, n, plan, deck)?;
     let count = parted.texts.len() as u64;
-    let lines = lines_before_catalogue(&parted.head);
     match run_audited(place, n, parted)? {
         Ok(round) => Ok(Ran::Whole(round)),
         Err(RoundError::Memory { text }) if text > 0 && text <= count => {
             Ok(Ran::Short(text as usize - 1))
         }
         Err(RoundError::Memory { .. }) => Err(Fault::Memory),
-        Err(RoundError::Refused(line, code)) => {
-            unfix(place, n)?;
-            Err(bad_catalogue(place, line, lines, code))
-        }
+        Err(RoundError::Refused(..)) => Err(damaged(place, n, b".deck")),
     }
 }
 
@@ -133,25 +130,6 @@ pub fn run_parted<A: Sink>(
 ) -> Result<Round, RoundError> {
     let Parted { head, texts } = parted;
     run_round(alloc, Options::new(), head, &texts, audit)
-}
-
-// How many lines stand before the catalogue's first.
-fn lines_before_catalogue(head: &[u8]) -> u64 {
-    let mut lines: u64 = 0;
-    for line in head.split(|byte| *byte == b'\n') {
-        if line.starts_with(b"$CATALOGUE") {
-            return lines;
-        }
-        lines = lines.saturating_add(1);
-    }
-    0
-}
-
-fn bad_catalogue<R: System>(place: &Place<R>, line: u64, before: u64, code: DeckError) -> Fault {
-    place.wrong(
-        b"catalogue",
-        Wrong::Line(line.saturating_sub(before), code.text()),
-    )
 }
 
 /// Takes the deck of a round that stands on the disk apart, by its plan.
@@ -183,7 +161,7 @@ pub fn parts_of(alloc: Global, plan: &Plan, round: &Round) -> Result<Vec<u8>, Al
     )
 }
 
-// Commits and settles a round that was run.
+// Commits and settles a round that was run, if the catalogue is still the one that it began with.
 fn hand_out<R: System>(
     place: &mut Place<R>,
     n: u64,
@@ -191,6 +169,7 @@ fn hand_out<R: System>(
     replies: &[u8],
     round: Round,
 ) -> Result<Tally, Fault> {
+    refuse_other(place, n, plan)?;
     let alloc = place.rt.alloc();
     let parts = parts_of(alloc, plan, &round)?;
     match deliver(alloc, place, n, replies, &parts, &round.output) {

@@ -3,3 +3,5 @@ mod Weighed
 mod Reaching
 mod Owners
 mod Verdicts
+pub mod Tables
+mod Catalogues

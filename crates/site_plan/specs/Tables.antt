@@ -1,5 +1,5 @@
 -- The account table of a site (own): the lines that stand in a deck behind `$ACCOUNTS`, the last one ended or not.
-use Rattle.std.specs.Prelude.{ℕ, List, [], ◌∷◌, ◌++◌, Result, Ok, Err, if◌then◌else◌}
+use Rattle.std.specs.Prelude.{ℕ, ◌+◌, ◌==◌, List, [], ◌∷◌, ◌++◌, Result, Ok, Err, length, if◌then◌else◌}
 use Rattle.std.specs.Option.{option_or, option_map_or}
 use Rattle.std.specs.List.{flat_map}
 use Rattle.std.specs.Str.Lines.{lines}
@@ -7,8 +7,8 @@ use Rattle.mon_access.specs.declared.account.Account.{Account}
 use Rattle.deck_syntax.specs.Refusing.{line_refusal, is_dollar_line}
 use Rattle.deck_syntax.specs.Sections.{accounts_refusal, table_after}
 use Rattle.site_plan.specs.declared.table.TableFault.{TableFault}
-use Rattle.site_plan.specs.declared.table.TableFault.TheVariants.{Line, Heading}
-use Rattle.site_plan.specs.Walks.{walked}
+use Rattle.site_plan.specs.declared.table.TableFault.TheVariants.{Line, Heading, NoAccount}
+use Rattle.site_plan.specs.Walks.{and_then, walked}
 
 abbrev pub after_line : List Account → List ℕ → Result (List Account) TableFault
 after_line accounts line =
@@ -19,6 +19,10 @@ after_line accounts line =
 abbrev pub ended_lines : List (List ℕ) → List ℕ
 ended_lines lines = flat_map (λ line. line ++ 10 ∷ []) lines
 
+-- there is one at the least: where none is, one is missed behind so many lines
+abbrev pub if_any : ℕ → List Account → Result (List Account) (ℕ × TableFault)
+if_any count accounts = if length accounts == 0 then Err (count + 1, NoAccount) else Ok accounts
+
 -- the accounts of a table, or its first line that is wrong, and why
 abbrev pub table_of : List ℕ → Result (List Account) (ℕ × TableFault)
-table_of text = walked after_line 1 [] (lines text)
+table_of text = and_then (walked after_line 1 [] (lines text)) (if_any (length (lines text)))

@@ -1,15 +1,17 @@
 -- The users of a site (own): a number of the system and an account on each line.
-use Rattle.std.specs.Prelude.{ℕ, ◌-◌, ◌^◌, ◌==◌, Bool, not, ◌&&◌, nat_lt, List, [], ◌∷◌, ◌++◌, Option, Some, None, option_map, option_and_then, Result, Ok, Err, if◌then◌else◌, bytes_eq}
+use Rattle.std.specs.Prelude.{ℕ, ◌+◌, ◌-◌, ◌^◌, ◌==◌, Bool, not, ◌&&◌, nat_lt, List, [], ◌∷◌, ◌++◌, Option, Some, None, option_map, option_and_then, Result, Ok, Err, is_none, length, if◌then◌else◌, bytes_eq}
 use Rattle.std.specs.Option.{option_map_or}
 use Rattle.std.specs.List.{list_any}
 use Rattle.std.specs.Str.Lines.{lines}
 use Rattle.mon_text.specs.Lines.{words}
 use Rattle.mon_text.specs.Names.{is_name}
 use Rattle.mon_text.specs.Counts.{is_count, value_of}
+use Rattle.mon_access.specs.declared.account.Account.{Account}
+use Rattle.mon_access.specs.Accounts.{find_account}
 use Rattle.site_plan.specs.declared.users.User.{User}
 use Rattle.site_plan.specs.declared.users.UsersFault.{UsersFault}
-use Rattle.site_plan.specs.declared.users.UsersFault.TheVariants.{BadLine, UidTwice, AccountTwice}
-use Rattle.site_plan.specs.Walks.{is_skipped, walked}
+use Rattle.site_plan.specs.declared.users.UsersFault.TheVariants.{BadLine, UidTwice, AccountTwice, NoAccount, NoUser}
+use Rattle.site_plan.specs.Walks.{is_skipped, and_then, walked}
 
 -- a number of 32 bits, but the largest, which is nobody's
 abbrev pub uid_on : List ℕ → Option ℕ
@@ -37,13 +39,21 @@ with_user several users user =
     if (not several && has_uid user.uid users) then Err UidTwice
     else (if has_account user.account users then Err AccountTwice else Ok (users ++ user ∷ []))
 
-abbrev pub after_line : Bool → List User → List ℕ → Result (List User) UsersFault
-after_line several users line =
-    if is_skipped line then Ok users else option_map_or (with_user several users) (user_on (words line)) (Err BadLine)
+-- and only an account of the table
+abbrev pub with_known : Bool → List Account → List User → User → Result (List User) UsersFault
+with_known several accounts users user = if is_none (find_account accounts user.account) then Err NoAccount else with_user several users user
+
+abbrev pub after_line : Bool → List Account → List User → List ℕ → Result (List User) UsersFault
+after_line several accounts users line =
+    if is_skipped line then Ok users else option_map_or (with_known several accounts users) (user_on (words line)) (Err BadLine)
+
+-- there is one at the least: where none is, one is missed behind so many lines
+abbrev pub if_any : ℕ → List User → Result (List User) (ℕ × UsersFault)
+if_any count users = if length users == 0 then Err (count + 1, NoUser) else Ok users
 
 -- the users that a text gives, or its first line that is wrong, and why
-abbrev pub users_of : Bool → List ℕ → Result (List User) (ℕ × UsersFault)
-users_of several text = walked (after_line several) 1 [] (lines text)
+abbrev pub users_of : Bool → List Account → List ℕ → Result (List User) (ℕ × UsersFault)
+users_of several accounts text = and_then (walked (after_line several accounts) 1 [] (lines text)) (if_any (length (lines text)))
 
 -- whose number stands with an account
 abbrev pub uid_of : List ℕ → List User → Option ℕ

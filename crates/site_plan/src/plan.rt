@@ -1,7 +1,8 @@
 //! The plan of a round: each text that it is about, and what becomes of it.
-ghost use Rattle.std.specs.Prelude.{◌≡◌, ◌++◌, codes, decimal, IfOk, OnOk};
+ghost use Rattle.std.specs.Prelude.{◌≡◌, ◌++◌, [], codes, decimal, IfOk, OnOk};
 ghost use Rattle.std.specs.List.{flat_map};
-ghost use Rattle.site_plan.specs.Plans.{word_of, numbers_of, front_text, entry_text, end_text, plan_text};
+ghost use Rattle.std.specs.Option.{option_map_or};
+ghost use Rattle.site_plan.specs.Plans.{word_of, numbers_of, front_text, entry_text, end_text, checksum_text, next_text, plan_text};
 
 use crate::lines::words_of;
 use crate::taken::Taken;
@@ -49,6 +50,8 @@ pub struct Plan {
     pub entries: Vec<Entry>,
     /// How many bytes stand in the deck before the first text.
     pub head: u64,
+    /// The checksum of the catalogue's file when the round was planned; none in a plan that tells it not.
+    pub catalogue: Option<Vec<u8>>,
     /// The number that the next claimed file is given.
     pub next: u64,
 }
@@ -57,7 +60,7 @@ pub struct Plan {
 #[derive(Clone, Copy)]
 pub struct NoPlan;
 
-/// A plan's text: a line for each text, then `HEAD` and `NEXT` with their numbers.
+/// A plan's text: a line for each text, then `HEAD` with its number, `CATALOGUE` with a checksum if there is one, and `NEXT` with its number.
 ///
 /// # Errors
 ///
@@ -65,7 +68,7 @@ pub struct NoPlan;
 pub fn plan_text(alloc: Global, plan: &Plan) -> Result<Vec<u8>, AllocError>
     ensures { IfOk result (λ text. text.items ≡ plan_text plan.now) }
 {
-    let end = end_text(alloc, plan.head, plan.next)?;
+    let end = end_text(alloc, plan)?;
     let mut text = entries_text(alloc, plan.entries.as_slice())?;
     text.extend_from_slice(&end)?;
     Ok(text)
@@ -147,15 +150,40 @@ fn two_numbers_text(alloc: Global, first: u64, second: u64) -> Result<Vec<u8>, A
     Ok(text)
 }
 
-fn end_text(alloc: Global, head: u64, next: u64) -> Result<Vec<u8>, AllocError>
-    ensures { IfOk result (λ text. text.items ≡ end_text head next) }
+fn end_text(alloc: Global, plan: &Plan) -> Result<Vec<u8>, AllocError>
+    ensures { IfOk result (λ text. text.items ≡ end_text plan.now) }
 {
     let mut text = Vec::from_slice(alloc, b"HEAD ")?;
-    put_number(head, &mut text)?;
-    text.extend_from_slice(b"\nNEXT ")?;
-    put_number(next, &mut text)?;
+    put_number(plan.head, &mut text)?;
     text.extend_from_slice(b"\n")?;
+    put_catalogue(&plan.catalogue, &mut text)?;
+    put_next(plan.next, &mut text)?;
     Ok(text)
+}
+
+fn put_catalogue(checksum: &Option<Vec<u8>>, out: &mut Vec<u8>) -> Result<(), AllocError>
+    ensures { OnOk result (out.new.items ≡ out.old.items ++ option_map_or (λ text. checksum_text text.items) checksum.now []) }
+{
+    match checksum {
+        Some(checksum) => put_checksum(checksum, out),
+        None => Ok(()),
+    }
+}
+
+fn put_checksum(checksum: &[u8], out: &mut Vec<u8>) -> Result<(), AllocError>
+    ensures { OnOk result (out.new.items ≡ out.old.items ++ checksum_text checksum.now) }
+{
+    out.extend_from_slice(b"CATALOGUE ")?;
+    out.extend_from_slice(checksum)?;
+    out.extend_from_slice(b"\n")
+}
+
+fn put_next(next: u64, out: &mut Vec<u8>) -> Result<(), AllocError>
+    ensures { OnOk result (out.new.items ≡ out.old.items ++ next_text next) }
+{
+    out.extend_from_slice(b"NEXT ")?;
+    put_number(next, out)?;
+    out.extend_from_slice(b"\n")
 }
 
 // What a line of a plan says.
@@ -163,6 +191,7 @@ fn end_text(alloc: Global, head: u64, next: u64) -> Result<Vec<u8>, AllocError>
 enum PlanLine {
     Text(Entry),
     Head(u64),
+    Catalogue(Vec<u8>),
     Next(u64),
 }
 
@@ -171,6 +200,7 @@ enum PlanLine {
 struct Begun {
     entries: Vec<Entry>,
     head: Option<u64>,
+    catalogue: Option<Vec<u8>>,
     next: Option<u64>,
 }
 
@@ -196,6 +226,7 @@ fn read_lines(alloc: Global, text: &[u8]) -> Result<Begun, Stop<NoPlan>> {
     let mut begun = Begun {
         entries: Vec::new(alloc),
         head: None,
+        catalogue: None,
         next: None,
     };
     let mut rest = text;
@@ -212,12 +243,14 @@ fn finish(begun: Begun) -> Result<Plan, Stop<NoPlan>> {
     let Begun {
         entries,
         head,
+        catalogue,
         next,
     } = begun;
     match (head, next) {
         (Some(head), Some(next)) => Ok(Plan {
             entries,
             head,
+            catalogue,
             next,
         }),
         _ => Err(Stop::Refused(NoPlan)),
@@ -232,6 +265,10 @@ fn take_line(begun: &mut Begun, line: PlanLine) -> Result<(), Stop<NoPlan>> {
         },
         PlanLine::Head(number) if begun.head.is_none() => {
             begun.head = Some(number);
+            Ok(())
+        }
+        PlanLine::Catalogue(checksum) if begun.head.is_some() && begun.catalogue.is_none() => {
+            begun.catalogue = Some(checksum);
             Ok(())
         }
         PlanLine::Next(number) if begun.head.is_some() && begun.next.is_none() => {
@@ -252,13 +289,21 @@ fn read_line(alloc: Global, line: &[u8]) -> Result<PlanLine, Stop<NoPlan>> {
 
 fn line_of(alloc: Global, words: &[&[u8]]) -> Result<Option<PlanLine>, AllocError> {
     match words {
-        [word, number] => Ok(numbered(word, number)),
+        [word, value] => pair_of(alloc, word, value),
         [word, taken, file, number] => entry_of(alloc, taken, file, one_number(word, number)),
         [word, taken, file, reply, bytes] => {
             entry_of(alloc, taken, file, two_numbers(word, reply, bytes))
         }
         _ => Ok(None),
     }
+}
+
+fn pair_of(alloc: Global, word: &[u8], value: &[u8]) -> Result<Option<PlanLine>, AllocError> {
+    if word == b"CATALOGUE".as_slice() {
+        let checksum = Vec::from_slice(alloc, value)?;
+        return Ok(Some(PlanLine::Catalogue(checksum)));
+    }
+    Ok(numbered(word, value))
 }
 
 fn numbered(word: &[u8], number: &[u8]) -> Option<PlanLine> {

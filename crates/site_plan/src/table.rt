@@ -19,6 +19,8 @@ pub enum TableFault {
     Line(DeckError),
     /// The line would end the table of a deck.
     Heading,
+    /// No line gives an account.
+    NoAccount,
 }
 
 impl TableFault {
@@ -27,15 +29,17 @@ impl TableFault {
         match self {
             TableFault::Line(code) => code.text(),
             TableFault::Heading => "a card that ends the account table",
+            TableFault::NoAccount => "no line gives an account",
         }
     }
 }
 
-/// The accounts of a table: lines as those behind `$ACCOUNTS`.
+/// The accounts of a table, one at the least: lines as those behind `$ACCOUNTS`.
 ///
 /// # Errors
 ///
-/// The number of the first line that is wrong, counted from 1, and why; `Memory` where a growth was refused.
+/// The number of the first line that is wrong, counted from 1, and why. Where no line gives an account it is the number behind the last
+/// line. `Memory` where a growth was refused.
 pub fn read_table(alloc: Global, text: &[u8]) -> Result<Accounts, Stop<(u64, TableFault)>>
     ensures { Gives (λ accounts. accounts) result (table_of text.now) }
 {
@@ -50,6 +54,9 @@ pub fn read_table(alloc: Global, text: &[u8]) -> Result<Accounts, Stop<(u64, Tab
         }
         number += 1;
         rest = behind;
+    }
+    if accounts.len() == 0 {
+        return Err(Stop::Refused((number, TableFault::NoAccount)));
     }
     Ok(accounts)
 }

@@ -2,9 +2,10 @@
 ghost use Rattle.std.specs.Prelude.{◌≡◌, Ok, Err, map, IfErr, OnOk};
 ghost use Rattle.mon_text.specs.Stops.{Gives};
 ghost use Rattle.preflight.specs.Submissions.{IfStopped};
-ghost use Rattle.site_plan.specs.Users.{uid_on, user_with, user_on, has_uid, has_account, with_user, after_line, users_of, uid_of};
+ghost use Rattle.site_plan.specs.Users.{uid_on, user_with, user_on, has_uid, has_account, with_user, with_known, after_line, users_of, uid_of};
 
 use crate::lines::{is_skipped, stop_at, words_of};
+use mon_access::Accounts;
 use mon_text::{Name, Stop, read_count, read_name};
 use preflight::first_line;
 use std::alloc::{AllocError, Global};
@@ -27,6 +28,10 @@ pub enum UsersFault {
     UidTwice,
     /// A line before has this account.
     AccountTwice,
+    /// The account table has no such account.
+    NoAccount,
+    /// No line gives a user.
+    NoUser,
 }
 
 impl UsersFault {
@@ -36,34 +41,41 @@ impl UsersFault {
             UsersFault::BadLine => "not a user's number and an account",
             UsersFault::UidTwice => "a line before has this number",
             UsersFault::AccountTwice => "a line before has this account",
+            UsersFault::NoAccount => "no line of the account table has this account",
+            UsersFault::NoUser => "no line gives a user",
         }
     }
 }
 
-/// The users of a file of them: a number and an account on each line. Blank lines, and those that begin with `#`, are skipped. No
-/// number stands there twice, except in a demonstration, and no account.
+/// The users of a file of them: a number and an account of the table on each line, one at the least. Blank lines, and those that begin
+/// with `#`, are skipped. No number stands there twice, except in a demonstration, and no account.
 ///
 /// # Errors
 ///
-/// The number of the first line that is wrong, counted from 1, and why; `Memory` where a growth was refused.
+/// The number of the first line that is wrong, counted from 1, and why. Where no line gives a user it is the number behind the last
+/// line. `Memory` where a growth was refused.
 pub fn read_users(
     alloc: Global,
     demonstration: bool,
+    accounts: &Accounts,
     text: &[u8],
 ) -> Result<Vec<User>, Stop<(u64, UsersFault)>>
-    ensures { Gives (λ users. users.items) result (users_of demonstration text.now) }
+    ensures { Gives (λ users. users.items) result (users_of demonstration accounts.now text.now) }
 {
     let mut users = Vec::new(alloc);
     let mut number: u64 = 1;
     let mut rest = text;
     'lines: while !rest.is_empty() {
         let (line, behind) = first_line(rest);
-        match take_line(alloc, demonstration, &mut users, line) {
+        match take_line(alloc, demonstration, accounts, &mut users, line) {
             Ok(()) => {}
             Err(stop) => return Err(stop_at(number, stop)),
         }
         number += 1;
         rest = behind;
+    }
+    if users.is_empty() {
+        return Err(Stop::Refused((number, UsersFault::NoUser)));
     }
     Ok(users)
 }
@@ -72,11 +84,12 @@ pub fn read_users(
 fn take_line(
     alloc: Global,
     demonstration: bool,
+    accounts: &Accounts,
     users: &mut Vec<User>,
     line: &[u8],
 ) -> Result<(), Stop<UsersFault>>
-    ensures taken { OnOk result (after_line demonstration users.old.items line.now ≡ Ok users.new.items) }
-    ensures refused { IfErr result (IfStopped (λ why. after_line demonstration users.old.items line.now ≡ Err why)) }
+    ensures taken { OnOk result (after_line demonstration accounts.now users.old.items line.now ≡ Ok users.new.items) }
+    ensures refused { IfErr result (IfStopped (λ why. after_line demonstration accounts.now users.old.items line.now ≡ Err why)) }
 {
     if is_skipped(line) {
         return Ok(());
@@ -84,7 +97,7 @@ fn take_line(
     let words = words_of(alloc, line)?;
     match user_of(words.as_slice()) {
         None => Err(Stop::Refused(UsersFault::BadLine)),
-        Some(user) => add_user(demonstration, users, user),
+        Some(user) => add_known(demonstration, accounts, users, user),
     }
 }
 
@@ -124,6 +137,22 @@ fn uid_on(word: &[u8]) -> Option<u32>
         }
         Err(_) => None,
     }
+}
+
+// Adds a user at the end, if the table has his account.
+fn add_known(
+    demonstration: bool,
+    accounts: &Accounts,
+    users: &mut Vec<User>,
+    user: User,
+) -> Result<(), Stop<UsersFault>>
+    ensures taken { OnOk result (with_known demonstration accounts.now users.old.items user ≡ Ok users.new.items) }
+    ensures refused { IfErr result (IfStopped (λ why. with_known demonstration accounts.now users.old.items user ≡ Err why)) }
+{
+    if accounts.find(&user.account).is_none() {
+        return Err(Stop::Refused(UsersFault::NoAccount));
+    }
+    add_user(demonstration, users, user)
 }
 
 // Adds a user at the end.

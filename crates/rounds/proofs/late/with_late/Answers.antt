@@ -17,6 +17,7 @@ returns-clause-put_among c =
       entries_are = c.in_ok-put_entry.ensures.entries ∙ (λ k. insert (c.remove-entry.ensures.items k) (place_is k) (c.in_ok-entry.ensures.entry k));
       replies_are = c.in_ok-replies.ensures.all ∙ (λ k. insert_slice c.args.replies.items (sum_by (λ entry. reply_bytes entry.verdict) (take (place_is k) (entries_are k))) (kept_is k));
       head_is = c.in_ok-put_entry.ensures.head;
+      catalogue_is = c.in_ok-put_entry.ensures.catalogue;
       next_is = c.in_ok-put_entry.ensures.next;
     }
 

@@ -1,12 +1,13 @@
-use Rattle.std.proofs.Common.{◌≡◌, ◌+◌, ◌≤◌, length}
+use Rattle.std.proofs.Common.{◌≡◌, ◌+◌, ◌≤◌, [], length}
 use Rattle.std.specs.Str.Lines.{lines}
 use Rattle.site_plan.specs.Walks.{walked}
-use Rattle.site_plan.specs.Tables.{after_line, table_of}
+use Rattle.site_plan.specs.Tables.{after_line}
 use Rattle.site_plan.proofs.table.read_table.Given as goal
 
 abbrev pub invariant-lines : goal.invariant-lines
 invariant-lines l = record {
-  so_far : walked after_line l.number l.accounts (lines l.rest) ≡ table_of l.fn.text;
+  so_far : walked after_line l.number l.accounts (lines l.rest) ≡ walked after_line 1 [] (lines l.fn.text);
+  counted : l.number + length (lines l.rest) ≡ 1 + length (lines l.fn.text);
   few : l.number + length l.rest ≤ 1 + length l.fn.text;
 }
 

@@ -1,0 +1,143 @@
+-- The accounts that a table gives are those that its lines spell, and have different names.
+use Rattle.std.proofs.Common.{◌≡◌, ℕ, ◌+◌, ◌≤◌, ◌==◌, nat_lt, Bool, true, false, not, if◌then◌else◌, List, [], ◌∷◌, ◌++◌, length, Option, None, Some, Result, Ok, Err, is_some, refl, sym, ap, subst, ◌∙◌, arith, true≢false, append_assoc, append-nil}
+use Rattle.std.specs.Prelude.{bytes_eq}
+use Rattle.std.specs.List.{list_all, IsDistinct}
+use Rattle.std.specs.Option.{option_or, option_map_or}
+use Rattle.std.specs.Str.Lines.{lines}
+use Rattle.std.specs.Cmp.Lexicographic.{nat_list_eq_equiv}
+use Rattle.std.proofs.lemmas.Bool.Decides.{nat_tests}
+use Rattle.std.proofs.lemmas.List.{map-append}
+use Rattle.std.proofs.lemmas.Map.Keys.{IsDistinct-push}
+use Rattle.mon_text.specs.Names.{is_name}
+use Rattle.mon_text.specs.Lines.{is_blank_line, words}
+use Rattle.mon_access.specs.declared.account.Account.{Account}
+use Rattle.mon_access.specs.Accounts.{find_account, names_of, HaveDifferentNames}
+use Rattle.deck_syntax.specs.declared.deck_error.DeckError.{DeckError}
+use Rattle.deck_syntax.specs.declared.deck_error.DeckError.TheVariants.{BadName, BadCard, AccountTwice, TooManyGroups}
+use Rattle.deck_syntax.specs.Cards.{word_at}
+use Rattle.deck_syntax.specs.CardLines.{IsLineWithin}
+use Rattle.deck_syntax.specs.Refusing.{unless, line_refusal, is_dollar_line}
+use Rattle.deck_syntax.specs.Sections.{account_on, table_refusal, account_refusal, accounts_refusal, table_after}
+use Rattle.deck_syntax.specs.Spelling.{SpellsAccount, SpellsAccounts}
+use Rattle.deck_syntax.specs.inner.Parts.{words_refusal, heading_refusal}
+use Rattle.deck_syntax.proofs.Spelled.{neither, passes, taken_line}
+use Rattle.deck_syntax.proofs.Complete.{any_account}
+use Rattle.site_plan.specs.declared.table.TableFault.{TableFault}
+use Rattle.site_plan.specs.declared.table.TableFault.TheVariants.{Line, Heading, NoAccount}
+use Rattle.site_plan.specs.Walks.{and_then, at_line, walked}
+use Rattle.site_plan.specs.Tables.{after_line, if_any}
+use Rattle.site_plan.specs.Laws.{IsGoodTable, GivesAccounts}
+
+-- a blank line more before accounts
+blank_before : (accounts : List Account) (line : List ℕ) (table : List (List ℕ)) → length line ≤ 200 → is_blank_line line ≡ true
+    → SpellsAccounts table accounts → SpellsAccounts (line ∷ table) accounts
+blank_before [] line table short blank are = ((short, blank), are)
+blank_before (account ∷ accounts) line table short blank (blanks, first, rest, are, blanks_are, is, others) =
+    (line ∷ blanks, first, rest, ap (λ (ls : List (List ℕ)). line ∷ ls) are, ((short, blank), blanks_are), is, others)
+
+-- a line that is taken is that of an account whose name is new
+account_spelled : (done : List Account) (line : List ℕ) → IsLineWithin 200 line → account_refusal done (words line) ≡ None
+    → SpellsAccount line (account_on (words line)) × (is_some (find_account done (word_at 0 (words line))) ≡ false)
+account_spelled done line within fine =
+    let two = neither (words_refusal (words line)) (table_refusal done (account_on (words line))) fine in
+    let ws = neither (unless (nat_lt 1 (length (words line))) BadCard) (unless (list_all is_name (words line)) BadName) two.0 in
+    let table = neither (unless (not (is_some (find_account done (word_at 0 (words line))))) AccountTwice) _ two.1 in (
+      by (words line) refl (passes (nat_lt 1 (length (words line))) BadCard ws.0) (passes (list_all is_name (words line)) BadName ws.1)
+          (few (account_on (words line)).groups (passes _ TooManyGroups table.1)),
+      new (is_some (find_account done (word_at 0 (words line)))) (passes _ AccountTwice table.0),
+    )
+  where
+    few : (groups : List (List ℕ)) → not (nat_lt 16 (length groups)) ≡ true → length groups ≤ 16
+    few groups h = grind (arith, nat_tests, h)
+
+    new : (b : Bool) → not b ≡ true → b ≡ false
+    new true h = absurd (true≢false (sym h))
+    new false h = refl
+
+    by : (ws : List (List ℕ)) → words line ≡ ws → nat_lt 1 (length ws) ≡ true → list_all is_name (words line) ≡ true
+        → length (account_on (words line)).groups ≤ 16 → SpellsAccount line (account_on (words line))
+    by [] e many names few = cc
+    by (a ∷ []) e many names few = cc
+    by (a ∷ b ∷ ws) e many names few = record {
+      line_is = within;
+      words_are = e ∙ ap (λ (us : List (List ℕ)). (account_on us).name ∷ (account_on us).primary ∷ (account_on us).groups) (sym e);
+      names_are = names;
+      few = few;
+    }
+
+push_name : (done : List Account) (account : Account) → HaveDifferentNames done → is_some (find_account done account.name) ≡ false
+    → HaveDifferentNames (done ++ account ∷ [])
+push_name done account differ new =
+    subst (IsDistinct bytes_eq) (sym (map-append (λ (a : Account). a.name) done (account ∷ [])))
+    (IsDistinct-push nat_list_eq_equiv (names_of done) account.name differ (sym (any_account done account.name) ∙ new))
+
+-- behind some accounts, lines spell the others
+record Spelled (done : List Account) (ls : List (List ℕ)) (all : List Account) : Type 0 where
+  later : List Account
+  all_are : all ≡ done ++ later
+  table_is : SpellsAccounts ls later
+  differ : HaveDifferentNames all
+
+spelled : (ls : List (List ℕ)) (n : ℕ) (done all : List Account) → HaveDifferentNames done → walked after_line n done ls ≡ Ok all → Spelled done ls all
+spelled [] n done all differ is =
+    let same : done ≡ all = cc in
+    record { later = []; all_are = sym same ∙ sym (append-nil done); table_is = tt; differ = subst HaveDifferentNames same differ }
+spelled (line ∷ ls) n done all differ is =
+    by (option_or (line_refusal 200 line) (accounts_refusal done line)) refl is (λ accounts. spelled ls (n + 1) accounts all)
+  where
+    Later : Type 0
+    Later = (accounts : List Account) → HaveDifferentNames accounts → walked after_line (n + 1) accounts ls ≡ Ok all → Spelled accounts ls all
+
+    on : Result (List Account) TableFault → Result (List Account) (ℕ × TableFault)
+    on r = and_then (at_line n r) (λ known. walked after_line (n + 1) known ls)
+
+    in_table : (b : Bool) → is_blank_line line ≡ b → IsLineWithin 200 line → (if b then None else account_refusal done (words line)) ≡ None
+        → on (Ok (if b then done else done ++ account_on (words line) ∷ [])) ≡ Ok all → Later → Spelled done (line ∷ ls) all
+    in_table true blank within fine is later =
+        let t = later done differ is in
+        record { later = t.later; all_are = t.all_are; table_is = blank_before t.later line ls within.0 blank t.table_is; differ = t.differ }
+    in_table false blank within fine is later =
+        let account = account_on (words line) in
+        let here = account_spelled done line within fine in
+        let t = later (done ++ account ∷ []) (push_name done account differ here.1) is in
+        record {
+          later = account ∷ t.later;
+          all_are = t.all_are ∙ append_assoc done (account ∷ []) t.later;
+          table_is = ([], line, ls, refl, tt, here.0, t.table_is);
+          differ = t.differ;
+        }
+
+    next : (b : Bool) → is_dollar_line line ≡ b → IsLineWithin 200 line
+        → (if b then heading_refusal (words line) else (if is_blank_line line then None else account_refusal done (words line))) ≡ None
+        → on (if b then Err Heading else Ok (table_after done line)) ≡ Ok all → Later → Spelled done (line ∷ ls) all
+    next true dollar within fine is later = cc
+    next false dollar within fine is later = in_table (is_blank_line line) refl within fine is later
+
+    by : (r : Option DeckError) → option_or (line_refusal 200 line) (accounts_refusal done line) ≡ r
+        → on (option_map_or (λ code. Err (Line code)) r (if is_dollar_line line then Err Heading else Ok (table_after done line))) ≡ Ok all
+        → Later → Spelled done (line ∷ ls) all
+    by (Some code) e is later = cc
+    by None e is later = let both_none = neither (line_refusal 200 line) (accounts_refusal done line) e in
+        next (is_dollar_line line) refl (taken_line 200 line both_none.0) both_none.1 is later
+
+no_names : HaveDifferentNames []
+unfolding IsDistinct
+no_names = tt
+
+pub gives_accounts : GivesAccounts
+gives_accounts text accounts is = by (walked after_line 1 [] (lines text)) refl is
+  where
+    count : ℕ
+    count = length (lines text)
+
+    whole : (b : Bool) (known : List Account) → walked after_line 1 [] (lines text) ≡ Ok known → if◌then◌else◌ {A = Result (List Account) (ℕ × TableFault)} b (Err (count + 1, NoAccount)) (Ok known) ≡ Ok accounts
+        → IsGoodTable (lines text) accounts
+    whole true known e is = cc
+    whole false known e is =
+        let same : known ≡ accounts = cc in
+        let s = spelled (lines text) 1 [] accounts no_names (e ∙ ap Ok same) in
+        record { table_is = subst (SpellsAccounts (lines text)) (sym s.all_are) s.table_is; names_differ = s.differ }
+
+    by : (r : Result (List Account) (ℕ × TableFault)) → walked after_line 1 [] (lines text) ≡ r → and_then r (if_any count) ≡ Ok accounts → IsGoodTable (lines text) accounts
+    by (Err why) e is = cc
+    by (Ok known) e is = whole (length known == 0) known e is
