@@ -46,7 +46,7 @@ def text_of(r, own):
     return (random_intake.admitted if r.random() < 0.6 else random_intake.text_of)(r, own).encode()
 
 
-NAMES = ['report.job', 'a', 'B', 'z_9', '.hidden', 'two words', 'x' * 64, 'x' * 65, '\xe4', 'a\nb', '-', '-rf', 'END', 'job;1']
+NAMES = ['report.job', 'a', 'B', 'z_9', '.hidden', 'kept~', 'two words', 'x' * 64, 'x' * 65, '\xe4', 'a\nb', '-', '-rf', 'END', 'job;1']
 
 
 def write(path, content, owner):

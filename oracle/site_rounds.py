@@ -4,6 +4,7 @@ python3 site_rounds.py run DIR SNOMON     makes the rounds that `site run DIR` h
 
 What may be handed in, the limits and the order are asked of intake.py. The printout of a text is what SNOMON prints of it
 alone, over the catalogue as the text before it left it, and so is its part of the audit. Nothing here is locked or waits for the disk."""
+import hashlib
 import os
 import re
 import stat
@@ -15,6 +16,7 @@ from monitor import lines_of
 
 NAMES = ['texts', 'bytes', 'jobs', 'statements', 'largest', 'work', 'data_sets', 'records']
 ENDED = b'RUN 0 .NONE STOPPED\n' # the last line of the audit of a deck that was run
+KEPT = re.compile(r'([1-9]\d*)\.(plan|replies|deck|out|parts|audit|done)(\.tmp)?\Z') # a file of a round
 PLAIN_NAME = re.compile(r'[A-Za-z0-9._-]{1,64}\Z')
 
 
@@ -63,14 +65,25 @@ class Site:
         return sorted((int(m[2]), m[1], bool(m[3]), m[0]) for m in found if m)
 
     def numbers(self):
-        return sorted({int(name.split('.')[0]) for name in os.listdir(self.path('rounds')) if re.match(r'[1-9]\d*\.', name)})
+        found = [KEPT.match(name) for name in os.listdir(self.path('rounds'))]
+        return sorted({int(m[1]) for m in found if m})
+
+    def following(self):
+        """The numbers of the next round and of the next text, as the site's own file tells them."""
+        return [int(line[1]) for line in told_lines(self.path('next'))] if os.path.exists(self.path('next')) else [1, 1]
+
+    def follow(self, n, following):
+        """Tells them, behind round n."""
+        n_then, id_then = self.following()
+        self.put('next', b'ROUND %d\nTEXT %d\n' % (max(n_then, n + 1), max(id_then, following)))
 
     # ---- what is claimed
 
     def next_id(self):
         plans = [n for n in self.numbers() if os.path.exists(self.path('rounds', '%d.plan' % n))]
         planned = int(read(self.path('rounds', '%d.plan' % plans[-1])).split()[-1]) if plans else 1
-        return max([planned] + [one[0] + 1 for one in self.taken()])
+        answered = [int(name.split('.')[0]) for account in os.listdir(self.path('out')) for name in os.listdir(self.path('out', account))]
+        return max([planned, self.following()[1]] + [one[0] + 1 for one in self.taken()] + [number + 1 for number in answered])
 
     def is_good_box(self, account):
         path = self.path('in', account)
@@ -87,12 +100,20 @@ class Site:
             if account not in self.users or not self.is_good_box(account):
                 continue
             box = os.fsencode(self.path('in', account))
-            for name in sorted(os.listdir(box)):
-                if is_text(name) and not os.path.isdir(os.path.join(box, name)) or os.path.islink(os.path.join(box, name)):
-                    os.rename(os.path.join(box, name), self.path('taken', '%s.%08d' % (account, number)))
-                    names[number] = name.decode() if PLAIN_NAME.match(name.decode()) else '-'
-                    number += 1
+            for name in [name for name in sorted(os.listdir(box)) if is_dropped(box, name)][:2 * self.limits['texts']]:
+                os.rename(os.path.join(box, name), self.path('taken', '%s.%08d' % (account, number)))
+                names[number] = name.decode() if PLAIN_NAME.match(name.decode()) else '-'
+                number += 1
         return names, number
+
+    def free_boxes(self):
+        """Takes the names of claimed files out of the boxes, as a run that broke off leaves them."""
+        for _, account, _, taken in self.taken():
+            if account in self.users and self.is_good_box(account):
+                box = os.fsencode(self.path('in', account))
+                for name in [name for name in os.listdir(box) if is_dropped(box, name)]:
+                    if os.path.samestat(os.lstat(os.path.join(box, name)), os.lstat(self.path('taken', taken))):
+                        os.remove(os.path.join(box, name))
 
     def look(self, account, name):
         """(the bytes, None), or (None, why there are none)"""
@@ -173,11 +194,14 @@ class Site:
         return parts, audits, catalogue
 
     def make_round(self, n, files, names, following):
-        catalogue = canonical(self.table, read(self.path('catalogue')))
+        file = read(self.path('catalogue'))
+        catalogue, checksum = canonical(self.table, file), hashlib.sha256(file).hexdigest()
         replies, queues = self.sort(files, names, catalogue)
         texts = in_turns(n, queues)
         deck = self.deck(catalogue, b''.join(text + b'$DRAIN\n' for _, _, text in texts))
-        self.put('rounds/%d.plan' % n, plan_of(files, names, replies, texts, len(self.deck(catalogue, b'')) - len(b'$STOP\n'), following))
+        head = len(self.deck(catalogue, b'')) - len(b'$STOP\n')
+        self.put('rounds/%d.plan' % n, plan_of(files, names, replies, texts, 'HEAD %d\nCATALOGUE %s\nNEXT %d\n' % (head, checksum, following)))
+        self.follow(n, following)
         printed, audits, left = self.printouts(catalogue, texts)
         owed = [('out/%s/%08d.out' % (account, number), reply) for number, (account, reply) in sorted(replies.items())]
         told = b''.join(reply for _, reply in owed)
@@ -207,22 +231,33 @@ class Site:
 
     def run(self, out=sys.stdout):
         """The exit status: 3 where a box was passed over, 1 where a text was refused. (A module called site is Python's own.)"""
+        self.free_boxes()
         n, refused = self.go_on()
+        n = max(n, self.following()[0]) if not self.is_begun(n) else n
         while True:
             waiting = [one for one in self.taken() if one[2]][:1]
             names, following = ({}, self.next_id()) if waiting else self.claim()
             files = waiting or self.taken()
             if not files:
-                return 3 if self.passed else 1 if refused else 0
+                return self.status(refused)
             count, more = self.make_round(n, files, {**self.names_before(n), **names}, following)
             print('round %d: %d run, %d refused' % (n, count, more), file=out)
             n, refused = n + 1, refused + more
+            if not waiting: # what is dropped beyond what one round claims waits for the next run
+                return self.status(refused)
+
+    def status(self, refused):
+        return 3 if self.passed else 1 if refused else 0
 
     def plan(self, n):
         """What a plan says of each file, by id: (account, the user's name for it); and the next id."""
-        *lines, _, following = told_lines(self.path('rounds/%d.plan' % n))
+        *lines, following = told_lines(self.path('rounds/%d.plan' % n))
+        lines = [line for line in lines if line[0] not in ('HEAD', 'CATALOGUE')]
         found = [line[1].removesuffix('.alone').rsplit('.', 1) + [line[2]] for line in lines]
         return {int(number): (account, name) for account, number, name in found}, int(following[1])
+
+    def is_begun(self, n):
+        return n in self.numbers()
 
     def names_before(self, n):
         """The names that a plan of this round gives which was not run."""
@@ -259,10 +294,16 @@ def make(folder, accounts, users, limits, demonstration=False, catalogue=b'$CATA
             os.chown(os.path.join(folder, name), 0, users[name[4:]])
         os.chmod(os.path.join(folder, name), mode)
     for name, content, mode in (('accounts', accounts, 0o640), ('users', said_users.encode(), 0o640), ('limits', said.encode(), 0o640),
-                                ('catalogue', catalogue, 0o600), ('lock', b'', 0o600)):
+                                ('catalogue', catalogue, 0o600), ('lock', b'', 0o600), ('next', b'ROUND 1\nTEXT 1\n', 0o600)):
         with open(os.path.join(folder, name), 'wb') as file:
             os.fchmod(file.fileno(), mode)
             file.write(content)
+
+
+def is_dropped(box, name):
+    """Whether a name in a box is one of a file that is to be claimed."""
+    path = os.path.join(box, name)
+    return is_text(name) and not re.match(rb'\.|.*~\Z', name, re.S) and (os.path.islink(path) or not os.path.isdir(path))
 
 
 def is_text(name):
@@ -286,12 +327,13 @@ def canonical(table, catalogue):
     return ''.join(line + '\n' for line in state.catalogue()).encode()
 
 
-def plan_of(files, names, replies, texts, head, following):
-    """The texts that run, in their order; the others, by id; how many bytes stand before the first text; the next id."""
+def plan_of(files, names, replies, texts, end):
+    """The texts that run, in their order; the others, by id; and how many bytes stand before the first text, the checksum of the
+    catalogue's file, and the next id."""
     file_of = {one[0]: one[3] for one in files}
     lines = ['RUN %s %s %d\n' % (file_of[number], names.get(number, '-'), len(text)) for number, _, text in texts]
     lines += ['REFUSED %s %s %d\n' % (file_of[number], names.get(number, '-'), len(reply)) for number, (_, reply) in sorted(replies.items())]
-    return (''.join(lines) + 'HEAD %d\nNEXT %d\n' % (head, following)).encode()
+    return (''.join(lines) + end).encode()
 
 
 def refused_line(text, number, why):

@@ -30,7 +30,12 @@ pub enum Wrong {
     Owner(u32, u32),
     /// This user is not in it.
     NoUser(u32),
+    /// The round of this number is open, and began with another catalogue.
+    OtherCatalogue(u64),
 }
+
+/// That a file of the keeper's, written by the site, is not as it was written.
+pub const DAMAGED: Wrong = Wrong::Words("is damaged");
 
 /// The exit status of a fault.
 pub const FAILED: u8 = 3;
@@ -87,6 +92,12 @@ impl fmt::Display for Wrong {
             Wrong::Missing(limit) => write!(f, "no line gives {limit}"),
             Wrong::Open(mode) => write!(f, "mode {mode:04o} is too open"),
             Wrong::NoUser(uid) => write!(f, "there is no user {uid}"),
+            Wrong::OtherCatalogue(n) => {
+                write!(
+                    f,
+                    "round {n} began with another: put that one back, let the round end, and then change it"
+                )
+            }
             Wrong::Owner(uid, due) => write!(f, "its owner is user {uid}, and not {due}"),
         }
     }
@@ -96,9 +107,31 @@ impl fmt::Display for Fault {
     fn fmt<W: fmt::Write>(&self, f: &mut fmt::Formatter<W>) -> fmt::Result {
         match self {
             Fault::Memory => write!(f, "out of memory"),
-            Fault::Failed(place, error) => write!(f, "{place}: {error}"),
-            Fault::Wrong(place, wrong) => write!(f, "{place}: {wrong}"),
-            Fault::Held(place) => write!(f, "another run holds {place}"),
+            Fault::Failed(place, error) => write!(f, "{}: {error}", Shown(place)),
+            Fault::Wrong(place, wrong) => write!(f, "{}: {wrong}", Shown(place)),
+            Fault::Held(place) => write!(f, "another run holds {}", Shown(place)),
         }
+    }
+}
+
+// A path as it is told: users choose names of files, and a line that the keeper reads has none of their control characters. A byte that is
+// no printing ASCII, and a backslash, stands as `\xNN`.
+#[derive(Clone, Copy)]
+struct Shown<'a>(&'a str);
+
+impl fmt::Display for Shown<'_> {
+    fn fmt<W: fmt::Write>(&self, f: &mut fmt::Formatter<W>) -> fmt::Result {
+        for byte in self.0.as_bytes() {
+            put_shown(*byte, f)?;
+        }
+        Ok(())
+    }
+}
+
+fn put_shown<W: fmt::Write>(byte: u8, f: &mut fmt::Formatter<W>) -> fmt::Result {
+    if (b' '..=b'~').contains(&byte) && byte != b'\\' {
+        f.write_char(char::from(byte))
+    } else {
+        write!(f, "\\x{byte:02x}")
     }
 }

@@ -3,15 +3,32 @@ ghost use Rattle.std.specs.Prelude.{None};
 
 use crate::fault::{Fault, Wrong};
 use mon_text::read_name;
+use rounds::name_in;
 use site_folder::{Folder, FolderError};
 use site_plan::User;
 use site_plan::users::uid_of_account;
 use std::alloc::{AllocError, Global};
 use std::fs::{DirBuilder, DirEntry, File, Metadata, OpenFile, OpenOptions, Permissions};
-use std::io::{ErrorKind, Read, Seek, SeekFrom, Write};
+use std::io::{ErrorKind, Read, Write};
 use std::os::unix::fs::{DirBuilderExt, MetadataExt, OpenOptionsExt, PermissionsExt, lchown};
 use std::rt::Files;
 use std::{fs, io, mem, str};
+
+/// The folder in `taken` for what is no part of a round.
+pub const JUNK: &[u8] = b"taken/junk";
+
+const OTHER_BYTES: Wrong = Wrong::Words("is there already, with other bytes");
+
+/// Whether a file got a second name.
+#[derive(Clone, Copy)]
+pub enum Linked {
+    /// It did.
+    Yes,
+    /// The system refused it.
+    Refused,
+    /// It is not there.
+    Gone,
+}
 
 /// What the program asks of the system.
 pub trait System: Files + AllocGlobal + Clone + Drop {}
@@ -29,10 +46,14 @@ pub struct Place<R: System> {
     users: Vec<User>,
     // Whether root runs the program, once a file was made.
     is_root: Option<bool>,
-    // The folders that were changed since the last time that all was on the disk.
+    // The folders that were changed since the last time that all was on the disk, in the order of their first changes.
     changed: Vec<String>,
     // The last fault that was told as `Failed`.
     fault: Option<Fault>,
+    // Faults that ended nothing.
+    noted: Vec<Fault>,
+    // The boxes that are not claimed from.
+    closed: Vec<Vec<u8>>,
 }
 
 impl<R: System> Place<R> {
@@ -46,6 +67,8 @@ impl<R: System> Place<R> {
             is_root: None,
             changed: Vec::new(alloc),
             fault: None,
+            noted: Vec::new(alloc),
+            closed: Vec::new(alloc),
         }
     }
 
@@ -67,16 +90,58 @@ impl<R: System> Place<R> {
         self.given(&path, if_there(fs::read(&self.rt, path.as_str())))
     }
 
-    /// Appends the bytes of a file that has to be there.
-    pub fn append(&self, name: &[u8], out: &mut Vec<u8>) -> Result<(), Fault> {
-        let path = self.path(name)?;
-        self.given(&path, append_file(&self.rt, &path, out))
+    /// Puts a file whole in the place of the one of this name. An answer takes no other's place.
+    pub fn write(&mut self, name: &[u8], bytes: &[u8]) -> Result<(), Fault> {
+        if self.is_only_answer(name)? {
+            self.put_answer(name, bytes)?;
+        } else {
+            self.put_file(name, bytes)?;
+        }
+        self.change(name)
     }
 
-    /// Puts a file whole in the place of the one of this name.
-    pub fn write(&mut self, name: &[u8], bytes: &[u8]) -> Result<(), Fault> {
-        self.put_file(name, bytes)?;
-        self.change(name)
+    // Whether this is the name of an answer whose text was not put off: what that one was told its answer replaces.
+    fn is_only_answer(&self, name: &[u8]) -> Result<bool, Fault> {
+        match put_off_name(self.rt.alloc(), name)? {
+            Some(put_off) => Ok(self.look(&put_off)?.is_none()),
+            None => Ok(false),
+        }
+    }
+
+    // Puts an answer whole, unless one stands there.
+    fn put_answer(&mut self, name: &[u8], bytes: &[u8]) -> Result<(), Fault> {
+        let path = self.path(name)?;
+        let reader = self.reader_of(name);
+        let put = self.put_new(&path, bytes, reader);
+        if self.given(&path, put)? {
+            Ok(())
+        } else {
+            self.check_answer(path, bytes, reader)
+        }
+    }
+
+    // Puts a file whole, unless one stands there: answers whether it did.
+    fn put_new(&mut self, path: &String, bytes: &[u8], reader: Option<u32>) -> io::Result<bool> {
+        let mut beside = path.clone()?;
+        beside.push_str(".tmp")?;
+        self.write_beside(&beside, bytes, reader)?;
+        take_free_place(&self.rt, &beside, path)
+    }
+
+    // An answer that stands there already is right where it has the same bytes. A user to whom root gave his may have changed it: that is
+    // noted.
+    fn check_answer(
+        &mut self,
+        path: String,
+        bytes: &[u8],
+        reader: Option<u32>,
+    ) -> Result<(), Fault> {
+        let compared = compare_answer(&self.rt, &path, bytes, reader);
+        match self.given(&path, compared)? {
+            Answered::Same => Ok(()),
+            Answered::Given => self.note(Fault::Wrong(path, OTHER_BYTES)),
+            Answered::Other => Err(Fault::Wrong(path, OTHER_BYTES)),
+        }
     }
 
     fn put_file(&mut self, name: &[u8], bytes: &[u8]) -> Result<(), Fault> {
@@ -113,10 +178,20 @@ impl<R: System> Place<R> {
         self.given(&path, take_place(&self.rt, &beside, &path, file))
     }
 
-    /// Takes a file that was begun away.
-    pub fn abandon(&self, name: &[u8], _file: R::File) -> Result<(), Fault> {
+    /// Takes a file that was begun away. Where that cannot be done it stays until one of this name is begun again, and that is noted.
+    pub fn abandon(&mut self, name: &[u8], _file: R::File) -> Result<(), Fault> {
         let beside = self.beside(name)?;
-        self.given(&beside, take_away(&self.rt, &beside))
+        match take_away(&self.rt, &beside) {
+            Ok(()) => Ok(()),
+            Err(error) => self.note_failed(&beside, error),
+        }
+    }
+
+    fn note_failed(&mut self, path: &String, error: io::Error) -> Result<(), Fault> {
+        match self.failed(path, error) {
+            Fault::Memory => Err(Fault::Memory),
+            fault => self.note(fault),
+        }
     }
 
     /// Opens a file that has to be there.
@@ -172,33 +247,80 @@ impl<R: System> Place<R> {
         }
     }
 
-    /// Removes a file, if it is there.
+    /// Removes a file, if it is there. One of `taken` that cannot be removed is put aside.
     pub fn erase(&mut self, name: &[u8]) -> Result<(), Fault> {
-        self.remove_file(name)?;
-        self.change(name)
+        match self.remove_name(name) {
+            Ok(()) => self.change(name),
+            Err(Fault::Memory) => Err(Fault::Memory),
+            Err(fault) => match name.strip_prefix(b"taken/") {
+                Some(own) => self.put_aside(own),
+                None => Err(fault),
+            },
+        }
     }
 
-    fn remove_file(&self, name: &[u8]) -> Result<(), Fault> {
+    /// Removes a file, if it is there: its folder is not brought to the disk.
+    pub fn remove_name(&self, name: &[u8]) -> Result<(), Fault> {
         let path = self.path(name)?;
         self.given(&path, take_away(&self.rt, &path))
     }
 
-    /// Gives a file another name, if it is there.
-    pub fn rename(&mut self, from: &[u8], to: &[u8]) -> Result<bool, Fault> {
-        let is_there = self.give_name(from, to)?;
-        if is_there {
-            self.change(from)?;
-            self.change(to)?;
+    /// Moves what stands in `taken` under this name into `taken/junk`, which is no part of a round. A folder that cannot be moved stays
+    /// there, and that is noted.
+    pub fn put_aside(&mut self, own: &[u8]) -> Result<(), Fault> {
+        let from = name_in(self.rt.alloc(), b"taken", own)?;
+        match self.move_aside(&from, own) {
+            Ok(()) => Ok(()),
+            Err(Fault::Memory) => Err(Fault::Memory),
+            Err(fault) => match self.look(&from)? {
+                Some(seen) if seen.is_dir() => self.note(fault),
+                _ => Err(fault),
+            },
         }
-        Ok(is_there)
     }
 
-    fn give_name(&self, from: &[u8], to: &[u8]) -> Result<bool, Fault> {
+    fn move_aside(&mut self, from: &[u8], own: &[u8]) -> Result<(), Fault> {
+        let to = name_in(self.rt.alloc(), JUNK, own)?;
+        self.make_junk()?;
+        if self.rename(from, &to)? {
+            self.change(&to)?;
+            self.change(from)?;
+        }
+        Ok(())
+    }
+
+    fn make_junk(&self) -> Result<(), Fault> {
+        match self.look(JUNK)? {
+            None => self.make_folder(JUNK, 0o700),
+            Some(_) => Ok(()),
+        }
+    }
+
+    /// Gives a file another name, if it is there: the folders are not brought to the disk.
+    pub fn rename(&self, from: &[u8], to: &[u8]) -> Result<bool, Fault> {
         let old = self.path(from)?;
         let new = self.path(to)?;
         let renamed = fs::rename(&self.rt, old.as_str(), new.as_str());
         let given = self.given(&old, if_there(renamed))?;
         Ok(given.is_some())
+    }
+
+    /// Gives a file a second name, if it is there and that can be done: the folder is not brought to the disk.
+    pub fn link(&self, from: &[u8], to: &[u8]) -> Result<Linked, Fault> {
+        let old = self.path(from)?;
+        let new = self.path(to)?;
+        match fs::hard_link(&self.rt, old.as_str(), new.as_str()) {
+            Ok(()) => Ok(Linked::Yes),
+            Err(error) => self.why_not_linked(&new, error),
+        }
+    }
+
+    fn why_not_linked(&self, path: &String, error: io::Error) -> Result<Linked, Fault> {
+        match error.kind() {
+            ErrorKind::NotFound => Ok(Linked::Gone),
+            ErrorKind::OutOfMemory | ErrorKind::AlreadyExists => Err(self.failed(path, error)),
+            _ => Ok(Linked::Refused),
+        }
     }
 
     /// Who runs the program: the owner of a file of this name, which is made for it and removed.
@@ -216,6 +338,12 @@ impl<R: System> Place<R> {
         }
         self.changed.clear();
         Ok(())
+    }
+
+    /// Brings a folder to the disk.
+    pub fn bring(&self, folder: &[u8]) -> Result<(), Fault> {
+        let path = self.path(folder)?;
+        self.given(&path, sync_folder(&self.rt, &path))
     }
 
     /// The names in a folder, in the order of their bytes. A name that is no text is passed over.
@@ -243,23 +371,6 @@ impl<R: System> Place<R> {
     pub fn remove_folder(&self, name: &[u8]) -> Result<(), Fault> {
         let path = self.path(name)?;
         self.given(&path, fs::remove_dir(&self.rt, path.as_str()))
-    }
-
-    /// Whether the last byte of a file that is there is a line end. Also where it may not be opened, or is no file.
-    pub fn ends_line(&self, name: &[u8]) -> Result<bool, Fault> {
-        match self.look(name)? {
-            Some(seen) if seen.is_file() => self.is_last_line_end(name, seen.len()),
-            _ => Ok(true),
-        }
-    }
-
-    fn is_last_line_end(&self, name: &[u8], length: u64) -> Result<bool, Fault> {
-        let path = self.path(name)?;
-        match last_byte(&self.rt, &path, length) {
-            Ok(last) => Ok(last == Some(b'\n')),
-            Err(error) if error.kind() == ErrorKind::PermissionDenied => Ok(true),
-            Err(error) => Err(self.failed(&path, error)),
-        }
     }
 
     /// Sets the mode of a file or a folder.
@@ -306,6 +417,29 @@ impl<R: System> Place<R> {
         self.users.as_slice()
     }
 
+    /// Keeps a fault that ends nothing.
+    pub fn note(&mut self, fault: Fault) -> Result<(), Fault> {
+        self.noted.push(fault)?;
+        Ok(())
+    }
+
+    /// The faults that ended nothing.
+    pub fn take_noted(&mut self) -> Vec<Fault> {
+        let none = Vec::new(self.rt.alloc());
+        mem::replace(&mut self.noted, none)
+    }
+
+    /// From here on, nothing is claimed from a box.
+    pub fn close(&mut self, folder: Vec<u8>) -> Result<(), Fault> {
+        self.closed.push(folder)?;
+        Ok(())
+    }
+
+    /// Whether nothing is claimed from a box.
+    pub fn is_closed(&self, folder: &[u8]) -> bool {
+        self.closed.iter().any(|one| one.as_slice() == folder)
+    }
+
     // What a call on the file of this path gave, if it was not refused.
     fn given<T: Drop>(&self, path: &str, called: io::Result<T>) -> Result<T, Fault> {
         match called {
@@ -314,12 +448,20 @@ impl<R: System> Place<R> {
         }
     }
 
+    /// That a call on the file of this name was refused.
+    pub fn failed_at(&self, name: &[u8], error: io::Error) -> Fault {
+        match self.path(name) {
+            Ok(path) => self.failed(&path, error),
+            Err(fault) => fault,
+        }
+    }
+
     fn failed(&self, path: &str, error: io::Error) -> Fault {
         Fault::failed(self.rt.alloc(), path, error)
     }
 
-    // That the folder in which a name stands was changed.
-    fn change(&mut self, name: &[u8]) -> Result<(), Fault> {
+    /// That the folder in which a name stands was changed.
+    pub fn change(&mut self, name: &[u8]) -> Result<(), Fault> {
         let path = self.path(folder_of(name))?;
         if !self.changed.contains(&path) {
             self.changed.push(path)?;
@@ -391,6 +533,30 @@ impl<R: System> Folder for Place<R> {
     }
 }
 
+// The name in `taken` of the text that the answer of this name is to, if that was put off.
+fn put_off_name(alloc: Global, answer: &[u8]) -> Result<Option<Vec<u8>>, AllocError> {
+    match parts_of_answer(answer) {
+        Some((account, id)) => Ok(Some(put_off_text(alloc, account, id)?)),
+        None => Ok(None),
+    }
+}
+
+fn put_off_text(alloc: Global, account: &[u8], id: &[u8]) -> Result<Vec<u8>, AllocError> {
+    let mut name = name_in(alloc, b"taken", account)?;
+    name.extend_from_slice(b".")?;
+    name.extend_from_slice(id)?;
+    name.extend_from_slice(b".alone")?;
+    Ok(name)
+}
+
+// The account and the number in `out/ACCOUNT/NUMBER.out`.
+fn parts_of_answer(answer: &[u8]) -> Option<(&[u8], &[u8])> {
+    let rest = answer.strip_prefix(b"out/")?;
+    let slash = rest.iter().position(|byte| *byte == b'/')?;
+    let id = rest[slash + 1..].strip_suffix(b".out")?;
+    Some((&rest[..slash], id))
+}
+
 /// A path of a folder and a name in it.
 pub fn joined(alloc: Global, folder: &str, name: &str) -> Result<String, AllocError> {
     let mut path = String::from_str(alloc, folder)?;
@@ -444,30 +610,6 @@ pub fn read_there<R: System>(rt: &R, path: &str) -> Result<Vec<u8>, Fault> {
     }
 }
 
-fn append_file<R: System>(rt: &R, path: &String, out: &mut Vec<u8>) -> io::Result<()> {
-    let mut file = File::open(rt, path.as_str())?;
-    file.read_to_end(out)?;
-    Ok(())
-}
-
-// The last byte of a file of so many bytes.
-fn last_byte<R: System>(rt: &R, path: &String, length: u64) -> io::Result<Option<u8>> {
-    if length == 0 {
-        return Ok(None);
-    }
-    let mut file = File::open(rt, path.as_str())?;
-    file.seek(SeekFrom::End(-1))?;
-    next_byte(&mut file)
-}
-
-fn next_byte<F: Read>(file: &mut F) -> io::Result<Option<u8>> {
-    let mut next = [0; 1];
-    match file.read(&mut next)? {
-        1 => Ok(Some(next[0])),
-        _ => Ok(None),
-    }
-}
-
 // A new file that is for its owner alone. One that is there, as a crash leaves it, is no longer.
 fn create_own<R: System>(rt: &R, path: &String) -> io::Result<R::File> {
     match create_new(rt, path) {
@@ -485,6 +627,69 @@ fn create_new<R: System>(rt: &R, path: &String) -> io::Result<R::File> {
         .create_new(true)
         .mode(0o600)
         .open(rt, path.as_str())
+}
+
+// A file that was written beside its place takes it by a second name, unless one stands there: answers whether it did.
+fn take_free_place<R: System>(rt: &R, beside: &String, path: &String) -> io::Result<bool> {
+    match fs::hard_link(rt, beside.as_str(), path.as_str()) {
+        Ok(()) => without_second_name(rt, beside, true),
+        Err(error) if error.kind() == ErrorKind::AlreadyExists => {
+            without_second_name(rt, beside, false)
+        }
+        Err(_) => move_if_free(rt, beside, path),
+    }
+}
+
+fn without_second_name<R: System>(rt: &R, beside: &String, answer: bool) -> io::Result<bool> {
+    fs::remove_file(rt, beside.as_str())?;
+    Ok(answer)
+}
+
+// The same where no file can have a second name. Nobody but the keeper writes into the folder.
+fn move_if_free<R: System>(rt: &R, beside: &String, path: &String) -> io::Result<bool> {
+    match if_there(fs::symlink_metadata(rt, path.as_str()))? {
+        Some(_) => without_second_name(rt, beside, false),
+        None => {
+            fs::rename(rt, beside.as_str(), path.as_str())?;
+            Ok(true)
+        }
+    }
+}
+
+// An answer that stands where another is to be put.
+#[derive(Clone, Copy)]
+enum Answered {
+    // It has the same bytes.
+    Same,
+    // It has others, and was given to its user by root.
+    Given,
+    // It has others.
+    Other,
+}
+
+fn compare_answer<R: System>(
+    rt: &R,
+    path: &String,
+    bytes: &[u8],
+    reader: Option<u32>,
+) -> io::Result<Answered> {
+    let mut file = File::open(rt, path.as_str())?;
+    let seen = file.metadata()?;
+    if seen.len() == bytes.len() as u64 && has_bytes(rt.alloc(), &mut file, bytes)? {
+        Ok(Answered::Same)
+    } else if seen.uid() != 0 && reader == Some(seen.uid()) {
+        Ok(Answered::Given)
+    } else {
+        Ok(Answered::Other)
+    }
+}
+
+// Whether a file has just these bytes.
+fn has_bytes<F: Read>(alloc: Global, file: &mut F, bytes: &[u8]) -> io::Result<bool> {
+    let mut found = Vec::new(alloc);
+    let most = (bytes.len() as u64).saturating_add(1);
+    file.take(most).read_to_end(&mut found)?;
+    Ok(found.as_slice() == bytes)
 }
 
 // A file that was written takes its place.
@@ -508,23 +713,10 @@ fn give_away<R: System>(
     }
 }
 
-// Removes a file, or a folder that a user has put in its place.
+// Removes a file, if it is there.
 fn take_away<R: System>(rt: &R, path: &String) -> io::Result<()> {
-    match fs::remove_file(rt, path.as_str()) {
-        Ok(()) => Ok(()),
-        Err(error) if error.kind() == ErrorKind::NotFound => Ok(()),
-        Err(error) => take_folder_away(rt, path, error),
-    }
-}
-
-// Removes a folder; where none is there, it is as the error says.
-fn take_folder_away<R: System>(rt: &R, path: &String, error: io::Error) -> io::Result<()> {
-    let seen = fs::symlink_metadata(rt, path.as_str())?;
-    if seen.is_dir() {
-        fs::remove_dir_all(rt, path.as_str())
-    } else {
-        Err(error)
-    }
+    if_there(fs::remove_file(rt, path.as_str()))?;
+    Ok(())
 }
 
 fn sync_folder<R: System>(rt: &R, path: &String) -> io::Result<()> {

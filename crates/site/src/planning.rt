@@ -1,15 +1,14 @@
 //! Planning a round: claimed files are judged, put in order and fixed on the disk.
+use crate::catalogue::begin;
 use crate::claiming::{Claims, Drawn, all_taken, claim, look_at};
-use crate::fault::Fault;
+use crate::fault::{DAMAGED, Fault};
 use crate::keeper::Keeper;
+use crate::numbers::next_number;
 use crate::place::{Place, System};
 use mon_text::Stop;
-use rounds::{Planned, plan_texts};
-use site_plan::{Judged, Plan, Taken, holdings, plan_text, read_plan};
+use rounds::{Beginning, Planned, plan_texts};
+use site_plan::{Holding, Judged, Plan, Taken, plan_text, read_plan};
 use std::alloc::{AllocError, Global};
-
-/// The first line of a deck.
-const FIRST_LINE: &[u8] = b"$ACCOUNTS\n";
 
 /// Plans a round, if there is one, and fixes it on the disk. Where one claimed file is to run alone, it is the round, and nothing is
 /// claimed. Boxes that are passed over are told.
@@ -46,7 +45,7 @@ fn draw<R: System>(
     passed: &mut Vec<Fault>,
 ) -> Result<Claims, Fault> {
     let standing = all_taken(place)?;
-    let next = next_number(place, n, &standing)?;
+    let next = next_number(place, n)?;
     match first_alone(&standing) {
         Some(alone) => Ok(alone_drawn(place.rt.alloc(), alone, next)?),
         None => draw_all(place, keeper, n, standing, next, passed),
@@ -114,32 +113,20 @@ fn name_of<'a>(plan: &'a Option<Plan>, taken: &Taken) -> &'a [u8] {
     }
 }
 
-/// The plan of a round, if one is there that can be read.
+/// The plan of a round, if one is there.
 pub fn plan_of<R: System>(place: &Place<R>, n: u64) -> Result<Option<Plan>, Fault> {
     match place.read_round_file(n, b".plan")? {
-        Some(text) => plan_in(place.rt.alloc(), &text),
+        Some(text) => plan_in(place, n, &text),
         None => Ok(None),
     }
 }
 
-fn plan_in(alloc: Global, text: &[u8]) -> Result<Option<Plan>, Fault> {
-    match read_plan(alloc, text) {
+fn plan_in<R: System>(place: &Place<R>, n: u64, text: &[u8]) -> Result<Option<Plan>, Fault> {
+    match read_plan(place.rt.alloc(), text) {
         Ok(plan) => Ok(Some(plan)),
-        Err(Stop::Refused(_)) => Ok(None),
+        Err(Stop::Refused(_)) => Err(place.wrong_round_file(n, b".plan", DAMAGED)),
         Err(Stop::Memory) => Err(Fault::Memory),
     }
-}
-
-// The number that the next claimed file is given: one more than any that stands there, and than the last plan tells.
-fn next_number<R: System>(place: &Place<R>, n: u64, standing: &[Taken]) -> Result<u64, Fault> {
-    let mut next = match plan_of(place, n.saturating_sub(1))? {
-        Some(plan) => plan.next,
-        None => 1,
-    };
-    for one in standing {
-        next = next.max(one.id.saturating_add(1));
-    }
-    Ok(next)
 }
 
 // The plan of claimed files, with the deck and the replies.
@@ -150,34 +137,23 @@ fn make_plan<R: System>(
     claims: Claims,
 ) -> Result<Planned, Fault> {
     let Claims { drawn, next } = claims;
-    let head = head_of(place, keeper)?;
-    let judged = judge_all(place, keeper, &head, drawn)?;
+    let Beginning { head, held } = begin(place, keeper)?;
+    let judged = judge_all(place, keeper, &held, drawn)?;
     Ok(plan_texts(place.rt.alloc(), n, next, head, judged)?)
 }
 
 fn judge_all<R: System>(
     place: &Place<R>,
     keeper: &Keeper,
-    head: &[u8],
+    held: &[Holding],
     drawn: Vec<Drawn>,
 ) -> Result<Judged, Fault> {
-    let mut judged = judged_before(place, keeper, head)?;
+    let alloc = place.rt.alloc();
+    let mut judged = Judged::new(alloc, &keeper.accounts, &keeper.terms.limits, held)?;
     for one in drawn {
         judge_one(place, keeper, &mut judged, one)?;
     }
     Ok(judged)
-}
-
-// Before the first file.
-fn judged_before<R: System>(
-    place: &Place<R>,
-    keeper: &Keeper,
-    head: &[u8],
-) -> Result<Judged, AllocError> {
-    let alloc = place.rt.alloc();
-    let front = FIRST_LINE.len().saturating_add(keeper.table.len());
-    let held = holdings(alloc, &keeper.accounts, behind(head, front))?;
-    Judged::new(alloc, &keeper.accounts, &keeper.terms.limits, &held)
 }
 
 // Looks at a file, and judges it. What is refused is let go at once.
@@ -191,30 +167,6 @@ fn judge_one<R: System>(
     let claimed = look_at(place, keeper.terms.limits.bytes, taken, file)?;
     judged.judge(place.rt.alloc(), claimed)?;
     Ok(())
-}
-
-// What stands behind so many bytes.
-fn behind(bytes: &[u8], count: usize) -> &[u8] {
-    if count <= bytes.len() {
-        &bytes[count..]
-    } else {
-        b""
-    }
-}
-
-// What stands in a deck before its first text.
-fn head_of<R: System>(place: &Place<R>, keeper: &Keeper) -> Result<Vec<u8>, Fault> {
-    let mut head = accounts_of(place.rt.alloc(), keeper)?;
-    place.append(b"catalogue", &mut head)?;
-    head.extend_from_slice(b"$STREAM\n")?;
-    Ok(head)
-}
-
-// What stands in a deck before its catalogue.
-fn accounts_of(alloc: Global, keeper: &Keeper) -> Result<Vec<u8>, AllocError> {
-    let mut head = Vec::from_slice(alloc, FIRST_LINE)?;
-    head.extend_from_slice(&keeper.table)?;
-    Ok(head)
 }
 
 /// Fixes a plan on the disk. The deck is last: where it stands, the plan and the replies are its own.

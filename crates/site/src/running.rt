@@ -2,11 +2,12 @@
 use crate::claiming::all_taken;
 use crate::fault::Fault;
 use crate::keeper::{Keeper, open_site};
+use crate::numbers::{keep_numbers, last_round, round_behind};
+use crate::opening::open_folders;
 use crate::place::{Place, System};
-use crate::planning::plan_round;
-use crate::serving::{Tally, serve, serve_there, settle_round};
+use crate::planning::{plan_of, plan_round};
+use crate::serving::{Tally, plan_there, serve, serve_there, settle_round};
 use crate::status::refuse_open;
-use mon_text::read_count;
 
 /// A round that was served, and what it came to.
 #[derive(Clone, Copy)]
@@ -22,7 +23,7 @@ pub struct Served {
 pub struct Report {
     /// The rounds that were served.
     pub served: Vec<Served>,
-    /// What is wrong with boxes that were passed over.
+    /// What was passed over: boxes with which something is wrong, and what ended no round.
     pub passed: Vec<Fault>,
 }
 
@@ -30,8 +31,21 @@ pub struct Report {
 pub fn run_site<R: System>(rt: R, top: String, report: &mut Report) -> Result<(), Fault> {
     let (mut place, keeper) = open_site(rt, top)?;
     refuse_open(&place, &keeper)?;
-    let next = finish_last(&mut place, report)?;
-    serve_dropped(&mut place, &keeper, next, report)
+    let ended = run_opened(&mut place, &keeper, report);
+    for fault in place.take_noted() {
+        report.passed.push(fault)?;
+    }
+    ended
+}
+
+fn run_opened<R: System>(
+    place: &mut Place<R>,
+    keeper: &Keeper,
+    report: &mut Report,
+) -> Result<(), Fault> {
+    open_folders(place, keeper, &mut report.passed)?;
+    let next = finish_last(place, report)?;
+    serve_dropped(place, keeper, next, report)
 }
 
 // Serves what users dropped, in rounds of which the first has this number.
@@ -66,6 +80,7 @@ fn serve_next<R: System>(
 ) -> Result<Option<u64>, Fault> {
     match plan_round(place, keeper, n, &mut report.passed)? {
         Some(planned) => {
+            keep_numbers(place, n, &planned.plan)?;
             let next = note(report, n, serve(place, n, planned))?;
             Ok(Some(next))
         }
@@ -80,15 +95,16 @@ fn note(report: &mut Report, n: u64, served: Result<Tally, Fault>) -> Result<u64
     Ok(n.saturating_add(1))
 }
 
-// How far a round has come.
+/// How far a round has come.
 #[derive(Clone, Copy)]
-enum Stage {
-    // Its plan is not fixed.
+pub enum Stage {
+    /// Its plan is not fixed.
     Open,
-    // It is to be run.
+    /// It is to be run.
     Planned,
-    // It was run, and is to be settled.
+    /// It was run, and is to be settled.
     Committed,
+    /// It is settled.
     Done,
 }
 
@@ -97,14 +113,31 @@ fn finish_last<R: System>(place: &mut Place<R>, report: &mut Report) -> Result<u
     let n = last_round(place)?;
     match stage_of(place, n)? {
         Stage::Open => Ok(n),
-        Stage::Planned => note(report, n, serve_there(place, n)),
-        Stage::Committed => note(report, n, settle_round(place, n)),
-        Stage::Done => Ok(n.saturating_add(1)),
+        Stage::Planned => {
+            keep_planned(place, n)?;
+            note(report, n, serve_there(place, n))?;
+            round_behind(place, n)
+        }
+        Stage::Committed => {
+            keep_planned(place, n)?;
+            note(report, n, settle_round(place, n))?;
+            round_behind(place, n)
+        }
+        Stage::Done => {
+            let _plan = plan_of(place, n)?;
+            round_behind(place, n)
+        }
     }
 }
 
-// How far the last round has come; one of number 0 is none, and done.
-fn stage_of<R: System>(place: &Place<R>, n: u64) -> Result<Stage, Fault> {
+// Keeps the numbers that follow a round which stands there: a run may have ended before it did.
+fn keep_planned<R: System>(place: &mut Place<R>, n: u64) -> Result<(), Fault> {
+    let plan = plan_there(place, n)?;
+    keep_numbers(place, n, &plan)
+}
+
+/// How far the last round has come; one of number 0 is none, and done.
+pub fn stage_of<R: System>(place: &Place<R>, n: u64) -> Result<Stage, Fault> {
     if n == 0 || place.has_round_file(n, b".done")? {
         Ok(Stage::Done)
     } else if place.has_round_file(n, b".out")? {
@@ -113,22 +146,5 @@ fn stage_of<R: System>(place: &Place<R>, n: u64) -> Result<Stage, Fault> {
         Ok(Stage::Planned)
     } else {
         Ok(Stage::Open)
-    }
-}
-
-/// The highest number of a round of which a file stands; 0 where there is none.
-pub fn last_round<R: System>(place: &Place<R>) -> Result<u64, Fault> {
-    let mut last = 0;
-    for name in place.names(b"rounds")? {
-        last = last.max(number_of(&name));
-    }
-    Ok(last)
-}
-
-// The number of the round that a file is of, or 0.
-fn number_of(name: &[u8]) -> u64 {
-    match name.iter().position(|byte| *byte == b'.') {
-        Some(point) => read_count(&name[..point]).unwrap_or(0),
-        None => 0,
     }
 }

@@ -1,6 +1,8 @@
 //! `site status`: what stands, and what is not as it must be.
+use crate::catalogue::fault_of_catalogue;
 use crate::fault::{Fault, Wrong};
 use crate::keeper::Keeper;
+use crate::numbers::NEXT;
 use crate::place::{Place, System};
 use mon_text::Name;
 use rounds::{answer_folder, box_name};
@@ -16,9 +18,6 @@ const NOT_OWNER: u32 = 0o077;
 
 /// The bits by which a group or others may write.
 const WRITERS: u32 = 0o022;
-
-/// That a file is cut off within a line, or that its last line lacks its end.
-pub const UNENDED: Wrong = Wrong::Words("its last line has no line end");
 
 const MISSING: Wrong = Wrong::Words("is missing");
 
@@ -127,12 +126,41 @@ fn check_own<R: System>(place: &Place<R>, uid: u32, faults: &mut Vec<Fault>) -> 
     for (name, due) in due {
         check(place, name, uid, due, faults)?;
     }
-    check_end(place, faults)
+    check_if_there(place, b"lock", uid, faults)?;
+    check_if_there(place, NEXT, uid, faults)?;
+    check_catalogue(place, faults)
 }
 
-fn check_end<R: System>(place: &Place<R>, faults: &mut Vec<Fault>) -> Result<(), Fault> {
-    if !place.ends_line(b"catalogue")? {
-        faults.push(place.wrong(b"catalogue", UNENDED))?;
+// A file of the keeper's alone, which a run makes where it is missing.
+fn check_if_there<R: System>(
+    place: &Place<R>,
+    name: &[u8],
+    uid: u32,
+    faults: &mut Vec<Fault>,
+) -> Result<(), Fault> {
+    match place.look(name)? {
+        Some(_) => check(place, name, uid, OWN_FILE, faults),
+        None => Ok(()),
+    }
+}
+
+/// Refuses a lock that is not the keeper's alone: somebody else could hold it.
+pub fn refuse_lock<R: System>(rt: R, top: &str) -> Result<(), Fault> {
+    let top = String::from_str(rt.alloc(), top)?;
+    let place = Place::new(rt, top);
+    let mut faults = Vec::new(place.rt.alloc());
+    if let Some(seen) = place.look(b"")? {
+        check_if_there(&place, b"lock", seen.uid(), &mut faults)?;
+    }
+    match faults.into_iter().next() {
+        Some(fault) => Err(fault),
+        None => Ok(()),
+    }
+}
+
+fn check_catalogue<R: System>(place: &Place<R>, faults: &mut Vec<Fault>) -> Result<(), Fault> {
+    if let Some(fault) = fault_of_catalogue(place)? {
+        faults.push(fault)?;
     }
     Ok(())
 }

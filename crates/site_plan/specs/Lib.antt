@@ -2,9 +2,12 @@ pub mod Walks
 pub mod Users
 pub mod Terms
 pub mod Tables
+pub mod Catalogues
 pub mod Names
+pub mod Next
 pub mod Owning
 pub mod Weighing
 pub mod Replies
 pub mod Judging
 pub mod Plans
+pub mod Laws

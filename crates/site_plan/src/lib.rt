@@ -2,10 +2,14 @@
 //! claimed texts run and in which order, which are refused and why, and what each is told.
 #![tactic(auto)]
 
+pub mod catalogue;
 pub mod claimed;
 pub mod desk;
+pub mod file_names;
 pub mod judging;
+pub mod laws;
 mod lines;
+pub mod next;
 pub mod owning;
 pub mod plan;
 pub mod reason;
@@ -16,9 +20,12 @@ pub mod taken;
 pub mod terms;
 pub mod users;
 
+pub use catalogue::{CatalogueFault, checksum, read_catalogue};
 pub use claimed::{Claimed, Found, shown_name};
 pub use desk::Desk;
+pub use file_names::{answer_number, claimed_number, is_claimed, round_number};
 pub use judging::{Judged, Refused};
+pub use next::{Next, next_text, read_next};
 pub use owning::{Holding, holdings};
 pub use plan::{Entry, Plan, Verdict, plan_text, read_plan};
 pub use reason::Reason;
