@@ -74,6 +74,62 @@ class Built(Checkout):
         self.assertEqual(self.builds(), 2)
         self.assertEqual(self.ran('--build', '--check').status, 2)
 
+    # The deck that a word names
+
+    def says_of(self, *words):
+        done = self.ran(*words)
+        self.assertEqual((done.status, done.err), (0, ''), words)
+        return done.out
+
+    def named_decks(self):
+        self.ran()
+        return self.write('one', b'first\n'), self.write('other', b'second\n')
+
+    def test_a_word_that_names_a_file_gives_the_deck(self):
+        one, other = self.named_decks()
+        for before, after in ((), ()), (('--check',), ()), ((), ('--check',)), (('--slots', '4'), ('--check',)), (('--',), ()):
+            self.assertEqual(self.says_of(*before, one, *after), b' '.join(map(str.encode, before + after)) + b'\nfirst\n')
+        self.assertEqual(self.says_of(one, other), other.encode() + b'\nfirst\n')
+
+    def test_a_deck_is_given_to_a_program_that_has_to_be_built_first(self):
+        one = self.write('one', b'first\n')
+        self.assertEqual((self.ran('--check', one).out, self.builds()), (b'--check\nfirst\n', 1))
+
+    def test_the_value_of_an_option_gives_no_deck(self):
+        one, other = self.named_decks()
+        self.assertEqual(self.says_of('--audit', one), b'--audit %s\ndeck\n' % one.encode())
+        self.assertEqual(self.says_of('--audit', one, other), b'--audit %s\nsecond\n' % one.encode())
+        self.assertEqual(self.says_of('--audit=' + one, other), b'--audit=%s\nsecond\n' % one.encode())
+        self.assertEqual(self.says_of(other, '--audit', one), b'--audit %s\nsecond\n' % one.encode())
+        self.write('4', b'third\n')
+        done = run([self.path('run'), '--slots', '4', 'one'], given=b'', env=self.environment(), cwd=self.room)
+        self.assertEqual(done.out, b'--slots 4\nfirst\n')
+
+    def test_a_word_that_names_no_file_goes_to_the_program(self):
+        self.named_decks()
+        for word in (self.path('none'), self.path('bin'), '', '-'):
+            self.assertEqual(self.says_of(word), word.encode() + b'\ndeck\n')
+        self.write('-x', b'third\n')
+        for word, wanted in (('-x', b'-x\n'), ('./-x', b'\nthird\n')):
+            self.assertEqual(run([self.path('run'), word], given=b'', env=self.environment(), cwd=self.room).out, wanted)
+
+    def test_a_file_with_the_name_of_an_action_is_none(self):
+        self.named_decks()
+        self.assertEqual(self.ran('--build', self.path('one')).status, 2)
+        self.assertEqual(self.ran('--origin', self.path('one')).status, 2)
+
+    def test_each_program_has_options_with_values_of_its_own(self):
+        self.release()
+        for name in PROGRAMS:
+            self.script(f'crates/{name}/out/{name}', b'#!/bin/sh\necho "$@"; cat\n')
+            self.proved('--stamp', name, self.sum(name), 'kit 1')
+        one = self.write('one', b'first\n')
+        path = one.encode()
+        for words, wanted in ((('listing', one), b'\nfirst\n'), (('listing', '--access', '--set', one), b'--access --set %s\n' % path),
+                              (('listing', '--account', one, one), b'--account %s\nfirst\n' % path), (('listing', '--slots', one), b'--slots\nfirst\n'),
+                              (('site', 'check', one), b'check %s\n' % path), (('site', one), path + b'\n')):
+            self.assertEqual(self.proved(*words).out, wanted, words)
+
     # What is not right
 
     def test_a_program_put_there_by_hand_is_not_run(self):

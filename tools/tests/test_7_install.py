@@ -40,6 +40,7 @@ class Installed(Checkout):
         unit = self.read('there/lib/systemd/system/snomon-site.service').decode()
         self.assertIn(f'\nExecStart={os.path.realpath(self.there)}/bin/site run /srv/snomon\n', unit)
         self.assertNotIn('/usr/local', unit)
+        self.assertIn('\nTimeoutStartSec=infinity\n', unit) # a round that is ended begins again with its first text
         self.assertIn('lib/systemd/system/snomon-site.timer', self.files())
 
     def test_it_is_open_to_all_under_any_umask(self):

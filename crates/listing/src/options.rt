@@ -22,9 +22,9 @@ pub enum Asked {
 ///
 /// # Errors
 ///
-/// Where the words ask nothing: an unknown one, one that is given twice, a name that is none, or a call for help or for the
-/// version. The text of the error, which is that of the help and the version too, is `clap`'s. Its kind is `OutOfMemory` where
-/// a growth was refused.
+/// Where the words ask nothing of a deck: an unknown one, one that is given twice, a name that is none; or help or the version,
+/// whose text it is then (`DisplayHelp`, `DisplayVersion`). The text is `clap`'s. Its kind is `OutOfMemory` where a growth was
+/// refused.
 pub fn read_asked<S: AsStr>(alloc: Global, words: &[S]) -> Result<Asked, Error> {
     let matches = command(alloc)?.try_get_matches_from(words)?;
     if matches.get_flag("access") {
@@ -114,10 +114,10 @@ const AFTER_HELP: &str =
 
   listing < payroll.deck
 
-Exit status: 0 where there is no mistake, or all was told of who may do what; 1 where there is
-one, or the deck is refused before its stream or has no account or data set of the name that is
-asked about; 2 where the words ask nothing, or ask for this help or the version, which go to
-standard error; 3 where reading, writing or memory failed.
+Exit status: 0 where there is no mistake, or all was told of who may do what, and for this help and
+the version; 1 where there is a mistake, or the deck is refused before its stream or has no account
+or data set of the name that is asked about; 2 where the words ask nothing; 3 where reading, writing
+or memory failed.
 ";
 
 // The program's options, as `clap` knows them. Help and version are among them without being named.

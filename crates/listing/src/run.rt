@@ -20,7 +20,8 @@ const NOTHING_ASKED: u8 = 2;
 const HAS_MISTAKES: u8 = 1;
 
 /// Tells of the deck that comes from one stream what these words ask, writes it to another, and tells on a third what went
-/// wrong. The first word is the program's name; words that are no text ask nothing.
+/// wrong. The first word is the program's name; words that are no text ask nothing. Help and version, where the words ask for
+/// them, are written as a deck's listing is, with status 0, and nothing is read.
 pub fn run<S: AsStr + Drop, R: Read, W: Write, E: Write>(
     alloc: Global,
     words: io::Result<Vec<S>>,
@@ -32,7 +33,8 @@ pub fn run<S: AsStr + Drop, R: Read, W: Write, E: Write>(
         Ok(Asked::Listing { quiet }) => run_listing(alloc, quiet, input, output, errors),
         Ok(Asked::Access(question)) => run_access(alloc, &question, input, output, errors),
         Err(error) if error.kind() == ErrorKind::OutOfMemory => tell(alloc, Fault::Memory, errors),
-        Err(error) => refuse(error, errors),
+        Err(error) if error.use_stderr() => refuse(&error, errors),
+        Err(error) => show(alloc, &error, output, errors),
     }
 }
 
@@ -86,11 +88,19 @@ fn put_fault<E: Write>(alloc: Global, fault: Fault, errors: &mut E) -> io::Resul
 }
 
 // Tells why the words ask nothing, as far as that can be done.
-fn refuse<E: Write>(error: Error, errors: &mut E) -> u8
+fn refuse<E: Write>(error: &Error, errors: &mut E) -> u8
     ensures { result ≡ NOTHING_ASKED }
 {
     let _told = write!(errors, "{error}");
     NOTHING_ASKED
+}
+
+// Writes the help or the version, for which the words ask.
+fn show<W: Write, E: Write>(alloc: Global, error: &Error, output: &mut W, errors: &mut E) -> u8 {
+    match write!(output, "{error}") {
+        Ok(()) => 0,
+        Err(_) => tell(alloc, Fault::WriteFault, errors),
+    }
 }
 
 // What the words ask.

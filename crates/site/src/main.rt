@@ -2,11 +2,14 @@
 #![tactic(auto)]
 
 mod auditing;
+mod catalogue;
 mod checking;
 mod claiming;
 mod fault;
 mod keeper;
 mod making;
+mod numbers;
+mod opening;
 mod options;
 mod place;
 mod planning;
@@ -18,31 +21,24 @@ mod telling;
 
 use checking::{check_file, verify};
 use clap::Error;
-use clap::error::ErrorKind;
 use fault::Fault;
 use making::make_site;
 use options::{Asked, no_text, read_asked};
 use place::joined;
 use running::{Report, run_site};
+use status::refuse_lock;
 use std::alloc::{AllocError, Global};
 use std::fs::{File, OpenOptions, TryLockError};
 use std::os::unix::fs::OpenOptionsExt;
 use std::process::ExitCode;
 use std::rt::Env;
 use std::{env, io};
-use telling::{tell_check, tell_fault, tell_made, tell_run, tell_status, tell_verified};
-
-/// The exit status where the words ask nothing.
-const NOTHING_ASKED: u8 = 2;
+use telling::{tell_check, tell_made, tell_run, tell_status, tell_verified, tell_words};
 
 fn main(rt: HostRuntime) -> ExitCode {
     let status = match given_words(&rt) {
         Ok(asked) => serve(&rt, asked),
-        Err(error) if error.kind() == ErrorKind::OutOfMemory => tell_fault(&rt, &Fault::Memory),
-        Err(error) => {
-            let _told = eprint!(rt; "{error}");
-            NOTHING_ASKED
-        }
+        Err(error) => tell_words(&rt, &error),
     };
     ExitCode::from(status)
 }
@@ -85,9 +81,10 @@ fn run(rt: &HostRuntime, top: String) -> u8 {
     tell_run(rt, &report, ended)
 }
 
-// Holds the lock of a site as long as the file is open.
+// Holds the lock of a site as long as the file is open. It is looked at before.
 fn lock(rt: &HostRuntime, top: &str) -> Result<File, Fault> {
     let path = joined(rt.alloc(), top, "lock")?;
+    refuse_lock(*rt, top)?;
     match open_lock(rt, &path) {
         Ok(file) => hold(rt, path, file),
         Err(error) => Err(Fault::failed(rt.alloc(), &path, error)),

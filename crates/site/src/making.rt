@@ -1,9 +1,10 @@
 //! `site init`: the folder of a site is made.
+use crate::catalogue::wrong_in;
 use crate::fault::{Fault, Wrong};
 use crate::keeper::{accounts_in, terms_in, users_in};
+use crate::numbers::{NEXT, first_text};
 use crate::options::{Init, Sources};
 use crate::place::{Place, System, read_there};
-use crate::status::UNENDED;
 use mon_access::Accounts;
 use mon_text::{Name, put_number, read_count};
 use rounds::{answer_folder, box_name};
@@ -13,13 +14,18 @@ use std::fs;
 use std::io::ErrorKind;
 
 /// What an account may hand in where no file says it.
-const USUAL_LIMITS: &[u8] = b"# What an account may hand in for a round: see site(5).
+const USUAL_LIMITS: &[u8] = b"# What an account may hand in for a round, and own: site(5).
+#
+# A round ends when all its texts have run, so statements and work say how long one account can keep
+# the others waiting. A match takes up to 50 nanoseconds a step as a rule: work is then 83 minutes an
+# account, and 28 hours for twenty. There are dear programs: 40 microseconds a step, 40 milliseconds a
+# statement. A job without ST= and MATCH= counts 50000 statements and 50000000000 steps.
 texts 100
 bytes 1000000
 jobs 100
-statements 10000000
+statements 1000000
 largest 100000000000
-work 1000000000000
+work 100000000000
 data_sets 50
 records 50000000
 ";
@@ -88,7 +94,7 @@ fn make_all<R: System>(place: &mut Place<R>, texts: &Texts, owners: &Owners) -> 
 fn find_owners<R: System>(place: &mut Place<R>, texts: &Texts) -> Result<Owners, Fault> {
     let maker = place.owner_of_new(b"owner.tmp")?;
     let users = users_by(place.rt.alloc(), maker, texts)?;
-    set_users(place, texts.limits.demonstration, &users)?;
+    set_users(place, texts, &users)?;
     let system = system_of(place, maker, &texts.table.accounts)?;
     Ok(Owners { users, system })
 }
@@ -100,12 +106,10 @@ fn users_by(alloc: Global, maker: u32, texts: &Texts) -> Result<Vec<u8>, AllocEr
     }
 }
 
-fn set_users<R: System>(
-    place: &mut Place<R>,
-    demonstration: bool,
-    text: &[u8],
-) -> Result<(), Fault> {
-    let users = users_in(place.rt.alloc(), "users", demonstration, text)?;
+fn set_users<R: System>(place: &mut Place<R>, texts: &Texts, text: &[u8]) -> Result<(), Fault> {
+    let alloc = place.rt.alloc();
+    let demonstration = texts.limits.demonstration;
+    let users = users_in(alloc, "users", demonstration, &texts.table.accounts, text)?;
     place.set_users(users);
     Ok(())
 }
@@ -148,7 +152,7 @@ fn check_group<R: System>(place: &Place<R>, account: &Name, system: &[u8]) -> Re
 fn read_texts<R: System>(rt: &R, sources: &Sources) -> Result<Texts, Fault> {
     let table = read_table(rt, &sources.accounts)?;
     let limits = read_limits(rt, sources)?;
-    let users = users_text(rt, sources, limits.demonstration)?;
+    let users = users_text(rt, sources, limits.demonstration, &table.accounts)?;
     let catalogue = catalogue_text(rt, sources)?;
     Ok(Texts {
         table,
@@ -200,16 +204,22 @@ fn users_text<R: System>(
     rt: &R,
     sources: &Sources,
     demonstration: bool,
+    accounts: &Accounts,
 ) -> Result<Option<Vec<u8>>, Fault> {
     match &sources.users {
-        Some(path) => Ok(Some(read_users(rt, path, demonstration)?)),
+        Some(path) => Ok(Some(read_users(rt, path, demonstration, accounts)?)),
         None => Ok(None),
     }
 }
 
-fn read_users<R: System>(rt: &R, path: &str, demonstration: bool) -> Result<Vec<u8>, Fault> {
+fn read_users<R: System>(
+    rt: &R,
+    path: &str,
+    demonstration: bool,
+    accounts: &Accounts,
+) -> Result<Vec<u8>, Fault> {
     let text = read_there(rt, path)?;
-    let _users = users_in(rt.alloc(), path, demonstration, &text)?;
+    let _users = users_in(rt.alloc(), path, demonstration, accounts, &text)?;
     Ok(text)
 }
 
@@ -222,10 +232,9 @@ fn catalogue_text<R: System>(rt: &R, sources: &Sources) -> Result<Vec<u8>, Fault
 
 fn read_catalogue<R: System>(rt: &R, path: &str) -> Result<Vec<u8>, Fault> {
     let text = read_there(rt, path)?;
-    if text.ends_with(b"\n") {
-        Ok(text)
-    } else {
-        Err(Fault::wrong(rt.alloc(), path, UNENDED))
+    match wrong_in(rt.alloc(), &text)? {
+        Some(wrong) => Err(Fault::wrong(rt.alloc(), path, wrong)),
+        None => Ok(text),
     }
 }
 
@@ -266,6 +275,8 @@ fn make_files<R: System>(place: &mut Place<R>, texts: &Texts, users: &[u8]) -> R
     make_file(place, b"limits", &texts.limits.text, 0o640)?;
     make_file(place, b"catalogue", &texts.catalogue, 0o600)?;
     make_file(place, b"lock", b"", 0o600)?;
+    let next = first_text(place)?;
+    make_file(place, NEXT, &next, 0o600)?;
     make_file(place, b"users", users, 0o640)
 }
 

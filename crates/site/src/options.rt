@@ -46,8 +46,8 @@ pub struct Sources {
 ///
 /// # Errors
 ///
-/// Where the words ask nothing. The text of the error, which is that of the help and the version too, is `clap`'s. Its kind is
-/// `OutOfMemory` where a growth was refused.
+/// Where the words ask nothing of a site, or for help or the version, whose text it is then (`DisplayHelp`, `DisplayVersion`). The
+/// text is `clap`'s. Its kind is `OutOfMemory` where a growth was refused.
 pub fn read_asked<S: AsStr>(alloc: Global, words: &[S]) -> Result<Asked, Error> {
     let command = command(alloc)?;
     let matches = command.try_get_matches_from(words)?;
@@ -190,10 +190,10 @@ const AFTER_HELP: &str = "A keeper makes a site once, and starts `site run` by a
   site init /srv/site --accounts accounts --users users
   site run /srv/site
 
-Exit status: 0 where all was done; 1 where a text was refused or put off and all else done, or
-where a round's bytes are others; 2 where the words ask nothing, or ask for this help or the
-version, which go to standard error; 3 where reading, writing or memory failed, or the folder is
-not as it must be; 4 where another run holds the lock.
+Exit status: 0 where all was done, and for this help and the version; 1 where a text was refused
+or put off and all else done, or where a round's bytes are others; 2 where the words ask nothing;
+3 where reading, writing or memory failed, or the folder is not as it must be; 4 where another run
+holds the lock.
 ";
 
 // The program's commands, as `clap` knows them.

@@ -1,16 +1,22 @@
 //! What the program tells, and its exit status.
-use crate::claiming::all_taken;
+use crate::claiming::{all_taken, waiting};
 use crate::fault::{FAILED, Fault};
 use crate::keeper::{Keeper, open_site};
+use crate::numbers::{last_round, refuse_damaged};
 use crate::place::{Place, System};
-use crate::running::{Report, Served, last_round};
+use crate::running::{Report, Served};
 use crate::status::faults_of;
+use clap::Error;
+use clap::error::ErrorKind;
 use mon_text::Name;
 use rounds::box_name;
 use std::{io, str};
 
 /// The exit status where a text was refused, or put off, and all else was done; or where the bytes of a round are others.
 const REFUSED: u8 = 1;
+
+/// The exit status where the words ask nothing.
+const NOTHING_ASKED: u8 = 2;
 
 /// What a telling asks of the system.
 pub trait Teller: System + Print + Eprint {}
@@ -31,6 +37,19 @@ fn status_of(told: io::Result<()>, status: u8) -> u8 {
     }
 }
 
+/// Tells what `clap` says of the words, and gives the exit status: help and version, for which they ask, go to standard output
+/// with status 0, and what is wrong with them to standard error.
+pub fn tell_words<R: Print + Eprint>(rt: &R, error: &Error) -> u8 {
+    if error.kind() == ErrorKind::OutOfMemory {
+        tell_fault(rt, &Fault::Memory)
+    } else if error.use_stderr() {
+        let _told = eprint!(rt; "{error}");
+        NOTHING_ASKED
+    } else {
+        status_of(print!(rt; "{error}"), 0)
+    }
+}
+
 /// Tells how a site was made.
 pub fn tell_made<R: Eprint>(rt: &R, made: Result<(), Fault>) -> u8 {
     match made {
@@ -39,7 +58,7 @@ pub fn tell_made<R: Eprint>(rt: &R, made: Result<(), Fault>) -> u8 {
     }
 }
 
-/// Tells the rounds that were served, what is wrong with boxes that were passed over, and the fault that ended the run, if one did.
+/// Tells the rounds that were served, what was passed over, and the fault that ended the run, if one did.
 pub fn tell_run<R: Print + Eprint>(rt: &R, report: &Report, ended: Result<(), Fault>) -> u8 {
     let told = tell_rounds(rt, &report.served);
     tell_faults(rt, &report.passed);
@@ -118,6 +137,7 @@ fn tell_standing<R: Teller>(rt: &R, place: &Place<R>, keeper: &Keeper) -> Result
     if !faults.grave.is_empty() {
         return Ok(FAILED);
     }
+    refuse_damaged(place)?;
     tell_work(rt, place, keeper)?;
     Ok(if faults.boxes.is_empty() { 0 } else { FAILED })
 }
@@ -168,13 +188,13 @@ fn tell_boxes<R: Teller>(rt: &R, place: &Place<R>, keeper: &Keeper) -> Result<()
     Ok(())
 }
 
-// Tells how many names stand in a box.
+// Tells how many files wait in a box.
 fn tell_box<R: Teller>(rt: &R, place: &Place<R>, account: &Name) -> Result<(), Fault> {
     let folder = box_name(place.rt.alloc(), account)?;
-    let Ok(names) = place.names(&folder) else {
+    let path = place.path(&folder)?;
+    let Ok(waiting) = waiting(&place.rt, &path) else {
         return Ok(());
     };
-    let waiting = names.len();
     let name = str::from_utf8(account.as_bytes()).unwrap_or("");
     let _told = println!(rt; "files waiting: {waiting} of {name}");
     Ok(())
