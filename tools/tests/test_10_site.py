@@ -133,7 +133,7 @@ class Rounds(SiteTrying):
         self.drop('hugo', 'it', HELLO % b'hugo')
         self.run_site()
         self.assertEqual(self.of('rounds/1.audit').decode().splitlines(), [
-            'JOB 1 hugo LOADED', 'JOB 1 hugo ASKED 1 WRITE 6 .SPOOL 0 DONE', 'JOB 1 hugo ENDED NORMAL AFTER 1', 'COMMAND 0 anna LIST LOG RECORDS 1', 'RUN 0 .NONE STOPPED'])
+            'JOB 1 hugo LOADED', 'JOB 1 hugo ASKED 1 WRITE 6 .SPOOL 0 DONE', 'JOB 1 hugo ENDED NORMAL AFTER 1', 'COMMAND 0 anna LIST LOG RECORDS 1 BY user::', 'RUN 0 .NONE STOPPED'])
         self.assertFalse([name for name in os.listdir(self.folder + '/rounds') if name.endswith('.tmp')])
 
     def test_no_text_can_end_the_round_or_speak_for_another(self):
@@ -173,11 +173,11 @@ class Rounds(SiteTrying):
     # Names
 
     def test_a_reply_repeats_a_plain_name_alone(self):
-        for name in ('x' * 64, 'x' * 65, 'two words', 'a\nb', '\xe4', '.a-B_9', "'"):
+        for name in ('x' * 64, 'x' * 65, 'two words', 'a\nb', '\xe4', 'a.-B_9', "'"):
             self.drop('lisa', name, b'$STOP\n')
         self.run_site(status=1)
         told = sorted(text.split('\n')[0] for text in self.answers('lisa').values())
-        self.assertEqual(told, ['REFUSED -'] * 5 + ['REFUSED .a-B_9', 'REFUSED ' + 'x' * 64])
+        self.assertEqual(told, ['REFUSED -'] * 5 + ['REFUSED a.-B_9', 'REFUSED ' + 'x' * 64])
 
     def test_a_name_that_is_no_text_stays_where_it_is(self):
         self.drop('lisa', b'a\xff', LIST % b'lisa')
@@ -298,7 +298,7 @@ class Rounds(SiteTrying):
         return self.site('run', self.folder, preexec_fn=lambda: resource.setrlimit(resource.RLIMIT_AS, (40 << 20, resource.RLIM_INFINITY)))
 
     def test_many_large_files_take_no_memory(self):
-        self.with_limits(bytes=2000000, texts=2)
+        self.with_limits(bytes=2000000, texts=100)
         for k in range(200):
             self.drop('anna', '%03d' % k, b' ' * 200 + b'\n' + b'#' * 1000000)
         self.drop('lisa', 'it', LIST % b'lisa')
@@ -335,7 +335,7 @@ class Rounds(SiteTrying):
         self.drop('anna', 'it', LIST % b'anna')
         done = self.site('run', self.folder, **limits)
         self.assertEqual((done.status, done.out), (1, b'round 1: 1 run, 0 refused, 1 put off\n'), done.err)
-        self.assertEqual(self.of('rounds/1.audit'), b'COMMAND 0 anna LIST LOG RECORDS 1\nRUN 0 .NONE STOPPED\n')
+        self.assertEqual(self.of('rounds/1.audit'), b'COMMAND 0 anna LIST LOG RECORDS 1 BY user::\nRUN 0 .NONE STOPPED\n')
         done = self.site('run', self.folder, **limits)
         self.assertEqual((done.status, done.out), (1, b'round 2: 0 run, 1 refused\n'), done.err)
         self.assertEqual(list(self.answers('lisa').values()), ['REFUSED -\nOUT OF MEMORY\n'])
@@ -422,8 +422,8 @@ class Rounds(SiteTrying):
         self.run_site()
 
     def test_what_the_keeper_wrote_wrong_is_told(self):
-        wrong = {'users': [b'anna 1\n', b'1 anna\n1 lisa\n2 anna\n', b'4294967296 anna\n', b'-1 anna\n'],
-                 'limits': [b'texts 1\n', b'', b'texts x\n'], 'accounts': [b'anna\n', b'anna a\nanna b\n', b'$STREAM\n']}
+        wrong = {'users': [b'anna 1\n', b'1 anna\n1 lisa\n2 anna\n', b'4294967296 anna\n', b'-1 anna\n', b'1 nobody\n', b'', b'# none\n\n'],
+                 'limits': [b'texts 1\n', b'', b'texts x\n'], 'accounts': [b'anna\n', b'anna a\nanna b\n', b'$STREAM\n', b'', b'\n']}
         self.drop('anna', 'it', LIST % b'anna')
         for name, contents in wrong.items():
             before = self.of(name)
@@ -454,7 +454,7 @@ class Rounds(SiteTrying):
 
     def test_other_words_are_refused(self):
         for words in ([], ['go'], ['run'], ['run', 'a', 'b'], ['run', '--bogus', 'a'], ['check', 'a'], ['verify', 'a'], ['verify', 'a', 'x'],
-                      ['init'], ['status'], ['--bogus'], ['--help'], ['run', '--help'], ['--version']):
+                      ['init'], ['status'], ['--bogus']):
             done = self.site(*words)
             self.assertEqual((done.status, done.out, bool(done.err)), (2, b'', True), words)
 
@@ -492,11 +492,12 @@ class Rounds(SiteTrying):
 
     def test_a_catalogue_that_is_cut_off_is_told_before_a_text_is_claimed(self):
         self.drop('hugo', 'it', LIST % b'hugo')
-        for content in (CATALOGUE[:-1], CATALOGUE[:-3], b''):
+        for content, told in ((CATALOGUE[:-1], 'line 4: the last line has no line end'), (CATALOGUE[:-3], 'line 4: the last line has no line end'),
+                              (CATALOGUE[:-6], 'line 4: the file ends within a data set'), (b'', 'line 1: not $CATALOGUE')):
             with open(self.folder + '/catalogue', 'wb') as file:
                 file.write(content)
             for command in ('status', 'run'):
-                self.says(self.site(command, self.folder), 3, 'catalogue', 'line end')
+                self.says(self.site(command, self.folder), 3, 'catalogue', told)
             self.assertEqual((self.waiting('hugo'), os.listdir(self.folder + '/taken')), (['it'], []))
         with open(self.folder + '/catalogue', 'wb') as file:
             file.write(CATALOGUE)
@@ -538,10 +539,8 @@ class Rounds(SiteTrying):
         self.assertEqual(sorted(os.listdir(self.folder + '/rounds')), ['1.audit', '1.deck', '1.done', '1.out', '1.parts', '1.plan', '1.replies'])
 
 
-@unittest.skipUnless(os.path.exists(SITE), 'there is no site')
-@unittest.skipUnless(os.geteuid() == 0, 'two users can only be tried as root')
-class Users(SiteTrying):
-    """Two users as the kernel knows them; the keeper is root."""
+class UsersTrying(SiteTrying):
+    """A site of two users as the kernel knows them; the keeper is root."""
 
     users = {'anna': NOBODY, 'lisa': OTHER}
     demonstration = False
@@ -558,6 +557,10 @@ class Users(SiteTrying):
             os.chmod(file.name, 0o644)
             self.assertEqual(self.as_user(account, 'umask 077; cat "$1" >"$2"', file.name, os.fsdecode(self.box(account, name))), 0)
 
+
+@unittest.skipUnless(os.path.exists(SITE), 'there is no site')
+@unittest.skipUnless(os.geteuid() == 0, 'two users can only be tried as root')
+class Users(UsersTrying):
     def test_each_reads_his_own_answers_and_no_others(self):
         self.drops('anna', 'it', LIST % b'anna')
         self.drops('lisa', 'it', b'$STOP\n')
@@ -648,10 +651,8 @@ class Users(SiteTrying):
             self.assertEqual(os.stat(self.path('new/' + name)).st_gid, os.stat(self.folder + '/' + name).st_gid)
 
 
-@unittest.skipUnless(os.path.exists(SITE), 'there is no site')
-@unittest.skipUnless(os.geteuid() == 0, 'a keeper and two users can only be tried as root')
-class Keeper(Users):
-    """The same two users, and a keeper who is not root; so these tests are those of Users, and some more."""
+class KeeperTrying(UsersTrying):
+    """The same site, and its keeper is not root."""
 
     keeper = 64010
 
@@ -680,6 +681,12 @@ class Keeper(Users):
     def drops(self, account, name, content):
         super().drops(account, name, content)
         os.chmod(self.box(account, name), 0o640)
+
+
+@unittest.skipUnless(os.path.exists(SITE), 'there is no site')
+@unittest.skipUnless(os.geteuid() == 0, 'a keeper and two users can only be tried as root')
+class Keeper(KeeperTrying, Users):
+    """These tests are those of Users, and some more."""
 
     def test_each_reads_his_own_answers_and_no_others(self):
         self.drops('anna', 'it', LIST % b'anna')
