@@ -6,12 +6,12 @@ use Rattle.std.proofs.lemmas.List.Folds.{list_all_at, list_all_more}
 use Rattle.std.proofs.lemmas.Option.{slice_get_within, get_or_from_slice_get}
 use Rattle.std.proofs.lemmas.Bool.Decides.{nat_tests}
 use Rattle.mon_text.specs.Names.{is_name}
-use Rattle.deck_syntax.specs.declared.deck_error.DeckError.{DeckError}
-use Rattle.deck_syntax.specs.declared.deck_error.DeckError.TheVariants.{BadName, BadCard}
+use Rattle.deck_lines.specs.declared.deck_error.DeckError.{DeckError}
+use Rattle.deck_lines.specs.declared.deck_error.DeckError.TheVariants.{BadName, BadCard}
 use Rattle.mon_text.specs.declared.stop.Stop.{Stop}
 use Rattle.mon_text.specs.declared.stop.Stop.TheVariants.{Refused, Memory}
-use Rattle.deck_syntax.specs.inner.Stops.{IfRefused}
-use Rattle.deck_syntax.specs.Refusing.{unless}
+use Rattle.deck_lines.specs.inner.Stops.{IfRefused}
+use Rattle.deck_lines.specs.Refusing.{unless}
 use Rattle.deck_syntax.specs.Sections.{account_on}
 use Rattle.deck_syntax.specs.inner.Parts.{words_refusal}
 use Rattle.std.specs.Option.{option_or}

@@ -7,7 +7,7 @@ use Rattle.mon_text.specs.Lines.{is_blank_line, words}
 use Rattle.mon_acl.specs.declared.entries.Entry.{Entry}
 use Rattle.mon_acl.specs.declared.entries.Tag.TheVariants.{UserObj, GroupObj, Other}
 use Rattle.mon_acl.specs.declared.refusals.AclError.{AclError}
-use Rattle.mon_acl.specs.Reading.{read_short}
+use Rattle.acl_text.specs.Reading.{read_short}
 use Rattle.mon_access.specs.declared.account.Account.{Account}
 use Rattle.mon_catalogue.specs.declared.version.Version.{Version}
 use Rattle.mon_catalogue.specs.declared.data_set.DataSet.{DataSet}
@@ -20,18 +20,18 @@ use Rattle.mon_catalogue.specs.Sets.{Sets, empty_set}
 use Rattle.mon_catalogue.specs.Progress as progress
 use Rattle.mon_catalogue.specs.Progress.{Progress, step, with_due, after_acl}
 use Rattle.mon_catalogue.specs.inner.Parts.{with_record}
-use Rattle.deck_syntax.specs.declared.card.Card.TheVariants as card
-use Rattle.deck_syntax.specs.declared.deck_error.DeckError.{DeckError}
-use Rattle.deck_syntax.specs.declared.deck_error.DeckError.TheVariants.{Truncated}
+use Rattle.deck_lines.specs.declared.card.Card.TheVariants as card
+use Rattle.deck_lines.specs.declared.deck_error.DeckError.{DeckError}
+use Rattle.deck_lines.specs.declared.deck_error.DeckError.TheVariants.{Truncated}
 use Rattle.deck_syntax.specs.declared.request.Request.{Request}
 use Rattle.deck_syntax.specs.declared.request.Request.TheVariants as request
 use Rattle.deck_syntax.specs.Decks.{Deck, Cards, Asked, Commands, Enters, Gives, Drains, Stopped, Refused}
-use Rattle.deck_syntax.specs.Refusing.{line_refusal, lone_card_refusal, is_dollar_line}
+use Rattle.deck_lines.specs.Refusing.{line_refusal, lone_card_refusal, is_dollar_line}
 use Rattle.deck_syntax.specs.Jobs.{job_line_refusal, ends_job, after_job_line}
 use Rattle.deck_syntax.specs.Requests.{opened, with_line, set_acl_of, stream_refusal, request_on, list_line_refusal}
 use Rattle.deck_syntax.specs.Sections.{opening_refusal, accounts_refusal, table_after, sets_of, ends_catalogue, catalogue_refusal, Open, Closed, InList, InJob, asked_then, requested, refused_on_line, stopped, stream_section, refused_early, catalogue_section, accounts_section, opening_section, deck_of}
 use Rattle.deck_syntax.specs.inner.Parts.{version_in, text_refusal}
-use Rattle.deck_syntax.specs.CardLines.{IsLineWithin}
+use Rattle.deck_lines.specs.CardLines.{IsLineWithin}
 use Rattle.deck_syntax.specs.Spelling.{IsDeck}
 use Rattle.deck_syntax.specs.Laws.{ending_of, IsLeftOpen, BeginsGood, GoodBeginnings}
 use Rattle.deck_syntax.proofs.Complete.{text_taken}

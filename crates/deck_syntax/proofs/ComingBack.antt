@@ -13,9 +13,8 @@ use Rattle.mon_text.specs.Lines.{IsLine}
 use Rattle.mon_acl.specs.declared.entries.Tag.{Tag}
 use Rattle.mon_acl.specs.declared.entries.Tag.TheVariants.{UserObj, User, GroupObj, Group, Mask, Other}
 use Rattle.mon_acl.specs.declared.entries.Entry.{Entry}
-use Rattle.mon_acl.specs.Entries.{IsEntry, IsAcl, has_tag, is_tag, is_named, is_qualified, qualifier}
-use Rattle.mon_acl.specs.Printing.{entry_text, entry_head, perms_text, short_form}
-use Rattle.mon_acl.specs.Texts.{tag_word}
+use Rattle.mon_acl.specs.Entries.{IsEntry, IsAcl, has_tag, is_tag, is_named, is_qualified, qualifier, tag_word}
+use Rattle.acl_text.specs.Printing.{entry_text, entry_head, perms_text, short_form}
 use Rattle.mon_access.specs.declared.account.Account.{Account}
 use Rattle.mon_access.specs.Accounts.{HaveDifferentNames}
 use Rattle.mon_catalogue.specs.declared.mode.Mode.{Mode}
@@ -32,8 +31,9 @@ use Rattle.mon_catalogue.proofs.Blanks.{both}
 use Rattle.mon_catalogue.proofs.Bytes.{lines_of_text}
 use Rattle.mon_catalogue.proofs.Printable.{catalogue_lines_show}
 use Rattle.deck_syntax.specs.Laws.{deck_lines, deck_over}
-use Rattle.deck_syntax.specs.CardLines.{IsLineWithin}
-use Rattle.deck_syntax.specs.Spelling.{AreBlank, SpellsAccounts, IsDeck}
+use Rattle.deck_lines.specs.CardLines.{IsLineWithin}
+use Rattle.deck_syntax.specs.Decks.{Asked, Stopped}
+use Rattle.deck_syntax.specs.Spelling.{AreBlank, SpellsAccounts, SpellsStream, IsDeck}
 use Rattle.deck_syntax.proofs.Spelled.{blank_is_line}
 use Rattle.std.specs.Option.{unwrap_or}
 
@@ -188,8 +188,11 @@ module _ (table : List (List ℕ)) (accounts : List Account) (sets : Sets) (are 
   shown : AllByRecursion IsLine (catalogue_lines sets)
   shown = catalogue_lines_show sets stored.1 printable
 
-  good : IsDeck (deck_lines table sets) (deck_over accounts sets)
-  good = record {
+  -- and any stream behind it
+  pub good_deck : (stream : List (List ℕ)) (asked : List Asked) → SpellsStream stream asked
+      → IsDeck (codes "$ACCOUNTS" ∷ table ++ (codes "$CATALOGUE 2" ∷ catalogue_lines sets ++ (codes "$STREAM" ∷ stream ++ codes "$STOP" ∷ [])))
+      (record { accounts = accounts; catalogue = sets; cards = record { asked = asked; ending = Stopped } })
+  good_deck stream asked spelled = record {
     blanks = [];
     accounts_card = codes "$ACCOUNTS";
     table = table;
@@ -197,7 +200,7 @@ module _ (table : List (List ℕ)) (accounts : List Account) (sets : Sets) (are 
     version = Two;
     text = catalogue_lines sets;
     stream_card = codes "$STREAM";
-    stream = [];
+    stream = stream;
     stop_card = codes "$STOP";
     unread = [];
     lines_are = refl;
@@ -210,13 +213,14 @@ module _ (table : List (List ℕ)) (accounts : List Account) (sets : Sets) (are 
     text_is = lines_spell sets stored;
     text_fits = lines_fit sets stored.1 shown;
     stream_begins = record { word = codes "$STREAM"; line_is = (omega arith, refl); words_are = refl; names_it = refl };
-    stream_is = tt;
+    stream_is = spelled;
     stops = record { word = codes "$STOP"; line_is = (omega arith, refl); words_are = refl; names_it = refl };
     ends = refl;
   }
 
   pub comes_back : IsDeck (deck_lines table sets) (deck_over accounts sets) × IsDeck (lines (text_of (deck_lines table sets))) (deck_over accounts sets)
   comes_back =
+      let good : IsDeck (deck_lines table sets) (deck_over accounts sets) = good_deck [] [] tt in
       let cards : AllByRecursion IsLine (codes "$STREAM" ∷ codes "$STOP" ∷ []) = (refl, (refl, tt)) in
       let all : AllByRecursion IsLine (deck_lines table sets) = (
         refl,

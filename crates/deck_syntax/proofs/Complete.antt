@@ -7,7 +7,7 @@ use Rattle.std.proofs.lemmas.List.{append_assoc, append-nil, map-append}
 use borrow.Author.Tests.{ne_eqb, le-ltb, lt-ltb}
 use Rattle.mon_text.specs.Names.{is_name}
 use Rattle.mon_text.specs.Lines.{is_blank_line, words}
-use Rattle.mon_acl.specs.declared.text.AclText.TheVariants.{Short, Long}
+use Rattle.acl_text.specs.declared.text.AclText.TheVariants.{Short, Long}
 use Rattle.mon_access.specs.declared.account.Account.{Account}
 use Rattle.mon_access.specs.Accounts.{find_account, names_of, HaveDifferentNames}
 use Rattle.mon_catalogue.specs.declared.head.Head.{Head}
@@ -24,22 +24,22 @@ use Rattle.mon_catalogue.proofs.Heads.{head_words}
 use Rattle.mon_catalogue.proofs.Names.{none_before}
 use Rattle.mon_catalogue.proofs.Steps.{refused_stays}
 use Rattle.mon_catalogue.proofs.Whole.{text_read}
-use Rattle.mon_command.specs.declared.command.Command.{Command}
-use Rattle.mon_command.specs.declared.command.Command.TheVariants as command
-use Rattle.deck_syntax.specs.declared.card.Card.{Card}
-use Rattle.deck_syntax.specs.declared.card.Card.TheVariants as card
-use Rattle.deck_syntax.specs.declared.deck_error.DeckError.TheVariants.{BadName, BadCharacter, LineTooLong, BadCard, OutOfPlace, AccountTwice, TooManyGroups}
+use Rattle.deck_lines.specs.declared.command.Command.{Command}
+use Rattle.deck_lines.specs.declared.command.Command.TheVariants as command
+use Rattle.deck_lines.specs.declared.card.Card.{Card}
+use Rattle.deck_lines.specs.declared.card.Card.TheVariants as card
+use Rattle.deck_lines.specs.declared.deck_error.DeckError.TheVariants.{BadName, BadCharacter, LineTooLong, BadCard, OutOfPlace, AccountTwice, TooManyGroups}
 use Rattle.deck_syntax.specs.declared.list.OpenList.{OpenList}
 use Rattle.deck_syntax.specs.declared.request.Request.TheVariants.{Nothing, Asks, OpensList}
 use Rattle.deck_syntax.specs.declared.job.OpenJob.{OpenJob}
-use Rattle.deck_syntax.specs.declared.turn.Turn.{Turn}
-use Rattle.deck_syntax.specs.Cards.{card_among, is_card}
+use Rattle.deck_lines.specs.declared.turn.Turn.{Turn}
+use Rattle.deck_lines.specs.Cards.{card_among, is_card}
 use Rattle.deck_syntax.specs.Decks.{Deck, Cards, Asked, Commands, Enters, Gives, Drains, Ending, Stopped}
-use Rattle.deck_syntax.specs.Refusing.{unless, line_refusal, lone_card_refusal, is_dollar_line}
+use Rattle.deck_lines.specs.Refusing.{unless, line_refusal, lone_card_refusal, is_dollar_line}
 use Rattle.deck_syntax.specs.Requests.{opened, with_line, set_acl_of, stream_card_refusal, card_request, stream_refusal, request_on, end_refusal, list_text_refusal, is_list_character, acl_on}
 use Rattle.deck_syntax.specs.Sections.{opening_refusal, account_on, table_refusal, account_refusal, accounts_refusal, table_after, sets_of, ends_catalogue, catalogue_refusal, Closed, InList, InJob, asked_then, requested, stream_section, catalogue_section, accounts_section, opening_section, deck_of}
 use Rattle.deck_syntax.specs.inner.Parts.{version_in, heading_refusal, text_refusal}
-use Rattle.deck_syntax.specs.CardLines.{IsLineWithin, IsCard}
+use Rattle.deck_lines.specs.CardLines.{IsLineWithin, IsCard}
 use Rattle.deck_syntax.specs.Spelling.{AreBlank, SpellsAccount, SpellsAccounts, NamesOn, SpellsCreation, SpellsShort, version_words, IsListLine, SpellsLong, SpellsCommand, SpellsAsked, SpellsStream, IsDeck}
 use Rattle.deck_syntax.specs.JobSpelling.{SpellsJob, SpellsTurn}
 use Rattle.deck_syntax.specs.inner.Parts.{opened_job}

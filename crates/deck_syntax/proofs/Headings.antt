@@ -11,12 +11,12 @@ use Rattle.mon_catalogue.specs.declared.version.Version.{Version}
 use Rattle.mon_catalogue.specs.declared.version.Version.TheVariants.{One, Two}
 use Rattle.mon_catalogue.specs.Modes.{mode_of, mode_word}
 use Rattle.mon_catalogue.proofs.Heads.{mode_reads}
-use Rattle.deck_syntax.specs.declared.card.Card.{Card}
-use Rattle.deck_syntax.specs.declared.card.Card.TheVariants as card
-use Rattle.deck_syntax.specs.declared.deck_error.DeckError.TheVariants.{UnknownCard, BadCard, OutOfPlace}
-use Rattle.deck_syntax.specs.Cards.{card_among, is_card}
-use Rattle.deck_syntax.specs.Refusing.{unless, due_card_refusal}
-use Rattle.deck_syntax.specs.CardLines.{IsLineWithin, IsCard}
+use Rattle.deck_lines.specs.declared.card.Card.{Card}
+use Rattle.deck_lines.specs.declared.card.Card.TheVariants as card
+use Rattle.deck_lines.specs.declared.deck_error.DeckError.TheVariants.{UnknownCard, BadCard, OutOfPlace}
+use Rattle.deck_lines.specs.Cards.{card_among, is_card}
+use Rattle.deck_lines.specs.Refusing.{unless, due_card_refusal}
+use Rattle.deck_lines.specs.CardLines.{IsLineWithin, IsCard}
 use Rattle.deck_syntax.specs.Sections.{version_on}
 use Rattle.deck_syntax.specs.inner.Parts.{version_in, heading_refusal}
 use Rattle.deck_syntax.specs.Requests.{mode_on}

@@ -2,10 +2,10 @@
 use Rattle.std.proofs.Common.{◌≡◌, ℕ, List, [], ◌∷◌, Option, Some, refl}
 use Rattle.std.specs.Prelude.{codes}
 use Rattle.mon_text.specs.Lines.{words}
-use Rattle.deck_syntax.specs.declared.deck_error.DeckError.{DeckError}
-use Rattle.deck_syntax.specs.declared.deck_error.DeckError.TheVariants.{BadName, BadNumber, BadCard, UnknownCard, OutOfPlace}
+use Rattle.deck_lines.specs.declared.deck_error.DeckError.{DeckError}
+use Rattle.deck_lines.specs.declared.deck_error.DeckError.TheVariants.{BadName, BadNumber, BadCard, UnknownCard, OutOfPlace}
 use Rattle.deck_syntax.specs.declared.job.OpenJob.{OpenJob}
-use Rattle.deck_syntax.specs.Cards.{card_among}
+use Rattle.deck_lines.specs.Cards.{card_among}
 use Rattle.deck_syntax.specs.Decks.{Enters, Drains, Stopped}
 use Rattle.deck_syntax.specs.Jobs.{usual_limits}
 use Rattle.deck_syntax.specs.inner.Parts.{opened_job}

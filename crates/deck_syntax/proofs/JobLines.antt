@@ -8,13 +8,13 @@ use Rattle.mon_text.specs.Names.{is_name}
 use Rattle.mon_text.specs.Counts.{is_count}
 use Rattle.mon_text.specs.Lines.{is_nonempty, words}
 use Rattle.deck_syntax.specs.declared.job_deck.UnitCard.{UnitCard}
-use Rattle.deck_syntax.specs.declared.deck_error.DeckError.TheVariants.{BadName, BadNumber, BadCard, OutOfPlace}
-use Rattle.deck_syntax.specs.declared.card.Card.{Card}
-use Rattle.deck_syntax.specs.declared.card.Card.TheVariants as card
+use Rattle.deck_lines.specs.declared.deck_error.DeckError.TheVariants.{BadName, BadNumber, BadCard, OutOfPlace}
+use Rattle.deck_lines.specs.declared.card.Card.{Card}
+use Rattle.deck_lines.specs.declared.card.Card.TheVariants as card
 use Rattle.deck_syntax.specs.declared.job.OpenJob.{OpenJob}
-use Rattle.deck_syntax.specs.Cards.{card_among, is_card, word_at}
-use Rattle.deck_syntax.specs.Refusing.{unless, line_refusal, is_dollar_line}
-use Rattle.deck_syntax.specs.CardLines.{IsLineWithin, IsCard}
+use Rattle.deck_lines.specs.Cards.{card_among, is_card, word_at}
+use Rattle.deck_lines.specs.Refusing.{unless, line_refusal, is_dollar_line}
+use Rattle.deck_lines.specs.CardLines.{IsLineWithin, IsCard}
 use Rattle.deck_syntax.specs.Jobs.{is_job_card_line, unit_card_refusal, unit_on, job_card_refusal, job_line_refusal, ends_job, after_job_line}
 use Rattle.deck_syntax.specs.inner.Parts.{program_text, has_begun, with_unit, with_program_line}
 use Rattle.deck_syntax.specs.JobSpelling.{SpellsUnit, SpellsText}

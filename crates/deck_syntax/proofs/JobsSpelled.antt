@@ -7,15 +7,17 @@ use Rattle.mon_text.specs.Counts.{is_count, value_of}
 use Rattle.mon_text.specs.Lines.{words}
 use Rattle.mon_catalogue.proofs.Blanks.{both}
 use Rattle.sno_cards.specs.declared.limits.Limits.{Limits}
-use Rattle.deck_syntax.specs.declared.card.Card.TheVariants as card
-use Rattle.deck_syntax.specs.declared.deck_error.DeckError.TheVariants.{BadName, BadNumber, BadCard}
+use Rattle.deck_lines.specs.declared.card.Card.TheVariants as card
+use Rattle.deck_lines.specs.declared.deck_error.DeckError.TheVariants.{BadName, BadNumber, BadCard}
 use Rattle.deck_syntax.specs.declared.job.OpenJob.{OpenJob}
-use Rattle.deck_syntax.specs.declared.turn.Turn.{Turn}
-use Rattle.deck_syntax.specs.Cards.{card_among}
-use Rattle.deck_syntax.specs.CardLines.{IsLineWithin, IsCard}
-use Rattle.deck_syntax.specs.Refusing.{unless}
-use Rattle.deck_syntax.specs.Jobs.{is_within, are_options, limits_refusal, job_refusal, job_on, turn_refusal}
-use Rattle.deck_syntax.specs.inner.Parts.{opened_job, turn_on}
+use Rattle.deck_lines.specs.declared.turn.Turn.{Turn}
+use Rattle.deck_lines.specs.Cards.{card_among}
+use Rattle.deck_lines.specs.CardLines.{IsLineWithin, IsCard}
+use Rattle.deck_lines.specs.Refusing.{unless}
+use Rattle.deck_syntax.specs.Jobs.{are_options, limits_refusal, job_refusal, job_on}
+use Rattle.deck_lines.specs.Turns.{is_within, turn_refusal}
+use Rattle.deck_syntax.specs.inner.Parts.{opened_job}
+use Rattle.deck_lines.specs.Turns.{turn_on}
 use Rattle.deck_syntax.specs.JobSpelling.{SpellsLimits, SpellsUnits, SpellsTexts, SpellsJob, SpellsTurn}
 use Rattle.deck_syntax.proofs.Spelled.{both_hold, neither, passes}
 use Rattle.deck_syntax.proofs.LimitsRead.{within_is, is_within_then, limits_read, limits_spelled}

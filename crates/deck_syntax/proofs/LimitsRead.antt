@@ -8,9 +8,10 @@ use Rattle.mon_text.specs.Counts.{is_count, value_of}
 use Rattle.mon_catalogue.proofs.Blanks.{both}
 use Rattle.sno_cards.specs.declared.limits.Limits.{Limits}
 use Rattle.sno_cards.specs.Limits.{IsLimit}
-use Rattle.deck_syntax.specs.declared.deck_error.DeckError.TheVariants.{BadNumber, BadCard}
-use Rattle.deck_syntax.specs.Refusing.{unless}
-use Rattle.deck_syntax.specs.Jobs.{is_within, sets_statements, sets_steps, are_options, option_text, has_number, is_limit, limits_refusal, usual_limits, with_option}
+use Rattle.deck_lines.specs.declared.deck_error.DeckError.TheVariants.{BadNumber, BadCard}
+use Rattle.deck_lines.specs.Refusing.{unless}
+use Rattle.deck_syntax.specs.Jobs.{sets_statements, sets_steps, are_options, option_text, has_number, is_limit, limits_refusal, usual_limits, with_option}
+use Rattle.deck_lines.specs.Turns.{is_within}
 use Rattle.deck_syntax.specs.JobSpelling.{SpellsLimit, SpellsStatements, SpellsSteps, SpellsLimits}
 use Rattle.deck_syntax.proofs.Spelled.{both_hold, neither, passes}
 use Rattle.std.specs.Option.{option_or}

@@ -2,7 +2,7 @@
 use Rattle.std.specs.Prelude.{ℕ, List, Option}
 use Rattle.std.specs.Option.{option_map_or}
 use Rattle.mon_access.specs.declared.account.Account.{Account}
-use Rattle.deck_syntax.specs.declared.deck_error.DeckError.{DeckError}
+use Rattle.deck_lines.specs.declared.deck_error.DeckError.{DeckError}
 use Rattle.deck_syntax.specs.Decks.{Cards, Deck}
 use Rattle.deck_syntax.specs.Sections.{refused_on_line, refused_early}
 

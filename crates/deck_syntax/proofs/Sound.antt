@@ -10,7 +10,7 @@ use Rattle.std.proofs.lemmas.Map.Keys.{IsDistinct-push}
 use borrow.Author.Tests.{ne_eqb}
 use Rattle.mon_text.specs.Names.{is_name}
 use Rattle.mon_text.specs.Lines.{is_blank_line, words}
-use Rattle.mon_acl.specs.declared.text.AclText.TheVariants.{Short, Long}
+use Rattle.acl_text.specs.declared.text.AclText.TheVariants.{Short, Long}
 use Rattle.mon_access.specs.declared.account.Account.{Account}
 use Rattle.mon_access.specs.Accounts.{find_account, names_of, HaveDifferentNames}
 use Rattle.mon_catalogue.specs.declared.version.Version.{Version}
@@ -20,17 +20,17 @@ use Rattle.mon_catalogue.specs.Progress.{Progress, step, is_due, finished}
 use Rattle.mon_catalogue.specs.Text.{text_of}
 use Rattle.mon_catalogue.proofs.Blanks.{both}
 use Rattle.mon_catalogue.proofs.Whole.{text_spells}
-use Rattle.mon_command.specs.declared.command.Command.TheVariants as command
-use Rattle.deck_syntax.specs.declared.card.Card.{Card}
-use Rattle.deck_syntax.specs.declared.card.Card.TheVariants as card
-use Rattle.deck_syntax.specs.declared.deck_error.DeckError.{DeckError}
-use Rattle.deck_syntax.specs.declared.deck_error.DeckError.TheVariants.{BadName, BadCharacter, LineTooLong, BadCard, OutOfPlace, AccountTwice, TooManyGroups, Truncated}
+use Rattle.deck_lines.specs.declared.command.Command.TheVariants as command
+use Rattle.deck_lines.specs.declared.card.Card.{Card}
+use Rattle.deck_lines.specs.declared.card.Card.TheVariants as card
+use Rattle.deck_lines.specs.declared.deck_error.DeckError.{DeckError}
+use Rattle.deck_lines.specs.declared.deck_error.DeckError.TheVariants.{BadName, BadCharacter, LineTooLong, BadCard, OutOfPlace, AccountTwice, TooManyGroups, Truncated}
 use Rattle.deck_syntax.specs.declared.list.OpenList.{OpenList}
 use Rattle.deck_syntax.specs.declared.request.Request.TheVariants.{Nothing, Asks, OpensList}
 use Rattle.deck_syntax.specs.declared.job.OpenJob.{OpenJob}
-use Rattle.deck_syntax.specs.Cards.{card_among, is_card, word_at}
+use Rattle.deck_lines.specs.Cards.{card_among, is_card, word_at}
 use Rattle.deck_syntax.specs.Decks.{Deck, Cards, Asked, Commands, Enters, Gives, Drains, Stopped, Refused}
-use Rattle.deck_syntax.specs.Refusing.{unless, line_refusal, lone_card_refusal, is_dollar_line}
+use Rattle.deck_lines.specs.Refusing.{unless, line_refusal, lone_card_refusal, is_dollar_line}
 use Rattle.deck_syntax.specs.Requests.{mode_on, opened, with_line, set_acl_of, two_names_refusal}
 use Rattle.deck_syntax.specs.inner.Parts.{creation_refusal, set_acl_refusal, catalog_refusal}
 use Rattle.deck_syntax.specs.Requests.{stream_card_refusal, card_request, stream_refusal, request_on, end_refusal, list_text_refusal, list_line_refusal}
@@ -41,11 +41,12 @@ use Rattle.deck_syntax.specs.Sections.{accounts_refusal, table_after, sets_of, e
 use Rattle.deck_syntax.specs.inner.Parts.{text_refusal}
 use Rattle.deck_syntax.specs.Sections.{asked_then, requested, refused_on_line, stream_section, refused_early, catalogue_section, accounts_section, opening_section}
 use Rattle.deck_syntax.specs.Sections.{deck_of}
-use Rattle.deck_syntax.specs.CardLines.{IsLineWithin, IsCard}
+use Rattle.deck_lines.specs.CardLines.{IsLineWithin, IsCard}
 use Rattle.deck_syntax.specs.Spelling.{AreBlank, SpellsAccount, SpellsAccounts, NamesOn, SpellsCreation, SpellsShort, version_words, IsListLine, SpellsLong}
 use Rattle.deck_syntax.specs.Spelling.{SpellsAsked, SpellsStream, IsDeck}
 use Rattle.deck_syntax.specs.Jobs.{job_refusal, job_on, job_line_refusal, ends_job, after_job_line, unit_on}
-use Rattle.deck_syntax.specs.inner.Parts.{turn_on, with_unit, with_program_line, program_text}
+use Rattle.deck_syntax.specs.inner.Parts.{with_unit, with_program_line, program_text}
+use Rattle.deck_lines.specs.Turns.{turn_on}
 use Rattle.deck_syntax.specs.Laws.{ending_of}
 use Rattle.deck_syntax.proofs.Spelled.{both_hold, neither, passes, taken_line, alone, lone_card, found_is_due}
 use Rattle.deck_syntax.proofs.Headings.{heading_spelled, mode_spelled}
@@ -126,14 +127,14 @@ record Table (done : List Account) (lines : List (List ℕ)) (deck : Deck) : Typ
   rest : catalogue_section number (done ++ accounts) (progress.SetDue version 0 []) more ≡ deck
 
 -- one blank line more before accounts
-blank_before : (accounts : List Account) (line : List ℕ) (table : List (List ℕ)) → length line ≤ 200 → is_blank_line line ≡ true
+pub blank_before : (accounts : List Account) (line : List ℕ) (table : List (List ℕ)) → length line ≤ 200 → is_blank_line line ≡ true
     → SpellsAccounts table accounts → SpellsAccounts (line ∷ table) accounts
 blank_before [] line table short blank are = ((short, blank), are)
 blank_before (account ∷ accounts) line table short blank (blanks, first, rest, are, blanks_are, is, others) =
     (line ∷ blanks, first, rest, ap (λ (ls : List (List ℕ)). line ∷ ls) are, ((short, blank), blanks_are), is, others)
 
 -- two words or more, all names, and at most 16 behind the second
-account_spelled : (done : List Account) (line : List ℕ) → IsLineWithin 200 line → account_refusal done (words line) ≡ None
+pub account_spelled : (done : List Account) (line : List ℕ) → IsLineWithin 200 line → account_refusal done (words line) ≡ None
     → SpellsAccount line (account_on (words line)) × (is_some (find_account done (word_at 0 (words line))) ≡ false)
 account_spelled done line within fine =
     let two = neither (words_refusal (words line)) (table_refusal done (account_on (words line))) fine in

@@ -8,16 +8,15 @@ use Rattle.mon_text.specs.Characters.{is_printable, is_blank}
 use Rattle.mon_text.specs.Names.{is_name}
 use Rattle.mon_text.specs.Lines.{is_line, is_blank_line, is_nonempty, words}
 use Rattle.mon_catalogue.proofs.Blanks.{both, no_words}
-use Rattle.deck_syntax.specs.declared.card.Card.{Card}
-use Rattle.deck_syntax.specs.declared.card.Card.TheVariants as card
-use Rattle.deck_syntax.specs.declared.deck_error.DeckError.{DeckError}
-use Rattle.deck_syntax.specs.declared.deck_error.DeckError.TheVariants.{BadCharacter, LineTooLong, UnknownCard, BadCard, OutOfPlace}
-use Rattle.deck_syntax.specs.Cards.{card_among, is_card}
-use Rattle.deck_syntax.specs.Refusing.{unless, line_refusal, lone_card_refusal, is_dollar_line}
-use Rattle.deck_syntax.specs.CardLines.{IsLineWithin, IsCard}
+use Rattle.deck_lines.specs.declared.card.Card.{Card}
+use Rattle.deck_lines.specs.declared.deck_error.DeckError.{DeckError}
+use Rattle.deck_lines.specs.declared.deck_error.DeckError.TheVariants.{BadCharacter, LineTooLong, UnknownCard, BadCard, OutOfPlace}
+use Rattle.deck_lines.specs.Cards.{card_among, is_card}
+use Rattle.deck_lines.specs.Refusing.{unless, line_refusal, lone_card_refusal, is_dollar_line}
+use Rattle.deck_lines.specs.CardLines.{IsLineWithin, IsCard}
 use Rattle.std.specs.Option.{option_or}
 use denote.Enum.Bare.{sameb, same_true}
-use Rattle.deck_syntax.specs.contracts.card.Card.{the_type}
+use Rattle.deck_lines.specs.contracts.card.Card.{the_type}
 
 pub both_hold : (a b : Bool) → a ≡ true → b ≡ true → (a && b) ≡ true
 both_hold a b h k = rw (h, k) refl

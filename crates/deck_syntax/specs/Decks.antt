@@ -2,10 +2,10 @@
 use Rattle.std.specs.Prelude.{ℕ, List}
 use Rattle.mon_access.specs.declared.account.Account.{Account}
 use Rattle.mon_catalogue.specs.Sets.{Sets}
-use Rattle.mon_command.specs.declared.command.Command.{Command}
-use Rattle.deck_syntax.specs.declared.deck_error.DeckError.{DeckError}
+use Rattle.deck_lines.specs.declared.command.Command.{Command}
+use Rattle.deck_lines.specs.declared.deck_error.DeckError.{DeckError}
 use Rattle.deck_syntax.specs.declared.job.OpenJob.{OpenJob}
-use Rattle.deck_syntax.specs.declared.turn.Turn.{Turn}
+use Rattle.deck_lines.specs.declared.turn.Turn.{Turn}
 
 -- what a card of the stream asks for, with the lines behind it that are its own
 pub data Asked : Type 0 where

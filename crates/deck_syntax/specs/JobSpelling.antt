@@ -5,11 +5,11 @@ use Rattle.mon_text.specs.Counts.{IsCount, value_of}
 use Rattle.sno_cards.specs.declared.limits.Limits.{Limits}
 use Rattle.sno_cards.specs.Limits.{IsLimit}
 use Rattle.deck_syntax.specs.declared.job_deck.UnitCard.{UnitCard}
-use Rattle.deck_syntax.specs.declared.card.Card.TheVariants as card
+use Rattle.deck_lines.specs.declared.card.Card.TheVariants as card
 use Rattle.deck_syntax.specs.declared.job.OpenJob.{OpenJob}
-use Rattle.deck_syntax.specs.declared.turn.Turn.{Turn}
-use Rattle.deck_syntax.specs.Refusing.{is_dollar_line}
-use Rattle.deck_syntax.specs.CardLines.{IsLineWithin, IsCard}
+use Rattle.deck_lines.specs.declared.turn.Turn.{Turn}
+use Rattle.deck_lines.specs.Refusing.{is_dollar_line}
+use Rattle.deck_lines.specs.CardLines.{IsLineWithin, IsCard}
 use Rattle.deck_syntax.specs.Jobs.{usual_limits}
 
 -- an option: this front, and then this limit

@@ -1,5 +1,5 @@
--- The cards of jobs and of turns (own): what each asks for, and what a line says where a job is open.
-use Rattle.std.specs.Prelude.{ℕ, ◌==◌, ◌&&◌, ◌||◌, Bool, true, false, not, nat_lt, nat_le, nat_eq, List, [], ◌∷◌, ◌++◌, length, drop, Option, Some, None, if◌then◌else◌, codes}
+-- The cards of jobs (own): what each asks for, and what a line says where a job is open.
+use Rattle.std.specs.Prelude.{ℕ, ◌==◌, ◌&&◌, ◌||◌, Bool, true, false, not, nat_lt, nat_eq, List, [], ◌∷◌, ◌++◌, length, drop, Option, Some, None, if◌then◌else◌, codes}
 use Rattle.std.specs.List.{starts_with, fold}
 use Rattle.mon_text.specs.Names.{is_name}
 use Rattle.mon_text.specs.Counts.{is_count, value_of}
@@ -7,18 +7,15 @@ use Rattle.mon_text.specs.Lines.{words}
 use Rattle.sno_cards.specs.declared.limits.Limits.{Limits}
 use Rattle.deck_syntax.specs.declared.job_deck.UnitCard.{UnitCard}
 use Rattle.deck_syntax.specs.declared.job_deck.JobDeck.{JobDeck}
-use Rattle.deck_syntax.specs.declared.deck_error.DeckError.{DeckError}
-use Rattle.deck_syntax.specs.declared.deck_error.DeckError.TheVariants.{BadName, BadNumber, UnknownCard, BadCard, OutOfPlace}
-use Rattle.deck_syntax.specs.declared.card.Card.{Card}
-use Rattle.deck_syntax.specs.declared.card.Card.TheVariants.{Tie, EndJob}
+use Rattle.deck_lines.specs.declared.deck_error.DeckError.{DeckError}
+use Rattle.deck_lines.specs.declared.deck_error.DeckError.TheVariants.{BadName, BadNumber, UnknownCard, BadCard, OutOfPlace}
+use Rattle.deck_lines.specs.declared.card.Card.{Card}
+use Rattle.deck_lines.specs.declared.card.Card.TheVariants.{Tie, EndJob}
 use Rattle.deck_syntax.specs.declared.job.OpenJob.{OpenJob}
-use Rattle.deck_syntax.specs.Cards.{card_among, is_card, word_at}
-use Rattle.deck_syntax.specs.Refusing.{unless, line_refusal, is_dollar_line, further_refusal}
+use Rattle.deck_lines.specs.Cards.{card_among, is_card, word_at}
+use Rattle.deck_lines.specs.Refusing.{unless, line_refusal, is_dollar_line, further_refusal}
 use Rattle.std.specs.Option.{option_or}
-
--- from 1 to so many
-abbrev pub is_within : ℕ → ℕ → Bool
-is_within most n = nat_le 1 n && nat_le n most
+use Rattle.deck_lines.specs.Turns.{is_within}
 
 -- ---- `$JOB`: the account, and at most one option of each kind
 
@@ -70,16 +67,6 @@ with_option limits word =
 -- a job that is open has no line at first
 abbrev pub job_on : List (List ℕ) → OpenJob
 job_on ws = record { account = word_at 1 ws; limits = fold with_option usual_limits (drop 2 ws); ties = []; lines = [] }
-
--- ---- `$TURN`: a slot, and how many turns it is given
-
-abbrev pub turn_refusal : List (List ℕ) → Option DeckError
-turn_refusal ws =
-    option_or (unless (length ws == 3) BadCard)
-    (option_or (unless (is_count (word_at 1 ws) && is_count (word_at 2 ws)) BadNumber)
-    (unless (is_within 8 (value_of (word_at 1 ws)) && is_within 1000000 (value_of (word_at 2 ws))) BadCard))
-
--- ---- `$DRAIN`
 
 -- ---- where a job is open
 

@@ -6,10 +6,10 @@ use Rattle.mon_access.specs.Accounts.{HaveDifferentNames}
 use Rattle.mon_catalogue.specs.Sets.{Sets}
 use Rattle.mon_catalogue.specs.Stored.{IsStored, ArePrintable}
 use Rattle.mon_catalogue.specs.Text.{catalogue_lines, text_of}
-use Rattle.mon_acl.specs.declared.text.AclText.TheVariants.{Long}
-use Rattle.mon_command.specs.declared.command.Command.TheVariants as command
-use Rattle.deck_syntax.specs.declared.deck_error.DeckError.{DeckError}
-use Rattle.deck_syntax.specs.declared.deck_error.DeckError.TheVariants.{Truncated}
+use Rattle.acl_text.specs.declared.text.AclText.TheVariants.{Long}
+use Rattle.deck_lines.specs.declared.command.Command.TheVariants as command
+use Rattle.deck_lines.specs.declared.deck_error.DeckError.{DeckError}
+use Rattle.deck_lines.specs.declared.deck_error.DeckError.TheVariants.{Truncated}
 use Rattle.deck_syntax.specs.declared.job.OpenJob.{OpenJob}
 use Rattle.deck_syntax.specs.Decks.{Deck, Asked, Commands, Enters, Ending, Stopped, Refused}
 use Rattle.deck_syntax.specs.Sections.{stopped, deck_of}

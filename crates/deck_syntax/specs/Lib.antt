@@ -1,11 +1,7 @@
-pub mod Cards
-pub mod Codes
 pub mod Decks
-pub mod Refusing
 pub mod Requests
 pub mod Sections
 pub mod Jobs
-pub mod CardLines
 pub mod JobSpelling
 pub mod Spelling
 pub mod Laws

@@ -1,27 +1,28 @@
 -- What a line of the stream asks for (own): a command, the lines of a permission list or of a job, turns, the deck's end, or
 -- nothing.
-use Rattle.std.specs.Prelude.{ℕ, ◌==◌, ◌&&◌, ◌||◌, Bool, nat_lt, List, [], ◌∷◌, ◌++◌, length, Option, Some, None, is_some, unwrap_or, if◌then◌else◌, codes, not}
+use Rattle.std.specs.Prelude.{ℕ, ◌==◌, ◌&&◌, ◌||◌, Bool, nat_lt, List, [], ◌++◌, length, Option, Some, None, is_some, unwrap_or, if◌then◌else◌, codes, not}
 use Rattle.std.specs.List.{list_all}
 use Rattle.mon_text.specs.Names.{is_name}
 use Rattle.mon_text.specs.Counts.{value_of}
 use Rattle.mon_text.specs.Characters.{is_printable, is_blank}
 use Rattle.mon_text.specs.Lines.{is_blank_line, words}
-use Rattle.mon_acl.specs.declared.text.AclText.TheVariants.{Short, Long}
+use Rattle.acl_text.specs.declared.text.AclText.TheVariants.{Short, Long}
 use Rattle.mon_catalogue.specs.declared.mode.Mode.{Mode}
 use Rattle.mon_catalogue.specs.declared.mode.Mode.TheVariants.{Seq}
 use Rattle.mon_catalogue.specs.Modes.{mode_of}
-use Rattle.mon_command.specs.declared.command.Command.{Command}
-use Rattle.mon_command.specs.declared.command.Command.TheVariants as command
-use Rattle.deck_syntax.specs.declared.card.Card.{Card}
-use Rattle.deck_syntax.specs.declared.card.Card.TheVariants.{Create, Delete, SetAcl, EndAcl, ShowAcl, List as Listing, Catalog, Job, Turn, Drain, Stop}
-use Rattle.deck_syntax.specs.declared.deck_error.DeckError.{DeckError}
-use Rattle.deck_syntax.specs.declared.deck_error.DeckError.TheVariants.{BadName, BadCharacter, LineTooLong, UnknownCard, BadCard, OutOfPlace}
+use Rattle.deck_lines.specs.declared.command.Command.{Command}
+use Rattle.deck_lines.specs.declared.command.Command.TheVariants as command
+use Rattle.deck_lines.specs.declared.card.Card.{Card}
+use Rattle.deck_lines.specs.declared.card.Card.TheVariants.{Create, Delete, SetAcl, EndAcl, ShowAcl, List as Listing, Catalog, Job, Turn, Drain, Stop}
+use Rattle.deck_lines.specs.declared.deck_error.DeckError.{DeckError}
+use Rattle.deck_lines.specs.declared.deck_error.DeckError.TheVariants.{BadName, BadCharacter, LineTooLong, UnknownCard, BadCard, OutOfPlace}
 use Rattle.deck_syntax.specs.declared.list.OpenList.{OpenList}
 use Rattle.deck_syntax.specs.declared.request.Request.{Request}
 use Rattle.deck_syntax.specs.declared.request.Request.TheVariants.{Nothing, Asks, OpensList, OpensJob, Turns, Drains, Stops}
-use Rattle.deck_syntax.specs.Cards.{card_among, is_card, word_at}
-use Rattle.deck_syntax.specs.Refusing.{unless, line_refusal, is_dollar_line, further_refusal}
-use Rattle.deck_syntax.specs.Jobs.{job_refusal, job_on, turn_refusal}
+use Rattle.deck_lines.specs.Cards.{card_among, is_card, word_at}
+use Rattle.deck_lines.specs.Refusing.{unless, line_refusal, is_dollar_line, further_refusal}
+use Rattle.deck_syntax.specs.Jobs.{job_refusal, job_on}
+use Rattle.deck_lines.specs.Turns.{turn_refusal}
 use Rattle.std.specs.Option.{option_or}
 use Rattle.mon_text.specs.Beginnings.{without_leading}
 

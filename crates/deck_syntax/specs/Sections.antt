@@ -7,23 +7,22 @@ use Rattle.mon_access.specs.declared.account.Account.{Account}
 use Rattle.mon_access.specs.Accounts.{find_account}
 use Rattle.mon_catalogue.specs.declared.version.Version.{Version}
 use Rattle.mon_catalogue.specs.declared.version.Version.TheVariants.{One, Two}
-use Rattle.mon_catalogue.specs.declared.loading.CatalogueError.{CatalogueError}
-use Rattle.mon_catalogue.specs.declared.loading.CatalogueError.TheVariants as catalogue
+use Rattle.deck_lines.specs.Codes.{code_of_catalogue}
 use Rattle.mon_catalogue.specs.Sets.{Sets}
 use Rattle.mon_catalogue.specs.Progress as progress
 use Rattle.mon_catalogue.specs.Progress.{Progress, step, is_due}
-use Rattle.deck_syntax.specs.declared.card.Card.TheVariants as card
-use Rattle.deck_syntax.specs.declared.deck_error.DeckError.{DeckError}
-use Rattle.deck_syntax.specs.declared.deck_error.DeckError.TheVariants.{BadName, AccountTwice, TooManyGroups, NameTaken, SetFull, CatalogueFull, BadText, BadCard, Truncated}
+use Rattle.deck_lines.specs.declared.card.Card.TheVariants as card
+use Rattle.deck_lines.specs.declared.deck_error.DeckError.{DeckError}
+use Rattle.deck_lines.specs.declared.deck_error.DeckError.TheVariants.{BadName, AccountTwice, TooManyGroups, BadCard, Truncated}
 use Rattle.deck_syntax.specs.Decks.{Deck, Cards, Asked, Commands, Enters, Gives, Drains, Stopped, Refused}
 use Rattle.deck_syntax.specs.declared.list.OpenList.{OpenList}
 use Rattle.deck_syntax.specs.declared.request.Request.{Request}
 use Rattle.deck_syntax.specs.declared.request.Request.TheVariants as request
 use Rattle.deck_syntax.specs.declared.job.OpenJob.{OpenJob}
-use Rattle.deck_syntax.specs.Refusing.{unless, line_refusal, due_card_refusal, lone_card_refusal, is_dollar_line}
+use Rattle.deck_lines.specs.Refusing.{unless, line_refusal, due_card_refusal, lone_card_refusal, is_dollar_line}
 use Rattle.deck_syntax.specs.Jobs.{job_line_refusal, ends_job, after_job_line}
 use Rattle.deck_syntax.specs.Requests.{opened, with_line, set_acl_of, stream_refusal, request_on, list_line_refusal}
-use Rattle.deck_syntax.specs.Cards.{card_among, is_card, word_at}
+use Rattle.deck_lines.specs.Cards.{card_among, is_card, word_at}
 use Rattle.std.specs.Option.{option_or, option_map_or}
 
 -- before the account table: blank lines, and its card
@@ -54,12 +53,6 @@ abbrev pub accounts_refusal : List Account → List ℕ → Option DeckError
 accounts_refusal accounts line =
     if is_dollar_line line then due_card_refusal card.Catalogue (is_some (version_on (words line))) (words line)
     else (if is_blank_line line then None else account_refusal accounts (words line))
-
-abbrev pub code_of_catalogue : CatalogueError → DeckError
-code_of_catalogue (catalogue.NameTaken n) = NameTaken
-code_of_catalogue (catalogue.SetFull n) = SetFull
-code_of_catalogue (catalogue.CatalogueFull n) = CatalogueFull
-code_of_catalogue (catalogue.BadText n) = BadText
 
 -- the data sets of a whole text
 abbrev pub sets_of : Progress → Sets

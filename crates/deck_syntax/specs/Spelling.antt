@@ -4,7 +4,7 @@ use Rattle.std.specs.Prelude.{◌≡◌, ◌⊎◌, ℕ, ◌≤◌, ◌&&◌, co
 use Rattle.std.specs.List.{list_all, AllByRecursion}
 use Rattle.mon_text.specs.Names.{is_name}
 use Rattle.mon_text.specs.Lines.{is_blank_line, words}
-use Rattle.mon_acl.specs.declared.text.AclText.TheVariants.{Short, Long}
+use Rattle.acl_text.specs.declared.text.AclText.TheVariants.{Short, Long}
 use Rattle.mon_access.specs.declared.account.Account.{Account}
 use Rattle.mon_access.specs.Accounts.{HaveDifferentNames}
 use Rattle.mon_catalogue.specs.declared.mode.Mode.{Mode}
@@ -14,14 +14,14 @@ use Rattle.mon_catalogue.specs.declared.version.Version.TheVariants.{One, Two}
 use Rattle.mon_catalogue.specs.Modes.{mode_word}
 use Rattle.mon_catalogue.specs.Spelling.{IsCatalogueText}
 use Rattle.mon_catalogue.specs.Text.{text_of}
-use Rattle.mon_command.specs.declared.command.Command.{Command}
-use Rattle.mon_command.specs.declared.command.Command.TheVariants as command
-use Rattle.deck_syntax.specs.declared.card.Card.{Card}
-use Rattle.deck_syntax.specs.declared.card.Card.TheVariants as card
-use Rattle.deck_syntax.specs.CardLines.{IsLineWithin, IsCard}
+use Rattle.deck_lines.specs.declared.command.Command.{Command}
+use Rattle.deck_lines.specs.declared.command.Command.TheVariants as command
+use Rattle.deck_lines.specs.declared.card.Card.{Card}
+use Rattle.deck_lines.specs.declared.card.Card.TheVariants as card
+use Rattle.deck_lines.specs.CardLines.{IsLineWithin, IsCard}
 use Rattle.deck_syntax.specs.Decks.{Deck, Asked, Commands, Enters, Gives, Drains, Stopped}
 use Rattle.deck_syntax.specs.JobSpelling.{SpellsJob, SpellsTurn, SpellsDrain}
-use Rattle.deck_syntax.specs.Refusing.{is_dollar_line}
+use Rattle.deck_lines.specs.Refusing.{is_dollar_line}
 use Rattle.deck_syntax.specs.Requests.{acl_on, is_list_character}
 
 -- blank lines of at most 200 characters

@@ -1,27 +1,26 @@
 //! A job whose lines come one by one: its card, its unit cards, its program and its data.
-ghost use Rattle.std.specs.Prelude.{◌≡◌, ◌<◌, ◌&&◌, ◌||◌, not, true, [], ◌∷◌, None, length, if◌then◌else◌, drop, nat_lt, IfOk, OnOk, OnErr, IsErrOf};
+ghost use Rattle.std.specs.Prelude.{◌≡◌, ◌<◌, ◌&&◌, not, true, [], ◌∷◌, None, length, if◌then◌else◌, drop, nat_lt, IfOk, OnOk, OnErr, IsErrOf};
 ghost use Rattle.mon_text.specs.Counts.{value_of};
 ghost use Rattle.mon_text.specs.Lines.{words};
-ghost use Rattle.deck_syntax.specs.declared.deck_error.DeckError.TheVariants.{BadNumber, BadCard, OutOfPlace};
-ghost use Rattle.deck_syntax.specs.declared.card.Card.TheVariants as card;
-ghost use Rattle.deck_syntax.specs.Cards.{card_among, is_card};
-ghost use Rattle.deck_syntax.specs.Refusing.{unless, line_refusal};
-ghost use Rattle.deck_syntax.specs.Jobs.{sets_statements, sets_steps, are_options, option_text, has_number, is_limit, with_option, limits_refusal, usual_limits, job_refusal, job_on, is_job_card_line, unit_card_refusal, unit_on, job_card_refusal, job_line_refusal, ends_job, after_job_line, job_deck_of};
+ghost use Rattle.deck_lines.specs.declared.deck_error.DeckError.TheVariants.{BadCard, OutOfPlace};
+ghost use Rattle.deck_lines.specs.declared.card.Card.TheVariants as card;
+ghost use Rattle.deck_lines.specs.Cards.{card_among, is_card};
+ghost use Rattle.deck_lines.specs.Refusing.{unless, line_refusal};
+ghost use Rattle.deck_syntax.specs.Jobs.{are_options, option_text, is_limit, with_option, limits_refusal, usual_limits, job_refusal, job_on, is_job_card_line, unit_card_refusal, unit_on, job_card_refusal, job_line_refusal, ends_job, after_job_line, job_deck_of};
 ghost use Rattle.deck_syntax.specs.inner.Parts.{opened_job, program_text, has_begun, with_unit, with_program_line};
-ghost use Rattle.deck_syntax.specs.inner.Stops.{Answers};
+ghost use Rattle.deck_lines.specs.inner.Stops.{Answers};
 ghost use Rattle.std.specs.Option.{option_or};
 ghost use Rattle.std.specs.List.{fold};
 
-use crate::card::Card;
-use crate::deck_error::DeckError;
 use crate::job_deck::{JobDeck, UnitCard, UnitCards};
 use crate::job_limits::JobLimits;
 use crate::job_options::{option_number, sets_statements, sets_steps, with_option};
-use crate::words::{
-    MOST_LINE_CHARACTERS, Words, begins_with_dollar, check_line, line_of, name_of, number_of,
+use deck_lines::{
+    Card, DeckError, MOST_LINE_CHARACTERS, Words, begins_with_dollar, check_line, line_of, name_of,
+    number_of,
 };
 use mon_text::{Line, Lines, Name, Stop};
-use std::alloc::{AllocError, Global};
+use std::alloc::Global;
 
 /// A job whose lines are still to come: the name of its account, its limits, its unit cards so far, and the lines of its
 /// program and its data so far. The program has begun where it has a line.
@@ -82,7 +81,8 @@ fn read_two_options(word: &[u8], other: &[u8]) -> Result<JobLimits, Stop<DeckErr
     ensures answers { Answers (limits_refusal (word.now ∷ other.now ∷ [])) result }
     ensures value { IfOk result (λ limits. limits ≡ fold with_option usual_limits (word.now ∷ other.now ∷ [])) }
 {
-    let (number, last) = option_numbers(word, other)?;
+    let number = option_number(word)?;
+    let last = option_number(other)?;
     with_two_options(word, number, other, last)
 }
 
@@ -99,18 +99,6 @@ fn with_two_options(
 {
     let limits = with_option(JobLimits::usual(), word, number)?;
     with_option(limits, other, last)
-}
-
-fn option_numbers(word: &[u8], other: &[u8]) -> Result<(u64, u64), Stop<DeckError>>
-    requires first { (sets_statements word.now || sets_steps word.now) ≡ true }
-    requires second { (sets_statements other.now || sets_steps other.now) ≡ true }
-    ensures answers { Answers (unless (has_number word.now && has_number other.now) BadNumber) result }
-    ensures first { IfOk result (λ numbers. numbers.0 ≡ value_of (option_text word.now)) }
-    ensures second { IfOk result (λ numbers. numbers.1 ≡ value_of (option_text other.now)) }
-{
-    let number = option_number(word)?;
-    let last = option_number(other)?;
-    Ok((number, last))
 }
 
 // The job that the words of its card open.

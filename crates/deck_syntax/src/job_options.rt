@@ -1,14 +1,14 @@
 //! The options of a job's card: how many statements may begin, and how many steps a match may take.
 ghost use Rattle.std.specs.Prelude.{◌≡◌, ◌≤◌, ◌||◌, true, length, IfOk};
 ghost use Rattle.mon_text.specs.Counts.{value_of};
-ghost use Rattle.deck_syntax.specs.declared.deck_error.DeckError.TheVariants.{BadNumber, BadCard};
-ghost use Rattle.deck_syntax.specs.Refusing.{unless};
-ghost use Rattle.deck_syntax.specs.Jobs.{is_within, sets_statements, sets_steps, option_text, has_number, is_limit, with_option};
-ghost use Rattle.deck_syntax.specs.inner.Stops.{Answers};
+ghost use Rattle.deck_lines.specs.declared.deck_error.DeckError.TheVariants.{BadNumber, BadCard};
+ghost use Rattle.deck_lines.specs.Refusing.{unless};
+ghost use Rattle.deck_syntax.specs.Jobs.{sets_statements, sets_steps, option_text, has_number, is_limit, with_option};
+ghost use Rattle.deck_lines.specs.Turns.{is_within};
+ghost use Rattle.deck_lines.specs.inner.Stops.{Answers};
 
-use crate::deck_error::DeckError;
 use crate::job_limits::JobLimits;
-use crate::words::number_of;
+use deck_lines::{DeckError, is_within, number_of};
 use mon_text::Stop;
 
 /// How much a limit of a job may be.
@@ -38,13 +38,6 @@ fn option_text(word: &[u8]) -> &[u8]
     } else {
         &word[6..]
     }
-}
-
-// Whether a number is from 1 to so many.
-pub(crate) fn is_within(most: u64, number: u64) -> bool
-    ensures { result ≡ is_within most number }
-{
-    (1..=most).contains(&number)
 }
 
 // The number of an option.

@@ -1,27 +1,25 @@
 //! A deck's syntax: bytes are cut into lines, lines belong to sections, and each is refused or adds to the deck.
 #![tactic(auto)]
 
-pub mod card;
-pub mod deck_error;
 pub mod job;
 pub mod job_deck;
 pub mod job_limits;
 mod job_options;
 pub mod laws;
+pub mod lines;
 pub mod list;
 pub mod reading;
 pub mod request;
-pub mod turn;
-mod words;
 
-pub use deck_error::DeckError;
+pub use deck_lines::{
+    Card, Command, DeckError, MOST_LINE_CHARACTERS, Turn, card_of, from_blank, line_refusal,
+};
 pub use job::{OpenJob, is_job_card_line};
 pub use job_deck::{JobDeck, UnitCard, UnitCards};
 pub use job_limits::JobLimits;
+pub use lines::{first_line, whole_lines};
 pub use list::OpenList;
 pub use reading::{
     finish_catalogue, opens_accounts, put_account_line, put_catalogue_line, put_record_line,
 };
 pub use request::{Request, ends_list, read_request};
-pub use turn::Turn;
-pub use words::{MOST_LINE_CHARACTERS, from_blank, line_refusal};

@@ -1,9 +1,9 @@
 //! A permission list whose lines come on cards of their own.
-ghost use Rattle.std.specs.Prelude.{◌≡◌, [], ◌++◌, codes, OnOk};
+ghost use Rattle.std.specs.Prelude.{◌≡◌, [], ◌++◌, codes, OnOk, OnErr};
 ghost use Rattle.deck_syntax.specs.Requests.{opened, set_acl_of};
 
-use mon_acl::{AclText, Bytes};
-use mon_command::Command;
+use acl_text::{AclText, Bytes};
+use deck_lines::Command;
 use mon_text::Name;
 use std::alloc::{AllocError, Global};
 use std::marker::Model;
@@ -44,12 +44,15 @@ impl ListText {
     ///
     /// # Errors
     ///
-    /// Where a growth was refused.
+    /// Where a growth was refused; the lines are then unchanged.
     pub fn push_line(&mut self, line: &[u8]) -> Result<(), AllocError>
-        ensures { OnOk result (self.new ≡ self.old ++ (line.now ++ codes "\n")) }
+        ensures added { OnOk result (self.new ≡ self.old ++ (line.now ++ codes "\n")) }
+        ensures unchanged { OnErr result (self.new ≡ self.old) }
     {
-        self.bytes.extend_from_slice(line)?;
-        self.bytes.extend_from_slice(b"\n")
+        self.bytes.reserve(line.len() + 1)?;
+        self.bytes.extend_from_slice(line).unwrap();
+        self.bytes.push_reserved(b'\n');
+        Ok(())
     }
 
     /// The lines as a text.

@@ -1,21 +1,20 @@
 //! Reading a deck up to its stream, line by line: what a line of each section adds.
-ghost use Rattle.std.specs.Prelude.{◌≡◌, ◌+◌, ◌<◌, ◌≤◌, ◌^◌, ◌⊎◌, [], ◌∷◌, ◌++◌, not, true, false, None, Some, IsSome, IsErrOf, drop, if◌then◌else◌, IfOk, IfErr, OnOk, OnErr};
+ghost use Rattle.std.specs.Prelude.{◌≡◌, ◌+◌, ◌<◌, ◌≤◌, ◌^◌, ◌⊎◌, [], ◌∷◌, ◌++◌, not, true, false, None, Some, IsSome, IsErrOf, drop, if◌then◌else◌, IfOk, OnOk, OnErr};
 ghost use Rattle.std.specs.List.{list_all};
 ghost use Rattle.mon_text.specs.Names.{is_name};
-ghost use Rattle.mon_text.specs.Lines.{IsLine, is_blank_line, words};
+ghost use Rattle.mon_text.specs.Lines.{is_blank_line, words};
 ghost use Rattle.mon_catalogue.specs.Progress.{lines_taken, step, stopped, is_due};
-ghost use Rattle.deck_syntax.specs.declared.card.Card.TheVariants as card;
-ghost use Rattle.deck_syntax.specs.declared.deck_error.DeckError.TheVariants.{BadName};
-ghost use Rattle.deck_syntax.specs.Refusing.{unless, line_refusal, lone_card_refusal, is_dollar_line};
-ghost use Rattle.deck_syntax.specs.Sections.{account_on, table_refusal, account_refusal, opening_refusal, accounts_refusal, version_on, table_after, catalogue_refusal, ends_catalogue, sets_of};
-ghost use Rattle.deck_syntax.specs.inner.Parts.{words_refusal, version_in, heading_refusal, text_refusal};
-ghost use Rattle.deck_syntax.specs.inner.Stops.{Answers, IfRefused};
+ghost use Rattle.deck_lines.specs.declared.card.Card.TheVariants as card;
+ghost use Rattle.deck_lines.specs.declared.deck_error.DeckError.TheVariants.{BadName};
+ghost use Rattle.deck_lines.specs.Refusing.{unless, line_refusal, lone_card_refusal, is_dollar_line};
+ghost use Rattle.deck_syntax.specs.Sections.{account_on, account_refusal, opening_refusal, accounts_refusal, version_on, table_after, catalogue_refusal, ends_catalogue, sets_of};
+ghost use Rattle.deck_syntax.specs.inner.Parts.{words_refusal, version_in, heading_refusal};
+ghost use Rattle.deck_lines.specs.inner.Stops.{Answers};
 ghost use Rattle.std.specs.Option.{option_or};
 
-use crate::card::Card;
-use crate::deck_error::{DeckError, stop_of_account, stop_of_catalogue};
-use crate::words::{
-    MOST_LINE_CHARACTERS, Words, begins_with_dollar, check_line, is_blank, name_of,
+use deck_lines::{
+    Card, DeckError, MOST_LINE_CHARACTERS, Words, begins_with_dollar, check_line, is_blank,
+    name_of, stop_of_account, stop_of_catalogue,
 };
 use mon_access::{Account, Accounts, Groups};
 use mon_catalogue::{Catalogue, Loading, Version};
@@ -93,18 +92,6 @@ fn read_groups(alloc: Global, words: &Words<'_>) -> Result<Groups, Stop<DeckErro
     Ok(groups)
 }
 
-// Puts an account last in the table.
-fn put_account(accounts: &mut Accounts, account: Account) -> Result<(), Stop<DeckError>>
-    ensures answers { Answers (table_refusal accounts.old account) result }
-    ensures added { OnOk result (accounts.new ≡ accounts.old ++ account ∷ []) }
-    ensures unchanged { OnErr result (accounts.new ≡ accounts.old) }
-{
-    match accounts.add(account) {
-        Ok(()) => Ok(()),
-        Err(error) => Err(stop_of_account(error)),
-    }
-}
-
 // Puts the account that these words give last in the table.
 fn add_account(
     alloc: Global,
@@ -115,9 +102,9 @@ fn add_account(
     ensures added { OnOk result (accounts.new ≡ accounts.old ++ account_on words.now ∷ []) }
     ensures unchanged { OnErr result (accounts.new ≡ accounts.old) }
 {
-    match read_account(alloc, words) {
-        Ok(account) => put_account(accounts, account),
-        Err(stop) => Err(stop),
+    match accounts.add(read_account(alloc, words)?) {
+        Ok(()) => Ok(()),
+        Err(error) => Err(stop_of_account(error)),
     }
 }
 
@@ -211,8 +198,10 @@ pub fn put_catalogue_line(
     if ends_catalogue(alloc, loading, text)? {
         return Ok(true);
     }
-    put_line(loading, text)?;
-    Ok(false)
+    match loading.take(text) {
+        Ok(()) => Ok(false),
+        Err(error) => Err(stop_of_catalogue(error)),
+    }
 }
 
 // Whether a line of the catalogue is `$STREAM`.
@@ -229,21 +218,6 @@ fn ends_catalogue(alloc: Global, loading: &Loading, line: &[u8]) -> Result<bool,
     }
     expect_card(&words, Card::Stream)?;
     Ok(true)
-}
-
-// Puts a line of the catalogue's text to those before it.
-fn put_line(loading: &mut Loading, line: &[u8]) -> Result<(), Stop<DeckError>>
-    requires few { lines_taken loading.old < 2 ^ 63 }
-    requires printable { IsLine line.now }
-    ensures answers { Answers (text_refusal (step loading.old line.now)) result }
-    ensures step { OnOk result (loading.new ≡ step loading.old line.now) }
-    ensures stopped { OnErr result (IsSome (stopped loading.new)) }
-    ensures counted { lines_taken loading.new ≤ lines_taken loading.old + 1 }
-{
-    match loading.take(line) {
-        Ok(()) => Ok(()),
-        Err(error) => Err(stop_of_catalogue(error)),
-    }
 }
 
 /// The data sets of a text that is whole.

@@ -3,30 +3,25 @@ ghost use Rattle.std.specs.Prelude.{◌≡◌, ◌<◌, true, None, length, unwr
 ghost use Rattle.std.specs.Result.{result_err};
 ghost use Rattle.std.specs.List.{list_all};
 ghost use Rattle.mon_text.specs.Lines.{words};
-ghost use Rattle.mon_acl.specs.declared.text.AclText.TheVariants.{Short};
 ghost use Rattle.mon_catalogue.specs.declared.mode.Mode.TheVariants.{Seq};
-ghost use Rattle.mon_command.specs.declared.command.Command.TheVariants as command;
-ghost use Rattle.deck_syntax.specs.declared.request.Request.TheVariants.{Asks, Drains, Stops};
-ghost use Rattle.deck_syntax.specs.Cards.{card_among, word_at};
-ghost use Rattle.deck_syntax.specs.Refusing.{line_refusal, is_dollar_line, further_refusal};
-ghost use Rattle.deck_syntax.specs.Requests.{names_refusal, two_names_refusal, mode_on, set_acl_on, stream_refusal, stream_card_refusal, card_request, request_on, behind_word, acl_on, end_refusal, list_text_refusal, list_line_refusal, is_list_character};
+ghost use Rattle.deck_lines.specs.declared.command.Command.TheVariants as command;
+ghost use Rattle.deck_syntax.specs.declared.request.Request.TheVariants.{Asks};
+ghost use Rattle.deck_lines.specs.Cards.{card_among, word_at};
+ghost use Rattle.deck_lines.specs.Refusing.{line_refusal, is_dollar_line, further_refusal};
+ghost use Rattle.deck_syntax.specs.Requests.{names_refusal, two_names_refusal, mode_on, set_acl_on, stream_refusal, stream_card_refusal, card_request, request_on, behind_word, end_refusal, list_text_refusal, list_line_refusal, is_list_character};
 ghost use Rattle.deck_syntax.specs.inner.Parts.{creation_refusal, set_acl_refusal, catalog_refusal};
-ghost use Rattle.deck_syntax.specs.inner.Stops.{Answers, IfRefused};
+ghost use Rattle.deck_lines.specs.inner.Stops.{Answers};
 ghost use Rattle.std.specs.Option.{option_or};
 
-use crate::card::Card;
-use crate::deck_error::DeckError;
 use crate::job::{OpenJob, read_job};
-use crate::turn::{Turn, read_turn};
-use crate::words::{
-    MOST_LINE_CHARACTERS, Words, begins_with_dollar, check_line, from_blank, from_word, is_blank,
-    name_of,
+use acl_text::{AclText, Bytes};
+use deck_lines::{
+    Card, Command, DeckError, MOST_LINE_CHARACTERS, Turn, Words, begins_with_dollar, check_line,
+    from_blank, from_word, is_blank, name_of, read_turn,
 };
-use mon_acl::{AclText, Bytes};
 use mon_catalogue::{Mode, read_mode};
-use mon_command::Command;
 use mon_text::{Name, Stop};
-use std::alloc::{AllocError, Global};
+use std::alloc::Global;
 
 /// What a line of the stream asks for.
 #[derive(Drop)]
@@ -59,18 +54,10 @@ pub fn read_request(alloc: Global, text: &[u8]) -> Result<Request, Stop<DeckErro
     ensures value { IfOk result (λ request. request ≡ request_on text.now) }
 {
     check_line(text, MOST_LINE_CHARACTERS)?;
-    read_line_of_stream(alloc, text)
-}
-
-// What a line without bad characters asks for.
-fn read_line_of_stream(alloc: Global, line: &[u8]) -> Result<Request, Stop<DeckError>>
-    ensures answers { Answers (stream_refusal line.now) result }
-    ensures value { IfOk result (λ request. request ≡ request_on line.now) }
-{
-    if is_blank(line) {
+    if is_blank(text) {
         return Ok(Request::Nothing);
     }
-    read_card(alloc, line, &Words::of(line))
+    read_card(alloc, text, &Words::of(text))
 }
 
 // What the card of these words asks for. The line is theirs: behind the names of a `$SETACL` card all of it counts.
@@ -171,20 +158,12 @@ fn read_set_acl(alloc: Global, line: &[u8], words: &Words<'_>) -> Result<Request
     if words.len() == 3 {
         return Ok(Request::OpensList(account, name));
     }
-    let text = short_text(alloc, line)?;
+    let text = Vec::from_slice(alloc, behind_word(behind_word(behind_word(line))))?;
     Ok(Request::Asks(Command::SetAcl {
         account,
         name,
-        text,
+        text: AclText::Short(Bytes::new(text)),
     }))
-}
-
-// The text of a permission list behind the three first words of a line.
-fn short_text(alloc: Global, line: &[u8]) -> Result<AclText, AllocError>
-    ensures { IfOk result (λ text. text ≡ Short (acl_on line.now)) }
-{
-    let text = behind_word(behind_word(behind_word(line)));
-    Ok(AclText::Short(Bytes::new(Vec::from_slice(alloc, text)?)))
 }
 
 fn read_catalog(words: &Words<'_>) -> Result<Request, Stop<DeckError>>

@@ -1,12 +1,11 @@
 //! The entry that grants: of those by which the case that applies may grant, the first that holds the whole request.
-ghost use Rattle.std.specs.Prelude.{◌≡◌, ◌&&◌, position, bytes_eq, false};
+ghost use Rattle.std.specs.Prelude.{◌≡◌, ◌&&◌, position, bytes_eq};
 ghost use Rattle.std.specs.List.{list_any};
-ghost use Rattle.std.specs.Option.{option_map_or};
 ghost use Rattle.mon_acl.specs.declared.entries.Tag.TheVariants as tags;
 ghost use Rattle.mon_acl.specs.Entries.{has_tag};
 ghost use Rattle.mon_acl.specs.Permissions.{holds};
-ghost use Rattle.mon_access.specs.Matches.{is_in_group, is_for_user, is_for_owning_group, is_for_named_group, is_for_group};
-ghost use Rattle.mon_access.specs.AccessCheck.{InGroup, case_of};
+ghost use Rattle.mon_access.specs.Matches.{is_in_group, is_for_user, is_for_named_group, is_for_group};
+ghost use Rattle.mon_access.specs.AccessCheck.{case_of};
 ghost use Rattle.mon_access.specs.Granting.{holder, granting};
 
 use crate::access::{Decision, check};
@@ -48,25 +47,14 @@ fn holder(
     } else if names_account(account, entries) {
         holder_of_user(account, entries, request)
     } else if names_groups(account, group, entries) {
-        holder_of_groups(account, group, entries, request)
+        // Without a mask the owning group's entry grants, and no other.
+        if has_mask(entries) {
+            holder_of_group(account, group, entries, request)
+        } else {
+            holder_of_type(entries, Tag::GroupObj, request)
+        }
     } else {
         holder_of_type(entries, Tag::Other, request)
-    }
-}
-
-// Of the entries of the account's groups; without a mask, of the owning group's alone.
-fn holder_of_groups(
-    account: &Account,
-    group: &Name,
-    entries: &[Entry],
-    request: Perms,
-) -> Option<usize>
-    ensures { result ≡ holder InGroup account.now group.now entries.now request }
-{
-    if has_mask(entries) {
-        holder_of_group(account, group, entries, request)
-    } else {
-        holder_of_type(entries, Tag::GroupObj, request)
     }
 }
 
@@ -124,14 +112,8 @@ fn holder_of_type(entries: &[Entry], tag: Tag, request: Perms) -> Option<usize>
 fn is_for_user(account: &Account, entry: &Entry) -> bool
     ensures { result ≡ is_for_user account.now entry.now }
 {
-    entry.tag == Tag::User && names_user(account, entry)
-}
-
-fn names_user(account: &Account, entry: &Entry) -> bool
-    ensures { result ≡ option_map_or (bytes_eq account.now.name) entry.now.name false }
-{
     match &entry.name {
-        Some(name) => account.name == *name,
+        Some(name) => entry.tag == Tag::User && account.name == *name,
         None => false,
     }
 }
@@ -140,26 +122,17 @@ fn names_user(account: &Account, entry: &Entry) -> bool
 fn is_for_group(account: &Account, group: &Name, entry: &Entry) -> bool
     ensures { result ≡ is_for_group account.now group.now entry.now }
 {
-    is_for_owning_group(account, group, entry) || is_for_named_group(account, entry)
-}
-
-fn is_for_owning_group(account: &Account, group: &Name, entry: &Entry) -> bool
-    ensures { result ≡ is_for_owning_group account.now group.now entry.now }
-{
-    entry.tag == Tag::GroupObj && is_in_group(account, group)
+    match entry.tag {
+        Tag::GroupObj => is_in_group(account, group),
+        _ => is_for_named_group(account, entry),
+    }
 }
 
 fn is_for_named_group(account: &Account, entry: &Entry) -> bool
     ensures { result ≡ is_for_named_group account.now entry.now }
 {
-    entry.tag == Tag::Group && names_group(account, entry)
-}
-
-fn names_group(account: &Account, entry: &Entry) -> bool
-    ensures { result ≡ option_map_or (is_in_group account.now) entry.now.name false }
-{
     match &entry.name {
-        Some(name) => is_in_group(account, name),
+        Some(name) => entry.tag == Tag::Group && is_in_group(account, name),
         None => false,
     }
 }

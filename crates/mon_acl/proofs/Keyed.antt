@@ -11,13 +11,14 @@ use Rattle.std.proofs.lemmas.Grind.{get_or-set_at}
 use Rattle.std.proofs.lemmas.List.Folds.{list_any_none}
 use Rattle.mon_text.specs.Characters.{is_letter}
 use Rattle.mon_text.specs.Names.{is_name_character, is_name, first_of, head_of}
+use Rattle.mon_text.proofs.Padding.{seven}
 use Rattle.mon_acl.specs.declared.entries.Tag.{Tag}
 use Rattle.mon_acl.specs.declared.entries.Tag.TheVariants.{UserObj, User, GroupObj, Group, Mask, Other}
 use Rattle.mon_acl.specs.declared.entries.Entry.{Entry}
 use Rattle.mon_acl.specs.Entries.{rank, is_tag, has_tag, is_named, sort_key, is_for, qualifier, is_qualified, IsEntry, IsValidAcl, IsIndexOf}
 use Rattle.mon_acl.specs.inner.Keys.{key_of, key_in, keys_of, bucket_of, IsIndexOfKey}
 use Rattle.mon_acl.specs.inner.Chains.{IsLast, IsChained}
-use Rattle.mon_acl.proofs.Valid.{counted}
+use Rattle.std.proofs.lemmas.List.Sums.{sum_by-cons}
 use Rattle.std.specs.Option.{unwrap_or}
 
 -- ---- names are bytes
@@ -111,16 +112,6 @@ head_bytes : (q : List ℕ) → AreBytes q → length q ≤ 31 → AreBytes (len
 head_bytes q h l zero = omega arith
 head_bytes q h l (suc k) = first_are 7 q h k
 
-seven : (q : List ℕ) → first_of 7 q ≡ get_or q 0 0 ∷ get_or q 1 0 ∷ get_or q 2 0 ∷ get_or q 3 0 ∷ get_or q 4 0 ∷ get_or q 5 0 ∷ get_or q 6 0 ∷ []
-seven [] = refl
-seven (a ∷ []) = refl
-seven (a ∷ b ∷ []) = refl
-seven (a ∷ b ∷ c ∷ []) = refl
-seven (a ∷ b ∷ c ∷ d ∷ []) = refl
-seven (a ∷ b ∷ c ∷ d ∷ e ∷ []) = refl
-seven (a ∷ b ∷ c ∷ d ∷ e ∷ f ∷ []) = refl
-seven (a ∷ b ∷ c ∷ d ∷ e ∷ f ∷ g ∷ rest) = refl
-
 eight : (l a b c d e f g : ℕ) → l ≤ 31 → a < 256 → b < 256 → c < 256 → d < 256 → e < 256 → f < 256 → g < 256 →
     big_endian 0 (l ∷ a ∷ b ∷ c ∷ d ∷ e ∷ f ∷ g ∷ []) < 2305843009213693952
 eight l a b c d e f g hl ha hb hc hd he hf hg = omega arith
@@ -198,6 +189,9 @@ one_of GroupObj = refl
 one_of Group = refl
 one_of Mask = refl
 one_of Other = refl
+
+pub counted : (p : Entry → Bool) (x : Entry) (xs : List Entry) → count_by p (x ∷ xs) ≡ cond (p x) 1 0 + count_by p xs
+counted p x xs = sum_by-cons (λ y. cond (p y) 1 0) x xs
 
 all_counted : (es : List Entry) → length es ≡ count_by (has_tag UserObj) es + count_by (has_tag GroupObj) es + count_by (has_tag Other) es + count_by (has_tag Mask) es + count_by is_named es
 all_counted [] = refl

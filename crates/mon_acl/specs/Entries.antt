@@ -1,11 +1,12 @@
 -- Entries of a permission list, which lists are valid, and in which order they stand (acl(5) "ACL ENTRIES", "VALID ACLs").
-use Rattle.std.specs.Prelude.{◌≡◌, ℕ, ◌<◌, ◌≤◌, ◌==◌, Bool, false, ◌&&◌, ◌||◌, List, [], ◌∷◌, length, count_by, All, HoldsAt, IsTrue, IsFalse, Option, MatchOption, nat_eq}
-use Rattle.std.specs.List.{list_any}
+use Rattle.std.specs.Prelude.{◌≡◌, ℕ, ◌<◌, ◌≤◌, ◌==◌, Bool, false, ◌&&◌, ◌||◌, List, [], ◌∷◌, length, count_by, All, HoldsAt, IsTrue, IsFalse, Option, option_map, MatchOption, nat_eq, codes}
+use Rattle.std.specs.List.{list_any, find}
 use Rattle.std.specs.List.Sorted.{IsStrictlySortedBy}
 use Rattle.std.specs.Cmp.Lexicographic.{pointwise, slice_cmp}
 use Rattle.std.specs.Ordering.{nat_cmp}
 use Rattle.std.specs.declared.cmp.Ordering.{Ordering}
 use Rattle.mon_text.specs.Names.{is_name}
+use Rattle.mon_acl.specs.declared.entries.Perms.{Perms}
 use Rattle.mon_acl.specs.declared.entries.Tag.{Tag}
 use Rattle.mon_acl.specs.declared.entries.Tag.TheVariants.{UserObj, User, GroupObj, Group, Mask, Other}
 use Rattle.mon_acl.specs.declared.entries.Entry.{Entry}
@@ -45,6 +46,15 @@ abbrev pub IsIndexOf : Tag → List ℕ → List Entry → Option ℕ → Type 0
 IsIndexOf t name es index = MatchOption index (IsFalse (list_any (is_for t name) es))
     (λ i. (i < length es) × HoldsAt (λ e. IsTrue (is_for t name e)) es i)
 
+-- the word of a type (acl(5) "ACL TEXT FORMS")
+abbrev pub tag_word : Tag → List ℕ
+tag_word UserObj = codes "user"
+tag_word User = codes "user"
+tag_word GroupObj = codes "group"
+tag_word Group = codes "group"
+tag_word Mask = codes "mask"
+tag_word Other = codes "other"
+
 -- named users and groups have a name, other entries have none
 abbrev pub is_qualified : Tag → Option (List ℕ) → Bool
 is_qualified User name = option_map_or is_name name false
@@ -54,6 +64,10 @@ is_qualified _ name = is_none name
 -- an entry that a list may have
 abbrev pub IsEntry : Entry → Type 0
 IsEntry e = IsTrue (is_qualified e.tag e.name)
+
+-- the mask's permissions, where a list has one
+abbrev pub mask_of : List Entry → Option Perms
+mask_of es = option_map (λ e. e.perms) (find (has_tag Mask) es)
 
 -- a valid list (acl(5) "VALID ACLs"), of at most 100 named entries (own)
 pub record IsValidAcl (es : List Entry) : Type 0 where

@@ -1,10 +1,4 @@
 pub mod Rights
 pub mod Permissions
 pub mod Entries
-pub mod Texts
-pub mod Refusals
-pub mod Reading
-pub mod Forms
-pub mod Printing
-pub mod Laws
 pub mod inner

@@ -1,15 +1,11 @@
 //! The entries of a permission list: a type, a qualifier and permissions.
-ghost use Rattle.std.specs.Prelude.{◌≡◌, ◌++◌, OnOk};
+ghost use Rattle.std.specs.Prelude.{◌≡◌};
 ghost use Rattle.std.specs.Ordering.{nat_cmp};
 ghost use Rattle.std.specs.Cmp.Lexicographic.{slice_cmp};
 ghost use Rattle.mon_acl.specs.Permissions.{holds, common, is_one};
-ghost use Rattle.mon_acl.specs.Entries.{rank, qualifier, compared, is_named};
-ghost use Rattle.mon_acl.specs.Texts.{tag_word};
-ghost use Rattle.mon_acl.specs.Printing.{entry_head, letter, is_masked, effective, long_line};
+ghost use Rattle.mon_acl.specs.Entries.{rank, qualifier, compared, is_named, tag_word};
 
-use mon_device::TextSink;
 use mon_text::Name;
-use std::alloc::AllocError;
 use std::cmp::Ordering;
 use std::marker::Model;
 
@@ -123,7 +119,7 @@ impl Perms {
     }
 
     /// The permissions that both hold.
-    fn common(self, other: Perms) -> Perms
+    pub fn common(self, other: Perms) -> Perms
         ensures { result ≡ common self other }
     {
         Perms {
@@ -141,13 +137,6 @@ pub fn copy_of_mask(mask: &Option<Perms>) -> Option<Perms>
         Some(perms) => Some(*perms),
         None => None,
     }
-}
-
-/// The letter of a permission, or `-`.
-pub(crate) fn place_of(held: bool, sign: u8) -> u8
-    ensures { result ≡ letter held sign }
-{
-    if held { sign } else { b'-' }
 }
 
 impl Tag {
@@ -197,54 +186,8 @@ impl Entry {
         }
     }
 
-    /// Appends the entry without its permissions, as `user:lisa:`.
-    ///
-    /// # Errors
-    ///
-    /// Where a growth was refused; `out` may then hold a part of the text.
-    pub fn put_head(&self, out: &mut Vec<u8>) -> Result<(), AllocError>
-        ensures { OnOk result (out.new.items ≡ out.old.items ++ entry_head self.now) }
-    {
-        let mut sink = TextSink::new(out);
-        self.print_head(&mut sink);
-        sink.settle()
-    }
-
-    /// Appends the line of the entry under a mask, as `user:lisa:rw-`, with a tab and `#effective:r--` behind it
-    /// where the mask takes a permission away. The line is ended by LF.
-    ///
-    /// # Errors
-    ///
-    /// Where a growth was refused; `out` may then hold a part of the line.
-    pub fn put_line(&self, mask: Option<Perms>, out: &mut Vec<u8>) -> Result<(), AllocError>
-        ensures { OnOk result (out.new.items ≡ out.old.items ++ long_line mask self.now) }
-    {
-        let mut sink = TextSink::new(out);
-        self.print_line(mask, &mut sink);
-        sink.settle()
-    }
-
-    /// What a mask leaves of the permissions, where it takes any away.
-    pub(crate) fn effective(&self, mask: Option<Perms>) -> Option<Perms>
-        ensures { result ≡ effective mask self.now }
-    {
-        let mask = mask?;
-        if self.is_masked() && !mask.contains(self.perms) {
-            Some(self.perms.common(mask))
-        } else {
-            None
-        }
-    }
-
-    /// Whether the mask limits the entry.
-    fn is_masked(&self) -> bool
-        ensures { result ≡ is_masked self.now }
-    {
-        matches!(self.tag, Tag::User | Tag::GroupObj | Tag::Group)
-    }
-
     /// Whether the entry is for one user or group by name.
-    pub(crate) fn is_named(&self) -> bool
+    pub fn is_named(&self) -> bool
         ensures { result ≡ is_named self.now }
     {
         matches!(self.tag, Tag::User | Tag::Group)
@@ -252,7 +195,7 @@ impl Entry {
 
     /// Which of the two stands first in canonical order.
     #[inline(always)]
-    pub(crate) fn compare(&self, other: &Entry) -> Ordering
+    pub fn compare(&self, other: &Entry) -> Ordering
         ensures { result ≡ compared self.now other.now }
     {
         let (own, its) = (self.tag.rank(), other.tag.rank());

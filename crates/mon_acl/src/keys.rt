@@ -1,14 +1,14 @@
 //! What a search among entries reads: a key of each, side by side, and chains of the entries whose keys fall into one bucket, so
 //! that an entry is found by its type and its name with one or two comparisons of eight bytes.
-ghost use Rattle.std.specs.Prelude.{◌≡◌, ℕ, ◌+◌, ◌*◌, ◌≤◌, ◌<◌, All, IfOk, IsOk, length, map, [], nat_eq};
+ghost use Rattle.std.specs.Prelude.{◌≡◌, ◌+◌, ◌*◌, ◌≤◌, ◌<◌, All, IfOk, IsOk, length, map, [], nat_eq};
 ghost use Rattle.std.specs.Cmp.Lexicographic.{pointwise};
 ghost use Rattle.mon_text.specs.Names.{head_of};
 ghost use Rattle.mon_acl.specs.Entries.{rank, qualifier, is_for, IsEntry, IsAcl, IsIndexOf};
 ghost use Rattle.mon_acl.specs.inner.Keys.{key_of, key_in, keys_of, bucket_of, IsIndexOfKey};
 ghost use Rattle.mon_acl.specs.inner.Chains.{IsChained};
 
-use crate::arranging::ENTRIES_INLINE;
 use crate::entries::{Entry, Tag};
+use crate::list::ENTRIES_INLINE;
 use mon_text::Name;
 use smallvec::SmallVec;
 use std::alloc::{AllocError, Global};

@@ -1,2 +1,2 @@
 -- What mon_acl proves of the texts of permission lists.
-pub use Rattle.mon_acl.proofs.Whole.{reading_spells, reads_back}
+pub use Rattle.acl_text.proofs.Whole.{reading_spells, reads_back}

@@ -3,7 +3,7 @@ use Rattle.std.proofs.Common.{◌≡◌, ◌∙◌, ap, sym, ℕ, List, [], ◌�
 use Rattle.std.specs.Prelude.{codes, decimal}
 use Rattle.mon_device.specs.Putting.{Standing, Puts}
 use Rattle.mon_device.proofs.Putting.{puts_same, puts_then}
-use Rattle.mon_acl.specs.Printing.{short_form}
+use Rattle.acl_text.specs.Printing.{short_form}
 use Rattle.mon_catalogue.specs.declared.data_set.DataSet.{DataSet}
 use Rattle.mon_catalogue.specs.Modes.{mode_word}
 use Rattle.mon_catalogue.specs.Sets.{Sets}

@@ -4,9 +4,9 @@ use Rattle.mon_text.specs.declared.stop.Stop.{Stop}
 use Rattle.mon_text.specs.declared.stop.Stop.TheVariants as stop
 use Rattle.mon_text.specs.Lines.{is_blank_line, words}
 use Rattle.mon_acl.specs.declared.entries.Entry.{Entry}
-use Rattle.mon_acl.specs.Reading as acl
-use Rattle.mon_acl.specs.Reading.{read_short}
-use Rattle.mon_acl.specs.Texts.{pieces}
+use Rattle.acl_text.specs.Reading as acl
+use Rattle.acl_text.specs.Reading.{read_short}
+use Rattle.acl_text.specs.Texts.{pieces}
 use Rattle.mon_acl.specs.declared.refusals.AclError.{AclError}
 use Rattle.mon_catalogue.specs.declared.version.Version.{Version}
 use Rattle.mon_catalogue.specs.declared.data_set.DataSet.{DataSet}

@@ -10,10 +10,10 @@ ghost use Rattle.mon_catalogue.specs.Records.{AreRecords};
 ghost use Rattle.mon_catalogue.specs.Writing.{Put, Cut, Add, recorded, records_after, change_refusal};
 
 use crate::mode::Mode;
-use crate::packed::PackedLines;
 use mon_acl::Acl;
 use mon_device::Sink;
 use mon_text::{Line, Name, Stop};
+use packed_lines::PackedLines;
 use std::alloc::{AllocError, Global};
 use std::marker::Model;
 use thiserror::Error;

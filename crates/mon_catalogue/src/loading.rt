@@ -1,8 +1,8 @@
 //! Reading a catalogue's text.
-ghost use Rattle.std.specs.Prelude.{◌≡◌, ℕ, ◌<◌, ◌≤◌, ◌+◌, ◌-◌, ◌^◌, List, [], length, true, false, Some, Ok, Err, IfOk, OnOk, OnErr, IsErrOf, IsTrue};
+ghost use Rattle.std.specs.Prelude.{◌≡◌, ◌<◌, ◌≤◌, ◌+◌, ◌^◌, [], length, true, false, Some, Ok, Err, IfOk, OnOk, OnErr, IsErrOf, IsTrue};
 ghost use Rattle.mon_text.specs.Lines.{IsLine, is_blank_line};
 ghost use Rattle.mon_text.specs.declared.stop.Stop.{Stop};
-ghost use Rattle.mon_acl.specs.Reading.{read_short};
+ghost use Rattle.acl_text.specs.Reading.{read_short};
 ghost use Rattle.mon_catalogue.specs.declared.loading.CatalogueError.{CatalogueError};
 ghost use Rattle.mon_catalogue.specs.Head.{head_refusal};
 ghost use Rattle.mon_catalogue.specs.Progress.{Answers, SetDue, stopped, MayGrow, ListGrows, step, finished, is_due, lines_taken, with_due, after_set_due, after_acl, ListDue, Refused};
@@ -18,7 +18,7 @@ use crate::catalogue::{Catalogue, MOST_SETS};
 use crate::data_set::{DataSet, MOST_RECORD_CHARACTERS, MOST_RECORDS, Records};
 use crate::head::{Head, read_head};
 use crate::version::Version;
-use mon_acl::Acl;
+use acl_text::parse_short;
 use mon_text::{Line, Name, Stop};
 use std::alloc::Global;
 use std::marker::Model;
@@ -353,7 +353,7 @@ fn after_list(
     ensures step { Reaches version number catalogue.new (ListGrows head line.now) result (after_acl version number catalogue.old head (read_short line.now)) }
     ensures sound { IfOk result (IsSound catalogue.new) }
 {
-    match Acl::parse_short(catalogue.allocator(), line) {
+    match parse_short(catalogue.allocator(), line) {
         Ok(acl) => {
             let records = Records::new(catalogue.allocator());
             let set = DataSet {

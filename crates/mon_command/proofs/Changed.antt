@@ -8,16 +8,16 @@ use Rattle.mon_catalogue.specs.Sets.{Sets, find_set}
 use Rattle.interaction.specs.declared.answer.Reason.{Reason}
 use Rattle.mon_guard.specs.declared.answer.AclAnswer.{AclAnswer}
 use Rattle.mon_guard.specs.declared.answer.AclAnswer.TheVariants as acl
-use Rattle.mon_acl.specs.declared.text.AclText.{AclText}
-use Rattle.mon_acl.specs.declared.text.AclText.TheVariants.{Short}
+use Rattle.acl_text.specs.declared.text.AclText.{AclText}
+use Rattle.acl_text.specs.declared.text.AclText.TheVariants.{Short}
 use Rattle.mon_guard.specs.Views.{records_lent, acl_lent, names_lent}
 use Rattle.mon_guard.specs.Owning.{removed, acl_set, created}
 use Rattle.mon_guard.specs.Laws as guard
-use Rattle.mon_command.specs.declared.command.Command.{Command}
-use Rattle.mon_command.specs.declared.command.Command.TheVariants.{Create, Delete, SetAcl, ShowAcl, List as Listing, Catalog}
+use Rattle.deck_lines.specs.declared.command.Command.{Command}
+use Rattle.deck_lines.specs.declared.command.Command.TheVariants.{Create, Delete, SetAcl, ShowAcl, List as Listing, Catalog}
 use Rattle.mon_command.specs.declared.reply.Reply.{Reply}
 use Rattle.mon_command.specs.declared.reply.Reply.TheVariants.{Done, Denied, NameTaken, CatalogueFull, BadList}
-use Rattle.mon_command.specs.Commands.{account_of}
+use Rattle.deck_lines.specs.Commands.{account_of}
 use Rattle.mon_command.specs.Commanded.{Answer, Told, Records, Shown, Names, Served, told_by, creation_reply, removal_reply, acl_reply, shown_as, served, answered}
 use Rattle.mon_command.specs.Laws.{IsKnown, Changes, done, ChangesWhereGranted, IsNamed, OtherSetsStay}
 use Rattle.mon_command.proofs.Shorthand.{served_if_known}

@@ -1,5 +1,5 @@
 pub mod Shorthand
-mod Names
+pub mod Names
 mod Words
 mod Changed
 mod Shows

@@ -1,6 +1,7 @@
 -- The names that are shown of one set more.
 use Rattle.std.proofs.Common.{◌≡◌, ℕ, ◌+◌, ◌<◌, ◌≤◌, Bool, true, false, List, [], ◌∷◌, ◌++◌, length, map, take, Option, Some, None, slice_get, sym, ap, ◌∙◌, refl, append_assoc, inl, inr, arith, length-append, lit≤, cond, if◌then◌else◌}
 use Rattle.std.specs.List.{flat_map}
+use Rattle.std.specs.Option.{option_map_or}
 use Rattle.std.proofs.lemmas.List.{take_more, map-append}
 use Rattle.std.proofs.lemmas.List.Concat.{flat_map-append}
 use Rattle.std.proofs.lemmas.List.Elements.{filter-append}
@@ -13,29 +14,34 @@ use Rattle.mon_guard.specs.Views.{NamePart, name_part, name_of, names_shown, nam
 use Rattle.mon_command.specs.Printouts.{name_line}
 use Rattle.mon_command.specs.inner.Names.{one_or_none, shown_at}
 
--- one set shows its name, or none
-one_shown : (account : Account) (named : List ℕ × DataSet) → names_lent account (named ∷ []) ≡ one_or_none (name_of account (Some named))
-one_shown account named = by (may_be_shown account named)
+-- the set at a place, alone, if there is one
+abbrev alone : Option (List ℕ × DataSet) → Sets
+alone named = option_map_or (λ n. n ∷ []) named []
+
+-- it shows its name, or none
+alone_shown : (account : Account) (named : Option (List ℕ × DataSet)) → names_lent account (alone named) ≡ one_or_none (name_of account named)
+alone_shown account None = refl
+alone_shown account (Some named) = by (may_be_shown account named)
   where
     by : (b : Bool) → map name_part (cond b (named ∷ []) []) ≡ one_or_none (if b then Some (name_part named) else None)
     by true = refl
     by false = refl
 
-names_append : (account : Account) (sets others : Sets) → names_lent account (sets ++ others) ≡ names_lent account sets ++ names_lent account others
-names_append account sets others =
-    ap (map name_part) (filter-append (may_be_shown account) sets others)
-    ∙ map-append name_part (names_shown account sets) (names_shown account others)
-
 module _ (account : Account) (sets : Sets) (index : ℕ) (inside : index < length sets) where
-  shown_more : names_lent account (take (index + 1) sets) ≡ names_lent account (take index sets) ++ shown_at account sets index
-  shown_more = elim (slice_get_cases sets index).1 [
+  pub sets_more : names_shown account (take (index + 1) sets) ≡ names_shown account (take index sets) ++ names_shown account (alone (slice_get sets index))
+  sets_more = elim (slice_get_cases sets index).1 [
     | inl w ↦
-        ap (names_lent account) (take_more sets index w.0 inside ∙ ap (λ x. take index sets ++ x ∷ []) w.3)
-        ∙ names_append account (take index sets) (w.0 ∷ [])
-        ∙ ap (λ shown. names_lent account (take index sets) ++ shown) (one_shown account w.0)
-        ∙ ap (λ o. names_lent account (take index sets) ++ one_or_none (name_of account o)) (sym w.2)
+        ap (names_shown account) (take_more sets index w.0 inside ∙ ap (λ x. take index sets ++ x ∷ []) w.3)
+        ∙ filter-append (may_be_shown account) (take index sets) (w.0 ∷ [])
+        ∙ ap (λ (o : Option (List ℕ × DataSet)). names_shown account (take index sets) ++ names_shown account (alone o)) (sym w.2)
     | inr w ↦ absurd (omega arith)
   ]
+
+  shown_more : names_lent account (take (index + 1) sets) ≡ names_lent account (take index sets) ++ shown_at account sets index
+  shown_more =
+      ap (map name_part) sets_more
+      ∙ map-append name_part (names_shown account (take index sets)) (names_shown account (alone (slice_get sets index)))
+      ∙ ap (λ shown. names_lent account (take index sets) ++ shown) (alone_shown account (slice_get sets index))
 
   pub names_more : (start before after : List ℕ) → before ≡ start ++ flat_map name_line (names_lent account (take index sets))
       → after ≡ before ++ flat_map name_line (shown_at account sets index)

@@ -3,7 +3,7 @@ use Rattle.std.specs.Prelude.{Option}
 use Rattle.std.specs.Option.{option_map_or}
 use Rattle.mon_access.specs.declared.account.Account.{Account}
 use Rattle.mon_catalogue.specs.Sets.{Sets}
-use Rattle.mon_command.specs.declared.command.Command.{Command}
+use Rattle.deck_lines.specs.declared.command.Command.{Command}
 use Rattle.mon_command.specs.declared.reply.Reply.TheVariants.{NoAccount}
 use Rattle.mon_command.specs.Commanded.{Served, Commanded, Told, printed, served}
 

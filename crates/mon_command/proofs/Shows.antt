@@ -8,14 +8,14 @@ use Rattle.mon_catalogue.specs.declared.catalogue.CreateError.{CreateError}
 use Rattle.mon_catalogue.specs.declared.catalogue.CreateError.TheVariants as create
 use Rattle.mon_catalogue.specs.Sets.{Sets}
 use Rattle.interaction.specs.declared.answer.Reason.{Reason}
-use Rattle.mon_acl.specs.declared.text.AclText.{AclText}
-use Rattle.mon_acl.specs.Forms.{list_of_text}
+use Rattle.acl_text.specs.declared.text.AclText.{AclText}
+use Rattle.acl_text.specs.Forms.{list_of_text}
 use Rattle.mon_guard.specs.Views.{AclPart, records_lent, acl_lent, names_lent}
 use Rattle.mon_guard.specs.Owning.{owner_denial, created}
 use Rattle.mon_guard.specs.inner.Parts.{given, acl_set_unless}
 use Rattle.mon_guard.specs.Laws as guard
-use Rattle.mon_command.specs.declared.command.Command.{Command}
-use Rattle.mon_command.specs.declared.command.Command.TheVariants.{Create, Delete, SetAcl, ShowAcl, List as Listing, Catalog}
+use Rattle.deck_lines.specs.declared.command.Command.{Command}
+use Rattle.deck_lines.specs.declared.command.Command.TheVariants.{Create, Delete, SetAcl, ShowAcl, List as Listing, Catalog}
 use Rattle.mon_command.specs.declared.reply.Reply.TheVariants.{Done, Denied, NameTaken, CatalogueFull, BadList}
 use Rattle.mon_command.specs.Commanded.{Answer, Told, Records, Shown, Names, Served, creation_reply, removal_reply, acl_reply, shown_as, served, printed, commanded}
 use Rattle.mon_command.specs.Laws.{ShowsWhereGranted, HiddenSetsHaveNoEffect, IsWhy, DenialsSayWhy}

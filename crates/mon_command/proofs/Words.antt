@@ -3,8 +3,8 @@ use Rattle.std.proofs.Common.{◌≡◌, ap, ◌++◌, ◌∷◌, [], ℕ, List,
 use Rattle.std.specs.Prelude.{codes}
 use Rattle.std.specs.Option.{unwrap_or}
 use Rattle.mon_acl.specs.declared.entries.Entry.{Entry}
-use Rattle.mon_acl.specs.Texts.{tag_word}
-use Rattle.mon_acl.specs.Printing.{entry_head}
+use Rattle.mon_acl.specs.Entries.{tag_word}
+use Rattle.acl_text.specs.Printing.{entry_head}
 use Rattle.interaction.specs.declared.answer.Reason.TheVariants as reason
 use Rattle.mon_command.specs.Replies.{reason_text}
 

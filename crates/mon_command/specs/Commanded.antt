@@ -11,11 +11,12 @@ use Rattle.mon_guard.specs.declared.answer.AclAnswer.{AclAnswer}
 use Rattle.mon_guard.specs.declared.answer.AclAnswer.TheVariants as acl
 use Rattle.mon_guard.specs.Views.{AclPart, NamePart, records_lent, acl_lent, names_lent}
 use Rattle.mon_guard.specs.Owning.{removed, acl_set, created}
-use Rattle.mon_command.specs.declared.command.Command.{Command}
-use Rattle.mon_command.specs.declared.command.Command.TheVariants.{Create, Delete, SetAcl, ShowAcl, List as Listing, Catalog}
+use Rattle.deck_lines.specs.declared.command.Command.{Command}
+use Rattle.deck_lines.specs.declared.command.Command.TheVariants.{Create, Delete, SetAcl, ShowAcl, List as Listing, Catalog}
 use Rattle.mon_command.specs.declared.reply.Reply.{Reply}
 use Rattle.mon_command.specs.declared.reply.Reply.TheVariants.{Done, NoAccount, Denied, NameTaken, CatalogueFull, BadList}
-use Rattle.mon_command.specs.Commands.{account_of, heading}
+use Rattle.mon_command.specs.Commands.{heading}
+use Rattle.deck_lines.specs.Commands.{account_of}
 use Rattle.mon_command.specs.Printouts.{records_text, acl_text, names_text}
 use Rattle.mon_command.specs.Replies.{reply_line}
 use Rattle.std.specs.Option.{option_map_or}

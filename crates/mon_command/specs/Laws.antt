@@ -8,11 +8,12 @@ use Rattle.mon_catalogue.specs.Sets.{Sets, find_set}
 use Rattle.interaction.specs.declared.answer.Reason.{Reason}
 use Rattle.mon_guard.specs.Views.{AclPart, names_lent}
 use Rattle.mon_guard.specs.Laws.{MaySeeName, AreForReading, IsForSeeing, Creates, Removes, SetsList, WhyNotOwner, WhyNotSeeList, WhyNotRead}
-use Rattle.mon_command.specs.declared.command.Command.{Command}
-use Rattle.mon_command.specs.declared.command.Command.TheVariants.{Create, Delete, SetAcl, ShowAcl, List as Listing, Catalog}
+use Rattle.deck_lines.specs.declared.command.Command.{Command}
+use Rattle.deck_lines.specs.declared.command.Command.TheVariants.{Create, Delete, SetAcl, ShowAcl, List as Listing, Catalog}
 use Rattle.mon_command.specs.declared.reply.Reply.{Reply}
 use Rattle.mon_command.specs.declared.reply.Reply.TheVariants.{Done, NoAccount, Denied}
-use Rattle.mon_command.specs.Commands.{account_of, heading}
+use Rattle.mon_command.specs.Commands.{heading}
+use Rattle.deck_lines.specs.Commands.{account_of}
 use Rattle.mon_command.specs.Replies.{reply_line}
 use Rattle.mon_command.specs.Commanded.{Told, Records, Shown, Names, Served, answered, commanded}
 

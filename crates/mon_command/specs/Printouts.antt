@@ -3,8 +3,8 @@ use Rattle.std.specs.Prelude.{ℕ, List, ◌++◌, length, codes, decimal}
 use Rattle.std.specs.List.{flat_map}
 use Rattle.mon_acl.specs.declared.refusals.AclError.{AclError}
 use Rattle.mon_acl.specs.declared.refusals.AclError.TheVariants.{BadTag, BadQualifier, BadPerms, Missing, Twice, NoMask, TooMany}
-use Rattle.mon_acl.specs.Texts.{tag_word}
-use Rattle.mon_acl.specs.Printing.{mask_of, long_line}
+use Rattle.mon_acl.specs.Entries.{tag_word, mask_of}
+use Rattle.acl_text.specs.Printing.{long_line}
 use Rattle.mon_guard.specs.Views.{AclPart, NamePart}
 
 -- a word behind another, and a number behind a word

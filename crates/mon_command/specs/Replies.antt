@@ -1,7 +1,7 @@
 -- What a command is told in one line (own).
 use Rattle.std.specs.Prelude.{ℕ, List, [], ◌++◌, codes}
 use Rattle.std.specs.Option.{unwrap_or}
-use Rattle.mon_acl.specs.Texts.{tag_word}
+use Rattle.mon_acl.specs.Entries.{tag_word}
 use Rattle.interaction.specs.declared.answer.Reason.{Reason}
 use Rattle.interaction.specs.declared.answer.Reason.TheVariants as reason
 use Rattle.mon_command.specs.declared.reply.Reply.{Reply}

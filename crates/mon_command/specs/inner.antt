@@ -1,3 +1,4 @@
 -- What only the code's proofs need.
 pub mod Serving
 pub mod Names
+pub mod Executing

@@ -1,14 +1,15 @@
 //! The words and lines of printouts.
 ghost use Rattle.std.specs.Prelude.{◌≡◌, ◌++◌, ◌+◌, ◌≤◌, OnOk, OnErr, length, take, vec_len, vec_capacity};
 ghost use Rattle.std.specs.List.{flat_map};
-ghost use Rattle.mon_acl.specs.Printing.{long_line};
+ghost use Rattle.acl_text.specs.Printing.{long_line};
 ghost use Rattle.mon_device.specs.Putting.{Puts};
-ghost use Rattle.mon_command.specs.Commands.{card_line};
+ghost use Rattle.mon_command.specs.Commands.{card_line, heading};
 ghost use Rattle.mon_command.specs.Commanded.{Records as Listed, printed};
-ghost use Rattle.mon_command.specs.declared.command.Command.TheVariants as command;
+ghost use Rattle.deck_lines.specs.declared.command.Command.TheVariants as command;
 ghost use Rattle.mon_command.specs.Printouts.{word, number, stored_line, count_line, records_text, name_line, acl_text, list_refusal};
 
 use crate::room::{MOST_ON_LINE, place_name, place_number, put_first};
+use deck_lines::Command;
 use itoa::Buffer;
 use mon_acl::{AclError, Entry, Perms, Tag, copy_of_mask};
 use mon_catalogue::Records;
@@ -68,7 +69,7 @@ pub(crate) fn put_count(what: &[u8], value: u64, out: &mut Vec<u8>) -> Result<()
 
 // Appends records, and how many they are.
 #[inline(always)]
-pub(crate) fn put_records(records: &Records, out: &mut Vec<u8>) -> Result<(), AllocError>
+fn put_records(records: &Records, out: &mut Vec<u8>) -> Result<(), AllocError>
     ensures appended { OnOk result (out.new.items ≡ out.old.items ++ records_text records.now) }
     ensures begun { OnErr result (take (length out.old.items) out.new.items ≡ out.old.items) }
 {
@@ -131,7 +132,7 @@ fn put_acl_line(entry: &Entry, mask: Option<Perms>, out: &mut Vec<u8>) -> Result
     ensures { OnOk result (out.new.items ≡ out.old.items ++ word (long_line mask entry.now)) }
 {
     out.push(b' ')?;
-    entry.put_line(mask, out)
+    acl_text::put_line(entry, mask, out)
 }
 
 // Appends a data set's name, its owner, its group and the number of its records. The line is put together in a room first, where
@@ -147,6 +148,25 @@ pub(crate) fn put_name(shown: &NameView, out: &mut Vec<u8>) -> Result<(), AllocE
     let end = place_number(&mut room, end, shown.records);
     room[end] = b'\n';
     put_first(&room, end + 1, out)
+}
+
+// Appends a command's own line.
+pub(crate) fn put_heading(command: &Command, out: &mut Vec<u8>) -> Result<(), AllocError>
+    ensures { OnOk result (out.new.items ≡ out.old.items ++ heading command.now) }
+{
+    match command {
+        Command::Create { account, name, .. } => put_card(b"CREATE", account, name, out),
+        Command::Delete { account, name } => put_card(b"DELETE", account, name, out),
+        Command::SetAcl { account, name, .. } => put_card(b"SETACL", account, name, out),
+        Command::ShowAcl { account, name } => put_card(b"SHOWACL", account, name, out),
+        Command::List { account, name } => put_card(b"LIST", account, name, out),
+        Command::Catalog { account } => {
+            out.extend_from_slice(b"CATALOG")?;
+            put_word(account.as_bytes(), out)?;
+            out.push(b'\n')?;
+            Ok(())
+        }
+    }
 }
 
 // Appends a command's own line: the card's word, an account and a data set.

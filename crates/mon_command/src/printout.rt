@@ -3,9 +3,10 @@ ghost use Rattle.std.specs.Prelude.{◌≡◌, IfOk};
 ghost use Rattle.mon_command.specs.Commanded.{Told};
 ghost use Rattle.mon_command.specs.inner.Serving.{Answers};
 
-use crate::command::Command;
+use crate::printing::put_heading;
 use crate::reply::Reply;
 use crate::said::Said;
+use deck_lines::Command;
 use std::alloc::{AllocError, Global};
 use std::marker::Model;
 
@@ -49,7 +50,7 @@ pub(crate) fn told(alloc: Global, command: &Command, reply: Reply) -> Result<Ans
     ensures { IfOk result (λ given. Answers command.now given (Told reply)) }
 {
     let mut bytes = Vec::with_capacity(alloc, USUAL_BYTES)?;
-    command.put_heading(&mut bytes)?;
+    put_heading(command, &mut bytes)?;
     reply.put_line(&mut bytes)?;
     Ok(Answered {
         printout: Printout { bytes },

@@ -89,7 +89,7 @@ pub fn print_reason<S: Sink>(reason: Reason, sink: &mut S)
                 perms: Perms::default(),
             };
             sink.put(b"BY ");
-            entry.print_head(sink);
+            acl_text::print_head(&entry, sink);
         }
         Reason::NoSet => sink.put(b"NO DATA SET"),
         Reason::NotOwner => sink.put(b"NOT OWNER"),

@@ -21,3 +21,7 @@ pub record Puts (a b : Standing) (text : List ℕ) : Type 0 where
   pub all : b.failed ≡ false → (a.failed ≡ false) × (rest ≡ b.gathered)
   pub stays : a.failed ≡ true → b ≡ a
   pub apart : (b.remaining ≡ a.remaining) × (b.reads ≡ a.reads) × (b.lent ≡ a.lent)
+
+-- A text was put but for what is gathered for it.
+abbrev pub PutsBut : Standing → Standing → List ℕ → List ℕ → Type 0
+PutsBut a b gathered text = (put : List ℕ) × Puts a b put × (put ++ gathered ≡ text)

@@ -3,9 +3,9 @@
 use Rattle.std.specs.Prelude.{◌≡◌, ◌≢◌, ℕ, ◌<◌, ◌⊎◌, ◌↔◌, List, [], ◌∷◌, ◌++◌, length, Some, None, Ok, Err, Any, Contains}
 use Rattle.mon_acl.specs.declared.entries.Perms.{Perms}
 use Rattle.mon_acl.specs.declared.entries.Entry.{Entry}
-use Rattle.mon_acl.specs.declared.text.AclText.{AclText}
+use Rattle.acl_text.specs.declared.text.AclText.{AclText}
 use Rattle.mon_acl.specs.Entries.{IsValidAcl}
-use Rattle.mon_acl.specs.Forms.{list_of_text}
+use Rattle.acl_text.specs.Forms.{list_of_text}
 use Rattle.mon_access.specs.declared.account.Account.{Account}
 use Rattle.mon_access.specs.declared.access.Decision.TheVariants.{Granted, Denied}
 use Rattle.mon_access.specs.declared.access.Decider.{Decider}

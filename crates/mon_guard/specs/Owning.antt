@@ -4,8 +4,8 @@ use Rattle.mon_acl.specs.declared.entries.Perms.{Perms}
 use Rattle.mon_acl.specs.declared.entries.Tag.{Tag}
 use Rattle.mon_acl.specs.declared.entries.Tag.TheVariants.{UserObj, GroupObj, Other}
 use Rattle.mon_acl.specs.declared.entries.Entry.{Entry}
-use Rattle.mon_acl.specs.declared.text.AclText.{AclText}
-use Rattle.mon_acl.specs.Forms.{list_of_text}
+use Rattle.acl_text.specs.declared.text.AclText.{AclText}
+use Rattle.acl_text.specs.Forms.{list_of_text}
 use Rattle.mon_access.specs.declared.account.Account.{Account}
 use Rattle.mon_access.specs.Matches.{is_owner}
 use Rattle.mon_catalogue.specs.declared.mode.Mode.{Mode}

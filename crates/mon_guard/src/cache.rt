@@ -27,7 +27,7 @@ pub struct CachedDecision {
 #[derive(Drop)]
 pub struct DecisionCache {
     by_names: IndexMap<(Name, Name), CachedDecision>,
-    at_hand: AtHand,
+    last_used: LastUsed,
 }
 
 /// Where a row stands that was used, and where its set stood in the catalogue. No contract sees this: what stands there is
@@ -40,7 +40,7 @@ pub(crate) struct Used {
 
 /// The two rows that were used last, so that a job that copies from set to set hashes no names.
 #[derive(Clone, Copy)]
-struct AtHand {
+struct LastUsed {
     last: Used,
     before: Used,
 }
@@ -59,7 +59,7 @@ impl Model for DecisionCache {
 
 /// What was decided of a request, and whether a row is to be used or kept for the next one like it.
 #[derive(Clone, Copy)]
-pub(crate) struct Judged {
+pub(crate) struct Verdict {
     pub decision: Decision,
     pub next: Next,
 }
@@ -68,20 +68,20 @@ pub(crate) struct Judged {
 /// one is kept, of the set that stands there.
 #[derive(Clone, Copy)]
 pub(crate) enum Next {
-    AtHand,
+    Nothing,
     Use(Used),
     Keep(usize),
 }
 
 /// What a row says, if there is one, and where its set stood.
 #[derive(Clone, Copy)]
-pub(crate) struct Near<'a> {
+pub(crate) struct Lookup<'a> {
     pub ready: Option<&'a CompiledAcl>,
     pub set: usize,
     pub next: Next,
 }
 
-impl AtHand {
+impl LastUsed {
     // A row was used that was none of the two.
     fn put(&mut self, used: Used) {
         self.before = self.last;
@@ -99,7 +99,7 @@ impl DecisionCache {
     {
         DecisionCache {
             by_names: IndexMap::new(alloc),
-            at_hand: AtHand {
+            last_used: LastUsed {
                 last: Used { row: 0, set: 0 },
                 before: Used { row: 0, set: 0 },
             },
@@ -129,22 +129,22 @@ impl DecisionCache {
 
     // What is kept of the account on the set of a name, where it is one of the two rows used last.
     #[inline(always)]
-    pub(crate) fn at_hand(&self, account: &Account, name: &Name) -> Option<Near<'_>>
-        ensures { IfSome result (λ near. IfSome near.ready (λ ready. Says self.now account.now name.now ready.now)) }
+    pub(crate) fn cached(&self, account: &Account, name: &Name) -> Option<Lookup<'_>>
+        ensures { IfSome result (λ lookup. IfSome lookup.ready (λ ready. Says self.now account.now name.now ready.now)) }
     {
-        let AtHand { last, before } = self.at_hand;
+        let LastUsed { last, before } = self.last_used;
         if let Some(ready) = self.at(last.row, account, name) {
-            return Some(Near {
+            return Some(Lookup {
                 ready: Some(ready),
                 set: last.set,
-                next: Next::AtHand,
+                next: Next::Nothing,
             });
         }
         match self.at(before.row, account, name) {
-            Some(ready) => Some(Near {
+            Some(ready) => Some(Lookup {
                 ready: Some(ready),
                 set: before.set,
-                next: Next::AtHand,
+                next: Next::Nothing,
             }),
             None => None,
         }
@@ -153,18 +153,18 @@ impl DecisionCache {
     // What is kept of the account on the set of a name, wherever it stands. A row of an account of this name with other groups is
     // passed over.
     #[inline(never)]
-    fn found(&self, account: &Account, catalogue: &Catalogue, name: &Name) -> Near<'_>
+    fn found(&self, account: &Account, catalogue: &Catalogue, name: &Name) -> Lookup<'_>
         ensures { IfSome result.ready (λ ready. Says self.now account.now name.now ready.now) }
     {
         let set = catalogue.place_of(name).unwrap_or(0);
         let key = (account.name.copy(), name.copy());
         match self.by_names.get_index_of(&key) {
-            Some(row) => Near {
+            Some(row) => Lookup {
                 ready: self.at(row, account, name),
                 set,
                 next: Next::Use(Used { row, set }),
             },
-            None => Near {
+            None => Lookup {
                 ready: None,
                 set,
                 next: Next::Keep(set),
@@ -174,37 +174,37 @@ impl DecisionCache {
 
     // The same, where the two rows used last are looked at first.
     #[inline(always)]
-    pub(crate) fn near(&self, account: &Account, catalogue: &Catalogue, name: &Name) -> Near<'_>
+    pub(crate) fn lookup(&self, account: &Account, catalogue: &Catalogue, name: &Name) -> Lookup<'_>
         ensures { IfSome result.ready (λ ready. Says self.now account.now name.now ready.now) }
     {
-        match self.at_hand(account, name) {
-            Some(near) => near,
+        match self.cached(account, name) {
+            Some(lookup) => lookup,
             None => self.found(account, catalogue, name),
         }
     }
 
     // The access check on the set of a name, for a request of exactly one permission: as a row says, or else made now.
     #[inline(always)]
-    pub(crate) fn judge(
+    pub(crate) fn decide(
         &self,
-        near: Near<'_>,
+        lookup: Lookup<'_>,
         account: &Account,
         name: &Name,
         set: &DataSet,
         request: Perms,
-    ) -> Judged
-        requires near { IfSome near.ready (λ ready. Says self.now account.now name.now ready.now) }
+    ) -> Verdict
+        requires lookup { IfSome lookup.ready (λ ready. Says self.now account.now name.now ready.now) }
         requires one { IsTrue (is_one request) }
         requires fit { FitOn name.now set.now self.now }
         ensures { result.decision ≡ decision_on account.now set.now request }
     {
-        let decision = match near.ready {
+        let decision = match lookup.ready {
             Some(ready) => ready.decide(request),
             None => check(account, &set.owner, &set.group, &set.acl, request),
         };
-        Judged {
+        Verdict {
             decision,
-            next: near.next,
+            next: lookup.next,
         }
     }
 
@@ -215,8 +215,8 @@ impl DecisionCache {
         ensures { MayKeep account.now name.now set.now self.old self.new }
     {
         match next {
-            Next::AtHand => {}
-            Next::Use(used) => self.at_hand.put(used),
+            Next::Nothing => {}
+            Next::Use(used) => self.last_used.put(used),
             Next::Keep(place) => self.keep(account, name, set, place),
         }
     }
@@ -238,7 +238,7 @@ impl DecisionCache {
                 set,
                 ready,
             };
-            self.at_hand.put(Used {
+            self.last_used.put(Used {
                 row: self.by_names.len(),
                 set: place,
             });

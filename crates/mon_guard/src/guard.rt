@@ -3,25 +3,24 @@ ghost use Rattle.std.specs.Prelude.{◌≡◌, ◌≤◌, ◌<◌, ◌-◌, ◌^
 ghost use Rattle.std.specs.Result.{result_map_both};
 ghost use Rattle.mon_text.specs.Lines.{IsLine};
 ghost use Rattle.mon_text.specs.Stops.{Gives, refused_as};
-ghost use Rattle.mon_acl.specs.Forms.{MayTakeMemory};
+ghost use Rattle.acl_text.specs.Forms.{MayTakeMemory};
 ghost use Rattle.mon_access.specs.Matches.{is_owner};
 ghost use Rattle.mon_catalogue.specs.Sets.{create_refusal, find_set};
 ghost use Rattle.mon_catalogue.specs.Changes.{with_acl};
-ghost use Rattle.mon_catalogue.specs.Writing.{Put, Add};
 ghost use Rattle.interaction.specs.declared.answer.Reason.{Reason};
 ghost use Rattle.mon_guard.specs.Deciding.{to_read, to_write, to_execute, decision_on, decided, where_granted};
 ghost use Rattle.mon_guard.specs.Views.{records_lent, acl_lent, name_lent};
 ghost use Rattle.mon_guard.specs.Owning.{owner_denial, removed, acl_set, created, new_list};
-ghost use Rattle.mon_guard.specs.Acting.{Read, Write, End, acted, changed, changing, done, left, told, read_at};
-ghost use Rattle.mon_guard.specs.inner.Judging.{acted_by};
+ghost use Rattle.mon_guard.specs.Acting.{Read, Write, End, acted, changed, done, left, told, read_at};
 ghost use Rattle.mon_guard.specs.Answers.{guard_answer, acl_answer};
 
 use crate::answer::{AclAnswer, Answered, Decided, guard_answer, reason_of};
 use crate::cache::DecisionCache;
 use crate::views::{AclView, NameView};
+use acl_text::{AclText, parse_short};
 use interaction::{Answer, Reason};
 use mon_access::{Account, Decision, check};
-use mon_acl::{Acl, AclError, AclText, Perms};
+use mon_acl::{Acl, AclError, Perms};
 use mon_catalogue::{
     Catalogue, CreateError, DataSet, MOST_RECORD_CHARACTERS, Mode, NoSet, Records, SetFull,
 };
@@ -37,7 +36,7 @@ use std::marker::Model;
 /// that they fit the data sets, and each call keeps that. They change no answer.
 #[derive(Drop)]
 pub struct Guard {
-    rows: DecisionCache,
+    cache: DecisionCache,
 }
 
 impl Model for Guard {
@@ -46,7 +45,7 @@ impl Model for Guard {
 
     ghost Value = { List CachedDecision };
 
-    ghost view = { λ g. g.rows };
+    ghost view = { λ g. g.cache };
 }
 
 impl Guard {
@@ -57,23 +56,23 @@ impl Guard {
         ensures { result ≡ [] }
     {
         Guard {
-            rows: DecisionCache::new(alloc),
+            cache: DecisionCache::new(alloc),
         }
     }
 
     /// How many rows are kept. It takes no memory.
-    pub fn rows(&self) -> u64
+    pub fn cached(&self) -> u64
         ensures value { result ≡ length self.now }
         ensures at_most { length self.now ≤ 1000 }
     {
-        self.rows.len() as u64
+        self.cache.len() as u64
     }
 
     /// Drops all rows but the first `count`. It takes no memory.
     pub fn keep_first(&mut self, count: u64)
         ensures { self.new ≡ take count self.old }
     {
-        self.rows.keep_first(count as usize);
+        self.cache.keep_first(count as usize);
     }
 
     /// What is decided of a request on the set of a name: the access check, or that there is no such set. It takes no
@@ -91,8 +90,12 @@ impl Guard {
     {
         match catalogue.find(name) {
             Some(set) if request.is_one() => {
-                let near = self.rows.near(account, catalogue, name);
-                Decided::of(self.rows.judge(near, account, name, set, request).decision)
+                let lookup = self.cache.lookup(account, catalogue, name);
+                Decided::of(
+                    self.cache
+                        .decide(lookup, account, name, set, request)
+                        .decision,
+                )
             }
             Some(set) => Decided::of(decision_on(account, set, request)),
             None => Decided::NoSet,
@@ -220,7 +223,7 @@ impl Guard {
         match text.read(alloc) {
             Ok(acl) => {
                 let answer = put_acl(catalogue, name, acl);
-                self.rows.forget(name);
+                self.cache.forget(name);
                 Ok(answer)
             }
             Err(Stop::Refused(error)) => Ok(AclAnswer::BadList(error)),
@@ -281,7 +284,7 @@ impl Guard {
         }
         match catalogue.remove(name) {
             Ok(()) => {
-                self.rows.forget(name);
+                self.cache.forget(name);
                 Ok(())
             }
             Err(NoSet) => Err(Reason::NoSet),
@@ -321,13 +324,16 @@ impl Guard {
         ensures rows { Begins self.old self.new }
         ensures rows_stay { OnErr result (self.new ≡ self.old) }
     {
-        let near = self.rows.near(account, catalogue, name);
-        let Some(set) = catalogue.find_near(near.set, name) else {
+        let lookup = self.cache.lookup(account, catalogue, name);
+        let Some(set) = catalogue.find_near(lookup.set, name) else {
             return Ok(Answered::denied(Reason::NoSet, position));
         };
-        let judged = self.rows.judge(near, account, name, set, to_read());
-        let answered = read_by(alloc, judged.decision, set, position)?;
-        self.rows.remember(judged.next, account, name, set);
+        let verdict = self.cache.decide(lookup, account, name, set, to_read());
+        let answered = match verdict.decision {
+            Decision::Granted => read_at(alloc, &set.records, position)?,
+            Decision::Denied(decider) => Answered::denied_by(decider, &set.acl, position),
+        };
+        self.cache.remember(verdict.next, account, name, set);
         Ok(answered)
     }
 
@@ -335,7 +341,7 @@ impl Guard {
     /// takes no memory, and changes no row.
     #[inline(always)]
     #[tactic(auto, using(crate::proofs::Fitting::fitting))]
-    pub fn record_at_hand<'a>(
+    pub fn cached_record<'a>(
         &self,
         account: &Account,
         catalogue: &'a Catalogue,
@@ -347,13 +353,10 @@ impl Guard {
         ensures within { IfSome result (λ line. position < 2 ^ 64 - 1) }
         ensures printable { IfSome result (λ line. IsLine line.now) }
     {
-        let near = self.rows.at_hand(account, name)?;
-        let set = catalogue.find_near(near.set, name)?;
-        match self
-            .rows
-            .judge(near, account, name, set, to_read())
-            .decision
-        {
+        let lookup = self.cache.cached(account, name)?;
+        let set = catalogue.find_near(lookup.set, name)?;
+        let verdict = self.cache.decide(lookup, account, name, set, to_read());
+        match verdict.decision {
             Decision::Granted => set.records.get(position),
             Decision::Denied(_) => None,
         }
@@ -386,13 +389,16 @@ impl Guard {
         ensures rows_stay { OnErr result (self.new ≡ self.old) }
         ensures memory { OnErr result ((acted account.now (Write position line) catalogue.old name.now).answer ≡ Answer.Done) }
     {
-        let near = self.rows.near(account, catalogue, name);
-        let Some(set) = catalogue.find_mut_near(near.set, name) else {
+        let lookup = self.cache.lookup(account, catalogue, name);
+        let Some(set) = catalogue.find_mut_near(lookup.set, name) else {
             return Ok(Answered::denied(Reason::NoSet, position));
         };
-        let judged = self.rows.judge(near, account, name, set, to_write());
-        let answered = write_by(judged.decision, set, position, line)?;
-        self.rows.remember(judged.next, account, name, set);
+        let verdict = self.cache.decide(lookup, account, name, set, to_write());
+        let answered = match verdict.decision {
+            Decision::Granted => write_to(set, position, line)?,
+            Decision::Denied(decider) => Answered::denied_by(decider, &set.acl, position),
+        };
+        self.cache.remember(verdict.next, account, name, set);
         Ok(answered)
     }
 
@@ -412,13 +418,16 @@ impl Guard {
         ensures fit { CacheFits self.new catalogue.new }
         ensures rows { Begins self.old self.new }
     {
-        let near = self.rows.near(account, catalogue, name);
-        let Some(set) = catalogue.find_mut_near(near.set, name) else {
+        let lookup = self.cache.lookup(account, catalogue, name);
+        let Some(set) = catalogue.find_mut_near(lookup.set, name) else {
             return Answered::denied(Reason::NoSet, position);
         };
-        let judged = self.rows.judge(near, account, name, set, to_write());
-        let answered = end_by(judged.decision, set, position);
-        self.rows.remember(judged.next, account, name, set);
+        let verdict = self.cache.decide(lookup, account, name, set, to_write());
+        let answered = match verdict.decision {
+            Decision::Granted => end_at(set, position),
+            Decision::Denied(decider) => Answered::denied_by(decider, &set.acl, position),
+        };
+        self.cache.remember(verdict.next, account, name, set);
         answered
     }
 
@@ -454,7 +463,7 @@ impl Guard {
 fn new_list(alloc: Global) -> Result<Acl, AllocError>
     ensures { IsOkAnd result (λ acl. acl ≡ new_list) }
 {
-    match Acl::parse_short(alloc, b"u::rwx,g::---,o::---") {
+    match parse_short(alloc, b"u::rwx,g::---,o::---") {
         Ok(acl) => Ok(acl),
         Err(_) => Err(AllocError),
     }
@@ -520,52 +529,6 @@ fn read_at(alloc: Global, records: &Records, position: u64) -> Result<Answered, 
     }
 }
 
-// Reads the record at a position, where that was granted.
-fn read_by(
-    alloc: Global,
-    decision: Decision,
-    set: &DataSet,
-    position: u64,
-) -> Result<Answered, AllocError>
-    ensures answer { IfOk result (λ answered. answered ≡ told position (acted_by decision (Read position) set.now)) }
-    ensures memory { OnErr result (IsSome (acted_by decision (Read position) set.now).position) }
-{
-    match decision {
-        Decision::Granted => read_at(alloc, &set.records, position),
-        Decision::Denied(decider) => Ok(Answered::denied(reason_of(decider, &set.acl), position)),
-    }
-}
-
-// Writes a record at a position, where that was granted.
-fn write_by(
-    decision: Decision,
-    set: &mut DataSet,
-    position: u64,
-    line: Line,
-) -> Result<Answered, AllocError>
-    requires short { length line ≤ MOST_RECORD_CHARACTERS }
-    ensures answer { IfOk result (λ answered. answered ≡ told position (acted_by decision (Write position line) set.old)) }
-    ensures set { OnOk result (set.new ≡ left (acted_by decision (Write position line) set.old).change set.old) }
-    ensures unchanged { OnErr result (set.new ≡ set.old) }
-    ensures memory { OnErr result ((acted_by decision (Write position line) set.old).answer ≡ Answer.Done) }
-{
-    match decision {
-        Decision::Granted => write_to(set, position, line),
-        Decision::Denied(decider) => Ok(Answered::denied(reason_of(decider, &set.acl), position)),
-    }
-}
-
-// Cuts off the records at a position and behind it, where that was granted.
-fn end_by(decision: Decision, set: &mut DataSet, position: u64) -> Answered
-    ensures answer { result ≡ told position (acted_by decision (End position) set.old) }
-    ensures set { set.new ≡ left (acted_by decision (End position) set.old).change set.old }
-{
-    match decision {
-        Decision::Granted => end_at(set, position),
-        Decision::Denied(decider) => Answered::denied(reason_of(decider, &set.acl), position),
-    }
-}
-
 // Writes a record by the set's mode.
 fn write_to(set: &mut DataSet, position: u64, line: Line) -> Result<Answered, AllocError>
     requires short { length line ≤ MOST_RECORD_CHARACTERS }
@@ -574,35 +537,12 @@ fn write_to(set: &mut DataSet, position: u64, line: Line) -> Result<Answered, Al
     ensures unchanged { OnErr result (set.new ≡ set.old) }
     ensures memory { OnErr result ((done (Write position line) set.old).answer ≡ Answer.Done) }
 {
-    match set.mode {
-        Mode::Seq => put_at(set, position, line),
-        Mode::Append => append(set, position, line),
-    }
-}
-
-fn put_at(set: &mut DataSet, position: u64, line: Line) -> Result<Answered, AllocError>
-    requires short { length line ≤ MOST_RECORD_CHARACTERS }
-    ensures answer { IfOk result (λ answered. answered ≡ told position (changing (Put position line) set.old.records)) }
-    ensures set { OnOk result (set.new ≡ left (changing (Put position line) set.old.records).change set.old) }
-    ensures unchanged { OnErr result (set.new ≡ set.old) }
-    ensures memory { OnErr result ((changing (Put position line) set.old.records).answer ≡ Answer.Done) }
-{
-    match set.put_at(position, line) {
-        Ok(()) => Ok(Answered::done(set.records.len())),
-        Err(Stop::Refused(SetFull)) => Ok(Answered::full(position)),
-        Err(Stop::Memory) => Err(AllocError),
-    }
-}
-
-fn append(set: &mut DataSet, position: u64, line: Line) -> Result<Answered, AllocError>
-    requires short { length line ≤ MOST_RECORD_CHARACTERS }
-    ensures answer { IfOk result (λ answered. answered ≡ told position (changing (Add line) set.old.records)) }
-    ensures set { OnOk result (set.new ≡ left (changing (Add line) set.old.records).change set.old) }
-    ensures unchanged { OnErr result (set.new ≡ set.old) }
-    ensures memory { OnErr result ((changing (Add line) set.old.records).answer ≡ Answer.Done) }
-{
-    match set.append(line) {
-        Ok(()) => Ok(Answered::done(position)),
+    let (put, next) = match set.mode {
+        Mode::Seq => (set.put_at(position, line), set.records.len()),
+        Mode::Append => (set.append(line), position),
+    };
+    match put {
+        Ok(()) => Ok(Answered::done(next)),
         Err(Stop::Refused(SetFull)) => Ok(Answered::full(position)),
         Err(Stop::Memory) => Err(AllocError),
     }

@@ -11,9 +11,9 @@ pub mod guard;
 pub mod laws;
 pub mod views;
 
+pub use acl_text::AclText;
 pub use answer::{AclAnswer, Answered, Decided};
 pub use cache::{CachedDecision, MOST_CACHED_DECISIONS};
 pub use guard::Guard;
 pub use interaction::{Answer as GuardAnswer, Reason};
-pub use mon_acl::AclText;
 pub use views::{AclView, NameView};

@@ -90,7 +90,7 @@ same_at (suc n) (c ∷ cs) zero z = refl
 same_at (suc n) (c ∷ cs) (suc i) z = same_at n cs i (λ k h. z (suc k) (omega arith))
 
 -- the first seven characters as they are read
-seven : (q : List ℕ) → first_of 7 q ≡ get_or q 0 0 ∷ get_or q 1 0 ∷ get_or q 2 0 ∷ get_or q 3 0 ∷ get_or q 4 0 ∷ get_or q 5 0 ∷ get_or q 6 0 ∷ []
+pub seven : (q : List ℕ) → first_of 7 q ≡ get_or q 0 0 ∷ get_or q 1 0 ∷ get_or q 2 0 ∷ get_or q 3 0 ∷ get_or q 4 0 ∷ get_or q 5 0 ∷ get_or q 6 0 ∷ []
 seven [] = refl
 seven (a ∷ []) = refl
 seven (a ∷ b ∷ []) = refl

@@ -7,9 +7,3 @@ pub mod Runs
 pub mod Loans
 pub mod Looks
 pub mod Changed
-pub mod Apart
-pub mod Named
-mod Catalogs
-pub mod Ordered
-mod Unheard
-pub mod Keeping

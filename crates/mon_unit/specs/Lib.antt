@@ -5,12 +5,4 @@ pub mod Lent
 pub mod Memory
 pub mod Runs
 pub mod Laws
-pub mod AuditWords
-pub mod AuditGrants
-pub mod AuditRequests
-pub mod AuditCatalogs
-pub mod AuditCommands
-pub mod AuditRuns
-pub mod AuditedAnswers
-pub mod AuditLaws
 pub mod inner

@@ -1,5 +1,5 @@
 -- Interactions with who replies by a function (own).
-use Rattle.std.specs.Prelude.{ℕ, zero, suc, List, [], ◌∷◌}
+use Rattle.std.specs.Prelude.{ℕ, suc, List, [], ◌∷◌}
 use Rattle.interaction.specs.Interactions.{Interaction, Returns, Asks}
 use Rattle.interaction.specs.Exchanges.{Exchange}
 use Rattle.interaction.specs.declared.request.Request.{Request}

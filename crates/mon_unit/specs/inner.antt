@@ -1,4 +1,1 @@
 pub mod Settling
-pub mod KeptWords
-pub mod Keeping
-pub mod AuditParts

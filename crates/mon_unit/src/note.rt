@@ -12,6 +12,14 @@ pub enum NoteAct {
     Rewind,
 }
 
+// What a statement attempts on a unit.
+#[derive(Clone, Copy)]
+pub(crate) struct Attempt {
+    pub statement: u64,
+    pub act: NoteAct,
+    pub unit: u64,
+}
+
 /// What it was asked of.
 #[derive(Drop)]
 pub enum NoteTarget {

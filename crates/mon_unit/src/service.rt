@@ -1,12 +1,11 @@
 //! The service that answers a program's requests from units and data sets.
-ghost use Rattle.std.specs.Prelude.{◌≡◌, ◌≤◌, length, take, slice_get, IfOk, OnOk, OnErr, IsSome};
-ghost use Rattle.mon_guard.specs.Acting.{read_at};
+ghost use Rattle.std.specs.Prelude.{◌≡◌, ◌≤◌, length, take, IfOk, OnOk, OnErr};
 ghost use Rattle.mon_guard.specs.Cache.{CacheFits};
-ghost use Rattle.mon_unit.specs.Serving.{serve, moved};
+ghost use Rattle.mon_unit.specs.Serving.{noted};
 ghost use Rattle.mon_unit.specs.Memory.{MayGrow};
-ghost use Rattle.mon_unit.specs.inner.Settling.{reach, asked, settled, target_of, IsNoted};
+ghost use Rattle.mon_unit.specs.inner.Settling.{asked, settled, target_of, IsNoted};
 
-use crate::note::NoteAct;
+use crate::note::{Attempt, NoteAct, Why};
 use crate::tie::Target;
 use crate::units::Units;
 use interaction::{Act, Answer, Reason, Request, Service};
@@ -29,13 +28,6 @@ pub struct UnitService<'a> {
     pub units: &'a mut Units,
 }
 
-// Which statement asks, and of which unit.
-#[derive(Clone, Copy)]
-struct Origin {
-    statement: u64,
-    unit: u64,
-}
-
 impl Service for UnitService<'_> {
     ghost use Rattle.interaction.specs.Fitting.{Fits, IsShort};
     ghost use Rattle.mon_unit.specs.Lent.{UnitAnswers, reach_of};
@@ -56,50 +48,13 @@ impl Service for UnitService<'_> {
     {
         let statement = request.statement;
         match &request.act {
-            Act::Read(unit) => read(
-                self.alloc,
-                self.account,
-                self.guard,
-                self.catalogue,
-                self.units,
-                Origin {
-                    statement,
-                    unit: *unit,
-                },
-            ),
+            Act::Read(unit) => self.read(statement, *unit),
             Act::Write(unit, line) => {
                 let line = line.copy(self.alloc)?;
-                write(
-                    self.account,
-                    self.guard,
-                    self.catalogue,
-                    self.units,
-                    Origin {
-                        statement,
-                        unit: *unit,
-                    },
-                    line,
-                )
+                self.write(statement, *unit, line)
             }
-            Act::Endfile(unit) => end(
-                self.account,
-                self.guard,
-                self.catalogue,
-                self.units,
-                Origin {
-                    statement,
-                    unit: *unit,
-                },
-            ),
-            Act::Rewind(unit) => rewind(
-                self.account,
-                self.catalogue,
-                self.units,
-                Origin {
-                    statement,
-                    unit: *unit,
-                },
-            ),
+            Act::Endfile(unit) => self.end(statement, *unit),
+            Act::Rewind(unit) => self.rewind(statement, *unit),
         }
     }
 
@@ -114,230 +69,184 @@ impl Service for UnitService<'_> {
     {
         let Request { statement, act } = request;
         match act {
-            Act::Write(unit, line) => write(
-                self.account,
-                self.guard,
-                self.catalogue,
-                self.units,
-                Origin { statement, unit },
-                line,
-            ),
+            Act::Write(unit, line) => self.write(statement, unit, line),
             act => self.ask(&Request { statement, act }),
         }
     }
 }
 
-fn read(
-    alloc: Global,
-    account: &Account,
-    guard: &mut Guard,
-    catalogue: &Catalogue,
-    units: &mut Units,
-    origin: Origin,
-) -> Result<Answer, AllocError>
-    requires fit { CacheFits guard.old catalogue.now }
-    ensures served { IfOk result (λ answer. serve account.now (reach catalogue.now units.old) (asked origin.statement (Act.Read origin.unit)) ≡ (answer, reach catalogue.now units.new)) }
-    ensures unchanged { OnErr result (units.new ≡ units.old) }
-    ensures guard { OnErr result (guard.new ≡ guard.old) }
-    ensures fit { CacheFits guard.new catalogue.now }
-    ensures memory { OnErr result (MayGrow account.now (reach catalogue.now units.old) (asked origin.statement (Act.Read origin.unit))) }
-{
-    let Origin { statement, unit } = origin;
-    let Some(tie) = units.tie_at(unit) else {
-        return units.denied(statement, NoteAct::Read, unit, Reason::NoUnit);
-    };
-    let position = tie.position;
-    match &tie.target {
-        Target::Untied => units.denied(statement, NoteAct::Read, unit, Reason::NoUnit),
-        Target::Data => read_deck(alloc, units, unit, position),
-        Target::Spool => units.denied(statement, NoteAct::Read, unit, Reason::SpoolUnit),
-        Target::Set(name) => {
-            if let Some(text) = guard.record_at_hand(account, catalogue, name, position) {
-                let line = Line::in_room(Vec::with_capacity(alloc, text.len())?, text);
-                units.place(unit, position + 1);
-                return Ok(Answer::Got(line));
+impl UnitService<'_> {
+    ghost use Rattle.mon_unit.specs.Lent.{UnitAnswers, reach_of, left_with};
+
+    fn read(&mut self, statement: u64, unit: u64) -> Result<Answer, AllocError>
+        requires fit { CacheFits self.old.guard.now self.old.catalogue.now }
+        ensures answered { IfOk result (λ answer. UnitAnswers self.old (asked statement (Act.Read unit)) answer self.new) }
+        ensures unchanged { OnErr result (self.new ≡ self.old) }
+        ensures fit { CacheFits self.new.guard.now self.new.catalogue.now }
+        ensures memory { OnErr result (MayGrow self.old.account.now (reach_of self.old) (asked statement (Act.Read unit))) }
+    {
+        let attempt = Attempt {
+            statement,
+            act: NoteAct::Read,
+            unit,
+        };
+        let Some(tie) = self.units.tie_at(unit) else {
+            return self.units.denied(attempt, Reason::NoUnit);
+        };
+        let position = tie.position;
+        match &tie.target {
+            Target::Untied => self.units.denied(attempt, Reason::NoUnit),
+            Target::Data => self.units.read_deck(self.alloc, unit, position),
+            Target::Spool => self.units.denied(attempt, Reason::SpoolUnit),
+            Target::Set(name) => {
+                let known = self
+                    .guard
+                    .cached_record(self.account, self.catalogue, name, position);
+                if let Some(text) = known {
+                    let line = Line::in_room(Vec::with_capacity(self.alloc, text.len())?, text);
+                    self.units.place(unit, position + 1);
+                    return Ok(Answer::Got(line));
+                }
+                let cached = self.guard.cached();
+                let told = self
+                    .guard
+                    .read(self.alloc, self.account, self.catalogue, name, position)?;
+                self.settle(cached, attempt, told)
             }
-            let rows = guard.rows();
-            let told = guard.read(alloc, account, catalogue, name, position)?;
-            settle(guard, rows, units, origin, NoteAct::Read, told)
         }
     }
-}
 
-fn write(
-    account: &Account,
-    guard: &mut Guard,
-    catalogue: &mut Catalogue,
-    units: &mut Units,
-    origin: Origin,
-    line: Line,
-) -> Result<Answer, AllocError>
-    requires short { length line ≤ MOST_RECORD_CHARACTERS }
-    requires fit { CacheFits guard.old catalogue.old }
-    ensures served { IfOk result (λ answer. serve account.now (reach catalogue.old units.old) (asked origin.statement (Act.Write origin.unit line)) ≡ (answer, reach catalogue.new units.new)) }
-    ensures sets { OnErr result (catalogue.new ≡ catalogue.old) }
-    ensures unchanged { OnErr result (units.new ≡ units.old) }
-    ensures guard { OnErr result (guard.new ≡ guard.old) }
-    ensures fit { CacheFits guard.new catalogue.new }
-    ensures memory { OnErr result (MayGrow account.now (reach catalogue.old units.old) (asked origin.statement (Act.Write origin.unit line))) }
-{
-    let Origin { statement, unit } = origin;
-    let Some(tie) = units.tie_at(unit) else {
-        return units.denied(statement, NoteAct::Write, unit, Reason::NoUnit);
-    };
-    let position = tie.position;
-    match &tie.target {
-        Target::Untied => units.denied(statement, NoteAct::Write, unit, Reason::NoUnit),
-        Target::Data => units.denied(statement, NoteAct::Write, unit, Reason::InStream),
-        Target::Spool => units.put_spool(line),
-        Target::Set(name) => {
-            let rows = guard.rows();
-            let told = guard.write(account, catalogue, name, position, line)?;
-            settle(guard, rows, units, origin, NoteAct::Write, told)
+    fn write(&mut self, statement: u64, unit: u64, line: Line) -> Result<Answer, AllocError>
+        requires short { length line ≤ MOST_RECORD_CHARACTERS }
+        requires fit { CacheFits self.old.guard.now self.old.catalogue.now }
+        ensures answered { IfOk result (λ answer. UnitAnswers self.old (asked statement (Act.Write unit line)) answer self.new) }
+        ensures unchanged { OnErr result (self.new ≡ self.old) }
+        ensures fit { CacheFits self.new.guard.now self.new.catalogue.now }
+        ensures memory { OnErr result (MayGrow self.old.account.now (reach_of self.old) (asked statement (Act.Write unit line))) }
+    {
+        let attempt = Attempt {
+            statement,
+            act: NoteAct::Write,
+            unit,
+        };
+        let Some(tie) = self.units.tie_at(unit) else {
+            return self.units.denied(attempt, Reason::NoUnit);
+        };
+        let position = tie.position;
+        match &tie.target {
+            Target::Untied => self.units.denied(attempt, Reason::NoUnit),
+            Target::Data => self.units.denied(attempt, Reason::InStream),
+            Target::Spool => self.units.put_spool(line),
+            Target::Set(name) => {
+                let cached = self.guard.cached();
+                let told = self
+                    .guard
+                    .write(self.account, self.catalogue, name, position, line)?;
+                self.settle(cached, attempt, told)
+            }
         }
     }
-}
 
-fn end(
-    account: &Account,
-    guard: &mut Guard,
-    catalogue: &mut Catalogue,
-    units: &mut Units,
-    origin: Origin,
-) -> Result<Answer, AllocError>
-    requires fit { CacheFits guard.old catalogue.old }
-    ensures served { IfOk result (λ answer. serve account.now (reach catalogue.old units.old) (asked origin.statement (Act.Endfile origin.unit)) ≡ (answer, reach catalogue.new units.new)) }
-    ensures sets { OnErr result (catalogue.new ≡ catalogue.old) }
-    ensures unchanged { OnErr result (units.new ≡ units.old) }
-    ensures guard { OnErr result (guard.new ≡ guard.old) }
-    ensures fit { CacheFits guard.new catalogue.new }
-    ensures memory { OnErr result (MayGrow account.now (reach catalogue.old units.old) (asked origin.statement (Act.Endfile origin.unit))) }
-{
-    let Origin { statement, unit } = origin;
-    let Some(tie) = units.tie_at(unit) else {
-        return units.denied(statement, NoteAct::Endfile, unit, Reason::NoUnit);
-    };
-    let position = tie.position;
-    match &tie.target {
-        Target::Untied => units.denied(statement, NoteAct::Endfile, unit, Reason::NoUnit),
-        Target::Data => units.denied(statement, NoteAct::Endfile, unit, Reason::InStream),
-        Target::Spool => units.denied(statement, NoteAct::Endfile, unit, Reason::SpoolUnit),
-        Target::Set(name) => {
-            let rows = guard.rows();
-            let told = guard.end(account, catalogue, name, position);
-            settle(guard, rows, units, origin, NoteAct::Endfile, told)
+    fn end(&mut self, statement: u64, unit: u64) -> Result<Answer, AllocError>
+        requires fit { CacheFits self.old.guard.now self.old.catalogue.now }
+        ensures answered { IfOk result (λ answer. UnitAnswers self.old (asked statement (Act.Endfile unit)) answer self.new) }
+        ensures unchanged { OnErr result (self.new ≡ self.old) }
+        ensures fit { CacheFits self.new.guard.now self.new.catalogue.now }
+        ensures memory { OnErr result (MayGrow self.old.account.now (reach_of self.old) (asked statement (Act.Endfile unit))) }
+    {
+        let attempt = Attempt {
+            statement,
+            act: NoteAct::Endfile,
+            unit,
+        };
+        let Some(tie) = self.units.tie_at(unit) else {
+            return self.units.denied(attempt, Reason::NoUnit);
+        };
+        let position = tie.position;
+        match &tie.target {
+            Target::Untied => self.units.denied(attempt, Reason::NoUnit),
+            Target::Data => self.units.denied(attempt, Reason::InStream),
+            Target::Spool => self.units.denied(attempt, Reason::SpoolUnit),
+            Target::Set(name) => {
+                let cached = self.guard.cached();
+                let told = self.guard.end(self.account, self.catalogue, name, position);
+                self.settle(cached, attempt, told)
+            }
         }
     }
-}
 
-fn rewind(
-    account: &Account,
-    catalogue: &Catalogue,
-    units: &mut Units,
-    origin: Origin,
-) -> Result<Answer, AllocError>
-    ensures served { IfOk result (λ answer. serve account.now (reach catalogue.now units.old) (asked origin.statement (Act.Rewind origin.unit)) ≡ (answer, reach catalogue.now units.new)) }
-    ensures unchanged { OnErr result (units.new ≡ units.old) }
-    ensures memory { OnErr result (MayGrow account.now (reach catalogue.now units.old) (asked origin.statement (Act.Rewind origin.unit))) }
-{
-    let Origin { statement, unit } = origin;
-    let Some(tie) = units.tie_at(unit) else {
-        return units.denied(statement, NoteAct::Rewind, unit, Reason::NoUnit);
-    };
-    match &tie.target {
-        Target::Untied => units.denied(statement, NoteAct::Rewind, unit, Reason::NoUnit),
-        Target::Spool => Ok(Answer::Done),
-        Target::Data | Target::Set(_) => {
-            units.place(unit, 0);
-            Ok(Answer::Done)
+    fn rewind(&mut self, statement: u64, unit: u64) -> Result<Answer, AllocError>
+        ensures answered { IfOk result (λ answer. UnitAnswers self.old (asked statement (Act.Rewind unit)) answer self.new) }
+        ensures unchanged { OnErr result (self.new ≡ self.old) }
+        ensures guard { self.new.guard.now ≡ self.old.guard.now }
+        ensures memory { OnErr result (MayGrow self.old.account.now (reach_of self.old) (asked statement (Act.Rewind unit))) }
+    {
+        let attempt = Attempt {
+            statement,
+            act: NoteAct::Rewind,
+            unit,
+        };
+        let Some(tie) = self.units.tie_at(unit) else {
+            return self.units.denied(attempt, Reason::NoUnit);
+        };
+        match &tie.target {
+            Target::Untied => self.units.denied(attempt, Reason::NoUnit),
+            Target::Spool => Ok(Answer::Done),
+            Target::Data | Target::Set(_) => {
+                self.units.place(unit, 0);
+                Ok(Answer::Done)
+            }
         }
     }
-}
 
-// The line at a position of the deck's data, and the position behind it.
-fn read_deck(
-    alloc: Global,
-    units: &mut Units,
-    unit: u64,
-    position: u64,
-) -> Result<Answer, AllocError>
-    ensures answer { IfOk result (λ answer. answer ≡ (read_at position (slice_get units.old.deck position)).answer) }
-    ensures read { OnOk result (units.new ≡ moved unit (read_at position (slice_get units.old.deck position)).position units.old) }
-    ensures unchanged { OnErr result (units.new ≡ units.old) }
-    ensures memory { OnErr result (IsSome (slice_get units.old.deck position)) }
-{
-    match units.deck_line(alloc, position)? {
-        Some(line) => {
-            units.place(unit, position + 1);
-            Ok(Answer::Got(line))
+    // Answers what the guard told of a data set. What was done is answered here, and all else by a call, since few requests are noted.
+    #[inline(always)]
+    fn settle(
+        &mut self,
+        cached: u64,
+        attempt: Attempt,
+        told: Answered,
+    ) -> Result<Answer, AllocError>
+        ensures answer { IfOk result (λ answer. answer ≡ told.answer) }
+        ensures settled { OnOk result (self.new ≡ left_with self.old self.old.guard.now (settled attempt.statement attempt.act (target_of attempt.unit self.old.units.now) attempt.unit told self.old.units.now)) }
+        ensures cache { OnErr result (self.new ≡ left_with self.old (take cached self.old.guard.now) self.old.units.now) }
+        ensures memory { OnErr result (IsNoted told.answer) }
+    {
+        let Answered { answer, position } = told;
+        match answer {
+            Answer::Done => {
+                self.units.place(attempt.unit, position);
+                Ok(Answer::Done)
+            }
+            Answer::Got(line) => {
+                self.units.place(attempt.unit, position);
+                Ok(Answer::Got(line))
+            }
+            answer => self.note(cached, attempt, answer),
         }
-        None => Ok(Answer::EndOfFile),
     }
-}
 
-// Answers what the guard told of a data set. What was done is answered here, and all else by a call, since few requests are noted.
-#[inline(always)]
-fn settle(
-    guard: &mut Guard,
-    rows: u64,
-    units: &mut Units,
-    origin: Origin,
-    act: NoteAct,
-    told: Answered,
-) -> Result<Answer, AllocError>
-    ensures answer { IfOk result (λ answer. answer ≡ told.answer) }
-    ensures settled { OnOk result (units.new ≡ settled origin.statement act (target_of origin.unit units.old) origin.unit told units.old) }
-    ensures unchanged { OnErr result (units.new ≡ units.old) }
-    ensures memory { OnErr result (IsNoted told.answer) }
-    ensures kept { OnOk result (guard.new ≡ guard.old) }
-    ensures rows { OnErr result (guard.new ≡ take rows guard.old) }
-{
-    let Answered { answer, position } = told;
-    match answer {
-        Answer::Done => {
-            units.place(origin.unit, position);
-            Ok(Answer::Done)
-        }
-        Answer::Got(line) => {
-            units.place(origin.unit, position);
-            Ok(Answer::Got(line))
-        }
-        answer => settle_noted(
-            guard,
-            rows,
-            units,
-            origin,
-            act,
-            Answered { answer, position },
-        ),
-    }
-}
-
-// The same, noted where it is to be. Where the growth for the note is refused, the guard is left with the rows that it had
-// before, so that the whole request leaves nothing behind.
-#[inline(never)]
-fn settle_noted(
-    guard: &mut Guard,
-    rows: u64,
-    units: &mut Units,
-    origin: Origin,
-    act: NoteAct,
-    told: Answered,
-) -> Result<Answer, AllocError>
-    ensures answer { IfOk result (λ answer. answer ≡ told.answer) }
-    ensures settled { OnOk result (units.new ≡ settled origin.statement act (target_of origin.unit units.old) origin.unit told units.old) }
-    ensures unchanged { OnErr result (units.new ≡ units.old) }
-    ensures memory { OnErr result (IsNoted told.answer) }
-    ensures kept { OnOk result (guard.new ≡ guard.old) }
-    ensures rows { OnErr result (guard.new ≡ take rows guard.old) }
-{
-    let Origin { statement, unit } = origin;
-    let target = units.note_target(unit);
-    match units.settle(statement, act, target, unit, told) {
-        Ok(answer) => Ok(answer),
-        Err(AllocError) => {
-            guard.keep_first(rows);
-            Err(AllocError)
+    // Notes an answer where it is to be noted. Where the growth for the note is refused, the guard is left with the rows that it had
+    // before, so that the whole request leaves nothing behind.
+    #[inline(never)]
+    fn note(&mut self, cached: u64, attempt: Attempt, answer: Answer) -> Result<Answer, AllocError>
+        ensures answer { IfOk result (λ given. given ≡ answer) }
+        ensures noted { OnOk result (self.new ≡ left_with self.old self.old.guard.now (noted attempt.statement attempt.act (target_of attempt.unit self.old.units.now) answer self.old.units.now)) }
+        ensures cache { OnErr result (self.new ≡ left_with self.old (take cached self.old.guard.now) self.old.units.now) }
+        ensures memory { OnErr result (IsNoted answer) }
+    {
+        let why = match &answer {
+            Answer::Denied(reason) => Why::Denied(reason.copy()),
+            Answer::Full => Why::Full,
+            Answer::Done | Answer::Got(_) | Answer::EndOfFile => return Ok(answer),
+        };
+        let target = self.units.note_target(attempt.unit);
+        match self.units.note(attempt, target, why) {
+            Ok(()) => Ok(answer),
+            Err(AllocError) => {
+                self.guard.keep_first(cached);
+                Err(AllocError)
+            }
         }
     }
 }

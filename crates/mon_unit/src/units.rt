@@ -1,22 +1,22 @@
 //! A job's units.
-ghost use Rattle.std.specs.Prelude.{◌≡◌, ◌<◌, ◌-◌, ◌^◌, [], ◌∷◌, ◌++◌, OnOk, OnErr, OnSome, IfOk, IsSome, slice_get};
+ghost use Rattle.std.specs.Prelude.{◌≡◌, [], ◌∷◌, ◌++◌, OnOk, OnErr, IfOk, IsSome, slice_get};
 ghost use Rattle.std.specs.List.{list_any};
 ghost use Rattle.std.specs.Option.{option_copied};
 ghost use Rattle.std.specs.Result.{result_err};
-ghost use Rattle.mon_unit.specs.Tying.{new_units, tie_refusal, tie_at, tied_to, first_target, with_tie, is_a_set, share, meets, is_set};
-ghost use Rattle.mon_unit.specs.Serving.{noted, with_note};
-ghost use Rattle.mon_unit.specs.inner.Settling.{placed, settled, target_of, IsNoted};
+ghost use Rattle.mon_guard.specs.Acting.{read_at};
+ghost use Rattle.mon_unit.specs.Tying.{new_units, tie_refusal, tied_to, first_target, with_tie, share, meets, is_set};
+ghost use Rattle.mon_unit.specs.Serving.{moved, noted, with_note};
+ghost use Rattle.mon_unit.specs.inner.Settling.{placed, target_of};
 
 use crate::lists::Notes;
-use crate::note::{Note, NoteAct, NoteTarget, Why};
+use crate::note::{Attempt, Note, NoteTarget, Why};
 use crate::tie::{Target, Tie};
 use interaction::{Answer, Reason};
-use mon_catalogue::PackedLines;
-use mon_guard::Answered;
 use mon_text::{Line, Lines, Name};
+use packed_lines::PackedLines;
 use std::alloc::{AllocError, Global};
 use std::marker::Model;
-use thiserror::Error;
+use unit_ties::UnitError;
 
 /// How many ties a job's units have: units are 1 to 99, and the number of a unit is the place of its tie.
 const TIES: u64 = 100;
@@ -39,17 +39,6 @@ impl Model for Units {
     ghost view = { λ u. record { ties = u.ties.items; deck = u.deck; spool = u.spool; notes = u.notes } };
 
     ghost invariant = { λ u. length u.ties.items ≡ 100 };
-}
-
-/// Why a unit could not be tied to a data set.
-#[derive(Clone, Copy, Debug, Error)]
-pub enum UnitError {
-    /// Units are 1 to 99.
-    #[error("U2 UNIT {0}")]
-    UnitRange(u64),
-    /// The unit is tied to a data set.
-    #[error("U1 UNIT {0}")]
-    UnitTwice(u64),
 }
 
 impl Units {
@@ -91,7 +80,7 @@ impl Units {
         if unit == 0 || unit >= TIES {
             return Err(UnitError::UnitRange(unit));
         }
-        if self.is_tied(unit) {
+        if let Target::Set(_) = &self.ties[unit as usize].target {
             return Err(UnitError::UnitTwice(unit));
         }
         self.ties[unit as usize] = Tie {
@@ -126,7 +115,7 @@ impl Units {
     pub fn shares(&self, other: &Units) -> bool
         ensures { result ≡ share self.now other.now }
     {
-        shares_in(&self.ties, &other.ties)
+        self.ties.iter().any(|tie| meets(&tie.target, &other.ties))
     }
 
     /// The tie of a unit. Where there is no such unit there is none, which is as if it were tied to nothing. It takes no memory.
@@ -136,19 +125,24 @@ impl Units {
         self.ties.get(unit as usize)
     }
 
-    // The line at a position of the deck's data, where there is one: then the next position is a number, too.
-    pub(crate) fn deck_line(&self, alloc: Global, position: u64) -> Result<Option<Line>, AllocError>
-        ensures line { IfOk result (λ line. line ≡ slice_get self.now.deck position) }
-        ensures within { IfOk result (λ line. OnSome line (position < 2 ^ 64 - 1)) }
-        ensures memory { OnErr result (IsSome (slice_get self.now.deck position)) }
+    // Reads the line at a position of the deck's data.
+    pub(crate) fn read_deck(
+        &mut self,
+        alloc: Global,
+        unit: u64,
+        position: u64,
+    ) -> Result<Answer, AllocError>
+        ensures answer { IfOk result (λ answer. answer ≡ (read_at position (slice_get self.old.deck position)).answer) }
+        ensures read { OnOk result (self.new ≡ moved unit (read_at position (slice_get self.old.deck position)).position self.old) }
+        ensures unchanged { OnErr result (self.new ≡ self.old) }
+        ensures memory { OnErr result (IsSome (slice_get self.old.deck position)) }
     {
-        match self.deck.as_slice().get(position as usize) {
-            Some(line) => {
-                let line = line.copy(alloc)?;
-                Ok(Some(line))
-            }
-            None => Ok(None),
-        }
+        let Some(line) = self.deck.as_slice().get(position as usize) else {
+            return Ok(Answer::EndOfFile);
+        };
+        let line = line.copy(alloc)?;
+        self.place(unit, position + 1);
+        Ok(Answer::Got(line))
     }
 
     // The unit's next record is at the position.
@@ -171,39 +165,31 @@ impl Units {
     }
 
     // Notes what was not done.
-    fn note(
+    pub(crate) fn note(
         &mut self,
-        statement: u64,
-        act: NoteAct,
+        attempt: Attempt,
         target: NoteTarget,
         why: Why,
     ) -> Result<(), AllocError>
-        ensures noted { OnOk result (self.new ≡ with_note (record { statement = statement; act = act; target = target; why = why }) self.old) }
+        ensures noted { OnOk result (self.new ≡ with_note (record { statement = attempt.statement; act = attempt.act; target = target; why = why }) self.old) }
         ensures unchanged { OnErr result (self.new ≡ self.old) }
     {
         self.notes.push(Note {
-            statement,
-            act,
+            statement: attempt.statement,
+            act: attempt.act,
             target,
             why,
-        })?;
-        Ok(())
+        })
     }
 
     // What is denied at a unit that is tied to no data set.
-    pub(crate) fn denied(
-        &mut self,
-        statement: u64,
-        act: NoteAct,
-        unit: u64,
-        reason: Reason,
-    ) -> Result<Answer, AllocError>
+    pub(crate) fn denied(&mut self, attempt: Attempt, reason: Reason) -> Result<Answer, AllocError>
         ensures answer { IfOk result (λ answer. answer ≡ Answer.Denied reason) }
-        ensures noted { OnOk result (self.new ≡ noted statement act (NoteTarget.Unit unit) (Answer.Denied reason) self.old) }
+        ensures noted { OnOk result (self.new ≡ noted attempt.statement attempt.act (NoteTarget.Unit attempt.unit) (Answer.Denied reason) self.old) }
         ensures unchanged { OnErr result (self.new ≡ self.old) }
     {
         let why = Why::Denied(reason.copy());
-        self.note(statement, act, NoteTarget::Unit(unit), why)?;
+        self.note(attempt, NoteTarget::Unit(attempt.unit), why)?;
         Ok(Answer::Denied(reason))
     }
 
@@ -212,54 +198,12 @@ impl Units {
         ensures { result ≡ target_of unit self.now }
     {
         match self.tie_at(unit) {
-            Some(
-                Tie {
-                    target: Target::Set(name),
-                    ..
-                },
-            ) => NoteTarget::Set(name.copy()),
-            _ => NoteTarget::Unit(unit),
+            Some(tie) => match &tie.target {
+                Target::Set(name) => NoteTarget::Set(name.copy()),
+                Target::Untied | Target::Data | Target::Spool => NoteTarget::Unit(unit),
+            },
+            None => NoteTarget::Unit(unit),
         }
-    }
-
-    // What the guard told: it is noted where it was not done, and else the position is kept.
-    pub(crate) fn settle(
-        &mut self,
-        statement: u64,
-        act: NoteAct,
-        target: NoteTarget,
-        unit: u64,
-        told: Answered,
-    ) -> Result<Answer, AllocError>
-        ensures answer { IfOk result (λ answer. answer ≡ told.answer) }
-        ensures settled { OnOk result (self.new ≡ settled statement act target unit told self.old) }
-        ensures unchanged { OnErr result (self.new ≡ self.old) }
-        ensures memory { OnErr result (IsNoted told.answer) }
-    {
-        let Answered { answer, position } = told;
-        match &answer {
-            Answer::Done | Answer::Got(_) => self.place(unit, position),
-            Answer::EndOfFile => {}
-            Answer::Denied(reason) => {
-                let why = Why::Denied(reason.copy());
-                self.note(statement, act, target, why)?;
-            }
-            Answer::Full => self.note(statement, act, target, Why::Full)?,
-        }
-        Ok(answer)
-    }
-
-    // Whether a unit is tied to a data set.
-    fn is_tied(&self, unit: u64) -> bool
-        ensures { result ≡ is_a_set (tie_at self.now unit).target }
-    {
-        matches!(
-            self.ties.get(unit as usize),
-            Some(Tie {
-                target: Target::Set(_),
-                ..
-            })
-        )
     }
 }
 
@@ -276,12 +220,7 @@ fn first_target(unit: u64) -> Target
     }
 }
 
-fn shares_in(ties: &[Tie], others: &[Tie]) -> bool
-    ensures { result ≡ list_any (λ tie. meets tie.target others.now) ties.now }
-{
-    ties.iter().any(|tie| meets(&tie.target, others))
-}
-
+// Whether a data set that is tied is tied in others, too.
 fn meets(target: &Target, ties: &[Tie]) -> bool
     ensures { result ≡ meets target.now ties.now }
 {

@@ -1,18 +1,9 @@
 -- Texts that are admitted make a good deck.
-use Rattle.std.proofs.Common.{ℕ, ◌+◌, List, [], ◌∷◌, ◌++◌, refl, ap, ◌∙◌, arith, append_assoc}
+use Rattle.std.proofs.Common.{ℕ, ◌+◌, List, [], ◌∷◌, ◌++◌, refl, ap, ◌∙◌, append_assoc}
 use Rattle.std.specs.Prelude.{codes}
-use Rattle.mon_access.specs.declared.account.Account.{Account}
-use Rattle.mon_access.specs.Accounts.{HaveDifferentNames}
-use Rattle.mon_catalogue.specs.declared.version.Version.TheVariants.{Two}
-use Rattle.mon_catalogue.specs.Sets.{Sets}
-use Rattle.mon_catalogue.specs.Stored.{IsStored, ArePrintable}
-use Rattle.mon_catalogue.specs.Text.{catalogue_lines}
-use Rattle.mon_catalogue.proofs.Back.{lines_spell}
-use Rattle.mon_catalogue.proofs.Printable.{catalogue_lines_show}
 use Rattle.deck_syntax.specs.Decks.{Asked, Drains}
 use Rattle.deck_syntax.specs.Sections.{Closed, asked_then, stream_section}
-use Rattle.deck_syntax.specs.Spelling.{SpellsAccounts, IsDeck}
-use Rattle.deck_syntax.proofs.ComingBack.{lines_fit}
+use Rattle.deck_syntax.proofs.ComingBack.{good_deck}
 use Rattle.deck_syntax.proofs.Complete.{deck_taken}
 use Rattle.preflight.specs.Rounds.{Handed, AreHanded, stream_lines, stream_asks, round_lines, round_deck}
 use Rattle.preflight.specs.Laws.{NeverRefused}
@@ -40,36 +31,7 @@ texts_go (text ∷ texts) n (is, are) =
     both_go n text.lines (codes "$DRAIN" ∷ stream_lines texts) text.asked (Drains ∷ stream_asks texts) (spelled_goes text.asked text.lines n is.spelled)
     (λ m. drained m (stream_lines texts) (stream_asks texts) (λ k. texts_go texts k are))
 
-module _ (table : List (List ℕ)) (accounts : List Account) (sets : Sets) (texts : List Handed) (are : SpellsAccounts table accounts) (differ : HaveDifferentNames accounts)
-    (stored : IsStored sets) (printable : ArePrintable sets) (handed : AreHanded texts) where
-  good : IsDeck (round_lines table sets texts) (round_deck accounts sets texts)
-  good = record {
-    blanks = [];
-    accounts_card = codes "$ACCOUNTS";
-    table = table;
-    catalogue_card = codes "$CATALOGUE 2";
-    version = Two;
-    text = catalogue_lines sets;
-    stream_card = codes "$STREAM";
-    stream = stream_lines texts;
-    stop_card = codes "$STOP";
-    unread = [];
-    lines_are = refl;
-    blanks_are = tt;
-    accounts_begin = record { word = codes "$ACCOUNTS"; line_is = (omega arith, refl); words_are = refl; names_it = refl };
-    table_is = are;
-    names_differ = differ;
-    catalogue_begins = record { word = codes "$CATALOGUE"; line_is = (omega arith, refl); words_are = refl; names_it = refl };
-    at_once = refl;
-    text_is = lines_spell sets stored;
-    text_fits = lines_fit sets stored.1 (catalogue_lines_show sets stored.1 printable);
-    stream_begins = record { word = codes "$STREAM"; line_is = (omega arith, refl); words_are = refl; names_it = refl };
-    stream_is = goes_spelled (stream_lines texts) 1 (stream_asks texts) (texts_go texts 1 handed);
-    stops = record { word = codes "$STOP"; line_is = (omega arith, refl); words_are = refl; names_it = refl };
-    ends = refl;
-  }
-
 pub never_refused : NeverRefused
 never_refused table accounts sets texts are differ stored printable handed =
-    let is = good table accounts sets texts are differ stored printable handed in
+    let is = good_deck table accounts sets are differ stored printable (stream_lines texts) (stream_asks texts) (goes_spelled (stream_lines texts) 1 (stream_asks texts) (texts_go texts 1 handed)) in
     (is, deck_taken (round_lines table sets texts) (round_deck accounts sets texts) is, round_reads table accounts sets texts are stored printable handed)

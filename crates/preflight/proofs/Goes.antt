@@ -1,16 +1,14 @@
 -- Lines that ask for this, whatever follows them, with nothing open behind them.
-use Rattle.std.proofs.Common.{◌≡◌, ℕ, ◌+◌, Bool, if◌then◌else◌, List, ◌∷◌, ◌++◌, None, sym, ap, ◌∙◌, append_assoc}
+use Rattle.std.proofs.Common.{◌≡◌, ℕ, ◌+◌, List, ◌∷◌, ◌++◌, None, refl, sym, ap, ◌∙◌, append_assoc}
 use Rattle.std.specs.Prelude.{codes}
-use Rattle.std.specs.Option.{option_or}
-use Rattle.deck_syntax.specs.declared.request.Request.{Request}
-use Rattle.deck_syntax.specs.declared.list.OpenList.{OpenList}
-use Rattle.deck_syntax.specs.declared.job.OpenJob.{OpenJob}
-use Rattle.deck_syntax.specs.Decks.{Cards, Asked, Commands, Enters}
-use Rattle.deck_syntax.specs.Refusing.{line_refusal, is_dollar_line}
-use Rattle.deck_syntax.specs.Jobs.{job_line_refusal, ends_job, after_job_line}
-use Rattle.deck_syntax.specs.Requests.{with_line, set_acl_of, stream_refusal, request_on, list_line_refusal}
-use Rattle.deck_syntax.specs.Sections.{Open, Closed, InList, InJob, asked_then, requested, stream_section}
+use Rattle.deck_reader.specs.declared.stream_reader.Event.{Event}
+use Rattle.deck_reader.specs.declared.stream_reader.Event.TheVariants as event
+use Rattle.deck_reader.specs.Events.{refusal_in, event_in, open_after, event_then}
+use Rattle.deck_reader.proofs.Following.{by_event}
+use Rattle.deck_syntax.specs.Decks.{Cards, Asked}
+use Rattle.deck_syntax.specs.Sections.{Open, Closed, stream_section}
 use Rattle.deck_syntax.proofs.Shorthand.{goes_on}
+use Rattle.preflight.specs.Examined.{asks_of}
 
 -- the card that ends a deck
 abbrev pub stop : List ℕ
@@ -36,29 +34,21 @@ further n p pending line ls front asked is goes = λ more.
 
 -- ---- one line
 
--- a good line of the stream
-pub stepped : (line : List ℕ) (n : ℕ) (request : Request) → option_or (line_refusal 200 line) (stream_refusal line) ≡ None → request_on line ≡ request
-    → (more : List (List ℕ)) → stream_section n Closed (line ∷ more) ≡ requested request (λ pending. stream_section (n + 1) pending more)
-stepped line n request e r more =
-    ap (λ o. goes_on o n (requested (request_on line) (λ pending. stream_section (n + 1) pending more))) e
-    ∙ ap (λ (q : Request). requested q (λ pending. stream_section (n + 1) pending more)) r
+-- what is asked behind an event, but for the deck's end
+asked_behind : (e : Event) (later : Cards) → (e ≡ event.Stops → ⊥) → event_then e later ≡ with_asked (asks_of e) later
+asked_behind event.Nothing later goes = refl
+asked_behind (event.Opens account) later goes = refl
+asked_behind (event.Asks command) later goes = refl
+asked_behind (event.Enters job) later goes = refl
+asked_behind (event.Turns turn) later goes = refl
+asked_behind event.Drains later goes = refl
+asked_behind event.Stops later goes = absurd (goes refl)
 
--- a good line of a list
-pub list_stepped : (list : OpenList) (line : List ℕ) (n : ℕ) (ends : Bool) → list_line_refusal line ≡ None → is_dollar_line line ≡ ends
-    → (more : List (List ℕ)) → stream_section n (InList list) (line ∷ more)
-    ≡ (if ends then asked_then (Commands (set_acl_of list)) (stream_section (n + 1) Closed more) else stream_section (n + 1) (InList (with_line list line)) more)
-list_stepped list line n ends e d more =
-    ap (λ o. goes_on o n (rest (is_dollar_line line))) e ∙ ap rest d
-  where
-    rest : Bool → Cards
-    rest b = if b then asked_then (Commands (set_acl_of list)) (stream_section (n + 1) Closed more) else stream_section (n + 1) (InList (with_line list line)) more
+module _ (p : Open) (line : List ℕ) (n : ℕ) where
+  -- a good line
+  pub good_line : refusal_in p line ≡ None → (more : List (List ℕ)) → stream_section n p (line ∷ more) ≡ event_then (event_in p line) (stream_section (n + 1) (open_after p line) more)
+  good_line good more = by_event p n line more ∙ ap (λ r. goes_on r n (event_then (event_in p line) (stream_section (n + 1) (open_after p line) more))) good
 
--- a good line of a job
-pub job_stepped : (job : OpenJob) (line : List ℕ) (n : ℕ) (ends : Bool) → job_line_refusal job line ≡ None → ends_job line ≡ ends
-    → (more : List (List ℕ)) → stream_section n (InJob job) (line ∷ more)
-    ≡ (if ends then asked_then (Enters job) (stream_section (n + 1) Closed more) else stream_section (n + 1) (InJob (after_job_line job line)) more)
-job_stepped job line n ends e d more =
-    ap (λ o. goes_on o n (rest (ends_job line))) e ∙ ap rest d
-  where
-    rest : Bool → Cards
-    rest b = if b then asked_then (Enters job) (stream_section (n + 1) Closed more) else stream_section (n + 1) (InJob (after_job_line job line)) more
+  pub stepped : refusal_in p line ≡ None → (event_in p line ≡ event.Stops → ⊥)
+      → (more : List (List ℕ)) → stream_section n p (line ∷ more) ≡ with_asked (asks_of (event_in p line)) (stream_section (n + 1) (open_after p line) more)
+  stepped good goes more = good_line good more ∙ asked_behind (event_in p line) (stream_section (n + 1) (open_after p line) more) goes

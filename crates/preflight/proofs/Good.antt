@@ -1,24 +1,31 @@
 -- A text that goes with whatever follows it, and asks for its account alone, is admitted.
-use Rattle.std.proofs.Common.{◌≡◌, ℕ, ◌+◌, Bool, true, false, if◌then◌else◌, List, [], ◌∷◌, ◌++◌, Option, Some, None, refl, sym, ap, ap₂, subst, ◌∙◌, bytes_eq}
-use Rattle.std.specs.Option.{option_or}
+use Rattle.std.proofs.Common.{◌≡◌, ℕ, ◌+◌, Bool, true, false, if◌then◌else◌, List, [], ◌∷◌, ◌++◌, Option, Some, None, refl, sym, ap, ap₂, subst, ◌∙◌}
+use Rattle.std.specs.Prelude.{option_map}
+use Rattle.std.specs.Option.{option_or, option_map_or}
 use Rattle.std.specs.List.{AllByRecursion}
-use Rattle.std.proofs.lemmas.Slice.Eq.{bytes_eq-Decides}
-use Rattle.mon_command.specs.Commands.{account_of}
-use Rattle.deck_syntax.specs.declared.deck_error.DeckError.{DeckError}
-use Rattle.deck_syntax.specs.declared.deck_error.DeckError.TheVariants.{OutOfPlace, Truncated}
+use Rattle.mon_text.specs.Lines.{words}
+use Rattle.deck_lines.specs.Commands.{account_of}
+use Rattle.deck_lines.specs.Refusing.{is_dollar_line}
+use Rattle.deck_lines.specs.declared.deck_error.DeckError.{DeckError}
+use Rattle.deck_lines.specs.declared.deck_error.DeckError.TheVariants.{OutOfPlace, Truncated}
+use Rattle.deck_reader.specs.declared.stream_reader.Event.{Event}
+use Rattle.deck_reader.specs.declared.stream_reader.Event.TheVariants as event
+use Rattle.deck_reader.specs.Events.{refusal_in, event_in, event_of, opened_by, open_after, event_then}
+use Rattle.deck_reader.proofs.Following.{by_event}
 use Rattle.deck_syntax.specs.declared.request.Request.{Request}
 use Rattle.deck_syntax.specs.declared.request.Request.TheVariants as request
-use Rattle.deck_syntax.specs.declared.list.OpenList.{OpenList}
 use Rattle.deck_syntax.specs.declared.job.OpenJob.{OpenJob}
-use Rattle.deck_syntax.specs.Decks.{Cards, Asked, Commands, Enters, Gives, Drains, Ending, Stopped, Refused}
-use Rattle.deck_syntax.specs.Refusing.{line_refusal, is_dollar_line}
-use Rattle.deck_syntax.specs.Jobs.{job_line_refusal, ends_job, after_job_line}
-use Rattle.deck_syntax.specs.Requests.{opened, with_line, set_acl_of, stream_refusal, request_on, list_line_refusal}
-use Rattle.deck_syntax.specs.Sections.{Open, Closed, InList, InJob, asked_then, requested, stream_section}
+use Rattle.deck_syntax.specs.Decks.{Cards, Asked, Ending, Stopped, Refused}
+use Rattle.deck_syntax.specs.Jobs.{is_job_card_line, ends_job, after_job_line, unit_on}
+use Rattle.deck_syntax.specs.Requests.{with_line, set_acl_of, request_on}
+use Rattle.deck_syntax.specs.Sections.{Open, Closed, InList, InJob, asked_then, stream_section}
+use Rattle.deck_syntax.specs.inner.Parts.{with_unit, with_program_line, program_text}
 use Rattle.deck_syntax.proofs.Shorthand.{goes_on}
-use Rattle.preflight.specs.Examined.{IsOwn, Admits, and_then, if_own, good_line, followed, examined}
-use Rattle.preflight.proofs.Goes.{stop, Goes, with_asked, stepped, list_stepped, job_stepped}
-use Rattle.preflight.proofs.Admitted.{OpenIsOwn, same_account}
+use Rattle.preflight.specs.declared.why.Why.{Why}
+use Rattle.preflight.specs.declared.why.Why.TheVariants.{Line}
+use Rattle.preflight.specs.Examined.{IsOwn, Admits, Refuses, asks_of, refused_to, why_in, all_then, examined}
+use Rattle.preflight.proofs.Goes.{stop, Goes, with_asked, good_line, stepped}
+use Rattle.preflight.proofs.Verdicts.{all_admitted, not_foreign}
 
 -- a deck that is refused has not stopped
 pub not_stopped : {A : Type 0} (n : ℕ) (code : DeckError) → Refused n code ≡ Stopped → A
@@ -66,7 +73,79 @@ first one f (a ∷ rest) goes =
       later = λ more. let h = goes more in (h.0, tail_is one a (f more) (stream_section h.0 Closed more) rest h.1);
     }
 
--- what is found of a text
+-- the same, of some that are asked first
+record Firsts (front : List Asked) (f : List (List ℕ) → Cards) (asked : List Asked) : Type 0 where
+  rest : List Asked
+  are : asked ≡ front ++ rest
+  later : (more : List (List ℕ)) → (m : ℕ) × (f more ≡ with_asked rest (stream_section m Closed more))
+
+firsts : (front : List Asked) (f : List (List ℕ) → Cards) (asked : List Asked)
+    → ((more : List (List ℕ)) → (m : ℕ) × (with_asked front (f more) ≡ with_asked asked (stream_section m Closed more))) → Firsts front f asked
+firsts [] f asked goes = record { rest = asked; are = refl; later = goes }
+firsts (one ∷ front) f asked goes =
+    let a = first one (λ more. with_asked front (f more)) asked goes in
+    let b = firsts front f a.rest a.later in
+    record { rest = b.rest; are = a.are ∙ ap (λ (xs : List Asked). one ∷ xs) b.are; later = b.later }
+
+-- ---- whose what is open is
+
+abbrev pub OpenIsOwn : List ℕ → Open → Type 0
+OpenIsOwn own Closed = Unit {0}
+OpenIsOwn own (InList list) = list.account ≡ own
+OpenIsOwn own (InJob job) = job.account ≡ own
+
+-- a line of a job leaves its account
+same_account : (job : OpenJob) (line : List ℕ) → (after_job_line job line).account ≡ job.account
+same_account job line = by (is_job_card_line line)
+  where
+    by : (b : Bool) → (if b then with_unit job (unit_on (words line)) else with_program_line job (program_text line)).account ≡ job.account
+    by true = refl
+    by false = refl
+
+module _ (own line : List ℕ) where
+  abbrev AsksOwn : Event → Type 0
+  AsksOwn e = AllByRecursion (IsOwn own) (asks_of e)
+
+  -- what is open is the account's, where what it leads to is
+  own_before : (p : Open) → AsksOwn (event_in p line) → OpenIsOwn own (open_after p line) → OpenIsOwn own p
+  own_before Closed asked after = tt
+  own_before (InList list) asked after = by (is_dollar_line line) asked after
+    where
+      by : (b : Bool) → AsksOwn (if b then event.Asks (set_acl_of list) else event.Nothing) → OpenIsOwn own (if b then Closed else InList (with_line list line)) → list.account ≡ own
+      by true asked after = asked.0
+      by false asked after = after
+  own_before (InJob job) asked after = by (ends_job line) asked after
+    where
+      by : (b : Bool) → AsksOwn (if b then event.Enters job else event.Nothing) → OpenIsOwn own (if b then Closed else InJob (after_job_line job line)) → job.account ≡ own
+      by true asked after = asked.0
+      by false asked after = sym (same_account job line) ∙ after
+
+  -- and then nothing is refused to the account, but for the deck's end
+  mine_before : (p : Open) → (event_in p line ≡ event.Stops → ⊥) → AsksOwn (event_in p line) → OpenIsOwn own (open_after p line) → refused_to own (event_in p line) ≡ None
+  mine_before Closed goes asked after = by (request_on line) goes asked after
+    where
+      by : (q : Request) → (event_of q ≡ event.Stops → ⊥) → AsksOwn (event_of q) → OpenIsOwn own (opened_by q) → refused_to own (event_of q) ≡ None
+      by request.Nothing goes asked after = refl
+      by (request.Asks command) goes asked after = not_foreign own (account_of command) asked.0
+      by (request.OpensList account name) goes asked after = not_foreign own account after
+      by (request.OpensJob job) goes asked after = not_foreign own job.account after
+      by (request.Turns turn) goes asked after = refl
+      by request.Drains goes asked after = refl
+      by request.Stops goes asked after = absurd (goes refl)
+  mine_before (InList list) goes asked after = by (is_dollar_line line) asked
+    where
+      by : (b : Bool) → AsksOwn (if b then event.Asks (set_acl_of list) else event.Nothing) → refused_to own (if b then event.Asks (set_acl_of list) else event.Nothing) ≡ None
+      by true asked = not_foreign own list.account asked.0
+      by false asked = refl
+  mine_before (InJob job) goes asked after = by (ends_job line) asked
+    where
+      by : (b : Bool) → AsksOwn (if b then event.Enters job else event.Nothing) → refused_to own (if b then event.Enters job else event.Nothing) ≡ None
+      by true asked = not_foreign own job.account asked.0
+      by false asked = refl
+
+-- ---- the text
+
+-- what is found of it
 pub record Taken (own : List ℕ) (n : ℕ) (pending : Open) (ls : List (List ℕ)) (asked : List Asked) : Type 0 where
   pub is_own : OpenIsOwn own pending
   pub is : examined own n pending ls ≡ Admits asked
@@ -75,89 +154,41 @@ nothing_asked : (asked : List Asked) → [] ≡ asked ++ [] → asked ≡ []
 nothing_asked [] is = refl
 nothing_asked (one ∷ asked) is = cc
 
-same : (xs ys : List ℕ) → xs ≡ ys → bytes_eq xs ys ≡ true
-same xs ys = (bytes_eq-Decides xs ys).1
+parts : (own : List ℕ) (xs ys : List Asked) → AllByRecursion (IsOwn own) (xs ++ ys) → AllByRecursion (IsOwn own) xs × AllByRecursion (IsOwn own) ys
+parts own [] ys all = (tt, all)
+parts own (x ∷ xs) ys all = let both = parts own xs ys all.1 in ((all.0, both.0), both.1)
 
-module _ (own line : List ℕ) (ls : List (List ℕ)) (n : ℕ) where
+module _ (own line : List ℕ) (ls : List (List ℕ)) (n : ℕ) (p : Open) (asked : List Asked) (goes : Goes n p (line ∷ ls) asked) (mine : AllByRecursion (IsOwn own) asked) where
   abbrev Later : Type 0
-  Later = (pending : Open) (asked : List Asked) → Goes (n + 1) pending ls asked → AllByRecursion (IsOwn own) asked → Taken own (n + 1) pending ls asked
+  Later = (rest : List Asked) → Goes (n + 1) (open_after p line) ls rest → AllByRecursion (IsOwn own) rest → Taken own (n + 1) (open_after p line) ls rest
 
-  -- a card of one line
-  one_card : (p : Open) (one : Asked) (asked : List Asked) → ((more : List (List ℕ)) → stream_section n p (line ∷ more) ≡ asked_then one (stream_section (n + 1) Closed more))
-      → Goes n p (line ∷ ls) asked → AllByRecursion (IsOwn own) asked → Later
-      → IsOwn own one × (and_then one (examined own (n + 1) Closed ls) ≡ Admits asked)
-  one_card p one asked step goes mine later =
-      let f = first one (λ more. stream_section (n + 1) Closed (ls ++ more)) asked (λ more. let g = goes more in (g.0, sym (step (ls ++ more)) ∙ g.1)) in
-      let all = subst (AllByRecursion (IsOwn own)) f.are mine in
-      let t = later Closed f.rest f.later all.1 in
-      (all.0, ap (and_then one) t.is ∙ ap Admits (sym f.are))
-
-  -- a line that asks for nothing yet
-  no_card : (p pending : Open) (asked : List Asked) → ((more : List (List ℕ)) → stream_section n p (line ∷ more) ≡ stream_section (n + 1) pending more)
-      → Goes n p (line ∷ ls) asked → AllByRecursion (IsOwn own) asked → Later → Taken own (n + 1) pending ls asked
-  no_card p pending asked step goes mine later = later pending asked (λ more. let g = goes more in (g.0, sym (step (ls ++ more)) ∙ g.1)) mine
-
-  on_request : (q : Request) (asked : List Asked) → option_or (line_refusal 200 line) (stream_refusal line) ≡ None → request_on line ≡ q
-      → Goes n Closed (line ∷ ls) asked → AllByRecursion (IsOwn own) asked → Later
-      → followed own n q (λ pending. examined own (n + 1) pending ls) ≡ Admits asked
-  on_request request.Nothing asked e r goes mine later = (no_card Closed Closed asked (stepped line n request.Nothing e r) goes mine later).is
-  on_request (request.Asks command) asked e r goes mine later =
-      let t = one_card Closed (Commands command) asked (stepped line n (request.Asks command) e r) goes mine later in
-      ap (λ (b : Bool). if_own b n (and_then (Commands command) (examined own (n + 1) Closed ls))) (same (account_of command) own t.0) ∙ t.1
-  on_request (request.OpensList account name) asked e r goes mine later =
-      let t = no_card Closed (InList (opened account name)) asked (stepped line n (request.OpensList account name) e r) goes mine later in
-      ap (λ (b : Bool). if_own b n (examined own (n + 1) (InList (opened account name)) ls)) (same account own t.is_own) ∙ t.is
-  on_request (request.OpensJob job) asked e r goes mine later =
-      let t = no_card Closed (InJob job) asked (stepped line n (request.OpensJob job) e r) goes mine later in
-      ap (λ (b : Bool). if_own b n (examined own (n + 1) (InJob job) ls)) (same job.account own t.is_own) ∙ t.is
-  on_request (request.Turns turn) asked e r goes mine later = (one_card Closed (Gives turn) asked (stepped line n (request.Turns turn) e r) goes mine later).1
-  on_request request.Drains asked e r goes mine later = (one_card Closed Drains asked (stepped line n request.Drains e r) goes mine later).1
-  on_request request.Stops asked e r goes mine later =
-      let there = goes_on_there n Closed (line ∷ ls) asked goes in
-      let here : (stream_section n Closed (line ∷ (ls ++ []))).ending ≡ Stopped = ap (λ (c : Cards). c.ending) (stepped line n request.Stops e r (ls ++ [])) in
+  -- a line that ends the deck does not go
+  no_end : refusal_in p line ≡ None → event_in p line ≡ event.Stops → ⊥
+  no_end good ends =
+      let there = goes_on_there n p (line ∷ ls) asked goes in
+      let here : (stream_section n p (line ∷ (ls ++ []))).ending ≡ Stopped =
+      ap (λ (c : Cards). c.ending) (good_line p line n good (ls ++ []) ∙ ap (λ (e : Event). event_then e (stream_section (n + 1) (open_after p line) (ls ++ []))) ends) in
       not_stopped there.0 Truncated (sym there.1 ∙ here)
 
-  closed : (r : Option DeckError) (asked : List Asked) → option_or (line_refusal 200 line) (stream_refusal line) ≡ r
-      → Goes n Closed (line ∷ ls) asked → AllByRecursion (IsOwn own) asked → Later
-      → good_line r n (followed own n (request_on line) (λ pending. examined own (n + 1) pending ls)) ≡ Admits asked
-  closed (Some code) asked e goes mine later =
-      let rest : List (List ℕ) → Cards = λ more. requested (request_on line) (λ pending. stream_section (n + 1) pending more) in
-      not_stopped n code (sym (ap (λ o. (goes_on o n (rest (ls ++ stop ∷ []))).ending) e) ∙ stops n Closed (line ∷ ls) asked goes)
-  closed None asked e goes mine later = on_request (request_on line) asked e refl goes mine later
-
-  on_list : (list : OpenList) (ends : Bool) (asked : List Asked) → list_line_refusal line ≡ None → is_dollar_line line ≡ ends
-      → Goes n (InList list) (line ∷ ls) asked → AllByRecursion (IsOwn own) asked → Later
-      → (list.account ≡ own) × ((if ends then and_then (Commands (set_acl_of list)) (examined own (n + 1) Closed ls) else examined own (n + 1) (InList (with_line list line)) ls) ≡ Admits asked)
-  on_list list true asked e d goes mine later = one_card (InList list) (Commands (set_acl_of list)) asked (list_stepped list line n true e d) goes mine later
-  on_list list false asked e d goes mine later =
-      let t = no_card (InList list) (InList (with_line list line)) asked (list_stepped list line n false e d) goes mine later in (t.is_own, t.is)
-
-  in_list : (list : OpenList) (r : Option DeckError) (asked : List Asked) → list_line_refusal line ≡ r
-      → Goes n (InList list) (line ∷ ls) asked → AllByRecursion (IsOwn own) asked → Later
-      → (list.account ≡ own) × (good_line r n (if is_dollar_line line then and_then (Commands (set_acl_of list)) (examined own (n + 1) Closed ls) else examined own (n + 1) (InList (with_line list line)) ls) ≡ Admits asked)
-  in_list list (Some code) asked e goes mine later =
-      let rest : List (List ℕ) → Cards = λ more. if is_dollar_line line then asked_then (Commands (set_acl_of list)) (stream_section (n + 1) Closed more) else stream_section (n + 1) (InList (with_line list line)) more in
-      not_stopped n code (sym (ap (λ o. (goes_on o n (rest (ls ++ stop ∷ []))).ending) e) ∙ stops n (InList list) (line ∷ ls) asked goes)
-  in_list list None asked e goes mine later = on_list list (is_dollar_line line) asked e refl goes mine later
-
-  on_job : (job : OpenJob) (ends : Bool) (asked : List Asked) → job_line_refusal job line ≡ None → ends_job line ≡ ends
-      → Goes n (InJob job) (line ∷ ls) asked → AllByRecursion (IsOwn own) asked → Later
-      → (job.account ≡ own) × ((if ends then and_then (Enters job) (examined own (n + 1) Closed ls) else examined own (n + 1) (InJob (after_job_line job line)) ls) ≡ Admits asked)
-  on_job job true asked e d goes mine later = one_card (InJob job) (Enters job) asked (job_stepped job line n true e d) goes mine later
-  on_job job false asked e d goes mine later =
-      let t = no_card (InJob job) (InJob (after_job_line job line)) asked (job_stepped job line n false e d) goes mine later in
-      (sym (same_account job line) ∙ t.is_own, t.is)
-
-  in_job : (job : OpenJob) (r : Option DeckError) (asked : List Asked) → job_line_refusal job line ≡ r
-      → Goes n (InJob job) (line ∷ ls) asked → AllByRecursion (IsOwn own) asked → Later
-      → (job.account ≡ own) × (good_line r n (if ends_job line then and_then (Enters job) (examined own (n + 1) Closed ls) else examined own (n + 1) (InJob (after_job_line job line)) ls) ≡ Admits asked)
-  in_job job (Some code) asked e goes mine later =
-      let rest : List (List ℕ) → Cards = λ more. if ends_job line then asked_then (Enters job) (stream_section (n + 1) Closed more) else stream_section (n + 1) (InJob (after_job_line job line)) more in
-      not_stopped n code (sym (ap (λ o. (goes_on o n (rest (ls ++ stop ∷ []))).ending) e) ∙ stops n (InJob job) (line ∷ ls) asked goes)
-  in_job job None asked e goes mine later = on_job job (ends_job line) asked e refl goes mine later
-
-as_taken : (own : List ℕ) (n : ℕ) (p : Open) (ls : List (List ℕ)) (asked : List Asked) → OpenIsOwn own p × (examined own n p ls ≡ Admits asked) → Taken own n p ls asked
-as_taken own n p ls asked (is_own, is) = record { is_own = is_own; is = is }
+  on_line : (r : Option DeckError) → refusal_in p line ≡ r → Later → Taken own n p (line ∷ ls) asked
+  on_line (Some code) e later =
+      let refused = by_event p n line (ls ++ stop ∷ [])
+      ∙ ap (λ r. goes_on r n (event_then (event_in p line) (stream_section (n + 1) (open_after p line) (ls ++ stop ∷ [])))) e in
+      not_stopped n code (sym (ap (λ (c : Cards). c.ending) refused) ∙ stops n p (line ∷ ls) asked goes)
+  on_line None e later =
+      let brings = event_in p line in
+      let f = firsts (asks_of brings) (λ more. stream_section (n + 1) (open_after p line) (ls ++ more)) asked
+      (λ more. let g = goes more in (g.0, sym (stepped p line n e (no_end e) (ls ++ more)) ∙ g.1)) in
+      let own_parts = parts own (asks_of brings) f.rest (subst (AllByRecursion (IsOwn own)) f.are mine) in
+      let t = later f.rest f.later own_parts.1 in
+      let none : why_in own p line ≡ None = ap (λ r. (let w : Option Why = option_or (option_map Line r) (refused_to own brings) in w)) e
+      ∙ mine_before own line p (no_end e) own_parts.0 t.is_own in
+      record {
+        is_own = own_before own line p own_parts.0 t.is_own;
+        is =
+            ap (λ w. option_map_or (Refuses n) w (all_then (asks_of brings) (examined own (n + 1) (open_after p line) ls))) none
+            ∙ ap (all_then (asks_of brings)) t.is ∙ all_admitted (asks_of brings) f.rest ∙ ap Admits (sym f.are);
+      }
 
 pub taken : (own : List ℕ) (ls : List (List ℕ)) (n : ℕ) (pending : Open) (asked : List Asked) → Goes n pending ls asked → AllByRecursion (IsOwn own) asked
     → Taken own n pending ls asked
@@ -167,9 +198,4 @@ taken own [] n Closed asked goes mine =
     record { is_own = tt; is = ap Admits (sym none) }
 taken own [] n (InList list) asked goes mine = not_stopped n OutOfPlace (stops n (InList list) [] asked goes)
 taken own [] n (InJob job) asked goes mine = not_stopped n OutOfPlace (stops n (InJob job) [] asked goes)
-taken own (line ∷ ls) n Closed asked goes mine =
-    record { is_own = tt; is = closed own line ls n (option_or (line_refusal 200 line) (stream_refusal line)) asked refl goes mine (λ pending a. taken own ls (n + 1) pending a) }
-taken own (line ∷ ls) n (InList list) asked goes mine =
-    as_taken own n (InList list) (line ∷ ls) asked (in_list own line ls n list (list_line_refusal line) asked refl goes mine (λ pending a. taken own ls (n + 1) pending a))
-taken own (line ∷ ls) n (InJob job) asked goes mine =
-    as_taken own n (InJob job) (line ∷ ls) asked (in_job own line ls n job (job_line_refusal job line) asked refl goes mine (λ pending a. taken own ls (n + 1) pending a))
+taken own (line ∷ ls) n p asked goes mine = on_line own line ls n p asked goes mine (refusal_in p line) refl (λ rest. taken own ls (n + 1) (open_after p line) rest)

@@ -1,3 +1,4 @@
+pub mod Verdicts
 pub mod Goes
 pub mod Admitted
 pub mod Good
@@ -7,9 +8,5 @@ pub mod Composed
 pub mod Exactly
 pub mod Refusals
 pub mod Tallying
-pub mod Leading
-pub mod Firsts
+pub mod Reached
 pub mod Kept
-pub mod Faults
-mod Listed
-mod Sections

@@ -1,6 +1,6 @@
 -- Lines spell what they ask for exactly where they go with whatever follows them.
 use Rattle.std.proofs.Common.{◌≡◌, ℕ, ◌⊎◌, inl, inr, List, [], ◌∷◌, ◌++◌, refl, sym, ap, subst, ◌∙◌, append_assoc, append-nil}
-use Rattle.deck_syntax.specs.declared.deck_error.DeckError.TheVariants.{Truncated}
+use Rattle.deck_lines.specs.declared.deck_error.DeckError.TheVariants.{Truncated}
 use Rattle.deck_syntax.specs.Decks.{Cards, Asked, Stopped}
 use Rattle.deck_syntax.specs.Sections.{Closed, asked_then, stream_section}
 use Rattle.deck_syntax.specs.Spelling.{SpellsStream}

@@ -1,21 +1,24 @@
 -- The tally of what is asked, with one card more.
-use Rattle.std.proofs.Common.{◌≡◌, ℕ, ◌+◌, ◌*◌, ◌≤◌, max, Bool, true, false, cond, List, [], ◌∷◌, ◌++◌, length, refl, sym, ap, ◌∙◌, arith, append-nil, length-append, true≢false}
+use Rattle.std.proofs.Common.{◌≡◌, ℕ, ◌+◌, ◌*◌, ◌≤◌, max, Bool, true, false, cond, List, [], ◌∷◌, ◌++◌, length, refl, sym, ap, ◌∙◌, arith, append-nil, length-append, true≢false, subst, ◌⊎◌, inl, inr}
 use Rattle.std.specs.Prelude.{fold, sum_by, count_by}
 use Rattle.std.proofs.lemmas.List.Sums.{sum_by-append, sum_by-cons, fold-append}
 use Rattle.std.proofs.lemmas.Nat.{mul-le}
 use Rattle.std.proofs.Math.Nat.{add-zero}
 use Rattle.sno_cards.specs.declared.limits.Limits.{Limits}
 use Rattle.sno_cards.specs.Limits.{AreLimits}
-use Rattle.mon_command.specs.declared.command.Command.{Command}
-use Rattle.mon_command.specs.declared.command.Command.TheVariants as command
+use Rattle.deck_lines.specs.declared.command.Command.{Command}
+use Rattle.deck_lines.specs.declared.command.Command.TheVariants as command
 use Rattle.mon_catalogue.specs.declared.mode.Mode.{Mode}
 use Rattle.deck_syntax.specs.declared.job.OpenJob.{OpenJob}
-use Rattle.deck_syntax.specs.declared.turn.Turn.{Turn}
+use Rattle.deck_lines.specs.declared.turn.Turn.{Turn}
 use Rattle.deck_syntax.specs.Decks.{Asked, Commands, Enters, Gives, Drains}
 use Rattle.preflight.specs.declared.tally.Tally.{Tally}
-use Rattle.preflight.specs.declared.standing.Counts.{Counts}
+use Rattle.preflight.specs.declared.intake.Counts.{Counts}
 use Rattle.preflight.specs.Tallies.{jobs_of, creates, statements_of, work_of, more_work, tally_of}
-use Rattle.preflight.specs.inner.Standings.{IsBelow, Counted, one_line, one_creation, one_job}
+use Rattle.deck_reader.specs.declared.stream_reader.Event.{Event}
+use Rattle.deck_reader.specs.declared.stream_reader.Event.TheVariants as event
+use Rattle.preflight.specs.Examined.{asks_of}
+use Rattle.preflight.specs.inner.Counts.{IsBelow, Counted, one_line, one_creation, one_job}
 
 jobs_append : (xs ys : List Asked) → jobs_of (xs ++ ys) ≡ jobs_of xs ++ jobs_of ys
 jobs_append [] ys = refl
@@ -121,8 +124,9 @@ with_one jobs job made =
 work_below : (limits : Limits) → AreLimits limits → limits.statements * limits.steps ≤ 100000000000000
 work_below limits within = mul-le limits.statements limits.steps 10000000 10000000 within.0.1 within.1.1
 
-pub job_counted : (counts : Counts) (job : OpenJob) → AreLimits job.limits → Counted counts (one_job counts job.limits) (Enters job ∷ [])
-job_counted counts job within = record {
+-- a job with its limits
+limits_counted : (counts : Counts) (job : OpenJob) → AreLimits job.limits → Counted counts (one_job counts job.limits) (Enters job ∷ [])
+limits_counted counts job within = record {
   number = refl;
   below = λ is. (
       let few = within.0.1 in
@@ -141,3 +145,21 @@ job_counted counts job within = record {
       ∙ ap (of_parts (jobs_of front ++ job ∷ [])) (sym made)
       ∙ ap (λ (js : List OpenJob). of_parts js (count_by creates (front ++ Enters job ∷ []))) (sym (jobs_append front (Enters job ∷ [])));
 }
+
+pub job_counted : (counts : Counts) (job : OpenJob) (limits : Limits) → limits ≡ job.limits → AreLimits job.limits → Counted counts (one_job counts limits) (Enters job ∷ [])
+job_counted counts job limits is within = subst (λ (l : Limits). Counted counts (one_job counts l) (Enters job ∷ [])) (sym is) (limits_counted counts job within)
+
+-- the same, of what the code has
+pub counted_at : (before after next : Counts) (e brings : Event) → e ≡ brings → after ≡ next → Counted before next (asks_of brings) → Counted before after (asks_of e)
+counted_at before after next e brings is are counted =
+    subst (λ (e : Event). Counted before after (asks_of e)) (sym is) (subst (λ (n : Counts). Counted before n (asks_of brings)) (sym are) counted)
+
+-- a line that brings neither a command nor a job
+pub plain_counted : (before after : Counts) (e : Event) → after ≡ one_line before
+    → (e ≡ event.Nothing) ⊎ (((account : List ℕ) × (e ≡ event.Opens account)) ⊎ (((turn : Turn) × (e ≡ event.Turns turn)) ⊎ ((e ≡ event.Drains) ⊎ (e ≡ event.Stops))))
+    → Counted before after (asks_of e)
+plain_counted before after e are (inl is) = counted_at before after (one_line before) e event.Nothing is are (nothing_counted before)
+plain_counted before after e are (inr (inl (account, is))) = counted_at before after (one_line before) e (event.Opens account) is are (nothing_counted before)
+plain_counted before after e are (inr (inr (inl (turn, is)))) = counted_at before after (one_line before) e (event.Turns turn) is are (turn_counted before turn)
+plain_counted before after e are (inr (inr (inr (inl is)))) = counted_at before after (one_line before) e event.Drains is are (drain_counted before)
+plain_counted before after e are (inr (inr (inr (inr is)))) = counted_at before after (one_line before) e event.Stops is are (nothing_counted before)

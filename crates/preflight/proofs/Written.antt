@@ -1,14 +1,12 @@
 -- A round's deck, written with LF behind each line, is read as the same lines.
-use Rattle.std.proofs.Common.{◌≡◌, ℕ, ◌-◌, ◌<◌, Bool, true, false, ◌||◌, if◌then◌else◌, List, [], ◌∷◌, ◌++◌, length, take, get_or, refl, sym, ap, subst, ◌∙◌, true≢false, arith, append_assoc, ◌==◌}
+use Rattle.std.proofs.Common.{◌≡◌, ℕ, Bool, true, false, ◌||◌, List, [], ◌∷◌, ◌++◌, refl, sym, subst, ◌==◌}
 use Rattle.std.specs.Prelude.{codes}
-use Rattle.std.specs.List.{list_all, slice_split, AllByRecursion}
-use Rattle.std.specs.Str.Lines.{lines, lines_of_parts, strip_carriage_return}
-use Rattle.std.proofs.lemmas.List.Folds.{list_all_at}
-use Rattle.std.proofs.lemmas.List.Splits.{slice_split_at}
-use borrow.Author.Tests.{eqb-true}
+use Rattle.std.specs.List.{list_all, AllByRecursion}
+use Rattle.std.specs.Str.Lines.{lines}
 use Rattle.mon_text.specs.Characters.{is_printable}
 use Rattle.mon_text.specs.Lines.{IsLine}
-use Rattle.mon_acl.specs.declared.text.AclText.TheVariants.{Short, Long}
+use Rattle.mon_text.proofs.WrittenLines.{lines_written}
+use Rattle.acl_text.specs.declared.text.AclText.TheVariants.{Short, Long}
 use Rattle.mon_access.specs.declared.account.Account.{Account}
 use Rattle.mon_catalogue.specs.Sets.{Sets}
 use Rattle.mon_catalogue.specs.Stored.{IsStored, ArePrintable}
@@ -16,8 +14,8 @@ use Rattle.mon_catalogue.specs.Text.{text_of, catalogue_lines}
 use Rattle.mon_catalogue.proofs.Blanks.{both}
 use Rattle.mon_catalogue.proofs.Printable.{catalogue_lines_show}
 use Rattle.deck_syntax.specs.declared.job_deck.UnitCard.{UnitCard}
-use Rattle.mon_command.specs.declared.command.Command.{Command}
-use Rattle.mon_command.specs.declared.command.Command.TheVariants as command
+use Rattle.deck_lines.specs.declared.command.Command.{Command}
+use Rattle.deck_lines.specs.declared.command.Command.TheVariants as command
 use Rattle.deck_syntax.specs.Decks.{Asked, Commands, Enters, Gives, Drains}
 use Rattle.deck_syntax.specs.Requests.{is_list_character}
 use Rattle.deck_syntax.specs.Spelling.{AreBlank, SpellsAccounts, IsListLine, SpellsCommand, SpellsAsked, SpellsStream}
@@ -30,38 +28,8 @@ use Rattle.preflight.specs.Rounds.{Handed, AreHanded, stream_lines, round_lines}
 abbrev pub IsWritable : List ℕ → Type 0
 IsWritable line = list_all is_list_character line ≡ true
 
-abbrev is_line_feed : ℕ → Bool
-is_line_feed c = c == 10
-
-nowhere : (line : List ℕ) (c : ℕ) → IsWritable line → is_list_character c ≡ false → (k d : ℕ) → k < length line → (get_or line k d == c) ≡ false
-nowhere line c writable not k d below = by (get_or line k d == c) refl
-  where
-    by : (b : Bool) → (get_or line k d == c) ≡ b → b ≡ false
-    by false e = refl
-    by true e = absurd (true≢false (sym writable ∙ list_all_at is_list_character line k d below (ap is_list_character (eqb-true (get_or line k d) c e) ∙ not)))
-
-strips_nothing : (line : List ℕ) → IsWritable line → strip_carriage_return line ≡ line
-strips_nothing [] writable = refl
-strips_nothing (c ∷ cs) writable =
-    ap (λ (b : Bool). if b then take (length (c ∷ cs) - 1) (c ∷ cs) else (c ∷ cs))
-    (nowhere (c ∷ cs) 13 writable refl (length (c ∷ cs) - 1) 0 (omega arith))
-
-parts_are : (ls : List (List ℕ)) → AllByRecursion IsWritable ls → slice_split is_line_feed (text_of ls) ≡ ls ++ [] ∷ []
-parts_are [] are = refl
-parts_are (line ∷ ls) (is, are) =
-    ap (slice_split is_line_feed) (append_assoc line (10 ∷ []) (text_of ls))
-    ∙ slice_split_at is_line_feed line 10 (text_of ls) (nowhere line 10 is refl) refl
-    ∙ ap (λ (parts : List (List ℕ)). line ∷ parts) (parts_are ls are)
-
-lines_kept : (ls : List (List ℕ)) → AllByRecursion IsWritable ls → lines_of_parts (ls ++ [] ∷ []) ≡ ls
-lines_kept [] are = refl
-lines_kept (line ∷ []) (is, are) = ap (λ (l : List ℕ). l ∷ []) (strips_nothing line is)
-lines_kept (line ∷ next ∷ ls) (is, are) =
-    ap (λ (l : List ℕ). l ∷ lines_of_parts (next ∷ (ls ++ [] ∷ []))) (strips_nothing line is)
-    ∙ ap (λ (others : List (List ℕ)). line ∷ others) (lines_kept (next ∷ ls) are)
-
 pub lines_of_writable : (ls : List (List ℕ)) → AllByRecursion IsWritable ls → lines (text_of ls) ≡ ls
-lines_of_writable ls are = ap {B = List (List ℕ)} lines_of_parts (parts_are ls are) ∙ lines_kept ls are
+lines_of_writable ls are = lines_written is_list_character refl refl ls are
 
 -- ---- the lines of a text
 

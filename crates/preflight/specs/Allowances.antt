@@ -2,10 +2,10 @@
 use Rattle.std.specs.Prelude.{ℕ, ◌+◌, ◌-◌, ◌^◌, min, max, nat_lt, Option, Some, None, if◌then◌else◌}
 use Rattle.std.specs.Option.{option_or}
 use Rattle.preflight.specs.declared.tally.Tally.{Tally}
-use Rattle.preflight.specs.declared.limits.Limits.{Limits}
-use Rattle.preflight.specs.declared.limits.HandedIn.{HandedIn}
-use Rattle.preflight.specs.declared.limits.Limit.{Limit}
-use Rattle.preflight.specs.declared.limits.Limit.TheVariants.{Texts, Bytes, Jobs, Statements, Largest, Work, DataSets, Records}
+use Rattle.preflight.specs.declared.quota.Quota.{Quota}
+use Rattle.preflight.specs.declared.quota.HandedIn.{HandedIn}
+use Rattle.preflight.specs.declared.quota.Limit.{Limit}
+use Rattle.preflight.specs.declared.quota.Limit.TheVariants.{Texts, Bytes, Jobs, Statements, Largest, Work, DataSets, Records}
 
 -- a number above its limit breaks it
 abbrev pub above : ℕ → ℕ → Limit → Option Limit
@@ -13,7 +13,7 @@ above limit n name = if nat_lt limit n then Some name else None
 
 -- the first limit that is broken. The data sets are those that the account owns when the round starts, and one for each
 -- `$CREATE` card.
-abbrev pub broken_limit : Limits → HandedIn → Option Limit
+abbrev pub broken_limit : Quota → HandedIn → Option Limit
 broken_limit limits handed =
     option_or (above limits.texts handed.texts Texts)
     (option_or (above limits.bytes handed.tally.bytes Bytes)

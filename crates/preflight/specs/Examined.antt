@@ -1,15 +1,12 @@
 -- Which texts an account may hand in (own): the cards that they spell, or the first line that is wrong.
-use Rattle.std.specs.Prelude.{◌≡◌, ℕ, ◌+◌, Bool, List, [], ◌∷◌, Option, if◌then◌else◌, bytes_eq}
+use Rattle.std.specs.Prelude.{◌≡◌, ℕ, ◌+◌, List, [], ◌∷◌, Option, Some, None, option_map, if◌then◌else◌, bytes_eq}
 use Rattle.std.specs.Option.{option_or, option_map_or}
 use Rattle.std.specs.List.{AllByRecursion}
-use Rattle.mon_command.specs.Commands.{account_of}
-use Rattle.deck_syntax.specs.declared.deck_error.DeckError.{DeckError}
-use Rattle.deck_syntax.specs.declared.request.Request.{Request}
-use Rattle.deck_syntax.specs.declared.request.Request.TheVariants as request
+use Rattle.deck_lines.specs.Commands.{account_of}
+use Rattle.deck_reader.specs.declared.stream_reader.Event.{Event}
+use Rattle.deck_reader.specs.declared.stream_reader.Event.TheVariants as event
+use Rattle.deck_reader.specs.Events.{refusal_in, event_in, open_after}
 use Rattle.deck_syntax.specs.Decks.{Asked, Commands, Enters, Gives, Drains}
-use Rattle.deck_syntax.specs.Refusing.{line_refusal, is_dollar_line}
-use Rattle.deck_syntax.specs.Jobs.{job_line_refusal, ends_job, after_job_line}
-use Rattle.deck_syntax.specs.Requests.{opened, with_line, set_acl_of, stream_refusal, request_on, list_line_refusal}
 use Rattle.deck_syntax.specs.Sections.{Open, Closed, InList, InJob}
 use Rattle.deck_syntax.specs.Spelling.{SpellsStream}
 use Rattle.preflight.specs.declared.why.Why.{Why}
@@ -31,45 +28,52 @@ pub record IsSubmission (own : List ℕ) (lines : List (List ℕ)) (asked : List
 
 -- ---- the first fault
 
+-- what a line asks for, by what it brings
+abbrev pub asks_of : Event → List Asked
+asks_of (event.Asks command) = Commands command ∷ []
+asks_of (event.Enters job) = Enters job ∷ []
+asks_of (event.Turns turn) = Gives turn ∷ []
+asks_of event.Drains = Drains ∷ []
+asks_of _ = []
+
+-- a card of another account is refused, and the deck's end
+abbrev pub foreign : List ℕ → List ℕ → Option Why
+foreign own account = if bytes_eq account own then None else Some Foreign
+
+abbrev pub refused_to : List ℕ → Event → Option Why
+refused_to own (event.Opens account) = foreign own account
+refused_to own (event.Asks command) = foreign own (account_of command)
+refused_to own (event.Enters job) = foreign own job.account
+refused_to own event.Stops = Some Stops
+refused_to own _ = None
+
+-- why a line is refused where this is open
+abbrev pub why_in : List ℕ → Open → List ℕ → Option Why
+why_in own pending line = option_or (option_map Line (refusal_in pending line)) (refused_to own (event_in pending line))
+
 -- a text is admitted for what it asks, or refused at a line
 pub data Verdict : Type 0 where
   Admits : List Asked → Verdict
   Refuses : ℕ → Why → Verdict
 
+-- this is asked before
 abbrev pub and_then : Asked → Verdict → Verdict
 and_then one (Admits asked) = Admits (one ∷ asked)
 and_then one (Refuses n why) = Refuses n why
 
--- a card of another account is refused
-abbrev pub if_own : Bool → ℕ → Verdict → Verdict
-if_own mine n later = if mine then later else Refuses n Foreign
+abbrev pub all_then : List Asked → Verdict → Verdict
+all_then [] v = v
+all_then (one ∷ asked) v = and_then one (all_then asked v)
 
-abbrev pub good_line : Option DeckError → ℕ → Verdict → Verdict
-good_line refusal n later = option_map_or (λ code. Refuses n (Line code)) refusal later
-
--- what a card asks for, and what the lines behind it do
-abbrev pub followed : List ℕ → ℕ → Request → (Open → Verdict) → Verdict
-followed own n request.Nothing later = later Closed
-followed own n (request.Asks command) later = if_own (bytes_eq (account_of command) own) n (and_then (Commands command) (later Closed))
-followed own n (request.OpensList account name) later = if_own (bytes_eq account own) n (later (InList (opened account name)))
-followed own n (request.OpensJob job) later = if_own (bytes_eq job.account own) n (later (InJob job))
-followed own n (request.Turns turn) later = and_then (Gives turn) (later Closed)
-followed own n request.Drains later = and_then Drains (later Closed)
-followed own n request.Stops later = Refuses n Stops
+-- behind the last line nothing may be open
+abbrev pub at_end : ℕ → Open → Verdict
+at_end n Closed = Admits []
+at_end n (InList list) = Refuses n Unfinished
+at_end n (InJob job) = Refuses n Unfinished
 
 -- the lines from number n on, where this is open
 abbrev pub examined : List ℕ → ℕ → Open → List (List ℕ) → Verdict
-examined own n Closed [] = Admits []
-examined own n (InList list) [] = Refuses n Unfinished
-examined own n (InJob job) [] = Refuses n Unfinished
-examined own n Closed (line ∷ lines) =
-    good_line (option_or (line_refusal 200 line) (stream_refusal line)) n
-    (followed own n (request_on line) (λ pending. examined own (n + 1) pending lines))
-examined own n (InList list) (line ∷ lines) =
-    good_line (list_line_refusal line) n
-    (if is_dollar_line line then and_then (Commands (set_acl_of list)) (examined own (n + 1) Closed lines)
-    else examined own (n + 1) (InList (with_line list line)) lines)
-examined own n (InJob job) (line ∷ lines) =
-    good_line (job_line_refusal job line) n
-    (if ends_job line then and_then (Enters job) (examined own (n + 1) Closed lines)
-    else examined own (n + 1) (InJob (after_job_line job line)) lines)
+examined own n pending [] = at_end n pending
+examined own n pending (line ∷ lines) =
+    option_map_or (Refuses n) (why_in own pending line)
+    (all_then (asks_of (event_in pending line)) (examined own (n + 1) (open_after pending line) lines))

@@ -5,7 +5,4 @@ pub mod Rounds
 pub mod Submissions
 pub mod Allowances
 pub mod Laws
-pub mod Access
-pub mod Fronts
-pub mod Reports
 pub mod inner

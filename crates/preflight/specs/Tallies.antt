@@ -1,7 +1,7 @@
 -- What a text asks for, in numbers (own).
 use Rattle.std.specs.Prelude.{ℕ, ◌*◌, max, Bool, true, false, List, [], ◌∷◌, length}
 use Rattle.std.specs.List.{fold, sum_by, count_by}
-use Rattle.mon_command.specs.declared.command.Command.TheVariants.{Create}
+use Rattle.deck_lines.specs.declared.command.Command.TheVariants.{Create}
 use Rattle.deck_syntax.specs.declared.job.OpenJob.{OpenJob}
 use Rattle.deck_syntax.specs.Decks.{Asked, Commands, Enters}
 use Rattle.preflight.specs.declared.tally.Tally.{Tally}

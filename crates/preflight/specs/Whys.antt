@@ -1,6 +1,6 @@
 -- The words for why a text is not admitted (own): a line's code, or one of three more.
 use Rattle.std.specs.Prelude.{ℕ, List, codes}
-use Rattle.deck_syntax.specs.Codes.{code_text}
+use Rattle.deck_lines.specs.Codes.{code_text}
 use Rattle.preflight.specs.declared.why.Why.{Why}
 use Rattle.preflight.specs.declared.why.Why.TheVariants.{Line, Foreign, Stops, Unfinished}
 

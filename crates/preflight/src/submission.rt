@@ -6,10 +6,10 @@ ghost use Rattle.deck_syntax.specs.Sections.{Closed};
 ghost use Rattle.preflight.specs.Examined.{Refuses, examined};
 ghost use Rattle.preflight.specs.Submissions.{IfStopped, IsAdmitted, lines_of};
 
-use crate::examining::count;
-use crate::lines::whole_lines;
+use crate::intake::count;
 use crate::tally::Tally;
 use crate::why::Refusal;
+use deck_syntax::whole_lines;
 use mon_text::{Name, Stop};
 use std::alloc::Global;
 

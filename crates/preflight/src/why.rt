@@ -2,7 +2,7 @@
 ghost use Rattle.std.specs.Prelude.{◌≡◌};
 ghost use Rattle.preflight.specs.Whys.{why_text};
 
-use deck_syntax::DeckError;
+use deck_lines::DeckError;
 
 /// Why a text is not admitted.
 #[derive(Clone, Copy)]

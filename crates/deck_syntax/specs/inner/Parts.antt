@@ -1,23 +1,22 @@
 -- Parts of what a line is refused for, and of what it gives, by names of their own: for the code and for proofs.
 use Rattle.std.specs.Prelude.{ℕ, ◌==◌, Bool, not, List, [], ◌∷◌, ◌++◌, length, drop, if◌then◌else◌, nat_lt, unwrap_or, Option, Some, None, is_some}
-use Rattle.mon_text.specs.Counts.{value_of}
 use Rattle.sno_cards.specs.declared.limits.Limits.{Limits}
 use Rattle.deck_syntax.specs.declared.job_deck.UnitCard.{UnitCard}
 use Rattle.deck_syntax.specs.declared.job.OpenJob.{OpenJob}
-use Rattle.deck_syntax.specs.declared.turn.Turn.{Turn}
-use Rattle.deck_syntax.specs.Cards.{word_at}
-use Rattle.deck_syntax.specs.Refusing.{is_dollar_line, unless, due_card_refusal}
+use Rattle.deck_lines.specs.Cards.{word_at}
+use Rattle.deck_lines.specs.Refusing.{is_dollar_line, unless, due_card_refusal}
 use Rattle.std.specs.List.{list_all}
 use Rattle.mon_text.specs.Names.{is_name}
 use Rattle.mon_catalogue.specs.declared.version.Version.{Version}
 use Rattle.mon_catalogue.specs.declared.version.Version.TheVariants.{One}
 use Rattle.mon_catalogue.specs.Progress.{Progress}
-use Rattle.deck_syntax.specs.declared.deck_error.DeckError.{DeckError}
-use Rattle.deck_syntax.specs.declared.deck_error.DeckError.TheVariants.{BadName, BadCard}
+use Rattle.deck_lines.specs.declared.deck_error.DeckError.{DeckError}
+use Rattle.deck_lines.specs.declared.deck_error.DeckError.TheVariants.{BadName, BadCard}
 use Rattle.std.specs.Option.{option_or}
-use Rattle.deck_syntax.specs.Sections.{version_on, code_of_catalogue}
+use Rattle.deck_syntax.specs.Sections.{version_on}
+use Rattle.deck_lines.specs.Codes.{code_of_catalogue}
 use Rattle.deck_syntax.specs.Requests.{names_refusal, mode_on}
-use Rattle.deck_syntax.specs.declared.card.Card.TheVariants as card
+use Rattle.deck_lines.specs.declared.card.Card.TheVariants as card
 use Rattle.mon_catalogue.specs.Progress as progress
 
 abbrev pub words_refusal : List (List ℕ) → Option DeckError
@@ -55,6 +54,3 @@ program_text line = if is_dollar_line line then drop 1 line else line
 
 abbrev pub has_begun : OpenJob → Bool
 has_begun job = not (length job.lines == 0)
-
-abbrev pub turn_on : List (List ℕ) → Turn
-turn_on ws = record { slot = value_of (word_at 1 ws); count = value_of (word_at 2 ws) }

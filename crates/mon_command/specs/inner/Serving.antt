@@ -1,7 +1,7 @@
 -- What a call that serves a command promises.
 use Rattle.std.specs.Prelude.{◌≡◌, Result, Ok, Err}
 use Rattle.mon_catalogue.specs.Sets.{Sets}
-use Rattle.mon_command.specs.declared.command.Command.{Command}
+use Rattle.deck_lines.specs.declared.command.Command.{Command}
 use Rattle.mon_command.specs.declared.printout.Answered.{Answered}
 use Rattle.mon_command.specs.Commanded.{Answer, Served, printed}
 use Rattle.mon_command.specs.Saying.{said_of}

@@ -3,8 +3,8 @@ use Rattle.std.specs.Prelude.{ℕ, List, length, Option, None, Some, Result, Ok,
 use Rattle.std.specs.Option.{option_map_or}
 use Rattle.mon_acl.specs.declared.entries.Entry.{Entry}
 use Rattle.mon_acl.specs.declared.refusals.AclError.{AclError}
-use Rattle.mon_acl.specs.declared.text.AclText.{AclText}
-use Rattle.mon_acl.specs.Forms.{list_of_text}
+use Rattle.acl_text.specs.declared.text.AclText.{AclText}
+use Rattle.acl_text.specs.Forms.{list_of_text}
 use Rattle.mon_access.specs.declared.access.Decision.{Decision}
 use Rattle.mon_access.specs.declared.access.Decision.TheVariants as decision
 use Rattle.mon_catalogue.specs.Sets.{Sets}

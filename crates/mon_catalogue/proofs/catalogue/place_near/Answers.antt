@@ -3,7 +3,7 @@ use Rattle.std.proofs.Common.{rules, ◌≡◌, true, nat_eq, Some, option_map, 
 use Rattle.std.specs.Cmp.Lexicographic.{pointwise}
 use Rattle.std.specs.Map.{values_of}
 use Rattle.std.proofs.lemmas.Option.{slice_get-map}
-use Rattle.mon_catalogue.proofs.Places.{place_hinted}
+use Rattle.mon_text.proofs.Hints.{place_hinted}
 use Rattle.mon_catalogue.proofs.catalogue.place_near.Goals as goal
 
 pub returns-then-eq-clause-place : goal.returns-then-eq-clause-place

@@ -1,7 +1,7 @@
 -- The lines of the entries so far were appended.
 use Rattle.std.proofs.Common.{◌≡◌, ◌++◌, take}
 use Rattle.std.specs.List.{flat_map}
-use Rattle.mon_acl.specs.Printing.{long_line}
+use Rattle.acl_text.specs.Printing.{long_line}
 use Rattle.mon_command.specs.Printouts.{word}
 use Rattle.mon_command.proofs.printing.put_entries.Given as goal
 

@@ -1,7 +1,5 @@
-use Rattle.std.proofs.Common.{sym, ◌∙◌}
-use Rattle.mon_acl.specs.Forms.{list_of_text}
-use Rattle.mon_guard.specs.Owning.{owner_denial}
-use Rattle.mon_guard.proofs.Refused.{leaves}
+use Rattle.std.proofs.Common.{◌∙◌}
+use Rattle.mon_guard.proofs.Owned.{owners_set_lists}
 use Rattle.mon_guard.proofs.guard.Guard.set_acl.Goals as goal
 
 pub returns-in-Err-clause-denied : goal.returns-in-Err-clause-denied
@@ -19,4 +17,5 @@ returns-in-Ok-Denied-clause-denied c = λ reason. (
 pub returns-in-Ok-BadList-clause-unchanged : goal.returns-in-Ok-BadList-clause-unchanged
 returns-in-Ok-BadList-clause-unchanged c =
     c.in-Ok-BadList.ensures.sets
-    ∙ leaves (owner_denial c.args.account.now c.args.catalogue.now c.args.name.now) (list_of_text c.args.text.now) c.args.catalogue.now c.args.name.now c.in-Ok-BadList.error (sym c.in-Ok-BadList.ensures.answer ∙ c.in-Ok-BadList.field-0-is)
+    ∙ (owners_set_lists c.args.account.now c.args.catalogue.now c.args.name.now c.args.text.now).kept
+    (λ done. absurd (let answer = c.in-Ok-BadList.ensures.answer in let is = c.in-Ok-BadList.field-0-is in let no = done in cc))

@@ -1,0 +1,3 @@
+pub mod Faults
+mod Listed
+mod Sections

@@ -1,0 +1,3 @@
+pub mod Access
+pub mod Fronts
+pub mod Reports

@@ -1,0 +1,7 @@
+pub mod Texts
+pub mod Refusals
+pub mod Reading
+pub mod Forms
+pub mod Printing
+pub mod Laws
+pub mod inner

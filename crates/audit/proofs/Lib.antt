@@ -1,0 +1,5 @@
+pub mod Apart
+pub mod Named
+mod Catalogs
+pub mod Ordered
+pub mod Keeping

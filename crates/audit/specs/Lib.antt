@@ -1,0 +1,9 @@
+pub mod Words
+pub mod Grants
+pub mod Requests
+pub mod Catalogs
+pub mod Commands
+pub mod RunEnds
+pub mod AuditedAnswers
+pub mod Laws
+pub mod inner

@@ -1,0 +1,3 @@
+pub mod KeptWords
+pub mod Keeping
+pub mod Parts

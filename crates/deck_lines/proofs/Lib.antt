@@ -1,0 +1,2 @@
+pub mod NextWord
+pub mod Blocks

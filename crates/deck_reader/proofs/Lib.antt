@@ -1,0 +1,2 @@
+pub mod CardWords
+pub mod Following

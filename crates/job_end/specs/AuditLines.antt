@@ -1,0 +1,25 @@
+-- The lines of an audit that speak of a job as it is loaded, is refused, and ends (own): each names the job and its account.
+use Rattle.std.specs.Prelude.{ℕ, List, ◌++◌, codes}
+use Rattle.mon_command.specs.Printouts.{number}
+use Rattle.audit.specs.Words.{job_line}
+use Rattle.job_end.specs.declared.job_end.JobEnd.{JobEnd}
+use Rattle.load_refusal.specs.declared.load_error.LoadError.{LoadError}
+use Rattle.load_refusal.specs.declared.load_error.LoadError.TheVariants.{NoSlot, NoAccount, Cards, Syntax}
+use Rattle.job_end.specs.Printouts.{ending_words, unit_refusal, syntax_words}
+
+-- why a job is not loaded; for want of a slot none is refused
+abbrev pub refusal_words : LoadError → List ℕ
+refusal_words NoSlot = codes "NO SLOT"
+refusal_words NoAccount = codes "M2 NO ACCOUNT"
+refusal_words (Cards error) = unit_refusal error
+refusal_words (Syntax error) = syntax_words error
+
+abbrev pub loaded_line : ℕ → List ℕ → List ℕ
+loaded_line n account = job_line n account (codes " LOADED")
+
+abbrev pub refused_line : ℕ → List ℕ → LoadError → List ℕ
+refused_line n account refusal = job_line n account (codes " REFUSED " ++ refusal_words refusal)
+
+-- how a job has ended, and after how many statements
+abbrev pub ended_line : JobEnd → List ℕ
+ended_line end = job_line end.number end.account (codes " ENDED" ++ ending_words end.ending ++ codes " AFTER" ++ number end.statements)

@@ -1,5 +1,0 @@
-use Rattle.mon_device.proofs.Putting.{puts_then}
-use Rattle.mon_acl.proofs.entries.Entry.print.Goals as goal
-
-pub returns : goal.returns
-returns g c = puts_then _ _ _ _ _ c.print_head.ensures c.print.ensures

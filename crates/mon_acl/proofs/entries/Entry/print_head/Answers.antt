@@ -1,5 +1,0 @@
-use Rattle.mon_acl.proofs.Putting.{head_put}
-use Rattle.mon_acl.proofs.entries.Entry.print_head.Goals as goal
-
-pub returns : goal.returns
-returns g c = head_put _ _ _ _ _ _ _ c.args.self.now c.word.ensures c.qualifier.ensures c.put.ensures c.put-2.ensures c.put-3.ensures c.put-4.ensures

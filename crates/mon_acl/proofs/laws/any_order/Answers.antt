@@ -1,5 +1,0 @@
-use Rattle.mon_acl.proofs.Whole.{any_order}
-use Rattle.mon_acl.proofs.laws.any_order.Goals as goal
-
-pub returns : goal.returns
-returns c = any_order

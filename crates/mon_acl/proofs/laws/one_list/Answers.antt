@@ -1,5 +1,0 @@
-use Rattle.mon_acl.proofs.Whole.{one_list}
-use Rattle.mon_acl.proofs.laws.one_list.Goals as goal
-
-pub returns : goal.returns
-returns c = one_list

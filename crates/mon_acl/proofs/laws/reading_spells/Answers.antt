@@ -1,5 +1,0 @@
-use Rattle.mon_acl.proofs.Whole.{reading_spells}
-use Rattle.mon_acl.proofs.laws.reading_spells.Goals as goal
-
-pub returns : goal.returns
-returns c = reading_spells

@@ -1,5 +1,0 @@
-use Rattle.mon_unit.proofs.Named.{entries_are_named}
-use Rattle.mon_unit.proofs.audit_laws.entries_are_named.Goals as goal
-
-pub returns : goal.returns
-returns c = entries_are_named c.named_where_granted.ensures c.names_an_entry.ensures

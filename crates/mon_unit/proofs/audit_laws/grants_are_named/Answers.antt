@@ -1,5 +1,0 @@
-use Rattle.mon_unit.proofs.Named.{grants_are_named}
-use Rattle.mon_unit.proofs.audit_laws.grants_are_named.Goals as goal
-
-pub returns : goal.returns
-returns c = grants_are_named c.entries_are_named.ensures
