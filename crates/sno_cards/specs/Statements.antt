@@ -1,6 +1,6 @@
 -- The statements, the END line and the data of a program (after "The SNOBOL4 Programming Language"; where the book leaves
 -- a choice, own). All of it is said of the whole list of cards.
-use Rattle.std.specs.Prelude.{ℕ, ◌+◌, Bool, false, ◌||◌, ◌==◌, not, List, [], ◌∷◌, ◌++◌, length, filter, Option, Some, None, Result, Ok, Err, if◌then◌else◌}
+use Rattle.std.specs.Prelude.{ℕ, ◌+◌, Bool, false, ◌||◌, ◌==◌, not, List, [], ◌∷◌, ◌++◌, length, filter, Option, Some, None, Result, Err, if◌then◌else◌}
 use Rattle.std.specs.List.{flat_map, find, onto_first, position_or_len, before_first}
 use Rattle.mon_text.specs.Lines.{is_blank_line}
 use Rattle.sno_cards.specs.declared.card.CardKind.{CardKind}

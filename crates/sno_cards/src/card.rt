@@ -22,19 +22,11 @@ fn position_of(text: &[u8], mark: u8) -> Option<usize>
     text.iter().position(|code| *code == mark)
 }
 
-// How many characters stand before the first such, or in all where there is none.
-fn length_before(text: &[u8], mark: u8) -> usize
-    ensures place { result ≡ position_or_len (λ c. c == mark) text.now }
-    ensures within { result ≤ length text.now }
-{
-    position_of(text, mark).unwrap_or(text.len())
-}
-
 // What stands before the first such character, or all of the text where there is none.
 fn before(text: &[u8], mark: u8) -> &[u8]
     ensures { result.now ≡ before_first (λ c. c == mark) text.now }
 {
-    &text[..length_before(text, mark)]
+    &text[..position_of(text, mark).unwrap_or(text.len())]
 }
 
 fn is_same_word(word: &[u8], other: &[u8]) -> bool
@@ -49,22 +41,13 @@ fn is_control_name(word: &[u8]) -> bool
     is_same_word(word, b"LIST") || is_same_word(word, b"UNLIST") || is_same_word(word, b"EJECT")
 }
 
-fn control_kind(rest: &[u8]) -> CardKind
-    ensures { result ≡ kind_of (45 ∷ rest.now) }
-{
-    if is_control_name(before(rest, b' ')) {
-        CardKind::Control
-    } else {
-        CardKind::UnknownControl
-    }
-}
-
 fn kind_by_mark(mark: u8, rest: &[u8]) -> CardKind
     ensures { result ≡ kind_of (mark ∷ rest.now) }
 {
     match mark {
         b'*' => CardKind::Comment,
-        b'-' => control_kind(rest),
+        b'-' if is_control_name(before(rest, b' ')) => CardKind::Control,
+        b'-' => CardKind::UnknownControl,
         b'+' | b'.' => CardKind::Continuation,
         _ => CardKind::Start,
     }

@@ -12,9 +12,11 @@ use Rattle.sno_expression.specs.declared.tree.Pending.{Pending}
 use Rattle.sno_expression.specs.Expressions.{Expression, Identifier}
 use Rattle.sno_expression.specs.Abstraction.{expression_of}
 use Rattle.sno_expression.specs.inner.Levels.{FitsLeft}
-use Rattle.sno_expression.specs.inner.Reading.{State, At, Stack, After, Named, Read, push, closed, named, read, result, and_then, answer}
+use Rattle.sno_expression.specs.inner.Reading.{State, At, Stack, After, Named, push, closed, named, read, result, walk}
+use Rattle.sno_expression.specs.inner.Telling.{Tells, then_tell, told, fits_at}
 use Rattle.sno_expression.specs.inner.Runs.{spread_all}
 use Rattle.sno_expression.specs.inner.Spines.{is_element, is_under_all}
+use Rattle.sno_expression.proofs.Loop.{with_none}
 use Rattle.sno_expression.proofs.Spines.{grown_pushed}
 
 -- an element may be the left operand of any operator
@@ -42,12 +44,13 @@ name_step alone st e n w t c b k =
     ap₂ (λ (x : Bool) (y : TokenKind). named alone st (After e Concatenation) n x t.blank_after y) b k
     ∙ ap (λ (x : Bool). if x then None else Some (At st (Named (After (push Concatenation (Identifier n) e) Concatenation) w))) c
 
--- and what is answered from there on
+-- and what is told from there on
 pub name_more : (alone : Bool) (st : Stack) (e e' : Expression) (n w : List ℕ) (t : Token) (ts m : List Token)
     → ts ≡ t ∷ m → closed alone st ≡ false → t.blank_before ≡ true → t.kind ≡ token.Identifier w → e' ≡ push Concatenation (Identifier n) e
-    → answer alone (At st (Named (After e Concatenation) n)) ts ≡ answer alone (At st (Named (After e' Concatenation) w)) m
+    → told alone (At st (Named (After e Concatenation) n)) ts ≡ told alone (At st (Named (After e' Concatenation) w)) m
 name_more alone st e e' n w t ts m d c b k p =
     let s = At st (Named (After e Concatenation) n) in
-    ap (answer alone s) d
-    ∙ (ap (λ (o : Option State). and_then o (Read (result s) (t ∷ m)) (λ v. answer alone v m)) (name_step alone st e n w t c b k)
-    ∙ ap (λ (x : Expression). answer alone (At st (Named (After x Concatenation) w)) m) (sym p))
+    ap (told alone s) d
+    ∙ (ap (λ (o : Option State). then_tell o (Tells (result s) (t ∷ m) 0 (fits_at alone (walk s) t.kind)) 0 (λ v. told alone v m)) (name_step alone st e n w t c b k)
+    ∙ (with_none (told alone (At st (Named (After (push Concatenation (Identifier n) e) Concatenation) w)) m)
+    ∙ ap (λ (x : Expression). told alone (At st (Named (After x Concatenation) w)) m) (sym p)))

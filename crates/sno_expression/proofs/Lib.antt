@@ -8,6 +8,7 @@ pub mod Spines
 pub mod Grammar
 pub mod Loop
 mod Examples
-pub mod Tested
 pub mod Runs
 pub mod Following
+pub mod First
+pub mod Telling

@@ -1,9 +1,11 @@
+pub mod Moves
 pub mod Walking
 pub mod Walks
 pub mod Reading
+pub mod Telling
+pub mod First
 pub mod Spines
 pub mod Told
 pub mod Laws
-pub mod Variables
 pub mod Runs
 pub mod Levels

@@ -1,23 +1,24 @@
 //! The walk with the trees that it makes.
 
 ghost use Rattle.std.specs.Prelude.{◌≡◌, ◌≤◌, IfOk, IfSome, length, drop, true, false, Some, None};
-ghost use Rattle.sno_expression.specs.Marks.{operator_of, prefix_of};
 ghost use Rattle.sno_expression.specs.inner.Walking.{inner_of};
 ghost use Rattle.sno_expression.specs.Expressions as expressions;
 ghost use Rattle.sno_expression.specs.inner.Spines.{is_element};
-ghost use Rattle.sno_expression.specs.inner.Reading.{fill, prefixed, joined, begin, close, close_angle, comma, first, go_on, closed, after, due, omitted, omitted_last, after_prefix, opened, named, read, ended, result as result_of, parens, Read, answer, reading};
+ghost use Rattle.sno_expression.specs.inner.Reading.{fill, prefixed, begin, close, close_angle, comma, first, go_on, closed, after, due, omitted, omitted_last, after_prefix, named, read, ended, result as result_of, parens, position, variable_due};
+ghost use Rattle.sno_expression.specs.inner.Telling.{told, telling, Tells};
+ghost use Rattle.sno_expression.specs.inner.First.{is_apart, plain, first_operand};
 ghost use Rattle.sno_expression.specs.inner.Reading as states;
 ghost use Rattle.sno_expression.specs.Abstraction.{expression_of, arguments_of, expressions_of};
-ghost use Rattle.sno_expression.specs.inner.Told.{spine_tree, hole_of, stack_of, frame_of, state_of, stepped, step_of, Next, End};
+ghost use Rattle.sno_expression.specs.inner.Told.{spine_tree, hole_of, stack_of, spot_of, state_of, stepped, step_of, Next, End, told_of, whole_of};
 
 use crate::growing::{add_argument, omit_argument, tree_of, with_prefix};
-use crate::pushing::{alone, closed as closed_tree, goes_under, push};
+use crate::position::{Paren, Position, fits, lack, most, opens_bracket, stops};
+use crate::pushing::{closed as closed_tree, goes_under, grow};
 use crate::spine::Spine;
 use crate::tree::{
     Arguments, BinaryOperator, Call, Expression, IdentifierPrefix, Pending, Prefix, TableItem,
-    UnaryOperator, operator_of, prefix_of,
+    UnaryOperator, needs_variable, operand_is_variable, operator_of, prefix_of,
 };
-use crate::walking::{Paren, opens_bracket, stops};
 use sno_lexer::{Characters, Constant, Mark, Token, TokenKind, Word};
 use std::alloc::{AllocError, Global};
 
@@ -89,6 +90,10 @@ pub struct Found {
     pub tree: Option<Expression>,
     /// The index of the first token that was not taken, or of the end.
     pub next: usize,
+    /// How many tokens there are from the leftmost place on that lacks a variable; 0 where none does.
+    pub lacking: usize,
+    /// Whether the token that was not taken would be, with other blanks round it.
+    pub blank: bool,
 }
 
 fn fill(alloc: Global, hole: Hole, operand: Expression) -> Result<Spine, AllocError>
@@ -96,8 +101,14 @@ fn fill(alloc: Global, hole: Hole, operand: Expression) -> Result<Spine, AllocEr
     ensures { IfOk result (λ s. spine_tree s ≡ fill (hole_of hole) (expression_of operand)) }
 {
     match hole {
-        Hole::Begin => Ok(alone(alloc, operand)),
-        Hole::After(spine, operator) => push(alloc, operator, operand, spine),
+        Hole::Begin => Ok(Spine {
+            pending: Vec::new(alloc),
+            last: operand,
+        }),
+        Hole::After(spine, operator) => {
+            let Spine { pending, last } = spine;
+            grow(alloc, operator, operand, pending, last)
+        }
         Hole::Under(unary, rest) => {
             let operand = Box::new(alloc, operand)?;
             fill(
@@ -150,46 +161,6 @@ fn stop(alloc: Global, stack: Stack, spine: Spine) -> Result<Step, AllocError>
 }
 
 #[inline(always)]
-fn identifier_begins(
-    alloc: Global,
-    stack: Stack,
-    hole: Hole,
-    name: &Word,
-) -> Result<Step, AllocError>
-    ensures { IfOk result (λ s. step_of s ≡ Next (states.At (stack_of stack) (states.Named (hole_of hole) name.now))) }
-{
-    let name = name.characters(alloc)?;
-    Ok(Step::Next(State {
-        stack,
-        spot: Spot::Named(hole, name),
-    }))
-}
-
-#[inline(always)]
-fn constant_begins(
-    alloc: Global,
-    stack: Stack,
-    hole: Hole,
-    constant: &Constant,
-) -> Result<Step, AllocError>
-    ensures { IfOk result (λ s. step_of s ≡ Next (states.At (stack_of stack) (states.Whole (fill (hole_of hole) (expressions.Constant constant.now))))) }
-{
-    let constant = tree_of(alloc, constant)?;
-    whole(alloc, stack, hole, constant)
-}
-
-#[inline(always)]
-fn group_begins(alloc: Global, stack: Stack, hole: Hole) -> Result<Step, AllocError>
-    ensures { IfOk result (λ s. step_of s ≡ Next (states.At (states.InGroup (hole_of hole) (stack_of stack)) (states.Due states.Begin))) }
-{
-    let frame = Box::new(alloc, Frame::InGroup(hole, stack))?;
-    Ok(Step::Next(State {
-        stack: Stack::Above(frame),
-        spot: Spot::Due(Hole::Begin),
-    }))
-}
-
-#[inline(always)]
 fn prefix_begins(
     alloc: Global,
     stack: Stack,
@@ -213,16 +184,6 @@ fn prefix_begins(
     }
 }
 
-#[inline(always)]
-fn mark_begins(alloc: Global, stack: Stack, hole: Hole, mark: Mark) -> Result<Step, AllocError>
-    ensures { IfOk result (λ s. step_of s ≡ stepped (prefixed (stack_of stack) (hole_of hole) (prefix_of mark)) None) }
-{
-    match prefix_of(mark) {
-        Some(prefix) => prefix_begins(alloc, stack, hole, prefix),
-        None => Ok(Step::End(None)),
-    }
-}
-
 // An operand begins, where one is due.
 #[inline(always)]
 fn begin(
@@ -235,16 +196,33 @@ fn begin(
     ensures { IfOk result (λ s. step_of s ≡ stepped (begin (stack_of stack) (hole_of hole) after kind.now) None) }
 {
     match kind {
-        TokenKind::Identifier(name) => identifier_begins(alloc, stack, hole, name),
-        TokenKind::Constant(constant) => constant_begins(alloc, stack, hole, constant),
+        TokenKind::Identifier(name) => {
+            let name = name.characters(alloc)?;
+            Ok(Step::Next(State {
+                stack,
+                spot: Spot::Named(hole, name),
+            }))
+        }
+        TokenKind::Constant(constant) => {
+            let constant = tree_of(alloc, constant)?;
+            whole(alloc, stack, hole, constant)
+        }
         TokenKind::Mark(mark) => {
             if after {
-                Ok(Step::End(None))
-            } else {
-                mark_begins(alloc, stack, hole, *mark)
+                return Ok(Step::End(None));
+            }
+            match prefix_of(*mark) {
+                Some(prefix) => prefix_begins(alloc, stack, hole, prefix),
+                None => Ok(Step::End(None)),
             }
         }
-        TokenKind::Open => group_begins(alloc, stack, hole),
+        TokenKind::Open => {
+            let frame = Box::new(alloc, Frame::InGroup(hole, stack))?;
+            Ok(Step::Next(State {
+                stack: Stack::Above(frame),
+                spot: Spot::Due(Hole::Begin),
+            }))
+        }
         TokenKind::Close
         | TokenKind::OpenAngle
         | TokenKind::CloseAngle
@@ -392,45 +370,6 @@ fn first(alloc: Global, stack: Stack, after: bool, kind: &TokenKind) -> Result<S
     }
 }
 
-#[inline(always)]
-fn operator_follows(
-    alloc: Global,
-    stack: Stack,
-    spine: Spine,
-    mark: Mark,
-) -> Result<Step, AllocError>
-    ensures { IfOk result (λ s. step_of s ≡ stepped (joined (stack_of stack) (spine_tree spine) (operator_of mark)) (ended (stack_of stack) (spine_tree spine))) }
-{
-    match operator_of(mark) {
-        Some(operator) => Ok(Step::Next(State {
-            stack,
-            spot: Spot::Due(Hole::After(spine, operator)),
-        })),
-        None => stop(alloc, stack, spine),
-    }
-}
-
-#[inline(always)]
-fn prefix_follows(alloc: Global, stack: Stack, spine: Spine, mark: Mark) -> Result<Step, AllocError>
-    ensures { IfOk result (λ s. step_of s ≡ stepped (prefixed (stack_of stack) (states.After (spine_tree spine) BinaryOperator.Concatenation) (prefix_of mark)) (ended (stack_of stack) (spine_tree spine))) }
-{
-    match prefix_of(mark) {
-        Some(Prefix::OfOperand(unary)) => prefix_begins(
-            alloc,
-            stack,
-            Hole::After(spine, BinaryOperator::Concatenation),
-            Prefix::OfOperand(unary),
-        ),
-        Some(Prefix::OfIdentifier(prefix)) => prefix_begins(
-            alloc,
-            stack,
-            Hole::After(spine, BinaryOperator::Concatenation),
-            Prefix::OfIdentifier(prefix),
-        ),
-        None => stop(alloc, stack, spine),
-    }
-}
-
 // A mark after an operand and a blank.
 #[inline(always)]
 fn mark_follows(
@@ -443,9 +382,21 @@ fn mark_follows(
     ensures { IfOk result (λ s. step_of s ≡ stepped (go_on (stack_of stack) (spine_tree spine) true after (TokenKind.Mark mark)) (ended (stack_of stack) (spine_tree spine))) }
 {
     if after {
-        operator_follows(alloc, stack, spine, mark)
+        match operator_of(mark) {
+            Some(operator) => Ok(Step::Next(State {
+                stack,
+                spot: Spot::Due(Hole::After(spine, operator)),
+            })),
+            None => stop(alloc, stack, spine),
+        }
     } else {
-        prefix_follows(alloc, stack, spine, mark)
+        match prefix_of(mark) {
+            Some(prefix) => {
+                let hole = Hole::After(spine, BinaryOperator::Concatenation);
+                prefix_begins(alloc, stack, hole, prefix)
+            }
+            None => stop(alloc, stack, spine),
+        }
     }
 }
 
@@ -462,25 +413,10 @@ fn follow(
 {
     match kind {
         TokenKind::Mark(mark) => mark_follows(alloc, stack, spine, after, *mark),
-        TokenKind::Identifier(name) => identifier_begins(
-            alloc,
-            stack,
-            Hole::After(spine, BinaryOperator::Concatenation),
-            name,
-        ),
-        TokenKind::Constant(constant) => {
-            constant_begins(
-                alloc,
-                stack,
-                Hole::After(spine, BinaryOperator::Concatenation),
-                constant,
-            )
+        TokenKind::Identifier(_) | TokenKind::Constant(_) | TokenKind::Open => {
+            let hole = Hole::After(spine, BinaryOperator::Concatenation);
+            begin(alloc, stack, hole, after, kind)
         }
-        TokenKind::Open => group_begins(
-            alloc,
-            stack,
-            Hole::After(spine, BinaryOperator::Concatenation),
-        ),
         TokenKind::Close => close(alloc, stack, spine),
         TokenKind::Comma => comma(alloc, stack, spine),
         TokenKind::CloseAngle => close_angle(alloc, stack, spine),
@@ -513,23 +449,42 @@ fn touch(
 }
 
 #[inline(always)]
-fn paren_of(frame: &Frame) -> Paren
-    ensures { Some result ≡ inner_of (parens (frame_of frame.now)) }
-{
-    match frame {
-        Frame::InGroup(_, _) => Paren::OfGroup,
-        Frame::InCall(_, _, _, _) => Paren::OfCall,
-        Frame::InItem(_, _, _) => Paren::OfItem,
-    }
-}
-
-#[inline(always)]
 fn inner(stack: &Stack) -> Option<Paren>
     ensures { result ≡ inner_of (parens (stack_of stack.now)) }
 {
     match stack {
         Stack::Bottom => None,
-        Stack::Above(frame) => Some(paren_of(frame)),
+        Stack::Above(frame) => match &**frame {
+            Frame::InGroup(_, _) => Some(Paren::OfGroup),
+            Frame::InCall(_, _, _, _) => Some(Paren::OfCall),
+            Frame::InItem(_, _, _) => Some(Paren::OfItem),
+        },
+    }
+}
+
+// Whether the operand that is due has to be a variable.
+#[inline(always)]
+fn variable_due(hole: &Hole) -> bool
+    ensures { result ≡ variable_due (hole_of hole.now) }
+{
+    match hole {
+        Hole::Begin => false,
+        Hole::After(_, operator) => needs_variable(*operator),
+        Hole::Under(unary, _) => operand_is_variable(*unary),
+    }
+}
+
+#[inline(always)]
+fn position(spot: &Spot) -> Position
+    ensures { result ≡ position (spot_of spot.now) }
+{
+    match spot {
+        Spot::Due(Hole::Begin) => Position::AtStart,
+        Spot::Due(Hole::After(_, operator)) => Position::AfterBinary(needs_variable(*operator)),
+        Spot::Due(Hole::Under(unary, _)) => Position::AfterUnary(operand_is_variable(*unary)),
+        Spot::Prefixed(_, _) => Position::AfterPrefix,
+        Spot::Named(hole, _) => Position::AfterIdentifier(variable_due(hole)),
+        Spot::Whole(_) => Position::AfterOperand,
     }
 }
 
@@ -591,20 +546,6 @@ fn due(alloc: Global, stack: Stack, hole: Hole, token: &Token) -> Result<Step, A
 }
 
 #[inline(always)]
-fn prefix_ends(
-    alloc: Global,
-    stack: Stack,
-    hole: Hole,
-    prefix: IdentifierPrefix,
-    name: &Word,
-) -> Result<Step, AllocError>
-    ensures { IfOk result (λ s. step_of s ≡ Next (states.At (stack_of stack) (states.Whole (fill (hole_of hole) (states.with_prefix prefix name.now))))) }
-{
-    let name = name.characters(alloc)?;
-    whole(alloc, stack, hole, with_prefix(prefix, name))
-}
-
-#[inline(always)]
 fn after_prefix(
     alloc: Global,
     stack: Stack,
@@ -620,7 +561,8 @@ fn after_prefix(
             if before {
                 Ok(Step::End(None))
             } else {
-                prefix_ends(alloc, stack, hole, prefix, name)
+                let name = name.characters(alloc)?;
+                whole(alloc, stack, hole, with_prefix(prefix, name))
             }
         }
         TokenKind::Constant(_)
@@ -632,48 +574,6 @@ fn after_prefix(
         | TokenKind::Comma
         | TokenKind::Part(_) => Ok(Step::End(None)),
     }
-}
-
-// What a bracket opens that touches an identifier.
-fn opened(stack: Stack, hole: Hole, name: Characters, kind: &TokenKind) -> Frame
-    ensures { frame_of result ≡ opened name (hole_of hole) (stack_of stack) kind.now }
-{
-    match kind {
-        TokenKind::OpenAngle => Frame::InItem(name, hole, stack),
-        _ => Frame::InCall(name, Arguments::NoArguments, hole, stack),
-    }
-}
-
-#[inline(always)]
-fn bracket_begins(
-    alloc: Global,
-    stack: Stack,
-    hole: Hole,
-    name: Characters,
-    kind: &TokenKind,
-) -> Result<Step, AllocError>
-    ensures { IfOk result (λ s. step_of s ≡ Next (states.At (opened name (hole_of hole) (stack_of stack) kind.now) (states.Due states.Begin))) }
-{
-    let frame = Box::new(alloc, opened(stack, hole, name, kind))?;
-    Ok(Step::Next(State {
-        stack: Stack::Above(frame),
-        spot: Spot::Due(Hole::Begin),
-    }))
-}
-
-#[inline(always)]
-fn identifier_ends(
-    alloc: Global,
-    alone: bool,
-    stack: Stack,
-    hole: Hole,
-    name: Characters,
-    token: &Token,
-) -> Result<Step, AllocError>
-    ensures { IfOk result (λ s. step_of s ≡ stepped (after alone (stack_of stack) (fill (hole_of hole) (expressions.Identifier name)) token.now.blank_before token.now.blank_after token.now.kind) (ended (stack_of stack) (fill (hole_of hole) (expressions.Identifier name)))) }
-{
-    let spine = fill(alloc, hole, Expression::Identifier(name))?;
-    after(alloc, alone, stack, spine, token)
 }
 
 #[inline(always)]
@@ -688,10 +588,18 @@ fn named(
     ensures { IfOk result (λ s. step_of s ≡ stepped (named alone (stack_of stack) (hole_of hole) name token.now.blank_before token.now.blank_after token.now.kind) (ended (stack_of stack) (fill (hole_of hole) (expressions.Identifier name)))) }
 {
     if opens_bracket(token.blank_before, &token.kind) {
-        bracket_begins(alloc, stack, hole, name, &token.kind)
-    } else {
-        identifier_ends(alloc, alone, stack, hole, name, token)
+        let opened = match &token.kind {
+            TokenKind::OpenAngle => Frame::InItem(name, hole, stack),
+            _ => Frame::InCall(name, Arguments::NoArguments, hole, stack),
+        };
+        let frame = Box::new(alloc, opened)?;
+        return Ok(Step::Next(State {
+            stack: Stack::Above(frame),
+            spot: Spot::Due(Hole::Begin),
+        }));
     }
+    let spine = fill(alloc, hole, Expression::Identifier(name))?;
+    after(alloc, alone, stack, spine, token)
 }
 
 // One more token.
@@ -750,7 +658,7 @@ fn names_follow(
 ) -> Result<Run, AllocError>
     requires taken { closed alone (stack_of stack) ≡ false }
     requires begins { from ≤ length tokens.now }
-    ensures same { IfOk result (λ run. answer alone (states.At (stack_of stack) (states.Named (states.After (spine_tree spine) BinaryOperator.Concatenation) name)) (drop from tokens.now) ≡ answer alone (state_of run.state) (drop run.next tokens.now)) }
+    ensures same { IfOk result (λ run. told alone (states.At (stack_of stack) (states.Named (states.After (spine_tree spine) BinaryOperator.Concatenation) name)) (drop from tokens.now) ≡ told alone (state_of run.state) (drop run.next tokens.now)) }
     ensures onward { IfOk result (λ run. from ≤ run.next) }
     ensures within { IfOk result (λ run. run.next ≤ length tokens.now) }
 {
@@ -798,7 +706,7 @@ fn run_on(
     from: usize,
 ) -> Result<Run, AllocError>
     requires { from ≤ length tokens.now }
-    ensures same { IfOk result (λ run. answer alone (state_of state) (drop from tokens.now) ≡ answer alone (state_of run.state) (drop run.next tokens.now)) }
+    ensures same { IfOk result (λ run. told alone (state_of state) (drop from tokens.now) ≡ told alone (state_of run.state) (drop run.next tokens.now)) }
     ensures onward { IfOk result (λ run. from ≤ run.next) }
     ensures within { IfOk result (λ run. run.next ≤ length tokens.now) }
 {
@@ -851,6 +759,145 @@ fn finish(alloc: Global, state: State) -> Result<Option<Expression>, AllocError>
     }
 }
 
+// Whether no bracket comes next, which a name before it might open.
+#[inline(always)]
+fn is_apart(tokens: &[Token]) -> bool
+    ensures { result ≡ is_apart tokens.now }
+{
+    match tokens.split_first() {
+        None => true,
+        Some((token, _)) => !opens_bracket(false, &token.kind),
+    }
+}
+
+// The operand that a token is by itself.
+#[inline(always)]
+fn plain(
+    alloc: Global,
+    kind: &TokenKind,
+    behind: &[Token],
+) -> Result<Option<Expression>, AllocError>
+    ensures { IfOk result (λ t. expressions_of t ≡ plain kind.now behind.now) }
+{
+    match kind {
+        TokenKind::Identifier(name) => {
+            if is_apart(behind) {
+                let name = name.characters(alloc)?;
+                Ok(Some(Expression::Identifier(name)))
+            } else {
+                Ok(None)
+            }
+        }
+        TokenKind::Constant(constant) => {
+            let constant = tree_of(alloc, constant)?;
+            Ok(Some(constant))
+        }
+        TokenKind::Mark(_)
+        | TokenKind::Open
+        | TokenKind::Close
+        | TokenKind::OpenAngle
+        | TokenKind::CloseAngle
+        | TokenKind::Comma
+        | TokenKind::Part(_) => Ok(None),
+    }
+}
+
+// The first operand, where one token tells it.
+#[inline(always)]
+fn first_operand(alloc: Global, tokens: &[Token]) -> Result<Option<Expression>, AllocError>
+    ensures { IfOk result (λ t. expressions_of t ≡ first_operand tokens.now) }
+{
+    match tokens.split_first() {
+        None => Ok(None),
+        Some((token, behind)) => plain(alloc, &token.kind, behind),
+    }
+}
+
+// Reads on, from the token at `from`.
+fn read_on(
+    alloc: Global,
+    alone: bool,
+    begun: State,
+    tokens: &[Token],
+    from: usize,
+) -> Result<Found, AllocError>
+    ensures reads { IfOk result (λ found. told_of found tokens.now ≡ told alone (state_of begun) (drop from tokens.now)) }
+    ensures within { IfOk result (λ found. found.next ≤ length tokens.now) }
+    ensures onward { IfOk result (λ found. from ≤ length tokens.now → from ≤ found.next) }
+{
+    let mut state = begun;
+    let mut at = from;
+    let mut lacking = 0;
+    while at < tokens.len() {
+        let token = &tokens[at];
+        let inner = inner(&state.stack);
+        let position = position(&state.spot);
+        match read(alloc, alone, state, token)? {
+            Step::Next(next) => {
+                let left = tokens.len() - at;
+                let here = lack(position, token.blank_before, &token.kind, left);
+                lacking = most(lacking, here);
+                at += 1;
+                if names_stand(&tokens[at..]) {
+                    let run = run_on(alloc, alone, next, tokens, at)?;
+                    state = run.state;
+                    at = run.next;
+                } else {
+                    state = next;
+                }
+            }
+            Step::End(tree) => {
+                return Ok(Found {
+                    tree,
+                    next: at,
+                    lacking,
+                    blank: fits(alone, inner, position, &token.kind),
+                });
+            }
+        }
+    }
+    let tree = finish(alloc, state)?;
+    Ok(Found {
+        tree,
+        next: tokens.len(),
+        lacking,
+        blank: false,
+    })
+}
+
+// Reads on behind a first operand, which is all where it stands alone.
+#[inline(always)]
+fn read_behind(
+    alloc: Global,
+    alone: bool,
+    first: Expression,
+    tokens: &[Token],
+    from: usize,
+) -> Result<Found, AllocError>
+    requires element { is_element first ≡ true }
+    requires within { from ≤ length tokens.now }
+    ensures reads { IfOk result (λ found. told_of found tokens.now ≡ told alone (whole_of first) (drop from tokens.now)) }
+    ensures within { IfOk result (λ found. found.next ≤ length tokens.now) }
+    ensures onward { IfOk result (λ found. from ≤ found.next) }
+{
+    if alone {
+        return Ok(Found {
+            tree: Some(first),
+            next: from,
+            lacking: 0,
+            blank: false,
+        });
+    }
+    let begun = State {
+        stack: Stack::Bottom,
+        spot: Spot::Whole(Spine {
+            pending: Vec::new(alloc),
+            last: first,
+        }),
+    };
+    read_on(alloc, alone, begun, tokens, from)
+}
+
 /// Reads one expression from the tokens, from the one at `from` on, or where it stands `alone` one element.
 ///
 /// It ends before the first token that is not taken, or at the end of the tokens.
@@ -864,36 +911,18 @@ pub fn read_expression(
     tokens: &[Token],
     from: usize,
 ) -> Result<Found, AllocError>
-    ensures reads { IfOk result (λ found. Read (expressions_of found.tree) (drop found.next tokens.now) ≡ reading alone (drop from tokens.now)) }
+    ensures reads { IfOk result (λ found. Tells (expressions_of found.tree) (drop found.next tokens.now) found.lacking found.blank ≡ telling alone (drop from tokens.now)) }
     ensures within { IfOk result (λ found. found.next ≤ length tokens.now) }
     ensures onward { IfOk result (λ found. from ≤ length tokens.now → from ≤ found.next) }
 {
-    let mut state = State {
+    if from < tokens.len() {
+        if let Some(first) = first_operand(alloc, &tokens[from..])? {
+            return read_behind(alloc, alone, first, tokens, from + 1);
+        }
+    }
+    let begun = State {
         stack: Stack::Bottom,
         spot: Spot::Due(Hole::Begin),
     };
-    let mut at = from;
-    while at < tokens.len() {
-        match read(alloc, alone, state, &tokens[at])? {
-            Step::Next(next) => {
-                at += 1;
-                if names_stand(&tokens[at..]) {
-                    let Run {
-                        state: reached,
-                        next,
-                    } = run_on(alloc, alone, next, tokens, at)?;
-                    state = reached;
-                    at = next;
-                } else {
-                    state = next;
-                }
-            }
-            Step::End(tree) => return Ok(Found { tree, next: at }),
-        }
-    }
-    let tree = finish(alloc, state)?;
-    Ok(Found {
-        tree,
-        next: tokens.len(),
-    })
+    read_on(alloc, alone, begun, tokens, from)
 }

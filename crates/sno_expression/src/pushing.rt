@@ -50,7 +50,7 @@ pub(crate) fn goes_under(operator: BinaryOperator, pending: &[Pending]) -> bool
 
 // The innermost operators are closed that the new one may not stand under; what they make is its left operand.
 #[tactic(auto, using(crate::proofs::Spines::ordered_popped, crate::proofs::Spines::spread_popped))]
-fn grow(
+pub(crate) fn grow(
     alloc: Global,
     operator: BinaryOperator,
     operand: Expression,
@@ -91,33 +91,6 @@ fn close_all(
     run.shrink_to_fit();
     let operands = Box::new(alloc, Operands { left, run, last })?;
     Ok(Expression::Binary(operator, operands))
-}
-
-/// The tree of one operand.
-#[inline(always)]
-pub(crate) fn alone(alloc: Global, operand: Expression) -> Spine
-    requires { is_element operand ≡ true }
-    ensures { spine_tree result ≡ expression_of operand }
-{
-    Spine {
-        pending: Vec::new(alloc),
-        last: operand,
-    }
-}
-
-/// One more operand at the right end, as deep as the operator's precedence puts it.
-#[inline(always)]
-pub(crate) fn push(
-    alloc: Global,
-    operator: BinaryOperator,
-    operand: Expression,
-    spine: Spine,
-) -> Result<Spine, AllocError>
-    requires { is_element operand ≡ true }
-    ensures { IfOk result (λ s. spine_tree s ≡ push operator (expression_of operand) (spine_tree spine)) }
-{
-    let Spine { pending, last } = spine;
-    grow(alloc, operator, operand, pending, last)
 }
 
 /// The tree, when no more operands come.

@@ -25,4 +25,4 @@ pub use keywords::{keyword, set_keyword};
 pub use matching::matched;
 pub use primitives::primitive;
 pub use sno_cards::Limits;
-pub use using::{WriteEnd, assigned, used, writing_got};
+pub use using::{assigned, used};

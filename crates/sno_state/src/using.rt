@@ -17,7 +17,7 @@ use mon_text::Line;
 use sno_declarations::laws::records_follow;
 use sno_declarations::{Input, Output};
 use sno_semantics::{Evaluated, Halt};
-use sno_store::{Found, Replaced, Store};
+use sno_store::{Found, Store};
 use sno_text::{Fault, Named, Text};
 use sno_value::Value;
 use std::alloc::{AllocError, Global};
@@ -231,7 +231,7 @@ pub fn write_variable<S: Service>(
     }
 }
 
-/// Assigns a value to a variable that was most likely not named before: it is not looked for first.
+/// Assigns a value to a variable that most likely was not named before or is written: it is not tried first whether it is neither.
 ///
 /// # Errors
 ///
@@ -281,12 +281,9 @@ pub fn assigned<S: Service>(
     ensures ready { S.ready service.new }
 {
     let mut value = value;
-    match state.replace(name, &mut value) {
-        Replaced::Quiet => Ok(Evaluated::Gives(Value::null())),
-        Replaced::Written => match write_variable(alloc, name, state, service) {
-            Ok(writing) => Ok(writing_got(writing)),
-            Err(e) => Err(e),
-        },
-        Replaced::Unnamed => assigned_first(alloc, name, value, state, service),
+    if state.replace(name, &mut value) {
+        Ok(Evaluated::Gives(Value::null()))
+    } else {
+        assigned_first(alloc, name, value, state, service)
     }
 }

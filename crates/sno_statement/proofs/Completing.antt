@@ -1,6 +1,6 @@
 -- A statement that the tokens spell is the one that they are read as.
-use Rattle.std.proofs.Common.{◌≡◌, List, [], ◌∷◌, refl, sym, ap, ◌∙◌, subst}
-use Rattle.std.specs.Prelude.{Bool, true, false, Option, Some, None}
+use Rattle.std.proofs.Common.{◌≡◌, ℕ, length, List, [], ◌∷◌, refl, sym, ap, ◌∙◌, subst}
+use Rattle.std.specs.Prelude.{Bool, true, false, Option, Some, None, Result, Ok, Err, ◌||◌, if◌then◌else◌}
 use Rattle.std.proofs.Common.{inl, inr}
 use Rattle.sno_lexer.specs.declared.token.Mark.{Mark}
 use Rattle.sno_lexer.specs.declared.token.Mark.TheVariants.{Dollar}
@@ -8,68 +8,92 @@ use Rattle.sno_lexer.specs.declared.token.Outcome.{Outcome}
 use Rattle.sno_lexer.specs.declared.token.Outcome.TheVariants.{Success, Failure}
 use Rattle.sno_lexer.specs.declared.token.Part.TheVariants.{Equals, Colon}
 use Rattle.sno_lexer.specs.declared.token.Token.{Token}
+use Rattle.sno_lexer.specs.declared.token.TokenKind.{TokenKind}
 use Rattle.sno_lexer.specs.declared.token.TokenKind.TheVariants as token
 use Rattle.sno_expression.specs.declared.tree.UnaryOperator.TheVariants.{Indirect}
 use Rattle.sno_expression.specs.Expressions.{Expression, Unary}
 use Rattle.sno_expression.specs.Spelling.{spaced, SpellsTo}
-use Rattle.sno_expression.specs.inner.Reading.{Stops, reading}
-use Rattle.sno_statement.specs.declared.walking.Role.{Role}
+use Rattle.sno_expression.specs.inner.Reading.{Stops}
+use Rattle.sno_expression.specs.inner.Telling.{most, begins, Told, Tells, telling}
+use Rattle.sno_statement.specs.declared.parser.Refusal.{Refusal}
+use Rattle.sno_statement.specs.declared.role.Role.{Role}
 use Rattle.sno_statement.specs.inner.Walking.{stands}
 use Rattle.sno_statement.specs.Statements.{Target, To, Computed, Goto, NoGoto, Always, OnSuccess, OnFailure, OnBoth, Object, NoObject, NullObject, ValueObject, Body, NoBody, Does, Statement, Says}
 use Rattle.sno_statement.specs.Spelling.{TargetTo, OutcomeTo, LeadsTo, GotoTo, ObjectTo, Spells}
-use Rattle.sno_statement.specs.inner.Reading.{Aimed, computed, inside, target_in, always, both, next, chosen, goto_in, going, ending, giving, by_object, object_in, pattern_then, matching, by_subject, subject_then, acting, by_first, statement_in}
-use Rattle.sno_expression.proofs.Feeding.{complete}
-use Rattle.sno_statement.proofs.Roles.{headed, stops_blank, dollar}
+use Rattle.sno_statement.specs.inner.Parsing.{blamed, Aim, Aimed, computed, inside, target_in, Way, Leads, always, both, next, chosen, goto_in, Stated, States, stated, going, is_colon, ends_part, ending, giving, by_object, object_in, set, pattern_then, matching, by_subject, subject_then, acting, by_first, statement_in}
+use Rattle.sno_statement.proofs.Roles.{headed, stops_blank, dollar, no_colon}
+use Rattle.sno_statement.proofs.Told.{told_complete}
 use Rattle.sno_statement.proofs.Shorthand.{PatternTo, ColonTo}
 
-computed_inside : (ts m : List Token) (c : Bool) (k : Mark) → k ≡ Dollar → ts ≡ spaced c false (token.Mark k) ∷ m → inside ts ≡ computed (reading true ts)
-computed_inside ts m c k e d =
+-- what is read, with whatever places go with it
+abbrev IsAim : Result Aim Refusal → Target → List Token → Type 0
+IsAim x t rest = (n : ℕ) × (x ≡ Ok (Aimed t n rest))
+
+abbrev IsWay : Result Way Refusal → Goto → Type 0
+IsWay x g = (n : ℕ) × (x ≡ Ok (Leads g n))
+
+abbrev IsStated : Result Stated Refusal → Statement → Type 0
+IsStated x s = (n : ℕ) × (x ≡ Ok (States s n))
+
+computed_inside : (n : ℕ) (ts m : List Token) (c : Bool) (k : Mark) → k ≡ Dollar → ts ≡ spaced c false (token.Mark k) ∷ m → inside n ts ≡ computed n (telling true ts)
+computed_inside n ts m c k e d =
     let f : ts ≡ spaced c false (token.Mark Dollar) ∷ m = d ∙ ap (λ (x : Mark). spaced c false (token.Mark x) ∷ m) e in
     rw f
 
-target_read : (t : Target) (ts rest : List Token) → TargetTo t ts rest → target_in ts ≡ Aimed t rest
-target_read (To l) ts rest s = ap target_in s.6
-target_read (Computed t) ts rest s =
+target_read : (t : Target) (n : ℕ) (ts rest : List Token) → TargetTo t ts rest → IsAim (target_in n ts) t rest
+target_read (To l) n ts rest s = (n, ap (target_in n) s.6)
+target_read (Computed t) n ts rest s =
     let p = s.7 in
-    ap target_in s.6
-    ∙ (computed_inside s.0 p.0 s.3 p.1 (dollar p.1 p.2) p.3
-    ∙ ap computed (complete true (Unary Indirect t) s.3 s.0 (spaced s.4 s.5 token.Close ∷ rest) tt p tt))
+    let x = told_complete true (Unary Indirect t) s.3 s.0 (spaced s.4 s.5 token.Close ∷ rest) tt p tt in (
+      most n x.0,
+      ap (target_in n) s.6 ∙ (computed_inside n s.0 p.0 s.3 p.1 (dollar p.1 p.2) p.3 ∙ ap (computed n) x.2),
+    )
 
 -- a target alone is read as one
-alone_read : (t : Target) (ts rest : List Token) → TargetTo t ts rest → goto_in ts ≡ always (target_in ts)
-alone_read (To l) ts rest s = rw s.6
-alone_read (Computed t) ts rest s = rw s.6
+alone_read : (t : Target) (n : ℕ) (ts rest : List Token) → TargetTo t ts rest → goto_in n ts ≡ always (target_in n ts)
+alone_read (To l) n ts rest s = rw s.6
+alone_read (Computed t) n ts rest s = rw s.6
 
-outcome_read : (o : Outcome) (t : Target) (ts rest : List Token) → OutcomeTo o t ts rest → goto_in ts ≡ next o t rest
-outcome_read o t ts rest s = ap goto_in s.3 ∙ ap (chosen o) (target_read t s.0 rest s.4)
+always_read : (t : Target) (n : ℕ) (ts : List Token) → TargetTo t ts [] → IsWay (goto_in n ts) (Always t)
+always_read t n ts s = let x = target_read t n ts [] s in (x.0, alone_read t n ts [] s ∙ ap always x.1)
 
-success_then : (s f : Target) (ts : List Token) → OutcomeTo Failure f ts [] → next Success s ts ≡ Some (OnBoth s f)
-success_then s f ts p = ap (next Success s) p.3 ∙ ap (both Success s) (target_read f p.0 [] p.4)
+outcome_read : (o : Outcome) (t : Target) (n : ℕ) (ts rest : List Token) → OutcomeTo o t ts rest → (m : ℕ) × (goto_in n ts ≡ next o t m rest)
+outcome_read o t n ts rest s = let x = target_read t n s.0 rest s.4 in (x.0, ap (goto_in n) s.3 ∙ ap (chosen o) x.1)
 
-failure_then : (s f : Target) (ts : List Token) → OutcomeTo Success s ts [] → next Failure f ts ≡ Some (OnBoth s f)
-failure_then s f ts p = ap (next Failure f) p.3 ∙ ap (both Failure f) (target_read s p.0 [] p.4)
+success_then : (s f : Target) (n : ℕ) (ts : List Token) → OutcomeTo Failure f ts [] → IsWay (next Success s n ts) (OnBoth s f)
+success_then s f n ts p = let x = target_read f n p.0 [] p.4 in (x.0, ap (next Success s n) p.3 ∙ ap (both Success s) x.1)
 
-both_read : (s f : Target) (ts : List Token) → LeadsTo (OnBoth s f) ts → goto_in ts ≡ Some (OnBoth s f)
-both_read s f ts (inl p) = outcome_read Success s ts p.0 p.1 ∙ success_then s f p.0 p.2
-both_read s f ts (inr p) = outcome_read Failure f ts p.0 p.1 ∙ failure_then s f p.0 p.2
+failure_then : (s f : Target) (n : ℕ) (ts : List Token) → OutcomeTo Success s ts [] → IsWay (next Failure f n ts) (OnBoth s f)
+failure_then s f n ts p = let x = target_read s n p.0 [] p.4 in (x.0, ap (next Failure f n) p.3 ∙ ap (both Failure f) x.1)
 
-goto_read : (g : Goto) (ts : List Token) → LeadsTo g ts → goto_in ts ≡ Some g
-goto_read NoGoto ts s = absurd s
-goto_read (Always t) ts s = alone_read t ts [] s ∙ ap always (target_read t ts [] s)
-goto_read (OnSuccess t) ts s = outcome_read Success t ts [] s
-goto_read (OnFailure t) ts s = outcome_read Failure t ts [] s
-goto_read (OnBoth s f) ts p = both_read s f ts p
+both_read : (s f : Target) (n : ℕ) (ts : List Token) → LeadsTo (OnBoth s f) ts → IsWay (goto_in n ts) (OnBoth s f)
+both_read s f n ts (inl p) =
+    let x = outcome_read Success s n ts p.0 p.1 in
+    let y = success_then s f x.0 p.0 p.2 in
+    (y.0, x.1 ∙ y.1)
+both_read s f n ts (inr p) =
+    let x = outcome_read Failure f n ts p.0 p.1 in
+    let y = failure_then s f x.0 p.0 p.2 in
+    (y.0, x.1 ∙ y.1)
+
+goto_read : (g : Goto) (n : ℕ) (ts : List Token) → LeadsTo g ts → IsWay (goto_in n ts) g
+goto_read NoGoto n ts s = absurd s
+goto_read (Always t) n ts s = always_read t n ts s
+goto_read (OnSuccess t) n ts s = outcome_read Success t n ts [] s
+goto_read (OnFailure t) n ts s = outcome_read Failure t n ts [] s
+goto_read (OnBoth s f) n ts p = both_read s f n ts p
 
 -- how a reading goes on that has a body so far
-pub record GoesOn (on : List Token → Option Statement) (b : Body) : Type 0 where
-  pub ends : on [] ≡ Some (Says b NoGoto)
-  pub goes : (c : Bool) (ts : List Token) → on (spaced true c (token.Part Colon) ∷ ts) ≡ going b (goto_in ts)
+record GoesOn (on : List Token → Result Stated Refusal) (b : Body) : Type 0 where
+  place : ℕ
+  ends : on [] ≡ Ok (States (Says b NoGoto) place)
+  goes : (c : Bool) (ts : List Token) → on (spaced true c (token.Part Colon) ∷ ts) ≡ going b (goto_in place ts)
 
-colon_read : (on : List Token → Option Statement) (b : Body) (g : Goto) (ts : List Token) → GoesOn on b → ColonTo g ts → on ts ≡ Some (Says b g)
-colon_read on b g ts h s = ap on s.2 ∙ (h.goes s.1 s.0 ∙ ap (going b) (goto_read g s.0 s.3))
+colon_read : (on : List Token → Result Stated Refusal) (b : Body) (g : Goto) (ts : List Token) → GoesOn on b → ColonTo g ts → IsStated (on ts) (Says b g)
+colon_read on b g ts h s = let x = goto_read g h.place s.0 s.3 in (x.0, ap on s.2 ∙ (h.goes s.1 s.0 ∙ ap (going b) x.1))
 
-last_read : (on : List Token → Option Statement) (b : Body) (g : Goto) (ts : List Token) → GoesOn on b → GotoTo g ts → on ts ≡ Some (Says b g)
-last_read on b NoGoto ts h s = ap on s ∙ h.ends
+last_read : (on : List Token → Result Stated Refusal) (b : Body) (g : Goto) (ts : List Token) → GoesOn on b → GotoTo g ts → IsStated (on ts) (Says b g)
+last_read on b NoGoto ts h s = (h.place, ap on s ∙ h.ends)
 last_read on b (Always t) ts h s = colon_read on b (Always t) ts h s
 last_read on b (OnSuccess t) ts h s = colon_read on b (OnSuccess t) ts h s
 last_read on b (OnFailure t) ts h s = colon_read on b (OnFailure t) ts h s
@@ -95,67 +119,74 @@ pattern_stops None o g ts m n s d e = subst (Stops true) (sym s) (object_stops t
 pattern_stops (Some p) o g ts m n s d e = stops_blank p ts m s
 
 -- behind `=` a blank leads to the object
-giving_read : (s : Expression) (p : Option Expression) (t : Expression) (ts rest : List Token) → SpellsTo true t ts rest → object_in s p ts ≡ giving s p (reading false ts)
-giving_read s p t ts rest q =
+giving_read : (s : Expression) (p : Option Expression) (n : ℕ) (t : Expression) (ts rest : List Token) → SpellsTo true t ts rest → object_in s p n ts ≡ giving s p n (telling false ts)
+giving_read s p n t ts rest q =
     let h = headed t true ts rest q in
-    ap (object_in s p) h.is
-    ∙ (ap (λ (r : Role). by_object r s p h.head h.tail) h.role
-    ∙ ap (λ (x : List Token). giving s p (reading false x)) (sym h.is))
+    ap (object_in s p n) h.is
+    ∙ (ap (λ (r : Role). by_object r s p n h.head h.tail) h.role
+    ∙ ap (λ (x : List Token). giving s p n (telling false x)) (sym h.is))
 
-matching_read : (s : Expression) (t : Expression) (ts rest : List Token) → SpellsTo true t ts rest → subject_then s ts ≡ matching s (reading false ts)
-matching_read s t ts rest q =
+matching_read : (z : ℕ) (w : Bool) (s : Expression) (n : ℕ) (t : Expression) (ts rest : List Token) → SpellsTo true t ts rest → subject_then z w s n ts ≡ matching z s n (telling false ts)
+matching_read z w s n t ts rest q =
     let h = headed t true ts rest q in
-    ap (subject_then s) h.is
-    ∙ (ap (λ (r : Role). by_subject r s h.head h.tail) h.role
-    ∙ ap (λ (x : List Token). matching s (reading false x)) (sym h.is))
+    let b = w || (begins false h.head.kind || ends_part h.head.kind) in
+    ap (subject_then z w s n) h.is
+    ∙ (ap (λ (r : Role). by_subject r z b s n h.head h.tail) h.role
+    ∙ (ap (λ (c : Bool). if c then matching z s n (telling false (h.head ∷ h.tail)) else Err (blamed b n (h.head ∷ h.tail))) h.opens
+    ∙ ap (λ (x : List Token). matching z s n (telling false x)) (sym h.is)))
 
-begun : (b : Bool) (t : Token) (ts : List Token) → by_first (stands b) t ts ≡ acting (reading true (t ∷ ts))
-begun true t ts = refl
-begun false t ts = refl
+begun : (b : Bool) (t : Token) (ts : List Token) → is_colon t.kind ≡ false → by_first (stands b) (length (t ∷ ts)) t ts ≡ acting (length (t ∷ ts)) (telling true (t ∷ ts))
+begun true t ts e = refl
+begun false t ts e = ap (λ (c : Bool). if c then Err (blamed true 0 (t ∷ ts)) else acting (length (t ∷ ts)) (telling true (t ∷ ts))) e
 
-acting_read : (t : Expression) (b : Bool) (ts rest : List Token) → SpellsTo b t ts rest → statement_in ts ≡ acting (reading true ts)
+acting_read : (t : Expression) (b : Bool) (ts rest : List Token) → SpellsTo b t ts rest → statement_in ts ≡ acting (length ts) (telling true ts)
 acting_read t b ts rest q =
     let h = headed t b ts rest q in
     ap statement_in h.is
-    ∙ (ap (λ (r : Role). by_first r h.head h.tail) h.role
-    ∙ (begun b h.head h.tail
-    ∙ ap (λ (x : List Token). acting (reading true x)) (sym h.is)))
+    ∙ (ap (λ (r : Role). by_first r (length (h.head ∷ h.tail)) h.head h.tail) h.role
+    ∙ (begun b h.head h.tail (no_colon h.head.blank_after h.head.kind h.opens)
+    ∙ ap (λ (x : List Token). acting (length x) (telling true x)) (sym h.is)))
 
-on_ending : (b : Body) → GoesOn (ending b) b
-on_ending b = record { ends = refl; goes = λ c ts. refl }
+on_ending : (w : Bool) (b : Body) (n : ℕ) → GoesOn (ending w b n) b
+on_ending w b n = record { place = n; ends = refl; goes = λ c ts. refl }
 
-on_object : (s : Expression) (p : Option Expression) → GoesOn (object_in s p) (Does s p NullObject)
-on_object s p = record { ends = refl; goes = λ c ts. refl }
+on_object : (s : Expression) (p : Option Expression) (n : ℕ) → GoesOn (object_in s p n) (Does s p NullObject)
+on_object s p n = record { place = n; ends = refl; goes = λ c ts. refl }
 
 -- behind the subject and the pattern
-object_read : (on : List Token → Option Statement) (s : Expression) (p : Option Expression) (o : Object) (g : Goto) (ts m : List Token)
-    → GoesOn on (Does s p NoObject) → ((k : List Token) → on (spaced true true (token.Part Equals) ∷ k) ≡ object_in s p k)
-    → ObjectTo o ts m → GotoTo g m → on ts ≡ Some (Says (Does s p o) g)
-object_read on s p NoObject g ts m h q d e = ap on d ∙ last_read on (Does s p NoObject) g m h e
-object_read on s p NullObject g ts m h q d e = ap on d ∙ (q m ∙ last_read (object_in s p) (Does s p NullObject) g m (on_object s p) e)
-object_read on s p (ValueObject t) g ts m h q d e =
-    ap on d.1
-    ∙ (q d.0
-    ∙ (giving_read s p t d.0 m d.2
-    ∙ (ap (giving s p) (complete false t true d.0 m tt d.2 (goto_stops false g m e))
-    ∙ last_read (ending (Does s p (ValueObject t))) (Does s p (ValueObject t)) g m (on_ending (Does s p (ValueObject t))) e)))
+object_read : (on : List Token → Result Stated Refusal) (s : Expression) (p : Option Expression) (i : ℕ) (o : Object) (g : Goto) (ts m : List Token)
+    → GoesOn on (Does s p NoObject) → ((k : List Token) → on (spaced true true (token.Part Equals) ∷ k) ≡ object_in s p i k)
+    → ObjectTo o ts m → GotoTo g m → IsStated (on ts) (Says (Does s p o) g)
+object_read on s p i NoObject g ts m h q d e = let x = last_read on (Does s p NoObject) g m h e in (x.0, ap on d ∙ x.1)
+object_read on s p i NullObject g ts m h q d e =
+    let x = last_read (object_in s p i) (Does s p NullObject) g m (on_object s p i) e in (x.0, ap on d ∙ (q m ∙ x.1))
+object_read on s p i (ValueObject t) g ts m h q d e =
+    let y = told_complete false t true d.0 m tt d.2 (goto_stops false g m e) in
+    let b = Does s p (ValueObject t) in
+    let x = last_read (ending y.1 b (most i y.0)) b g m (on_ending y.1 b (most i y.0)) e in
+    (x.0, ap on d.1 ∙ (q d.0 ∙ (giving_read s p i t d.0 m d.2 ∙ (ap (giving s p i) y.2 ∙ x.1))))
 
-pattern_read : (s : Expression) (p : Option Expression) (o : Object) (g : Goto) (ts m n : List Token)
-    → PatternTo p ts m → ObjectTo o m n → GotoTo g n → subject_then s ts ≡ Some (Says (Does s p o) g)
-pattern_read s None o g ts m n c d e =
-    ap (subject_then s) c
-    ∙ object_read (subject_then s) s None o g m n (record { ends = refl; goes = λ b ts. refl }) (λ k. refl) d e
-pattern_read s (Some p) o g ts m n c d e =
-    matching_read s p ts m c
-    ∙ (ap (matching s) (complete false p true ts m tt c (object_stops false o g m n d e))
-    ∙ object_read (pattern_then s p) s (Some p) o g m n (record { ends = refl; goes = λ b ts. refl }) (λ k. refl) d e)
+pattern_read : (z : ℕ) (w : Bool) (s : Expression) (i : ℕ) (p : Option Expression) (o : Object) (g : Goto) (ts m n : List Token)
+    → PatternTo p ts m → ObjectTo o m n → GotoTo g n → IsStated (subject_then z w s i ts) (Says (Does s p o) g)
+pattern_read z w s i None o g ts m n c d e =
+    let on = subject_then z w s i in
+    let x = object_read on s None (set z s false i) o g m n (record { place = i; ends = refl; goes = λ b ts. refl }) (λ k. refl) d e in
+    (x.0, ap on c ∙ x.1)
+pattern_read z w s i (Some p) o g ts m n c d e =
+    let y = told_complete false p true ts m tt c (object_stops false o g m n d e) in
+    let j = most i y.0 in
+    let x = object_read (pattern_then z y.1 s p j) s (Some p) (set z s true j) o g m n (record { place = j; ends = refl; goes = λ b ts. refl }) (λ k. refl) d e in
+    (x.0, matching_read z w s i p ts m c ∙ (ap (matching z s i) y.2 ∙ x.1))
 
 -- a statement that spells the tokens is read from them
-pub statement_read : (s : Statement) (ts : List Token) → Spells s ts → statement_in ts ≡ Some s
+pub statement_read : (s : Statement) (ts : List Token) → Spells s ts → IsStated (statement_in ts) s
 statement_read (Says NoBody g) ts q =
-    ap statement_in q.1 ∙ last_read statement_in NoBody g q.0 (record { ends = refl; goes = λ b ts. refl }) q.2
+    let x = last_read statement_in NoBody g q.0 (record { place = 0; ends = refl; goes = λ b ts. refl }) q.2 in (x.0, ap statement_in q.1 ∙ x.1)
 statement_read (Says (Does s p o) g) ts q =
     let b = q.1 in
-    acting_read s b.2 ts b.0 b.3
-    ∙ (ap acting (complete true s b.2 ts b.0 b.6 b.3 (pattern_stops p o g b.0 b.1 q.0 b.4 b.5 q.2))
-    ∙ pattern_read s p o g b.0 b.1 q.0 b.4 b.5 q.2)
+    let y = told_complete true s b.2 ts b.0 b.6 b.3 (pattern_stops p o g b.0 b.1 q.0 b.4 b.5 q.2) in
+    let x = pattern_read (length ts) y.1 s y.0 p o g b.0 b.1 q.0 b.4 b.5 q.2 in
+    (x.0, acting_read s b.2 ts b.0 b.3 ∙ (ap (acting (length ts)) y.2 ∙ x.1))
+
+pub stated_read : (s : Statement) (ts : List Token) → Spells s ts → stated (statement_in ts) ≡ Some s
+stated_read s ts q = ap stated (statement_read s ts q).1

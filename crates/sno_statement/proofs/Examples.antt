@@ -17,7 +17,7 @@ use Rattle.sno_statement.specs.declared.fault.Fault.{Fault}
 use Rattle.sno_statement.specs.declared.fault.FaultKind.TheVariants.{MissingBlank, Unfit, NoVariable}
 use Rattle.sno_statement.specs.Statements.{Target, To, Computed, NoGoto, Always, OnSuccess, OnFailure, OnBoth, NoObject, NullObject, ValueObject, NoBody, Does, Statement, Says}
 use Rattle.sno_statement.specs.inner.Faults.{FaultAt, fault}
-use Rattle.sno_statement.specs.inner.Reading.{statement_in}
+use Rattle.sno_statement.specs.inner.Parsing.{stated, statement_in}
 
 -- tokens, each with whether a blank stands before it, and where it matters whether one follows; every constant is the
 -- literal '1'
@@ -52,7 +52,7 @@ abbrev to : ℕ → Target
 to c = To (c ∷ [])
 
 abbrev answer : List Token → Option Statement × Option Fault
-answer ts = (statement_in ts, fault ts)
+answer ts = (stated (statement_in ts), fault ts)
 
 -- X + 1: touching, it would begin a pattern
 blanks_round_plus : fault (name true 88 ∷ mark true true Plus ∷ one true ∷ []) ≡ Some (FaultAt 1 MissingBlank)

@@ -1,65 +1,68 @@
 -- What the walk takes and notes, by the grammar, and that tokens spell one statement at the most.
-use Rattle.std.proofs.Common.{◌≡◌, ℕ, ◌+◌, List, [], ◌∷◌, refl, sym, ◌∙◌}
-use Rattle.std.specs.Prelude.{Bool, true, false, Option, Some, None, is_some, is_none, Ok, if◌then◌else◌}
+use Rattle.std.proofs.Common.{◌≡◌, ℕ, ◌+◌, length, List, [], ◌∷◌, refl, sym, ap, ◌∙◌}
+use Rattle.std.specs.Prelude.{Bool, true, false, Option, Some, None, is_none, Result, Ok, Err, if◌then◌else◌}
 use Rattle.sno_lexer.specs.declared.token.Token.{Token}
 use Rattle.sno_statement.specs.declared.fault.Fault.{Fault}
 use Rattle.sno_statement.specs.declared.fault.FaultKind.TheVariants.{Unfit}
-use Rattle.sno_statement.specs.declared.statement.Statement.{Statement as AStatement}
 use Rattle.sno_statement.specs.Statements.{Statement}
 use Rattle.sno_statement.specs.Lacking.{lacking_in}
 use Rattle.sno_statement.specs.inner.Walking.{Walk, take, begins, may_end}
-use Rattle.sno_statement.specs.inner.Faults.{FaultAt, refused_as, then_on, refusal_from, refusal, noted, earlier, fault}
-use Rattle.sno_statement.specs.inner.Reading.{statement_in}
-use Rattle.sno_statement.specs.inner.Variables.{fitting}
-use Rattle.sno_statement.specs.Abstraction.{statement_of, Parsed}
+use Rattle.sno_statement.specs.inner.Faults.{FaultAt, subject_kind, refused_as, then_on, refusal_from, refusal, earlier}
+use Rattle.sno_statement.specs.declared.parser.Refusal.{Refusal}
+use Rattle.sno_statement.specs.inner.Stages.{SubjectKind}
+use Rattle.sno_statement.specs.inner.Parsing.{refused, blamed, Stated, States, statement_in}
 use Rattle.sno_statement.specs.Laws.{OneStatement, Taken}
 use Rattle.sno_statement.specs.inner.Laws.{NotesExactly}
-use Rattle.sno_statement.proofs.Completing.{statement_read}
+use Rattle.sno_statement.proofs.Completing.{statement_read, stated_read}
 use Rattle.sno_statement.proofs.Sound.{statement_sound}
-use Rattle.sno_statement.proofs.Strides.{on_walk, walked}
-use Rattle.sno_statement.proofs.Passing.{statement_walks}
+use Rattle.sno_statement.proofs.Judging.{Walked, Well, Ill, on_walk, lacked, walked}
+use Rattle.sno_statement.proofs.Agreeing.{said, statement_walks}
 use Rattle.sno_statement.proofs.Marked.{none_marked, marked_none}
 use Rattle.sno_statement.proofs.Placing.{places_noted}
-use Rattle.sno_statement.proofs.Tested.{fitting_read, fitting_passes}
 
 -- a statement is the only one that its tokens spell
 pub one_statement : OneStatement
-one_statement s t ts p q = cc (statement_read s ts p, statement_read t ts q)
+one_statement s t ts p q = cc (stated_read s ts p, stated_read t ts q)
 
--- the walk refuses nothing exactly where it takes the tokens to the end
-end_passes : (b : Bool) (i : ℕ) → is_none (if b then None else Some (FaultAt i Unfit)) ≡ b
-end_passes true i = refl
-end_passes false i = refl
+-- the walk refuses nothing exactly where it comes to a statement
+abbrev is_well : Walked → Bool
+is_well (Well n) = true
+is_well (Ill r) = false
 
-passes : (ts : List Token) (w : Walk) (i : ℕ) → is_none (refusal_from i w ts) ≡ walked w ts
-passes [] w i = end_passes (may_end w) i
-passes (t ∷ ts) w i = at (take w t) (λ v. passes ts v (i + 1))
+end_passes : (b : Bool) (i n : ℕ) → is_none (if b then None else Some (FaultAt i Unfit)) ≡ is_well (if b then Well n else Ill (blamed false n []))
+end_passes true i n = refl
+end_passes false i n = refl
+
+passes : (ts : List Token) (k : SubjectKind) (z n i : ℕ) (w : Walk) → is_none (refusal_from i w ts) ≡ is_well (walked k z n w ts)
+passes [] k z n i w = end_passes (may_end w) i n
+passes (t ∷ ts) k z n i w = at (take w t) (λ v. passes ts k z (lacked k z n w t (length (t ∷ ts))) (i + 1) v)
   where
-    at : (o : Option Walk) → ((v : Walk) → is_none (refusal_from (i + 1) v ts) ≡ walked v ts)
-        → is_none (then_on o (Some (FaultAt i (refused_as w t.kind))) (λ v. refusal_from (i + 1) v ts)) ≡ on_walk o (λ v. walked v ts)
+    at : (o : Option Walk) → ((v : Walk) → is_none (refusal_from (i + 1) v ts) ≡ is_well (walked k z (lacked k z n w t (length (t ∷ ts))) v ts))
+        → is_none (then_on o (Some (FaultAt i (refused_as w t.kind))) (λ v. refusal_from (i + 1) v ts))
+        ≡ is_well (on_walk o (Ill (refused (refused_as w t.kind) n (t ∷ ts))) (λ v. walked k z (lacked k z n w t (length (t ∷ ts))) v ts))
     at None on = refl
     at (Some v) on = on v
 
 -- and so exactly where a statement is read
-agrees : (ts : List Token) → is_none (refusal ts) ≡ is_some (statement_in ts)
-agrees ts = passes ts begins 0 ∙ statement_walks ts
+agrees : (ts : List Token) → is_none (refusal ts) ≡ is_well (said (statement_in ts))
+agrees ts = passes ts (subject_kind ts) (length ts) 0 0 begins ∙ ap is_well (statement_walks ts)
 
-no_refusal : (f : Option Fault) (o : Option Statement) (s : Statement) → is_none f ≡ is_some o → o ≡ Some s → f ≡ None
-no_refusal None o s a e = refl
-no_refusal (Some f) None s a e = cc
-no_refusal (Some f) (Some t) s a e = cc
+no_refusal : (f : Option Fault) (x : Result Stated Refusal) (s : Statement) (n : ℕ) → is_none f ≡ is_well (said x) → x ≡ Ok (States s n) → f ≡ None
+no_refusal None x s n a e = refl
+no_refusal (Some f) (Err r) s n a e = cc
+no_refusal (Some f) (Ok (States t m)) s n a e = cc
 
-some_statement : (f : Option Fault) (o : Option Statement) → is_none f ≡ is_some o → f ≡ None → (s : Statement) × (o ≡ Some s)
-some_statement None (Some s) a e = (s, refl)
-some_statement None None a e = cc
-some_statement (Some f) o a e = cc
+is_stated : (f : Option Fault) (x : Result Stated Refusal) → is_none f ≡ is_well (said x) → f ≡ None → (s : Statement) × (n : ℕ) × (x ≡ Ok (States s n))
+is_stated None (Ok (States s n)) a e = (s, n, refl)
+is_stated None (Err r) a e = cc
+is_stated (Some f) x a e = cc
 
 -- the walk takes the tokens exactly where a statement spells them
 pub taken : Taken
 taken ts = (
-  λ e. let r = some_statement (refusal ts) (statement_in ts) (agrees ts) e in
-      (r.0, statement_sound ts r.0 r.1),
-  λ s. no_refusal (refusal ts) (statement_in ts) s.0 (agrees ts) (statement_read s.0 ts s.1),
+  λ e. let x = is_stated (refusal ts) (statement_in ts) (agrees ts) e in
+      (x.0, statement_sound ts x.0 x.1 x.2),
+  λ s. let x = statement_read s.0 ts s.1 in no_refusal (refusal ts) (statement_in ts) s.0 x.0 (agrees ts) x.1,
 )
 
 -- it notes nothing exactly where a variable stands in each place that needs one
@@ -76,17 +79,3 @@ not_noted (Some i) f e = cc
 pub not_refused : (o : Option ℕ) (f : Option Fault) → earlier o f ≡ None → f ≡ None
 not_refused None f e = e
 not_refused (Some i) f e = cc
-
--- a statement that is read and has its variables is the one that the tokens spell
-pub parsed_ok : (ts : List Token) (s : AStatement) → fitting (statement_in ts) ≡ Some (statement_of s) → Parsed ts (Ok s)
-parsed_ok ts s e =
-    let r = fitting_read ts (statement_in ts) (statement_of s) e in
-    let q = statement_sound ts (statement_of s) r.0 in
-    (r.1, q, λ u p. let k = statement_read u ts p in cc)
-
--- where nothing is at fault one is read that has them
-pub one_fits : (ts : List Token) → fault ts ≡ None → fitting (statement_in ts) ≡ None → ⊥
-one_fits ts e d =
-    let r = some_statement (refusal ts) (statement_in ts) (agrees ts) (not_refused (noted ts) (refusal ts) e) in
-    let q = statement_sound ts r.0 r.1 in
-    fitting_passes ts (statement_in ts) r.0 r.1 ((notes_exactly ts r.0 q).0 (not_noted (noted ts) (refusal ts) e)) d

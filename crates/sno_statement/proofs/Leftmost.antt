@@ -8,7 +8,7 @@ use Rattle.sno_expression.specs.Spelling.{spaced}
 use Rattle.sno_statement.specs.declared.fault.Fault.{Fault}
 use Rattle.sno_statement.specs.declared.fault.FaultKind.{FaultKind}
 use Rattle.sno_statement.specs.declared.fault.FaultKind.TheVariants.{MissingBlank, Unfit, NoVariable}
-use Rattle.sno_statement.specs.declared.walking.SubjectKind.{SubjectKind}
+use Rattle.sno_statement.specs.inner.Stages.{SubjectKind}
 use Rattle.sno_statement.specs.inner.Walking.{Walk, take, begins, may_end}
 use Rattle.sno_statement.specs.inner.Faults.{FaultAt, is_taken, refused_as, then_on, refusal_from, refusal, subject_kind, least, noted_here, then_note, noted_from, noted, earlier, fault}
 use Rattle.sno_statement.specs.Lacking.{lacking_in}

@@ -10,24 +10,24 @@ use Rattle.sno_expression.specs.declared.tree.BinaryOperator.{BinaryOperator}
 use Rattle.sno_expression.specs.declared.tree.BinaryOperator.TheVariants.{Concatenation}
 use Rattle.sno_expression.specs.declared.tree.UnaryOperator.{UnaryOperator}
 use Rattle.sno_expression.specs.declared.tree.UnaryOperator.TheVariants as unary
-use Rattle.sno_expression.specs.declared.walking.Paren.{Paren}
-use Rattle.sno_expression.specs.declared.walking.Paren.TheVariants.{OfGroup, OfCall, OfItem}
-use Rattle.sno_expression.specs.declared.walking.Position.{Position}
-use Rattle.sno_expression.specs.declared.walking.Position.TheVariants.{AtStart, AfterBinary, AfterUnary, AfterPrefix, AfterIdentifier, AfterOperand}
-use Rattle.sno_expression.specs.declared.walking.Move.{Move}
-use Rattle.sno_expression.specs.declared.walking.Move.TheVariants as move
+use Rattle.sno_expression.specs.declared.position.Paren.{Paren}
+use Rattle.sno_expression.specs.declared.position.Paren.TheVariants.{OfGroup, OfCall, OfItem}
+use Rattle.sno_expression.specs.declared.position.Position.{Position}
+use Rattle.sno_expression.specs.declared.position.Position.TheVariants.{AtStart, AfterBinary, AfterUnary, AfterPrefix, AfterIdentifier, AfterOperand}
+use Rattle.sno_expression.specs.inner.Moves.{Move}
+use Rattle.sno_expression.specs.inner.Moves as move
 use Rattle.sno_expression.specs.Marks.{unary_of, needs_variable, operand_is_variable}
 use Rattle.sno_expression.specs.Expressions.{Expression, Arguments, Identifier, Constant, Keyword, Unevaluated, Group, Call, TableItem, Unary, Binary, NoArguments, Omitted, Argument, IsOperand, is_variable}
 use Rattle.sno_expression.specs.Spelling.{spaced, Joins, Parts, SpellsTo, SpellTo}
 use Rattle.sno_expression.proofs.Before.{as_prefix}
 use Rattle.sno_expression.specs.inner.Walking.{begin, prefixed, joined, first, go_on, stops, step, begins_variable, is_misfit, misfit_index, inner_of, outer_of, ends, after_operand, paren_of}
-use Rattle.sno_statement.specs.declared.walking.Field.{Field}
-use Rattle.sno_statement.specs.declared.walking.Stage.TheVariants.{In}
-use Rattle.sno_statement.specs.declared.walking.SubjectKind.{SubjectKind}
+use Rattle.sno_statement.specs.inner.Stages.{Field}
+use Rattle.sno_statement.specs.inner.Stages.{In}
+use Rattle.sno_statement.specs.inner.Stages.{SubjectKind}
 use Rattle.sno_statement.specs.inner.Walking.{Walk, At, role_by, role, alone, in_field, advanced}
 use Rattle.sno_statement.specs.inner.Faults.{is_unset, note, least, noted_from, then_note}
 use Rattle.sno_expression.specs.Lacking.{comma_behind, lacking, lacking_among}
-use Rattle.sno_expression.specs.inner.Variables.{between}
+use Rattle.sno_statement.proofs.Shorthand.{between}
 use Rattle.sno_statement.proofs.Strides.{taken_sets}
 use Rattle.sno_statement.proofs.Roles.{Apart}
 use Rattle.sno_statement.proofs.Marked.{marked, marked_append, marked_same, least_nothing}

@@ -14,32 +14,31 @@ use Rattle.sno_expression.specs.declared.tree.BinaryOperator.{BinaryOperator}
 use Rattle.sno_expression.specs.declared.tree.BinaryOperator.TheVariants.{Concatenation}
 use Rattle.sno_expression.specs.declared.tree.UnaryOperator.TheVariants.{Indirect}
 use Rattle.sno_expression.specs.declared.tree.UnaryOperator.TheVariants as unary
-use Rattle.sno_expression.specs.declared.walking.Position.TheVariants.{AtStart, AfterUnary, AfterOperand}
-use Rattle.sno_expression.specs.declared.walking.Move.{Move}
-use Rattle.sno_expression.specs.declared.walking.Move.TheVariants as move
+use Rattle.sno_expression.specs.declared.position.Position.TheVariants.{AtStart, AfterUnary, AfterOperand}
+use Rattle.sno_expression.specs.inner.Moves.{Move}
+use Rattle.sno_expression.specs.inner.Moves as move
 use Rattle.sno_expression.specs.Expressions.{Expression, Arguments, Identifier, Constant, Keyword, Unevaluated, Group, Call, TableItem, Unary, Binary, NoArguments, Omitted, Argument, IsOperand, is_variable}
 use Rattle.sno_expression.specs.Spelling.{spaced, Joins, Parts, SpellsTo, SpellTo}
 use Rattle.sno_expression.specs.inner.Walking.{begin, opens_bracket}
 use Rattle.sno_expression.specs.inner.Reading.{Stops}
-use Rattle.sno_statement.specs.declared.walking.Field.TheVariants.{Subject, Pattern, Object as Given, Target as InComputed}
-use Rattle.sno_statement.specs.declared.walking.Stage.TheVariants.{First, In, AfterEquals, AfterColon, AfterOutcome, InTarget, AfterTarget}
-use Rattle.sno_statement.specs.declared.walking.SubjectKind.{SubjectKind}
+use Rattle.sno_statement.specs.inner.Stages.{Subject, Pattern, Object as Given, Target as InComputed}
+use Rattle.sno_statement.specs.inner.Stages.{First, In, AfterEquals, AfterColon, AfterOutcome, InTarget, AfterTarget}
+use Rattle.sno_statement.specs.inner.Stages.{SubjectKind}
 use Rattle.sno_statement.specs.Statements.{Target, To, Computed, Goto, NoGoto, Always, OnSuccess, OnFailure, OnBoth, Object, NoObject, NullObject, ValueObject, NoBody, Does, Statement, Says, may_be_set}
 use Rattle.sno_statement.specs.inner.Kinds.{kind_of, can_be_set}
 use Rattle.sno_statement.specs.Spelling.{TargetTo, OutcomeTo, LeadsTo, GotoTo, ObjectTo, Spells}
-use Rattle.sno_statement.specs.declared.walking.Role.{Role}
-use Rattle.sno_statement.specs.declared.walking.Field.{Field}
+use Rattle.sno_statement.specs.declared.role.Role.{Role}
+use Rattle.sno_statement.specs.inner.Stages.{Field}
 use Rattle.sno_expression.specs.Marks.{operand_is_variable}
 use Rattle.sno_statement.specs.inner.Walking.{Walk, At, begins, other, role_by, stands, advanced, enter, continued, at_first, after_equals, after_subject}
 use Rattle.sno_statement.specs.inner.Faults.{note, least, noted_from, then_note, noted, is_unset, subject_kind}
 use Rattle.sno_expression.specs.Lacking.{lacking}
-use Rattle.sno_statement.specs.inner.Variables.{is_wrong}
 use Rattle.sno_statement.specs.Lacking.{lacking_object, lacking_body, lacking_target, lacking_goto, named_first, lacking_in}
 use Rattle.sno_statement.proofs.Roles.{Apart, dollar, kind_spelled}
 use Rattle.sno_statement.proofs.Completing.{goto_stops, object_stops, pattern_stops}
 use Rattle.sno_statement.proofs.Marked.{marked, none, marked_append, marked_same, raised}
 use Rattle.sno_statement.proofs.Placed.{Due, moved_in, due_start, stepped, tree_noted}
-use Rattle.sno_statement.proofs.Shorthand.{PatternTo, ColonTo, lacking_pattern}
+use Rattle.sno_statement.proofs.Shorthand.{is_wrong, PatternTo, ColonTo, lacking_pattern}
 
 -- TARGETS AND GOTOS
 
@@ -278,7 +277,7 @@ pattern_noted (Some p) o g k i m n q c d e =
 
 -- THE SUBJECT
 
-by_kind : (s : Expression) (p : Bool) → can_be_set (kind_of s) p ≡ may_be_set s p
+pub by_kind : (s : Expression) (p : Bool) → can_be_set (kind_of s) p ≡ may_be_set s p
 by_kind (Unary unary.Indirect t) p = refl
 by_kind (Keyword n) true = refl
 by_kind (Keyword n) false = refl

@@ -1,14 +1,16 @@
 -- Parts of the definitions by names of their own.
-use Rattle.std.specs.Prelude.{◌≡◌, Bool, true, false, List, [], ◌∷◌, Option, MatchOption}
+use Rattle.std.specs.Prelude.{◌≡◌, Bool, true, false, not, is_some, List, [], ◌∷◌, Option, MatchOption}
 use Rattle.std.specs.Option.{option_map_or}
 use Rattle.sno_lexer.specs.declared.token.Part.TheVariants.{Colon}
 use Rattle.sno_lexer.specs.declared.token.Token.{Token}
 use Rattle.sno_lexer.specs.declared.token.TokenKind.TheVariants as token
+use Rattle.sno_expression.specs.declared.tree.BinaryOperator.{BinaryOperator}
+use Rattle.sno_expression.specs.declared.tree.BinaryOperator.TheVariants.{Concatenation}
 use Rattle.sno_expression.specs.Expressions.{Expression}
 use Rattle.sno_expression.specs.Lacking.{lacking}
 use Rattle.sno_expression.specs.Spelling.{spaced, SpellsTo}
 use Rattle.sno_statement.specs.Spelling.{LeadsTo}
-use Rattle.sno_statement.specs.Statements.{Goto}
+use Rattle.sno_statement.specs.Statements.{Goto, Object, NoObject, may_be_set}
 
 abbrev pub lacking_pattern : Option Expression → List Bool
 lacking_pattern p = option_map_or (lacking false) p []
@@ -19,3 +21,13 @@ PatternTo p ts rest = MatchOption p (ts ≡ rest) (λ t. SpellsTo true t ts rest
 
 abbrev pub ColonTo : Goto → List Token → Type 0
 ColonTo g ts = (m : List Token) × (c : Bool) × (ts ≡ spaced true c (token.Part Colon) ∷ m) × LeadsTo g m
+
+-- should the subject be a variable and is none: an object is given, and the subject may not be assigned to
+abbrev pub is_wrong : Expression → Option Expression → Object → Bool
+is_wrong s p NoObject = false
+is_wrong s p _ = not (may_be_set s (is_some p))
+
+-- between two operands stands a mark, and none where they are concatenated
+abbrev pub between : BinaryOperator → List Bool
+between Concatenation = []
+between _ = false ∷ []

@@ -1,7 +1,7 @@
+pub mod Stages
 pub mod Walking
 pub mod Faults
-pub mod Reading
+pub mod Parsing
 pub mod Told
-pub mod Variables
 pub mod Laws
 pub mod Kinds

@@ -2,13 +2,11 @@
 #![tactic(auto)]
 
 mod fault;
-mod finding;
-mod fitting;
 pub mod laws;
 mod parser;
 mod parsing;
+mod role;
 mod statement;
-mod walking;
 
 pub use fault::{Fault, FaultKind};
 pub use parsing::parse_statement;

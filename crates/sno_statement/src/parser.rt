@@ -1,31 +1,85 @@
-//! A statement read part by part, each part as far as it goes.
+//! A statement read part by part, each part as far as it goes: in one pass its trees, the leftmost place that lacks a
+//! variable, and where the tokens go no further, why.
 
-ghost use Rattle.std.specs.Prelude.{◌≡◌, IfOk, Some, None, true, false, []};
+ghost use Rattle.std.specs.Prelude.{◌≡◌, IfOk, Some, Ok, true, false, length};
 ghost use Rattle.sno_expression.specs.Abstraction.{expression_of, expressions_of};
-ghost use Rattle.sno_expression.specs.inner.Reading.{Read, reading};
+ghost use Rattle.sno_expression.specs.inner.Telling.{Tells, telling};
 ghost use Rattle.sno_statement.specs.Statements as the;
-ghost use Rattle.sno_statement.specs.inner.Reading.{Aimed, closing, indirect, computed, inside, target_in, at_last, always, both, second, on_one, next, chosen, goto_in, going, ending, giving, object_in, pattern_then, matching, subject_then, acting, statement_in};
-ghost use Rattle.sno_statement.specs.Abstraction.{target_of, goto_of, body_of};
-ghost use Rattle.sno_statement.specs.inner.Told.{gotos_of, statements_of, aim_of};
+ghost use Rattle.sno_statement.specs.inner.Parsing.{blamed, closing, indirect, computed, inside, target_in, at_last, always, both, next};
+ghost use Rattle.sno_statement.specs.inner.Parsing.{chosen, goto_in, going, States, is_colon, ends_part, ending, set, giving, object_in};
+ghost use Rattle.sno_statement.specs.inner.Parsing.{pattern_then, matching, subject_then, acting, statement_in};
+ghost use Rattle.sno_statement.specs.Abstraction.{target_of, goto_of, object_of, body_of};
+ghost use Rattle.sno_statement.specs.inner.Told.{aims_of, ways_of, stated_of};
 
+use crate::fault::FaultKind;
+use crate::role::{Role, role_of};
 use crate::statement::{Body, Goto, Object, Statement, Target};
-use crate::walking::{Role, role_of};
-use sno_expression::{Expression, Found, UnaryOperator, read_expression};
-use sno_lexer::{Mark, Outcome, Part, Token, TokenKind, Word};
+use sno_expression::{Expression, Found, UnaryOperator, begins, most, read_expression};
+use sno_lexer::{Mark, Outcome, Part, Token, TokenKind};
 use std::alloc::{AllocError, Global};
+
+/// Why tokens are read as no statement. A place is told by the number of tokens from it on.
+#[derive(Clone, Copy)]
+pub struct Refusal {
+    /// The leftmost place before it that lacks a variable, or 0.
+    pub lacking: usize,
+    /// The place of the token that does not fit.
+    pub left: usize,
+    pub kind: FaultKind,
+}
+
+/// The tokens that are left.
+#[derive(Clone, Copy)]
+pub struct Rest<'a, 't> {
+    pub tokens: &'a [Token<'t>],
+    /// The leftmost place before them that lacks a variable, or 0.
+    pub lacking: usize,
+    /// Whether the first would go on with what stands before it, with other blanks round it.
+    pub blank: bool,
+}
 
 /// What was read as an expression, and the tokens behind it.
 #[derive(Drop)]
 pub struct Piece<'a, 't> {
     pub tree: Option<Expression>,
+    pub rest: Rest<'a, 't>,
+}
+
+/// A target, and the tokens behind it.
+#[derive(Drop)]
+pub struct Aim<'a, 't> {
+    pub target: Target,
+    pub lacking: usize,
     pub rest: &'a [Token<'t>],
 }
 
-/// A target, if one is there, and the tokens behind it.
+/// A goto, and the leftmost place so far that lacks a variable, or 0.
 #[derive(Drop)]
-pub struct Aim<'a, 't> {
-    pub target: Option<Target>,
-    pub rest: &'a [Token<'t>],
+pub struct Way {
+    pub goto: Goto,
+    pub lacking: usize,
+}
+
+/// A statement that was read, and its leftmost place that lacks a variable, or 0.
+#[derive(Drop)]
+pub struct Stated {
+    pub statement: Statement,
+    pub lacking: usize,
+}
+
+// The first of the tokens does not fit; with other blanks it would, or not.
+fn refused(blank: bool, lacking: usize, tokens: &[Token]) -> Refusal
+    ensures { result ≡ blamed blank lacking tokens.now }
+{
+    Refusal {
+        lacking,
+        left: tokens.len(),
+        kind: if blank {
+            FaultKind::MissingBlank
+        } else {
+            FaultKind::Unfit
+        },
+    }
 }
 
 // An expression, or one element alone, as far as it goes.
@@ -34,170 +88,157 @@ fn read_piece<'a, 't>(
     alone: bool,
     tokens: &'a [Token<'t>],
 ) -> Result<Piece<'a, 't>, AllocError>
-    ensures { IfOk result (λ p. reading alone tokens.now ≡ Read (expressions_of p.tree) p.rest.now) }
+    ensures { IfOk result (λ p. telling alone tokens.now ≡ Tells (expressions_of p.tree) p.rest.tokens.now p.rest.lacking p.rest.blank) }
 {
-    let Found { tree, next } = read_expression(alloc, alone, tokens, 0)?;
+    let Found {
+        tree,
+        next,
+        lacking,
+        blank,
+    } = read_expression(alloc, alone, tokens, 0)?;
     Ok(Piece {
         tree,
-        rest: &tokens[next..],
+        rest: Rest {
+            tokens: &tokens[next..],
+            lacking,
+            blank,
+        },
     })
 }
 
-fn closing<'a, 't>(target: Target, tokens: &'a [Token<'t>]) -> Aim<'a, 't>
-    ensures { aim_of result ≡ closing (target_of target) tokens.now }
+fn closing<'a, 't>(
+    blank: bool,
+    target: Target,
+    lacking: usize,
+    tokens: &'a [Token<'t>],
+) -> Result<Aim<'a, 't>, Refusal>
+    ensures { aims_of result ≡ closing blank (target_of target) lacking tokens.now }
 {
     match tokens.split_first() {
-        None => Aim {
-            target: None,
-            rest: tokens,
-        },
+        None => Err(refused(false, lacking, tokens)),
         Some((token, rest)) => match &token.kind {
-            TokenKind::Close => Aim {
-                target: Some(target),
+            TokenKind::Close => Ok(Aim {
+                target,
+                lacking,
                 rest,
-            },
-            _ => Aim { target: None, rest },
+            }),
+            _ => Err(refused(blank, lacking, tokens)),
         },
     }
-}
-
-fn label_ends<'a, 't>(
-    alloc: Global,
-    label: &Word,
-    tokens: &'a [Token<'t>],
-) -> Result<Aim<'a, 't>, AllocError>
-    ensures { IfOk result (λ a. aim_of a ≡ closing (the.To label.now) tokens.now) }
-{
-    let label = label.line(alloc)?;
-    Ok(closing(Target::Label(label), tokens))
 }
 
 #[tactic(auto, using(sno_expression::proofs::Runs::binary_is))]
-fn indirect<'a, 't>(tree: Expression, tokens: &'a [Token<'t>]) -> Aim<'a, 't>
-    ensures { aim_of result ≡ indirect (Some (expression_of tree)) tokens.now }
+fn indirect<'a, 't>(
+    blank: bool,
+    tree: Expression,
+    lacking: usize,
+    tokens: &'a [Token<'t>],
+) -> Result<Aim<'a, 't>, Refusal>
+    ensures { aims_of result ≡ indirect blank (Some (expression_of tree)) lacking tokens.now }
 {
     match tree {
-        Expression::Unary(UnaryOperator::Indirect, element) => closing(
-            Target::Computed(Box::into_inner(element)),
-            tokens,
-        ),
-        _ => Aim {
-            target: None,
-            rest: tokens,
-        },
+        Expression::Unary(UnaryOperator::Indirect, element) => {
+            let target = Target::Computed(Box::into_inner(element));
+            closing(blank, target, lacking, tokens)
+        }
+        _ => Err(refused(blank, lacking, tokens)),
     }
 }
 
-fn computed<'a, 't>(alloc: Global, tokens: &'a [Token<'t>]) -> Result<Aim<'a, 't>, AllocError>
-    ensures { IfOk result (λ a. aim_of a ≡ computed (reading true tokens.now)) }
+fn computed<'a, 't>(
+    alloc: Global,
+    lacking: usize,
+    tokens: &'a [Token<'t>],
+) -> Result<Result<Aim<'a, 't>, Refusal>, AllocError>
+    ensures { IfOk result (λ a. aims_of a ≡ computed lacking (telling true tokens.now)) }
 {
     let Piece { tree, rest } = read_piece(alloc, true, tokens)?;
+    let lacking = most(lacking, rest.lacking);
     match tree {
-        None => Ok(Aim { target: None, rest }),
-        Some(tree) => Ok(indirect(tree, rest)),
+        None => Ok(Err(refused(rest.blank, lacking, rest.tokens))),
+        Some(tree) => Ok(indirect(rest.blank, tree, lacking, rest.tokens)),
     }
 }
 
 // Behind the parenthesis of a target.
-fn inside<'a, 't>(alloc: Global, tokens: &'a [Token<'t>]) -> Result<Aim<'a, 't>, AllocError>
-    ensures { IfOk result (λ a. aim_of a ≡ inside tokens.now) }
+fn inside<'a, 't>(
+    alloc: Global,
+    lacking: usize,
+    tokens: &'a [Token<'t>],
+) -> Result<Result<Aim<'a, 't>, Refusal>, AllocError>
+    ensures { IfOk result (λ a. aims_of a ≡ inside lacking tokens.now) }
 {
     match tokens.split_first() {
-        None => Ok(Aim {
-            target: None,
-            rest: tokens,
-        }),
+        None => Ok(Err(refused(false, lacking, tokens))),
         Some((token, rest)) => match &token.kind {
-            TokenKind::Part(Part::Label(label)) => label_ends(alloc, label, rest),
-            TokenKind::Mark(Mark::Dollar) => computed(alloc, tokens),
-            _ => Ok(Aim { target: None, rest }),
+            TokenKind::Part(Part::Label(label)) => {
+                let label = label.line(alloc)?;
+                Ok(closing(false, Target::Label(label), lacking, rest))
+            }
+            TokenKind::Mark(Mark::Dollar) => computed(alloc, lacking, tokens),
+            _ => Ok(Err(refused(false, lacking, tokens))),
         },
     }
 }
 
-fn target_in<'a, 't>(alloc: Global, tokens: &'a [Token<'t>]) -> Result<Aim<'a, 't>, AllocError>
-    ensures { IfOk result (λ a. aim_of a ≡ target_in tokens.now) }
+fn target_in<'a, 't>(
+    alloc: Global,
+    lacking: usize,
+    tokens: &'a [Token<'t>],
+) -> Result<Result<Aim<'a, 't>, Refusal>, AllocError>
+    ensures { IfOk result (λ a. aims_of a ≡ target_in lacking tokens.now) }
 {
     match tokens.split_first() {
-        None => Ok(Aim {
-            target: None,
-            rest: tokens,
-        }),
+        None => Ok(Err(refused(false, lacking, tokens))),
         Some((token, rest)) => match &token.kind {
-            TokenKind::Open => inside(alloc, rest),
-            _ => Ok(Aim { target: None, rest }),
+            TokenKind::Open => inside(alloc, lacking, rest),
+            _ => Ok(Err(refused(false, lacking, tokens))),
         },
     }
 }
 
 // Behind the last target.
-fn at_last(goto: Goto, tokens: &[Token]) -> Option<Goto>
-    ensures { gotos_of result ≡ at_last (goto_of goto) tokens.now }
+fn at_last(goto: Goto, lacking: usize, tokens: &[Token]) -> Result<Way, Refusal>
+    ensures { ways_of result ≡ at_last (goto_of goto) lacking tokens.now }
 {
     match tokens.split_first() {
-        None => Some(goto),
-        Some(_) => None,
+        None => Ok(Way { goto, lacking }),
+        Some(_) => Err(refused(false, lacking, tokens)),
     }
 }
 
-fn always(alloc: Global, tokens: &[Token]) -> Result<Option<Goto>, AllocError>
-    ensures { IfOk result (λ g. gotos_of g ≡ always (inside tokens.now)) }
+fn always(
+    alloc: Global,
+    lacking: usize,
+    tokens: &[Token],
+) -> Result<Result<Way, Refusal>, AllocError>
+    ensures { IfOk result (λ g. ways_of g ≡ always (inside lacking tokens.now)) }
 {
-    let Aim { target, rest } = inside(alloc, tokens)?;
-    match target {
-        None => Ok(None),
-        Some(target) => Ok(at_last(Goto::Always(target), rest)),
+    match inside(alloc, lacking, tokens)? {
+        Err(refusal) => Ok(Err(refusal)),
+        Ok(aim) => Ok(at_last(Goto::Always(aim.target), aim.lacking, aim.rest)),
     }
 }
 
-fn on_both(outcome: Outcome, first: Target, second: Target) -> Goto
-    ensures { Some (goto_of result) ≡ both outcome (target_of first) (Aimed (target_of second) []) }
-{
-    match outcome {
-        Outcome::Success => Goto::OnBoth(first, second),
-        Outcome::Failure => Goto::OnBoth(second, first),
-    }
-}
-
+// The second target, of the outcome that the first is not of.
 fn both(
     alloc: Global,
     outcome: Outcome,
     first: Target,
+    lacking: usize,
     tokens: &[Token],
-) -> Result<Option<Goto>, AllocError>
-    ensures { IfOk result (λ g. gotos_of g ≡ both outcome (target_of first) (target_in tokens.now)) }
+) -> Result<Result<Way, Refusal>, AllocError>
+    ensures { IfOk result (λ g. ways_of g ≡ both outcome (target_of first) (target_in lacking tokens.now)) }
 {
-    let Aim { target, rest } = target_in(alloc, tokens)?;
-    match target {
-        None => Ok(None),
-        Some(target) => Ok(at_last(on_both(outcome, first, target), rest)),
-    }
-}
-
-// The second outcome is not the first.
-fn second(
-    alloc: Global,
-    outcome: Outcome,
-    named: Outcome,
-    target: Target,
-    tokens: &[Token],
-) -> Result<Option<Goto>, AllocError>
-    ensures { IfOk result (λ g. gotos_of g ≡ second outcome named (target_of target) tokens.now) }
-{
-    match (outcome, named) {
-        (Outcome::Success, Outcome::Failure) => both(alloc, Outcome::Success, target, tokens),
-        (Outcome::Failure, Outcome::Success) => both(alloc, Outcome::Failure, target, tokens),
-        (Outcome::Success, Outcome::Success) => Ok(None),
-        (Outcome::Failure, Outcome::Failure) => Ok(None),
-    }
-}
-
-fn on_one(outcome: Outcome, target: Target) -> Goto
-    ensures { goto_of result ≡ on_one outcome (target_of target) }
-{
-    match outcome {
-        Outcome::Success => Goto::OnSuccess(target),
-        Outcome::Failure => Goto::OnFailure(target),
+    match target_in(alloc, lacking, tokens)? {
+        Err(refusal) => Ok(Err(refusal)),
+        Ok(aim) => {
+            let goto = match outcome {
+                Outcome::Success => Goto::OnBoth(first, aim.target),
+                Outcome::Failure => Goto::OnBoth(aim.target, first),
+            };
+            Ok(at_last(goto, aim.lacking, aim.rest))
+        }
     }
 }
 
@@ -206,39 +247,59 @@ fn next(
     alloc: Global,
     outcome: Outcome,
     target: Target,
+    lacking: usize,
     tokens: &[Token],
-) -> Result<Option<Goto>, AllocError>
-    ensures { IfOk result (λ g. gotos_of g ≡ next outcome (target_of target) tokens.now) }
+) -> Result<Result<Way, Refusal>, AllocError>
+    ensures { IfOk result (λ g. ways_of g ≡ next outcome (target_of target) lacking tokens.now) }
 {
     match tokens.split_first() {
-        None => Ok(Some(on_one(outcome, target))),
-        Some((token, rest)) => match &token.kind {
-            TokenKind::Part(Part::On(named)) => second(alloc, outcome, *named, target, rest),
-            _ => Ok(None),
+        None => {
+            let goto = match outcome {
+                Outcome::Success => Goto::OnSuccess(target),
+                Outcome::Failure => Goto::OnFailure(target),
+            };
+            Ok(Ok(Way { goto, lacking }))
+        }
+        Some((token, rest)) => match (outcome, &token.kind) {
+            (Outcome::Success, TokenKind::Part(Part::On(Outcome::Failure))) => {
+                both(alloc, Outcome::Success, target, lacking, rest)
+            }
+            (Outcome::Failure, TokenKind::Part(Part::On(Outcome::Success))) => {
+                both(alloc, Outcome::Failure, target, lacking, rest)
+            }
+            _ => Ok(Err(refused(false, lacking, tokens))),
         },
     }
 }
 
-fn chosen(alloc: Global, outcome: Outcome, tokens: &[Token]) -> Result<Option<Goto>, AllocError>
-    ensures { IfOk result (λ g. gotos_of g ≡ chosen outcome (target_in tokens.now)) }
+fn chosen(
+    alloc: Global,
+    outcome: Outcome,
+    lacking: usize,
+    tokens: &[Token],
+) -> Result<Result<Way, Refusal>, AllocError>
+    ensures { IfOk result (λ g. ways_of g ≡ chosen outcome (target_in lacking tokens.now)) }
 {
-    let Aim { target, rest } = target_in(alloc, tokens)?;
-    match target {
-        None => Ok(None),
-        Some(target) => next(alloc, outcome, target, rest),
+    match target_in(alloc, lacking, tokens)? {
+        Err(refusal) => Ok(Err(refusal)),
+        Ok(aim) => next(alloc, outcome, aim.target, aim.lacking, aim.rest),
     }
 }
 
 // Behind `:`.
-fn goto_in(alloc: Global, tokens: &[Token]) -> Result<Option<Goto>, AllocError>
-    ensures { IfOk result (λ g. gotos_of g ≡ goto_in tokens.now) }
+fn goto_in(
+    alloc: Global,
+    lacking: usize,
+    tokens: &[Token],
+) -> Result<Result<Way, Refusal>, AllocError>
+    ensures { IfOk result (λ g. ways_of g ≡ goto_in lacking tokens.now) }
 {
     match tokens.split_first() {
-        None => Ok(None),
+        None => Ok(Err(refused(false, lacking, tokens))),
         Some((token, rest)) => match &token.kind {
-            TokenKind::Open => always(alloc, rest),
-            TokenKind::Part(Part::On(outcome)) => chosen(alloc, *outcome, rest),
-            _ => Ok(None),
+            TokenKind::Open => always(alloc, lacking, rest),
+            TokenKind::Part(Part::On(outcome)) => chosen(alloc, *outcome, lacking, rest),
+            _ => Ok(Err(refused(false, lacking, tokens))),
         },
     }
 }
@@ -246,30 +307,79 @@ fn goto_in(alloc: Global, tokens: &[Token]) -> Result<Option<Goto>, AllocError>
 fn going(
     alloc: Global,
     body: Option<Body>,
+    lacking: usize,
     tokens: &[Token],
-) -> Result<Option<Statement>, AllocError>
-    ensures { IfOk result (λ s. statements_of s ≡ going (body_of body) (goto_in tokens.now)) }
+) -> Result<Result<Stated, Refusal>, AllocError>
+    ensures { IfOk result (λ s. stated_of s ≡ going (body_of body) (goto_in lacking tokens.now)) }
 {
-    match goto_in(alloc, tokens)? {
-        None => Ok(None),
-        Some(goto) => Ok(Some(Statement { body, goto })),
+    match goto_in(alloc, lacking, tokens)? {
+        Err(refusal) => Ok(Err(refusal)),
+        Ok(Way { goto, lacking }) => Ok(Ok(Stated {
+            statement: Statement { body, goto },
+            lacking,
+        })),
+    }
+}
+
+fn body_with(subject: Expression, pattern: Option<Expression>, object: Object) -> Option<Body>
+    ensures { body_of result ≡ the.Does (expression_of subject) (expressions_of pattern) (object_of object) }
+{
+    Some(Body {
+        subject,
+        pattern,
+        object,
+    })
+}
+
+// The tokens end, and the body is the last part.
+fn ended(body: Option<Body>, lacking: usize) -> Stated
+    ensures { stated_of (Ok result) ≡ Ok (States (the.Says (body_of body) the.NoGoto) lacking) }
+{
+    Stated {
+        statement: Statement {
+            body,
+            goto: Goto::Next,
+        },
+        lacking,
+    }
+}
+
+fn is_colon(kind: &TokenKind) -> bool
+    ensures { result ≡ is_colon kind.now }
+{
+    match kind {
+        TokenKind::Part(Part::Colon) => true,
+        _ => false,
+    }
+}
+
+// Whether the token stands behind a part, with the right blanks round it.
+fn ends_part(kind: &TokenKind) -> bool
+    ensures { result ≡ ends_part kind.now }
+{
+    match kind {
+        TokenKind::Part(Part::Colon | Part::Equals) => true,
+        _ => false,
     }
 }
 
 // Behind the object.
-fn ending(alloc: Global, body: Body, tokens: &[Token]) -> Result<Option<Statement>, AllocError>
-    ensures { IfOk result (λ s. statements_of s ≡ ending (body_of (Some body)) tokens.now) }
+fn ending(
+    alloc: Global,
+    body: Option<Body>,
+    rest: Rest,
+) -> Result<Result<Stated, Refusal>, AllocError>
+    ensures { IfOk result (λ s. stated_of s ≡ ending rest.entry.blank (body_of body) rest.entry.lacking rest.entry.tokens.now) }
 {
-    match tokens.split_first() {
-        None => Ok(Some(Statement {
-            body: Some(body),
-            goto: Goto::Next,
-        })),
-        Some((token, rest)) => match role_of(token) {
-            Role::Goes => going(alloc, Some(body), rest),
-            Role::Assigns => Ok(None),
-            Role::Follows => Ok(None),
-            Role::Touches => Ok(None),
+    match rest.tokens.split_first() {
+        None => Ok(Ok(ended(body, rest.lacking))),
+        Some((token, behind)) => match role_of(token) {
+            Role::Goes => going(alloc, body, rest.lacking, behind),
+            Role::Assigns | Role::Follows | Role::Touches => Ok(Err(refused(
+                rest.blank || is_colon(&token.kind),
+                rest.lacking,
+                rest.tokens,
+            ))),
         },
     }
 }
@@ -278,22 +388,19 @@ fn giving(
     alloc: Global,
     subject: Expression,
     pattern: Option<Expression>,
+    lacking: usize,
     tokens: &[Token],
-) -> Result<Option<Statement>, AllocError>
-    ensures { IfOk result (λ s. statements_of s ≡ giving (expression_of subject) (expressions_of pattern) (reading false tokens.now)) }
+) -> Result<Result<Stated, Refusal>, AllocError>
+    ensures { IfOk result (λ s. stated_of s ≡ giving (expression_of subject) (expressions_of pattern) lacking (telling false tokens.now)) }
 {
     let Piece { tree, rest } = read_piece(alloc, false, tokens)?;
+    let lacking = most(lacking, rest.lacking);
     match tree {
-        None => Ok(None),
-        Some(object) => ending(
-            alloc,
-            Body {
-                subject,
-                pattern,
-                object: Object::Value(object),
-            },
-            rest,
-        ),
+        None => Ok(Err(refused(rest.blank, lacking, rest.tokens))),
+        Some(object) => {
+            let body = body_with(subject, pattern, Object::Value(object));
+            ending(alloc, body, Rest { lacking, ..rest })
+        }
     }
 }
 
@@ -302,148 +409,178 @@ fn object_in(
     alloc: Global,
     subject: Expression,
     pattern: Option<Expression>,
+    lacking: usize,
     tokens: &[Token],
-) -> Result<Option<Statement>, AllocError>
-    ensures { IfOk result (λ s. statements_of s ≡ object_in (expression_of subject) (expressions_of pattern) tokens.now) }
+) -> Result<Result<Stated, Refusal>, AllocError>
+    ensures { IfOk result (λ s. stated_of s ≡ object_in (expression_of subject) (expressions_of pattern) lacking tokens.now) }
 {
     match tokens.split_first() {
-        None => Ok(Some(Statement {
-            body: Some(Body {
-                subject,
-                pattern,
-                object: Object::Null,
-            }),
-            goto: Goto::Next,
-        })),
+        None => Ok(Ok(ended(body_with(subject, pattern, Object::Null), lacking))),
         Some((token, rest)) => match role_of(token) {
-            Role::Goes => going(
-                alloc,
-                Some(Body {
-                    subject,
-                    pattern,
-                    object: Object::Null,
-                }),
-                rest,
-            ),
-            Role::Follows => giving(alloc, subject, pattern, tokens),
-            Role::Assigns => Ok(None),
-            Role::Touches => Ok(None),
+            Role::Goes => {
+                let body = body_with(subject, pattern, Object::Null);
+                going(alloc, body, lacking, rest)
+            }
+            Role::Follows => giving(alloc, subject, pattern, lacking, tokens),
+            Role::Assigns => Ok(Err(refused(false, lacking, tokens))),
+            Role::Touches => Ok(Err(refused(
+                begins(false, &token.kind) || is_colon(&token.kind),
+                lacking,
+                tokens,
+            ))),
         },
+    }
+}
+
+#[tactic(auto, using(sno_expression::proofs::Runs::binary_is))]
+fn may_be_set(subject: &Expression, pattern: bool) -> bool
+    ensures { result ≡ the.may_be_set (expression_of subject.now) pattern }
+{
+    match subject {
+        Expression::Identifier(_)
+        | Expression::TableItem(_)
+        | Expression::Unary(UnaryOperator::Indirect, _) => true,
+        Expression::Keyword(_) => !pattern,
+        _ => false,
+    }
+}
+
+// The leftmost place that lacks a variable, where a subject is assigned to, with `total` tokens from it on.
+fn set(total: usize, subject: &Expression, pattern: bool, lacking: usize) -> usize
+    ensures { result ≡ set total (expression_of subject.now) pattern lacking }
+{
+    if may_be_set(subject, pattern) {
+        lacking
+    } else {
+        most(lacking, total)
     }
 }
 
 // Behind the pattern.
 fn pattern_then(
     alloc: Global,
+    total: usize,
     subject: Expression,
     pattern: Expression,
-    tokens: &[Token],
-) -> Result<Option<Statement>, AllocError>
-    ensures { IfOk result (λ s. statements_of s ≡ pattern_then (expression_of subject) (expression_of pattern) tokens.now) }
+    rest: Rest,
+) -> Result<Result<Stated, Refusal>, AllocError>
+    ensures { IfOk result (λ s. stated_of s ≡ pattern_then total rest.entry.blank (expression_of subject) (expression_of pattern) rest.entry.lacking rest.entry.tokens.now) }
 {
-    let pattern = Some(pattern);
-    match tokens.split_first() {
-        None => Ok(Some(Statement {
-            body: Some(Body {
-                subject,
-                pattern,
-                object: Object::Nothing,
-            }),
-            goto: Goto::Next,
-        })),
-        Some((token, rest)) => match role_of(token) {
-            Role::Assigns => object_in(alloc, subject, pattern, rest),
-            Role::Goes => going(
-                alloc,
-                Some(Body {
-                    subject,
-                    pattern,
-                    object: Object::Nothing,
-                }),
-                rest,
-            ),
-            Role::Follows => Ok(None),
-            Role::Touches => Ok(None),
+    match rest.tokens.split_first() {
+        None => {
+            let body = body_with(subject, Some(pattern), Object::Nothing);
+            Ok(Ok(ended(body, rest.lacking)))
+        }
+        Some((token, behind)) => match role_of(token) {
+            Role::Assigns => {
+                let lacking = set(total, &subject, true, rest.lacking);
+                object_in(alloc, subject, Some(pattern), lacking, behind)
+            }
+            Role::Goes => {
+                let body = body_with(subject, Some(pattern), Object::Nothing);
+                going(alloc, body, rest.lacking, behind)
+            }
+            Role::Follows | Role::Touches => Ok(Err(refused(
+                rest.blank || ends_part(&token.kind),
+                rest.lacking,
+                rest.tokens,
+            ))),
         },
     }
 }
 
 fn matching(
     alloc: Global,
+    total: usize,
     subject: Expression,
+    lacking: usize,
     tokens: &[Token],
-) -> Result<Option<Statement>, AllocError>
-    ensures { IfOk result (λ s. statements_of s ≡ matching (expression_of subject) (reading false tokens.now)) }
+) -> Result<Result<Stated, Refusal>, AllocError>
+    ensures { IfOk result (λ s. stated_of s ≡ matching total (expression_of subject) lacking (telling false tokens.now)) }
 {
     let Piece { tree, rest } = read_piece(alloc, false, tokens)?;
+    let lacking = most(lacking, rest.lacking);
     match tree {
-        None => Ok(None),
-        Some(pattern) => pattern_then(alloc, subject, pattern, rest),
+        None => Ok(Err(refused(rest.blank, lacking, rest.tokens))),
+        Some(pattern) => {
+            let rest = Rest { lacking, ..rest };
+            pattern_then(alloc, total, subject, pattern, rest)
+        }
     }
 }
 
 // Behind the subject.
 fn subject_then(
     alloc: Global,
+    total: usize,
     subject: Expression,
-    tokens: &[Token],
-) -> Result<Option<Statement>, AllocError>
-    ensures { IfOk result (λ s. statements_of s ≡ subject_then (expression_of subject) tokens.now) }
+    rest: Rest,
+) -> Result<Result<Stated, Refusal>, AllocError>
+    ensures { IfOk result (λ s. stated_of s ≡ subject_then total rest.entry.blank (expression_of subject) rest.entry.lacking rest.entry.tokens.now) }
 {
-    match tokens.split_first() {
-        None => Ok(Some(Statement {
-            body: Some(Body {
-                subject,
-                pattern: None,
-                object: Object::Nothing,
-            }),
-            goto: Goto::Next,
-        })),
-        Some((token, rest)) => match role_of(token) {
-            Role::Assigns => object_in(alloc, subject, None, rest),
-            Role::Goes => going(
-                alloc,
-                Some(Body {
-                    subject,
-                    pattern: None,
-                    object: Object::Nothing,
-                }),
-                rest,
-            ),
-            Role::Follows => matching(alloc, subject, tokens),
-            Role::Touches => Ok(None),
-        },
+    match rest.tokens.split_first() {
+        None => {
+            let body = body_with(subject, None, Object::Nothing);
+            Ok(Ok(ended(body, rest.lacking)))
+        }
+        Some((token, behind)) => {
+            let blank = rest.blank || begins(false, &token.kind) || ends_part(&token.kind);
+            match role_of(token) {
+                Role::Assigns => {
+                    let lacking = set(total, &subject, false, rest.lacking);
+                    object_in(alloc, subject, None, lacking, behind)
+                }
+                Role::Goes => {
+                    let body = body_with(subject, None, Object::Nothing);
+                    going(alloc, body, rest.lacking, behind)
+                }
+                Role::Follows => {
+                    if begins(token.blank_after, &token.kind) {
+                        matching(alloc, total, subject, rest.lacking, rest.tokens)
+                    } else {
+                        Ok(Err(refused(blank, rest.lacking, rest.tokens)))
+                    }
+                }
+                Role::Touches => Ok(Err(refused(blank, rest.lacking, rest.tokens))),
+            }
+        }
     }
 }
 
-fn acting(alloc: Global, tokens: &[Token]) -> Result<Option<Statement>, AllocError>
-    ensures { IfOk result (λ s. statements_of s ≡ acting (reading true tokens.now)) }
+fn acting(alloc: Global, tokens: &[Token]) -> Result<Result<Stated, Refusal>, AllocError>
+    ensures { IfOk result (λ s. stated_of s ≡ acting (length tokens.now) (telling true tokens.now)) }
 {
     let Piece { tree, rest } = read_piece(alloc, true, tokens)?;
     match tree {
-        None => Ok(None),
-        Some(subject) => subject_then(alloc, subject, rest),
+        None => Ok(Err(refused(rest.blank, rest.lacking, rest.tokens))),
+        Some(subject) => subject_then(alloc, tokens.len(), subject, rest),
     }
 }
 
-/// The statement that the tokens are read as, if they are one; places that need a variable may have another tree.
+/// The statement that the tokens are read as, or why they are read as none.
 ///
 /// # Errors
 ///
 /// Where a growth was refused.
-pub fn read_statement(alloc: Global, tokens: &[Token]) -> Result<Option<Statement>, AllocError>
-    ensures { IfOk result (λ s. statements_of s ≡ statement_in tokens.now) }
+pub fn read_statement(
+    alloc: Global,
+    tokens: &[Token],
+) -> Result<Result<Stated, Refusal>, AllocError>
+    ensures { IfOk result (λ s. stated_of s ≡ statement_in tokens.now) }
 {
     match tokens.split_first() {
-        None => Ok(Some(Statement {
-            body: None,
-            goto: Goto::Next,
-        })),
+        None => Ok(Ok(ended(None, 0))),
         Some((token, rest)) => match role_of(token) {
-            Role::Assigns => Ok(None),
-            Role::Goes => going(alloc, None, rest),
+            Role::Assigns => Ok(Err(refused(false, 0, tokens))),
+            Role::Goes => going(alloc, None, 0, rest),
             Role::Follows => acting(alloc, tokens),
-            Role::Touches => acting(alloc, tokens),
+            Role::Touches => {
+                if is_colon(&token.kind) {
+                    Ok(Err(refused(true, 0, tokens)))
+                } else {
+                    acting(alloc, tokens)
+                }
+            }
         },
     }
 }

@@ -1,31 +1,33 @@
 //! The parser of statements.
 
-ghost use Rattle.std.specs.Prelude.{◌≡◌, Some, None, IfOk};
-ghost use Rattle.sno_statement.specs.inner.Faults.{fault};
+ghost use Rattle.std.specs.Prelude.{◌≡◌, IfOk};
 ghost use Rattle.sno_statement.specs.Abstraction.{Parsed};
-ghost use Rattle.sno_statement.specs.inner.Reading.{statement_in};
-ghost use Rattle.sno_statement.specs.inner.Variables.{fitting};
+ghost use Rattle.sno_statement.specs.inner.Parsing.{blame};
 
-use crate::fault::Fault;
-use crate::finding::find_fault;
-use crate::fitting::fitting;
-use crate::parser::read_statement;
+use crate::fault::{Fault, FaultKind};
+use crate::parser::{Refusal, read_statement};
 use crate::statement::Statement;
 use sno_lexer::Token;
 use std::alloc::{AllocError, Global};
 
-// What is wrong with tokens that spell no statement.
-fn fault_of(alloc: Global, tokens: &[Token]) -> Result<Fault, AllocError>
-    requires { fitting (statement_in tokens.now) ≡ None }
-    ensures { IfOk result (λ f. fault tokens.now ≡ Some f) }
+// What is wrong: a variable that is lacking comes before the token that does not fit.
+fn blame(total: usize, refusal: Refusal) -> Fault
+    ensures { result ≡ blame total refusal }
 {
-    match find_fault(alloc, tokens)? {
-        Some(fault) => Ok(fault),
-        None => unreachable!(),
+    if refusal.lacking == 0 {
+        Fault {
+            at: total.saturating_sub(refusal.left),
+            kind: refusal.kind,
+        }
+    } else {
+        Fault {
+            at: total.saturating_sub(refusal.lacking),
+            kind: FaultKind::NoVariable,
+        }
     }
 }
 
-/// The statement that the tokens behind a label spell, or their leftmost fault, which is sought only where they spell none.
+/// The statement that the tokens behind a label spell, or their leftmost fault, in one pass.
 ///
 /// The statement is the only one that they spell: its trees obey precedence and associativity, and where a variable is
 /// needed there is one. A fault is answered exactly where there is no such statement.
@@ -39,11 +41,17 @@ pub fn parse_statement(
 ) -> Result<Result<Statement, Fault>, AllocError>
     ensures { IfOk result (λ r. Parsed tokens.now r) }
 {
-    match fitting(read_statement(alloc, tokens)?) {
-        Some(statement) => Ok(Ok(statement)),
-        None => {
-            let fault = fault_of(alloc, tokens)?;
-            Ok(Err(fault))
+    match read_statement(alloc, tokens)? {
+        Err(refusal) => Ok(Err(blame(tokens.len(), refusal))),
+        Ok(stated) => {
+            if stated.lacking == 0 {
+                Ok(Ok(stated.statement))
+            } else {
+                Ok(Err(Fault {
+                    at: tokens.len().saturating_sub(stated.lacking),
+                    kind: FaultKind::NoVariable,
+                }))
+            }
         }
     }
 }

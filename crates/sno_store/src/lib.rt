@@ -12,5 +12,5 @@ pub mod store;
 pub use callee::{Callee, Change, StateFunction};
 pub use keyword::{Keyword, KeywordName, KeywordNumber, Keywords};
 pub use sno_declarations::Function;
-pub use sno_variables::{Found, Replaced, Variable};
+pub use sno_variables::{Found, Variable};
 pub use store::Store;

@@ -10,7 +10,7 @@ use Rattle.sno_lexer.specs.Listed.{TokenList}
 use Rattle.sno_statement.specs.Statements.{Statement}
 use Rattle.sno_statement.specs.declared.fault.Fault.{Fault}
 use Rattle.sno_statement.specs.inner.Faults.{fault}
-use Rattle.sno_statement.proofs.Completing.{statement_read}
+use Rattle.sno_statement.proofs.Completing.{stated_read}
 use Rattle.sno_statement.proofs.Leftmost.{none_fit}
 use Rattle.sno_syntax.specs.declared.start.Start.{Start}
 use Rattle.sno_syntax.specs.Labels.{LabelList, label_fault}
@@ -22,7 +22,7 @@ use Rattle.sno_syntax.specs.inner.Tokens.{AreTokensOf}
 use Rattle.sno_syntax.proofs.Behind.{given, given_stands, tokens_spell}
 
 statement_spelled : (s : Statement) (tokens : Result TokenList SyntaxError) → AreTokensOf s tokens → statement_on tokens ≡ Some s
-statement_spelled s (Ok list) a = statement_read s list.tokens a.1
+statement_spelled s (Ok list) a = stated_read s list.tokens a.1
 statement_spelled s (Err refusal) a = absurd a
 
 statements_spelled : (labels : LabelList) (i : ℕ) (texts : List (List Placed)) (ss : List Statement) → SpellFrom labels i texts ss

@@ -5,7 +5,7 @@ use Rattle.sno_cards.specs.Programs.{ProgramText}
 use Rattle.sno_cards.specs.Texts.{Placed}
 use Rattle.sno_lexer.specs.Listed.{TokenList}
 use Rattle.sno_statement.specs.Statements.{Statement}
-use Rattle.sno_statement.specs.inner.Reading.{statement_in}
+use Rattle.sno_statement.specs.inner.Parsing.{stated, statement_in}
 use Rattle.sno_syntax.specs.declared.start.Start.{Start}
 use Rattle.sno_syntax.specs.Labels.{LabelList}
 use Rattle.sno_syntax.specs.Refusals.{tokens_of, labels_in, start_in}
@@ -13,7 +13,7 @@ use Rattle.sno_syntax.specs.Programs.{Program}
 
 -- the statement that the tokens spell, where there is one
 abbrev pub statement_on : Result TokenList SyntaxError → Option Statement
-statement_on (Ok list) = statement_in list.tokens
+statement_on (Ok list) = stated (statement_in list.tokens)
 statement_on (Err refusal) = None
 
 abbrev pub statement_before : Option Statement → Option (List Statement) → Option (List Statement)

@@ -76,6 +76,8 @@ pub put_back : (name : List ℕ) (vs : Variables) (x : Variable) → Some x ≡ 
     → put name (record { value = x.value; input = x.input; output = x.output }) vs ≡ vs
 put_back name vs x at = put_same name vs x (sym at)
 
+pub ruleset exchanging = (given_known, output_known, put_back)
+
 -- a name that is there is put as it was
 pub noted_known : (name : List ℕ) (vs : Variables) → is_named name vs ≡ true → vs ≡ noted name vs
 noted_known name vs h = by (lookup (same name) vs) refl h

@@ -1,8 +1,8 @@
 -- The place of a name.
 use Rattle.std.proofs.Common.{◌≡◌, ℕ, zero, suc, nat_eq, nat_lt, ◌<◌, Bool, true, false, cond, not, List, [], ◌∷◌, ◌+◌, length, None, Some, position, slice_get, refl, sym, ap, subst, ◌∙◌, true≢false, arith}
 use Rattle.std.specs.Prelude.{if◌then◌else◌}
-use Rattle.std.specs.List.{position_or_len, IsDistinct, AllByRecursion}
-use Rattle.std.specs.Cmp.Lexicographic.{pointwise, nat_list_eq_equiv}
+use Rattle.std.specs.List.{position_or_len, IsDistinct}
+use Rattle.std.specs.Cmp.Lexicographic.{pointwise}
 use Rattle.std.specs.Map.{keys_of, values_of, lookup}
 use Rattle.std.proofs.lemmas.Bool.Decides.{nat_tests}
 use Rattle.indexmap.specs.IndexMap.{set_value_at}
@@ -94,37 +94,3 @@ none_there name vs at = by (nat_lt (position_or_len (same name) (keys_of vs)) (l
     by false g h = sym (nothing name vs g)
 
 pub ruleset lending = (put_there, value_there, none_there)
-
--- THE HINT
-
-apart : (key : List ℕ) (vs : Variables) (i : ℕ) (e : List ℕ × Variable) → AllByRecursion (λ y. pointwise nat_eq key y ≡ false) (keys_of vs) → slice_get vs i ≡ Some e → same key e.0 ≡ false
-apart key [] i e h at = cc
-apart key (d ∷ ds) zero e h at = let is : d ≡ e = cc in sym (ap (λ (p : List ℕ × Variable). same key p.0) is) ∙ h.0
-apart key (d ∷ ds) (suc i) e h at = apart key ds i e h.1 at
-
-hinted : (name : List ℕ) (vs : Variables) (i : ℕ) (e : List ℕ × Variable) → AreDistinct vs → slice_get vs i ≡ Some e → same name e.0 ≡ true
-    → (position_or_len (same name) (keys_of vs) ≡ i) × (i < length (keys_of vs))
-unfolding IsDistinct
-hinted name [] i e are at h = cc
-hinted name (d ∷ ds) zero e are at h =
-    let is : d ≡ e = cc in
-    let first : same name d.0 ≡ true = ap (λ (p : List ℕ × Variable). same name p.0) is ∙ h in
-    (ap (λ (b : Bool). cond (not b) (1 + position_or_len (same name) (keys_of ds)) 0) first, omega arith)
-hinted name (d ∷ ds) (suc i) e are at h =
-    let rest = hinted name ds i e are.1 at h in
-    let other : same d.0 e.0 ≡ false = apart d.0 ds i e are.0 at in
-    let no : same name d.0 ≡ false = differs (same name d.0) refl other in
-    let here = ap (λ (b : Bool). cond (not b) (1 + position_or_len (same name) (keys_of ds)) 0) no in
-    (here ∙ omega (arith, rest.0), omega (arith, rest.1))
-  where
-    differs : (b : Bool) → same name d.0 ≡ b → same d.0 e.0 ≡ false → b ≡ false
-    differs true g other = absurd (true≢false (sym h ∙ nat_list_eq_equiv.congr name d.0 e.0 g ∙ other))
-    differs false g other = refl
-
--- the entry at a place with the name is the one of that name
-pub place_hinted : (name : List ℕ) (vs : Variables) (i : ℕ) (e : List ℕ × Variable) → AreDistinct vs → Some e ≡ slice_get vs i → same name e.0 ≡ true
-    → Some i ≡ position (pointwise nat_eq name) (keys_of vs)
-place_hinted name vs i e are at h =
-    let found = hinted name vs i e are (sym at) h in
-    let within : nat_lt (position_or_len (same name) (keys_of vs)) (length (keys_of vs)) ≡ true = grind (arith, nat_tests) in
-    sym (ap (λ (b : Bool). cond b (Some (position_or_len (same name) (keys_of vs))) None) within ∙ ap Some found.0)

@@ -1,6 +1,6 @@
 -- The variables of a job: their values, and the units that their reads and writes go to (the SNOBOL4 book, chapter 1, and what it says of input and output).
 -- A variable that was never named has the null string.
-use Rattle.std.specs.Prelude.{ℕ, nat_eq, Bool, List, Option, None, Some, is_some, unwrap_or}
+use Rattle.std.specs.Prelude.{ℕ, nat_eq, Bool, List, None, Some, is_some, unwrap_or}
 use Rattle.std.specs.Option.{option_map_or}
 use Rattle.std.specs.Map.{lookup}
 use Rattle.std.specs.Cmp.Lexicographic.{pointwise}

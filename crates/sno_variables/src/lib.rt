@@ -12,5 +12,5 @@ pub mod variable;
 pub mod variables;
 
 pub use first::first_variables;
-pub use variable::{Found, Replaced, Variable};
+pub use variable::{Found, Variable};
 pub use variables::{Variables, value_at};

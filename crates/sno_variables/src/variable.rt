@@ -26,17 +26,6 @@ impl Variable {
     }
 }
 
-/// What came of a value that was to be exchanged for that of a variable.
-#[derive(Clone, Copy)]
-pub enum Replaced {
-    /// The variable has it, and it is written nowhere.
-    Quiet,
-    /// The variable has it, and it is to be written.
-    Written,
-    /// The variable was not named before, and nothing has changed.
-    Unnamed,
-}
-
 /// What using a variable meets.
 #[derive(Drop)]
 pub enum Found<'a> {

@@ -6,7 +6,6 @@ ghost use Rattle.std.specs.Map.{lookup, keys_of};
 ghost use Rattle.std.specs.Prelude.{nat_eq};
 ghost use Rattle.std.specs.Cmp.Lexicographic.{pointwise};
 ghost use Rattle.sno_variables.specs.Variables.{variable_of, value_of, use_of, seen, is_named, put, given, reading, writing, detached, noted};
-ghost use Rattle.sno_variables.specs.declared.variable.Replaced.TheVariants as replaced;
 ghost use Rattle.sno_variables.specs.inner.Lending.{LendsVariable};
 ghost use Rattle.sno_value.specs.Values.{null};
 ghost use Rattle.sno_declarations.specs.Prototypes.{names_of, are_different};
@@ -17,7 +16,7 @@ ghost use Rattle.sno_variables.specs.inner.Exchanging.{values_now};
 use crate::exchanging::{exchange_known, take_back};
 use crate::lookup::{assign_all, place_of, place_of_text};
 use crate::recent::Recent;
-use crate::variable::{Found, Replaced, Variable};
+use crate::variable::{Found, Variable};
 use indexmap::IndexMap;
 use sno_declarations::{Bindings, Input, Output, Prototype};
 use sno_text::{Name, Named, Seed, Text};
@@ -181,6 +180,7 @@ impl Variables {
     /// # Errors
     ///
     /// Where a growth was refused; nothing has changed then.
+    #[inline(always)]
     #[tactic(auto, using(crate::proofs::Changing::giving))]
     pub fn give(&mut self, name: &Named, value: Value) -> Result<Option<Output>, AllocError>
         ensures given { OnOk result (self.new ≡ given name.now value self.old) }
@@ -196,24 +196,24 @@ impl Variables {
         Ok(None)
     }
 
-    /// Exchanges the value of a variable for another, where it was named before, and tells whether that is to be written. Otherwise
-    /// nothing has changed. It takes no memory.
-    #[inline(never)]
-    #[tactic(auto, using(crate::proofs::Changing::giving))]
-    pub fn replace(&mut self, name: &Named, value: &mut Value) -> Replaced
-        ensures quiet { result ≡ replaced.Quiet → (self.new ≡ given name.now value.old self.old) × ((variable_of name.now self.old).output ≡ None) }
-        ensures written { result ≡ replaced.Written → self.new ≡ given name.now value.old self.old }
-        ensures unchanged { result ≡ replaced.Unnamed → (self.new ≡ self.old) × (value.new ≡ value.old) }
+    /// Exchanges the value of a variable for another, where it was named before and is written nowhere, and tells whether so it is.
+    /// Otherwise nothing has changed. It takes no memory.
+    #[inline(always)]
+    #[tactic(auto, using(crate::proofs::Changing::exchanging))]
+    pub fn replace(&mut self, name: &Named, value: &mut Value) -> bool
+        ensures given { result ≡ true → self.new ≡ given name.now value.old self.old }
+        ensures quiet { result ≡ true → (variable_of name.now self.old).output ≡ None }
+        ensures unchanged { result ≡ false → (self.new ≡ self.old) × (value.new ≡ value.old) }
     {
         match self.find_mut(name) {
-            Some(variable) => {
-                mem::swap(&mut variable.value, value);
-                match variable.output {
-                    Some(_) => Replaced::Written,
-                    None => Replaced::Quiet,
+            Some(variable) => match variable.output {
+                Some(_) => false,
+                None => {
+                    mem::swap(&mut variable.value, value);
+                    true
                 }
-            }
-            None => Replaced::Unnamed,
+            },
+            None => false,
         }
     }
 

@@ -1,11 +1,11 @@
 -- A walk over the tokens of one expression.
 use Rattle.std.specs.Prelude.{Bool, List, [], ◌∷◌, Option, Some, None}
 use Rattle.sno_lexer.specs.declared.token.Token.{Token}
-use Rattle.sno_expression.specs.declared.walking.Paren.{Paren}
-use Rattle.sno_expression.specs.declared.walking.Position.{Position}
-use Rattle.sno_expression.specs.declared.walking.Position.TheVariants.{AtStart}
-use Rattle.sno_expression.specs.declared.walking.Move.{Move}
-use Rattle.sno_expression.specs.declared.walking.Move.TheVariants.{Into, Within, Out}
+use Rattle.sno_expression.specs.declared.position.Paren.{Paren}
+use Rattle.sno_expression.specs.declared.position.Position.{Position}
+use Rattle.sno_expression.specs.declared.position.Position.TheVariants.{AtStart}
+use Rattle.sno_expression.specs.inner.Moves.{Move}
+use Rattle.sno_expression.specs.inner.Moves.{Into, Within, Out}
 use Rattle.sno_expression.specs.inner.Walking.{step, inner_of, outer_of, ends}
 
 -- the open parentheses, the innermost first, and where among them the walk stands

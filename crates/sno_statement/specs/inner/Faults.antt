@@ -9,14 +9,14 @@ use Rattle.sno_expression.specs.inner.Walking.{is_misfit, misfit_index}
 use Rattle.sno_statement.specs.declared.fault.FaultKind.{FaultKind}
 use Rattle.sno_statement.specs.declared.fault.FaultKind.TheVariants.{MissingBlank, Unfit, NoVariable}
 use Rattle.sno_statement.specs.declared.fault.Fault.{Fault}
-use Rattle.sno_statement.specs.declared.walking.Role.{Role}
-use Rattle.sno_statement.specs.declared.walking.Role.TheVariants.{Assigns}
-use Rattle.sno_statement.specs.declared.walking.Field.{Field}
-use Rattle.sno_statement.specs.declared.walking.Field.TheVariants.{Subject, Pattern}
-use Rattle.sno_statement.specs.declared.walking.Stage.{Stage}
-use Rattle.sno_statement.specs.declared.walking.Stage.TheVariants.{In}
-use Rattle.sno_statement.specs.declared.walking.SubjectKind.{SubjectKind}
-use Rattle.sno_statement.specs.declared.walking.SubjectKind.TheVariants as kind
+use Rattle.sno_statement.specs.declared.role.Role.{Role}
+use Rattle.sno_statement.specs.declared.role.Role.TheVariants.{Assigns}
+use Rattle.sno_statement.specs.inner.Stages.{Field}
+use Rattle.sno_statement.specs.inner.Stages.{Subject, Pattern}
+use Rattle.sno_statement.specs.inner.Stages.{Stage}
+use Rattle.sno_statement.specs.inner.Stages.{In}
+use Rattle.sno_statement.specs.inner.Stages.{SubjectKind}
+use Rattle.sno_statement.specs.inner.Stages as kind
 use Rattle.sno_statement.specs.inner.Kinds.{can_be_set}
 use Rattle.sno_statement.specs.inner.Walking.{Walk, At, take, begins, may_end, role}
 

@@ -2,8 +2,8 @@
 use Rattle.std.specs.Prelude.{Bool, true, false, if◌then◌else◌}
 use Rattle.sno_expression.specs.declared.tree.UnaryOperator.TheVariants.{Indirect}
 use Rattle.sno_expression.specs.Expressions.{Expression, Identifier, Keyword, Unary, TableItem}
-use Rattle.sno_statement.specs.declared.walking.SubjectKind.{SubjectKind}
-use Rattle.sno_statement.specs.declared.walking.SubjectKind.TheVariants as kind
+use Rattle.sno_statement.specs.inner.Stages.{SubjectKind}
+use Rattle.sno_statement.specs.inner.Stages as kind
 
 -- what a subject is to an assignment
 abbrev pub kind_of : Expression → SubjectKind

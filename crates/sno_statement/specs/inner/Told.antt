@@ -1,45 +1,21 @@
--- The values of the walk and of the reading by the definitions.
-use Rattle.std.specs.Prelude.{◌≡◌, List, [], ◌∷◌, Option, Some, None, Result, Ok, Err}
-use Rattle.sno_lexer.specs.declared.token.Token.{Token}
-use Rattle.sno_expression.specs.declared.walking.Paren.{Paren}
-use Rattle.sno_statement.specs.declared.fault.FaultKind.{FaultKind}
-use Rattle.sno_statement.specs.declared.statement.Goto.{Goto as AGoto}
-use Rattle.sno_statement.specs.declared.statement.Target.{Target as ATarget}
-use Rattle.sno_statement.specs.declared.statement.Statement.{Statement as AStatement}
-use Rattle.sno_statement.specs.declared.walking.Parens.{Parens}
-use Rattle.sno_statement.specs.declared.walking.Parens.TheVariants as parens
-use Rattle.sno_statement.specs.declared.walking.Walk.{Walk as AWalk}
+-- The values of the reading by the definitions.
+use Rattle.std.specs.Prelude.{Result, Ok, Err}
 use Rattle.sno_statement.specs.declared.parser.Aim.{Aim as AnAim}
-use Rattle.sno_statement.specs.Statements.{Goto, Statement}
-use Rattle.sno_statement.specs.inner.Walking.{Walk, At, take}
-use Rattle.sno_statement.specs.inner.Faults.{refused_as}
 use Rattle.sno_statement.specs.Abstraction.{target_of, goto_of, statement_of}
-use Rattle.sno_statement.specs.inner.Reading.{Aim, Missed, Aimed}
+use Rattle.sno_statement.specs.declared.parser.Refusal.{Refusal}
+use Rattle.sno_statement.specs.declared.parser.Way.{Way as AWay}
+use Rattle.sno_statement.specs.declared.parser.Stated.{Stated as AStated}
+use Rattle.sno_statement.specs.inner.Parsing.{Aim, Aimed, Way, Leads, Stated, States}
 
-abbrev pub parens_of : Parens → List Paren
-parens_of parens.Bottom = []
-parens_of (parens.Open' p q around) = p ∷ parens_of around
+-- what was read, with the tokens behind it, or why nothing was
+abbrev pub aims_of : Result AnAim Refusal → Result Aim Refusal
+aims_of (Ok a) = Ok (Aimed (target_of a.target) a.lacking a.rest.now)
+aims_of (Err r) = Err r
 
-abbrev pub walk_of : AWalk → Walk
-walk_of w = At (parens_of w.parens) w.stage
+abbrev pub ways_of : Result AWay Refusal → Result Way Refusal
+ways_of (Ok w) = Ok (Leads (goto_of w.goto) w.lacking)
+ways_of (Err r) = Err r
 
--- a token that is taken, or why it is not
-abbrev pub Stepped : Walk → Token → Result AWalk FaultKind → Type 0
-Stepped w t (Ok v) = take w t ≡ Some (walk_of v)
-Stepped w t (Err k) = (take w t ≡ None) × (k ≡ refused_as w t.kind)
-
-abbrev pub statements_of : Option AStatement → Option Statement
-statements_of None = None
-statements_of (Some s) = Some (statement_of s)
-
-abbrev pub gotos_of : Option AGoto → Option Goto
-gotos_of None = None
-gotos_of (Some g) = Some (goto_of g)
-
--- a target that was read, and the tokens behind it
-abbrev pub aimed : Option ATarget → List Token → Aim
-aimed None rest = Missed
-aimed (Some t) rest = Aimed (target_of t) rest
-
-abbrev pub aim_of : AnAim → Aim
-aim_of a = aimed a.target a.rest.now
+abbrev pub stated_of : Result AStated Refusal → Result Stated Refusal
+stated_of (Ok s) = Ok (States (statement_of s.statement) s.lacking)
+stated_of (Err r) = Err r

@@ -7,20 +7,20 @@ use Rattle.sno_lexer.specs.declared.token.Part.TheVariants.{Equals, Colon, On, L
 use Rattle.sno_lexer.specs.declared.token.Token.{Token}
 use Rattle.sno_lexer.specs.declared.token.TokenKind.{TokenKind}
 use Rattle.sno_lexer.specs.declared.token.TokenKind.TheVariants as token
-use Rattle.sno_expression.specs.declared.walking.Paren.{Paren}
-use Rattle.sno_expression.specs.declared.walking.Position.TheVariants.{AtStart}
-use Rattle.sno_expression.specs.declared.walking.Move.{Move}
-use Rattle.sno_expression.specs.declared.walking.Move.TheVariants as move
+use Rattle.sno_expression.specs.declared.position.Paren.{Paren}
+use Rattle.sno_expression.specs.declared.position.Position.TheVariants.{AtStart}
+use Rattle.sno_expression.specs.inner.Moves.{Move}
+use Rattle.sno_expression.specs.inner.Moves as move
 use Rattle.sno_expression.specs.Spelling.{spaced}
 use Rattle.sno_expression.specs.inner.Walking.{step, ends, inner_of, outer_of}
-use Rattle.sno_statement.specs.declared.walking.Role.{Role}
-use Rattle.sno_statement.specs.declared.walking.Role.TheVariants.{Assigns, Goes, Follows, Touches}
-use Rattle.sno_statement.specs.declared.walking.Field.{Field}
-use Rattle.sno_statement.specs.declared.walking.Field.TheVariants.{Subject, Pattern, Object, Target}
-use Rattle.sno_statement.specs.declared.walking.Stage.{Stage}
-use Rattle.sno_statement.specs.declared.walking.Stage.TheVariants.{First, In, AfterEquals, AfterColon, AfterOutcome, InTarget, AfterLabel, AfterTarget}
-use Rattle.sno_statement.specs.declared.walking.Advance.{Advance}
-use Rattle.sno_statement.specs.declared.walking.Advance.TheVariants.{Into, Within, Out}
+use Rattle.sno_statement.specs.declared.role.Role.{Role}
+use Rattle.sno_statement.specs.declared.role.Role.TheVariants.{Assigns, Goes, Follows, Touches}
+use Rattle.sno_statement.specs.inner.Stages.{Field}
+use Rattle.sno_statement.specs.inner.Stages.{Subject, Pattern, Object, Target}
+use Rattle.sno_statement.specs.inner.Stages.{Stage}
+use Rattle.sno_statement.specs.inner.Stages.{First, In, AfterEquals, AfterColon, AfterOutcome, InTarget, AfterLabel, AfterTarget}
+use Rattle.sno_statement.specs.inner.Stages.{Advance}
+use Rattle.sno_statement.specs.inner.Stages.{Into, Within, Out}
 
 -- what a token is between two parts of a statement: `=` with its blanks, `:` with a blank before it, or any other with or
 -- without a blank before it

@@ -5,7 +5,8 @@ use Rattle.sno_lexer.specs.declared.token.TokenKind.TheVariants as token
 use Rattle.sno_expression.specs.declared.tree.BinaryOperator.TheVariants.{Concatenation}
 use Rattle.sno_expression.specs.Expressions.{Identifier}
 use Rattle.sno_expression.specs.Abstraction.{expression_of}
-use Rattle.sno_expression.specs.inner.Reading.{Stack, At, Named, After, answer}
+use Rattle.sno_expression.specs.inner.Reading.{Stack, At, Named, After}
+use Rattle.sno_expression.specs.inner.Telling.{told}
 use Rattle.sno_expression.specs.inner.Runs.{spread_all}
 use Rattle.sno_expression.specs.inner.Spines.{is_under_all}
 use Rattle.sno_expression.specs.inner.Told.{stack_of}
@@ -42,4 +43,4 @@ pub returns-clause-same : goal.returns-clause-same
 returns-clause-same c =
     let i = c.loop-at.invariant in
     let hole = After (spread_all c.loop-at.waiting.items (expression_of c.loop-at.right)) Concatenation in
-    i.same ∙ ap (λ (st : Stack). answer c.args.alone (At st (Named hole c.loop-at.latest)) (drop c.loop-at.at c.args.tokens.now)) (sym i.stays)
+    i.same ∙ ap (λ (st : Stack). told c.args.alone (At st (Named hole c.loop-at.latest)) (drop c.loop-at.at c.args.tokens.now)) (sym i.stays)

@@ -1,26 +1,24 @@
-use Rattle.std.proofs.Common.{◌≡◌, ◌+◌, drop, arith}
-use Rattle.sno_expression.specs.inner.Reading.{reading, answer}
-use Rattle.sno_expression.specs.Abstraction.{expressions_of}
-use Rattle.sno_expression.specs.inner.Told.{state_of}
-use Rattle.sno_expression.proofs.Loop.{more, on_next, on_end}
+-- Where the first operand is read at once, the reading goes on behind it.
+use Rattle.std.proofs.Common.{◌≡◌, ◌∙◌, ap, subst, drop}
+use Rattle.std.specs.Prelude.{Some, IfOk}
+use Rattle.std.proofs.lemmas.List.{take_rest}
+use Rattle.sno_expression.specs.Abstraction.{expression_of}
+use Rattle.sno_expression.specs.inner.Telling.{Told}
+use Rattle.sno_expression.specs.inner.First.{first_operand}
+use Rattle.sno_expression.specs.inner.Told.{told_of}
+use Rattle.sno_expression.proofs.First.{first_from, first_element}
 use Rattle.sno_expression.proofs.parser.read_expression.Goals as goal
 
-pub returns-in-End-clause-reads : goal.returns-in-End-clause-reads
-returns-in-End-clause-reads c =
+pub read_behind-requires-clause-element : goal.read_behind-requires-clause-element
+read_behind-requires-clause-element c =
     let ts = c.args.tokens.now in
-    let i = c.loop-at.at in
-    let t = c.index-tokens-at.result in
-    on_end c.args.alone (state_of c.loop-at.state) (expressions_of c.in-End.tree) t (drop i ts) (drop (i + 1) ts) (reading c.args.alone (drop c.args.from ts))
-    (more ts i t c.loop-at-test.true c.index-tokens-at.is) (rw c.in-End.is at c.in_ok-next.ensures) c.loop-at.invariant.same
+    let first : Some (expression_of c.in-Some.first) ≡ first_operand (drop c.args.from ts) =
+    (rw c.in-Some.is at c.in_ok-first.ensures) ∙ ap first_operand (take_rest ts c.args.from) in
+    first_element (drop c.args.from ts) c.in-Some.first first
 
-pub loop-at-preserved : goal.loop-at-preserved
-loop-at-preserved c =
+pub returns-in-Some-clause-reads : goal.returns-in-Some-clause-reads
+returns-in-Some-clause-reads c =
     let ts = c.args.tokens.now in
-    let i = c.loop-at.at in
-    let t = c.index-tokens-at.result in
-    let all = reading c.args.alone (drop c.args.from ts) in
-    let next : all ≡ answer c.args.alone (state_of c.in-Next.next) (drop (i + 1) ts) =
-    on_next c.args.alone (state_of c.loop-at.state) (state_of c.in-Next.next) t (drop i ts) (drop (i + 1) ts) all
-    (more ts i t c.loop-at-test.true c.index-tokens-at.is) (rw c.in-Next.is at c.in_ok-next.ensures) c.loop-at.invariant.same in
-    let o = c.loop-at.invariant.onward in
-    record { same = next; onward = omega arith }
+    let first : Some (expression_of c.in-Some.first) ≡ first_operand (drop c.args.from ts) =
+    (rw c.in-Some.is at c.in_ok-first.ensures) ∙ ap first_operand (take_rest ts c.args.from) in
+    subst (λ (x : Told). IfOk c.read_behind.result (λ found. told_of found ts ≡ x)) (first_from c.args.alone ts c.args.from c.in-Some.first first) c.read_behind.ensures.reads

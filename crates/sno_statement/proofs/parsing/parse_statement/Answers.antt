@@ -1,12 +1,24 @@
-use Rattle.std.proofs.Common.{sym, ap, ◌∙◌}
-use Rattle.sno_statement.specs.inner.Variables.{fitting}
-use Rattle.sno_statement.proofs.Grammar.{parsed_ok}
-use Rattle.sno_statement.proofs.Leftmost.{found}
+use Rattle.std.proofs.Common.{arith, ◌≡◌, ℕ, ap}
+use Rattle.std.specs.Prelude.{true, false, nat_eq}
+use Rattle.std.proofs.lemmas.Bool.Decides.{nat_tests}
+use Rattle.sno_statement.specs.declared.fault.FaultKind.TheVariants.{NoVariable}
+use Rattle.sno_statement.specs.Abstraction.{statement_of}
+use Rattle.sno_statement.specs.inner.Faults.{FaultAt}
+use Rattle.sno_statement.proofs.Parses.{is_refused, is_lacking, is_read}
 use Rattle.sno_statement.proofs.parsing.parse_statement.Goals as goal
 
-pub returns-in-Some : goal.returns-in-Some
-returns-in-Some c =
-    parsed_ok c.args.tokens.now c.in-Some.statement (sym (c.in-Some.ensures ∙ ap fitting c.in_ok-read_statement.ensures))
+pub returns-in-Err : goal.returns-in-Err
+returns-in-Err c = is_refused c.args.tokens.now c.in-Err.refusal c.blame.result (rw c.in-Err.is at c.in_ok-refusal.ensures) c.blame.ensures
 
-pub returns-in_ok-fault-in-None : goal.returns-in_ok-fault-in-None
-returns-in_ok-fault-in-None c = found c.args.tokens.now c.in_ok-fault-in-None.fault c.in_ok-fault-in-None.ensures
+pub returns-then-stated-eq0 : goal.returns-then-stated-eq0
+returns-then-stated-eq0 c =
+    let n = c.in-Ok.stated.lacking in
+    let d : nat_eq n 0 ≡ true = grind (arith, nat_tests, c.if-stated-eq0.true) in
+    is_read c.args.tokens.now c.in-Ok.stated.statement n (rw c.in-Ok.is at c.in_ok-refusal.ensures) d
+
+pub returns-else-stated-eq0 : goal.returns-else-stated-eq0
+returns-else-stated-eq0 c =
+    let n = c.in-Ok.stated.lacking in
+    let d : nat_eq n 0 ≡ false = grind (arith, nat_tests, c.if-stated-eq0.false) in
+    is_lacking c.args.tokens.now (statement_of c.in-Ok.stated.statement) n (FaultAt c.saturating_sub.result NoVariable) (rw c.in-Ok.is at c.in_ok-refusal.ensures) d
+    (ap (λ (x : ℕ). FaultAt x NoVariable) c.saturating_sub.ensures)

@@ -1,7 +1,7 @@
 -- The entry where a name like it was found has the name.
 use Rattle.std.proofs.Common.{rules, ◌≡◌, true, nat_eq}
 use Rattle.std.specs.Cmp.Lexicographic.{pointwise}
-use Rattle.sno_variables.proofs.Places.{place_hinted}
+use Rattle.mon_text.proofs.Hints.{place_hinted}
 use Rattle.sno_variables.proofs.lookup.place_named.Goals as goal
 
 pub returns-then-eq : goal.returns-then-eq

@@ -1,0 +1,84 @@
+-- What a reading tells beside its tree: where a variable is lacking, and whether the token at which it stops would be taken
+-- with other blanks. A place is told by the number of tokens from it on, and 0 stands for none.
+use Rattle.std.specs.Prelude.{ℕ, ◌+◌, nat_le, Bool, true, false, List, [], ◌∷◌, Option, Some, None, is_some, length, ◌||◌, ◌&&◌, not, if◌then◌else◌}
+use Rattle.sno_lexer.specs.declared.token.Token.{Token}
+use Rattle.sno_lexer.specs.declared.token.TokenKind.{TokenKind}
+use Rattle.sno_lexer.specs.declared.token.TokenKind.TheVariants as token
+use Rattle.sno_expression.specs.declared.position.Paren.{Paren}
+use Rattle.sno_expression.specs.declared.position.Paren.TheVariants.{OfGroup, OfCall, OfItem}
+use Rattle.sno_expression.specs.declared.position.Position.{Position}
+use Rattle.sno_expression.specs.declared.position.Position.TheVariants.{AtStart, AfterBinary, AfterUnary, AfterPrefix, AfterIdentifier, AfterOperand}
+use Rattle.sno_expression.specs.Expressions.{Expression}
+use Rattle.sno_expression.specs.inner.Walking.{begin, stops, inner_of, is_misfit, opens_bracket}
+use Rattle.sno_expression.specs.inner.Walks.{Walk, At}
+use Rattle.sno_expression.specs.inner.Reading.{State, read, result, start, walk}
+
+-- the place further left: more tokens are left there
+abbrev pub most : ℕ → ℕ → ℕ
+most a b = if nat_le a b then b else a
+
+-- the place that a token shows to lack a variable, with n tokens left from the token on
+abbrev pub lacking_from : Position → ℕ → ℕ
+lacking_from (AfterIdentifier w) n = n + 1
+lacking_from _ n = n
+
+abbrev pub lack : Position → Bool → TokenKind → ℕ → ℕ
+lack p b k n = if is_misfit p b k then lacking_from p n else 0
+
+abbrev pub lack_at : Walk → Token → ℕ → ℕ
+lack_at (At ps p) t n = lack p t.blank_before t.kind n
+
+-- does the token begin an operand
+abbrev pub begins : Bool → TokenKind → Bool
+begins a k = is_some (begin false a k)
+
+-- does the token end an argument that is empty; does it go on after an operand, with some blanks round it
+abbrev pub ends_argument : Option Paren → TokenKind → Bool
+ends_argument (Some OfCall) token.Comma = true
+ends_argument (Some OfCall) token.Close = true
+ends_argument _ k = false
+
+abbrev pub follows : Option Paren → TokenKind → Bool
+follows (Some OfGroup) token.Close = true
+follows (Some OfCall) token.Close = true
+follows (Some OfCall) token.Comma = true
+follows (Some OfItem) token.CloseAngle = true
+follows inner (token.Identifier n) = true
+follows inner (token.Constant c) = true
+follows inner (token.Mark m) = true
+follows inner token.Open = true
+follows inner k = false
+
+-- is the token taken at a position with some blanks round it
+abbrev pub fits : Bool → Option Paren → Position → TokenKind → Bool
+fits alone inner AtStart k = begins false k || ends_argument inner k
+fits alone inner (AfterBinary w) k = begins false k
+fits alone inner (AfterUnary w) k = begins false k
+fits alone inner AfterPrefix (token.Identifier n) = true
+fits alone inner AfterPrefix k = false
+fits alone inner (AfterIdentifier w) k = opens_bracket false k || (not (stops alone inner) && follows inner k)
+fits alone inner AfterOperand k = not (stops alone inner) && follows inner k
+
+abbrev pub fits_at : Bool → Walk → TokenKind → Bool
+fits_at alone (At ps p) k = fits alone (inner_of ps) p k
+
+-- the tree, where one is complete when a token is not taken or there are no more; the tokens that are left; the leftmost
+-- place that lacks a variable; and whether the token would be taken with other blanks
+pub data Told : Type 0 where
+  Tells : Option Expression → List Token → ℕ → Bool → Told
+
+abbrev pub with_lack : ℕ → Told → Told
+with_lack m (Tells t rest n b) = Tells t rest (most m n) b
+
+abbrev pub then_tell : Option State → Told → ℕ → (State → Told) → Told
+then_tell None stop m on = stop
+then_tell (Some s) stop m on = with_lack m (on s)
+
+abbrev pub told : Bool → State → List Token → Told
+told alone s [] = Tells (result s) [] 0 false
+told alone s (t ∷ ts) =
+    then_tell (read alone s t) (Tells (result s) (t ∷ ts) 0 (fits_at alone (walk s) t.kind)) (lack_at (walk s) t (length (t ∷ ts))) (λ v. told alone v ts)
+
+-- one expression, or one element
+abbrev pub telling : Bool → List Token → Told
+telling alone ts = told alone start ts
