@@ -1,7 +1,7 @@
 -- What was appended is a beginning of what is printed.
 use Rattle.std.proofs.Common.{◌≡◌, ℕ, List, [], ◌++◌, refl, sym, ap, ◌∙◌, append_assoc, append-nil}
 use Rattle.scheduler.specs.Marks.{Marks}
-use Rattle.deck_syntax.specs.declared.deck_error.DeckError.TheVariants.{Truncated}
+use Rattle.deck_lines.specs.declared.deck_error.DeckError.TheVariants.{Truncated}
 use Rattle.deck_driver.specs.declared.options.Counts.{Counts}
 use Rattle.deck_driver.specs.declared.options.Options.{Options}
 use Rattle.deck_driver.specs.declared.section.DeckState.{DeckState}

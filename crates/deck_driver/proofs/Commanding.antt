@@ -1,10 +1,11 @@
 -- What a card asks for, before those that are still to come.
-use Rattle.std.proofs.Common.{◌≡◌, ℕ, suc, ◌+◌, Bool, true, false, List, [], ◌∷◌, ◌++◌, Result, Ok, Err, OnErr, refl, sym, ap, ◌∙◌, arith, append_assoc, append-nil}
+use Rattle.std.proofs.Common.{◌≡◌, ◌⊎◌, inl, inr, ℕ, suc, ◌+◌, Bool, true, false, List, [], ◌∷◌, ◌++◌, Result, Ok, Err, OnErr, OnOk, refl, sym, ap, ◌∙◌, arith, append_assoc, append-nil}
+use Rattle.std.proofs.lemmas.Result.{on_ok_weaker, on_err_weaker}
 use Rattle.mon_catalogue.specs.Sets.{Sets}
 use Rattle.mon_device.specs.Putting.{Standing, Puts}
 use Rattle.mon_device.proofs.Putting.{puts_nothing}
 use Rattle.scheduler.specs.Marks.{Marks}
-use Rattle.mon_command.specs.declared.command.Command.{Command}
+use Rattle.deck_lines.specs.declared.command.Command.{Command}
 use Rattle.deck_syntax.specs.declared.job_deck.JobDeck.{JobDeck}
 use Rattle.deck_syntax.specs.declared.job.OpenJob.{OpenJob}
 use Rattle.mon_monitor.specs.SystemStates.{SystemState}
@@ -26,7 +27,10 @@ use Rattle.deck_driver.proofs.Verdicts.{at_end, verdict}
 use Rattle.deck_driver.specs.Printouts.{closing}
 use Rattle.deck_driver.specs.Feeds.{outcome_of, behind, more, concluded, Conclusion, Good, Bad, Outcome, Begins}
 use Rattle.deck_driver.specs.Audits.{told_to}
-use Rattle.deck_driver.specs.inner.Lines.{Served, ServeBreaks, Stopping, StopBreaks}
+use Rattle.deck_driver.specs.inner.Lines.{GoesOn, counted_by, Served, ServeBreaks, Stopping, StopBreaks}
+use Rattle.deck_reader.specs.declared.stream_reader.Event.{Event as AnyEvent}
+use Rattle.deck_reader.specs.declared.stream_reader.Event.TheVariants as event
+use Rattle.deck_reader.specs.Events.{event_then}
 
 -- COUNTS
 
@@ -136,14 +140,14 @@ first_counted : (jobs next : ℕ) (m rest : Marks) (one : Asked) (w : SystemStat
 first_counted jobs next m rest one w others =
     ap (λ (c : Conclusion). record { written = verdict others.ending; conclusion = c }) (counted_first others.ending one others.asked w.scheduler.sets)
 
-module _ (one : Asked) (w : SystemState) (before : List ℕ) (counts counts' : Counts) (a b : Standing) (counted : counts' ≡ both_counted counts (one_counted one)) where
+module _ (e : AnyEvent) (one : Asked) (same : (others : Cards) → asked_then one others ≡ event_then e others) (w : SystemState) (before : List ℕ) (counts counts' : Counts) (a b : Standing) (counted : counts' ≡ both_counted counts (one_counted one)) where
   -- it happened, and what it printed was put behind what there was
   pub one_served : (w' : SystemState) (text after : List ℕ) (marks : Marks) → after ≡ before ++ text
       → ((rest : Marks) → printouts_text (happened (event_of (suc counts.jobs) one) (marks ++ rest) w).printouts ≡ text)
       → ((rest : Marks) → (happened (event_of (suc counts.jobs) one) (marks ++ rest) w).after ≡ w')
       → ((rest : Marks) → (happened (event_of (suc counts.jobs) one) (marks ++ rest) w).marks ≡ rest)
       → (lines : List ℕ) → ((rest : Marks) → event_lines (event_of (suc counts.jobs) one) (marks ++ rest) w ≡ lines) → Puts a b lines
-      → Served false one w before counts w' after counts' a b
+      → Served false e w before counts w' after counts' a b
   one_served w' text after marks put printed left kept lines tells audited = record {
     marks = marks;
     is = λ rest others.
@@ -151,13 +155,15 @@ module _ (one : Asked) (w : SystemState) (before : List ℕ) (counts counts' : C
         ap (λ (c : Counts). behind after c (outcome_of false c.jobs rest (over w' others))) counted
         ∙ ap (λ t. behind t (both_counted counts (one_counted one)) then) put
         ∙ sym (behind_behind before text counts (one_counted one) then)
-        ∙ ap (behind before counts) (sym (first_served counts.jobs one (marks ++ rest) rest w w' text others (printed rest) (left rest) (kept rest)));
+        ∙ ap (behind before counts) (sym (first_served counts.jobs one (marks ++ rest) rest w w' text others (printed rest) (left rest) (kept rest)))
+        ∙ ap (λ (c : Cards). behind before counts (outcome_of false counts.jobs (marks ++ rest) (over w c))) (same others);
     lines = lines;
     tells = λ rest others.
         let event = event_of (suc counts.jobs) one in
         let next = counts.jobs + (one_counted one).jobs in
         let p = happened event (marks ++ rest) w in
-        first_told counts.jobs one (marks ++ rest) w others
+        ap (λ (c : Cards). told_to false counts.jobs (marks ++ rest) (over w c)) (sym (same others))
+        ∙ first_told counts.jobs one (marks ++ rest) w others
         ∙ ap (λ (l : List ℕ). l ++ told_to false next p.marks (over p.after others)) (tells rest)
         ∙ ap (λ (v : SystemState). lines ++ told_to false next p.marks (over v others)) (left rest)
         ∙ ap (λ (m : Marks). lines ++ told_to false next m (over w' others)) (kept rest)
@@ -166,45 +172,93 @@ module _ (one : Asked) (w : SystemState) (before : List ℕ) (counts counts' : C
   }
 
 -- it was only counted
-one_counted_only : (one : Asked) (w : SystemState) (before : List ℕ) (counts counts' : Counts) (a : Standing) → counts' ≡ both_counted counts (one_counted one)
-    → Served true one w before counts w before counts' a a
-one_counted_only one w before counts counts' a counted = record {
+one_counted_only : (e : AnyEvent) (one : Asked) → ((others : Cards) → asked_then one others ≡ event_then e others) → (w : SystemState) (before : List ℕ) (counts counts' : Counts) (a : Standing)
+    → counts' ≡ both_counted counts (one_counted one) → Served true e w before counts w before counts' a a
+one_counted_only e one same w before counts counts' a counted = record {
   marks = [];
   is = λ rest others.
       let then = outcome_of true (counts.jobs + (one_counted one).jobs) rest (over w others) in
       ap (λ (c : Counts). behind before c (outcome_of true c.jobs rest (over w others))) counted
       ∙ ap (λ t. behind t (both_counted counts (one_counted one)) then) (sym (append-nil before))
       ∙ sym (behind_behind before [] counts (one_counted one) then)
-      ∙ ap (behind before counts) (sym (first_counted counts.jobs (counts.jobs + (one_counted one).jobs) rest rest one w others));
+      ∙ ap (behind before counts) (sym (first_counted counts.jobs (counts.jobs + (one_counted one).jobs) rest rest one w others))
+      ∙ ap (λ (c : Cards). behind before counts (outcome_of true counts.jobs rest (over w c))) (same others);
   lines = [];
   tells = λ rest others. refl;
   audited = puts_nothing a;
 }
 
-pub counted_when : (one : Asked) (w : SystemState) (before : List ℕ) (counts counts' : Counts) (a : Standing) → counts' ≡ both_counted counts (one_counted one) → (check : Bool) → check ≡ true
-    → Served check one w before counts w before counts' a a
-counted_when one w before counts counts' a counted true e = one_counted_only one w before counts counts' a counted
-counted_when one w before counts counts' a counted false e = cc
+-- nothing is asked for
+none_asked : (check : Bool) (e : AnyEvent) → ((others : Cards) → others ≡ event_then e others) → (w : SystemState) (before : List ℕ) (counts counts' : Counts) (a : Standing)
+    → counts' ≡ counts → Served check e w before counts w before counts' a a
+none_asked check e same w before counts counts' a counted = record {
+  marks = [];
+  is = λ rest others.
+      ap (λ (c : Counts). behind before c (outcome_of check c.jobs rest (over w others))) counted
+      ∙ ap (λ (c : Cards). behind before counts (outcome_of check counts.jobs rest (over w c))) (same others);
+  lines = [];
+  tells = λ rest others.
+      ap (λ (c : Cards). told_to check counts.jobs rest (over w c)) (sym (same others))
+      ∙ ap (λ (c : Counts). told_to check c.jobs rest (over w others)) (sym counted);
+  audited = puts_nothing a;
+}
 
-pub served_when : (check : Bool) → check ≡ false → (one : Asked) (w w' : SystemState) (before after : List ℕ) (counts counts' : Counts) (a b : Standing)
-    → Served false one w before counts w' after counts' a b → Served check one w before counts w' after counts' a b
-served_when false e one w w' before after counts counts' a b served = served
-served_when true e one w w' before after counts counts' a b served = cc
+-- what does not end the deck is only counted where the deck is only to be checked
+pub counted_when : (check : Bool) → check ≡ true → (e : AnyEvent) → GoesOn e → (w : SystemState) (before : List ℕ) (counts counts' : Counts) (a : Standing) → counts' ≡ both_counted counts (counted_by e)
+    → Served check e w before counts w before counts' a a
+counted_when false is e on w before counts counts' a counted = cc
+counted_when true is event.Nothing on w before counts counts' a counted = none_asked true event.Nothing (λ others. refl) w before counts counts' a (counted ∙ and_nothing counts)
+counted_when true is (event.Opens account) on w before counts counts' a counted = none_asked true (event.Opens account) (λ others. refl) w before counts counts' a (counted ∙ and_nothing counts)
+counted_when true is (event.Asks command) on w before counts counts' a counted = one_counted_only (event.Asks command) (Commands command) (λ others. refl) w before counts counts' a counted
+counted_when true is (event.Enters job) on w before counts counts' a counted = one_counted_only (event.Enters job) (Enters job) (λ others. refl) w before counts counts' a counted
+counted_when true is (event.Turns turn) on w before counts counts' a counted = one_counted_only (event.Turns turn) (Gives turn) (λ others. refl) w before counts counts' a counted
+counted_when true is event.Drains on w before counts counts' a counted = one_counted_only event.Drains Drains (λ others. refl) w before counts counts' a counted
+counted_when true is event.Stops on w before counts counts' a counted = absurd on
 
-pub happens_served : (check : Bool) → check ≡ false → (one : Asked) (event : Event) (w w' : SystemState) (before after : List ℕ) (counts counts' : Counts) (a b : Standing)
+-- a blank line, or one more line of what is open
+abbrev is_quiet : AnyEvent → Bool
+is_quiet event.Nothing = true
+is_quiet (event.Opens account) = true
+is_quiet event.Stops = true
+is_quiet _ = false
+
+quiet : (e : AnyEvent) → (e ≡ event.Nothing) ⊎ (((account : List ℕ) × (e ≡ event.Opens account)) ⊎ (e ≡ event.Stops)) → is_quiet e ≡ true
+quiet e (inl h) = ap is_quiet h
+quiet e (inr (inl h)) = ap is_quiet h.1
+quiet e (inr (inr h)) = ap is_quiet h
+
+quiet_passes : (check : Bool) (e : AnyEvent) → is_quiet e ≡ true → GoesOn e → (w : SystemState) (before : List ℕ) (counts counts' : Counts) (a : Standing)
+    → counts' ≡ both_counted counts (counted_by e) → Served check e w before counts w before counts' a a
+quiet_passes check event.Nothing is on w before counts counts' a counted = none_asked check event.Nothing (λ others. refl) w before counts counts' a (counted ∙ and_nothing counts)
+quiet_passes check (event.Opens account) is on w before counts counts' a counted = none_asked check (event.Opens account) (λ others. refl) w before counts counts' a (counted ∙ and_nothing counts)
+quiet_passes check event.Stops is on w before counts counts' a counted = absurd on
+quiet_passes check (event.Asks command) is on w before counts counts' a counted = cc
+quiet_passes check (event.Enters job) is on w before counts counts' a counted = cc
+quiet_passes check (event.Turns turn) is on w before counts counts' a counted = cc
+quiet_passes check event.Drains is on w before counts counts' a counted = cc
+
+pub passes : (check : Bool) (e : AnyEvent) → (e ≡ event.Nothing) ⊎ (((account : List ℕ) × (e ≡ event.Opens account)) ⊎ (e ≡ event.Stops)) → GoesOn e
+    → (w : SystemState) (before : List ℕ) (counts counts' : Counts) (a : Standing) → counts' ≡ both_counted counts (counted_by e) → Served check e w before counts w before counts' a a
+passes check e is on w before counts counts' a counted = quiet_passes check e (quiet e is) on w before counts counts' a counted
+
+-- it happened
+happens_served : (check : Bool) → check ≡ false → (e : AnyEvent) (one : Asked) (event : Event) → ((others : Cards) → asked_then one others ≡ event_then e others)
+    → (w w' : SystemState) (before after : List ℕ) (counts counts' : Counts) (a b : Standing)
     → event ≡ event_of (suc counts.jobs) one → counts' ≡ both_counted counts (one_counted one)
-    → Happens event w before w' after a b → Served check one w before counts w' after counts' a b
-happens_served check unchecked one event w w' before after counts counts' a b is counted happens =
-    served_when check unchecked one w w' before after counts counts' a b
-    (one_served one w before counts counts' a b counted w' (printouts_text happens.printouts) after happens.marks happens.printed
-    (λ rest. ap (λ (e : Event). printouts_text (happened e (happens.marks ++ rest) w).printouts) (sym is) ∙ ap (λ (p : Played). printouts_text p.printouts) (happens.is rest))
-    (λ rest. ap (λ (e : Event). (happened e (happens.marks ++ rest) w).after) (sym is) ∙ ap (λ (p : Played). p.after) (happens.is rest))
-    (λ rest. ap (λ (e : Event). (happened e (happens.marks ++ rest) w).marks) (sym is) ∙ ap (λ (p : Played). p.marks) (happens.is rest))
-    happens.lines (λ rest. ap (λ (e : Event). event_lines e (happens.marks ++ rest) w) (sym is) ∙ happens.tells rest) happens.audited)
+    → Happens event w before w' after a b → Served check e w before counts w' after counts' a b
+happens_served true unchecked e one event same w w' before after counts counts' a b is counted happens = cc
+happens_served false unchecked e one event same w w' before after counts counts' a b is counted happens =
+    one_served e one same w before counts counts' a b counted w' (printouts_text happens.printouts) after happens.marks happens.printed
+    (λ rest. ap (λ (v : Event). printouts_text (happened v (happens.marks ++ rest) w).printouts) (sym is) ∙ ap (λ (p : Played). printouts_text p.printouts) (happens.is rest))
+    (λ rest. ap (λ (v : Event). (happened v (happens.marks ++ rest) w).after) (sym is) ∙ ap (λ (p : Played). p.after) (happens.is rest))
+    (λ rest. ap (λ (v : Event). (happened v (happens.marks ++ rest) w).marks) (sym is) ∙ ap (λ (p : Played). p.marks) (happens.is rest))
+    happens.lines (λ rest. ap (λ (v : Event). event_lines v (happens.marks ++ rest) w) (sym is) ∙ happens.tells rest) happens.audited
 
 -- memory ran out
-one_breaks : (one : Asked) (event : Event) (w : SystemState) (jobs : ℕ) (a b : Standing) → event ≡ event_of (suc jobs) one → Breaks (event_lines event) w a b → ServeBreaks false one w jobs a b
-one_breaks one event w jobs a b is broken = record {
+breaks_served : (check : Bool) → check ≡ false → (e : AnyEvent) (one : Asked) (event : Event) → ((others : Cards) → asked_then one others ≡ event_then e others)
+    → (w : SystemState) (jobs : ℕ) (a b : Standing) → event ≡ event_of (suc jobs) one → Breaks (event_lines event) w a b → ServeBreaks check e w jobs a b
+breaks_served true unchecked e one event same w jobs a b is broken = cc
+breaks_served false unchecked e one event same w jobs a b is broken = record {
   marks = broken.marks;
   lines = broken.lines;
   tells = λ rest others.
@@ -213,28 +267,35 @@ one_breaks one event w jobs a b is broken = record {
       let p = happened (event_of (suc jobs) one) m w in
       let later = told_to false (jobs + (one_counted one).jobs) p.marks (over p.after others) in (
         more.0 ++ later,
-        first_told jobs one m w others
-            ∙ ap (λ (l : List ℕ). l ++ later) (ap (λ (e : Event). event_lines e m w) (sym is) ∙ more.1)
+        ap (λ (c : Cards). told_to false jobs m (over w c)) (sym (same others))
+            ∙ first_told jobs one m w others
+            ∙ ap (λ (l : List ℕ). l ++ later) (ap (λ (v : Event). event_lines v m w) (sym is) ∙ more.1)
             ∙ append_assoc broken.lines more.0 later,
       );
   audited = broken.audited;
 }
 
-pub breaks_served : (check : Bool) → check ≡ false → (one : Asked) (event : Event) (w : SystemState) (jobs : ℕ) (a b : Standing) → event ≡ event_of (suc jobs) one
-    → Breaks (event_lines event) w a b → ServeBreaks check one w jobs a b
-breaks_served false e one event w jobs a b is broken = one_breaks one event w jobs a b is broken
-breaks_served true e one event w jobs a b is broken = cc
+-- so it is where a call is the last: for an event e, which is e', asks for one, and for the monitor is this event
+module _ {T E : Type 0} (r : Result T E) (check : Bool) (unchecked : check ≡ false) (e e' : AnyEvent) (here : e ≡ e') (one : Asked) (same : (others : Cards) → asked_then one others ≡ event_then e' others)
+    (event : Event) (w : SystemState) (counts : Counts) (a b : Standing) (is : event ≡ event_of (suc counts.jobs) one) where
+  pub on_served : (w' : SystemState) (before after : List ℕ) (counts' : Counts) → counts' ≡ both_counted counts (counted_by e) → counted_by e' ≡ one_counted one
+      → OnOk r (Happens event w before w' after a b) → OnOk r (Served check e w before counts w' after counts' a b)
+  on_served w' before after counts' counted alike =
+      on_ok_weaker r (happens_served check unchecked e one event (λ others. same others ∙ sym (ap (λ (v : AnyEvent). event_then v others) here)) w w' before after counts counts' a b is
+      (counted ∙ ap (λ (v : AnyEvent). both_counted counts (counted_by v)) here ∙ ap (both_counted counts) alike))
+
+  pub on_broken : OnErr r (Breaks (event_lines event) w a b) → OnErr r (ServeBreaks check e w counts.jobs a b)
+  on_broken = on_err_weaker r (breaks_served check unchecked e one event (λ others. same others ∙ sym (ap (λ (v : AnyEvent). event_then v others) here)) w counts.jobs a b is)
 
 -- counted by hand
 
 pub command_counted : (counts : Counts) (command : Command) → ◌≡◌ {A = Counts} (record { jobs = counts.jobs; commands = counts.commands + 1 }) (both_counted counts (one_counted (Commands command)))
 command_counted counts command = counts_are counts.jobs (counts.commands + 1) (counts.jobs + 0) (counts.commands + 1) (omega arith) refl
 
-pub job_counted : (counts : Counts) (job : OpenJob) → ◌≡◌ {A = Counts} (record { jobs = counts.jobs + 1; commands = counts.commands }) (both_counted counts (one_counted (Enters job)))
-job_counted counts job = counts_are (counts.jobs + 1) counts.commands (counts.jobs + 1) (counts.commands + 0) refl (omega arith)
-
-pub job_numbered : (counts : Counts) (job : OpenJob) (deck : JobDeck) → deck ≡ job_deck_of (counts.jobs + 1) job → Load deck ≡ event_of (suc counts.jobs) (Enters job)
-job_numbered counts job deck is = let e : counts.jobs + 1 ≡ suc counts.jobs = omega arith in ap (λ (d : JobDeck). Load d) (is ∙ ap (λ n. job_deck_of n job) e)
+pub job_numbered : (counts counts' : Counts) (job : OpenJob) (deck : JobDeck) → counts' ≡ both_counted counts (one_counted (Enters job)) → deck ≡ job_deck_of counts'.jobs job → Load deck ≡ event_of (suc counts.jobs) (Enters job)
+job_numbered counts counts' job deck counted is =
+    let e : counts.jobs + 1 ≡ suc counts.jobs = omega arith in
+    ap (λ (d : JobDeck). Load d) (is ∙ ap (λ (c : Counts). job_deck_of c.jobs job) counted ∙ ap (λ n. job_deck_of n job) e)
 
 -- `$STOP`
 

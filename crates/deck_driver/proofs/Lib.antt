@@ -5,7 +5,6 @@ pub mod Telling
 pub mod Beginnings
 pub mod Parts
 pub mod Pieces
-pub mod CardWords
 pub mod LineEnds
 pub mod Ending
 pub mod Verdicts

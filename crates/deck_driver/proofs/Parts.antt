@@ -8,7 +8,7 @@ use Rattle.std.proofs.lemmas.List.{drop_all, take_all, take-append-drop}
 use Rattle.std.proofs.lemmas.List.Folds.{list_all-append}
 use Rattle.mon_text.specs.Feeding.{has_no_end, taken_of, Alike, Takes}
 use Rattle.mon_text.proofs.Cutting.{line_ends, last_line}
-use Rattle.deck_syntax.specs.declared.deck_error.DeckError.TheVariants.{LineTooLong}
+use Rattle.deck_lines.specs.declared.deck_error.DeckError.TheVariants.{LineTooLong}
 use Rattle.scheduler.specs.Marks.{Marks}
 use Rattle.deck_driver.specs.declared.options.Counts.{Counts}
 use Rattle.deck_driver.specs.declared.options.Options.{Options}

@@ -5,7 +5,7 @@ use Rattle.std.specs.declared.rc.Rc.{Rc}
 use Rattle.std.specs.Str.Lines.{lines}
 use Rattle.mon_catalogue.specs.Sets.{Sets}
 use Rattle.scheduler.specs.Marks.{Marks}
-use Rattle.deck_syntax.specs.declared.deck_error.DeckError.{DeckError}
+use Rattle.deck_lines.specs.declared.deck_error.DeckError.{DeckError}
 use Rattle.deck_driver.specs.declared.fault.RunError.{RunError}
 use Rattle.deck_driver.specs.declared.fault.RunError.TheVariants.{DeckRefused, ReadFault, WriteFault, AuditFault, Memory}
 use Rattle.deck_driver.specs.declared.feed.DeckFeed.{DeckFeed}

@@ -2,10 +2,9 @@
 -- by the same sections, over the system as it stands.
 use Rattle.std.specs.Prelude.{◌≡◌, ℕ, ◌==◌, Bool, true, false, not, List, [], ◌∷◌, ◌++◌, length, Option, Some, None, Result, Ok, Err, if◌then◌else◌}
 use Rattle.mon_catalogue.specs.Sets.{Sets}
-use Rattle.mon_catalogue.specs.Progress.{lines_taken}
 use Rattle.scheduler.specs.Marks.{Marks}
 use Rattle.mon_monitor.specs.Abstraction.{system_of}
-use Rattle.deck_syntax.specs.declared.deck_error.DeckError.{DeckError}
+use Rattle.deck_lines.specs.declared.deck_error.DeckError.{DeckError}
 use Rattle.deck_driver.specs.declared.fault.RunError.{RunError}
 use Rattle.deck_driver.specs.declared.fault.RunError.TheVariants.{DeckRefused, Memory}
 use Rattle.deck_driver.specs.declared.options.Counts.{Counts}
@@ -18,27 +17,21 @@ use Rattle.deck_driver.specs.declared.section.Section.TheVariants as section
 use Rattle.deck_driver.specs.declared.section.DeckState.{DeckState}
 use Rattle.deck_driver.specs.declared.section.DeckState.TheVariants as state
 use Rattle.deck_syntax.specs.Decks.{Ending, Stopped, Refused}
-use Rattle.deck_syntax.specs.Sections.{Closed, InList, InJob, opening_section, accounts_section, catalogue_section, stream_section, refused_on_line, refused_early}
+use Rattle.deck_syntax.specs.Sections.{refused_on_line, refused_early}
+use Rattle.deck_reader.specs.Reading.{deck_ahead, accounts_read, lines_read}
+use Rattle.deck_reader.specs.Events.{cards_ahead}
 use Rattle.deck_driver.specs.RunStates.{RunState, over, opening, sets_after, nothing_counted, both_counted, all_counted}
 use Rattle.deck_driver.specs.Printouts.{answer_to, ReadsBack}
 
 -- the state of the run that the lines from number n on make, where there are so many slots
 abbrev pub run_state_from : ℕ → Section → ℕ → List (List ℕ) → RunState
-run_state_from slots section.Opening n ls = opening slots (opening_section n ls)
-run_state_from slots (section.Accounts accounts) n ls = opening slots (accounts_section n accounts ls)
-run_state_from slots (section.Catalogue accounts progress) n ls = opening slots (catalogue_section n accounts progress ls)
-run_state_from slots (section.Stream w) n ls = over (system_of w) (stream_section n Closed ls)
-run_state_from slots (section.List w list) n ls = over (system_of w) (stream_section n (InList list) ls)
-run_state_from slots (section.Job w job) n ls = over (system_of w) (stream_section n (InJob job) ls)
+run_state_from slots (section.Front r) n ls = opening slots (deck_ahead r n ls)
+run_state_from slots (section.Stream r w) n ls = over (system_of w) (cards_ahead r n ls)
 
 -- the state of the run that line n ends by a refusal
 abbrev pub refused_from : ℕ → Section → ℕ → DeckError → RunState
-refused_from slots section.Opening n code = opening slots (refused_early n code [])
-refused_from slots (section.Accounts accounts) n code = opening slots (refused_early n code accounts)
-refused_from slots (section.Catalogue accounts progress) n code = opening slots (refused_early n code accounts)
-refused_from slots (section.Stream w) n code = over (system_of w) (refused_on_line n code)
-refused_from slots (section.List w list) n code = over (system_of w) (refused_on_line n code)
-refused_from slots (section.Job w job) n code = over (system_of w) (refused_on_line n code)
+refused_from slots (section.Front r) n code = opening slots (refused_early n code (accounts_read r))
+refused_from slots (section.Stream r w) n code = over (system_of w) (refused_on_line n code)
 
 -- how a deck came out: so many jobs and commands and these data sets, or refused at a line
 pub data Conclusion : Type 0 where
@@ -136,7 +129,7 @@ OnAnswer (Err _) P = Unit {0}
 
 -- how many lines of the catalogue were taken, where it is still read
 abbrev pub lines_loaded : DeckState → ℕ
-lines_loaded (state.Reading (section.Catalogue accounts progress)) = lines_taken progress
+lines_loaded (state.Reading (section.Front r)) = lines_read r
 lines_loaded _ = 0
 
 -- a deck that was run to its end has written data sets that are read back

@@ -1,5 +1,5 @@
 //! Why a run does not come to its end.
-use deck_syntax::DeckError;
+use deck_lines::DeckError;
 use std::alloc::AllocError;
 
 /// Why a run did not come to its end.

@@ -5,7 +5,7 @@ ghost use Rattle.mon_catalogue.specs.Sets.{Sets};
 ghost use Rattle.scheduler.specs.Marks.{Marks};
 ghost use Rattle.std.specs.Option.{option_map};
 ghost use Rattle.mon_text.specs.Feeding.{taken_of, has_no_end, text_of, Takes};
-ghost use Rattle.deck_syntax.specs.declared.deck_error.DeckError.{DeckError as AnyCode};
+ghost use Rattle.deck_lines.specs.declared.deck_error.DeckError.{DeckError as AnyCode};
 ghost use Rattle.deck_syntax.specs.Sections.{deck_of};
 ghost use Rattle.deck_driver.specs.declared.options.Options.{Options as AnyOptions};
 ghost use Rattle.deck_driver.specs.declared.section.DeckState.TheVariants as states;
@@ -22,7 +22,8 @@ use crate::fault::RunError;
 use crate::feed::DeckFeed;
 use crate::options::{Counts, Options};
 use crate::section::{DeckState, Section};
-use deck_syntax::DeckError;
+use deck_lines::DeckError;
+use deck_reader::FrontReader;
 use mon_device::Sink;
 use mon_monitor::Printed;
 use mon_text::{EndedLine, LineFeed, Stop};
@@ -40,7 +41,7 @@ impl DeckFeed {
     {
         DeckFeed {
             options,
-            state: DeckState::Reading(Section::Opening),
+            state: DeckState::Reading(Section::Front(FrontReader::Opening)),
             line: LineFeed::new(alloc),
             lines_taken: 0,
             counts: Counts {

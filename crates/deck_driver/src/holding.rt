@@ -4,6 +4,7 @@ ghost use Rattle.deck_driver.specs.Holding.{most_at};
 
 use crate::feed::DeckFeed;
 use crate::section::{DeckState, Section};
+use deck_reader::StreamReader;
 use mon_monitor::Holder;
 
 impl DeckFeed {
@@ -19,7 +20,7 @@ impl DeckFeed {
     pub fn note_most(&self, noted: &mut Option<Holder>)
         ensures { noted.new ≡ most_at self.now.state noted.old }
     {
-        if let DeckState::Reading(Section::Stream(monitor)) = &self.state {
+        if let DeckState::Reading(Section::Stream(StreamReader::Cards, monitor)) = &self.state {
             *noted = monitor.holds_most();
         }
     }

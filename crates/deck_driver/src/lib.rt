@@ -5,9 +5,7 @@ pub mod fault;
 pub mod feed;
 mod feeding;
 mod holding;
-mod listing;
 pub mod options;
-mod reading;
 pub mod section;
 mod serving;
 

@@ -1,25 +1,21 @@
 //! How far the reading of a deck has come, and what the next line makes of that.
-ghost use Rattle.std.specs.Prelude.{◌≡◌, ℕ, Bool, List, [], true, false, None, OnOk, IsErrOf, ◌+◌, ◌<◌, ◌≤◌, ◌^◌, ◌∷◌, IfOk, IfErr, OnErr};
-ghost use Rattle.mon_catalogue.specs.Progress.{is_due};
-ghost use Rattle.deck_syntax.specs.Sections.{sets_of};
-ghost use Rattle.deck_syntax.specs.inner.Stops.{IfRefused};
+ghost use Rattle.std.specs.Prelude.{◌≡◌, ℕ, Bool, List, [], IsSome, IfSome, None, true, false, OnOk, IsErrOf, ◌+◌, ◌<◌, ◌≤◌, ◌^◌, ◌∷◌, IfErr, OnErr};
+ghost use Rattle.deck_lines.specs.inner.Stops.{IfRefused};
 ghost use Rattle.mon_text.specs.declared.stop.Stop.TheVariants as stops;
 ghost use Rattle.mon_device.specs.Putting.{Standing};
 ghost use Rattle.scheduler.specs.Marks.{Marks};
-ghost use Rattle.mon_monitor.specs.SystemStates.{first_system};
 ghost use Rattle.mon_monitor.specs.Abstraction.{system_of};
 ghost use Rattle.deck_driver.specs.declared.options.Counts.{Counts as AnyCounts};
 ghost use Rattle.deck_driver.specs.declared.options.Options.{Options as AnyOptions};
-ghost use Rattle.deck_driver.specs.declared.section.DeckState.TheVariants as states;
 ghost use Rattle.deck_driver.specs.Audits.{told_from};
-ghost use Rattle.deck_driver.specs.inner.Lines.{TookLine, LineBreaks, Leaves, MovedOn, MoveBreaks};
+ghost use Rattle.deck_driver.specs.inner.Lines.{TookLine, LineBreaks, IsOver, StopsAt, StopBreaks, monitor_in, IsFront};
 ghost use Rattle.deck_driver.specs.Feeds.{outcome, refused_at, lines_loaded, is_reading, error_at, IsReadBack};
 
 use crate::options::{Counts, Options};
-use crate::serving::{close, put_command, put_job};
-use deck_syntax::{DeckError, OpenJob, OpenList, finish_catalogue, put_record_line};
-use mon_access::Accounts;
-use mon_catalogue::{Catalogue, Loading};
+use crate::serving::{close, next_event, put_event, put_listing};
+use deck_reader::{Event, Front, FrontReader, StreamReader};
+use deck_syntax::DeckError;
+use mon_catalogue::Catalogue;
 use mon_device::Sink;
 use mon_monitor::{Monitor, Printed};
 use mon_text::Stop;
@@ -27,21 +23,13 @@ use std::alloc::{AllocError, Global};
 use std::mem;
 use std::rc::Rc;
 
-/// The section that the next line belongs to, and what was collected.
+/// What of a deck is read.
 #[derive(Drop)]
 pub enum Section {
-    /// `$ACCOUNTS` is due.
-    Opening,
-    /// An account, or `$CATALOGUE`.
-    Accounts(Accounts),
-    /// The catalogue's text, or `$STREAM`.
-    Catalogue(Accounts, Loading),
-    /// A card.
-    Stream(Monitor),
-    /// A line of a permission list, or `$ENDACL`.
-    List(Monitor, OpenList),
-    /// A line of a job, or `$EOJ`.
-    Job(Monitor, OpenJob),
+    /// Its accounts and its catalogue.
+    Front(FrontReader),
+    /// Its stream, over the system as it stands.
+    Stream(StreamReader, Monitor),
 }
 
 /// Whether a deck is still read.
@@ -86,45 +74,47 @@ impl DeckState {
     ) -> Result<(), Stop<DeckError>>
         requires few { counts.old.jobs + counts.old.commands < 2 ^ 63 }
         requires within { lines_loaded self.old < 2 ^ 63 }
-        ensures told { OnOk result (TookLine options self.old text.now out.old counts.old self.new out.new counts.new (S.standing audit.old) (S.standing audit.new)) }
+        ensures told { OnOk result (TookLine options self.old text.now out.old counts.old self.new out.new counts.new (S.standing audit.old)
+            (S.standing audit.new)) }
         ensures broken { OnErr result (LineBreaks options self.old text.now counts.old (S.standing audit.old) (S.standing audit.new)) }
         ensures silent { IfErr result (IfRefused (λ code. (S.standing audit.new ≡ S.standing audit.old)
             × ((jobs : ℕ) (m : Marks) (n : ℕ) (ls : List (List ℕ)) → told_from options jobs m self.old n (text.now ∷ ls) ≡ []))) }
         ensures within { lines_loaded self.new ≤ lines_loaded self.old + 1 }
         ensures reads_back { IsReadBack options.check self.old → OnOk result (IsReadBack options.check self.new) }
         ensures counted { counts.new.jobs + counts.new.commands ≤ counts.old.jobs + counts.old.commands + 1 }
-        ensures refused { IfErr result (IfRefused (λ code. (jobs : ℕ) (m : Marks) (n : ℕ) (ls : List (List ℕ)) → outcome options jobs m self.old n (text.now ∷ ls) ≡ refused_at n code)) }
+        ensures refused { IfErr result (IfRefused (λ code. (jobs : ℕ) (m : Marks) (n : ℕ) (ls : List (List ℕ))
+            → outcome options jobs m self.old n (text.now ∷ ls) ≡ refused_at n code)) }
         ensures memory { IsErrOf result stops.Memory → is_reading self.old ≡ true }
         ensures nothing { OnErr result (out.new ≡ out.old) }
         ensures sound { OnOk result (error_at self.new ≡ error_at self.old) }
     {
-        if self.take_record(text) {
+        if self.take_inner_line(alloc, text) {
             return Ok(());
         }
         self.take_other(alloc, options, text, counts, out, audit)
     }
 
-    // Takes a line that is one more record of a data set of the catalogue: whether so it is. Otherwise nothing has changed.
+    // Takes a line that only adds to what is open, as most do: a record of a data set of the catalogue, or a line of a permission list
+    // or of a job. Whether so it is; otherwise nothing has changed.
     #[inline(always)]
-    #[tactic(auto, using(crate::proofs::Taking::record_taken))]
-    fn take_record(&mut self, text: &[u8]) -> bool
+    #[tactic(auto, using(crate::proofs::Taking::front_goes, crate::proofs::Taking::stream_goes))]
+    fn take_inner_line(&mut self, alloc: Global, text: &[u8]) -> bool
         requires { lines_loaded self.old < 2 ^ 63 }
-        ensures told { result ≡ true → (options : AnyOptions) (out : List ℕ) (counts : AnyCounts) (a : Standing) → TookLine options self.old text.now out counts self.new out counts a a }
+        ensures told { result ≡ true → (options : AnyOptions) (out : List ℕ) (counts : AnyCounts) (a : Standing)
+            → TookLine options self.old text.now out counts self.new out counts a a }
         ensures sound { result ≡ true → error_at self.new ≡ error_at self.old }
         ensures reads_back { result ≡ true → (check : Bool) → IsReadBack check self.new }
         ensures unchanged { result ≡ false → self.new ≡ self.old }
         ensures within { lines_loaded self.new ≤ lines_loaded self.old + 1 }
     {
         match self {
-            DeckState::Reading(Section::Catalogue(_, loading)) if loading.awaits_records() => {
-                put_record_line(loading, text)
-            }
-            _ => false,
+            DeckState::Reading(Section::Front(reader)) => reader.take_record(text),
+            DeckState::Reading(Section::Stream(reader, _)) => reader.take_inner_line(alloc, text),
+            DeckState::Stopped(_) | DeckState::Refused(..) | DeckState::NoMemory => false,
         }
     }
 
-    // Takes any line, as `take_line` does. It stays a call, so that what it needs costs nothing where no line ends, or a record is
-    // taken.
+    // Takes any line, as `take_line` does. It stays a call, so that what it needs costs nothing where no line ends, or a line only adds.
     #[inline(never)]
     fn take_other<S: Sink>(
         &mut self,
@@ -137,120 +127,166 @@ impl DeckState {
     ) -> Result<(), Stop<DeckError>>
         requires few { counts.old.jobs + counts.old.commands < 2 ^ 63 }
         requires within { lines_loaded self.old < 2 ^ 63 }
-        ensures told { OnOk result (TookLine options self.old text.now out.old counts.old self.new out.new counts.new (S.standing audit.old) (S.standing audit.new)) }
+        ensures told { OnOk result (TookLine options self.old text.now out.old counts.old self.new out.new counts.new (S.standing audit.old)
+            (S.standing audit.new)) }
         ensures broken { OnErr result (LineBreaks options self.old text.now counts.old (S.standing audit.old) (S.standing audit.new)) }
         ensures silent { IfErr result (IfRefused (λ code. (S.standing audit.new ≡ S.standing audit.old)
             × ((jobs : ℕ) (m : Marks) (n : ℕ) (ls : List (List ℕ)) → told_from options jobs m self.old n (text.now ∷ ls) ≡ []))) }
         ensures within { lines_loaded self.new ≤ lines_loaded self.old + 1 }
         ensures reads_back { IsReadBack options.check self.old → OnOk result (IsReadBack options.check self.new) }
         ensures counted { counts.new.jobs + counts.new.commands ≤ counts.old.jobs + counts.old.commands + 1 }
-        ensures refused { IfErr result (IfRefused (λ code. (jobs : ℕ) (m : Marks) (n : ℕ) (ls : List (List ℕ)) → outcome options jobs m self.old n (text.now ∷ ls) ≡ refused_at n code)) }
+        ensures refused { IfErr result (IfRefused (λ code. (jobs : ℕ) (m : Marks) (n : ℕ) (ls : List (List ℕ))
+            → outcome options jobs m self.old n (text.now ∷ ls) ≡ refused_at n code)) }
         ensures memory { IsErrOf result stops.Memory → is_reading self.old ≡ true }
         ensures nothing { OnErr result (out.new ≡ out.old) }
         ensures sound { OnOk result (error_at self.new ≡ error_at self.old) }
     {
         match self {
-            DeckState::Reading(section) => {
-                if !section.take(alloc, options, text, counts, out, audit)? {
-                    return Ok(());
+            DeckState::Reading(section) => match section {
+                Section::Front(_) => {
+                    self.take_front_line(alloc, options, text)?;
+                    Ok(())
                 }
-                self.follow(alloc, options, counts, out, audit)?;
-                Ok(())
-            }
+                Section::Stream(reader, monitor) => {
+                    if let Some(listing) = reader.listing(text) {
+                        put_listing(alloc, options.check, monitor, listing, counts, out, audit)?;
+                        return Ok(());
+                    }
+                    self.take_event(alloc, options, text, counts, out, audit)
+                }
+            },
             DeckState::Stopped(_) | DeckState::Refused(..) | DeckState::NoMemory => Ok(()),
         }
     }
 
-    // The section of a deck that is still read.
-    fn into_section(self) -> Section
-        requires { Leaves self }
-        ensures { self ≡ states.Reading result }
-    {
-        match self {
-            DeckState::Reading(section) => section,
-            _other => unreachable!(),
-        }
-    }
-
-    // What comes of a line that has ended its section. It stays a call, since the room for a state is cleared wherever this
-    // stands, and most lines take none.
-    #[tactic(auto, using(crate::proofs::Taking::moves_silently))]
+    // Takes a line of the front. It stays a call, since the room for a front is cleared where this stands.
     #[inline(never)]
-    fn follow<S: Sink>(
+    fn take_front_line(
         &mut self,
         alloc: Global,
         options: Options,
+        text: &[u8],
+    ) -> Result<(), Stop<DeckError>>
+        requires within { lines_loaded self.old < 2 ^ 63 }
+        requires front { IsFront self.old }
+        ensures told { OnOk result ((out : List ℕ) (counts : AnyCounts) (a : Standing)
+            → TookLine options self.old text.now out counts self.new out counts a a) }
+        ensures silent { IfErr result (IfRefused (λ code. (jobs : ℕ) (m : Marks) (n : ℕ) (ls : List (List ℕ))
+            → told_from options jobs m self.old n (text.now ∷ ls) ≡ [])) }
+        ensures refused { IfErr result (IfRefused (λ code. (jobs : ℕ) (m : Marks) (n : ℕ) (ls : List (List ℕ))
+            → outcome options jobs m self.old n (text.now ∷ ls) ≡ refused_at n code)) }
+        ensures within { lines_loaded self.new ≤ lines_loaded self.old + 1 }
+        ensures reads_back { OnOk result (IsReadBack options.check self.new) }
+        ensures sound { OnOk result (error_at self.new ≡ None) }
+    {
+        match self {
+            DeckState::Reading(section) => match section {
+                Section::Front(reader) => {
+                    if let Some(front) = reader.line(alloc, text)? {
+                        self.begin_stream(alloc, options, front)?;
+                    }
+                    Ok(())
+                }
+                Section::Stream(..) => Ok(()),
+            },
+            DeckState::Stopped(_) | DeckState::Refused(..) | DeckState::NoMemory => Ok(()),
+        }
+    }
+
+    // Takes a line of the stream, whatever its card is. It stays a call, since the room for an event is cleared where this stands.
+    #[inline(never)]
+    fn take_event<S: Sink>(
+        &mut self,
+        alloc: Global,
+        options: Options,
+        text: &[u8],
         counts: &mut Counts,
         out: &mut Printed,
         audit: &mut S,
-    ) -> Result<(), AllocError>
+    ) -> Result<(), Stop<DeckError>>
         requires few { counts.old.jobs + counts.old.commands < 2 ^ 63 }
-        requires leaves { Leaves self.old }
-        ensures told { OnOk result (MovedOn options self.old out.old counts.old self.new out.new counts.new (S.standing audit.old) (S.standing audit.new)) }
-        ensures broken { OnErr result (MoveBreaks options self.old counts.old (S.standing audit.old) (S.standing audit.new)) }
+        requires stream { IsSome (monitor_in self.old) }
+        ensures told { OnOk result (TookLine options self.old text.now out.old counts.old self.new out.new counts.new (S.standing audit.old)
+            (S.standing audit.new)) }
+        ensures broken { OnErr result (LineBreaks options self.old text.now counts.old (S.standing audit.old) (S.standing audit.new)) }
+        ensures silent { IfErr result (IfRefused (λ code. (S.standing audit.new ≡ S.standing audit.old)
+            × ((jobs : ℕ) (m : Marks) (n : ℕ) (ls : List (List ℕ)) → told_from options jobs m self.old n (text.now ∷ ls) ≡ []))) }
         ensures within { lines_loaded self.new ≡ 0 }
-        ensures sound { OnOk result (error_at self.new ≡ None) }
         ensures reads_back { OnOk result (IsReadBack options.check self.new) }
         ensures counted { counts.new.jobs + counts.new.commands ≤ counts.old.jobs + counts.old.commands + 1 }
+        ensures refused { IfErr result (IfRefused (λ code. (jobs : ℕ) (m : Marks) (n : ℕ) (ls : List (List ℕ))
+            → outcome options jobs m self.old n (text.now ∷ ls) ≡ refused_at n code)) }
         ensures nothing { OnErr result (out.new ≡ out.old) }
+        ensures sound { OnOk result (error_at self.new ≡ None) }
     {
-        match mem::replace(self, DeckState::NoMemory).into_section() {
-            Section::Opening => {
-                *self = DeckState::Reading(Section::Accounts(Accounts::new(alloc)));
-                Ok(())
-            }
-            Section::Accounts(_) => unreachable!(),
-            Section::Catalogue(accounts, loading) => {
-                let monitor = monitor_of(alloc, options, accounts, loading)?;
-                *self = DeckState::Reading(Section::Stream(monitor));
-                Ok(())
-            }
-            Section::Stream(monitor) => {
-                let sets = close(alloc, options.check, monitor, out, audit)?;
-                *self = DeckState::Stopped(sets);
-                Ok(())
-            }
-            Section::List(monitor, list) => {
-                let mut monitor = monitor;
-                let command = list.into_command();
-                put_command(
-                    alloc,
-                    options.check,
-                    &mut monitor,
-                    command,
-                    counts,
-                    out,
-                    audit,
-                )?;
-                *self = DeckState::Reading(Section::Stream(monitor));
-                Ok(())
-            }
-            Section::Job(monitor, job) => {
-                let mut monitor = monitor;
-                put_job(alloc, options.check, &mut monitor, job, counts, out, audit)?;
-                *self = DeckState::Reading(Section::Stream(monitor));
-                Ok(())
-            }
+        match self {
+            DeckState::Reading(section) => match section {
+                Section::Stream(reader, monitor) => match next_event(
+                    alloc, reader, monitor, text,
+                )? {
+                    Event::Stops => {
+                        self.stop(alloc, options.check, out, audit)?;
+                        Ok(())
+                    }
+                    event => {
+                        put_event(alloc, options.check, monitor, event, counts, out, audit)?;
+                        Ok(())
+                    }
+                },
+                Section::Front(_) => Ok(()),
+            },
+            _ => Ok(()),
         }
     }
-}
 
-// The monitor over these accounts and a catalogue that is whole.
-fn monitor_of(
-    alloc: Global,
-    options: Options,
-    accounts: Accounts,
-    loading: Loading,
-) -> Result<Monitor, AllocError>
-    requires { is_due loading ≡ true }
-    ensures { IfOk result (λ monitor. system_of monitor ≡ first_system options.slots.number accounts (sets_of loading)) }
-{
-    let slots = options.slots.number();
-    Monitor::new(
-        alloc,
-        options.seed,
-        accounts,
-        finish_catalogue(loading),
-        slots,
-    )
+    // The stream begins over what came before it. This and the next stay calls, since the room for a state is cleared wherever they
+    // stand, and most lines take none.
+    #[inline(never)]
+    fn begin_stream(
+        &mut self,
+        alloc: Global,
+        options: Options,
+        front: Front,
+    ) -> Result<(), AllocError>
+        ensures begun { OnOk result (IsOver options.slots.number front self.new) }
+        ensures unchanged { OnErr result (self.new ≡ self.old) }
+    {
+        let slots = options.slots.number();
+        let monitor = Monitor::new(alloc, options.seed, front.accounts, front.catalogue, slots)?;
+        *self = DeckState::Reading(Section::Stream(StreamReader::Cards, monitor));
+        Ok(())
+    }
+
+    // `$STOP` has come.
+    #[inline(never)]
+    fn stop<S: Sink>(
+        &mut self,
+        alloc: Global,
+        check: bool,
+        out: &mut Printed,
+        audit: &mut S,
+    ) -> Result<(), AllocError>
+        requires { IsSome (monitor_in self.old) }
+        ensures stopped { OnOk result (StopsAt check (monitor_in self.old) out.old self.new out.new (S.standing audit.old) (S.standing audit.new)) }
+        ensures broken { OnErr result (IfSome (monitor_in self.old) (λ w. (jobs : ℕ)
+            → StopBreaks check jobs (system_of w) (S.standing audit.old) (S.standing audit.new))) }
+        ensures within { lines_loaded self.new ≡ 0 }
+        ensures nothing { OnErr result (out.new ≡ out.old) }
+    {
+        if let Some(monitor) = mem::replace(self, DeckState::NoMemory).into_monitor() {
+            let sets = close(alloc, check, monitor, out, audit)?;
+            *self = DeckState::Stopped(sets);
+        }
+        Ok(())
+    }
+
+    // The system, where the deck's stream is read.
+    fn into_monitor(self) -> Option<Monitor>
+        ensures { result ≡ monitor_in self }
+    {
+        match self {
+            DeckState::Reading(Section::Stream(_, monitor)) => Some(monitor),
+            _ => None,
+        }
+    }
 }

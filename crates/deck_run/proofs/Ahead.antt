@@ -9,7 +9,7 @@ use Rattle.mon_device.specs.Devices.{holding, Gives}
 use Rattle.mon_device.specs.Putting.{Standing, Puts}
 use Rattle.mon_device.proofs.Putting.{puts_same, puts_then}
 use Rattle.mon_device.proofs.Holding.{holding-append, holding-nothing}
-use Rattle.deck_syntax.specs.declared.deck_error.DeckError.{DeckError}
+use Rattle.deck_lines.specs.declared.deck_error.DeckError.{DeckError}
 use Rattle.deck_syntax.specs.Sections.{deck_of}
 use Rattle.deck_driver.specs.declared.feed.DeckFeed.{DeckFeed}
 use Rattle.deck_driver.specs.declared.fault.RunError.{RunError}

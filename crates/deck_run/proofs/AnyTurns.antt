@@ -7,8 +7,8 @@ use Rattle.std.proofs.lemmas.List.Sorted.{IsPermutation-map}
 use Rattle.std.specs.Prelude.{drop, replicate}
 use Rattle.mon_catalogue.specs.Sets.{Sets, NamesDiffer}
 use Rattle.mon_access.specs.declared.account.Account.{Account}
-use Rattle.scheduler.specs.declared.job_end.JobEnd.{JobEnd}
-use Rattle.scheduler.specs.Printouts.{printout}
+use Rattle.job_end.specs.declared.job_end.JobEnd.{JobEnd}
+use Rattle.job_end.specs.Printouts.{printout}
 use Rattle.scheduler.specs.States.{SchedulerState, job_in}
 use Rattle.scheduler.specs.Turns.{ends_by, turns}
 use Rattle.scheduler.specs.Marks.{Marks, mark_of, turn_as, Past, nothing, until, never, marked, rounds, turns_left, is_done, has_free_slot}

@@ -15,7 +15,7 @@ use Rattle.mon_unit.proofs.Changed.{first_tie}
 use Rattle.mon_unit.specs.Laws.{targets, TiedTo}
 use Rattle.deck_syntax.specs.declared.job_deck.UnitCard.{UnitCard}
 use Rattle.deck_syntax.specs.declared.job_deck.JobDeck.{JobDeck}
-use Rattle.scheduler.specs.declared.refusal.LoadError.{LoadError}
+use Rattle.load_refusal.specs.declared.load_error.LoadError.{LoadError}
 use Rattle.scheduler.specs.States.{SlotState, SchedulerState, scheduler, seat_at, first_free, job_in}
 use Rattle.scheduler.specs.Loads.{first_units, tied_by, with_ties, program_in, load_refusal, slot_in, loaded_by, job_loaded}
 use Rattle.scheduler.specs.inner.Parts.{slot_by}

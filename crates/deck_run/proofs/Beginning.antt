@@ -12,7 +12,7 @@ use Rattle.mon_monitor.specs.Printouts.{printouts_text}
 use Rattle.mon_monitor.specs.Events.{Event}
 use Rattle.mon_monitor.specs.Played.{played}
 use Rattle.mon_monitor.specs.Laws.{CardByCard}
-use Rattle.deck_syntax.specs.declared.deck_error.DeckError.{DeckError}
+use Rattle.deck_lines.specs.declared.deck_error.DeckError.{DeckError}
 use Rattle.deck_syntax.specs.Decks.{Deck, Asked, Ending, Stopped, Refused}
 use Rattle.deck_syntax.specs.Laws.{deck_lines, deck_over}
 use Rattle.deck_syntax.specs.Sections.{deck_of}

@@ -13,8 +13,8 @@ use Rattle.mon_text.proofs.Cutting.{last_line}
 use Rattle.mon_access.specs.declared.account.Account.{Account}
 use Rattle.mon_catalogue.specs.Progress as progress
 use Rattle.mon_catalogue.specs.Progress.{Progress, step}
-use Rattle.deck_syntax.specs.declared.deck_error.DeckError.{DeckError}
-use Rattle.deck_syntax.specs.declared.deck_error.DeckError.TheVariants.{LineTooLong, Truncated}
+use Rattle.deck_lines.specs.declared.deck_error.DeckError.{DeckError}
+use Rattle.deck_lines.specs.declared.deck_error.DeckError.TheVariants.{LineTooLong, Truncated}
 use Rattle.deck_syntax.specs.declared.job.OpenJob.{OpenJob}
 use Rattle.deck_syntax.specs.declared.request.Request.{Request}
 use Rattle.deck_syntax.specs.declared.request.Request.TheVariants as request
@@ -23,7 +23,7 @@ use Rattle.scheduler.specs.Marks.{Marks}
 use Rattle.deck_syntax.specs.Decks.{Deck, Cards, Commands, Enters, Gives, Drains, Ending, Stopped, Refused}
 use Rattle.deck_syntax.specs.Laws.{Decides}
 use Rattle.deck_syntax.proofs.Standing.{refusals_stand}
-use Rattle.deck_syntax.specs.Refusing.{line_refusal, is_dollar_line}
+use Rattle.deck_lines.specs.Refusing.{line_refusal, is_dollar_line}
 use Rattle.deck_syntax.specs.Jobs.{job_line_refusal, ends_job, after_job_line}
 use Rattle.deck_syntax.specs.Requests.{opened, set_acl_of, with_line, list_line_refusal, stream_refusal, request_on}
 use Rattle.deck_syntax.specs.Sections.{Open, Closed, InList, InJob, asked_then, requested, stream_section, sets_of, ends_catalogue, catalogue_refusal, catalogue_section, accounts_refusal, table_after, accounts_section, opening_refusal, opening_section, deck_of}

@@ -16,16 +16,16 @@ use Rattle.mon_command.specs.Commanded.{Told}
 use Rattle.scheduler.specs.Marks.{Marks}
 use Rattle.mon_monitor.specs.History.{Entry as AnEntry, Ordered, history}
 use Rattle.mon_monitor.specs.Turns.{Stage, BringInOrder}
-use Rattle.deck_syntax.specs.declared.card.Card.TheVariants as card
-use Rattle.deck_syntax.specs.declared.deck_error.DeckError.TheVariants.{BadName, BadCharacter, AccountTwice, UnknownCard, BadCard, OutOfPlace, Truncated}
+use Rattle.deck_lines.specs.declared.card.Card.TheVariants as card
+use Rattle.deck_lines.specs.declared.deck_error.DeckError.TheVariants.{BadName, BadCharacter, AccountTwice, UnknownCard, BadCard, OutOfPlace, Truncated}
 use Rattle.deck_syntax.specs.Decks.{Commands, Stopped, Refused}
-use Rattle.deck_syntax.specs.Cards.{card_of}
-use Rattle.deck_syntax.specs.Refusing.{line_refusal, lone_card_refusal}
+use Rattle.deck_lines.specs.Cards.{card_of}
+use Rattle.deck_lines.specs.Refusing.{line_refusal, lone_card_refusal}
 use Rattle.deck_syntax.specs.Sections.{account_refusal, deck_of}
 use Rattle.deck_syntax.specs.Requests.{two_names_refusal, request_on}
 use Rattle.deck_run.specs.Laws.{printout}
-use Rattle.mon_acl.specs.declared.text.AclText.TheVariants.{Short, Long}
-use Rattle.mon_command.specs.declared.command.Command.TheVariants as command
+use Rattle.acl_text.specs.declared.text.AclText.TheVariants.{Short, Long}
+use Rattle.deck_lines.specs.declared.command.Command.TheVariants as command
 use Rattle.deck_syntax.specs.declared.request.Request.TheVariants.{Asks, OpensList}
 use Rattle.std.specs.Str.Lines.{lines}
 use Rattle.deck_driver.specs.declared.options.Options.{Options}

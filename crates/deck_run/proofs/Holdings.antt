@@ -5,7 +5,7 @@ use Rattle.mon_device.specs.Devices.{holding}
 use Rattle.mon_device.specs.Putting.{Standing, Puts}
 use Rattle.mon_device.proofs.Putting.{puts_nothing, puts_same, puts_then}
 use Rattle.mon_device.proofs.Holding.{holding-append, holding-nothing}
-use Rattle.deck_syntax.specs.declared.deck_error.DeckError.{DeckError}
+use Rattle.deck_lines.specs.declared.deck_error.DeckError.{DeckError}
 use Rattle.deck_driver.specs.declared.feed.DeckFeed.{DeckFeed}
 use Rattle.scheduler.specs.Marks.{Marks}
 use Rattle.deck_driver.specs.declared.options.Counts.{Counts}

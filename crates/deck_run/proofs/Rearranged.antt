@@ -2,7 +2,7 @@
 use Rattle.std.proofs.Common.{◌≡◌, ◌≢◌, ◌==◌, ℕ, Bool, true, false, cond, List, [], ◌∷◌, refl, sym, ap, subst, ◌∙◌, inl, inr, eq-eqb, IsPermutation}
 use Rattle.std.proofs.lemmas.Bool.Decides.{eqb_tells}
 use Rattle.std.proofs.lemmas.List.Sorted.{IsPermutation-refl, IsPermutation-cons, IsPermutation-trans, IsPermutation-middle}
-use Rattle.scheduler.specs.declared.job_end.JobEnd.{JobEnd}
+use Rattle.job_end.specs.declared.job_end.JobEnd.{JobEnd}
 use Rattle.mon_monitor.specs.Schedules.{of_slot}
 
 abbrev Ends : Type 0

@@ -9,7 +9,7 @@ use Rattle.mon_device.specs.Putting.{Standing, Puts}
 use Rattle.mon_device.proofs.Putting.{puts_nothing, puts_same, puts_then}
 use Rattle.deck_driver.specs.Audits.{audit_for}
 use Rattle.mon_device.proofs.Holding.{holding-nothing}
-use Rattle.deck_syntax.specs.declared.deck_error.DeckError.{DeckError}
+use Rattle.deck_lines.specs.declared.deck_error.DeckError.{DeckError}
 use Rattle.deck_syntax.specs.Decks.{Ending, Stopped, Refused}
 use Rattle.deck_driver.specs.declared.feed.DeckFeed.{DeckFeed}
 use Rattle.deck_driver.specs.declared.fault.RunError.{RunError}

@@ -6,8 +6,8 @@ use Rattle.sno_run.specs.declared.ending.Ending.{Ending}
 use Rattle.sno_run.specs.declared.ending.Ending.TheVariants.{Memory}
 use Rattle.mon_command.specs.Printouts.{number, word, stored_line}
 use Rattle.mon_unit.specs.declared.note.Note.{Note}
-use Rattle.scheduler.specs.declared.job_end.JobEnd.{JobEnd}
-use Rattle.scheduler.specs.Printouts.{job_line, note_words, exchange_words, note_line, ending_line, printout}
+use Rattle.job_end.specs.declared.job_end.JobEnd.{JobEnd}
+use Rattle.job_end.specs.Printouts.{job_line, note_words, exchange_words, note_line, ending_line, printout}
 use Rattle.scheduler.specs.Marks.{Marks}
 use Rattle.mon_monitor.specs.Printouts.{Printout, OfCommand, OfJob, OfRefused, printout_text, printouts_text}
 use Rattle.mon_monitor.specs.Laws.{NotByMemory}

@@ -9,8 +9,8 @@ use Rattle.mon_catalogue.specs.declared.data_set.DataSet.{DataSet}
 use Rattle.mon_catalogue.specs.Sets.{Sets, find_set}
 use Rattle.mon_guard.specs.Deciding.{decision_on, to_read}
 use Rattle.mon_guard.specs.inner.Parts.{by_decision}
-use Rattle.mon_command.specs.declared.command.Command.{Command}
-use Rattle.mon_command.specs.declared.command.Command.TheVariants as command
+use Rattle.deck_lines.specs.declared.command.Command.{Command}
+use Rattle.deck_lines.specs.declared.command.Command.TheVariants as command
 use Rattle.mon_command.specs.Commanded.{Records, answer_text, shown_as}
 use Rattle.mon_command.specs.Commands.{heading}
 use Rattle.mon_command.specs.Printouts.{records_text}

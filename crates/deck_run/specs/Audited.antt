@@ -2,11 +2,11 @@
 use Rattle.std.specs.Prelude.{◌≡◌, ◌⊎◌, ℕ, Bool, true, false, List, [], ◌++◌, Option, Result, Ok, Err}
 use Rattle.std.specs.List.{flat_map}
 use Rattle.scheduler.specs.Marks.{Marks}
-use Rattle.mon_unit.specs.AuditRuns.{stopped_line, deck_refused_line}
+use Rattle.audit.specs.RunEnds.{stopped_line, deck_refused_line}
 use Rattle.mon_monitor.specs.Audit.{audit_line}
 use Rattle.mon_device.specs.Devices.{Gives, holding}
 use Rattle.mon_device.specs.Putting.{Standing, Puts}
-use Rattle.deck_syntax.specs.Codes.{code_text}
+use Rattle.deck_lines.specs.Codes.{code_text}
 use Rattle.deck_driver.specs.declared.fault.RunError.{RunError}
 use Rattle.deck_driver.specs.declared.fault.RunError.TheVariants.{DeckRefused}
 use Rattle.deck_driver.specs.declared.options.Counts.{Counts}

@@ -1,10 +1,10 @@
 -- The exit status and the lines of standard error (own).
 use Rattle.std.specs.Prelude.{ℕ, List, [], ◌++◌, Option, Some, None, Result, Ok, Err, codes, decimal}
-use Rattle.scheduler.specs.declared.holder.Holder.{Holder}
+use Rattle.scheduler.specs.declared.largest_printout.Holder.{Holder}
 use Rattle.deck_driver.specs.declared.fault.RunError.{RunError}
 use Rattle.deck_driver.specs.declared.fault.RunError.TheVariants.{DeckRefused, ReadFault, WriteFault, AuditFault, Memory}
 use Rattle.deck_driver.specs.declared.options.Counts.{Counts}
-use Rattle.deck_syntax.specs.Codes.{code_text}
+use Rattle.deck_lines.specs.Codes.{code_text}
 use Rattle.deck_run.specs.declared.shortage.Shortage.{Shortage}
 
 -- 0; 1 for a refused deck; 3 for a fault

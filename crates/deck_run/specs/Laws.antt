@@ -12,8 +12,8 @@ use Rattle.mon_catalogue.specs.Sets.{Sets, find_set}
 use Rattle.mon_catalogue.specs.Text.{text_of}
 use Rattle.mon_guard.specs.Deciding.{decision_on, to_read}
 use Rattle.mon_guard.specs.Reasons.{reason_of}
-use Rattle.mon_command.specs.declared.command.Command.{Command}
-use Rattle.mon_command.specs.declared.command.Command.TheVariants as command
+use Rattle.deck_lines.specs.declared.command.Command.{Command}
+use Rattle.deck_lines.specs.declared.command.Command.TheVariants as command
 use Rattle.mon_command.specs.Commanded.{commanded}
 use Rattle.mon_command.specs.Commands.{heading}
 use Rattle.mon_command.specs.Replies.{reason_text}
@@ -24,7 +24,7 @@ use Rattle.mon_monitor.specs.SystemStates.{SystemState}
 use Rattle.mon_monitor.specs.Printouts.{printouts_text}
 use Rattle.mon_monitor.specs.Played.{Played, played}
 use Rattle.mon_monitor.specs.Laws.{NotByMemory}
-use Rattle.deck_syntax.specs.declared.deck_error.DeckError.{DeckError}
+use Rattle.deck_lines.specs.declared.deck_error.DeckError.{DeckError}
 use Rattle.deck_syntax.specs.Decks.{Deck, Asked, Ending, Stopped, Refused}
 use Rattle.deck_syntax.specs.Laws.{BeginsGood, deck_over}
 use Rattle.deck_syntax.specs.Sections.{deck_of}

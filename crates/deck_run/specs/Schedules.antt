@@ -4,8 +4,8 @@ use Rattle.std.specs.Prelude.{◌≡◌, ◌⊎◌, ℕ, false, List, [], ◌∷
 use Rattle.std.specs.List.{AllByRecursion, flat_map}
 use Rattle.std.specs.Str.Lines.{lines}
 use Rattle.deck_syntax.specs.declared.job_deck.UnitCard.{UnitCard}
-use Rattle.scheduler.specs.declared.job_end.JobEnd.{JobEnd}
-use Rattle.scheduler.specs.Printouts.{printout}
+use Rattle.job_end.specs.declared.job_end.JobEnd.{JobEnd}
+use Rattle.job_end.specs.Printouts.{printout}
 use Rattle.scheduler.specs.Marks.{Marks}
 use Rattle.mon_monitor.specs.Printouts.{printouts_text}
 use Rattle.mon_monitor.specs.Played.{Played}

@@ -1,10 +1,10 @@
 //! A whole run: a deck is read piece by piece, and answered card by card.
 ghost use Rattle.std.specs.Prelude.{◌≡◌, ◌++◌, ◌<◌, ◌≤◌, ◌+◌, ◌^◌, take, ◌⊎◌, ℕ, List, [], None, true, false, length, vec_len, Result, IfSome, IfOk, OnOk, OnErr};
-ghost use Rattle.deck_syntax.specs.declared.deck_error.DeckError.{DeckError, DeckError as AnyCode};
+ghost use Rattle.deck_lines.specs.declared.deck_error.DeckError.{DeckError, DeckError as AnyCode};
 ghost use Rattle.mon_catalogue.specs.Sets.{Sets};
 ghost use Rattle.scheduler.specs.Marks.{Marks};
 ghost use Rattle.deck_syntax.specs.Decks.{Stopped, Refused};
-ghost use Rattle.mon_device.specs.declared.transfer.TheConstants.{MOST_READS, READ_SIZE};
+ghost use Rattle.mon_device.specs.declared.transfer.TheConstants.{MOST_READS};
 ghost use Rattle.mon_device.specs.Devices.{Gives, IsAtEnd, HasRead, holding};
 ghost use Rattle.mon_device.specs.Putting.{Puts};
 ghost use Rattle.deck_driver.specs.Feeds.{Begins, Good, refused_at, error_at, is_reading, used_by, IsReadBack};
@@ -19,10 +19,10 @@ ghost use Rattle.deck_run.specs.Faults.{status_of, fault_line};
 
 use crate::output::{Output, Unwritten, write_out};
 use crate::shortage::Shortage;
+use audit::{print_deck_refused, print_stopped};
 use deck_driver::{Counts, DeckFeed, Options, RunError};
 use mon_device::{DeckDevices, Failed, MOST_READS, READ_SIZE, Sink, WRITE_SIZE};
 use mon_text::put_number;
-use mon_unit::{print_deck_refused, print_stopped};
 use std::alloc::{AllocError, Global};
 
 /// Runs a deck: reads all of it, serves its commands and runs its jobs as its cards say, and writes the printout of each,

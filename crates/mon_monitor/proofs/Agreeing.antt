@@ -1,22 +1,7 @@
 -- Events of one account's own, in systems that agree for it.
-use Rattle.std.proofs.Common.{◌≡◌, ℕ, Bool, List, [], ◌∷◌, ◌++◌, length, Option, refl, ap, sym, ◌∙◌, subst, inl, inr}
-use Rattle.std.specs.Prelude.{map, is_some, is_none, drop, replicate}
-use Rattle.std.specs.List.{AllByRecursion, list_all}
-use Rattle.mon_access.specs.declared.account.Account.{Account}
-use Rattle.scheduler.specs.declared.job_end.JobEnd.{JobEnd}
-use Rattle.scheduler.specs.declared.turned.Turned.{Turned}
-use Rattle.scheduler.specs.States.{SlotState, SchedulerState, first_free}
-use Rattle.scheduler.specs.Turns.{ends_by}
-use Rattle.scheduler.specs.Marks.{Marks, mark_of, turn_as, Past, nothing, until, never, marked, rounds, turns_left, rounds_until, is_done, has_free_slot, drain, room}
-use Rattle.scheduler.specs.inner.Parts.{ends_then}
-use Rattle.scheduler.proofs.Past.{either_way, until_stops, until_goes}
-use Rattle.mon_monitor.specs.SystemStates.{SystemState, with_scheduler}
-use Rattle.mon_monitor.specs.Events.{Event, Serve, Load, Give, Drain}
-use Rattle.mon_monitor.specs.Printouts.{Printout, OfCommand}
+use Rattle.std.proofs.Common.{◌≡◌, ℕ, Bool, List, [], ◌∷◌, ◌++◌, length, Option, refl, ap, sym, ◌∙◌, subst, inl, inr, map, is_some, is_none, drop, replicate}
+use Rattle.mon_monitor.proofs.Common.{AllByRecursion, list_all, Account, JobEnd, SlotState, SchedulerState, first_free, ends_by, Marks, mark_of, turn_as, Past, nothing, until, never, marked, rounds, turns_left, rounds_until, is_done, has_free_slot, drain, room, ends_then, either_way, until_stops, until_goes, SystemState, with_scheduler, Event, Serve, Load, Give, Drain, Printout, OfCommand, Played, of_turns, of_loading, then_played, happened, played, SchedulersAgree, Agree, IsOwn, Isolated, Turned}
 use Rattle.mon_monitor.proofs.Parts.{of_load, and_played}
-use Rattle.mon_monitor.specs.Played.{Played, of_turns, of_loading, then_played, happened, played}
-use Rattle.mon_monitor.specs.Agreeing.{SchedulersAgree, Agree}
-use Rattle.mon_monitor.specs.Isolation.{IsOwn, Isolated}
 use Rattle.mon_monitor.proofs.Turning.{scheduler_turn}
 use Rattle.mon_monitor.proofs.Commands.{commands_agree}
 use Rattle.mon_monitor.proofs.Loading.{loads_agree}

@@ -1,60 +1,16 @@
 -- What each answer means: to requests of jobs by what their units are tied to, and to commands by what they are told.
-use Rattle.std.proofs.Common.{◌≡◌, ◌≢◌, ◌≤◌, ◌<◌, ◌⊎◌, ◌∷◌, [], ℕ, nat_le, Bool, true, false, cond, List, length, take, map, is_some, slice_get, if◌then◌else◌, Option, None, Some, Result, Ok, Err, refl, sym, ap, ◌∙◌, subst, inl, inr, arith}
-use Rattle.std.specs.Prelude.{◌↔◌, IsTrue}
-use Rattle.std.proofs.lemmas.Option.{slice_get_cases}
-use Rattle.std.proofs.lemmas.Bool.Decides.{nat_tests}
-use Rattle.std.proofs.lemmas.Slice.Eq.{bytes_eq-Decides}
+use Rattle.std.proofs.Common.{◌≡◌, ◌≢◌, ◌≤◌, ◌<◌, ◌⊎◌, ◌∷◌, [], ℕ, nat_le, Bool, true, false, cond, List, length, take, map, is_some, slice_get, if◌then◌else◌, Option, None, Some, Result, Ok, Err, refl, sym, ap, ◌∙◌, subst, inl, inr, arith, ◌↔◌, IsTrue}
+use Rattle.mon_monitor.proofs.Common.{slice_get_cases, nat_tests, bytes_eq-Decides, Perms, AclError, AclText, list_of_text, Account, Decision, is_owner, Mode, Seq, Append, DataSet, CreateError, Sets, find_set, writing, Reason, NotOwner, to_write, decision_on, is_granted, NamePart, name_part, names_shown, names_lent, records_lent, acl_lent, owner_denial, acl_set_unless, ended, Acted, only_answered, read_at, changing, acted, IsThere, IsGranted, IsFor, OwnsNamed, acts_where_granted, made, owner_denial_of, removed_unless, created_unless, fits, Act, Read, Write, Endfile, Rewind, Request, Target, Untied, Data, Spool, Set, UnitState, Reach, serve, note_act, acted_at, set_at, target_of, position_of, serve_fits, looked, Command, Create, Delete, SetAcl, ShowAcl, Catalog, Reply, Records, Shown, Names, Served, creation_reply, removal_reply, acl_reply, shown_as, answered, IsKnown, served_if_known, ReadsPast, before, LacksRoom, IsDone, AreNamed, IsTold, Answer, to_read, to_execute, given, Told, served}
 use Rattle.mon_acl.specs.declared.entries.Entry.{Entry}
-use Rattle.mon_acl.specs.declared.entries.Perms.{Perms}
-use Rattle.mon_acl.specs.declared.refusals.AclError.{AclError}
-use Rattle.mon_acl.specs.declared.text.AclText.{AclText}
-use Rattle.mon_acl.specs.Forms.{list_of_text}
-use Rattle.mon_access.specs.declared.account.Account.{Account}
-use Rattle.mon_access.specs.declared.access.Decision.{Decision}
 use Rattle.mon_access.specs.declared.access.Decision.TheVariants as decision
-use Rattle.mon_access.specs.Matches.{is_owner}
-use Rattle.mon_catalogue.specs.declared.mode.Mode.{Mode}
-use Rattle.mon_catalogue.specs.declared.mode.Mode.TheVariants.{Seq, Append}
-use Rattle.mon_catalogue.specs.declared.data_set.DataSet.{DataSet}
-use Rattle.mon_catalogue.specs.declared.catalogue.CreateError.{CreateError}
 use Rattle.mon_catalogue.specs.declared.catalogue.CreateError.TheVariants as create
-use Rattle.mon_catalogue.specs.Sets.{Sets, find_set}
-use Rattle.mon_catalogue.specs.Writing.{writing}
-use Rattle.interaction.specs.declared.answer.Reason.{Reason}
-use Rattle.interaction.specs.declared.answer.Reason.TheVariants.{NotOwner}
-use Rattle.interaction.specs.declared.answer.Answer.{Answer}
 use Rattle.interaction.specs.declared.answer.Answer.TheVariants as answer
-use Rattle.mon_guard.specs.Deciding.{to_read, to_write, to_execute, decision_on, is_granted}
-use Rattle.mon_guard.specs.Views.{NamePart, name_part, names_shown, names_lent, records_lent, acl_lent}
-use Rattle.mon_guard.specs.Owning.{owner_denial}
-use Rattle.mon_guard.specs.inner.Parts.{given, acl_set_unless, ended}
 use Rattle.mon_guard.specs.Acting as acting
-use Rattle.mon_guard.specs.Acting.{Acted, only_answered, read_at, changing, acted}
-use Rattle.mon_guard.specs.Laws.{IsThere, IsGranted, IsFor, OwnsNamed}
-use Rattle.mon_guard.proofs.Acting.{acts_where_granted}
-use Rattle.mon_guard.proofs.Shorthand.{made, owner_denial_of, removed_unless, created_unless}
-use Rattle.interaction.specs.Fitting.{fits}
-use Rattle.interaction.specs.declared.request.Act.{Act}
-use Rattle.interaction.specs.declared.request.Act.TheVariants.{Read, Write, Endfile, Rewind}
-use Rattle.interaction.specs.declared.request.Request.{Request}
 use Rattle.mon_unit.specs.declared.note.NoteAct.TheVariants as note
-use Rattle.mon_unit.specs.declared.tie.Target.{Target}
-use Rattle.mon_unit.specs.declared.tie.Target.TheVariants.{Untied, Data, Spool, Set}
-use Rattle.mon_unit.specs.State.{UnitState}
-use Rattle.mon_unit.specs.Serving.{Reach, serve, note_act, acted_at, set_at}
-use Rattle.mon_unit.specs.Laws.{target_of, position_of}
-use Rattle.mon_unit.proofs.Fitting.{serve_fits}
-use Rattle.mon_unit.proofs.Shorthand.{looked}
-use Rattle.mon_command.specs.declared.command.Command.{Command}
-use Rattle.mon_command.specs.declared.command.Command.TheVariants.{Create, Delete, SetAcl, ShowAcl, List as Listing, Catalog}
-use Rattle.mon_command.specs.declared.reply.Reply.{Reply}
+use Rattle.deck_lines.specs.declared.command.Command.TheVariants.{List as Listing}
 use Rattle.mon_command.specs.declared.reply.Reply.TheVariants as reply
 use Rattle.mon_command.specs.Commanded as commands
-use Rattle.mon_command.specs.Commanded.{Told, Records, Shown, Names, Served, creation_reply, removal_reply, acl_reply, shown_as, served, answered}
 use Rattle.mon_command.specs.Laws as commanding
-use Rattle.mon_command.specs.Laws.{IsKnown}
-use Rattle.mon_command.proofs.Shorthand.{served_if_known}
-use Rattle.mon_monitor.specs.Answering.{ReadsPast, before, LacksRoom, IsDone, AreNamed, IsTold}
 
 -- REQUESTS
 
@@ -363,9 +319,6 @@ module _ (account : Account) (sets : Sets) where
   created_so by name mode (reply.BadList error) not h = absurd h
 
   -- SETACL
-  bad_list : (error other : AclError) → reply.BadList error ≡ reply.BadList other → error ≡ other
-  bad_list error other h = cc (h)
-
   given_from : (by name : List ℕ) (text : AclText) → OwnsNamed account sets name → (l : Result (List Entry) AclError) → list_of_text text ≡ l
       → (r : Reply) → is_plain r ≡ false → acl_reply (given l sets name).0 ≡ r → IsTold account sets (SetAcl by name text) r
   given_from by name text owns (Ok list) is r not h = absurd (let no : true ≡ false = ap is_plain h ∙ not in cc (no))

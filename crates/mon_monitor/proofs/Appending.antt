@@ -1,45 +1,11 @@
 -- Sets of mode APPEND only grow: by one change, one request, one command, one entry; and so by all of a history.
-use Rattle.std.proofs.Common.{◌≡◌, ℕ, nat_eq, Bool, true, false, cond, List, [], ◌∷◌, ◌++◌, ◌⊎◌, Option, Some, None, Result, Ok, Err, option_map, refl, ap, sym, ◌∙◌, subst, inl, inr, append_assoc, append-nil}
-use Rattle.std.specs.Prelude.{bytes_eq}
-use Rattle.std.specs.Cmp.Lexicographic.{pointwise}
-use Rattle.std.proofs.lemmas.Slice.Eq.{bytes_eq-Decides}
-use Rattle.std.proofs.lemmas.Bool.Decides.{not_from_Decides}
+use Rattle.std.proofs.Common.{◌≡◌, ℕ, nat_eq, Bool, true, false, cond, List, [], ◌∷◌, ◌++◌, ◌⊎◌, Option, Some, None, Result, Ok, Err, option_map, refl, ap, sym, ◌∙◌, subst, inl, inr, append_assoc, append-nil, bytes_eq}
+use Rattle.mon_monitor.proofs.Common.{pointwise, bytes_eq-Decides, not_from_Decides, AclError, list_of_text, Account, find_account, Mode, Seq, Append, DataSet, CreateError, Sets, find_set, create_refusal, with_changed, without_set, Change, Add, writing, records_after, recorded, other_sets_stay, named_set_changes, Reason, owner_denial, new_set, acl_set_unless, IsThere, Act, Read, Write, Endfile, Rewind, Request, Command, Create, Delete, SetAcl, ShowAcl, Catalog, account_of, told_by, removal_reply, answered, Reach, serve, AsksChange, played, Entered, Asked, Ordered, history, StandsOver, sets_after, Lead, Begins, Keeps, HasDeleted, Deletes, NoneDeletes, AppendOnly, listed, removed_unless, created_unless, served_if_known, given, served, Entry, Refused, Ended}
 use Rattle.mon_acl.specs.declared.entries.Entry.{Entry as ListEntry}
-use Rattle.mon_acl.specs.declared.refusals.AclError.{AclError}
-use Rattle.mon_acl.specs.Forms.{list_of_text}
-use Rattle.mon_access.specs.declared.account.Account.{Account}
-use Rattle.mon_access.specs.Accounts.{find_account}
-use Rattle.mon_catalogue.specs.declared.mode.Mode.{Mode}
-use Rattle.mon_catalogue.specs.declared.mode.Mode.TheVariants.{Seq, Append}
-use Rattle.mon_catalogue.specs.declared.data_set.DataSet.{DataSet}
-use Rattle.mon_catalogue.specs.declared.catalogue.CreateError.{CreateError}
-use Rattle.mon_catalogue.specs.Sets.{Sets, find_set, create_refusal}
-use Rattle.mon_catalogue.specs.Changes.{with_changed, without_set}
-use Rattle.mon_catalogue.specs.Writing.{Change, Add, writing, records_after, recorded}
-use Rattle.mon_catalogue.proofs.Changed.{other_sets_stay, named_set_changes}
-use Rattle.interaction.specs.declared.answer.Reason.{Reason}
-use Rattle.mon_guard.specs.Owning.{owner_denial, new_set}
-use Rattle.mon_guard.specs.inner.Parts.{given, acl_set_unless}
-use Rattle.mon_guard.specs.Laws.{IsThere}
-use Rattle.interaction.specs.declared.request.Act.{Act}
-use Rattle.interaction.specs.declared.request.Act.TheVariants.{Read, Write, Endfile, Rewind}
-use Rattle.interaction.specs.declared.request.Request.{Request}
-use Rattle.mon_command.specs.declared.command.Command.{Command}
-use Rattle.mon_command.specs.declared.command.Command.TheVariants.{Create, Delete, SetAcl, ShowAcl, List as Listing, Catalog}
-use Rattle.mon_command.specs.Commands.{account_of}
+use Rattle.deck_lines.specs.declared.command.Command.TheVariants.{List as Listing}
 use Rattle.mon_command.specs.Commanded as commands
-use Rattle.mon_command.specs.Commanded.{told_by, removal_reply, served, answered}
-use Rattle.mon_unit.specs.Serving.{Reach, serve}
 use Rattle.mon_unit.specs.Laws as units
-use Rattle.mon_unit.specs.Laws.{AsksChange}
-use Rattle.mon_monitor.specs.Played.{played}
-use Rattle.mon_monitor.specs.History.{Entry, Entered, Refused, Asked, Ended, Ordered, history}
-use Rattle.mon_monitor.specs.Headline.{StandsOver, sets_after, Lead}
-use Rattle.mon_monitor.specs.Appending.{Begins, Keeps, HasDeleted, Deletes, NoneDeletes, AppendOnly}
 use Rattle.mon_monitor.proofs.Accounting.{history_lead}
-use Rattle.mon_catalogue.proofs.Shorthand.{listed}
-use Rattle.mon_guard.proofs.Shorthand.{removed_unless, created_unless}
-use Rattle.mon_command.proofs.Shorthand.{served_if_known}
 
 begins_then : (a b c : List (List ℕ)) → Begins a b → Begins b c → Begins a c
 begins_then a b c h k = (h.0 ++ k.0, k.1 ∙ ap (λ (l : List (List ℕ)). l ++ k.0) h.1 ∙ append_assoc a h.0 k.0)

@@ -1,19 +1,7 @@
 -- The lines of entries are those that are put as turns go.
-use Rattle.std.proofs.Common.{◌≡◌, ℕ, Bool, true, false, List, [], ◌∷◌, ◌++◌, length, Option, refl, ap, ◌∙◌, append-nil}
-use Rattle.std.specs.Prelude.{map, if◌then◌else◌, drop}
-use Rattle.std.proofs.lemmas.List.Concat.{flat_map-append}
-use Rattle.deck_syntax.specs.declared.job_deck.JobDeck.{JobDeck}
-use Rattle.scheduler.specs.declared.turned.Turned.{Turned}
-use Rattle.scheduler.specs.declared.turned.Turned.TheVariants.{Empty, Goes, Ended}
-use Rattle.scheduler.specs.States.{SchedulerState, job_in}
-use Rattle.scheduler.specs.Marks.{Mark, Marks, mark_of, turn_as, rounds, turns_left, has_free_slot, room}
-use Rattle.scheduler.specs.Exchanged.{Exchanged, asked_in}
-use Rattle.scheduler.specs.AuditLines.{ended_line, exchanged_line, exchanged_lines, end_lines, turn_lines, lines_until, lines_of_rounds}
-use Rattle.mon_monitor.specs.SystemStates.{SystemState, with_scheduler}
-use Rattle.mon_monitor.specs.Events.{Load}
-use Rattle.mon_monitor.specs.Played.{loading}
-use Rattle.mon_monitor.specs.History.{Entry, Asked, end_entry, turn_entries, entries_until, entries_of_rounds, load_entry}
-use Rattle.mon_monitor.specs.Audit.{audit_line, audit, event_lines, loading_lines}
+use Rattle.std.proofs.Common.{◌≡◌, ℕ, Bool, true, false, List, [], ◌∷◌, ◌++◌, length, Option, refl, ap, ◌∙◌, append-nil, map, if◌then◌else◌, drop}
+use Rattle.mon_monitor.proofs.Common.{flat_map-append, JobDeck, Empty, SchedulerState, job_in, Mark, Marks, mark_of, turn_as, rounds, turns_left, has_free_slot, room, Exchanged, asked_in, ended_line, exchanged_line, exchanged_lines, end_lines, turn_lines, lines_until, lines_of_rounds, SystemState, with_scheduler, Load, loading, Asked, end_entry, turn_entries, entries_until, entries_of_rounds, load_entry, audit_line, audit, event_lines, loading_lines, Turned, Goes, Entry}
+use Rattle.job_end.specs.declared.turned.Turned.TheVariants.{Ended}
 
 pub audit_append : (xs ys : List Entry) → audit (xs ++ ys) ≡ audit xs ++ audit ys
 audit_append xs ys = flat_map-append audit_line xs ys

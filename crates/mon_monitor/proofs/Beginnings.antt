@@ -1,11 +1,6 @@
 -- Before the first event all slots are empty, so catalogues that look alike are all that is asked.
-use Rattle.std.proofs.Common.{◌≡◌, ℕ, zero, suc, Some, None, refl, ap}
-use Rattle.std.specs.Prelude.{replicate, slice_get}
-use Rattle.std.specs.Option.{option_flatten}
-use Rattle.scheduler.specs.States.{SlotState, seat_at}
-use Rattle.mon_monitor.specs.SystemStates.{first_system}
-use Rattle.mon_monitor.specs.Printouts.{printouts_text}
-use Rattle.mon_monitor.specs.Beginnings.{FromTheBeginning}
+use Rattle.std.proofs.Common.{◌≡◌, ℕ, zero, suc, Some, None, refl, ap, replicate, slice_get}
+use Rattle.mon_monitor.proofs.Common.{option_flatten, SlotState, seat_at, first_system, printouts_text, FromTheBeginning}
 use Rattle.mon_monitor.proofs.Agreeing.{isolated}
 
 no_job : (n i : ℕ) (slot : SlotState) → option_flatten (slice_get (replicate n None) i) ≡ Some slot → ⊥

@@ -1,45 +1,12 @@
 -- A command of an account, over data sets that look alike to it.
-use Rattle.std.proofs.Common.{◌≡◌, ◌≢◌, ℕ, nat_eq, nat_le, Bool, true, false, cond, List, [], ◌∷◌, ◌++◌, length, Option, Some, None, Result, Ok, Err, option_map, refl, ap, sym, ◌∙◌, subst, inl, inr}
-use Rattle.std.specs.Prelude.{◌⊎◌, ◌||◌, if◌then◌else◌, is_some, map}
-use Rattle.std.specs.List.{list_any, IsDistinct, AllByRecursion}
-use Rattle.std.specs.Map.{keys_of}
-use Rattle.std.specs.Cmp.Lexicographic.{pointwise, nat_list_eq_equiv, bytes_decides}
-use Rattle.std.proofs.lemmas.Map.Keys.{IsDistinct-head, IsDistinct-tail, IsDistinct-cons, IsDistinct-push}
-use Rattle.std.proofs.lemmas.Slice.Eq.{bytes_eq-Decides}
+use Rattle.std.proofs.Common.{◌≡◌, ◌≢◌, ℕ, nat_eq, nat_le, Bool, true, false, cond, List, [], ◌∷◌, ◌++◌, length, Option, Some, None, Result, Ok, Err, option_map, refl, ap, sym, ◌∙◌, subst, inl, inr, ◌⊎◌, ◌||◌, if◌then◌else◌, is_some, map}
+use Rattle.mon_monitor.proofs.Common.{list_any, IsDistinct, AllByRecursion, keys_of, pointwise, nat_list_eq_equiv, bytes_decides, IsDistinct-head, IsDistinct-tail, IsDistinct-cons, IsDistinct-push, bytes_eq-Decides, Perms, AclError, list_of_text, Account, Decision, find_account, is_owner, Mode, DataSet, CreateError, NameTaken, CatalogueFull, Sets, find_set, NamesDiffer, create_refusal, without_set, with_acl, other_sets_stay, named_set_changes, order_stays, Reason, NoSet, NotOwner, decision_on, is_granted, where_granted, may_be_shown, by_decision, acl_set_unless, AclPart, NamePart, acl_part, name_part, names_shown, names_lent, new_set, Command, Create, Delete, SetAcl, ShowAcl, Catalog, account_of, Records, Shown, Names, Served, told_by, creation_reply, removal_reply, acl_reply, shown_as, answered, printed, Same, LooksAlike, Both, CommandsAgree, listed, owner_denial_of, removed_unless, created_unless, records_of, acl_of, served_if_known, to_read, to_execute, given, Told, served}
 use Rattle.mon_acl.specs.declared.entries.Entry.{Entry}
-use Rattle.mon_acl.specs.declared.entries.Perms.{Perms}
-use Rattle.mon_acl.specs.declared.refusals.AclError.{AclError}
-use Rattle.mon_acl.specs.Forms.{list_of_text}
-use Rattle.mon_access.specs.declared.account.Account.{Account}
-use Rattle.mon_access.specs.declared.access.Decision.{Decision}
 use Rattle.mon_access.specs.declared.access.Decision.TheVariants as decision
-use Rattle.mon_access.specs.Accounts.{find_account}
-use Rattle.mon_access.specs.Matches.{is_owner}
-use Rattle.mon_catalogue.specs.declared.mode.Mode.{Mode}
-use Rattle.mon_catalogue.specs.declared.data_set.DataSet.{DataSet}
-use Rattle.mon_catalogue.specs.declared.catalogue.CreateError.{CreateError}
-use Rattle.mon_catalogue.specs.declared.catalogue.CreateError.TheVariants.{NameTaken, CatalogueFull}
-use Rattle.mon_catalogue.specs.Sets.{Sets, find_set, NamesDiffer, create_refusal}
-use Rattle.mon_catalogue.specs.Changes.{without_set, with_acl}
-use Rattle.mon_catalogue.proofs.Changed.{other_sets_stay, named_set_changes, order_stays}
-use Rattle.interaction.specs.declared.answer.Reason.{Reason}
-use Rattle.interaction.specs.declared.answer.Reason.TheVariants.{NoSet, NotOwner}
-use Rattle.mon_guard.specs.Deciding.{to_read, to_execute, decision_on, is_granted, where_granted, may_be_shown}
-use Rattle.mon_guard.specs.inner.Parts.{by_decision, given, acl_set_unless}
-use Rattle.mon_guard.specs.Views.{AclPart, NamePart, acl_part, name_part, names_shown, names_lent}
-use Rattle.mon_guard.specs.Owning.{new_set}
-use Rattle.mon_command.specs.declared.command.Command.{Command}
-use Rattle.mon_command.specs.declared.command.Command.TheVariants.{Create, Delete, SetAcl, ShowAcl, List as Listing, Catalog}
-use Rattle.mon_command.specs.Commands.{account_of}
-use Rattle.mon_command.specs.Commanded.{Answer, Told, Records, Shown, Names, Served, told_by, creation_reply, removal_reply, acl_reply, shown_as, served, answered, printed}
-use Rattle.mon_unit.specs.Laws.{Same}
-use Rattle.mon_monitor.specs.Agreeing.{LooksAlike, Both}
-use Rattle.mon_monitor.specs.Isolation.{CommandsAgree}
+use Rattle.deck_lines.specs.declared.command.Command.TheVariants.{List as Listing}
+use Rattle.mon_command.specs.Commanded.{Answer}
 use Rattle.mon_monitor.proofs.Finding.{BothFound, found_both, both_changed, both_length, both_append, both_without, both_keys}
 use Rattle.mon_monitor.proofs.Requests.{like_itself, decided_alike, ties_stay}
-use Rattle.mon_catalogue.proofs.Shorthand.{listed}
-use Rattle.mon_guard.proofs.Shorthand.{owner_denial_of, removed_unless, created_unless, records_of, acl_of}
-use Rattle.mon_command.proofs.Shorthand.{served_if_known}
 
 -- what a command is answered, and what it leaves
 record StillAlike (account : Account) (sets others : Sets) (s t : Served) : Type 0 where

@@ -1,42 +1,14 @@
 -- What is no history: of a small system, lists that differ from its history in one place.
-use Rattle.std.proofs.Common.{◌≡◌, ℕ, zero, suc, List, [], ◌∷◌, ◌++◌, map, Option, Some, None, refl, sym, ap, ◌∙◌, subst, inl, inr}
-use Rattle.std.specs.Prelude.{◌⊎◌, codes}
-use Rattle.interaction.specs.Asking.{Exchange, IsTrace}
-use Rattle.interaction.specs.declared.request.Act.{Act}
-use Rattle.interaction.specs.declared.request.Act.TheVariants.{Read, Write}
-use Rattle.interaction.specs.declared.answer.Answer.{Answer}
-use Rattle.interaction.specs.declared.answer.Answer.TheVariants.{Done, Got, Denied}
-use Rattle.sno_run.specs.declared.ending.Ending.TheVariants.{Normal, Memory}
-use Rattle.sno_run.specs.declared.ending.Step.TheVariants as step
-use Rattle.sno_run.specs.Jobs.{Job, turns_of, first_job}
-use Rattle.sno_cards.specs.Statements.{statements_of}
-use Rattle.sno_syntax.specs.Programs.{Program}
-use Rattle.mon_acl.specs.declared.entries.Tag.TheVariants.{UserObj, GroupObj, Other}
-use Rattle.mon_access.specs.declared.account.Account.{Account}
+use Rattle.std.proofs.Common.{◌≡◌, ℕ, zero, suc, List, [], ◌∷◌, ◌++◌, map, Option, Some, None, refl, sym, ap, ◌∙◌, subst, inl, inr, ◌⊎◌, codes}
+use Rattle.mon_monitor.proofs.Common.{Exchange, Act, Read, Write, Done, Got, Denied, Normal, Job, turns_of, first_job, statements_of, Program, UserObj, GroupObj, Other, Account, find_account, Seq, Sets, By, Note, UnitState, serve, JobDeck, JobEnd, SlotState, seat_at, first_units, with_ties, program_in, SystemState, first_system, Event, Load, Drain, played, Exchanged, Entered, Asked, history, exchanges, Follow, EndsSo, IsJob, IsHistory, ann, no_perms, all_perms, Answer, Memory, Entry, Ended, noted}
 use Rattle.mon_access.specs.AccessCheck.{decision}
-use Rattle.mon_access.specs.Accounts.{find_account}
-use Rattle.mon_catalogue.specs.declared.mode.Mode.TheVariants.{Seq}
-use Rattle.mon_catalogue.specs.Sets.{Sets}
-use Rattle.interaction.specs.declared.answer.Reason.TheVariants.{By}
+use Rattle.interaction.specs.Asking.{IsTrace}
+use Rattle.sno_run.specs.declared.ending.Step.TheVariants as step
 use Rattle.mon_guard.specs.Owning.{plain}
 use Rattle.mon_unit.specs.declared.note.NoteAct.TheVariants as act
 use Rattle.mon_unit.specs.declared.note.NoteTarget.TheVariants as target
-use Rattle.mon_unit.specs.declared.note.Note.{Note}
 use Rattle.mon_unit.specs.declared.note.Why.TheVariants as why
-use Rattle.mon_unit.specs.State.{UnitState}
-use Rattle.mon_unit.specs.Serving.{serve}
-use Rattle.deck_syntax.specs.declared.job_deck.JobDeck.{JobDeck}
-use Rattle.scheduler.specs.declared.job_end.JobEnd.{JobEnd}
-use Rattle.scheduler.specs.States.{SlotState, seat_at}
-use Rattle.scheduler.specs.Loads.{first_units, with_ties, program_in}
-use Rattle.mon_monitor.specs.SystemStates.{SystemState, first_system}
-use Rattle.mon_monitor.specs.Events.{Event, Load, Drain}
-use Rattle.mon_monitor.specs.Played.{played}
-use Rattle.scheduler.specs.Exchanged.{Exchanged}
-use Rattle.mon_monitor.specs.History.{Entry, Entered, Asked, Ended, history}
-use Rattle.mon_monitor.specs.Headline.{exchanges, Follow, noted, EndsSo, IsJob, IsHistory}
 use Rattle.mon_monitor.proofs.Telling.{asked_alone}
-use Rattle.mon_monitor.specs.Example.{ann, no_perms, all_perms}
 
 -- A WORLD OF TWO JOBS
 

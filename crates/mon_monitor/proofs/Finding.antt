@@ -1,12 +1,6 @@
 -- The data sets of one name, in data sets that look alike.
-use Rattle.std.proofs.Common.{◌≡◌, ℕ, suc, nat_eq, Bool, true, false, cond, List, [], ◌∷◌, ◌++◌, length, Option, Some, None, refl, ap, sym, ◌∙◌, subst}
-use Rattle.std.specs.Prelude.{if◌then◌else◌}
-use Rattle.std.specs.Map.{keys_of}
-use Rattle.std.specs.Cmp.Lexicographic.{pointwise}
-use Rattle.mon_catalogue.specs.declared.data_set.DataSet.{DataSet}
-use Rattle.mon_catalogue.specs.Sets.{Sets, find_set}
-use Rattle.mon_catalogue.specs.Changes.{without_set, with_changed}
-use Rattle.mon_monitor.specs.Agreeing.{Both}
+use Rattle.std.proofs.Common.{◌≡◌, ℕ, suc, nat_eq, Bool, true, false, cond, List, [], ◌∷◌, ◌++◌, length, Option, Some, None, refl, ap, sym, ◌∙◌, subst, if◌then◌else◌}
+use Rattle.mon_monitor.proofs.Common.{keys_of, pointwise, DataSet, Sets, find_set, without_set, with_changed, Both}
 
 abbrev pub BothFound : (DataSet → DataSet → Type 0) → Option DataSet → Option DataSet → Type 0
 BothFound like None None = Unit {0}

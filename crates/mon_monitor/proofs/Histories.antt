@@ -1,31 +1,7 @@
 -- Events one after the other, and what marks have to do with them.
-use Rattle.std.proofs.Common.{◌≡◌, ◌≢◌, ℕ, Bool, true, List, [], ◌∷◌, ◌++◌, length, Option, Some, None, Result, Ok, Err, refl, ap, sym, ◌∙◌, inl, inr, append_assoc}
-use Rattle.std.specs.Prelude.{map, option_map, is_some, replicate}
-use Rattle.std.specs.List.{AllByRecursion}
-use Rattle.std.specs.Option.{option_or}
-use Rattle.sno_cards.specs.declared.refusal.SyntaxError.{SyntaxError}
-use Rattle.sno_cards.specs.Programs.{ProgramText}
-use Rattle.sno_cards.specs.Statements.{statements_of}
-use Rattle.sno_syntax.specs.Refusals.{syntax_refusal}
-use Rattle.mon_access.specs.declared.account.Account.{Account}
-use Rattle.mon_access.specs.Accounts.{find_account}
-use Rattle.mon_unit.specs.declared.units.UnitError.{UnitError}
-use Rattle.deck_syntax.specs.declared.job_deck.JobDeck.{JobDeck}
-use Rattle.scheduler.specs.declared.job_end.JobEnd.{JobEnd}
-use Rattle.scheduler.specs.declared.refusal.LoadError.{LoadError}
-use Rattle.scheduler.specs.declared.refusal.LoadError.TheVariants.{NoSlot, NoAccount, Cards, Syntax}
-use Rattle.scheduler.specs.States.{SlotState, SchedulerState, first_free}
-use Rattle.scheduler.specs.Marks.{Marks, Past, turn_as, until, never, rounds, turns_left, is_done, has_free_slot, room}
-use Rattle.scheduler.specs.Rounds.{NoneByMemory, MarksEndJobs, RoomIsMade}
-use Rattle.scheduler.specs.Loads.{first_units, ties_refusal, missing, program_refusal, deck_refusal, loaded_by, slot_in}
-use Rattle.scheduler.proofs.Seats.{seat_length}
-use Rattle.scheduler.proofs.Past.{either_way, until_stops, until_goes, until_length}
-use Rattle.mon_monitor.specs.SystemStates.{SystemState, with_scheduler}
-use Rattle.mon_monitor.specs.Events.{Event, Serve, Load, Give, Drain}
-use Rattle.mon_monitor.specs.Printouts.{Printout, printouts_text}
+use Rattle.std.proofs.Common.{◌≡◌, ◌≢◌, ℕ, Bool, true, List, [], ◌∷◌, ◌++◌, length, Option, Some, None, Result, Ok, Err, refl, ap, sym, ◌∙◌, inl, inr, append_assoc, map, option_map, is_some, replicate}
+use Rattle.mon_monitor.proofs.Common.{AllByRecursion, option_or, SyntaxError, ProgramText, statements_of, syntax_refusal, Account, find_account, UnitError, JobDeck, JobEnd, LoadError, NoSlot, NoAccount, Cards, Syntax, SlotState, SchedulerState, first_free, Marks, Past, turn_as, until, never, rounds, turns_left, is_done, has_free_slot, room, NoneByMemory, MarksEndJobs, RoomIsMade, missing, program_refusal, first_units, ties_refusal, deck_refusal, loaded_by, slot_in, seat_length, either_way, until_stops, until_goes, until_length, SystemState, with_scheduler, Event, Serve, Load, Give, Drain, Printout, printouts_text, Played, loading, of_turns, happened, played, CardByCard, PrintedInOrder, NotByMemory, AsUnmarked, PlayedUnmarked, LoadHasRoom, AccountsStay, SlotsStay}
 use Rattle.mon_monitor.proofs.Parts.{of_load, and_played}
-use Rattle.mon_monitor.specs.Played.{Played, loading, of_turns, happened, played}
-use Rattle.mon_monitor.specs.Laws.{CardByCard, PrintedInOrder, NotByMemory, AsUnmarked, PlayedUnmarked, LoadHasRoom, AccountsStay, SlotsStay}
 use Rattle.mon_monitor.proofs.Playing.{printouts_append}
 use Rattle.mon_monitor.proofs.Shorthand.{of_ends}
 

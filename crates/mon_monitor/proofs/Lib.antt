@@ -1,3 +1,4 @@
+pub mod Common
 pub mod Shorthand
 pub mod Playing
 pub mod Printing
@@ -17,13 +18,13 @@ mod Finding
 mod Names
 mod Named
 pub mod Auditing
-mod Requests
+pub mod Requests
 mod Commands
-mod Turning
+pub mod Turning
 mod Loading
 mod Agreeing
 mod Beginnings
-mod Example
+pub mod Example
 mod Examples
 pub mod Schedules
 pub mod Unseen

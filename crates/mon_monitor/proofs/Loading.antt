@@ -1,23 +1,6 @@
 -- A job of an account is loaded, in systems that agree for it.
-use Rattle.std.proofs.Common.{◌≡◌, ℕ, zero, suc, List, [], ◌∷◌, Option, Some, None, Result, ap, sym, ◌∙◌, subst, inl, inr}
-use Rattle.std.specs.Prelude.{◌⊎◌, slice_get, map}
-use Rattle.std.specs.List.{range_with_len}
-use Rattle.mon_access.specs.declared.account.Account.{Account}
-use Rattle.mon_access.specs.Accounts.{find_account}
-use Rattle.sno_cards.specs.Statements.{statements_of}
-use Rattle.sno_syntax.specs.Programs.{Program}
-use Rattle.mon_unit.specs.declared.tie.Target.TheVariants.{Set}
-use Rattle.mon_unit.specs.declared.tie.Tie.{Tie}
-use Rattle.mon_unit.specs.State.{UnitState}
-use Rattle.mon_unit.specs.Tying.{tied_to}
-use Rattle.mon_unit.proofs.Changed.{first_tie}
-use Rattle.deck_syntax.specs.declared.job_deck.UnitCard.{UnitCard}
-use Rattle.deck_syntax.specs.declared.job_deck.JobDeck.{JobDeck}
-use Rattle.scheduler.specs.declared.refusal.LoadError.{LoadError}
-use Rattle.scheduler.specs.States.{SlotState, seat_at, first_free, job_in}
-use Rattle.scheduler.specs.Loads.{first_units, with_ties, tied_by, program_in, load_refusal, slot_in, loaded_by, job_loaded}
-use Rattle.scheduler.specs.inner.Parts.{slot_by}
-use Rattle.mon_monitor.specs.Isolation.{LoadsAgree}
+use Rattle.std.proofs.Common.{◌≡◌, ℕ, zero, suc, List, [], ◌∷◌, Option, Some, None, Result, ap, sym, ◌∙◌, subst, inl, inr, ◌⊎◌, slice_get, map}
+use Rattle.mon_monitor.proofs.Common.{range_with_len, Account, find_account, statements_of, Program, Set, Tie, UnitState, tied_to, first_tie, UnitCard, JobDeck, LoadError, SlotState, seat_at, first_free, job_in, first_units, with_ties, tied_by, program_in, load_refusal, slot_in, loaded_by, job_loaded, slot_by, LoadsAgree}
 use Rattle.mon_monitor.proofs.Requests.{get_after_set}
 use Rattle.mon_monitor.proofs.Turning.{seat_after}
 

@@ -1,30 +1,10 @@
 -- Right entries name their grants.
-use Rattle.std.proofs.Common.{◌≡◌, ℕ, Bool, true, false, true≢false, List, [], ◌∷◌, Option, None, Some, refl, sym, ap, ◌∙◌, subst, inl, inr, if◌then◌else◌}
-use Rattle.std.specs.Prelude.{IsSome, option_map}
-use Rattle.std.specs.Option.{option_and_then}
-use Rattle.std.proofs.lemmas.Slice.Eq.{bytes_eq-Decides}
-use Rattle.mon_acl.specs.declared.entries.Perms.{Perms}
+use Rattle.std.proofs.Common.{◌≡◌, ℕ, Bool, true, false, true≢false, List, [], ◌∷◌, Option, None, Some, refl, sym, ap, ◌∙◌, subst, inl, inr, if◌then◌else◌, IsSome, option_map}
+use Rattle.mon_monitor.proofs.Common.{option_and_then, bytes_eq-Decides, Perms, Account, is_owner, DataSet, Sets, find_set, Reason, AclPart, Owns, IsGranted, MaySeeList, AreForReading, IsForSeeing, OwnsNamed, LendsWhereGranted, Command, Create, Delete, SetAcl, ShowAcl, Catalog, Records, Shown, AsOwner, ByEntry, granting_entry, by_entry, by_owner, to_see_list, command_grant, EntriesAreNamed, GrantsAreNamed, ChangesAreNamed, read_named, Exchanged, Entered, Asked, Ordered, IsRight, IsRightRequest, IsRightCommand, NamesItsGrant, NamesGrants, IsNamed, AccessesAreNamed, Told, Entry, Refused, Ended}
 use Rattle.mon_acl.specs.Permissions.{to_read, to_execute}
-use Rattle.mon_access.specs.declared.account.Account.{Account}
-use Rattle.mon_access.specs.Matches.{is_owner}
-use Rattle.mon_catalogue.specs.declared.data_set.DataSet.{DataSet}
-use Rattle.mon_catalogue.specs.Sets.{Sets, find_set}
-use Rattle.interaction.specs.declared.answer.Reason.{Reason}
-use Rattle.mon_guard.specs.Views.{AclPart}
-use Rattle.mon_guard.specs.Laws.{Owns, IsGranted, MaySeeList, AreForReading, IsForSeeing, OwnsNamed, LendsWhereGranted}
-use Rattle.mon_command.specs.declared.command.Command.{Command}
-use Rattle.mon_command.specs.declared.command.Command.TheVariants.{Create, Delete, SetAcl, ShowAcl, List as Listing, Catalog}
+use Rattle.deck_lines.specs.declared.command.Command.TheVariants.{List as Listing}
 use Rattle.mon_command.specs.declared.reply.Reply.TheVariants as reply
 use Rattle.mon_command.specs.Commanded as commands
-use Rattle.mon_command.specs.Commanded.{Told, Records, Shown}
-use Rattle.mon_unit.specs.declared.audit_grant.Grant.TheVariants.{AsOwner, ByEntry}
-use Rattle.mon_unit.specs.AuditGrants.{granting_entry, by_entry, by_owner, to_see_list, command_grant}
-use Rattle.mon_unit.specs.AuditLaws.{EntriesAreNamed, GrantsAreNamed, ChangesAreNamed}
-use Rattle.mon_unit.proofs.Named.{read_named}
-use Rattle.scheduler.specs.Exchanged.{Exchanged}
-use Rattle.mon_monitor.specs.History.{Entry, Entered, Refused, Asked, Ended, Ordered}
-use Rattle.mon_monitor.specs.Headline.{IsRight, IsRightRequest, IsRightCommand}
-use Rattle.mon_monitor.specs.Granted.{NamesItsGrant, NamesGrants, IsNamed, AccessesAreNamed}
 
 -- who owns a data set is its owner
 owner_is : (account : Account) (set : DataSet) → Owns account set → is_owner account set.owner ≡ true

@@ -1,12 +1,6 @@
 -- Data sets with the same names, none twice, are the same where each that is found is.
 use Rattle.std.proofs.Common.{◌≡◌, ◌≢◌, ◌⊎◌, ℕ, nat_eq, Bool, true, false, cond, List, [], ◌∷◌, None, Some, inl, inr, refl, sym, ap, subst, ◌∙◌}
-use Rattle.std.proofs.lemmas.Map.Keys.{IsDistinct-head, IsDistinct-tail}
-use Rattle.std.specs.Cmp.Lexicographic.{pointwise, bytes_decides}
-use Rattle.std.specs.List.{AllByRecursion, IsDistinct}
-use Rattle.std.specs.Map.{keys_of}
-use Rattle.mon_catalogue.specs.declared.data_set.DataSet.{DataSet}
-use Rattle.mon_catalogue.specs.Sets.{Sets, find_set}
-use Rattle.mon_unit.specs.Laws.{Same}
+use Rattle.mon_monitor.proofs.Common.{IsDistinct-head, IsDistinct-tail, pointwise, bytes_decides, AllByRecursion, IsDistinct, keys_of, DataSet, Sets, find_set, Same}
 
 pub tell_name : (n m : List ℕ) → ((n ≡ m) × (pointwise nat_eq n m ≡ true)) ⊎ ((n ≢ m) × (pointwise nat_eq n m ≡ false))
 tell_name n m = by (pointwise nat_eq n m) refl

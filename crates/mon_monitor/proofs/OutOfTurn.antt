@@ -1,21 +1,8 @@
 -- What comes out of its turn: lists that no cards bring.
-use Rattle.std.proofs.Common.{◌≡◌, ℕ, suc, ◌%◌, true, List, [], ◌∷◌, ◌++◌, length, map, Option, Some, None, refl, sym, ap, ◌∙◌, subst, append-nil}
-use Rattle.std.specs.Prelude.{if◌then◌else◌, is_none}
-use Rattle.std.specs.List.{flat_map, list_all, list_any}
-use Rattle.sno_run.specs.declared.ending.Step.{Step}
+use Rattle.std.proofs.Common.{◌≡◌, ℕ, suc, ◌%◌, true, List, [], ◌∷◌, ◌++◌, length, map, Option, Some, None, refl, sym, ap, ◌∙◌, subst, append-nil, if◌then◌else◌, is_none}
+use Rattle.mon_monitor.proofs.Common.{flat_map, list_all, list_any, Step, Account, UnitState, Command, JobDeck, SlotState, seat_at, told, Mark, Marks, Event, Serve, Load, Give, Exchanged, Entered, Asked, Ordered, end_entry, Follow, Seats, Stage, left_as, IsTurn, TurnOf, Take, Brings, BringInOrder, Entry, in_rounds}
 use Rattle.sno_run.specs.declared.ending.Step.TheVariants as step
-use Rattle.mon_access.specs.declared.account.Account.{Account}
-use Rattle.mon_unit.specs.State.{UnitState}
-use Rattle.mon_command.specs.declared.command.Command.{Command}
-use Rattle.deck_syntax.specs.declared.job_deck.JobDeck.{JobDeck}
-use Rattle.scheduler.specs.States.{SlotState, seat_at}
-use Rattle.scheduler.specs.Turns.{told}
-use Rattle.scheduler.specs.Marks.{Mark, Marks}
-use Rattle.mon_monitor.specs.Events.{Event, Serve, Load, Give}
-use Rattle.scheduler.specs.Exchanged.{Exchanged}
-use Rattle.mon_monitor.specs.History.{Entry, Entered, Asked, Ordered, end_entry}
-use Rattle.mon_monitor.specs.Headline.{Follow}
-use Rattle.mon_monitor.specs.Turns.{Seats, Stage, left_as, IsTurn, TurnOf, given, in_rounds, Take, Brings, BringInOrder}
+use Rattle.mon_monitor.specs.Turns.{given}
 
 abbrev staged : Seats → Marks → Stage
 staged seats marks = record { seats = seats; marks = marks }

@@ -1,9 +1,6 @@
 -- Parts of the definitions by names of their own.
 use Rattle.std.specs.Prelude.{ℕ, List, [], ◌∷◌, ◌++◌, Result, Ok, Err}
-use Rattle.mon_monitor.specs.Printouts.{Printout, OfRefused}
-use Rattle.mon_monitor.specs.Played.{Played}
-use Rattle.deck_syntax.specs.declared.job_deck.JobDeck.{JobDeck}
-use Rattle.scheduler.specs.declared.refusal.LoadError.{LoadError}
+use Rattle.mon_monitor.proofs.Common.{Printout, OfRefused, Played, JobDeck, LoadError}
 
 abbrev pub and_played : List Printout → Played → Played
 and_played printouts p = record { printouts = printouts ++ p.printouts; after = p.after; marks = p.marks }

@@ -1,46 +1,12 @@
 -- What the calls do is what the definitions say.
-use Rattle.std.proofs.Common.{◌≡◌, ℕ, List, [], ◌∷◌, ◌++◌, length, Option, Some, None, true, Result, Ok, Err, refl, ap, sym, ◌∙◌, subst, append_assoc, append-nil}
-use Rattle.std.specs.Prelude.{OnOk, OnErr, OnSome, replicate}
-use Rattle.std.specs.List.{flat_map}
-use Rattle.std.proofs.lemmas.List.Concat.{flat_map-append}
-use Rattle.mon_text.specs.declared.stop.Stop.{Stop}
+use Rattle.std.proofs.Common.{◌≡◌, ℕ, List, [], ◌∷◌, ◌++◌, length, Option, Some, None, true, Result, Ok, Err, refl, ap, sym, ◌∙◌, subst, append_assoc, append-nil, OnOk, OnErr, OnSome, replicate}
+use Rattle.mon_monitor.proofs.Common.{flat_map, flat_map-append, Stop, IfRefused, Account, find_account, Sets, Command, account_of, answered, commanded, Said, said_of, served_if_known, ordered_lines, lines_after, ordered_is, JobDeck, JobEnd, LoadError, printout, refusal_text, loaded_line, refused_line, lines_until, lines_of_rounds, SchedulerState, Standing, Puts, puts_nothing, puts_then, puts_failed, Marks, Past, marked, drain, room, never, rounds, turns_left, is_done, has_free_slot, MarkedIs, DrainIs, RoomIs, SystemState, with_scheduler, with_sets, Serve, Load, Give, Drain, Printout, OfCommand, OfRefused, printouts_text, printout_text, Played, loading, of_turns, of_loading, then_played, happened, given_back, audit, event_lines, loading_lines, load_entry, Does, Happens, HappensUnmarked, Breaks, Closes, system}
 use Rattle.mon_text.specs.declared.stop.Stop.TheVariants.{Refused}
-use Rattle.sno_cards.specs.Answers.{IfRefused}
-use Rattle.mon_access.specs.declared.account.Account.{Account}
-use Rattle.mon_access.specs.Accounts.{find_account}
-use Rattle.mon_catalogue.specs.Sets.{Sets}
-use Rattle.mon_command.specs.declared.command.Command.{Command}
-use Rattle.mon_command.specs.declared.command.Command.TheVariants.{List as Listing}
-use Rattle.mon_command.specs.Commands.{account_of}
-use Rattle.mon_command.specs.Commanded.{answered, commanded}
-use Rattle.mon_command.specs.declared.said.Said.{Said}
-use Rattle.mon_command.specs.Saying.{said_of}
-use Rattle.mon_command.proofs.Shorthand.{served_if_known}
-use Rattle.mon_unit.specs.AuditCommands.{ordered_lines}
-use Rattle.mon_unit.specs.inner.AuditParts.{lines_after}
-use Rattle.mon_unit.proofs.Ordered.{ordered_is}
-use Rattle.deck_syntax.specs.declared.job_deck.JobDeck.{JobDeck}
-use Rattle.scheduler.specs.declared.job_end.JobEnd.{JobEnd}
-use Rattle.scheduler.specs.declared.refusal.LoadError.{LoadError}
-use Rattle.scheduler.specs.Printouts.{printout, refusal_text}
-use Rattle.scheduler.specs.AuditLines.{loaded_line, refused_line, lines_until, lines_of_rounds}
-use Rattle.scheduler.specs.States.{SchedulerState}
-use Rattle.mon_device.specs.Putting.{Standing, Puts}
-use Rattle.mon_device.proofs.Putting.{puts_nothing, puts_same, puts_then, puts_failed}
-use Rattle.scheduler.specs.Marks.{Marks, Past, marked, drain, room, never, rounds, turns_left, is_done, has_free_slot}
-use Rattle.scheduler.specs.Turning.{Passed, MarkedIs, DrainIs, RoomIs}
-use Rattle.mon_monitor.specs.SystemStates.{SystemState, with_scheduler, with_sets}
-use Rattle.mon_monitor.specs.Events.{Serve, Load, Give, Drain}
-use Rattle.mon_monitor.specs.Printouts.{Printout, OfCommand, OfRefused, printouts_text, printout_text}
+use Rattle.deck_lines.specs.declared.command.Command.TheVariants.{List as Listing}
+use Rattle.scheduler.specs.Turning.{Passed}
 use Rattle.mon_monitor.proofs.Parts.{of_load, and_played}
-use Rattle.mon_monitor.specs.Played.{Played, loading, of_turns, of_loading, then_played, happened}
-use Rattle.mon_monitor.specs.Printed.{given_back}
-use Rattle.mon_monitor.specs.Audit.{audit, event_lines, loading_lines}
-use Rattle.mon_monitor.specs.History.{load_entry}
-use Rattle.mon_monitor.specs.Happening.{Does, Happens, HappensUnmarked, Breaks, Closes}
 use Rattle.mon_monitor.proofs.Auditing.{until_told, load_told}
 use Rattle.mon_monitor.proofs.Shorthand.{of_ends}
-use Rattle.mon_monitor.specs.Abstraction.{system}
 
 pub printouts_append : (xs ys : List Printout) → printouts_text (xs ++ ys) ≡ printouts_text xs ++ printouts_text ys
 printouts_append xs ys = flat_map-append printout_text xs ys

@@ -1,9 +1,6 @@
 -- A text and the pieces behind it are put.
 use Rattle.std.proofs.Common.{◌≡◌, ℕ, List, ◌++◌, ap, ◌∙◌}
-use Rattle.mon_monitor.specs.declared.printed.Piece.{Piece}
-use Rattle.mon_device.specs.Putting.{Standing, Puts}
-use Rattle.mon_monitor.specs.Printed.{pieces_text}
-use Rattle.mon_device.proofs.Putting.{puts_then, puts_same}
+use Rattle.mon_monitor.proofs.Common.{Piece, Standing, Puts, pieces_text, puts_then, puts_same}
 
 pub printed_put : (a b c : Standing) (now text text' : List ℕ) (pieces pieces' : List Piece) → text ++ pieces_text pieces ≡ now → text' ≡ text → pieces' ≡ pieces
     → Puts a b text' → Puts b c (pieces_text pieces') → Puts a c now

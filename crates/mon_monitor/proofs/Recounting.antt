@@ -1,49 +1,11 @@
 -- What the history tells of each job, event by event.
-use Rattle.std.proofs.Common.{◌≡◌, ◌≢◌, ◌⊎◌, ◌==◌, ℕ, zero, suc, ◌-◌, ◌≤◌, Bool, true, false, List, [], ◌∷◌, ◌++◌, length, map, replicate, Option, Some, None, refl, ap, sym, ◌∙◌, subst, inl, inr, arith, append_assoc, append-nil}
-use Rattle.std.specs.Prelude.{if◌then◌else◌, is_some, drop}
-use Rattle.std.proofs.lemmas.List.Elements.{filter-append}
-use Rattle.std.proofs.lemmas.Bool.{eq-eqb, eqb-true}
-use Rattle.std.specs.Option.{option_or}
-use Rattle.sno_run.specs.declared.ending.Ending.{Ending}
-use Rattle.sno_run.specs.declared.ending.Ending.TheVariants.{Memory}
-use Rattle.sno_run.specs.declared.ending.Step.{Step}
+use Rattle.std.proofs.Common.{◌≡◌, ◌≢◌, ◌⊎◌, ◌==◌, ℕ, zero, suc, ◌-◌, ◌≤◌, Bool, true, false, List, [], ◌∷◌, ◌++◌, length, map, replicate, Option, Some, None, refl, ap, sym, ◌∙◌, subst, inl, inr, arith, append_assoc, append-nil, if◌then◌else◌, is_some, drop}
+use Rattle.mon_monitor.proofs.Common.{filter-append, eqb-true, option_or, Ending, Step, Job, counted_turn, turn_of, statements_begun, statements_of, Program, Account, find_account, UnitState, Reach, serve, run, passed_begins, Sets, account_of, answered, UnitCard, JobDeck, LoadError, NoSlot, NoAccount, SlotState, SchedulerState, scheduler, seat_at, with_seat, job_in, first_free, missing, program_refusal, first_units, tied_by, with_ties, program_in, deck_refusal, loaded_slot, slot_in, loaded_by, job_loaded, slot_by, broken_turn, ends_then, reached, ran, ends_by, Mark, Marks, mark_of, passed_at, exchanges_at, may_break, ran_as, turn_as, Past, nothing, until, never, is_done, has_free_slot, room, SystemState, Event, Serve, Load, Give, Drain, happened, played, whole_turn, asked_in, Entered, Asked, Ordered, end_entry, turn_entries, entries_until, load_entry, event_entries, history, is_of, own, IsJob, job_of, NumbersDiffer, serve_fits, turn_counts, IsSeat, seat_changed, free_seat, turn_as_by, broken_by, system, eq-eqb, Memory, Entry, Refused}
 use Rattle.sno_run.specs.declared.ending.Step.TheVariants as step
-use Rattle.sno_run.specs.Jobs.{Job, counted_turn, turn_of, statements_begun}
-use Rattle.sno_cards.specs.Statements.{statements_of}
-use Rattle.sno_syntax.specs.Programs.{Program}
-use Rattle.mon_access.specs.declared.account.Account.{Account}
-use Rattle.mon_access.specs.Accounts.{find_account}
-use Rattle.mon_unit.specs.State.{UnitState}
-use Rattle.mon_unit.specs.Serving.{Reach, serve}
-use Rattle.mon_unit.specs.Runs.{run}
-use Rattle.mon_unit.proofs.Runs.{passed_begins}
-use Rattle.mon_catalogue.specs.Sets.{Sets}
-use Rattle.mon_command.specs.Commands.{account_of}
-use Rattle.mon_command.specs.Commanded.{answered}
-use Rattle.deck_syntax.specs.declared.job_deck.UnitCard.{UnitCard}
-use Rattle.deck_syntax.specs.declared.job_deck.JobDeck.{JobDeck}
-use Rattle.scheduler.specs.declared.refusal.LoadError.{LoadError}
-use Rattle.scheduler.specs.declared.refusal.LoadError.TheVariants.{NoSlot, NoAccount}
-use Rattle.scheduler.specs.States.{SlotState, SchedulerState, scheduler, seat_at, with_seat, job_in, first_free}
-use Rattle.scheduler.specs.Loads.{missing, first_units, tied_by, with_ties, program_refusal, program_in, deck_refusal, loaded_slot, slot_in, loaded_by, job_loaded}
-use Rattle.scheduler.specs.inner.Parts.{slot_by, broken_turn, ends_then}
-use Rattle.scheduler.specs.Turns.{reached, ran, ends_by}
-use Rattle.scheduler.specs.Marks.{Mark, Marks, mark_of, passed_at, exchanges_at, may_break, ran_as, turn_as, Past, nothing, until, never, is_done, has_free_slot, room}
-use Rattle.mon_monitor.specs.SystemStates.{SystemState}
-use Rattle.mon_monitor.specs.Events.{Event, Serve, Load, Give, Drain}
-use Rattle.mon_monitor.specs.Played.{happened, played}
-use Rattle.scheduler.specs.Exchanged.{whole_turn, asked_in}
-use Rattle.mon_monitor.specs.History.{Entry, Entered, Refused, Asked, Ordered, end_entry, turn_entries, entries_until, load_entry, event_entries, history, is_of, own}
-use Rattle.mon_monitor.specs.Headline.{IsJob, job_of, NumbersDiffer}
 use Rattle.mon_monitor.proofs.Histories.{event_accounts}
 use Rattle.mon_monitor.proofs.Accounting.{in_rounds}
-use Rattle.mon_unit.proofs.Fitting.{serve_fits}
 use Rattle.mon_monitor.proofs.Exchanging.{whole_told, cut_told, all_passed, all_told, all_asked, cut_asks}
-use Rattle.sno_run.proofs.Tallying.{turn_counts}
-use Rattle.scheduler.proofs.Seating.{IsSeat, seat_changed, free_seat}
 use Rattle.mon_monitor.proofs.Telling.{same_or_not, not_same, AreOf, none_of, more_of, number_is, number_not, own_more, own_same, Sitting, goes_on, Turn, Again, IsToCome, SoFar, still_job, turn_far}
-use Rattle.scheduler.proofs.Shorthand.{turn_as_by, broken_by}
-use Rattle.mon_monitor.specs.Abstraction.{system}
 
 -- A turn of a job leaves its limits; where the job goes on, fewer statements may begin than before, and where it ends, it has
 -- ended so.
@@ -58,6 +20,10 @@ TurnsWell = (account : Account) (job : Job) (reach : Reach) → Well job (run (s
 -- where cards are not refused, they spell a program
 abbrev pub Spell : Type 0
 Spell = (lines : List (List ℕ)) → program_refusal (statements_of lines) ≡ None → (p : Program) × (program_in (statements_of lines) ≡ Some p)
+
+pub some_free : (o : Option ℕ) → is_some o ≡ true → (s : ℕ) × (o ≡ Some s)
+some_free None h = absurd cc
+some_free (Some s) h = (s, refl)
 
 -- NUMBERS
 
@@ -343,10 +309,6 @@ module _ (accounts : List Account) (J : ℕ → Option JobDeck) (numbered : (n :
             (loaded_far spell deck E H slots far once s (free_seat slots s free) is known.0 known.1 program.0 program.1
             (ties_spool deck.ties (first_units deck.lines)) (ties_notes deck.ties (first_units deck.lines)))
 
-    some_free : (o : Option ℕ) → is_some o ≡ true → (s : ℕ) × (o ≡ Some s)
-    some_free None h = absurd cc
-    some_free (Some s) h = (s, refl)
-
     ordered_by_none : (n : ℕ) (H : List Entry) (entry : Entry) → is_of n entry ≡ false → own n (H ++ entry ∷ []) ≡ own n H
     ordered_by_none n H entry not =
         filter-append (is_of n) H (entry ∷ []) ∙ ap (λ (b : Bool). own n H ++ (if b then entry ∷ [] else [])) not ∙ append-nil (own n H)
@@ -393,16 +355,16 @@ module _ (accounts : List Account) (J : ℕ → Option JobDeck) (numbered : (n :
           subst (λ (l : List Entry). Far [] l (played E p.marks p.after).after.scheduler.slots) (append_assoc H here (history E p.marks p.after)) moved
 
 -- at the beginning
-none_first : (n s : ℕ) (slot : SlotState) → seat_at s (replicate n None) ≡ Some slot → ⊥
+pub none_first : (n s : ℕ) (slot : SlotState) → seat_at s (replicate n None) ≡ Some slot → ⊥
 none_first n zero slot h = cc (h)
 none_first zero (suc i) slot h = cc (h)
 none_first (suc n) (suc zero) slot h = cc (h)
 none_first (suc n) (suc (suc i)) slot h = none_first n (suc i) slot h
 
-abbrev no_jobs : ℕ → List (Option SlotState)
+abbrev pub no_jobs : ℕ → List (Option SlotState)
 no_jobs n = replicate n None
 
-so_many : (n : ℕ) → length (no_jobs n) ≡ n
+pub so_many : (n : ℕ) → length (no_jobs n) ≡ n
 so_many zero = refl
 so_many (suc n) = ap suc (so_many n)
 

@@ -1,46 +1,13 @@
 -- One request of a job, where what may differ is what its account may not see.
-use Rattle.std.proofs.Common.{◌≡◌, ℕ, ◌+◌, zero, suc, true, nat_le, if◌then◌else◌, List, [], ◌∷◌, ◌++◌, length, length-append, Option, Some, None, option_map, refl, ap, sym, ◌∙◌, subst, inl, inr}
-use Rattle.std.specs.Prelude.{◌⊎◌, slice_get, slice_set}
+use Rattle.std.proofs.Common.{◌≡◌, ℕ, ◌+◌, zero, suc, true, nat_le, if◌then◌else◌, List, [], ◌∷◌, ◌++◌, length, length-append, Option, Some, None, option_map, refl, ap, sym, ◌∙◌, subst, inl, inr, ◌⊎◌, slice_get, slice_set}
+use Rattle.mon_monitor.proofs.Common.{Perms, Account, Decision, Mode, Seq, Append, DataSet, SetFull, Sets, find_set, Change, Put, Cut, Add, writing, recorded, change_refusal, named_set_changes, Denied, Full, reason_of, to_write, decision_on, is_granted, by_decision, ended, or_denied, Acted, only_answered, read_at, changing, left, changed, Act, Read, Write, Endfile, Rewind, Request, Target, Untied, Data, Spool, Set, Tie, NoteAct, NoteTarget, UnitState, tie_at, Reach, unit_of, note_act, note_target, moved, on_set, acted_at, set_at, set_of, serve, Effect, effect_of, effect, changed_at, Same, serve_alike, LooksAlike, Both, TiesFit, RequestAgrees, RequestsAgree, or_untied, looked, made, to_read, Answer}
 use Rattle.mon_acl.specs.declared.entries.Entry.{Entry}
-use Rattle.mon_acl.specs.declared.entries.Perms.{Perms}
-use Rattle.mon_access.specs.declared.account.Account.{Account}
-use Rattle.mon_access.specs.declared.access.Decision.{Decision}
 use Rattle.mon_access.specs.declared.access.Decision.TheVariants as decision
 use Rattle.mon_access.specs.AccessCheck.{decision as access_check}
-use Rattle.mon_catalogue.specs.declared.mode.Mode.{Mode}
-use Rattle.mon_catalogue.specs.declared.mode.Mode.TheVariants.{Seq, Append}
-use Rattle.mon_catalogue.specs.declared.data_set.DataSet.{DataSet}
-use Rattle.mon_catalogue.specs.declared.data_set.SetFull.{SetFull}
-use Rattle.mon_catalogue.specs.Sets.{Sets, find_set}
-use Rattle.mon_catalogue.specs.Writing.{Change, Put, Cut, Add, writing, recorded, change_refusal}
-use Rattle.mon_catalogue.proofs.Changed.{named_set_changes}
 use Rattle.interaction.specs.declared.answer.Reason.TheVariants.{Mode as WrongMode}
-use Rattle.interaction.specs.declared.answer.Answer.TheVariants.{Denied, Full}
-use Rattle.mon_guard.specs.Reasons.{reason_of}
-use Rattle.mon_guard.specs.Deciding.{to_read, to_write, decision_on, is_granted}
-use Rattle.mon_guard.specs.inner.Parts.{by_decision, ended, or_denied}
-use Rattle.mon_guard.specs.Acting.{Acted, only_answered, read_at, changing, left, changed}
-use Rattle.interaction.specs.declared.request.Act.{Act}
-use Rattle.interaction.specs.declared.request.Act.TheVariants.{Read, Write, Endfile, Rewind}
-use Rattle.interaction.specs.declared.request.Request.{Request}
-use Rattle.interaction.specs.declared.answer.Answer.{Answer}
 use Rattle.interaction.specs.declared.answer.Answer.TheVariants as answer
-use Rattle.mon_unit.specs.declared.tie.Target.{Target}
-use Rattle.mon_unit.specs.declared.tie.Target.TheVariants.{Untied, Data, Spool, Set}
-use Rattle.mon_unit.specs.declared.tie.Tie.{Tie}
-use Rattle.mon_unit.specs.declared.note.NoteAct.{NoteAct}
-use Rattle.mon_unit.specs.declared.note.NoteTarget.{NoteTarget}
-use Rattle.mon_unit.specs.State.{UnitState}
-use Rattle.mon_unit.specs.Tying.{tie_at}
-use Rattle.mon_unit.specs.Serving.{Reach, unit_of, note_act, note_target, noted, moved, spooled, on_set, acted_at, set_at, set_of, serve}
-use Rattle.mon_unit.proofs.Changed.{Effect, effect_of, effect, changed_at}
-use Rattle.mon_unit.specs.Laws.{Same}
-use Rattle.mon_unit.proofs.Looks.{serve_alike}
-use Rattle.mon_monitor.specs.Agreeing.{LooksAlike, Both, TiesFit}
-use Rattle.mon_monitor.specs.Isolation.{RequestAgrees, RequestsAgree}
+use Rattle.mon_unit.specs.Serving.{noted, spooled}
 use Rattle.mon_monitor.proofs.Finding.{BothFound, found_both, both_changed}
-use Rattle.mon_unit.proofs.Shorthand.{or_untied, looked}
-use Rattle.mon_guard.proofs.Shorthand.{made}
 
 abbrev with_records : List (List ℕ) → DataSet → DataSet
 with_records records set = record set { records = records }

@@ -1,40 +1,11 @@
 -- A job on data sets of its own does what it does alone.
-use Rattle.std.proofs.Common.{◌≡◌, ◌≢◌, ℕ, zero, suc, ◌≤◌, nat_le, Bool, true, false, List, [], ◌∷◌, ◌++◌, length, eq-eqb, Option, Some, None, Result, Ok, Err, refl, ap, sym, ◌∙◌, subst, inl, inr, arith}
-use Rattle.std.specs.Prelude.{◌⊎◌, ◌==◌, nat_eq, if◌then◌else◌, map, slice_get, slice_set, Vec, IfOk, drop, replicate}
-use Rattle.std.proofs.lemmas.Bool.Decides.{nat_tests, eqb_tells}
-use Rattle.std.specs.Cmp.Lexicographic.{pointwise}
-use Rattle.std.specs.Map.{keys_of}
-use Rattle.std.specs.List.{IsDistinct, AllByRecursion}
-use Rattle.std.specs.Option.{option_flatten}
-use Rattle.mon_catalogue.specs.Sets.{Sets, find_set, NamesDiffer}
-use Rattle.interaction.specs.declared.request.Request.{Request}
-use Rattle.sno_run.specs.declared.ending.Ending.TheVariants.{Memory}
-use Rattle.sno_run.specs.declared.ending.Step.{Step}
+use Rattle.std.proofs.Common.{◌≡◌, ◌≢◌, ℕ, zero, suc, ◌≤◌, nat_le, Bool, true, false, List, [], ◌∷◌, ◌++◌, length, eq-eqb, Option, Some, None, Result, Ok, Err, refl, ap, sym, ◌∙◌, subst, inl, inr, arith, ◌⊎◌, ◌==◌, nat_eq, if◌then◌else◌, map, slice_get, slice_set, Vec, IfOk, drop, replicate}
+use Rattle.mon_monitor.proofs.Common.{nat_tests, eqb_tells, pointwise, keys_of, IsDistinct, AllByRecursion, option_flatten, Sets, find_set, NamesDiffer, Request, Step, Job, turn_of, Target, Untied, Data, Spool, Set, UnitState, Reach, set_of, serve, Same, targets, TiedTo, run_alike, one_look, looks_at_tied, targets_stay, run_keeps_to_ties, JobEnd, Empty, SlotState, SchedulerState, seat_at, with_seat, job_in, reached, ran, after_turn, job_end, seat, told, turn_by, ends_by, turns, Marks, mark_of, turn_as, Past, until, never, marked, rounds, turns_left, is_done, drain, ends_then, NoneByMemory, Standing, UntilIs, MarkedIs, DrainIs, either_way, until_stops, until_goes, marks_end_jobs, unmarked, drain_empties, Independent, turns_given, of_slot, AsAlone, EndsAlone, AnySchedule, Settles, InAnyOrder, DrainedInAnyOrder, looked, Memory, Turned, Goes}
 use Rattle.sno_run.specs.declared.ending.Step.TheVariants as step
-use Rattle.sno_run.specs.Jobs.{Job, turn_of}
-use Rattle.mon_unit.specs.declared.tie.Target.{Target}
-use Rattle.mon_unit.specs.declared.tie.Target.TheVariants.{Untied, Data, Spool, Set}
-use Rattle.mon_unit.specs.State.{UnitState}
-use Rattle.mon_unit.specs.Serving.{Reach, set_of, serve}
-use Rattle.mon_unit.specs.Laws.{Same, targets, TiedTo}
-use Rattle.mon_unit.proofs.Runs.{run_alike}
-use Rattle.mon_unit.proofs.Looks.{one_look, looks_at_tied, targets_stay, run_keeps_to_ties}
-use Rattle.scheduler.specs.declared.job_end.JobEnd.{JobEnd}
-use Rattle.scheduler.specs.declared.turned.Turned.{Turned}
-use Rattle.scheduler.specs.declared.turned.Turned.TheVariants.{Empty, Goes, Ended}
-use Rattle.scheduler.specs.States.{SlotState, SchedulerState, seat_at, with_seat, job_in}
-use Rattle.scheduler.specs.Turns.{reached, ran, after_turn, job_end, seat, told, turn_by, turn, Course, ends_by, turns}
-use Rattle.scheduler.specs.Marks.{Marks, mark_of, turn_as, Past, until, never, marked, rounds, turns_left, is_done, drain}
-use Rattle.scheduler.specs.inner.Parts.{ends_then}
-use Rattle.scheduler.specs.Rounds.{NoneByMemory}
-use Rattle.mon_device.specs.Putting.{Standing}
-use Rattle.scheduler.specs.Turning.{UntilIs, MarkedIs, DrainIs}
-use Rattle.scheduler.proofs.Past.{either_way, until_stops, until_goes, marks_end_jobs, unmarked, drain_empties}
-use Rattle.scheduler.specs.Ties.{Independent}
-use Rattle.mon_monitor.specs.Schedules.{turns_given, of_slot, AsAlone, EndsAlone, AnySchedule, Settles, InAnyOrder, DrainedInAnyOrder}
+use Rattle.job_end.specs.declared.turned.Turned.TheVariants.{Ended}
+use Rattle.scheduler.specs.Turns.{turn, Course}
 use Rattle.mon_monitor.proofs.Names.{tell_name, same_lists}
 use Rattle.mon_monitor.proofs.Turning.{seat_after, seat_is}
-use Rattle.mon_unit.proofs.Shorthand.{looked}
 
 -- seats
 seat_same : (s : ℕ) (o : Option SlotState) (slots : List (Option SlotState)) (slot : SlotState) → seat_at s slots ≡ Some slot → seat_at s (with_seat s o slots) ≡ o

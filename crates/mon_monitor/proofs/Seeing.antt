@@ -1,51 +1,12 @@
 -- What is written is read: a line stands at its place, entry by entry, until its data set is overwritten.
-use Rattle.std.proofs.Common.{◌≡◌, ◌≢◌, ◌<◌, ℕ, Bool, true, false, if◌then◌else◌, List, [], ◌∷◌, ◌++◌, ◌⊎◌, length, take, slice_get, Option, Some, None, Result, Ok, Err, option_map, refl, ap, sym, ◌∙◌, subst, inl, inr}
-use Rattle.std.specs.Prelude.{◌↔◌, bytes_eq}
-use Rattle.std.specs.List.{AllByRecursion}
-use Rattle.std.proofs.lemmas.Slice.Eq.{bytes_eq-Decides}
-use Rattle.std.proofs.lemmas.Bool.Decides.{not_from_Decides}
+use Rattle.std.proofs.Common.{◌≡◌, ◌≢◌, ◌<◌, ℕ, Bool, true, false, if◌then◌else◌, List, [], ◌∷◌, ◌++◌, ◌⊎◌, length, take, slice_get, Option, Some, None, Result, Ok, Err, option_map, refl, ap, sym, ◌∙◌, subst, inl, inr, ◌↔◌, bytes_eq}
+use Rattle.mon_monitor.proofs.Common.{AllByRecursion, bytes_eq-Decides, not_from_Decides, AclError, list_of_text, Account, find_account, Mode, Seq, Append, DataSet, SetFull, CreateError, Sets, find_set, create_refusal, with_changed, without_set, Change, writing, change_refusal, records_after, recorded, other_sets_stay, named_set_changes, listed, Reason, to_write, owner_denial, new_set, acl_set_unless, IsThere, IsGranted, removed_unless, created_unless, Act, Read, Write, Endfile, Rewind, Command, Create, Delete, SetAcl, ShowAcl, Catalog, account_of, told_by, removal_reply, answered, served_if_known, Data, Spool, Set, serve, note_act, position_of, AsksChange, played, Exchanged, Entered, Asked, Ordered, history, StandsOver, sets_after, Lead, before, IsDone, HasDeleted, Wrote, ReadsAt, Overwrites, SeesWrites, ReadsSeeWrites, to_read, given, served, Entry, Refused, Ended}
 use Rattle.mon_acl.specs.declared.entries.Entry.{Entry as ListEntry}
-use Rattle.mon_acl.specs.declared.refusals.AclError.{AclError}
-use Rattle.mon_acl.specs.Forms.{list_of_text}
-use Rattle.mon_access.specs.declared.account.Account.{Account}
-use Rattle.mon_access.specs.Accounts.{find_account}
-use Rattle.mon_catalogue.specs.declared.mode.Mode.{Mode}
-use Rattle.mon_catalogue.specs.declared.mode.Mode.TheVariants.{Seq, Append}
-use Rattle.mon_catalogue.specs.declared.data_set.DataSet.{DataSet}
-use Rattle.mon_catalogue.specs.declared.data_set.SetFull.{SetFull}
-use Rattle.mon_catalogue.specs.declared.catalogue.CreateError.{CreateError}
-use Rattle.mon_catalogue.specs.Sets.{Sets, find_set, create_refusal}
-use Rattle.mon_catalogue.specs.Changes.{with_changed, without_set}
-use Rattle.mon_catalogue.specs.Writing.{Change, writing, change_refusal, records_after, recorded}
-use Rattle.mon_catalogue.proofs.Changed.{other_sets_stay, named_set_changes}
-use Rattle.mon_catalogue.proofs.Shorthand.{listed}
-use Rattle.interaction.specs.declared.answer.Reason.{Reason}
 use Rattle.interaction.specs.declared.answer.Answer.TheVariants as answer
-use Rattle.mon_guard.specs.Deciding.{to_read, to_write}
-use Rattle.mon_guard.specs.Owning.{owner_denial, new_set}
-use Rattle.mon_guard.specs.inner.Parts.{given, acl_set_unless}
-use Rattle.mon_guard.specs.Laws.{IsThere, IsGranted}
-use Rattle.mon_guard.proofs.Shorthand.{removed_unless, created_unless}
-use Rattle.interaction.specs.declared.request.Act.{Act}
-use Rattle.interaction.specs.declared.request.Act.TheVariants.{Read, Write, Endfile, Rewind}
-use Rattle.mon_command.specs.declared.command.Command.{Command}
-use Rattle.mon_command.specs.declared.command.Command.TheVariants.{Create, Delete, SetAcl, ShowAcl, List as Listing, Catalog}
-use Rattle.mon_command.specs.Commands.{account_of}
+use Rattle.deck_lines.specs.declared.command.Command.TheVariants.{List as Listing}
 use Rattle.mon_command.specs.Commanded as commands
-use Rattle.mon_command.specs.Commanded.{told_by, removal_reply, served, answered}
-use Rattle.mon_command.proofs.Shorthand.{served_if_known}
 use Rattle.mon_unit.specs.declared.note.NoteAct.TheVariants as note
-use Rattle.mon_unit.specs.declared.tie.Target.TheVariants.{Data, Spool, Set}
-use Rattle.mon_unit.specs.Serving.{serve, note_act}
 use Rattle.mon_unit.specs.Laws as units
-use Rattle.mon_unit.specs.Laws.{position_of, AsksChange}
-use Rattle.mon_monitor.specs.Played.{played}
-use Rattle.scheduler.specs.Exchanged.{Exchanged}
-use Rattle.mon_monitor.specs.History.{Entry, Entered, Refused, Asked, Ended, Ordered, history}
-use Rattle.mon_monitor.specs.Headline.{StandsOver, sets_after, Lead}
-use Rattle.mon_monitor.specs.Answering.{before, IsDone}
-use Rattle.mon_monitor.specs.Appending.{HasDeleted}
-use Rattle.mon_monitor.specs.Seeing.{Wrote, ReadsAt, Overwrites, SeesWrites, ReadsSeeWrites}
 use Rattle.mon_monitor.proofs.Accounting.{history_lead}
 use Rattle.mon_monitor.proofs.Answering.{room_test, done_where}
 use Rattle.mon_monitor.proofs.Appending.{found_first}

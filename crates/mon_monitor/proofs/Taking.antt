@@ -1,56 +1,14 @@
 -- What each card brings, turn by turn.
-use Rattle.std.proofs.Common.{◌≡◌, ◌≢◌, ℕ, zero, suc, ◌+◌, ◌*◌, ◌%◌, ◌<◌, ◌≤◌, Bool, true, false, List, [], ◌∷◌, ◌++◌, length, map, take, replicate, Option, Some, None, Result, refl, ap, sym, ◌∙◌, subst, inl, inr, arith}
-use Rattle.std.specs.Prelude.{if◌then◌else◌, is_some, is_none, IsSome, drop, slice_get}
-use Rattle.std.specs.List.{AllByRecursion, flat_map, list_all, list_any, range_with_len, position_from}
-use Rattle.std.specs.Option.{option_flatten, option_or}
-use Rattle.std.proofs.lemmas.Bool.{lt-ltb, le-ltb}
-use Rattle.std.proofs.lemmas.Nat.{mod-mul-add}
-use Rattle.std.proofs.Math.Nat.{suc-mul}
-use Rattle.interaction.specs.Interactions.{Returns, Asks}
-use Rattle.interaction.specs.Asking.{Asking}
+use Rattle.std.proofs.Common.{◌≡◌, ◌≢◌, ℕ, zero, suc, ◌+◌, ◌*◌, ◌%◌, ◌<◌, ◌≤◌, Bool, true, false, List, [], ◌∷◌, ◌++◌, length, map, take, replicate, Option, Some, None, Result, refl, ap, sym, ◌∙◌, subst, inl, inr, arith, if◌then◌else◌, is_some, is_none, IsSome, drop, slice_get}
+use Rattle.mon_monitor.proofs.Common.{AllByRecursion, flat_map, list_all, list_any, range_with_len, position_from, option_flatten, option_or, lt-ltb, le-ltb, mod-mul-add, suc-mul, Returns, Asks, Asking, Beginning, Requesting, Counted, requests_in, statements_in, Done, Ending, Step, Job, counted_turn, turn_of, statements_begun, statements_of, Program, Account, find_account, Sets, account_of, answered, Reach, serve, run, passed, passing, serve_fits, JobDeck, LoadError, NoSlot, SlotState, SchedulerState, seat_at, with_seat, job_in, first_free, missing, program_in, deck_refusal, loaded_slot, slot_in, loaded_by, job_loaded, slot_by, broken_turn, ends_then, reached, ran, after_turn, seat, told, ends_by, Mark, Marks, mark_of, exchanges_at, may_break, ran_as, turn_as, Past, nothing, until, never, rounds, turns_left, is_done, has_free_slot, room, RoomIsMade, turn_length, until_goes, enough, turn_as_by, broken_by, SystemState, first_system, system, Event, Serve, Load, Give, Drain, happened, played, SlotsStay, Exchanged, asked_by, whole_turn, asked_in, Entered, Asked, end_entry, turn_entries, entries_until, load_entry, event_entries, history, exchanges, Seats, Stage, left_as, IsTurn, TurnOf, Take, Turns, IsLowestFree, Loads, Brings, BringInOrder, IsUnbroken, TurnsCome, Passed, Memory, Entry, Refused, in_rounds}
 use Rattle.interaction.specs.Asking as asking
-use Rattle.interaction.specs.Counting.{Beginning, Requesting, Counted, Passed, requests_in, statements_in}
-use Rattle.interaction.specs.declared.answer.Answer.TheVariants.{Done}
-use Rattle.sno_run.specs.declared.ending.Ending.{Ending}
-use Rattle.sno_run.specs.declared.ending.Ending.TheVariants.{Memory}
-use Rattle.sno_run.specs.declared.ending.Step.{Step}
 use Rattle.sno_run.specs.declared.ending.Step.TheVariants as step
-use Rattle.sno_run.specs.Jobs.{Job, counted_turn, turn_of, statements_begun}
-use Rattle.sno_cards.specs.Statements.{statements_of}
-use Rattle.sno_syntax.specs.Programs.{Program}
-use Rattle.mon_access.specs.declared.account.Account.{Account}
-use Rattle.mon_access.specs.Accounts.{find_account}
-use Rattle.mon_catalogue.specs.Sets.{Sets}
-use Rattle.mon_command.specs.Commands.{account_of}
-use Rattle.mon_command.specs.Commanded.{answered}
-use Rattle.mon_unit.specs.Serving.{Reach, serve}
-use Rattle.mon_unit.specs.Runs.{run, passed}
-use Rattle.mon_unit.proofs.Runs.{passing}
-use Rattle.mon_unit.proofs.Fitting.{serve_fits}
-use Rattle.deck_syntax.specs.declared.job_deck.JobDeck.{JobDeck}
-use Rattle.scheduler.specs.declared.refusal.LoadError.{LoadError}
-use Rattle.scheduler.specs.declared.refusal.LoadError.TheVariants.{NoSlot}
-use Rattle.scheduler.specs.States.{SlotState, SchedulerState, seat_at, with_seat, job_in, first_free}
-use Rattle.scheduler.specs.Loads.{missing, program_in, deck_refusal, loaded_slot, slot_in, loaded_by, job_loaded}
-use Rattle.scheduler.specs.inner.Parts.{slot_by, broken_turn, ends_then}
-use Rattle.scheduler.specs.Turns.{reached, ran, after_turn, seat, told, ends_by}
-use Rattle.scheduler.specs.Marks.{Mark, Marks, mark_of, exchanges_at, may_break, ran_as, turn_as, Past, nothing, until, never, rounds, turns_left, is_done, has_free_slot, room}
-use Rattle.scheduler.specs.Rounds.{RoomIsMade}
 use Rattle.mon_monitor.proofs.Unbroken.{turn_unbroken}
-use Rattle.scheduler.proofs.Past.{turn_length, until_goes, enough}
-use Rattle.scheduler.proofs.Shorthand.{turn_as_by, broken_by}
-use Rattle.mon_monitor.specs.SystemStates.{SystemState, first_system}
-use Rattle.mon_monitor.specs.Abstraction.{system}
-use Rattle.mon_monitor.specs.Events.{Event, Serve, Load, Give, Drain}
-use Rattle.mon_monitor.specs.Played.{happened, played}
-use Rattle.mon_monitor.specs.Laws.{SlotsStay}
-use Rattle.scheduler.specs.Exchanged.{Exchanged, asked_by, whole_turn, asked_in}
-use Rattle.mon_monitor.specs.History.{Entry, Entered, Refused, Asked, end_entry, turn_entries, entries_until, load_entry, event_entries, history}
-use Rattle.mon_monitor.specs.Headline.{exchanges}
-use Rattle.mon_monitor.specs.Turns.{Seats, Stage, left_as, IsTurn, TurnOf, given, in_rounds, Take, Turns, IsLowestFree, Loads, Brings, BringInOrder, IsUnbroken, TurnsCome}
+use Rattle.mon_monitor.specs.Turns.{given}
 use Rattle.mon_monitor.proofs.Histories.{event_accounts}
 use Rattle.mon_monitor.proofs.Exchanging.{whole_told, cut_told, all_passed, all_told, cut_asks}
 use Rattle.mon_monitor.proofs.Turning.{seat_after}
+use Rattle.mon_monitor.proofs.Recounting.{some_free, none_first, no_jobs, so_many}
 
 abbrev pub staged : Seats → Marks → Stage
 staged seats marks = record { seats = seats; marks = marks }
@@ -318,10 +276,6 @@ lowest_free slots s h =
     below seats i taken zero some less = absurd (omega (arith, some))
     below seats i taken (suc t) some less = taken t (omega (arith, less))
 
-some_free : (o : Option ℕ) → is_some o ≡ true → (s : ℕ) × (o ≡ Some s)
-some_free None h = absurd cc
-some_free (Some s) h = (s, refl)
-
 -- what the job of a deck does to the slots, and its one entry
 abbrev Enters : List Account → JobDeck → Seats → Result ℕ LoadError × Seats → Type 0
 Enters accounts deck slots l = (entry : Entry) × (load_entry deck l.0 ≡ entry ∷ []) × Loads accounts deck slots entry l.1
@@ -503,19 +457,6 @@ unbroken accounts (e ∷ E) before entries after h none =
     subst AllUnbroken (sym h.3) (unbroken_both h.0 h.1 here.0 (unbroken accounts E h.2 h.1 after h.5 here.1))
 
 -- ALL OF IT
-
-none_first : (n s : ℕ) (slot : SlotState) → seat_at s (replicate n None) ≡ Some slot → ⊥
-none_first n zero slot h = cc (h)
-none_first zero (suc i) slot h = cc (h)
-none_first (suc n) (suc zero) slot h = cc (h)
-none_first (suc n) (suc (suc i)) slot h = none_first n (suc i) slot h
-
-abbrev no_jobs : ℕ → Seats
-no_jobs n = replicate n None
-
-so_many : (n : ℕ) → length (no_jobs n) ≡ n
-so_many zero = refl
-so_many (suc n) = ap suc (so_many n)
 
 pub turns_come : RoomIsMade → SlotsStay → TurnsCome
 turns_come made stay slots accounts sets events m some =

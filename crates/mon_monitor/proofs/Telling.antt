@@ -1,36 +1,10 @@
 -- The history of events tells each job's interaction, one after another.
-use Rattle.std.proofs.Common.{◌≡◌, ◌≢◌, ◌⊎◌, ◌==◌, ℕ, zero, suc, ◌+◌, ◌-◌, ◌≤◌, Bool, true, false, List, [], ◌∷◌, ◌++◌, map, Option, Some, None, refl, ap, sym, ◌∙◌, subst, inl, inr, arith, append_assoc, append-nil}
-use Rattle.std.specs.Prelude.{if◌then◌else◌}
-use Rattle.std.proofs.lemmas.List.{map-append}
-use Rattle.std.proofs.lemmas.List.Elements.{filter-append}
-use Rattle.std.proofs.lemmas.List.Concat.{flat_map-append}
-use Rattle.std.proofs.lemmas.Bool.{eq-eqb, eqb-true, eqb-false}
+use Rattle.std.proofs.Common.{◌≡◌, ◌≢◌, ◌⊎◌, ◌==◌, ℕ, zero, suc, ◌+◌, ◌-◌, ◌≤◌, Bool, true, false, List, [], ◌∷◌, ◌++◌, map, Option, Some, None, refl, ap, sym, ◌∙◌, subst, inl, inr, arith, append_assoc, append-nil, if◌then◌else◌}
+use Rattle.mon_monitor.proofs.Common.{map-append, filter-append, flat_map-append, eqb-true, eqb-false, Exchange, Moment, Beginning, Requesting, MomentFits, IsTracePrefix, requests_in, statements_in, with_request, with_statement, plain_told, Ending, Step, Job, counted_turn, counted_turns, turns_of, statements_begun, Account, Note, UnitState, serve, JobDeck, SlotState, seat_at, with_seat, first_units, with_ties, seat, told, Event, Exchanged, Entered, Asked, end_entry, is_of, own, job_in_cards, exchange, exchanges, Follow, GoesOn, IsJob, job_of, tells_then, begins_then, begins_first, seat_changed, taken_seat, eq-eqb, Answer, Passed, IsTrace, Memory, Entry, spooled, noted}
 use Rattle.interaction.specs.Asking as asking
-use Rattle.interaction.specs.Asking.{Exchange}
-use Rattle.interaction.specs.declared.answer.Answer.{Answer}
-use Rattle.interaction.specs.Counting.{Moment, Beginning, Requesting, Passed, MomentFits, IsTrace, IsTracePrefix, requests_in, statements_in}
-use Rattle.interaction.proofs.Counting.{with_request, with_statement}
-use Rattle.interaction.proofs.Counting.{plain_told}
-use Rattle.sno_run.specs.declared.ending.Ending.{Ending}
-use Rattle.sno_run.specs.declared.ending.Ending.TheVariants.{Memory}
-use Rattle.sno_run.specs.declared.ending.Step.{Step}
 use Rattle.sno_run.specs.declared.ending.Step.TheVariants as step
-use Rattle.sno_run.specs.Jobs.{Job, counted_turn, counted_turns, turns_of, statements_begun}
-use Rattle.mon_access.specs.declared.account.Account.{Account}
-use Rattle.mon_unit.specs.declared.note.Note.{Note}
-use Rattle.mon_unit.specs.State.{UnitState}
-use Rattle.mon_unit.specs.Serving.{serve}
-use Rattle.deck_syntax.specs.declared.job_deck.JobDeck.{JobDeck}
-use Rattle.scheduler.specs.States.{SlotState, seat_at, with_seat}
-use Rattle.scheduler.specs.Loads.{first_units, with_ties}
-use Rattle.scheduler.specs.Turns.{seat, told}
-use Rattle.mon_monitor.specs.Events.{Event}
-use Rattle.scheduler.specs.Exchanged.{Exchanged}
-use Rattle.mon_monitor.specs.History.{Entry, Entered, Asked, end_entry, is_of, own}
-use Rattle.mon_monitor.specs.Headline.{job_in_cards, exchange, exchanges, Follow, spooled, noted, Course, GoesOn, IsJob, job_of}
-use Rattle.interaction.proofs.Told.{tells_then, begins_then, begins_first}
+use Rattle.mon_monitor.specs.Headline.{Course}
 use Rattle.mon_monitor.proofs.Exchanging.{Told, follow_both}
-use Rattle.scheduler.proofs.Seating.{seat_changed, taken_seat}
 
 -- WHOSE ENTRIES
 

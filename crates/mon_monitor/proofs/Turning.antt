@@ -1,32 +1,8 @@
 -- A turn of a job, where what may differ is what its account may not see.
-use Rattle.std.proofs.Common.{◌≡◌, ℕ, zero, suc, nat_eq, Bool, true, false, List, [], ◌∷◌, length, Option, Some, None, refl, ap, sym, ◌∙◌, subst, inl, inr}
-use Rattle.std.specs.Prelude.{◌⊎◌, slice_get, slice_set}
-use Rattle.std.specs.List.{IsDistinct}
-use Rattle.std.specs.Map.{keys_of}
-use Rattle.std.specs.Cmp.Lexicographic.{pointwise}
-use Rattle.std.specs.Option.{option_flatten}
-use Rattle.mon_access.specs.declared.account.Account.{Account}
-use Rattle.mon_catalogue.specs.Sets.{Sets}
-use Rattle.interaction.specs.declared.request.Request.{Request}
-use Rattle.sno_run.specs.declared.ending.Step.{Step}
+use Rattle.std.proofs.Common.{◌≡◌, ℕ, zero, suc, nat_eq, Bool, true, false, List, [], ◌∷◌, length, Option, Some, None, refl, ap, sym, ◌∙◌, subst, inl, inr, ◌⊎◌, slice_get, slice_set}
+use Rattle.mon_monitor.proofs.Common.{IsDistinct, keys_of, pointwise, option_flatten, Account, Sets, Request, Step, requests_in, statements_in, Job, counted_turn, turn_of, UnitState, Reach, serve, Same, run_cut, run_alike, run_cut_alike, passed_alike, run_keeps_to_ties, cut_keeps_to_ties, SlotState, SchedulerState, seat_at, with_seat, job_in, reached, ran, after_turn, seat, told, Mark, passed_at, exchanges_at, counted, may_break, ran_as, turn_as, LooksAlike, Both, TiesFit, ReachesAgree, SchedulersAgree, TurnsAgree, turn_as_by, broken_by, Passed, Memory, Turned}
 use Rattle.sno_run.specs.declared.ending.Step.TheVariants as step
-use Rattle.interaction.specs.Counting.{Passed, requests_in, statements_in}
-use Rattle.sno_run.specs.declared.ending.Ending.TheVariants.{Memory}
-use Rattle.sno_run.specs.Jobs.{Job, counted_turn, turn_of}
-use Rattle.mon_unit.specs.State.{UnitState}
-use Rattle.mon_unit.specs.Serving.{Reach, serve}
-use Rattle.mon_unit.specs.Laws.{Same}
-use Rattle.mon_unit.specs.Runs.{run_cut}
-use Rattle.mon_unit.proofs.Runs.{run_alike, run_cut_alike, passed_alike}
-use Rattle.mon_unit.proofs.Looks.{run_keeps_to_ties, cut_keeps_to_ties}
-use Rattle.scheduler.specs.declared.turned.Turned.{Turned}
-use Rattle.scheduler.specs.States.{SlotState, SchedulerState, seat_at, with_seat, job_in}
-use Rattle.scheduler.specs.Turns.{reached, ran, after_turn, seat, told}
-use Rattle.scheduler.specs.Marks.{Mark, passed_at, exchanges_at, counted, may_break, ran_as, turn_as}
-use Rattle.mon_monitor.specs.Agreeing.{LooksAlike, Both, TiesFit, ReachesAgree, SchedulersAgree}
-use Rattle.mon_monitor.specs.Isolation.{TurnsAgree}
 use Rattle.mon_monitor.proofs.Requests.{requests_agree, ties_stay}
-use Rattle.scheduler.proofs.Shorthand.{turn_as_by, broken_by}
 
 -- who is in a seat after one was changed
 seated_after : (slots : List (Option SlotState)) (i j : ℕ) (o : Option SlotState) (x : SlotState)

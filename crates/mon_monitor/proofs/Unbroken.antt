@@ -1,29 +1,12 @@
 -- A turn ends no job for want of memory by itself, and a job that goes on has not ended.
 use Rattle.std.proofs.Common.{◌≡◌, ◌≢◌, Some, None, Option}
-use Rattle.interaction.specs.Interactions.{Interaction, Returns, Asks}
-use Rattle.interaction.specs.Endings.{EndsIn}
-use Rattle.interaction.proofs.Enough.{each_ends}
-use Rattle.interaction.specs.declared.request.Request.{Request}
-use Rattle.interaction.specs.declared.answer.Answer.{Answer}
-use Rattle.interaction.proofs.Counting.{plain_ends}
+use Rattle.mon_monitor.proofs.Common.{EndsIn, each_ends, Request, plain_ends, Halt, evaluate, name_of, keeping, Ending, Step, Job, ending_of, stepped, turn_from, turn_of, run, run_ends, Answer, Memory}
 use Rattle.sno_store.specs.declared.store.Store.{Store as State}
-use Rattle.sno_semantics.specs.declared.got.Halt.{Halt}
 use Rattle.sno_semantics.specs.declared.got.Halt.TheVariants as halt
-use Rattle.sno_semantics.specs.Evaluation.{evaluate, name_of}
 use Rattle.sno_semantics.specs.Running.{Turned, Goes, Ended, turn}
-use Rattle.sno_state.specs.State.{keeping}
-use Rattle.sno_run.specs.declared.ending.Ending.{Ending}
-use Rattle.sno_run.specs.declared.ending.Ending.TheVariants.{Memory}
-use Rattle.sno_run.specs.declared.ending.Step.{Step}
 use Rattle.sno_run.specs.declared.ending.Step.TheVariants as step
-use Rattle.sno_run.specs.Jobs.{Job, ending_of, stepped, turn_from, turn_of}
-use Rattle.mon_unit.specs.Runs.{run}
 
--- whoever replies, an interaction ends as it must
-run_ends : {S Q R A : Type 0} (P : A → Type 0) (reply : S → Q → R × S) (t : Interaction Q R A) (s : S) → EndsIn P t → P (run reply t s).0
-run_ends P reply (Returns a) s h = h
-run_ends P reply (Asks q f) s h = run_ends P reply (f (reply s q).0) (reply s q).1 (h (reply s q).0)
-
+-- a turn ends so, and goes on so
 abbrev pub Unbroken : Step × Job → Type 0
 Unbroken r = (r.0 ≢ step.Ended Memory) × (r.0 ≡ step.Goes → r.1.ended ≡ None)
 

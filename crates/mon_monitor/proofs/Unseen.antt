@@ -1,30 +1,10 @@
 -- What an account may not see does not show in what one call answers for it.
-use Rattle.std.proofs.Common.{◌≡◌, ℕ, List, Option, Result, Ok, Err, ap, sym, ◌∙◌, subst}
-use Rattle.std.specs.Prelude.{IfOk, IfErr, OnOk, OnErr}
-use Rattle.mon_text.specs.declared.stop.Stop.{Stop}
+use Rattle.std.proofs.Common.{◌≡◌, ℕ, List, Option, Result, Ok, Err, ap, sym, ◌∙◌, subst, IfOk, IfErr, OnOk, OnErr}
+use Rattle.mon_monitor.proofs.Common.{Stop, IfRefused, Account, Sets, Command, commanded, JobDeck, LoadError, Slots, slots_in, SlotState, SchedulerState, scheduler, job_loaded, Standing, TurnOr, SystemState, with_scheduler, with_sets, loading, Agree, turning, CommandIsolated, LoadIsolated, TurnIsolated, system, Turned}
 use Rattle.mon_text.specs.declared.stop.Stop.TheVariants.{Refused, Memory}
-use Rattle.sno_cards.specs.Answers.{IfRefused}
-use Rattle.mon_access.specs.declared.account.Account.{Account}
-use Rattle.mon_catalogue.specs.Sets.{Sets}
-use Rattle.mon_command.specs.declared.command.Command.{Command}
-use Rattle.mon_command.specs.Commanded.{commanded}
-use Rattle.deck_syntax.specs.declared.job_deck.JobDeck.{JobDeck}
-use Rattle.scheduler.specs.declared.refusal.LoadError.{LoadError}
-use Rattle.scheduler.specs.declared.turned.Turned.{Turned}
-use Rattle.scheduler.specs.declared.slots.Slots.{Slots}
-use Rattle.scheduler.specs.Abstraction.{slots_in}
-use Rattle.scheduler.specs.States.{SlotState, SchedulerState, scheduler}
-use Rattle.scheduler.specs.Loads.{job_loaded}
-use Rattle.mon_device.specs.Putting.{Standing}
-use Rattle.scheduler.specs.Turning.{TurnOr}
-use Rattle.mon_monitor.specs.SystemStates.{SystemState, with_scheduler, with_sets}
-use Rattle.mon_monitor.specs.Played.{loading}
-use Rattle.mon_monitor.specs.Agreeing.{Agree}
-use Rattle.mon_monitor.specs.Unseen.{turning, CommandIsolated, LoadIsolated, TurnIsolated}
 use Rattle.mon_monitor.proofs.Turning.{turns_agree}
 use Rattle.mon_monitor.proofs.Commands.{commands_agree}
 use Rattle.mon_monitor.proofs.Loading.{loads_agree}
-use Rattle.mon_monitor.specs.Abstraction.{system}
 
 -- a command
 command_shows_none : (command : Command) (w w' : SystemState) (told : List ℕ) → told ≡ (commanded w.accounts w.scheduler.sets command).printout

@@ -2,7 +2,7 @@
 -- room; to commands each line that they are told, and the names that `$CATALOG` shows.
 use Rattle.std.specs.Prelude.{◌≡◌, ◌≢◌, ◌≤◌, ◌<◌, ◌⊎◌, ℕ, List, [], ◌∷◌, length, take, None, Err}
 use Rattle.mon_acl.specs.declared.entries.Perms.{Perms}
-use Rattle.mon_acl.specs.Forms.{list_of_text}
+use Rattle.acl_text.specs.Forms.{list_of_text}
 use Rattle.mon_access.specs.declared.account.Account.{Account}
 use Rattle.mon_catalogue.specs.declared.mode.Mode.{Mode}
 use Rattle.mon_catalogue.specs.declared.mode.Mode.TheVariants.{Seq, Append}
@@ -11,8 +11,8 @@ use Rattle.mon_catalogue.specs.Sets.{Sets, find_set}
 use Rattle.mon_guard.specs.Deciding.{to_read, to_write}
 use Rattle.mon_guard.specs.Views.{NamePart, name_part}
 use Rattle.mon_guard.specs.Laws.{IsThere, IsGranted, MaySeeName, OwnsNamed}
-use Rattle.mon_command.specs.declared.command.Command.{Command}
-use Rattle.mon_command.specs.declared.command.Command.TheVariants.{Create, SetAcl}
+use Rattle.deck_lines.specs.declared.command.Command.{Command}
+use Rattle.deck_lines.specs.declared.command.Command.TheVariants.{Create, SetAcl}
 use Rattle.mon_command.specs.declared.reply.Reply.{Reply}
 use Rattle.mon_command.specs.declared.reply.Reply.TheVariants.{Done, Denied, NameTaken, CatalogueFull, BadList}
 use Rattle.mon_command.specs.Laws.{Changes, IsWhy}

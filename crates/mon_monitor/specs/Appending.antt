@@ -6,8 +6,8 @@ use Rattle.mon_catalogue.specs.declared.mode.Mode.TheVariants.{Append}
 use Rattle.mon_catalogue.specs.declared.data_set.DataSet.{DataSet}
 use Rattle.mon_catalogue.specs.Sets.{Sets}
 use Rattle.mon_guard.specs.Laws.{IsThere}
-use Rattle.mon_command.specs.declared.command.Command.{Command}
-use Rattle.mon_command.specs.declared.command.Command.TheVariants.{Delete}
+use Rattle.deck_lines.specs.declared.command.Command.{Command}
+use Rattle.deck_lines.specs.declared.command.Command.TheVariants.{Delete}
 use Rattle.mon_command.specs.declared.reply.Reply.TheVariants as reply
 use Rattle.mon_command.specs.Commanded as commands
 use Rattle.mon_command.specs.Commanded.{Told}

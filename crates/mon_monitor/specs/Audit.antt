@@ -1,11 +1,12 @@
 -- THE AUDIT (own): a line for each entry of the history, in its order, and behind that of a CATALOG one for each data set that it shows. What
--- a line has of a request, and of a command, mon_unit says; and of jobs, scheduler.
+-- a line has of a request, and of a command, the crate audit says; and of jobs, scheduler.
 use Rattle.std.specs.Prelude.{ℕ, List}
 use Rattle.std.specs.List.{flat_map}
 use Rattle.deck_syntax.specs.declared.job_deck.JobDeck.{JobDeck}
 use Rattle.scheduler.specs.Marks.{Marks}
-use Rattle.scheduler.specs.AuditLines.{loaded_line, refused_line, ended_line, exchanged_line}
-use Rattle.mon_unit.specs.AuditCommands.{ordered_lines}
+use Rattle.audit.specs.Commands.{ordered_lines}
+use Rattle.job_end.specs.AuditLines.{loaded_line, refused_line, ended_line}
+use Rattle.scheduler.specs.AuditLines.{exchanged_line}
 use Rattle.mon_monitor.specs.SystemStates.{SystemState}
 use Rattle.mon_monitor.specs.Events.{Event}
 use Rattle.mon_monitor.specs.Played.{loading}

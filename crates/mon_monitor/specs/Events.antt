@@ -1,6 +1,6 @@
 -- What may happen in a monitor (own).
 use Rattle.std.specs.Prelude.{ℕ}
-use Rattle.mon_command.specs.declared.command.Command.{Command}
+use Rattle.deck_lines.specs.declared.command.Command.{Command}
 use Rattle.deck_syntax.specs.declared.job_deck.JobDeck.{JobDeck}
 
 pub data Event : Type 0 where

@@ -7,18 +7,18 @@ use Rattle.mon_access.specs.declared.account.Account.{Account}
 use Rattle.mon_catalogue.specs.declared.data_set.DataSet.{DataSet}
 use Rattle.mon_catalogue.specs.Sets.{Sets}
 use Rattle.mon_guard.specs.Views.{AclPart, names_shown}
-use Rattle.mon_command.specs.declared.command.Command.{Command}
-use Rattle.mon_command.specs.declared.command.Command.TheVariants.{Create, Delete, SetAcl, ShowAcl, List as Listing, Catalog}
+use Rattle.deck_lines.specs.declared.command.Command.{Command}
+use Rattle.deck_lines.specs.declared.command.Command.TheVariants.{Create, Delete, SetAcl, ShowAcl, List as Listing, Catalog}
 use Rattle.mon_command.specs.declared.reply.Reply.TheVariants as reply
 use Rattle.mon_command.specs.Commanded as commands
 use Rattle.mon_command.specs.Commanded.{Told, Records, Shown}
 use Rattle.mon_unit.specs.declared.tie.Target.TheVariants.{Data}
 use Rattle.mon_unit.specs.Serving.{serve}
 use Rattle.mon_unit.specs.Laws.{target_of}
-use Rattle.mon_unit.specs.declared.audit_request.Asked.{Asked as Line}
-use Rattle.mon_unit.specs.AuditRequests.{asked_of}
-use Rattle.mon_unit.specs.declared.audit_grant.Grant.TheVariants.{AsOwner}
-use Rattle.mon_unit.specs.AuditGrants.{by_entry, known_grant}
+use Rattle.audit.specs.declared.request.AuditedRequest.{AuditedRequest as Line}
+use Rattle.audit.specs.Requests.{asked_of}
+use Rattle.audit.specs.declared.grants.Grant.TheVariants.{AsOwner}
+use Rattle.audit.specs.Grants.{by_entry, known_grant}
 use Rattle.scheduler.specs.Exchanged.{Exchanged}
 use Rattle.mon_monitor.specs.History.{Entry, Entered, Refused, Asked, Ended, Ordered}
 use Rattle.mon_monitor.specs.Headline.{IsRight}

@@ -21,11 +21,11 @@ use Rattle.mon_catalogue.specs.Sets.{Sets}
 use Rattle.interaction.specs.declared.answer.Reason.{Reason}
 use Rattle.mon_guard.specs.Views.{AclPart, NamePart}
 use Rattle.mon_guard.specs.Laws.{AreForReading, IsForSeeing}
-use Rattle.mon_command.specs.declared.command.Command.{Command}
-use Rattle.mon_command.specs.declared.command.Command.TheVariants.{Create, Delete, SetAcl, ShowAcl, List as Listing, Catalog}
+use Rattle.deck_lines.specs.declared.command.Command.{Command}
+use Rattle.deck_lines.specs.declared.command.Command.TheVariants.{Create, Delete, SetAcl, ShowAcl, List as Listing, Catalog}
 use Rattle.mon_command.specs.declared.reply.Reply.{Reply}
 use Rattle.mon_command.specs.declared.reply.Reply.TheVariants as reply
-use Rattle.mon_command.specs.Commands.{account_of}
+use Rattle.deck_lines.specs.Commands.{account_of}
 use Rattle.mon_command.specs.Commanded as commands
 use Rattle.mon_command.specs.Commanded.{Told, Records, Shown, Names, answered}
 use Rattle.mon_command.specs.Laws as commanding
@@ -40,8 +40,8 @@ use Rattle.mon_unit.specs.Serving.{serve, unit_of, note_act, note_target}
 use Rattle.mon_unit.specs.Laws as units
 use Rattle.mon_unit.specs.Laws.{target_of, ReadsDeck, ReadsSet, WhyDenied}
 use Rattle.deck_syntax.specs.declared.job_deck.JobDeck.{JobDeck}
-use Rattle.scheduler.specs.declared.job_end.JobEnd.{JobEnd}
-use Rattle.scheduler.specs.declared.refusal.LoadError.{LoadError}
+use Rattle.job_end.specs.declared.job_end.JobEnd.{JobEnd}
+use Rattle.load_refusal.specs.declared.load_error.LoadError.{LoadError}
 use Rattle.scheduler.specs.States.{SlotState, seat_at}
 use Rattle.scheduler.specs.Loads.{first_units, with_ties, program_in, deck_refusal}
 use Rattle.scheduler.specs.Marks.{Marks}

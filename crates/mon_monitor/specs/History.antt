@@ -6,15 +6,15 @@ use Rattle.std.specs.List.{flat_map}
 use Rattle.mon_access.specs.declared.account.Account.{Account}
 use Rattle.mon_access.specs.Accounts.{find_account}
 use Rattle.mon_catalogue.specs.Sets.{Sets}
-use Rattle.mon_command.specs.declared.command.Command.{Command}
-use Rattle.mon_command.specs.Commands.{account_of}
+use Rattle.deck_lines.specs.declared.command.Command.{Command}
+use Rattle.deck_lines.specs.Commands.{account_of}
 use Rattle.mon_command.specs.Commanded as commands
 use Rattle.mon_command.specs.Commanded.{answered, printed}
 use Rattle.deck_syntax.specs.declared.job_deck.JobDeck.{JobDeck}
-use Rattle.scheduler.specs.declared.job_end.JobEnd.{JobEnd}
-use Rattle.scheduler.specs.declared.refusal.LoadError.{LoadError}
-use Rattle.scheduler.specs.declared.turned.Turned.{Turned}
-use Rattle.scheduler.specs.declared.turned.Turned.TheVariants as turn
+use Rattle.job_end.specs.declared.job_end.JobEnd.{JobEnd}
+use Rattle.load_refusal.specs.declared.load_error.LoadError.{LoadError}
+use Rattle.job_end.specs.declared.turned.Turned.{Turned}
+use Rattle.job_end.specs.declared.turned.Turned.TheVariants as turn
 use Rattle.scheduler.specs.States.{SchedulerState, job_in}
 use Rattle.scheduler.specs.Marks.{Mark, Marks, mark_of, turn_as, never, rounds, turns_left, rounds_until, is_done, has_free_slot}
 use Rattle.scheduler.specs.Exchanged.{Exchanged, asked_in}

@@ -4,8 +4,8 @@ use Rattle.std.specs.Prelude.{◌≡◌, ℕ, List, Option}
 use Rattle.std.specs.List.{AllByRecursion}
 use Rattle.mon_access.specs.declared.account.Account.{Account}
 use Rattle.interaction.specs.declared.request.Request.{Request}
-use Rattle.mon_command.specs.declared.command.Command.{Command}
-use Rattle.mon_command.specs.Commands.{account_of}
+use Rattle.deck_lines.specs.declared.command.Command.{Command}
+use Rattle.deck_lines.specs.Commands.{account_of}
 use Rattle.mon_command.specs.Commanded.{commanded}
 use Rattle.deck_syntax.specs.declared.job_deck.JobDeck.{JobDeck}
 use Rattle.mon_unit.specs.Serving.{Reach, serve}

@@ -2,9 +2,9 @@
 use Rattle.std.specs.Prelude.{◌≡◌, ◌≢◌, ℕ, List, [], ◌++◌, length, None, Err}
 use Rattle.std.specs.List.{AllByRecursion}
 use Rattle.sno_run.specs.declared.ending.Ending.TheVariants.{Memory}
-use Rattle.mon_command.specs.declared.command.Command.{Command}
+use Rattle.deck_lines.specs.declared.command.Command.{Command}
 use Rattle.deck_syntax.specs.declared.job_deck.JobDeck.{JobDeck}
-use Rattle.scheduler.specs.declared.refusal.LoadError.TheVariants.{NoSlot}
+use Rattle.load_refusal.specs.declared.load_error.LoadError.TheVariants.{NoSlot}
 use Rattle.scheduler.specs.States.{job_in}
 use Rattle.scheduler.specs.Marks.{Marks, room}
 use Rattle.mon_monitor.specs.SystemStates.{SystemState, with_scheduler}

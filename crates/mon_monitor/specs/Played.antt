@@ -1,12 +1,11 @@
 -- What events do (own): each prints printouts and leaves a system. Memory may break turns off, as the marks say.
 use Rattle.std.specs.Prelude.{ℕ, List, [], ◌∷◌, ◌++◌, Result, Ok, Err, map, replicate}
-use Rattle.mon_command.specs.declared.command.Command.{Command}
+use Rattle.deck_lines.specs.declared.command.Command.{Command}
 use Rattle.mon_command.specs.Commanded.{answered, printed}
 use Rattle.deck_syntax.specs.declared.job_deck.JobDeck.{JobDeck}
-use Rattle.scheduler.specs.declared.refusal.LoadError.{LoadError}
+use Rattle.load_refusal.specs.declared.load_error.LoadError.{LoadError}
 use Rattle.scheduler.specs.Marks.{Marks, Past, until, never, rounds_until, is_done, has_free_slot}
 use Rattle.scheduler.specs.Loads.{job_loaded}
-use Rattle.scheduler.specs.States.{scheduler}
 use Rattle.mon_monitor.specs.SystemStates.{SystemState}
 use Rattle.mon_monitor.specs.Events.{Event, Serve, Load, Give, Drain}
 use Rattle.mon_monitor.specs.Printouts.{Printout, OfCommand, OfJob, OfRefused}

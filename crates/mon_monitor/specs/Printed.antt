@@ -4,9 +4,9 @@ use Rattle.std.specs.List.{flat_map}
 use Rattle.mon_catalogue.specs.declared.data_set.DataSet.{DataSet}
 use Rattle.mon_catalogue.specs.Sets.{Sets, find_set}
 use Rattle.mon_catalogue.specs.Text.{catalogue_text}
-use Rattle.mon_command.specs.declared.command.Command.TheVariants.{List as Listing}
+use Rattle.deck_lines.specs.declared.command.Command.TheVariants.{List as Listing}
 use Rattle.mon_command.specs.Commanded.{Records, printed}
-use Rattle.scheduler.specs.Printouts.{printout}
+use Rattle.job_end.specs.Printouts.{printout}
 use Rattle.mon_monitor.specs.declared.printed.Piece.{Piece}
 use Rattle.mon_monitor.specs.declared.printed.Piece.TheVariants as piece
 

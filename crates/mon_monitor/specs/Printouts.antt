@@ -1,10 +1,9 @@
 -- What is printed (own): a printout for each command, for each job that has ended, and for each that was not loaded.
-use Rattle.std.specs.Prelude.{ℕ, List, [], ◌∷◌, Result, Ok, Err}
+use Rattle.std.specs.Prelude.{ℕ, List}
 use Rattle.std.specs.List.{flat_map}
-use Rattle.deck_syntax.specs.declared.job_deck.JobDeck.{JobDeck}
-use Rattle.scheduler.specs.declared.job_end.JobEnd.{JobEnd}
-use Rattle.scheduler.specs.declared.refusal.LoadError.{LoadError}
-use Rattle.scheduler.specs.Printouts.{printout, refusal_text}
+use Rattle.job_end.specs.declared.job_end.JobEnd.{JobEnd}
+use Rattle.load_refusal.specs.declared.load_error.LoadError.{LoadError}
+use Rattle.job_end.specs.Printouts.{printout, refusal_text}
 
 pub data Printout : Type 0 where
   -- of a command: its printout

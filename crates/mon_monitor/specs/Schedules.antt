@@ -5,7 +5,7 @@ use Rattle.std.specs.List.{AllByRecursion}
 use Rattle.sno_run.specs.declared.ending.Ending.TheVariants.{Memory}
 use Rattle.mon_catalogue.specs.Sets.{NamesDiffer}
 use Rattle.mon_unit.specs.Laws.{Same, TiedTo}
-use Rattle.scheduler.specs.declared.job_end.JobEnd.{JobEnd}
+use Rattle.job_end.specs.declared.job_end.JobEnd.{JobEnd}
 use Rattle.scheduler.specs.States.{SlotState, SchedulerState, job_in}
 use Rattle.scheduler.specs.Ties.{Independent}
 use Rattle.scheduler.specs.Turns.{turns}

@@ -14,7 +14,7 @@ use Rattle.mon_catalogue.specs.Sets.{Sets}
 use Rattle.mon_command.specs.Commanded as commands
 use Rattle.mon_unit.specs.State.{UnitState}
 use Rattle.deck_syntax.specs.declared.job_deck.JobDeck.{JobDeck}
-use Rattle.scheduler.specs.declared.refusal.LoadError.{LoadError}
+use Rattle.load_refusal.specs.declared.load_error.LoadError.{LoadError}
 use Rattle.scheduler.specs.States.{SlotState, seat_at, with_seat}
 use Rattle.scheduler.specs.Loads.{slot_in}
 use Rattle.scheduler.specs.Turns.{seat, told}

@@ -2,12 +2,12 @@
 -- the system w has answered `told` and left w'; v is any system that the account can't tell from w.
 use Rattle.std.specs.Prelude.{◌≡◌, ℕ, List, Option, Result}
 use Rattle.mon_access.specs.declared.account.Account.{Account}
-use Rattle.mon_command.specs.declared.command.Command.{Command}
-use Rattle.mon_command.specs.Commands.{account_of}
+use Rattle.deck_lines.specs.declared.command.Command.{Command}
+use Rattle.deck_lines.specs.Commands.{account_of}
 use Rattle.mon_command.specs.Commanded.{commanded}
 use Rattle.deck_syntax.specs.declared.job_deck.JobDeck.{JobDeck}
-use Rattle.scheduler.specs.declared.refusal.LoadError.{LoadError}
-use Rattle.scheduler.specs.declared.turned.Turned.{Turned}
+use Rattle.load_refusal.specs.declared.load_error.LoadError.{LoadError}
+use Rattle.job_end.specs.declared.turned.Turned.{Turned}
 use Rattle.scheduler.specs.Marks.{Mark, turn_as}
 use Rattle.mon_monitor.specs.SystemStates.{SystemState, with_scheduler, with_sets}
 use Rattle.mon_monitor.specs.Played.{loading}

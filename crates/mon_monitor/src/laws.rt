@@ -102,8 +102,8 @@ pub fn reads_see_writes()
 pub fn accesses_are_named()
     ensures { AccessesAreNamed }
 {
-    mon_unit::audit_laws::entries_are_named();
-    mon_unit::audit_laws::grants_are_named();
-    mon_unit::audit_laws::changes_are_named();
+    audit::laws::entries_are_named();
+    audit::laws::grants_are_named();
+    audit::laws::changes_are_named();
     mon_guard::laws::lends_where_granted();
 }

@@ -6,7 +6,7 @@
 //! jobs on data sets of their own don't depend on the schedule: `isolation` has these laws, and the calls say it of themselves.
 #![tactic(auto)]
 
-pub mod happening;
+pub mod events;
 pub mod isolation;
 pub mod laws;
 mod listing;

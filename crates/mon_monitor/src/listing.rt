@@ -1,13 +1,13 @@
 //! The printout of a command that lists records, put to a sink from where they stand. Nothing here takes memory.
 ghost use Rattle.std.specs.Prelude.{codes};
 ghost use Rattle.mon_device.specs.Putting.{Puts};
-ghost use Rattle.mon_command.specs.Printouts.{word, count_line, records_text};
+ghost use Rattle.mon_command.specs.Printouts.{count_line, records_text};
 ghost use Rattle.mon_command.specs.Commands.{card_line};
 ghost use Rattle.mon_catalogue.specs.Sets.{find_set};
 ghost use Rattle.mon_monitor.specs.Printed.{listing, records_of};
 
 use mon_catalogue::{Catalogue, Records};
-use mon_command::print_number;
+use mon_command::{print_number, print_word};
 use mon_device::Sink;
 use mon_text::Name;
 
@@ -23,16 +23,9 @@ fn print_card<S: Sink>(account: &Name, name: &Name, sink: &mut S)
     ensures { Puts (S.standing sink.old) (S.standing sink.new) (card_line (codes "LIST") account.now name.now) }
 {
     sink.put(b"LIST");
-    print_name(account, sink);
-    print_name(name, sink);
+    print_word(account.as_bytes(), sink);
+    print_word(name.as_bytes(), sink);
     sink.put(b"\n");
-}
-
-fn print_name<S: Sink>(name: &Name, sink: &mut S)
-    ensures { Puts (S.standing sink.old) (S.standing sink.new) (word name.now) }
-{
-    sink.put(b" ");
-    sink.put(name.as_bytes());
 }
 
 fn print_set<S: Sink>(sets: &Catalogue, name: &Name, sink: &mut S)

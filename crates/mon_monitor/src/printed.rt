@@ -2,7 +2,7 @@
 ghost use Rattle.std.specs.Prelude.{◌≡◌, ◌≤◌, ◌++◌, [], true, false, length, IfOk, OnOk, OnErr};
 ghost use Rattle.std.specs.List.{flat_map};
 ghost use Rattle.mon_device.specs.Putting.{Puts};
-ghost use Rattle.scheduler.specs.Printouts.{printout};
+ghost use Rattle.job_end.specs.Printouts.{printout};
 ghost use Rattle.mon_monitor.specs.Printed.{given_back, piece_text, pieces_text};
 
 use crate::listing::print_listing;

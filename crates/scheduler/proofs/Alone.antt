@@ -1,28 +1,7 @@
 -- Turns of a job that is alone: each is a round.
-use Rattle.std.proofs.Common.{◌≡◌, ◌≢◌, ℕ, zero, suc, ◌+◌, ◌-◌, ◌<◌, ◌≤◌, true, false, List, [], ◌∷◌, length, Option, Some, None, refl, ap, sym, ◌∙◌, subst, inl, inr, arith}
-use Rattle.std.proofs.lemmas.Iterator.Adapters.{position_from-zero}
-use Rattle.std.specs.Prelude.{◌⊎◌, is_some, is_none, IsSome, slice_get, slice_set, position, drop}
-use Rattle.std.specs.List.{range_with_len, position_from, list_all}
-use Rattle.std.specs.Option.{option_flatten}
-use Rattle.mon_device.specs.Putting.{Standing, Puts}
-use Rattle.mon_device.proofs.Putting.{puts_nothing}
-use Rattle.mon_catalogue.specs.Sets.{Sets}
-use Rattle.sno_run.specs.declared.ending.Ending.{Ending}
-use Rattle.sno_run.specs.declared.ending.Step.{Step}
+use Rattle.std.proofs.Common.{◌≡◌, ◌≢◌, ℕ, zero, suc, ◌+◌, ◌-◌, ◌<◌, ◌≤◌, true, false, List, [], ◌∷◌, length, Option, Some, None, refl, ap, sym, ◌∙◌, subst, inl, inr, arith, ◌⊎◌, is_some, is_none, IsSome, slice_get, slice_set, position, drop}
+use Rattle.scheduler.proofs.Common.{position_from-zero, range_with_len, position_from, list_all, option_flatten, Standing, Puts, puts_nothing, Sets, Ending, Step, JobEnd, Slot, Empty, seat_of, seats_of, SlotState, SchedulerState, scheduler, seat_at, with_seat, job_in, job_end, seat, turns_left, is_done, end_lines, TurnOr, ended_in, Stepped, jobs_in, Ahead, Going, IsLone, GoesOn, GoesToEnd, EndStays, SeatEnds, LoneEnds, Turned, Goes, told}
 use Rattle.sno_run.specs.declared.ending.Step.TheVariants as step
-use Rattle.scheduler.specs.declared.job_end.JobEnd.{JobEnd}
-use Rattle.scheduler.specs.declared.slot.Slot.{Slot}
-use Rattle.scheduler.specs.declared.turned.Turned.{Turned}
-use Rattle.scheduler.specs.declared.turned.Turned.TheVariants.{Empty, Goes}
-use Rattle.scheduler.specs.Abstraction.{seat_of, seats_of}
-use Rattle.scheduler.specs.States.{SlotState, SchedulerState, scheduler, seat_at, with_seat, job_in}
-use Rattle.scheduler.specs.Turns.{job_end, seat, told}
-use Rattle.scheduler.specs.Marks.{turns_left, is_done}
-use Rattle.scheduler.specs.AuditLines.{end_lines}
-use Rattle.scheduler.specs.Turning.{TurnOr, ended_in}
-use Rattle.scheduler.specs.inner.Stepping.{Stepped, jobs_in}
-use Rattle.scheduler.specs.inner.Rounding.{Ahead, Going}
-use Rattle.scheduler.specs.inner.Alone.{IsLone, GoesOn, GoesToEnd, EndStays, SeatEnds, LoneEnds}
 use Rattle.scheduler.proofs.Shorthand.{turns_ahead}
 use Rattle.scheduler.proofs.Seats.{set_get, set_set, map_set, none_at, none_of, seated_not_done}
 use Rattle.scheduler.proofs.Seating.{seat_changed, taken_seat}

@@ -1,16 +1,6 @@
 -- Whether no data set is tied by units of two slots can be told.
-use Rattle.std.proofs.Common.{◌≡◌, ◌≢◌, ℕ, zero, suc, ◌<◌, Bool, true, false, List, [], ◌∷◌, Option, Some, None, option_map, refl, ap, sym, ◌∙◌, subst, inl, inr, arith}
-use Rattle.std.specs.Prelude.{◌⊎◌, ◌↔◌, not, ◌&&◌, slice_get, nat_lt}
-use Rattle.std.specs.List.{list_any}
-use Rattle.std.proofs.lemmas.Map.Keys.{any_passes_from_place}
-use Rattle.std.specs.Option.{option_flatten}
-use Rattle.mon_catalogue.specs.Sets.{Sets}
-use Rattle.mon_unit.specs.Laws.{TiedTo}
-use Rattle.scheduler.specs.declared.slot.Slot.{Slot}
-use Rattle.scheduler.specs.States.{SlotState, scheduler, seat_at}
-use Rattle.scheduler.specs.Abstraction.{slot_of, seat_of, seats_of}
-use Rattle.scheduler.specs.Ties.{Independent}
-use Rattle.scheduler.specs.inner.Sharing.{seats_share, are_apart}
+use Rattle.std.proofs.Common.{◌≡◌, ◌≢◌, ℕ, zero, suc, ◌<◌, Bool, true, false, List, [], ◌∷◌, Option, Some, None, option_map, refl, ap, sym, ◌∙◌, subst, inl, inr, arith, ◌⊎◌, ◌↔◌, not, ◌&&◌, slice_get, nat_lt}
+use Rattle.scheduler.proofs.Common.{list_any, any_passes_from_place, option_flatten, Sets, TiedTo, Slot, SlotState, scheduler, seat_at, slot_of, seat_of, seats_of, Independent, seats_share, are_apart}
 use Rattle.scheduler.proofs.Seats.{map_get}
 use Rattle.scheduler.proofs.Shared.{any_place, shared_set, they_share}
 

@@ -1,26 +1,6 @@
 -- What is put to an audit along a turn: the lines of all that is asked in it.
 use Rattle.std.proofs.Common.{◌≡◌, ℕ, List, [], ◌∷◌, ◌++◌, length, take, sym, ap, ◌∙◌, subst}
-use Rattle.interaction.specs.Interactions.{Returns, Asks}
-use Rattle.interaction.specs.Exchanges.{AnswersAll}
-use Rattle.interaction.specs.declared.request.Request.{Request}
-use Rattle.interaction.specs.declared.answer.Answer.{Answer}
-use Rattle.interaction.specs.Asking.{Asking, Exchange, IsTrace, IsTracePrefix}
-use Rattle.mon_access.specs.declared.account.Account.{Account}
-use Rattle.mon_device.specs.Putting.{Standing, Puts}
-use Rattle.mon_device.proofs.Putting.{puts_nothing, puts_then}
-use Rattle.mon_unit.specs.declared.service.UnitService.{UnitService}
-use Rattle.mon_unit.specs.Serving.{Reach, serve}
-use Rattle.mon_unit.specs.Lent.{UnitAnswers, reach_of}
-use Rattle.mon_unit.specs.State.{UnitState}
-use Rattle.mon_catalogue.specs.Sets.{Sets}
-use Rattle.mon_unit.specs.AuditedAnswers.{exchange_line, Audited}
-use Rattle.mon_unit.specs.declared.kept.KeptLines.{KeptLines}
-use Rattle.mon_unit.specs.inner.Keeping.{KeptFits}
-use Rattle.scheduler.specs.Exchanged.{asked_by}
-use Rattle.scheduler.specs.AuditLines.{exchanged_lines}
-use Rattle.sno_run.specs.declared.ending.Step.{Step}
-use Rattle.sno_run.specs.Jobs.{Job}
-use Rattle.scheduler.specs.inner.Stepping.{Done, StillKept}
+use Rattle.scheduler.proofs.Common.{Returns, Asks, AnswersAll, Request, Answer, Asking, Exchange, IsTrace, IsTracePrefix, Account, Standing, Puts, puts_nothing, puts_then, UnitService, Reach, serve, UnitAnswers, reach_of, UnitState, Sets, exchange_line, Audited, AuditCache, KeptFits, asked_by, exchanged_lines, Step, Job, Done, StillKept}
 
 module _ {T : Type 0} (number : T → ℕ) (unit : T → UnitService) (standing : T → Standing) (answers : T → Request → Answer → T → Type 0)
     (each : (s : T) (q : Request) (r : Answer) (m : T) → answers s q r m → Audited (number s) (unit s) (standing s) q r (number m) (unit m) (standing m)) where
@@ -87,13 +67,13 @@ done_as n job s st job' t t' p q q' left stands done =
     subst (λ (v : UnitService). Done n job s st job' v p q') (sym left) (subst (λ (y : Standing). Done n job s st job' t p y) (sym stands) done)
 
 -- and words that are kept
-pub still_kept : (n : ℕ) (s s' : UnitService) (k k' : KeptLines) → k.number ≡ n → s' ≡ s → k' ≡ k → KeptFits k.number s.account.now (reach_of s) k → StillKept n s' k'
+pub still_kept : (n : ℕ) (s s' : UnitService) (k k' : AuditCache) → k.number ≡ n → s' ≡ s → k' ≡ k → KeptFits k.number s.account.now (reach_of s) k → StillKept n s' k'
 still_kept n s s' k k' number service kept fits =
     subst (λ (x : UnitService). StillKept n x k') (sym service)
-    (subst (λ (x : KeptLines). StillKept n s x) (sym kept)
+    (subst (λ (x : AuditCache). StillKept n s x) (sym kept)
     (record { number = number; fits = subst (λ (x : ℕ). KeptFits x s.account.now (reach_of s) k) number fits }))
 
-pub kept_given : (n : ℕ) (s : UnitService) (account : Account) (sets : Sets) (units : UnitState) (kept : KeptLines) → StillKept n s kept → s.account.now ≡ account
+pub kept_given : (n : ℕ) (s : UnitService) (account : Account) (sets : Sets) (units : UnitState) (kept : AuditCache) → StillKept n s kept → s.account.now ≡ account
     → reach_of s ≡ record { sets = sets; units = units } → KeptFits n account (record { sets = sets; units = units }) kept
 kept_given n s account sets units kept still is reach =
     subst (λ (a : Account). KeptFits n a (record { sets = sets; units = units }) kept) is (subst (λ (r : Reach). KeptFits n s.account.now r kept) reach still.fits)
@@ -102,5 +82,5 @@ kept_given n s account sets units kept still is reach =
 pub done_of : (n n' : ℕ) (job : Job) (s : UnitService) (st : Step) (job' : Job) (s' : UnitService) (p q : Standing) → n ≡ n' → Done n job s st job' s' p q → Done n' job s st job' s' p q
 done_of n n' job s st job' s' p q same done = subst (λ (x : ℕ). Done x job s st job' s' p q) same done
 
-pub kept_of : (n n' : ℕ) (s : UnitService) (kept : KeptLines) → n ≡ n' → StillKept n s kept → StillKept n' s kept
+pub kept_of : (n n' : ℕ) (s : UnitService) (kept : AuditCache) → n ≡ n' → StillKept n s kept → StillKept n' s kept
 kept_of n n' s kept same still = subst (λ (x : ℕ). StillKept x s kept) same still

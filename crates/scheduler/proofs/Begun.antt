@@ -1,36 +1,13 @@
 -- A turn ends its job, or begins one of the statements that are left.
-use Rattle.std.proofs.Common.{◌≡◌, ℕ, suc, ◌+◌, ◌<◌, ◌≤◌, Option, Some, None, refl, sym, ap, ◌∙◌, subst, inl, inr, arith}
-use Rattle.std.specs.Prelude.{◌⊎◌, slice_get}
-use Rattle.std.specs.Option.{option_map_or}
-use Rattle.interaction.specs.Interactions.{Interaction, Returns, Asks, ◌>>=◌}
-use Rattle.interaction.specs.Endings.{EndsIn}
-use Rattle.interaction.proofs.Enough.{ends_in_then, each_ends}
-use Rattle.interaction.specs.declared.request.Request.{Request}
-use Rattle.interaction.specs.declared.answer.Answer.{Answer}
-use Rattle.interaction.specs.Asking.{Asking}
-use Rattle.interaction.specs.Counting.{Counted, plain}
-use Rattle.interaction.proofs.Counting.{plain_then, plain_ends}
-use Rattle.sno_expression.specs.Expressions.{Expression}
+use Rattle.std.proofs.Common.{◌≡◌, ℕ, suc, ◌+◌, ◌<◌, ◌≤◌, Option, Some, None, refl, sym, ap, ◌∙◌, subst, inl, inr, arith, ◌⊎◌, slice_get}
+use Rattle.scheduler.proofs.Common.{option_map_or, Interaction, Returns, Asks, EndsIn, ends_in_then, each_ends, Request, Answer, Asking, Counted, plain, plain_then, plain_ends, Expression, Normal, StatementLimit, Evaluated, evaluate, name_of, Jump, On, Over, Line, Lines, Point, At, End, Return, FailureReturn, executed, if_begun, settled, turn_line, same_runs, executed_same, Limits, keeping, allowed, state_counts, Ending, Step, Job, ending_of, stepped, turn_from, turn_of, run, run_bind}
+use Rattle.interaction.specs.Interactions.{◌>>=◌}
 use Rattle.sno_store.specs.declared.store.Store.{Store as State}
-use Rattle.sno_semantics.specs.declared.got.Halt.TheVariants.{Normal, StatementLimit}
-use Rattle.sno_semantics.specs.declared.got.Evaluated.{Evaluated}
-use Rattle.sno_semantics.specs.Evaluation.{evaluate, name_of}
-use Rattle.sno_semantics.specs.Execution.{Jump, On, Over}
-use Rattle.sno_semantics.specs.Lines.{Line, Lines, Point, At, End, Return, FailureReturn}
-use Rattle.sno_semantics.specs.Running.{Turned, Goes, Ended, executed, if_begun, run as runs, settled, turn_line, turn}
-use Rattle.sno_semantics.proofs.Depth.{same_runs, executed_same}
-use Rattle.sno_cards.specs.declared.limits.Limits.{Limits}
-use Rattle.sno_state.specs.State.{keeping, allowed}
-use Rattle.sno_state.proofs.Counting.{state_counts}
-use Rattle.sno_run.specs.declared.ending.Ending.{Ending}
-use Rattle.sno_run.specs.declared.ending.Step.{Step}
+use Rattle.sno_semantics.specs.Running.{Turned, Goes, Ended, run as runs, turn}
 use Rattle.sno_run.specs.declared.ending.Step.TheVariants as step
-use Rattle.sno_run.specs.Jobs.{Job, ending_of, stepped, turn_from, turn_of}
-use Rattle.mon_unit.specs.Runs.{run}
-use Rattle.mon_unit.proofs.Runs.{run_bind}
 
 -- whoever replies, an interaction ends as it must
-run_ends : {S Q R A : Type 0} (P : A → Type 0) (reply : S → Q → R × S) (t : Interaction Q R A) (s : S) → EndsIn P t → P (run reply t s).0
+pub run_ends : {S Q R A : Type 0} (P : A → Type 0) (reply : S → Q → R × S) (t : Interaction Q R A) (s : S) → EndsIn P t → P (run reply t s).0
 run_ends P reply (Returns a) s h = h
 run_ends P reply (Asks q f) s h = run_ends P reply (f (reply s q).0) (reply s q).1 (h (reply s q).0)
 

@@ -1,41 +1,10 @@
 -- What the calls do is what the definitions say.
-use Rattle.std.proofs.Common.{◌≡◌, ℕ, zero, suc, ◌+◌, ◌<◌, ◌≤◌, Bool, true, false, List, [], ◌∷◌, ◌++◌, length, take, Option, Some, None, refl, ap, sym, ◌∙◌, subst, inl, inr, arith}
-use Rattle.std.specs.Prelude.{◌⊎◌, ◌&&◌, option_map, is_some, is_none, IsSome, IfSome, slice_get, slice_set, slice_index_or}
-use Rattle.std.proofs.lemmas.Option.{slice_get_read}
-use Rattle.std.specs.Option.{option_flatten}
-use Rattle.interaction.specs.Exchanges.{AnswersAll}
-use Rattle.interaction.specs.Asking.{Exchange, IsTrace, IsTracePrefix}
-use Rattle.interaction.specs.Counting.{Passed, requests_in, statements_in}
+use Rattle.std.proofs.Common.{◌≡◌, ℕ, zero, suc, ◌+◌, ◌<◌, ◌≤◌, Bool, true, false, List, [], ◌∷◌, ◌++◌, length, take, Option, Some, None, refl, ap, sym, ◌∙◌, subst, inl, inr, arith, ◌⊎◌, ◌&&◌, option_map, is_some, is_none, IsSome, IfSome, slice_get, slice_set, slice_index_or}
+use Rattle.scheduler.proofs.Common.{slice_get_read, option_flatten, AnswersAll, Exchange, IsTrace, IsTracePrefix, requests_in, statements_in, plain_begun, Step, may_begin, Ending, Job, counted_turn, turn_of, Broken, TurnIs, MayBegin, statements_begun, statement_at, Account, Standing, Puts, puts_nothing, puts_same, puts_then, puts_failed, puts_gathered, Sets, UnitService, run, run_cut, Reach, serve, UnitAnswers, reach_of, served_run, served_cut, served_passed, JobEnd, Slot, Empty, seat_of, seats_of, SlotState, SchedulerState, scheduler, seat_at, with_seat, job_in, reached, after_turn, job_end, seat, turned, Mark, passed_at, exchanges_at, counted, may_break, ran_as, turn_as, Exchanged, asked_by, whole_turn, asked_in, broken_turn, ended_line, exchanged_lines, end_lines, turn_lines, TurnOr, ended_in, Cut, BrokenOff, Whole, Stepped, SeatStep, Leaving, StepOr, one_in, jobs_in, Memory, Turned, Goes, Ended, told}
+use Rattle.interaction.specs.Counting.{Passed}
 use Rattle.interaction.specs.Counting as counting
-use Rattle.interaction.proofs.Counting.{plain_begun}
-use Rattle.sno_run.specs.declared.ending.Step.{Step}
 use Rattle.sno_run.specs.declared.ending.Step.TheVariants as step
-use Rattle.sno_run.specs.declared.ending.Ending.TheVariants.{Memory}
-use Rattle.sno_store.specs.States.{may_begin}
-use Rattle.sno_run.specs.declared.ending.Ending.{Ending}
-use Rattle.sno_run.specs.Jobs.{Job, counted_turn, turn_of, Broken, TurnIs, MayBegin, statements_begun, statement_at}
-use Rattle.mon_access.specs.declared.account.Account.{Account}
-use Rattle.mon_device.specs.Putting.{Standing, Puts}
-use Rattle.mon_device.proofs.Putting.{puts_nothing, puts_same, puts_then, puts_failed, puts_gathered}
-use Rattle.mon_catalogue.specs.Sets.{Sets}
-use Rattle.mon_unit.specs.declared.service.UnitService.{UnitService}
-use Rattle.mon_unit.specs.Runs.{run, run_cut, passed}
-use Rattle.mon_unit.specs.Serving.{Reach, serve}
-use Rattle.mon_unit.specs.Lent.{UnitAnswers, reach_of}
-use Rattle.mon_unit.proofs.Loans.{served_run, served_cut, served_passed}
-use Rattle.scheduler.specs.declared.job_end.JobEnd.{JobEnd}
-use Rattle.scheduler.specs.declared.slot.Slot.{Slot}
-use Rattle.scheduler.specs.declared.turned.Turned.{Turned}
-use Rattle.scheduler.specs.declared.turned.Turned.TheVariants.{Empty, Goes, Ended}
-use Rattle.scheduler.specs.Abstraction.{seat_of, seats_of}
-use Rattle.scheduler.specs.States.{SlotState, SchedulerState, scheduler, seat_at, with_seat, job_in}
-use Rattle.scheduler.specs.Turns.{reached, after_turn, job_end, seat, told, turned}
-use Rattle.scheduler.specs.Marks.{Mark, passed_at, exchanges_at, counted, may_break, ran_as, turn_as}
-use Rattle.scheduler.specs.Exchanged.{Exchanged, asked_by, whole_turn, asked_in}
-use Rattle.scheduler.specs.inner.Parts.{broken_turn}
-use Rattle.scheduler.specs.AuditLines.{exchanged_lines, ended_line, end_lines, turn_lines}
-use Rattle.scheduler.specs.Turning.{TurnOr, ended_in}
-use Rattle.scheduler.specs.inner.Stepping.{Cut, BrokenOff, Whole, Stepped, SeatStep, Leaving, StepOr, one_in, jobs_in}
+use Rattle.mon_unit.specs.Runs.{passed}
 use Rattle.scheduler.proofs.Seats.{set_get, get_set, set_set, map_get, map_set}
 use Rattle.scheduler.proofs.Shorthand.{turn_as_by, broken_by}
 

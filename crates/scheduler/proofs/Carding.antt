@@ -1,19 +1,8 @@
 -- Unit cards are refused by which units are tied already.
-use Rattle.std.proofs.Common.{◌≡◌, ℕ, zero, suc, ◌+◌, ◌<◌, ◌≤◌, Bool, true, false, List, [], ◌∷◌, length, get_or, drop, Some, None, refl, sym, ap, ◌∙◌}
-use Rattle.std.proofs.lemmas.List.{at_drop_more, at_drop_all}
-use Rattle.std.specs.Prelude.{map, replicate, nat_lt, ◌==◌, ◌||◌, if◌then◌else◌, slice_get, slice_set}
-use Rattle.std.specs.Option.{option_or}
-use Rattle.mon_unit.specs.declared.tie.Target.TheVariants.{Set}
-use Rattle.mon_unit.specs.declared.tie.Tie.{Tie}
-use Rattle.mon_unit.specs.declared.units.UnitError.{UnitError}
-use Rattle.mon_unit.specs.declared.units.UnitError.TheVariants.{UnitRange, UnitTwice}
-use Rattle.mon_unit.specs.State.{UnitState}
-use Rattle.mon_unit.specs.Tying.{new_units, is_a_set, tied_to, tie_refusal}
-use Rattle.deck_syntax.specs.declared.job_deck.UnitCard.{UnitCard}
-use Rattle.scheduler.specs.Loads.{tied_by, ties_refusal, refused_by}
-use Rattle.scheduler.specs.inner.Carding.{cards_refused}
+use Rattle.std.proofs.Common.{◌≡◌, ℕ, zero, suc, ◌+◌, ◌<◌, ◌≤◌, Bool, true, false, List, [], ◌∷◌, length, get_or, drop, Some, None, refl, sym, ap, ◌∙◌, map, option_map, replicate, nat_lt, ◌==◌, ◌||◌, if◌then◌else◌, slice_get, slice_set}
+use Rattle.scheduler.proofs.Common.{at_drop_more, at_drop_all, option_or, Set, Tie, UnitError, UnitRange, UnitTwice, UnitState, new_units, is_a_set, tied_to, tie_refusal, statements_of, find_account, NoAccount, Cards, UnitCard, refused_by, tied_by, ties_refusal, ToldByCards, cards_refused, missing, program_refusal, or_untied}
 use Rattle.scheduler.proofs.Seats.{map_set}
-use Rattle.mon_unit.proofs.Shorthand.{or_untied}
+use Rattle.scheduler.proofs.Shorthand.{data_of}
 
 abbrev pub is_tied : Tie → Bool
 is_tied tie = is_a_set tie.target
@@ -53,3 +42,9 @@ stops_at cards lines i card tied refusal so_far lt is some =
 pub none_stops : (cards : List UnitCard) (lines : List (List ℕ)) (i : ℕ) (tied : List Bool)
     → cards_refused cards (replicate 100 false) ≡ cards_refused (drop i cards) tied → length cards ≤ i → None ≡ ties_refusal cards (new_units lines)
 none_stops cards lines i tied so_far le = sym (all_by cards lines ∙ so_far ∙ at_drop_all (λ (cs : List UnitCard). cards_refused cs tied) cards i le)
+
+-- so is the whole job
+pub told : ToldByCards
+told accounts deck =
+    ap (λ o. option_or (missing NoAccount (find_account accounts deck.account)) (option_or (option_map Cards o) (program_refusal (statements_of deck.lines))))
+    (all_by deck.ties (data_of deck.lines (statements_of deck.lines)))

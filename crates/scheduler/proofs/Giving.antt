@@ -1,21 +1,7 @@
 -- Turns of one slot, until it is empty.
-use Rattle.std.proofs.Common.{◌≡◌, ℕ, zero, suc, ◌+◌, ◌-◌, ◌<◌, List, [], ◌∷◌, ◌++◌, Option, Some, None, replicate, refl, ap, sym, ◌∙◌, subst, arith, append_assoc}
-use Rattle.std.specs.Prelude.{slice_get, slice_set}
-use Rattle.std.specs.Option.{option_flatten}
-use Rattle.sno_run.specs.declared.ending.Step.{Step}
+use Rattle.std.proofs.Common.{◌≡◌, ℕ, zero, suc, ◌+◌, ◌-◌, ◌<◌, List, [], ◌∷◌, ◌++◌, Option, Some, None, replicate, refl, ap, sym, ◌∙◌, subst, arith, append_assoc, slice_get, slice_set}
+use Rattle.scheduler.proofs.Common.{option_flatten, Step, Standing, JobEnd, Empty, SlotState, SchedulerState, seat_at, with_seat, job_in, after_turn, job_end, seat, ends_by, Mark, Marks, ran_as, nothing, until, never, ends_then, asked_in, exchanged_lines, end_lines, lines_until, TurnOr, UntilIs, MarkedIs, Ahead, Turned, Goes, Ended, told}
 use Rattle.sno_run.specs.declared.ending.Step.TheVariants as step
-use Rattle.mon_device.specs.Putting.{Standing}
-use Rattle.scheduler.specs.declared.job_end.JobEnd.{JobEnd}
-use Rattle.scheduler.specs.declared.turned.Turned.{Turned}
-use Rattle.scheduler.specs.declared.turned.Turned.TheVariants.{Empty, Goes, Ended}
-use Rattle.scheduler.specs.States.{SlotState, SchedulerState, seat_at, with_seat, job_in}
-use Rattle.scheduler.specs.Turns.{after_turn, job_end, seat, told, ends_by}
-use Rattle.scheduler.specs.Marks.{Mark, Marks, ran_as, nothing, until, never}
-use Rattle.scheduler.specs.inner.Parts.{ends_then}
-use Rattle.scheduler.specs.Exchanged.{asked_in}
-use Rattle.scheduler.specs.AuditLines.{exchanged_lines, end_lines, lines_until}
-use Rattle.scheduler.specs.Turning.{TurnOr, UntilIs, MarkedIs}
-use Rattle.scheduler.specs.inner.Rounding.{Ahead}
 use Rattle.scheduler.proofs.Rounding.{append_empty, passed, begin, ahead_more}
 use Rattle.scheduler.proofs.Shorthand.{turn_as_by}
 

@@ -1,3 +1,4 @@
+pub mod Common
 pub mod Shorthand
 pub mod Seats
 pub mod Seating
@@ -13,4 +14,3 @@ pub mod Loads
 mod Shared
 mod Apart
 pub mod Carding
-mod Examples

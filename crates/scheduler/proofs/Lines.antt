@@ -1,10 +1,6 @@
 -- The lines of turns until a scheduler is one to stop at, and of rounds of them: they go as the turns do.
-use Rattle.std.proofs.Common.{◌≡◌, ℕ, zero, suc, ◌≤◌, Bool, true, false, List, [], ◌∷◌, ◌++◌, length, refl, ap, sym, ◌∙◌, inl, inr, arith, append_assoc}
-use Rattle.std.specs.Prelude.{if◌then◌else◌, drop}
-use Rattle.std.specs.List.{range_with_len}
-use Rattle.scheduler.specs.States.{SchedulerState}
-use Rattle.scheduler.specs.Marks.{Marks, mark_of, turn_as, Past, until, rounds, turns_left, is_done}
-use Rattle.scheduler.specs.AuditLines.{turn_lines, lines_until}
+use Rattle.std.proofs.Common.{◌≡◌, ℕ, zero, suc, ◌≤◌, Bool, true, false, List, [], ◌∷◌, ◌++◌, length, refl, ap, sym, ◌∙◌, inl, inr, arith, append_assoc, if◌then◌else◌, drop}
+use Rattle.scheduler.proofs.Common.{range_with_len, SchedulerState, Marks, mark_of, turn_as, Past, until, rounds, turns_left, is_done, turn_lines, lines_until}
 use Rattle.scheduler.proofs.Past.{either_way, until_stops, until_goes, until_length, none_left, round_falls}
 
 module _ (stop : SchedulerState → Bool) where

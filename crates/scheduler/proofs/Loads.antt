@@ -1,33 +1,7 @@
 -- What is loaded, and what is refused.
-use Rattle.std.proofs.Common.{◌≡◌, ℕ, suc, ◌+◌, ◌<◌, List, [], ◌∷◌, length, Option, Some, None, Result, Ok, Err, refl, ap, sym, ◌∙◌, subst, arith}
-use Rattle.std.specs.Prelude.{option_map, is_some, is_none, position, slice_set, IsSome}
-use Rattle.std.specs.List.{position_from}
-use Rattle.std.proofs.lemmas.Iterator.Adapters.{position_from-zero}
-use Rattle.std.proofs.lemmas.List.Quantifiers.{position-Some}
-use Rattle.std.specs.Option.{option_or}
-use Rattle.mon_text.specs.declared.stop.Stop.{Stop}
-use Rattle.mon_text.specs.declared.stop.Stop.TheVariants.{Refused, Memory}
-use Rattle.sno_cards.specs.Answers.{IfRefused}
-use Rattle.sno_cards.specs.declared.refusal.SyntaxError.{SyntaxError}
-use Rattle.sno_cards.specs.Programs.{ProgramText}
-use Rattle.sno_cards.specs.Statements.{statements_of}
-use Rattle.sno_syntax.specs.Programs.{Program}
-use Rattle.sno_syntax.proofs.Readable.{reads_programs}
-use Rattle.sno_syntax.proofs.Wholes.{not_refused}
-use Rattle.sno_run.specs.Jobs.{Job, first_job}
-use Rattle.mon_access.specs.declared.account.Account.{Account}
-use Rattle.mon_access.specs.Accounts.{find_account}
-use Rattle.mon_unit.specs.declared.units.UnitError.{UnitError}
-use Rattle.mon_unit.specs.State.{UnitState}
-use Rattle.deck_syntax.specs.declared.job_deck.JobDeck.{JobDeck}
-use Rattle.scheduler.specs.declared.refusal.LoadError.{LoadError}
-use Rattle.scheduler.specs.declared.refusal.LoadError.TheVariants.{NoSlot, NoAccount, Cards, Syntax}
-use Rattle.scheduler.specs.declared.slot.Slot.{Slot}
-use Rattle.scheduler.specs.States.{SlotState, with_seat, first_free}
-use Rattle.scheduler.specs.Abstraction.{slot_of, seat_of, seats_of}
-use Rattle.scheduler.specs.Loads.{first_units, with_ties, ties_refusal, program_refusal, program_in, missing, deck_refusal, slot_in, loaded_by, job_loaded}
-use Rattle.scheduler.specs.inner.Parts.{slot_by}
-use Rattle.scheduler.specs.inner.Spelling.{IsSpelled}
+use Rattle.std.proofs.Common.{◌≡◌, ℕ, suc, ◌+◌, ◌<◌, List, [], ◌∷◌, length, Option, Some, None, Result, Ok, Err, refl, ap, sym, ◌∙◌, subst, arith, option_map, is_some, is_none, position, slice_set, IsSome}
+use Rattle.scheduler.proofs.Common.{position_from, position_from-zero, position-Some, option_or, Stop, Refused, IfRefused, SyntaxError, ProgramText, statements_of, Program, reads_programs, not_refused, Job, first_job, Account, find_account, UnitError, UnitState, JobDeck, LoadError, NoSlot, NoAccount, Cards, Syntax, Slot, SlotState, with_seat, first_free, slot_of, seat_of, seats_of, program_refusal, missing, first_units, with_ties, ties_refusal, program_in, deck_refusal, slot_in, loaded_by, job_loaded, slot_by, IsSpelled}
+use Rattle.mon_text.specs.declared.stop.Stop.TheVariants.{Memory}
 use Rattle.scheduler.proofs.Seats.{map_set}
 
 spelled_in : (said : Result ProgramText SyntaxError) (p : Program) → IsSpelled said p → program_in said ≡ Some p

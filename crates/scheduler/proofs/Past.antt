@@ -1,21 +1,8 @@
 -- Turns until a scheduler is one to stop at, and rounds of them.
-use Rattle.std.proofs.Common.{◌≡◌, ◌≢◌, ℕ, zero, suc, ◌+◌, ◌≤◌, Bool, true, false, List, [], ◌∷◌, ◌++◌, length, Option, Some, None, refl, ap, sym, ◌∙◌, subst, inl, inr, arith, append_assoc, append-nil}
-use Rattle.std.specs.Prelude.{◌⊎◌, if◌then◌else◌, slice_get, slice_set, is_some, is_none, drop}
-use Rattle.std.specs.List.{AllByRecursion, list_all, range_with_len}
-use Rattle.std.specs.Option.{option_flatten}
-use Rattle.mon_catalogue.specs.Sets.{Sets}
-use Rattle.sno_run.specs.declared.ending.Ending.TheVariants.{Memory}
-use Rattle.sno_run.specs.declared.ending.Step.{Step}
+use Rattle.std.proofs.Common.{◌≡◌, ◌≢◌, ℕ, zero, suc, ◌+◌, ◌≤◌, Bool, true, false, List, [], ◌∷◌, ◌++◌, length, Option, Some, None, refl, ap, sym, ◌∙◌, subst, inl, inr, arith, append_assoc, append-nil, ◌⊎◌, if◌then◌else◌, slice_get, slice_set, is_some, is_none, drop}
+use Rattle.scheduler.proofs.Common.{AllByRecursion, list_all, range_with_len, option_flatten, Sets, Step, serve, JobEnd, SlotState, SchedulerState, seat_at, with_seat, job_in, first_free, reached, ran, after_turn, seat, turned, turn_by, ends_by, Mark, Marks, mark_of, may_break, ran_as, turn_as, Past, nothing, until, marked, rounds, turns_left, is_done, has_free_slot, drain, room, ends_then, Unmarked, NoneByMemory, TakesOneMark, AtLast, Enough, Memory, Turned, Ended}
 use Rattle.sno_run.specs.declared.ending.Step.TheVariants as step
-use Rattle.mon_unit.specs.Serving.{serve}
-use Rattle.scheduler.specs.declared.job_end.JobEnd.{JobEnd}
-use Rattle.scheduler.specs.declared.turned.Turned.{Turned}
-use Rattle.scheduler.specs.declared.turned.Turned.TheVariants.{Ended}
-use Rattle.scheduler.specs.States.{SlotState, SchedulerState, seat_at, with_seat, job_in, first_free}
-use Rattle.scheduler.specs.Turns.{reached, ran, after_turn, seat, turned, turn_by, turn, ends_by}
-use Rattle.scheduler.specs.Marks.{Mark, Marks, mark_of, may_break, ran_as, turn_as, Past, nothing, until, marked, rounds, turns_left, is_done, has_free_slot, drain, room}
-use Rattle.scheduler.specs.inner.Parts.{ends_then}
-use Rattle.scheduler.specs.Rounds.{Unmarked, NoneByMemory, TakesOneMark, AtLast, Enough}
+use Rattle.scheduler.specs.Turns.{turn}
 use Rattle.scheduler.proofs.Begun.{Less, job_less}
 use Rattle.scheduler.proofs.Seats.{seat_length, none_at}
 use Rattle.scheduler.proofs.Shorthand.{turns_ahead, turn_as_by, broken_by}

@@ -1,21 +1,8 @@
 -- What the loops over turns and rounds come to.
-use Rattle.std.proofs.Common.{◌≡◌, ◌≢◌, ℕ, suc, ◌+◌, ◌-◌, ◌<◌, ◌≤◌, Bool, true, false, List, [], ◌∷◌, ◌++◌, length, refl, ap, sym, ◌∙◌, subst, inl, inr, arith, append_assoc}
-use Rattle.std.specs.Prelude.{map, Option, Some, None, is_some}
-use Rattle.std.specs.List.{range_with_len}
-use Rattle.mon_device.specs.Putting.{Standing}
-use Rattle.mon_device.proofs.Putting.{puts_nothing, puts_then}
-use Rattle.scheduler.specs.declared.job_end.JobEnd.{JobEnd}
-use Rattle.scheduler.specs.declared.turned.Turned.{Turned}
-use Rattle.scheduler.specs.declared.turned.Turned.TheVariants.{Empty, Goes, Ended}
-use Rattle.scheduler.specs.declared.rounds.Goal.{Goal}
+use Rattle.std.proofs.Common.{◌≡◌, ◌≢◌, ℕ, suc, ◌+◌, ◌-◌, ◌<◌, ◌≤◌, Bool, true, false, List, [], ◌∷◌, ◌++◌, length, refl, ap, sym, ◌∙◌, subst, inl, inr, arith, append_assoc, map, Option, Some, None, is_some}
+use Rattle.scheduler.proofs.Common.{range_with_len, Standing, puts_nothing, puts_then, JobEnd, Empty, Goal, SlotState, SchedulerState, job_in, ends_by, Marks, Past, nothing, until, rounds, turns_left, rounds_until, is_done, ends_then, turn_lines, lines_until, lines_of_rounds, TurnOr, UntilIs, RoundsAre, ended_in, Ahead, RoundTo, Going, GoingTo, Unless, stop_of, Turned, Goes, Ended}
 use Rattle.scheduler.specs.declared.rounds.Goal.TheVariants as goal
-use Rattle.scheduler.specs.States.{SlotState, SchedulerState, job_in}
-use Rattle.scheduler.specs.Turns.{ends_by}
-use Rattle.scheduler.specs.Marks.{Marks, Past, nothing, until, rounds, turns_left, rounds_until, is_done}
-use Rattle.scheduler.specs.inner.Parts.{ends_then}
-use Rattle.scheduler.specs.AuditLines.{turn_lines, lines_until, lines_of_rounds}
-use Rattle.scheduler.specs.Turning.{TurnOr, Passed, UntilIs, RoundsAre, ended_in}
-use Rattle.scheduler.specs.inner.Rounding.{Ahead, RoundTo, Going, GoingTo, Unless, stop_of}
+use Rattle.scheduler.specs.Turning.{Passed}
 use Rattle.scheduler.proofs.Calls.{empty_turn}
 use Rattle.scheduler.proofs.Lines.{lines_stop, lines_go, lines_append, lines_after, lines_same}
 use Rattle.scheduler.proofs.Past.{until_stops, until_goes, until_append, until_length, after_past, rounds_same, round_falls, room_at_last}

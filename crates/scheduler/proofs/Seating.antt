@@ -1,9 +1,6 @@
 -- Seats that are looked at after one was changed.
-use Rattle.std.proofs.Common.{◌≡◌, ◌≢◌, ℕ, zero, suc, ◌+◌, List, [], ◌∷◌, Option, Some, None, refl, ap, sym, ◌∙◌, subst, inl, inr, arith}
-use Rattle.std.specs.Prelude.{◌⊎◌, slice_get, slice_set, is_none}
-use Rattle.std.specs.List.{position_from}
-use Rattle.std.specs.Option.{option_flatten}
-use Rattle.scheduler.specs.States.{SlotState, seat_at, with_seat, first_free}
+use Rattle.std.proofs.Common.{◌≡◌, ◌≢◌, ℕ, zero, suc, ◌+◌, List, [], ◌∷◌, Option, Some, None, refl, ap, sym, ◌∙◌, subst, inl, inr, arith, ◌⊎◌, slice_get, slice_set, is_none}
+use Rattle.scheduler.proofs.Common.{position_from, option_flatten, SlotState, seat_at, with_seat, first_free}
 
 changed : (slots : List (Option SlotState)) (i j : ℕ) (o old : Option SlotState) → slice_get slots i ≡ Some old
     → ((j ≡ i) × (option_flatten (slice_get (slice_set slots i o) j) ≡ o)) ⊎ ((j ≢ i) × (option_flatten (slice_get (slice_set slots i o) j) ≡ option_flatten (slice_get slots j)))

@@ -1,11 +1,6 @@
 -- Seats that are looked at after one was changed.
-use Rattle.std.proofs.Common.{◌≡◌, ℕ, zero, suc, ◌+◌, Bool, true, false, List, [], ◌∷◌, length, Option, Some, None, refl, ap}
-use Rattle.std.specs.Prelude.{replicate, map, option_map, slice_get, slice_set, is_some, is_none, IsSome}
-use Rattle.std.specs.List.{list_any, list_all, position_from}
-use Rattle.std.specs.Option.{option_flatten}
-use Rattle.scheduler.specs.declared.slot.Slot.{Slot}
-use Rattle.scheduler.specs.States.{SlotState, seat_at, with_seat, first_free}
-use Rattle.scheduler.specs.Abstraction.{seats_of}
+use Rattle.std.proofs.Common.{◌≡◌, ℕ, zero, suc, ◌+◌, Bool, true, false, List, [], ◌∷◌, length, Option, Some, None, refl, ap, replicate, map, option_map, slice_get, slice_set, is_some, is_none, IsSome}
+use Rattle.scheduler.proofs.Common.{list_any, list_all, position_from, option_flatten, Slot, SlotState, seat_at, with_seat, first_free, seats_of}
 
 pub set_length : {A : Type 0} (xs : List A) (i : ℕ) (v : A) → length (slice_set xs i v) ≡ length xs
 set_length [] i v = refl
@@ -36,10 +31,6 @@ pub map_set : {A B : Type 0} (f : A → B) (xs : List A) (i : ℕ) (v : A) → m
 map_set f [] i v = refl
 map_set f (x ∷ xs) zero v = refl
 map_set {A} {B} f (x ∷ xs) (suc i) v = ap (λ (ys : List B). f x ∷ ys) (map_set f xs i v)
-
-pub map_length : {A B : Type 0} (f : A → B) (xs : List A) → length (map f xs) ≡ length xs
-map_length f [] = refl
-map_length f (x ∷ xs) = ap suc (map_length f xs)
 
 pub seat_length : (s : ℕ) (o : Option SlotState) (slots : List (Option SlotState)) → length (with_seat s o slots) ≡ length slots
 seat_length zero o slots = refl

@@ -1,16 +1,6 @@
 -- Whether units are tied to one data set can be told.
-use Rattle.std.proofs.Common.{◌≡◌, ℕ, suc, Bool, true, false, List, [], ◌∷◌, Option, Some, None, option_map, refl, ap, sym, ◌∙◌, subst}
-use Rattle.std.specs.Prelude.{◌||◌, slice_get}
-use Rattle.std.specs.List.{list_any}
-use Rattle.std.specs.Cmp.Lexicographic.{bytes_decides}
-use Rattle.std.proofs.lemmas.Option.{slice_get-map}
-use Rattle.std.proofs.lemmas.Map.Keys.{any_passes_from_place}
-use Rattle.mon_unit.specs.declared.tie.Tie.{Tie}
-use Rattle.mon_unit.specs.declared.tie.Target.{Target}
-use Rattle.mon_unit.specs.declared.tie.Target.TheVariants.{Untied, Data, Spool, Set}
-use Rattle.mon_unit.specs.State.{UnitState}
-use Rattle.mon_unit.specs.Tying.{is_set, meets, share}
-use Rattle.mon_unit.specs.Laws.{TiedTo}
+use Rattle.std.proofs.Common.{◌≡◌, ℕ, suc, Bool, true, false, List, [], ◌∷◌, Option, Some, None, option_map, refl, ap, sym, ◌∙◌, subst, ◌||◌, slice_get}
+use Rattle.scheduler.proofs.Common.{list_any, bytes_decides, slice_get-map, any_passes_from_place, Tie, Target, Untied, Data, Spool, Set, UnitState, is_set, meets, share, TiedTo}
 
 -- some place passes
 pub record Place {A : Type 0} (test : A → Bool) (xs : List A) : Type 0 where

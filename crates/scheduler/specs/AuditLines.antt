@@ -1,35 +1,14 @@
--- THE LINES OF AN AUDIT that speak of jobs (own): each names the job and its account. What a line says of a request, mon_unit says.
-use Rattle.std.specs.Prelude.{ℕ, Bool, List, [], ◌∷◌, ◌++◌, length, codes, drop, Option, if◌then◌else◌}
+-- THE LINES OF AN AUDIT that turns put (own): each names the job and its account. What a line says of a request, the crate audit says; of a job's
+-- end, job_end.
+use Rattle.std.specs.Prelude.{ℕ, Bool, List, [], ◌∷◌, ◌++◌, length, drop, Option, if◌then◌else◌}
 use Rattle.std.specs.List.{flat_map}
-use Rattle.mon_command.specs.Printouts.{number}
-use Rattle.mon_unit.specs.AuditWords.{job_line}
-use Rattle.mon_unit.specs.AuditRequests.{request_line, asked_of}
-use Rattle.scheduler.specs.declared.job_end.JobEnd.{JobEnd}
-use Rattle.scheduler.specs.declared.refusal.LoadError.{LoadError}
-use Rattle.scheduler.specs.declared.refusal.LoadError.TheVariants.{NoSlot, NoAccount, Cards, Syntax}
-use Rattle.scheduler.specs.declared.turned.Turned.{Turned}
-use Rattle.scheduler.specs.declared.turned.Turned.TheVariants.{Empty, Goes, Ended}
-use Rattle.scheduler.specs.Printouts.{ending_words, unit_refusal, syntax_words}
+use Rattle.audit.specs.Requests.{request_line, asked_of}
+use Rattle.job_end.specs.declared.turned.Turned.{Turned}
+use Rattle.job_end.specs.declared.turned.Turned.TheVariants.{Empty, Goes, Ended}
+use Rattle.job_end.specs.AuditLines.{ended_line}
 use Rattle.scheduler.specs.States.{SchedulerState, job_in}
 use Rattle.scheduler.specs.Marks.{Mark, Marks, mark_of, turn_as, rounds, turns_left}
 use Rattle.scheduler.specs.Exchanged.{Exchanged, asked_in}
-
--- why a job is not loaded; for want of a slot none is refused
-abbrev pub refusal_words : LoadError → List ℕ
-refusal_words NoSlot = codes "NO SLOT"
-refusal_words NoAccount = codes "M2 NO ACCOUNT"
-refusal_words (Cards error) = unit_refusal error
-refusal_words (Syntax error) = syntax_words error
-
-abbrev pub loaded_line : ℕ → List ℕ → List ℕ
-loaded_line n account = job_line n account (codes " LOADED")
-
-abbrev pub refused_line : ℕ → List ℕ → LoadError → List ℕ
-refused_line n account refusal = job_line n account (codes " REFUSED " ++ refusal_words refusal)
-
--- how a job has ended, and after how many statements
-abbrev pub ended_line : JobEnd → List ℕ
-ended_line end = job_line end.number end.account (codes " ENDED" ++ ending_words end.ending ++ codes " AFTER" ++ number end.statements)
 
 -- a request of a job, as it was answered
 abbrev pub exchanged_line : Exchanged → List ℕ

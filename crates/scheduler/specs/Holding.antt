@@ -1,7 +1,7 @@
 -- Which job in a slot holds most of its printout (own).
 use Rattle.std.specs.Prelude.{ℕ, ◌+◌, ◌*◌, min, Bool, true, nat_lt, List, [], ◌∷◌, length, Option, Some, None, if◌then◌else◌}
 use Rattle.std.specs.List.{concat}
-use Rattle.scheduler.specs.declared.holder.Holder.{Holder}
+use Rattle.scheduler.specs.declared.largest_printout.Holder.{Holder}
 use Rattle.scheduler.specs.States.{SlotState}
 
 -- how many bytes a job's printout takes so far, as far as the numbers of 64 bits tell: the characters of each spooled line and 5 more,

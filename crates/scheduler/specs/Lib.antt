@@ -1,5 +1,6 @@
 pub mod States
 pub mod Abstraction
+pub mod Floors
 pub mod Turns
 pub mod Marks
 pub mod Rounds
@@ -10,5 +11,4 @@ pub mod Loads
 pub mod Memory
 pub mod Ties
 pub mod Holding
-pub mod Printouts
 pub mod inner

@@ -1,26 +1,25 @@
 -- What loading a job does (own).
-use Rattle.std.specs.Prelude.{ℕ, nat_lt, Bool, false, ◌==◌, ◌||◌, List, [], ◌∷◌, drop, Option, Some, None, option_map, Result, Ok, Err, option_and_then, if◌then◌else◌, slice_index_or}
+use Rattle.std.specs.Prelude.{◌≡◌, ℕ, List, [], ◌∷◌, drop, Option, Some, None, option_map, Result, Ok, Err, option_and_then}
 use Rattle.std.specs.Option.{option_or, option_map_or}
 use Rattle.std.specs.List.{fold}
 use Rattle.std.specs.Result.{result_ok}
 use Rattle.sno_cards.specs.declared.refusal.SyntaxError.{SyntaxError}
 use Rattle.sno_cards.specs.Programs.{ProgramText}
 use Rattle.sno_cards.specs.Statements.{statements_of}
-use Rattle.sno_syntax.specs.Refusals.{syntax_refusal}
 use Rattle.sno_syntax.specs.Programs.{Program}
 use Rattle.sno_syntax.specs.Reading.{program_on}
 use Rattle.sno_run.specs.Jobs.{first_job}
 use Rattle.mon_access.specs.declared.account.Account.{Account}
 use Rattle.mon_access.specs.Accounts.{find_account}
 use Rattle.mon_unit.specs.declared.tie.Target.TheVariants.{Set}
-use Rattle.mon_unit.specs.declared.units.UnitError.{UnitError}
-use Rattle.mon_unit.specs.declared.units.UnitError.TheVariants.{UnitRange, UnitTwice}
+use Rattle.unit_ties.specs.declared.unit_error.UnitError.{UnitError}
 use Rattle.mon_unit.specs.State.{UnitState}
 use Rattle.mon_unit.specs.Tying.{new_units, tie_refusal, tied_to, with_tie}
 use Rattle.deck_syntax.specs.declared.job_deck.UnitCard.{UnitCard}
 use Rattle.deck_syntax.specs.declared.job_deck.JobDeck.{JobDeck}
-use Rattle.scheduler.specs.declared.refusal.LoadError.{LoadError}
-use Rattle.scheduler.specs.declared.refusal.LoadError.TheVariants.{NoSlot, NoAccount, Cards, Syntax}
+use Rattle.load_refusal.specs.declared.load_error.LoadError.{LoadError}
+use Rattle.load_refusal.specs.declared.load_error.LoadError.TheVariants.{NoSlot, NoAccount, Cards}
+use Rattle.load_refusal.specs.Loads.{missing, program_refusal, job_refusal}
 use Rattle.scheduler.specs.States.{SlotState, with_seat, first_free}
 
 -- THE UNITS
@@ -40,26 +39,13 @@ abbrev pub ties_refusal : List UnitCard → UnitState → Option UnitError
 ties_refusal [] units = None
 ties_refusal (card ∷ cards) units = option_or (tie_refusal card.unit units) (ties_refusal cards (tied_by card units))
 
--- one card, told by which units are tied already
-abbrev pub refused_by : ℕ → List Bool → Option UnitError
-refused_by u tied = if (u == 0) || nat_lt 99 u then Some (UnitRange u) else if slice_index_or tied u false then Some (UnitTwice u) else None
-
 -- THE PROGRAM
-
-abbrev pub program_refusal : Result ProgramText SyntaxError → Option LoadError
-program_refusal (Ok cards) = option_map Syntax (syntax_refusal cards)
-program_refusal (Err refusal) = Some (Syntax refusal)
 
 -- the program that cards spell, where they spell one
 abbrev pub program_in : Result ProgramText SyntaxError → Option Program
 program_in cards = option_and_then program_on (result_ok cards)
 
 -- THE JOB
-
--- refused where it is missing
-abbrev pub missing : {A : Type 0} → LoadError → Option A → Option LoadError
-missing refusal (Some it) = None
-missing refusal None = Some refusal
 
 -- why a job is not loaded where a slot is free: its account, its unit cards, its program
 abbrev pub deck_refusal : List Account → JobDeck → Option LoadError
@@ -92,3 +78,9 @@ loaded_by None None slot slots = (Err NoSlot, slots)
 -- a job is loaded into the lowest free slot, which has this number; or it is refused, and nothing has changed
 abbrev pub job_loaded : List Account → JobDeck → List (Option SlotState) → Result ℕ LoadError × List (Option SlotState)
 job_loaded accounts deck slots = loaded_by (load_refusal accounts deck slots) (first_free slots) (slot_in accounts deck) slots
+
+-- THE LAW
+
+-- why a job is not loaded where a slot is free is told by its cards alone, as by the units that they tie
+abbrev pub ToldByCards : Type 0
+ToldByCards = (accounts : List Account) (deck : JobDeck) → deck_refusal accounts deck ≡ job_refusal accounts deck

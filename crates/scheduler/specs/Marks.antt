@@ -11,9 +11,9 @@ use Rattle.interaction.specs.Counting.{Passed, requests_in, statements_in}
 use Rattle.sno_run.specs.Jobs.{Job, counted_turn, turn_of, statements_begun, statement_at}
 use Rattle.mon_unit.specs.Runs.{run_cut, passed}
 use Rattle.mon_unit.specs.Serving.{Reach, serve}
-use Rattle.scheduler.specs.declared.job_end.JobEnd.{JobEnd}
-use Rattle.scheduler.specs.declared.turned.Turned.{Turned}
-use Rattle.scheduler.specs.declared.turned.Turned.TheVariants.{Empty}
+use Rattle.job_end.specs.declared.job_end.JobEnd.{JobEnd}
+use Rattle.job_end.specs.declared.turned.Turned.{Turned}
+use Rattle.job_end.specs.declared.turned.Turned.TheVariants.{Empty}
 use Rattle.scheduler.specs.States.{SlotState, SchedulerState, job_in, first_free}
 use Rattle.scheduler.specs.Turns.{reached, ran, turned, ends_by}
 

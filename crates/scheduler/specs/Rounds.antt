@@ -2,7 +2,7 @@
 use Rattle.std.specs.Prelude.{◌≡◌, ◌≢◌, ℕ, ◌≤◌, Bool, true, Option, None, List, [], ◌∷◌, length}
 use Rattle.std.specs.List.{AllByRecursion}
 use Rattle.sno_run.specs.declared.ending.Ending.TheVariants.{Memory}
-use Rattle.scheduler.specs.declared.job_end.JobEnd.{JobEnd}
+use Rattle.job_end.specs.declared.job_end.JobEnd.{JobEnd}
 use Rattle.scheduler.specs.States.{SchedulerState, job_in}
 use Rattle.scheduler.specs.Turns.{turns, ends_by}
 use Rattle.scheduler.specs.Marks.{Mark, Marks, turn_as, until, marked, rounds, turns_left, rounds_until, is_done, has_free_slot, drain, room}

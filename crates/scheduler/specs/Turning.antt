@@ -2,9 +2,9 @@
 -- audit, whose sink stands as a says before and as b says then.
 use Rattle.std.specs.Prelude.{◌≡◌, Bool, ℕ, List, [], ◌∷◌, ◌++◌, map, length, Option, Some, None}
 use Rattle.mon_device.specs.Putting.{Standing, Puts}
-use Rattle.scheduler.specs.declared.job_end.JobEnd.{JobEnd}
-use Rattle.scheduler.specs.declared.turned.Turned.{Turned}
-use Rattle.scheduler.specs.declared.turned.Turned.TheVariants.{Empty, Goes, Ended}
+use Rattle.job_end.specs.declared.job_end.JobEnd.{JobEnd}
+use Rattle.job_end.specs.declared.turned.Turned.{Turned}
+use Rattle.job_end.specs.declared.turned.Turned.TheVariants.{Empty, Goes, Ended}
 use Rattle.scheduler.specs.States.{SchedulerState}
 use Rattle.scheduler.specs.Marks.{Mark, Marks, Past, turn_as, until, never, rounds, turns_left, is_done, has_free_slot}
 use Rattle.scheduler.specs.AuditLines.{turn_lines, lines_until}

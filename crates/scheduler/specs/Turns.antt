@@ -7,9 +7,9 @@ use Rattle.sno_run.specs.declared.ending.Ending.{Ending}
 use Rattle.sno_run.specs.Jobs.{Job, turn_of, statements_begun}
 use Rattle.mon_unit.specs.Runs.{run}
 use Rattle.mon_unit.specs.Serving.{Reach, serve}
-use Rattle.scheduler.specs.declared.job_end.JobEnd.{JobEnd}
-use Rattle.scheduler.specs.declared.turned.Turned.{Turned}
-use Rattle.scheduler.specs.declared.turned.Turned.TheVariants.{Empty, Goes, Ended}
+use Rattle.job_end.specs.declared.job_end.JobEnd.{JobEnd}
+use Rattle.job_end.specs.declared.turned.Turned.{Turned}
+use Rattle.job_end.specs.declared.turned.Turned.TheVariants.{Empty, Goes, Ended}
 use Rattle.scheduler.specs.States.{SlotState, SchedulerState, job_in, with_seat}
 
 -- what a job's requests reach

@@ -4,5 +4,4 @@ pub mod Rounding
 pub mod Alone
 pub mod Spelling
 pub mod Sharing
-pub mod Carding
 pub mod Parts

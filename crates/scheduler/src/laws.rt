@@ -1,4 +1,5 @@
-//! Laws of turns and rounds. Each is the contract of a function that does nothing.
+//! Laws of loads, turns and rounds. Each is the contract of a function that does nothing.
+ghost use Rattle.scheduler.specs.Loads.{ToldByCards};
 ghost use Rattle.scheduler.specs.Rounds.{WithoutMarks, MarksEndJobs, TakesOneMark, RoundsEnd, DrainEmpties, RoomIsMade};
 
 /// Turns without marks are the turns of the definitions.
@@ -29,4 +30,9 @@ pub fn drain_empties()
 /// After turns for room a slot is empty.
 pub fn room_is_made()
     ensures { RoomIsMade }
+{}
+
+/// Why a job is not loaded where a slot is free is told by its cards alone.
+pub fn told_by_cards()
+    ensures { ToldByCards }
 {}

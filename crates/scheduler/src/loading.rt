@@ -1,5 +1,5 @@
 //! From a job's deck to what its slot holds.
-ghost use Rattle.std.specs.Prelude.{◌≡◌, ◌<◌, ℕ, List, drop, option_map, Some, None, Ok, IfOk, IfErr, IsOk, IsErrOf, OnOk};
+ghost use Rattle.std.specs.Prelude.{◌≡◌, ℕ, List, drop, option_map, Some, None, Ok, IfOk, IfErr, IsOk, IsErrOf, OnOk};
 ghost use Rattle.mon_access.specs.Accounts.{find_account};
 ghost use Rattle.sno_cards.specs.Answers.{IfRefused};
 ghost use Rattle.sno_cards.specs.Statements.{statements_of};
@@ -7,36 +7,24 @@ ghost use Rattle.sno_syntax.specs.Refusals.{syntax_refusal};
 ghost use Rattle.sno_syntax.specs.Programs.{program_of, IsProgram};
 ghost use Rattle.mon_unit.specs.Tying.{new_units};
 ghost use Rattle.scheduler.specs.Abstraction.{slot_of};
-ghost use Rattle.scheduler.specs.Loads.{first_units, with_ties, ties_refusal, refused_by, program_refusal, program_in, deck_refusal, slot_in};
+ghost use Rattle.load_refusal.specs.Loads.{program_refusal};
+ghost use Rattle.scheduler.specs.Loads.{first_units, with_ties, ties_refusal, program_in, deck_refusal, slot_in};
 ghost use Rattle.scheduler.specs.inner.Parts.{slot_by};
 ghost use Rattle.scheduler.specs.Memory.{DeckMayGrow};
 ghost use Rattle.scheduler.specs.inner.Spelling.{IsSpelled};
 
 use crate::card_reserve::CardReserve;
-use crate::refusal::LoadError;
 use crate::slot::Slot;
 use deck_syntax::{JobDeck, UnitCard, UnitCards};
+use load_refusal::LoadError;
 use mon_access::{Account, Accounts};
 use mon_text::{Line, Stop};
-use mon_unit::{Lines, UnitError, Units};
+use mon_unit::{Lines, Units};
 use sno_run::Job;
 use sno_syntax::{Program, ProgramCards, parse, statements};
 use sno_text::Seed;
 use std::alloc::{AllocError, Global};
-
-/// Why a unit can't be tied, if it can't, by which are tied already.
-pub fn tie_refused(tied: &[bool; 100], unit: u64) -> Option<UnitError>
-    ensures refusal { result ≡ refused_by unit tied.now }
-    ensures within { result ≡ None → unit < 100 }
-{
-    if unit == 0 || unit > 99 {
-        return Some(UnitError::UnitRange(unit));
-    }
-    if tied[unit as usize] {
-        return Some(UnitError::UnitTwice(unit));
-    }
-    None
-}
+use unit_ties::{UnitError, tie_refused};
 
 // Why unit cards are refused, if they are: the first that ties a unit that there is not, or one that another tied. It takes no
 // memory.

@@ -2,24 +2,23 @@
 ghost use Rattle.std.specs.Prelude.{◌≡◌, ℕ, ◌<◌, ◌≤◌, false, ◌+◌, ◌++◌, [], ◌∷◌, length, min, vec_len, vec_capacity, Some, None, IsSome, IfSome, IfOk, OnErr, replicate};
 ghost use Rattle.mon_catalogue.specs.Sets.{Sets};
 ghost use Rattle.mon_device.specs.Putting.{Puts};
-ghost use Rattle.mon_guard.specs.Cache.{CacheFits};
 ghost use Rattle.scheduler.specs.Abstraction.{slots_in};
+ghost use Rattle.scheduler.specs.Floors.{SameLoans, scheduler_in};
 ghost use Rattle.scheduler.specs.States.{SlotState, scheduler, seat_at, with_seat};
-ghost use Rattle.scheduler.specs.Turning.{MarkedIs, RoundsAre, DrainIs, RoomIs, end_in};
+ghost use Rattle.scheduler.specs.Turning.{MarkedIs, RoundsAre, end_in};
 ghost use Rattle.scheduler.specs.Turns.{job_end};
-ghost use Rattle.scheduler.specs.AuditLines.{ended_line};
+ghost use Rattle.job_end.specs.AuditLines.{ended_line};
 ghost use Rattle.scheduler.specs.inner.Stepping.{jobs_in};
 ghost use Rattle.scheduler.specs.Marks.{turns_left, is_done};
 ghost use Rattle.scheduler.specs.inner.Rounding.{RoundTo, GoingTo, OneTurn, Unless, stop_of};
 ghost use Rattle.scheduler.specs.inner.Alone.{IsLone};
 
-use crate::job_end::JobEnd;
+use crate::floor::Floor;
 use crate::slots::{MANY_TURNS, Slots};
-use mon_catalogue::Catalogue;
+use job_end::JobEnd;
 use mon_device::Sink;
-use mon_guard::Guard;
 use sno_run::{Ending, Step};
-use std::alloc::{AllocError, Global};
+use std::alloc::AllocError;
 
 /// Where rounds of turns stop.
 #[derive(Clone, Copy)]
@@ -56,47 +55,39 @@ impl Slots {
     #[inline(never)]
     fn keep_end<S: Sink>(
         &mut self,
-        alloc: Global,
+        floor: &mut Floor<S>,
         slot: u8,
         ending: Ending,
         ends: &mut Vec<JobEnd>,
-        audit: &mut S,
     )
         requires job { IsSome (seat_at slot (slots_in self.old)) }
         requires room { vec_len ends.old + 1 ≤ vec_capacity ends.old }
         ensures items { (job : SlotState) → seat_at slot (slots_in self.old) ≡ Some job → ends.new.items ≡ ends.old.items ++ job_end job ending ∷ [] }
-        ensures audited { (job : SlotState) → seat_at slot (slots_in self.old) ≡ Some job → Puts (S.standing audit.old) (S.standing audit.new) (ended_line (job_end job ending)) }
+        ensures audited { (job : SlotState) → seat_at slot (slots_in self.old) ≡ Some job → Puts (S.standing floor.old.audit.now) (S.standing floor.new.audit.now) (ended_line (job_end job ending)) }
         ensures len { vec_len ends.new ≡ vec_len ends.old + 1 }
         ensures room { vec_capacity ends.old ≤ vec_capacity ends.new }
         ensures slots { slots_in self.new ≡ with_seat slot None (slots_in self.old) }
+        ensures sets { floor.new.catalogue.now ≡ floor.old.catalogue.now }
+        ensures loans { SameLoans floor.old floor.new }
     {
-        let end = self.take_out(alloc, slot, ending, audit);
+        let end = self.take_out(floor.alloc, slot, ending, floor.audit);
         ends.push(end).unwrap();
     }
 
     // One turn of the job in a slot. Where it ends, what is left of it is kept.
-    fn turn_into<S: Sink>(
-        &mut self,
-        alloc: Global,
-        guard: &mut Guard,
-        catalogue: &mut Catalogue,
-        slot: u8,
-        ends: &mut Vec<JobEnd>,
-        audit: &mut S,
-    )
-        requires fit { CacheFits guard.old catalogue.old }
+    fn turn_into<S: Sink>(&mut self, floor: &mut Floor<S>, slot: u8, ends: &mut Vec<JobEnd>)
         requires room { vec_len ends.old + min 1 (jobs_in (slots_in self.old)) ≤ vec_capacity ends.old }
-        ensures turn { OneTurn slot (scheduler catalogue.old (slots_in self.old)) ends.old.items ends.new.items (scheduler catalogue.new (slots_in self.new)) (S.standing audit.old) (S.standing audit.new) }
+        ensures turn { OneTurn slot (scheduler_in self.old floor.old) ends.old.items ends.new.items (scheduler_in self.new floor.new) (S.standing floor.old.audit.now) (S.standing floor.new.audit.now) }
         ensures jobs { vec_len ends.new + jobs_in (slots_in self.new) ≡ vec_len ends.old + jobs_in (slots_in self.old) }
         ensures one { vec_len ends.new ≤ vec_len ends.old + 1 }
         ensures room { vec_capacity ends.old ≤ vec_capacity ends.new }
         ensures size { length (slots_in self.new) ≡ length (slots_in self.old) }
-        ensures fit { CacheFits guard.new catalogue.new }
+        ensures loans { SameLoans floor.old floor.new }
     {
-        match self.step(alloc, guard, catalogue, slot, audit) {
+        match self.step(floor, slot) {
             None => (),
             Some(Step::Goes) => (),
-            Some(Step::Ended(ending)) => self.keep_end(alloc, slot, ending, ends, audit),
+            Some(Step::Ended(ending)) => self.keep_end(floor, slot, ending, ends),
         }
     }
 
@@ -107,83 +98,57 @@ impl Slots {
     /// Where a growth was refused, before the first turn; nothing has changed then.
     pub fn turns<S: Sink>(
         &mut self,
-        alloc: Global,
-        guard: &mut Guard,
-        catalogue: &mut Catalogue,
+        floor: &mut Floor<S>,
         order: &[u8],
-        audit: &mut S,
     ) -> Result<Vec<JobEnd>, AllocError>
-        requires fit { CacheFits guard.old catalogue.old }
-        ensures marked { IfOk result (λ ends. MarkedIs order.now (scheduler catalogue.old (slots_in self.old)) ends.items (scheduler catalogue.new (slots_in self.new)) (S.standing audit.old) (S.standing audit.new)) }
+        ensures marked { IfOk result (λ ends. MarkedIs order.now (scheduler_in self.old floor.old) ends.items (scheduler_in self.new floor.new) (S.standing floor.old.audit.now) (S.standing floor.new.audit.now)) }
         ensures size { length (slots_in self.new) ≡ length (slots_in self.old) }
         ensures unchanged { OnErr result (self.new ≡ self.old) }
-        ensures sets { OnErr result (catalogue.new ≡ catalogue.old) }
-        ensures silent { OnErr result (S.standing audit.new ≡ S.standing audit.old) }
-        ensures fit { CacheFits guard.new catalogue.new }
+        ensures untouched { OnErr result (floor.new ≡ floor.old) }
+        ensures loans { SameLoans floor.old floor.new }
     {
         // No more jobs end than turns are given, or sit in slots.
-        let mut ends = Vec::with_capacity(alloc, order.len().min(8))?;
-        self.begin_turns(alloc, order.len() as u64);
+        let mut ends = Vec::with_capacity(floor.alloc, order.len().min(8))?;
+        self.begin_turns(floor.alloc, order.len() as u64);
         for number in order {
-            self.turn_into(alloc, guard, catalogue, *number, &mut ends, audit);
+            self.turn_into(floor, *number, &mut ends);
         }
-        self.end_turns(alloc);
+        self.end_turns(floor.alloc);
         Ok(ends)
     }
 
     /// So many turns of the job in one slot, and the job, if it ended.
     ///
     /// It takes no memory of its own, and no time for the turns of a slot that is empty.
-    pub fn give<S: Sink>(
-        &mut self,
-        alloc: Global,
-        guard: &mut Guard,
-        catalogue: &mut Catalogue,
-        slot: u8,
-        count: u64,
-        audit: &mut S,
-    ) -> Option<JobEnd>
-        requires fit { CacheFits guard.old catalogue.old }
-        ensures marked { MarkedIs (replicate count slot) (scheduler catalogue.old (slots_in self.old)) (end_in result) (scheduler catalogue.new (slots_in self.new)) (S.standing audit.old) (S.standing audit.new) }
+    pub fn give<S: Sink>(&mut self, floor: &mut Floor<S>, slot: u8, count: u64) -> Option<JobEnd>
+        ensures marked { MarkedIs (replicate count slot) (scheduler_in self.old floor.old) (end_in result) (scheduler_in self.new floor.new) (S.standing floor.old.audit.now) (S.standing floor.new.audit.now) }
         ensures size { length (slots_in self.new) ≡ length (slots_in self.old) }
-        ensures fit { CacheFits guard.new catalogue.new }
+        ensures loans { SameLoans floor.old floor.new }
     {
-        self.begin_turns_of(alloc, slot, count);
-        let end = self.turns_of_one(alloc, guard, catalogue, slot, count, audit);
-        self.end_turns(alloc);
+        let turns = if self.has_job(slot) { count } else { 0 };
+        self.begin_turns(floor.alloc, turns);
+        let end = self.turns_of_one(floor, slot, count);
+        self.end_turns(floor.alloc);
         end
-    }
-
-    // Before turns of one slot, if there are any.
-    fn begin_turns_of(&mut self, alloc: Global, slot: u8, count: u64)
-        ensures { slots_in self.new ≡ slots_in self.old }
-    {
-        if self.has_job(slot) {
-            self.begin_turns(alloc, count);
-        }
     }
 
     // Turns of the job in one slot.
     fn turns_of_one<S: Sink>(
         &mut self,
-        alloc: Global,
-        guard: &mut Guard,
-        catalogue: &mut Catalogue,
+        floor: &mut Floor<S>,
         slot: u8,
         count: u64,
-        audit: &mut S,
     ) -> Option<JobEnd>
-        requires fit { CacheFits guard.old catalogue.old }
-        ensures marked { MarkedIs (replicate count slot) (scheduler catalogue.old (slots_in self.old)) (end_in result) (scheduler catalogue.new (slots_in self.new)) (S.standing audit.old) (S.standing audit.new) }
+        ensures marked { MarkedIs (replicate count slot) (scheduler_in self.old floor.old) (end_in result) (scheduler_in self.new floor.new) (S.standing floor.old.audit.now) (S.standing floor.new.audit.now) }
         ensures size { length (slots_in self.new) ≡ length (slots_in self.old) }
-        ensures fit { CacheFits guard.new catalogue.new }
+        ensures loans { SameLoans floor.old floor.new }
     {
         for _ in 0..count {
-            match self.step(alloc, guard, catalogue, slot, audit) {
+            match self.step(floor, slot) {
                 None => return None,
                 Some(Step::Goes) => (),
                 Some(Step::Ended(ending)) => {
-                    return Some(self.take_out(alloc, slot, ending, audit));
+                    return Some(self.take_out(floor.alloc, slot, ending, floor.audit));
                 }
             }
         }
@@ -193,78 +158,47 @@ impl Slots {
     // A turn of the job in a slot, unless the goal is met. A slot that is empty is passed, whether it is met or not.
     fn turn_unless<S: Sink>(
         &mut self,
-        alloc: Global,
-        guard: &mut Guard,
-        catalogue: &mut Catalogue,
+        floor: &mut Floor<S>,
         goal: Goal,
         slot: u8,
         ends: &mut Vec<JobEnd>,
-        audit: &mut S,
     )
-        requires fit { CacheFits guard.old catalogue.old }
         requires room { vec_len ends.old + jobs_in (slots_in self.old) ≤ vec_capacity ends.old }
-        ensures turn { Unless (stop_of goal) slot (scheduler catalogue.old (slots_in self.old)) ends.old.items ends.new.items (scheduler catalogue.new (slots_in self.new)) (S.standing audit.old) (S.standing audit.new) }
+        ensures turn { Unless (stop_of goal) slot (scheduler_in self.old floor.old) ends.old.items ends.new.items (scheduler_in self.new floor.new) (S.standing floor.old.audit.now) (S.standing floor.new.audit.now) }
         ensures room { vec_len ends.new + jobs_in (slots_in self.new) ≤ vec_capacity ends.new }
         ensures size { length (slots_in self.new) ≡ length (slots_in self.old) }
-        ensures fit { CacheFits guard.new catalogue.new }
+        ensures loans { SameLoans floor.old floor.new }
     {
         if self.has_job(slot) && !goal.is_met_beside_a_job(self) {
-            self.turn_into(alloc, guard, catalogue, slot, ends, audit);
+            self.turn_into(floor, slot, ends);
         }
     }
 
     // One turn for each slot, unless the goal is met.
-    fn round<S: Sink>(
-        &mut self,
-        alloc: Global,
-        guard: &mut Guard,
-        catalogue: &mut Catalogue,
-        goal: Goal,
-        ends: &mut Vec<JobEnd>,
-        audit: &mut S,
-    )
-        requires fit { CacheFits guard.old catalogue.old }
+    fn round<S: Sink>(&mut self, floor: &mut Floor<S>, goal: Goal, ends: &mut Vec<JobEnd>)
         requires room { vec_len ends.old + jobs_in (slots_in self.old) ≤ vec_capacity ends.old }
-        ensures round { RoundTo (stop_of goal) (scheduler catalogue.old (slots_in self.old)) ends.old.items ends.new.items [] (scheduler catalogue.new (slots_in self.new)) (S.standing audit.old) (S.standing audit.new) }
+        ensures round { RoundTo (stop_of goal) (scheduler_in self.old floor.old) ends.old.items ends.new.items [] (scheduler_in self.new floor.new) (S.standing floor.old.audit.now) (S.standing floor.new.audit.now) }
         ensures room { vec_len ends.new + jobs_in (slots_in self.new) ≤ vec_capacity ends.new }
-        ensures fit { CacheFits guard.new catalogue.new }
+        ensures loans { SameLoans floor.old floor.new }
     {
         let count = self.len() as u8;
         for number in 0..count {
-            self.turn_unless(alloc, guard, catalogue, goal, number + 1, ends, audit);
-        }
-    }
-
-    // Before rounds of turns, if there are any.
-    fn begin_rounds(&mut self, alloc: Global, goal: Goal)
-        ensures { slots_in self.new ≡ slots_in self.old }
-    {
-        if !goal.is_met(self) {
-            self.begin_turns(alloc, MANY_TURNS);
+            self.turn_unless(floor, goal, number + 1, ends);
         }
     }
 
     // Turns of the job that is alone, until it has ended: each is a round.
-    fn turns_of_lone<S: Sink>(
-        &mut self,
-        alloc: Global,
-        guard: &mut Guard,
-        catalogue: &mut Catalogue,
-        slot: u8,
-        ends: &mut Vec<JobEnd>,
-        audit: &mut S,
-    )
-        requires fit { CacheFits guard.old catalogue.old }
+    fn turns_of_lone<S: Sink>(&mut self, floor: &mut Floor<S>, slot: u8, ends: &mut Vec<JobEnd>)
         requires lone { IsLone slot (slots_in self.old) }
         requires room { vec_len ends.old + jobs_in (slots_in self.old) ≤ vec_capacity ends.old }
-        ensures going { GoingTo is_done (scheduler catalogue.old (slots_in self.old)) ends.old.items ends.new.items (scheduler catalogue.new (slots_in self.new)) (S.standing audit.old) (S.standing audit.new) }
+        ensures going { GoingTo is_done (scheduler_in self.old floor.old) ends.old.items ends.new.items (scheduler_in self.new floor.new) (S.standing floor.old.audit.now) (S.standing floor.new.audit.now) }
         ensures less { turns_left (slots_in self.new) < turns_left (slots_in self.old) }
         ensures room { vec_len ends.new + jobs_in (slots_in self.new) ≤ vec_capacity ends.new }
         ensures size { length (slots_in self.new) ≡ length (slots_in self.old) }
-        ensures fit { CacheFits guard.new catalogue.new }
+        ensures loans { SameLoans floor.old floor.new }
     {
-        let ending = self.run_lone(alloc, guard, catalogue, slot, audit);
-        self.keep_end(alloc, slot, ending, ends, audit);
+        let ending = self.run_lone(floor, slot);
+        self.keep_end(floor, slot, ending, ends);
     }
 
     // The slot of the job that is alone, if that is looked for on the way to empty slots.
@@ -284,102 +218,52 @@ impl Slots {
     // Rounds on the way to a goal that is not met: all of a job that is alone, if that is looked for, else one.
     fn some_rounds<S: Sink>(
         &mut self,
-        alloc: Global,
-        guard: &mut Guard,
-        catalogue: &mut Catalogue,
+        floor: &mut Floor<S>,
         goal: Goal,
         looks: bool,
         ends: &mut Vec<JobEnd>,
-        audit: &mut S,
     )
-        requires fit { CacheFits guard.old catalogue.old }
-        requires busy { stop_of goal (scheduler catalogue.old (slots_in self.old)) ≡ false }
+        requires busy { stop_of goal (scheduler_in self.old floor.old) ≡ false }
         requires room { vec_len ends.old + jobs_in (slots_in self.old) ≤ vec_capacity ends.old }
-        ensures going { GoingTo (stop_of goal) (scheduler catalogue.old (slots_in self.old)) ends.old.items ends.new.items (scheduler catalogue.new (slots_in self.new)) (S.standing audit.old) (S.standing audit.new) }
+        ensures going { GoingTo (stop_of goal) (scheduler_in self.old floor.old) ends.old.items ends.new.items (scheduler_in self.new floor.new) (S.standing floor.old.audit.now) (S.standing floor.new.audit.now) }
         ensures less { turns_left (slots_in self.new) < turns_left (slots_in self.old) }
         ensures room { vec_len ends.new + jobs_in (slots_in self.new) ≤ vec_capacity ends.new }
         ensures size { length (slots_in self.new) ≡ length (slots_in self.old) }
-        ensures fit { CacheFits guard.new catalogue.new }
+        ensures loans { SameLoans floor.old floor.new }
     {
         match self.lone_on_way(goal, looks) {
-            Some(slot) => self.turns_of_lone(alloc, guard, catalogue, slot, ends, audit),
-            None => self.round(alloc, guard, catalogue, goal, ends, audit),
+            Some(slot) => self.turns_of_lone(floor, slot, ends),
+            None => self.round(floor, goal, ends),
         }
     }
 
-    // Rounds of turns until the goal is met, and the jobs that ended.
-    fn rounds<S: Sink>(
+    /// Rounds of turns, from slot 1 upward, until the goal is met, and the jobs that ended.
+    ///
+    /// # Errors
+    ///
+    /// Where a growth was refused, before the first turn; nothing has changed then.
+    pub fn rounds<S: Sink>(
         &mut self,
-        alloc: Global,
-        guard: &mut Guard,
-        catalogue: &mut Catalogue,
+        floor: &mut Floor<S>,
         goal: Goal,
-        audit: &mut S,
     ) -> Result<Vec<JobEnd>, AllocError>
-        requires fit { CacheFits guard.old catalogue.old }
-        ensures rounds { IfOk result (λ ends. RoundsAre (stop_of goal) (scheduler catalogue.old (slots_in self.old)) ends.items (scheduler catalogue.new (slots_in self.new)) (S.standing audit.old) (S.standing audit.new)) }
+        ensures rounds { IfOk result (λ ends. RoundsAre (stop_of goal) (scheduler_in self.old floor.old) ends.items (scheduler_in self.new floor.new) (S.standing floor.old.audit.now) (S.standing floor.new.audit.now)) }
         ensures size { length (slots_in self.new) ≡ length (slots_in self.old) }
         ensures unchanged { OnErr result (self.new ≡ self.old) }
-        ensures sets { OnErr result (catalogue.new ≡ catalogue.old) }
-        ensures silent { OnErr result (S.standing audit.new ≡ S.standing audit.old) }
-        ensures fit { CacheFits guard.new catalogue.new }
+        ensures untouched { OnErr result (floor.new ≡ floor.old) }
+        ensures loans { SameLoans floor.old floor.new }
     {
-        let mut ends = Vec::with_capacity(alloc, self.len())?;
-        self.begin_rounds(alloc, goal);
+        let mut ends = Vec::with_capacity(floor.alloc, self.len())?;
+        let turns = if goal.is_met(self) { 0 } else { MANY_TURNS };
+        self.begin_turns(floor.alloc, turns);
         // Whether a job is alone is asked before the first round, and after each in which a job has ended.
         let mut looks = true;
         'rounds: while !goal.is_met(self) {
             let ended = ends.len();
-            self.some_rounds(alloc, guard, catalogue, goal, looks, &mut ends, audit);
+            self.some_rounds(floor, goal, looks, &mut ends);
             looks = ends.len() > ended;
         }
-        self.end_turns(alloc);
+        self.end_turns(floor.alloc);
         Ok(ends)
-    }
-
-    /// Rounds of turns, from slot 1 upward, until all slots are empty, and the jobs that ended.
-    ///
-    /// # Errors
-    ///
-    /// Where a growth was refused, before the first turn; nothing has changed then.
-    pub fn drain<S: Sink>(
-        &mut self,
-        alloc: Global,
-        guard: &mut Guard,
-        catalogue: &mut Catalogue,
-        audit: &mut S,
-    ) -> Result<Vec<JobEnd>, AllocError>
-        requires fit { CacheFits guard.old catalogue.old }
-        ensures drain { IfOk result (λ ends. DrainIs (scheduler catalogue.old (slots_in self.old)) ends.items (scheduler catalogue.new (slots_in self.new)) (S.standing audit.old) (S.standing audit.new)) }
-        ensures size { length (slots_in self.new) ≡ length (slots_in self.old) }
-        ensures unchanged { OnErr result (self.new ≡ self.old) }
-        ensures sets { OnErr result (catalogue.new ≡ catalogue.old) }
-        ensures silent { OnErr result (S.standing audit.new ≡ S.standing audit.old) }
-        ensures fit { CacheFits guard.new catalogue.new }
-    {
-        self.rounds(alloc, guard, catalogue, Goal::Empty, audit)
-    }
-
-    /// Rounds of turns, from slot 1 upward, until a slot is empty, and the jobs that ended.
-    ///
-    /// # Errors
-    ///
-    /// Where a growth was refused, before the first turn; nothing has changed then.
-    pub fn room<S: Sink>(
-        &mut self,
-        alloc: Global,
-        guard: &mut Guard,
-        catalogue: &mut Catalogue,
-        audit: &mut S,
-    ) -> Result<Vec<JobEnd>, AllocError>
-        requires fit { CacheFits guard.old catalogue.old }
-        ensures room { IfOk result (λ ends. RoomIs (scheduler catalogue.old (slots_in self.old)) ends.items (scheduler catalogue.new (slots_in self.new)) (S.standing audit.old) (S.standing audit.new)) }
-        ensures size { length (slots_in self.new) ≡ length (slots_in self.old) }
-        ensures unchanged { OnErr result (self.new ≡ self.old) }
-        ensures sets { OnErr result (catalogue.new ≡ catalogue.old) }
-        ensures silent { OnErr result (S.standing audit.new ≡ S.standing audit.old) }
-        ensures fit { CacheFits guard.new catalogue.new }
-    {
-        self.rounds(alloc, guard, catalogue, Goal::Room, audit)
     }
 }

@@ -3,20 +3,21 @@ ghost use Rattle.std.specs.Prelude.{◌≡◌, Some, None, IsSome};
 ghost use Rattle.mon_guard.specs.Cache.{CacheFits};
 ghost use Rattle.scheduler.specs.States.{SlotState};
 ghost use Rattle.scheduler.specs.Abstraction.{slot_of, seat_of};
+ghost use Rattle.scheduler.specs.Floors.{Between, SameLoans};
 ghost use Rattle.scheduler.specs.Turns.{job_end};
 ghost use Rattle.sno_run.specs.Abstraction.{job_of};
 ghost use Rattle.mon_unit.specs.Lent.{reach_of};
-ghost use Rattle.mon_unit.specs.inner.Keeping.{KeptFits};
+ghost use Rattle.audit.specs.inner.Keeping.{KeptFits};
 ghost use Rattle.scheduler.specs.Turns.{reached};
 ghost use Rattle.scheduler.specs.inner.Stepping.{Done, Stepped, StillKept, SeatStep};
 ghost use Rattle.scheduler.specs.inner.Alone.{GoesToEnd, SeatEnds};
 
-use crate::job_end::JobEnd;
+use crate::floor::Floor;
+use audit::{AuditCache, AuditedService};
+use job_end::JobEnd;
 use mon_access::Account;
-use mon_catalogue::Catalogue;
 use mon_device::Sink;
-use mon_guard::Guard;
-use mon_unit::{AuditedService, KeptLines, UnitService, Units};
+use mon_unit::{UnitService, Units};
 use sno_run::{Ending, Job, Step, statement_turn};
 use std::alloc::Global;
 use std::mem;
@@ -37,7 +38,7 @@ fn audited_turn<S: Sink>(
     job: &mut Job,
     service: &mut UnitService,
     audit: &mut S,
-    kept: &mut KeptLines,
+    kept: &mut AuditCache,
 ) -> Step
     requires fit { CacheFits service.old.guard.now service.old.catalogue.now }
     requires kept { KeptFits kept.old.number service.old.account.now (reach_of service.old) kept.old }
@@ -55,30 +56,22 @@ fn audited_turn<S: Sink>(
 
 // One turn of the job in a slot.
 #[inline(always)]
-fn turn_of<S: Sink>(
-    alloc: Global,
-    guard: &mut Guard,
-    catalogue: &mut Catalogue,
-    slot: &mut Slot,
-    audit: &mut S,
-    kept: &mut KeptLines,
-) -> Step
-    requires fit { CacheFits guard.old catalogue.old }
-    requires kept { KeptFits slot.old.number slot.old.account (reached catalogue.old (slot_of slot.old)) kept.old }
+fn turn_of<S: Sink>(floor: &mut Floor<S>, slot: &mut Slot, kept: &mut AuditCache) -> Step
+    requires kept { KeptFits slot.old.number slot.old.account (reached floor.old.catalogue.now (slot_of slot.old)) kept.old }
     requires number { kept.old.number ≡ slot.old.number }
-    ensures step { Stepped (slot_of slot.old) catalogue.old result (slot_of slot.new) catalogue.new (S.standing audit.old) (S.standing audit.new) }
-    ensures fit { CacheFits guard.new catalogue.new }
-    ensures kept { KeptFits slot.new.number slot.new.account (reached catalogue.new (slot_of slot.new)) kept.new }
+    ensures step { Between S.standing (λ v w. Stepped (slot_of slot.old) v result (slot_of slot.new) w) floor.old floor.new }
+    ensures loans { SameLoans floor.old floor.new }
+    ensures kept { KeptFits slot.new.number slot.new.account (reached floor.new.catalogue.now (slot_of slot.new)) kept.new }
     ensures number { kept.new.number ≡ slot.new.number }
 {
     let mut service = UnitService {
-        alloc,
+        alloc: floor.alloc,
         account: &slot.account,
-        guard: &mut *guard,
-        catalogue: &mut *catalogue,
+        guard: &mut *floor.guard,
+        catalogue: &mut *floor.catalogue,
         units: &mut slot.units,
     };
-    audited_turn(alloc, &mut slot.job, &mut service, audit, kept)
+    audited_turn(floor.alloc, &mut slot.job, &mut service, floor.audit, kept)
 }
 
 // What is left of a job that has ended.
@@ -110,41 +103,27 @@ pub(crate) fn leave(seat: &mut Option<Slot>, ending: Ending) -> JobEnd
 
 // One turn of what a slot holds, if it holds a job. One that has ended stays in its seat until it leaves.
 #[inline(always)]
-pub(crate) fn step_at<S: Sink>(
-    alloc: Global,
-    guard: &mut Guard,
-    catalogue: &mut Catalogue,
-    seat: &mut Option<Slot>,
-    audit: &mut S,
-) -> Option<Step>
-    requires fit { CacheFits guard.old catalogue.old }
-    ensures step { SeatStep (seat_of seat.old) catalogue.old result (seat_of seat.new) catalogue.new (S.standing audit.old) (S.standing audit.new) }
-    ensures fit { CacheFits guard.new catalogue.new }
+pub(crate) fn step_at<S: Sink>(floor: &mut Floor<S>, seat: &mut Option<Slot>) -> Option<Step>
+    ensures step { Between S.standing (λ v w. SeatStep (seat_of seat.old) v result (seat_of seat.new) w) floor.old floor.new }
+    ensures loans { SameLoans floor.old floor.new }
 {
     match seat {
         None => None,
         Some(slot) => {
-            let mut kept = KeptLines::none(slot.number);
-            Some(turn_of(alloc, guard, catalogue, slot, audit, &mut kept))
+            let mut kept = AuditCache::none(slot.number);
+            Some(turn_of(floor, slot, &mut kept))
         }
     }
 }
 
 // Turns of a job, until it has ended. Words of the audit's lines are kept from one to the next.
-fn run_to_end<S: Sink>(
-    alloc: Global,
-    guard: &mut Guard,
-    catalogue: &mut Catalogue,
-    slot: &mut Slot,
-    audit: &mut S,
-) -> Ending
-    requires fit { CacheFits guard.old catalogue.old }
-    ensures goes { GoesToEnd (slot_of slot.old) catalogue.old result (slot_of slot.new) catalogue.new (S.standing audit.old) (S.standing audit.new) }
-    ensures fit { CacheFits guard.new catalogue.new }
+fn run_to_end<S: Sink>(floor: &mut Floor<S>, slot: &mut Slot) -> Ending
+    ensures goes { Between S.standing (λ v w. GoesToEnd (slot_of slot.old) v result (slot_of slot.new) w) floor.old floor.new }
+    ensures loans { SameLoans floor.old floor.new }
 {
-    let mut kept = KeptLines::new(slot.number);
+    let mut kept = AuditCache::new(slot.number);
     'turns: loop {
-        match turn_of(alloc, guard, catalogue, slot, audit, &mut kept) {
+        match turn_of(floor, slot, &mut kept) {
             Step::Goes => (),
             Step::Ended(ending) => return ending,
         }
@@ -152,19 +131,12 @@ fn run_to_end<S: Sink>(
 }
 
 // Turns of what a slot holds, if it holds a job, until that has ended. It stays in its seat until it leaves.
-pub(crate) fn run_at<S: Sink>(
-    alloc: Global,
-    guard: &mut Guard,
-    catalogue: &mut Catalogue,
-    seat: &mut Option<Slot>,
-    audit: &mut S,
-) -> Option<Ending>
-    requires fit { CacheFits guard.old catalogue.old }
-    ensures ended { SeatEnds (seat_of seat.old) catalogue.old result (seat_of seat.new) catalogue.new (S.standing audit.old) (S.standing audit.new) }
-    ensures fit { CacheFits guard.new catalogue.new }
+pub(crate) fn run_at<S: Sink>(floor: &mut Floor<S>, seat: &mut Option<Slot>) -> Option<Ending>
+    ensures ended { Between S.standing (λ v w. SeatEnds (seat_of seat.old) v result (seat_of seat.new) w) floor.old floor.new }
+    ensures loans { SameLoans floor.old floor.new }
 {
     match seat {
         None => None,
-        Some(slot) => Some(run_to_end(alloc, guard, catalogue, slot, audit)),
+        Some(slot) => Some(run_to_end(floor, slot)),
     }
 }

@@ -2,23 +2,19 @@
 ghost use Rattle.std.specs.Prelude.{◌≡◌, ◌<◌, ◌≤◌, ◌+◌, ◌↔◌, IsTrue, length, Some, None, Ok, Err, IfOk, IfErr, IsErrOf, OnErr, IsSome, IfSome, position, is_some, is_none, replicate};
 ghost use Rattle.std.specs.List.{list_any, list_all};
 
-use crate::auditing::print_ended;
 use crate::card_reserve::CardReserve;
-use crate::holder::Holder;
-use crate::holding::most_held;
-use crate::job_end::JobEnd;
+use crate::floor::Floor;
+use crate::independence::are_apart;
+use crate::largest_printout::{Holder, most_held};
 use crate::loading::slot_for;
-use crate::lone::{are_empty, lone_in};
-use crate::refusal::LoadError;
 use crate::reserve::Reserve;
-use crate::sharing::are_apart;
+use crate::single_job::{are_empty, lone_in};
 use crate::slot::{Slot, leave, run_at, step_at};
-use crate::turned::Turned;
 use deck_syntax::JobDeck;
+use job_end::{JobEnd, Turned, print_ended};
+use load_refusal::LoadError;
 use mon_access::Accounts;
-use mon_catalogue::Catalogue;
 use mon_device::Sink;
-use mon_guard::Guard;
 use mon_text::Stop;
 use sno_run::{Ending, Step};
 use sno_text::Seed;
@@ -44,10 +40,10 @@ pub struct Slots {
 
 impl Slots {
     ghost use Rattle.mon_catalogue.specs.Sets.{Sets};
-    ghost use Rattle.mon_guard.specs.Cache.{CacheFits};
     ghost use Rattle.mon_device.specs.Putting.{Puts};
-    ghost use Rattle.scheduler.specs.AuditLines.{ended_line};
+    ghost use Rattle.job_end.specs.AuditLines.{ended_line};
     ghost use Rattle.scheduler.specs.Abstraction.{slots_in};
+    ghost use Rattle.scheduler.specs.Floors.{SameLoans, scheduler_in};
     ghost use Rattle.scheduler.specs.Ties.{Independent};
     ghost use Rattle.scheduler.specs.Holding.{most_held};
     ghost use Rattle.scheduler.specs.Loads.{job_loaded};
@@ -179,42 +175,26 @@ impl Slots {
     // One turn of the job in a slot, if there is one. A job that has ended stays in its slot until it is taken out, so that
     // no turn but the last moves what is left of it.
     #[inline(always)]
-    pub(crate) fn step<S: Sink>(
-        &mut self,
-        alloc: Global,
-        guard: &mut Guard,
-        catalogue: &mut Catalogue,
-        slot: u8,
-        audit: &mut S,
-    ) -> Option<Step>
-        requires fit { CacheFits guard.old catalogue.old }
-        ensures step { StepOr slot (scheduler catalogue.old (slots_in self.old)) result (scheduler catalogue.new (slots_in self.new)) (S.standing audit.old) (S.standing audit.new) }
+    pub(crate) fn step<S: Sink>(&mut self, floor: &mut Floor<S>, slot: u8) -> Option<Step>
+        ensures step { StepOr slot (scheduler_in self.old floor.old) result (scheduler_in self.new floor.new) (S.standing floor.old.audit.now) (S.standing floor.new.audit.now) }
         ensures size { length (slots_in self.new) ≡ length (slots_in self.old) }
-        ensures fit { CacheFits guard.new catalogue.new }
+        ensures loans { SameLoans floor.old floor.new }
     {
         match self.index_of(slot) {
             None => None,
-            Some(index) => step_at(alloc, guard, catalogue, &mut self.items[index], audit),
+            Some(index) => step_at(floor, &mut self.items[index]),
         }
     }
 
     // Turns of the job that is alone in the slots, until it has ended. It stays in its slot until it is taken out.
-    pub(crate) fn run_lone<S: Sink>(
-        &mut self,
-        alloc: Global,
-        guard: &mut Guard,
-        catalogue: &mut Catalogue,
-        slot: u8,
-        audit: &mut S,
-    ) -> Ending
-        requires fit { CacheFits guard.old catalogue.old }
+    pub(crate) fn run_lone<S: Sink>(&mut self, floor: &mut Floor<S>, slot: u8) -> Ending
         requires lone { IsLone slot (slots_in self.old) }
-        ensures ended { LoneEnds slot (scheduler catalogue.old (slots_in self.old)) result (scheduler catalogue.new (slots_in self.new)) (S.standing audit.old) (S.standing audit.new) }
+        ensures ended { LoneEnds slot (scheduler_in self.old floor.old) result (scheduler_in self.new floor.new) (S.standing floor.old.audit.now) (S.standing floor.new.audit.now) }
         ensures size { length (slots_in self.new) ≡ length (slots_in self.old) }
-        ensures fit { CacheFits guard.new catalogue.new }
+        ensures loans { SameLoans floor.old floor.new }
     {
         let index = self.index_of(slot).unwrap();
-        run_at(alloc, guard, catalogue, &mut self.items[index], audit).unwrap()
+        run_at(floor, &mut self.items[index]).unwrap()
     }
 
     // Empties the slot of a job that has ended.
@@ -251,17 +231,17 @@ impl Slots {
         end
     }
 
-    // Before turns: they leave to cards and commands, and to the other jobs, what can be kept for these. For so few that it would
-    // take longer than they do, a little is kept.
+    // Before so many turns, if there are any: they leave to cards and commands, and to the other jobs, what can be kept for these. For so
+    // few that it would take longer than they do, a little is kept.
     #[inline(never)]
     pub(crate) fn begin_turns(&mut self, alloc: Global, count: u64)
         ensures { slots_in self.new ≡ slots_in self.old }
     {
-        if count < MANY_TURNS {
-            self.for_cards.take_little(alloc);
-        } else {
+        if count >= MANY_TURNS {
             self.for_cards.take(alloc);
             self.for_jobs.fill(alloc);
+        } else if count > 0 {
+            self.for_cards.take_little(alloc);
         }
     }
 
@@ -280,23 +260,17 @@ impl Slots {
     }
 
     /// One turn of the job in a slot. Slots are counted from 1; one that there isn't is empty. The lines of the turn are put to the audit.
-    pub fn turn<S: Sink>(
-        &mut self,
-        alloc: Global,
-        guard: &mut Guard,
-        catalogue: &mut Catalogue,
-        slot: u8,
-        audit: &mut S,
-    ) -> Turned
-        requires fit { CacheFits guard.old catalogue.old }
-        ensures turn { TurnOr slot (scheduler catalogue.old (slots_in self.old)) result (scheduler catalogue.new (slots_in self.new)) (S.standing audit.old) (S.standing audit.new) }
+    pub fn turn<S: Sink>(&mut self, floor: &mut Floor<S>, slot: u8) -> Turned
+        ensures turn { TurnOr slot (scheduler_in self.old floor.old) result (scheduler_in self.new floor.new) (S.standing floor.old.audit.now) (S.standing floor.new.audit.now) }
         ensures size { length (slots_in self.new) ≡ length (slots_in self.old) }
-        ensures fit { CacheFits guard.new catalogue.new }
+        ensures loans { SameLoans floor.old floor.new }
     {
-        match self.step(alloc, guard, catalogue, slot, audit) {
+        match self.step(floor, slot) {
             None => Turned::Empty,
             Some(Step::Goes) => Turned::Goes,
-            Some(Step::Ended(ending)) => Turned::Ended(self.take_out(alloc, slot, ending, audit)),
+            Some(Step::Ended(ending)) => {
+                Turned::Ended(self.take_out(floor.alloc, slot, ending, floor.audit))
+            }
         }
     }
 }

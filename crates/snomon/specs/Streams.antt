@@ -1,6 +1,6 @@
 -- What a run of a deck comes to over streams of std (own).
 use Rattle.std.specs.Prelude.{◌≡◌, ℕ, Bool, true, false, List, Option, is_some, Result, Err, IfSome, IfOk, OnOk}
-use Rattle.deck_syntax.specs.declared.deck_error.DeckError.{DeckError}
+use Rattle.deck_lines.specs.declared.deck_error.DeckError.{DeckError}
 use Rattle.deck_syntax.specs.Decks.{Stopped, Refused}
 use Rattle.mon_device.specs.Devices.{IsAtEnd}
 use Rattle.mon_device.specs.Putting.{Standing}

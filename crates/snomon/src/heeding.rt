@@ -1,6 +1,6 @@
 //! An audit to which somebody listens, or nobody; and the file that it is written to, or none. A program has one run for both: what is
 //! called from one place stays so.
-ghost use Rattle.std.specs.Prelude.{◌≡◌, Bool, true, false};
+ghost use Rattle.std.specs.Prelude.{◌≡◌, Bool, false};
 ghost use Rattle.snomon.specs.Endings.{heard_as};
 
 use mon_device::{DeckDevices, DeviceSink, Failed, Sink};

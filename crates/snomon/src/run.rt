@@ -10,7 +10,7 @@ ghost use Rattle.snomon.specs.Endings.{Ends, Tells};
 ghost use Rattle.snomon.specs.Asking.{GivesAll};
 
 use crate::asking::take_audit;
-use crate::audit::run_audited;
+use crate::audited_run::run_audited;
 use crate::options::{no_text, read_options};
 use crate::shell::{Ended, finish, refuse};
 use clap::Error;

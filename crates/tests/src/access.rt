@@ -1,4 +1,5 @@
 //! The access check on lists worked by hand from acl(5).
+use acl_text::parse_short;
 use mon_access::Decision::{Denied, Granted};
 use mon_access::{Account, Accounts, Decider as By, Decision, Groups, check};
 use mon_acl::{Acl, Perms};
@@ -339,7 +340,7 @@ fn are_answered(alloc: Global, acl: &Acl, rows: &[(Who, Asked, Decision)]) -> bo
 }
 
 fn is_worked_by_hand(alloc: Global, case: &Case) -> bool {
-    match Acl::parse_short(alloc, case.list) {
+    match parse_short(alloc, case.list) {
         Ok(acl) => are_answered(alloc, &acl, case.rows),
         Err(_) => false,
     }

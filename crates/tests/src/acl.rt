@@ -1,4 +1,5 @@
 //! What no deck asks of a permission list: its long text form whole, and one more of it.
+use acl_text::{parse_short, put_long};
 use mon_acl::Acl;
 use std::alloc::Global;
 
@@ -9,14 +10,14 @@ const MASKED_LONG: &[u8] =
     b"user::rwx\nuser:hugo:rwx\t#effective:r--\nuser:lisa:r--\ngroup::-w-\t#effective:---\ngroup:ops:rw-\t#effective:r--\ngroup:staff:---\ngroup:temp:--x\t#effective:---\nmask::r--\nother::rwx\n";
 
 fn copied(alloc: Global, text: &[u8]) -> Option<Acl> {
-    let acl = Acl::parse_short(alloc, text).ok()?;
+    let acl = parse_short(alloc, text).ok()?;
     acl.copy(alloc).ok()
 }
 
 fn tells_the_mask(alloc: Global) -> bool {
     let mut out = Vec::new(alloc);
     match copied(alloc, MASKED) {
-        Some(acl) => acl.put_long(&mut out).is_ok() && out.as_slice() == MASKED_LONG,
+        Some(acl) => put_long(&acl, &mut out).is_ok() && out.as_slice() == MASKED_LONG,
         None => false,
     }
 }

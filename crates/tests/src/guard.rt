@@ -4,8 +4,9 @@ ghost use Rattle.mon_guard.specs.Cache.{CacheFits};
 
 use crate::access::account;
 use crate::catalogue::read;
+use acl_text::{AclText, Bytes};
 use mon_access::{Account, Decider};
-use mon_acl::{AclText, Bytes, Perms, Tag};
+use mon_acl::{Perms, Tag};
 use mon_catalogue::{Catalogue, Version};
 use mon_guard::{Answered, Decided, Guard, GuardAnswer, Reason};
 use mon_text::{Name, read_line, read_name};
@@ -203,7 +204,7 @@ fn lists(alloc: Global, desk: &mut Desk, account: &Account, list: &[u8]) -> bool
 }
 
 fn has_rows(desk: &Desk, rows: u64) -> bool {
-    desk.guard.rows() == rows
+    desk.guard.cached() == rows
 }
 
 // One row for each account that asked, whatever it was answered, until the set's list is another, or the set is gone.

@@ -2,7 +2,7 @@
 use crate::access::is_known;
 use mon_access::Accounts;
 use mon_catalogue::{Catalogue, Mode};
-use mon_command::{Command, serve};
+use mon_command::{Command, execute};
 use mon_guard::Guard;
 use mon_text::read_name;
 use std::alloc::Global;
@@ -21,7 +21,7 @@ fn is_created(alloc: Global, accounts: &Accounts, catalogue: &mut Catalogue) -> 
     let mut guard = Guard::new(alloc);
     match create() {
         Some(command) => {
-            matches!(serve(alloc, accounts, &mut guard, catalogue, command), Ok(printout) if printout.as_slice() == b"CREATE anna NOTE\nDONE\n".as_slice())
+            matches!(execute(alloc, accounts, &mut guard, catalogue, command), Ok(printout) if printout.as_slice() == b"CREATE anna NOTE\nDONE\n".as_slice())
         }
         None => false,
     }

@@ -1,25 +1,30 @@
 -- What one line does, with some marks for the turns in it, and whatever marks and lines follow: to what is printed, and to an audit, whose
 -- sink stands as a says before and as b says then.
-use Rattle.std.specs.Prelude.{◌≡◌, ℕ, ◌+◌, Bool, true, List, [], ◌∷◌, ◌++◌}
+use Rattle.std.specs.Prelude.{◌≡◌, ℕ, ◌+◌, Bool, false, Option, Some, None, List, ◌∷◌, ◌++◌}
+use Rattle.std.specs.declared.alloc.Global.{Global}
+use Rattle.std.specs.declared.rc.Rc.{Rc}
 use Rattle.mon_catalogue.specs.Sets.{Sets}
-use Rattle.mon_catalogue.specs.Progress.{is_due}
 use Rattle.mon_device.specs.Putting.{Standing, Puts}
 use Rattle.scheduler.specs.Marks.{Marks}
-use Rattle.mon_monitor.specs.SystemStates.{SystemState}
+use Rattle.mon_monitor.specs.declared.monitor.Monitor.{Monitor}
+use Rattle.mon_monitor.specs.SystemStates.{SystemState, first_system}
 use Rattle.mon_monitor.specs.Abstraction.{system_of}
-use Rattle.deck_syntax.specs.Decks.{Asked, Commands, Enters, Cards}
-use Rattle.deck_syntax.specs.Requests.{set_acl_of}
-use Rattle.deck_syntax.specs.Sections.{Closed, asked_then, stopped, accounts_section, stream_section, sets_of}
+use Rattle.deck_syntax.specs.Decks.{Cards as AllCards}
+use Rattle.deck_syntax.specs.Sections.{stopped}
+use Rattle.deck_reader.specs.declared.front_reader.Front.{Front}
+use Rattle.deck_reader.specs.declared.stream_reader.StreamReader.TheVariants.{Cards}
+use Rattle.deck_reader.specs.declared.stream_reader.Event.{Event}
+use Rattle.deck_reader.specs.declared.stream_reader.Event.TheVariants as event
+use Rattle.deck_reader.specs.Events.{event_then}
 use Rattle.deck_driver.specs.declared.options.Counts.{Counts}
 use Rattle.deck_driver.specs.declared.options.Options.{Options}
-use Rattle.deck_driver.specs.declared.section.Section.{Section}
 use Rattle.deck_driver.specs.declared.section.Section.TheVariants as section
 use Rattle.deck_driver.specs.declared.section.DeckState.{DeckState}
 use Rattle.deck_driver.specs.declared.section.DeckState.TheVariants as state
-use Rattle.deck_driver.specs.RunStates.{RunState, over, opening}
-use Rattle.deck_driver.specs.Printouts.{answer_to}
+use Rattle.deck_driver.specs.RunStates.{over, nothing_counted}
+use Rattle.deck_driver.specs.Printouts.{ReadsBack, answer_to}
 use Rattle.deck_driver.specs.Audits.{told_to, told_from}
-use Rattle.deck_driver.specs.Feeds.{Conclusion, Outcome, run_state_from, outcome, outcome_of, sets_left, behind, Begins}
+use Rattle.deck_driver.specs.Feeds.{Conclusion, outcome, outcome_of, sets_left, behind, Begins}
 
 -- a line was taken
 pub record TookLine (options : Options) (s : DeckState) (line before : List ℕ) (counts : Counts) (s' : DeckState) (after : List ℕ) (counts' : Counts) (a b : Standing) : Type 0 where
@@ -38,69 +43,45 @@ pub record LineBreaks (options : Options) (s : DeckState) (line : List ℕ) (cou
   pub tells : (rest : Marks) → (n : ℕ) → (ls : List (List ℕ)) → Begins lines (told_from options counts.jobs (marks ++ rest) s n (line ∷ ls))
   pub audited : Puts a b lines
 
--- the state of the run that the lines from number n on make, behind one that ended the section before them or the deck
-abbrev pub run_state_behind : ℕ → Section → ℕ → List (List ℕ) → RunState
-run_state_behind slots section.Opening n ls = opening slots (accounts_section n [] ls)
-run_state_behind slots (section.Accounts accounts) n ls = opening slots (accounts_section n accounts ls)
-run_state_behind slots (section.Catalogue accounts progress) n ls = opening slots (record { accounts = accounts; catalogue = sets_of progress; cards = stream_section n Closed ls })
-run_state_behind slots (section.Stream w) n ls = over (system_of w) stopped
-run_state_behind slots (section.List w list) n ls = over (system_of w) (asked_then (Commands (set_acl_of list)) (stream_section n Closed ls))
-run_state_behind slots (section.Job w job) n ls = over (system_of w) (asked_then (Enters job) (stream_section n Closed ls))
+-- the system, where the deck's stream is read
+abbrev pub monitor_in : DeckState → Option Monitor
+monitor_in (state.Reading (section.Stream r w)) = Some w
+monitor_in _ = None
 
-abbrev pub outcome_behind : Options → ℕ → Marks → DeckState → ℕ → List (List ℕ) → Outcome
-outcome_behind options jobs m (state.Reading section) n ls = outcome_of options.check jobs m (run_state_behind options.slots.number section n ls)
-outcome_behind options jobs m s n ls = outcome options jobs m s n ls
+-- its front is read
+abbrev pub IsFront : DeckState → Type 0
+IsFront (state.Reading (section.Front r)) = Unit {0}
+IsFront _ = ⊥
 
-abbrev pub told_behind : Options → ℕ → Marks → DeckState → ℕ → List (List ℕ) → List ℕ
-told_behind options jobs m (state.Reading section) n ls = told_to options.check jobs m (run_state_behind options.slots.number section n ls)
-told_behind options jobs m s n ls = told_from options jobs m s n ls
+-- a stream begins over what was read before it
+abbrev pub IsOver : ℕ → Front → DeckState → Type 0
+IsOver slots front s = (w : Monitor) × (s ≡ state.Reading (section.Stream Cards w)) × (system_of w ≡ first_system slots front.accounts front.catalogue)
 
--- a line may end this section: a catalogue is whole then
-abbrev pub Leaves : DeckState → Type 0
-Leaves (state.Reading (section.Accounts accounts)) = ⊥
-Leaves (state.Reading (section.Catalogue accounts progress)) = is_due progress ≡ true
-Leaves (state.Reading section) = Unit {0}
-Leaves _ = ⊥
+-- the deck does not end by this
+abbrev pub GoesOn : Event → Type 0
+GoesOn event.Stops = ⊥
+GoesOn _ = Unit {0}
 
-abbrev pub IsStream : Section → Type 0
-IsStream (section.Stream w) = Unit {0}
-IsStream _ = ⊥
+-- how an event counts
+abbrev pub counted_by : Event → Counts
+counted_by (event.Asks command) = record { jobs = 0; commands = 1 }
+counted_by (event.Enters job) = record { jobs = 1; commands = 0 }
+counted_by _ = nothing_counted
 
--- a line ends the section
-pub record EndsSection (slots : ℕ) (s : Section) (line : List ℕ) : Type 0 where
-  pub leaves : Leaves (state.Reading s)
-  pub is : (n : ℕ) → (ls : List (List ℕ)) → run_state_from slots s n (line ∷ ls) ≡ run_state_behind slots s (n + 1) ls
-
--- what comes of its end was done
-pub record MovedOn (options : Options) (s : DeckState) (before : List ℕ) (counts : Counts) (s' : DeckState) (after : List ℕ) (counts' : Counts) (a b : Standing) : Type 0 where
+-- what a line brings happened
+pub record Served (check : Bool) (e : Event) (w : SystemState) (before : List ℕ) (counts : Counts) (w' : SystemState) (after : List ℕ) (counts' : Counts) (a b : Standing) : Type 0 where
   pub marks : Marks
-  pub is : (rest : Marks) → (n : ℕ) → (ls : List (List ℕ))
-      → behind after counts' (outcome options counts'.jobs rest s' n ls) ≡ behind before counts (outcome_behind options counts.jobs (marks ++ rest) s n ls)
+  pub is : (rest : Marks) → (others : AllCards)
+      → behind after counts' (outcome_of check counts'.jobs rest (over w' others)) ≡ behind before counts (outcome_of check counts.jobs (marks ++ rest) (over w (event_then e others)))
   pub lines : List ℕ
-  pub tells : (rest : Marks) → (n : ℕ) → (ls : List (List ℕ)) → told_behind options counts.jobs (marks ++ rest) s n ls ≡ lines ++ told_from options counts'.jobs rest s' n ls
+  pub tells : (rest : Marks) → (others : AllCards) → told_to check counts.jobs (marks ++ rest) (over w (event_then e others)) ≡ lines ++ told_to check counts'.jobs rest (over w' others)
   pub audited : Puts a b lines
 
 -- or memory ran out meanwhile
-pub record MoveBreaks (options : Options) (s : DeckState) (counts : Counts) (a b : Standing) : Type 0 where
+pub record ServeBreaks (check : Bool) (e : Event) (w : SystemState) (jobs : ℕ) (a b : Standing) : Type 0 where
   pub marks : Marks
   pub lines : List ℕ
-  pub tells : (rest : Marks) → (n : ℕ) → (ls : List (List ℕ)) → Begins lines (told_behind options counts.jobs (marks ++ rest) s n ls)
-  pub audited : Puts a b lines
-
--- what a card asks for happened
-pub record Served (check : Bool) (one : Asked) (w : SystemState) (before : List ℕ) (counts : Counts) (w' : SystemState) (after : List ℕ) (counts' : Counts) (a b : Standing) : Type 0 where
-  pub marks : Marks
-  pub is : (rest : Marks) → (others : Cards)
-      → behind after counts' (outcome_of check counts'.jobs rest (over w' others)) ≡ behind before counts (outcome_of check counts.jobs (marks ++ rest) (over w (asked_then one others)))
-  pub lines : List ℕ
-  pub tells : (rest : Marks) → (others : Cards) → told_to check counts.jobs (marks ++ rest) (over w (asked_then one others)) ≡ lines ++ told_to check counts'.jobs rest (over w' others)
-  pub audited : Puts a b lines
-
--- or memory ran out meanwhile
-pub record ServeBreaks (check : Bool) (one : Asked) (w : SystemState) (jobs : ℕ) (a b : Standing) : Type 0 where
-  pub marks : Marks
-  pub lines : List ℕ
-  pub tells : (rest : Marks) → (others : Cards) → Begins lines (told_to check jobs (marks ++ rest) (over w (asked_then one others)))
+  pub tells : (rest : Marks) → (others : AllCards) → Begins lines (told_to check jobs (marks ++ rest) (over w (event_then e others)))
   pub audited : Puts a b lines
 
 -- `$STOP` came, behind so many jobs, and these data sets are left
@@ -118,6 +99,12 @@ pub record StopBreaks (check : Bool) (jobs : ℕ) (w : SystemState) (a b : Stand
   pub lines : List ℕ
   pub tells : (rest : Marks) → Begins lines (told_to check jobs (marks ++ rest) (over w stopped))
   pub audited : Puts a b lines
+
+-- `$STOP` came where the deck's stream was read
+abbrev pub StopsAt : Bool → Option Monitor → List ℕ → DeckState → List ℕ → Standing → Standing → Type 0
+StopsAt check (Some w) before s' after a b =
+    (sets : Rc Sets Global) × (s' ≡ state.Stopped sets) × ((jobs : ℕ) → Stopping check jobs (system_of w) before sets.value after a b) × (check ≡ false → ReadsBack sets.value)
+StopsAt check None before s' after a b = Unit {0}
 
 -- what the last lines come to, from number n on: this was put out, and so the deck came out
 pub record Ended (options : Options) (s : DeckState) (n : ℕ) (ls : List (List ℕ)) (before : List ℕ) (counts : Counts) (after : List ℕ) (conclusion : Conclusion) (a b : Standing) : Type 0 where

@@ -2,7 +2,7 @@
 -- says then. With marks: those that the turns so far took.
 use Rattle.std.specs.Prelude.{◌≡◌, ◌≤◌, ◌+◌, ℕ, true, List, [], ◌++◌, length, Option, None}
 use Rattle.scheduler.specs.Marks.{Marks}
-use Rattle.deck_syntax.specs.declared.deck_error.DeckError.{DeckError}
+use Rattle.deck_lines.specs.declared.deck_error.DeckError.{DeckError}
 use Rattle.deck_driver.specs.declared.feed.DeckFeed.{DeckFeed}
 use Rattle.deck_driver.specs.Feeds.{Outcome, Conclusion, refused_at, error_at, is_reading, Begins}
 use Rattle.deck_driver.specs.Abstraction.{told, audit_told}

@@ -6,7 +6,7 @@ use Rattle.sno_run.specs.declared.ending.Ending.{Ending}
 use Rattle.scheduler.specs.States.{SlotState, SchedulerState, scheduler, seat_at, with_seat, job_in}
 use Rattle.scheduler.specs.Turns.{job_end}
 use Rattle.scheduler.specs.Marks.{turns_left, is_done}
-use Rattle.scheduler.specs.AuditLines.{ended_line}
+use Rattle.job_end.specs.AuditLines.{ended_line}
 use Rattle.scheduler.specs.inner.Stepping.{jobs_in}
 use Rattle.scheduler.specs.inner.Rounding.{Going}
 

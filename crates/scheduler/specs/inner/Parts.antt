@@ -8,7 +8,7 @@ use Rattle.sno_syntax.specs.Programs.{Program}
 use Rattle.mon_access.specs.declared.account.Account.{Account}
 use Rattle.deck_syntax.specs.declared.job_deck.JobDeck.{JobDeck}
 use Rattle.scheduler.specs.Loads.{loaded_slot}
-use Rattle.scheduler.specs.declared.job_end.JobEnd.{JobEnd}
+use Rattle.job_end.specs.declared.job_end.JobEnd.{JobEnd}
 
 -- so much of it as was answered, where memory broke the turn off
 abbrev pub broken_turn : Bool → Mark → SlotState → Sets → List Exchanged

@@ -2,10 +2,10 @@
 use Rattle.std.specs.Prelude.{◌≡◌, ◌⊎◌, ◌++◌, Bool, true, false, ℕ, List, map, length}
 use Rattle.std.specs.List.{range_with_len}
 use Rattle.mon_device.specs.Putting.{Standing, Puts}
-use Rattle.scheduler.specs.declared.job_end.JobEnd.{JobEnd}
+use Rattle.job_end.specs.declared.job_end.JobEnd.{JobEnd}
 use Rattle.scheduler.specs.declared.rounds.Goal.{Goal}
 use Rattle.scheduler.specs.declared.rounds.Goal.TheVariants as goal
-use Rattle.scheduler.specs.declared.turned.Turned.{Turned}
+use Rattle.job_end.specs.declared.turned.Turned.{Turned}
 use Rattle.scheduler.specs.States.{SchedulerState}
 use Rattle.scheduler.specs.Marks.{Marks, until, rounds_until, is_done, has_free_slot}
 use Rattle.scheduler.specs.inner.Parts.{ends_then}

@@ -13,14 +13,15 @@ use Rattle.mon_unit.specs.declared.service.UnitService.{UnitService}
 use Rattle.mon_unit.specs.Runs.{run, run_cut, passed}
 use Rattle.mon_unit.specs.Serving.{serve}
 use Rattle.mon_unit.specs.Lent.{SameLoans, reach_of}
-use Rattle.mon_unit.specs.declared.kept.KeptLines.{KeptLines}
-use Rattle.mon_unit.specs.inner.Keeping.{KeptFits}
-use Rattle.scheduler.specs.declared.turned.Turned.TheVariants.{Empty, Goes, Ended}
+use Rattle.audit.specs.declared.audit_cache.AuditCache.{AuditCache}
+use Rattle.audit.specs.inner.Keeping.{KeptFits}
+use Rattle.job_end.specs.declared.turned.Turned.TheVariants.{Empty, Goes, Ended}
 use Rattle.scheduler.specs.States.{SlotState, SchedulerState, scheduler, job_in, with_seat}
 use Rattle.scheduler.specs.Turns.{reached, ran, job_end}
 use Rattle.scheduler.specs.Marks.{Mark, passed_at, exchanges_at, may_break}
 use Rattle.scheduler.specs.Exchanged.{asked_by, whole_turn}
-use Rattle.scheduler.specs.AuditLines.{exchanged_lines, ended_line}
+use Rattle.job_end.specs.AuditLines.{ended_line}
+use Rattle.scheduler.specs.AuditLines.{exchanged_lines}
 use Rattle.scheduler.specs.Turning.{TurnOr}
 
 -- what a turn that was broken off leaves, of the job of number n and of who served it
@@ -39,7 +40,7 @@ pub record Done (n : ℕ) (job : Job) (s : UnitService) (st : Step) (job' : Job)
       ⊎ Cut n s.account.now job s st job' s' p q
 
 -- the words of the audit's lines that are kept are those of the lines to come, as the service leaves what it was lent
-pub record StillKept (n : ℕ) (s : UnitService) (kept : KeptLines) : Type 0 where
+pub record StillKept (n : ℕ) (s : UnitService) (kept : AuditCache) : Type 0 where
   pub number : kept.number ≡ n
   pub fits : KeptFits n s.account.now (reach_of s) kept
 

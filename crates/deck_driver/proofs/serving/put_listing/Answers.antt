@@ -1,24 +1,27 @@
 use Rattle.std.proofs.Common.{refl}
-use Rattle.mon_command.specs.declared.command.Command.TheVariants.{List as Listing}
-use Rattle.mon_monitor.specs.Events.{Serve}
+use Rattle.std.proofs.lemmas.Result.{on_ok_weaker}
 use Rattle.mon_monitor.specs.Abstraction.{system_of}
+use Rattle.mon_monitor.specs.Events.{Serve}
+use Rattle.deck_lines.specs.declared.command.Command.TheVariants.{List as Listing}
 use Rattle.deck_syntax.specs.Decks.{Commands}
-use Rattle.deck_driver.proofs.Commanding.{counted_when, happens_served, command_counted, breaks_served, on_err}
+use Rattle.deck_reader.specs.declared.stream_reader.Event.TheVariants.{Asks}
+use Rattle.deck_driver.proofs.Commanding.{counted_when, command_counted, on_served, on_broken}
 use Rattle.deck_driver.proofs.serving.put_listing.Goals as goal
 
 pub returns-then-check-clause-served : goal.returns-then-check-clause-served
 returns-then-check-clause-served g c =
     let command = Listing c.args.listing.account c.args.listing.name in
-    counted_when (Commands command) (system_of c.args.monitor.now) c.args.out.now c.args.counts.now _ _ (command_counted c.args.counts.now command) c.args.check c.if-check.true
+    counted_when c.args.check c.if-check.true (Asks command) tt (system_of c.args.monitor.now) c.args.out.now c.args.counts.now _ _ (command_counted c.args.counts.now command)
 
 pub returns-clause-served : goal.returns-clause-served
 returns-clause-served g c =
     let command = Listing c.args.listing.account c.args.listing.name in
-    happens_served c.args.check c.if-check.false (Commands command) (Serve command) (system_of c.args.monitor.now) (system_of c.serve_listing.new.self)
-    c.args.out.now c.serve_listing.new.out c.args.counts.now _ _ _ refl (command_counted c.args.counts.now command) c.in_ok-serve_listing.ensures.happens.0
+    on_served c.serve_listing.result c.args.check c.if-check.false (Asks command) (Asks command) refl (Commands command) (λ others. refl) (Serve command) (system_of c.args.monitor.now) c.args.counts.now _ _ refl
+    (system_of c.serve_listing.new.self) c.args.out.now c.serve_listing.new.out _ (command_counted c.args.counts.now command) refl
+    (on_ok_weaker c.serve_listing.result (λ happens. happens.0) c.serve_listing.ensures.happens)
 
-pub returns-in_err-serve_listing-clause-broken : goal.returns-in_err-serve_listing-clause-broken
-returns-in_err-serve_listing-clause-broken g c =
+pub returns-clause-broken : goal.returns-clause-broken
+returns-clause-broken g c =
     let command = Listing c.args.listing.account c.args.listing.name in
-    on_err c.from_residual.result
-    (breaks_served c.args.check c.if-check.false (Commands command) (Serve command) (system_of c.args.monitor.now) c.args.counts.now.jobs _ _ refl c.in_err-serve_listing.ensures.broken)
+    on_broken c.serve_listing.result c.args.check c.if-check.false (Asks command) (Asks command) refl (Commands command) (λ others. refl) (Serve command) (system_of c.args.monitor.now) c.args.counts.now _ _ refl
+    c.serve_listing.ensures.broken

@@ -1,4 +1,4 @@
-use Rattle.mon_device.proofs.Putting.{puts_three}
+use Rattle.mon_monitor.proofs.Common.{puts_three}
 use Rattle.mon_monitor.proofs.listing.print_count.Goals as goal
 
 pub returns : goal.returns

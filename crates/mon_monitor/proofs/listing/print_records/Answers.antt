@@ -1,7 +1,5 @@
-use Rattle.std.proofs.Common.{ℕ, ap}
-use Rattle.std.specs.Prelude.{codes}
-use Rattle.mon_command.specs.Printouts.{count_line}
-use Rattle.mon_device.proofs.Putting.{puts_same, puts_then}
+use Rattle.std.proofs.Common.{ℕ, ap, codes}
+use Rattle.mon_monitor.proofs.Common.{count_line, puts_same, puts_then}
 use Rattle.mon_monitor.proofs.listing.print_records.Goals as goal
 
 pub returns : goal.returns

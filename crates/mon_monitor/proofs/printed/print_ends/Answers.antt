@@ -1,7 +1,6 @@
 -- One more is put.
 use Rattle.std.proofs.Common.{arith}
-use Rattle.scheduler.specs.Printouts.{printout}
-use Rattle.mon_device.proofs.Putting.{puts_nothing, puts_each}
+use Rattle.mon_monitor.proofs.Common.{printout, puts_nothing, puts_each}
 use Rattle.mon_monitor.proofs.printed.print_ends.Goals as goal
 
 pub loop-end-init : goal.loop-end-init

@@ -1,8 +1,6 @@
 -- The printouts so far are put.
 use Rattle.std.proofs.Common.{take}
-use Rattle.std.specs.List.{flat_map}
-use Rattle.scheduler.specs.Printouts.{printout}
-use Rattle.mon_device.specs.Putting.{Puts}
+use Rattle.mon_monitor.proofs.Common.{flat_map, printout, Puts}
 use Rattle.mon_monitor.proofs.printed.print_ends.Given as goal
 
 abbrev pub invariant-loop-end : goal.invariant-loop-end

@@ -1,7 +1,6 @@
 -- One more is put.
 use Rattle.std.proofs.Common.{arith}
-use Rattle.mon_monitor.specs.Printed.{piece_text}
-use Rattle.mon_device.proofs.Putting.{puts_nothing, puts_each}
+use Rattle.mon_monitor.proofs.Common.{piece_text, puts_nothing, puts_each}
 use Rattle.mon_monitor.proofs.printed.print_pieces.Goals as goal
 
 pub loop-piece-init : goal.loop-piece-init

@@ -1,7 +1,6 @@
 -- The pieces so far are put.
 use Rattle.std.proofs.Common.{take}
-use Rattle.mon_monitor.specs.Printed.{pieces_text}
-use Rattle.mon_device.specs.Putting.{Puts}
+use Rattle.mon_monitor.proofs.Common.{pieces_text, Puts}
 use Rattle.mon_monitor.proofs.printed.print_pieces.Given as goal
 
 abbrev pub invariant-loop-piece : goal.invariant-loop-piece

@@ -1,4 +1,4 @@
-use Rattle.mon_device.proofs.Putting.{puts_then}
+use Rattle.mon_monitor.proofs.Common.{puts_then}
 use Rattle.mon_monitor.proofs.printed.print_sets.Goals as goal
 
 pub returns : goal.returns

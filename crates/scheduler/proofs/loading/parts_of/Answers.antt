@@ -1,10 +1,5 @@
-use Rattle.std.proofs.Common.{◌≡◌, ℕ, List, [], ◌∙◌, ap, sym, drop, Result}
-use Rattle.std.specs.Option.{option_map_or}
-use Rattle.std.specs.Result.{result_ok}
-use Rattle.sno_cards.specs.Programs.{ProgramText}
-use Rattle.sno_cards.specs.declared.refusal.SyntaxError.{SyntaxError}
-use Rattle.mon_unit.specs.Tying.{new_units}
-use Rattle.scheduler.specs.Loads.{with_ties}
+use Rattle.std.proofs.Common.{ℕ, List, [], ◌∙◌, ap, sym, drop, Result}
+use Rattle.scheduler.proofs.Common.{option_map_or, result_ok, ProgramText, SyntaxError, new_units, with_ties}
 use Rattle.scheduler.proofs.loading.parts_of.Goals as goal
 
 pub returns-clause-units : goal.returns-clause-units

@@ -1,8 +1,5 @@
 use Rattle.std.proofs.Common.{None, ap, ◌∙◌}
-use Rattle.std.proofs.lemmas.Result.{IfOk-weaker, IfErr-weaker, on_ok_weaker}
-use Rattle.sno_cards.specs.Statements.{statements_of}
-use Rattle.scheduler.specs.Loads.{program_in}
-use Rattle.scheduler.specs.inner.Parts.{slot_by}
+use Rattle.scheduler.proofs.Common.{IfOk-weaker, IfErr-weaker, on_ok_weaker, statements_of, program_in, slot_by}
 use Rattle.scheduler.proofs.Loads.{deck_refused_by, stop_refused_by}
 use Rattle.scheduler.proofs.loading.slot_at_once.Goals as goal
 

@@ -1,8 +1,5 @@
 use Rattle.std.proofs.Common.{rules, ◌≡◌, Some}
-use Rattle.sno_cards.specs.Statements.{statements_of}
-use Rattle.sno_syntax.specs.Programs.{program_of}
-use Rattle.sno_run.specs.Jobs.{first_job}
-use Rattle.sno_run.specs.Abstraction.{job_of}
+use Rattle.scheduler.proofs.Common.{statements_of, program_of, first_job, job_of}
 use Rattle.scheduler.proofs.Loads.{slot_made, spelled_clean}
 use Rattle.scheduler.proofs.loading.slot_of_account.Goals as goal
 

@@ -1,5 +1,5 @@
 use Rattle.std.proofs.Common.{◌≡◌, drop, None}
-use Rattle.scheduler.specs.Loads.{with_ties, ties_refusal}
+use Rattle.scheduler.proofs.Common.{with_ties, ties_refusal}
 use Rattle.scheduler.proofs.loading.tie_all.Given as goal
 
 -- the cards that are left are not refused, and lead to the whole's units

@@ -1,6 +1,5 @@
-use Rattle.std.proofs.Common.{◌≡◌, drop, length, false}
-use Rattle.std.specs.Prelude.{replicate}
-use Rattle.scheduler.specs.inner.Carding.{cards_refused}
+use Rattle.std.proofs.Common.{◌≡◌, drop, length, false, replicate}
+use Rattle.scheduler.proofs.Common.{cards_refused}
 use Rattle.scheduler.proofs.loading.ties_refused.Given as goal
 
 -- the cards that are left have the whole's first refusal

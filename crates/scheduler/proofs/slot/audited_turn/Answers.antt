@@ -1,10 +1,6 @@
 -- What was asked was served, and its lines were put; and what was lent is given back.
 use Rattle.std.proofs.Common.{ℕ, rules, refl}
-use Rattle.mon_device.specs.Putting.{Standing}
-use Rattle.sno_run.specs.Abstraction.{job_of}
-use Rattle.mon_unit.specs.declared.service.UnitService.{UnitService}
-use Rattle.mon_unit.proofs.Loans.{same_loans}
-use Rattle.mon_unit.specs.declared.audited_service.AuditedService.{AuditedService}
+use Rattle.scheduler.proofs.Common.{Standing, job_of, UnitService, same_loans, AuditedService}
 use Rattle.scheduler.proofs.Audited.{units_answer, lines_put, lines_cut, stays, done_as, still_kept}
 use Rattle.scheduler.proofs.Calls.{turn_done}
 use Rattle.scheduler.proofs.slot.audited_turn.Goals as goal

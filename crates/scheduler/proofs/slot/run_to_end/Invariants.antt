@@ -1,17 +1,13 @@
 use Rattle.std.proofs.Common.{◌≡◌, Some}
-use Rattle.mon_guard.specs.Cache.{CacheFits}
-use Rattle.mon_unit.specs.inner.Keeping.{KeptFits}
-use Rattle.scheduler.specs.Abstraction.{slot_of}
-use Rattle.scheduler.specs.Turns.{reached}
-use Rattle.scheduler.specs.inner.Alone.{GoesOn}
+use Rattle.scheduler.proofs.Common.{KeptFits, slot_of, reached, GoesOn, SameLoans}
 use Rattle.scheduler.proofs.Shorthand.{turns_ahead}
 use Rattle.scheduler.proofs.slot.run_to_end.Given as goal
 
 abbrev pub invariant-turns : goal.invariant-turns
 invariant-turns g l = record {
-  on : GoesOn (slot_of l.fn.slot) l.fn.catalogue (slot_of l.slot) l.catalogue (g.S.Sink.standing l.fn.audit) (g.S.Sink.standing l.audit);
-  fit : CacheFits l.guard l.catalogue;
-  kept : KeptFits l.slot.number l.slot.account (reached l.catalogue (slot_of l.slot)) l.kept;
+  on : GoesOn (slot_of l.fn.slot) l.fn.floor.catalogue.now (slot_of l.slot) l.floor.catalogue.now (g.S.Sink.standing l.fn.floor.audit.now) (g.S.Sink.standing l.floor.audit.now);
+  loans : SameLoans l.fn.floor l.floor;
+  kept : KeptFits l.slot.number l.slot.account (reached l.floor.catalogue.now (slot_of l.slot)) l.kept;
   number : l.kept.number ≡ l.slot.number;
 }
 

@@ -15,12 +15,6 @@ returns-clause-step g c =
       | inr h ↦ record { number = refl; account = refl; is = inr (record { mark = record { moments = h.moments }; started = h.started; counted = (let k = h.counted in search rules); memory = h.memory; left = (let k = h.left in search rules); audited = h.audited }) }
     ]
 
-pub returns-clause-fit : goal.returns-clause-fit
-returns-clause-fit g c =
-    let same = c.audited_turn.ensures.turn.loans in
-    let ready = c.audited_turn.ensures.fit in
-    λ k d within. let at = ready k d in search rules
-
 pub returns-clause-kept : goal.returns-clause-kept
 returns-clause-kept g c =
     let same = c.audited_turn.ensures.turn.loans in

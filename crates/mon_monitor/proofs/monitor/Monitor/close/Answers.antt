@@ -1,6 +1,4 @@
-use Rattle.mon_monitor.specs.Abstraction.{system_of}
-use Rattle.mon_monitor.specs.Events.{Drain}
-use Rattle.mon_monitor.specs.Audit.{event_lines}
+use Rattle.mon_monitor.proofs.Common.{system_of, Drain, event_lines}
 use Rattle.mon_monitor.proofs.Playing.{closed, on_err, none_told, drained_breaks}
 use Rattle.mon_monitor.proofs.monitor.Monitor.close.Goals as goal
 

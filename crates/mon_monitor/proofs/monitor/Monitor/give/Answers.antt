@@ -1,10 +1,5 @@
-use Rattle.std.proofs.Common.{Option, [], sym, subst, append-nil}
-use Rattle.std.specs.Prelude.{replicate}
-use Rattle.scheduler.specs.declared.job_end.JobEnd.{JobEnd}
-use Rattle.scheduler.specs.Turning.{MarkedIs, end_in}
-use Rattle.mon_monitor.specs.Abstraction.{system_of}
-use Rattle.mon_monitor.specs.Events.{Give}
-use Rattle.mon_monitor.specs.Audit.{event_lines}
+use Rattle.std.proofs.Common.{Option, [], sym, subst, append-nil, replicate}
+use Rattle.mon_monitor.proofs.Common.{JobEnd, MarkedIs, end_in, system_of, Give, event_lines}
 use Rattle.mon_monitor.proofs.Playing.{on_ok, given, given_end, on_err, none_told, given_breaks}
 use Rattle.mon_monitor.proofs.monitor.Monitor.give.Goals as goal
 

@@ -1,10 +1,5 @@
-use Rattle.std.proofs.Common.{◌≡◌, ◌++◌, ℕ, List, Err, refl, sym, ap, ◌∙◌}
-use Rattle.mon_device.proofs.Putting.{puts_same}
-use Rattle.scheduler.specs.Printouts.{refusal_text}
-use Rattle.scheduler.specs.AuditLines.{loaded_line, refused_line}
-use Rattle.mon_monitor.specs.Abstraction.{system_of}
-use Rattle.mon_monitor.specs.Played.{loading}
-use Rattle.mon_monitor.specs.Audit.{loading_lines}
+use Rattle.std.proofs.Common.{◌≡◌, ◌++◌, ℕ, List, Err, refl, ap, ◌∙◌}
+use Rattle.mon_monitor.proofs.Common.{puts_same, refusal_text, loaded_line, refused_line, system_of, loading, loading_lines}
 use Rattle.mon_monitor.proofs.Playing.{on_ok, load_done, load_refused, refused_is, on_err, none_told, refused_told}
 use Rattle.mon_monitor.proofs.monitor.Monitor.put_load.Goals as goal
 

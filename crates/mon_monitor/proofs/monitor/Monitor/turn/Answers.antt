@@ -1,15 +1,15 @@
-use Rattle.std.proofs.Common.{refl, subst}
-use Rattle.mon_catalogue.specs.Sets.{Sets}
-use Rattle.scheduler.specs.States.{scheduler}
-use Rattle.scheduler.specs.Abstraction.{slots_in}
-use Rattle.scheduler.specs.Turning.{TurnOr}
-use Rattle.mon_monitor.specs.Abstraction.{system}
+use Rattle.std.proofs.Common.{rules, refl, subst}
+use Rattle.mon_monitor.proofs.Common.{Sets, scheduler, slots_in, scheduler_in, TurnOr, system}
+use Rattle.mon_monitor.specs.Unseen.{TurnIsolated}
 use Rattle.mon_monitor.proofs.Unseen.{turn_isolated}
 use Rattle.mon_monitor.proofs.monitor.Monitor.turn.Goals as goal
 
 pub returns-clause-isolated : goal.returns-clause-isolated
 returns-clause-isolated g c =
     let slots = slots_in c.args.self.now.slots in
-    let left = scheduler c.turn.new.catalogue (slots_in c.turn.new.self) in
-    turn_isolated c.args.slot _ _ c.turn.result _ _
-    (subst (λ (sets : Sets). TurnOr c.args.slot (scheduler sets slots) c.turn.result left (g.S.Sink.standing c.args.audit.now) (g.S.Sink.standing c.turn.new.audit)) c.in-Some.ensures.value c.turn.ensures.turn) refl
+    let now = system c.args.self.now.accounts (scheduler c.args.self.now.catalogue.value slots) in
+    let left = scheduler_in c.turn.new.self c.turn.new.floor in
+    let is : TurnIsolated c.args.slot now c.turn.result (system c.args.self.now.accounts left) =
+    turn_isolated c.args.slot now (system c.args.self.now.accounts left) c.turn.result _ _
+    (subst (λ (sets : Sets). TurnOr c.args.slot (scheduler sets slots) c.turn.result left (g.S.Sink.standing c.args.audit.now) (g.S.Sink.standing c.turn.new.floor.audit.now)) c.in-Some.ensures.value c.turn.ensures.turn) refl in
+    search (rules, is)

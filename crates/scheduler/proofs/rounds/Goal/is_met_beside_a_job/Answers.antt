@@ -1,8 +1,5 @@
 use Rattle.std.proofs.Common.{◌∙◌, sym, ap}
-use Rattle.scheduler.specs.Abstraction.{slots_in}
-use Rattle.scheduler.specs.States.{scheduler}
-use Rattle.scheduler.specs.declared.rounds.Goal.{Goal}
-use Rattle.scheduler.specs.inner.Rounding.{stop_of}
+use Rattle.scheduler.proofs.Common.{slots_in, scheduler, Goal, stop_of}
 use Rattle.scheduler.proofs.Seats.{seated_not_done}
 use Rattle.scheduler.proofs.rounds.Goal.is_met_beside_a_job.Goals as goal
 

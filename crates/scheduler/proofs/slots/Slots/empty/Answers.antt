@@ -1,5 +1,5 @@
 use Rattle.std.proofs.Common.{Option, IsSome, sym, subst, ◌∙◌}
-use Rattle.scheduler.specs.States.{SlotState}
+use Rattle.scheduler.proofs.Common.{SlotState}
 use Rattle.scheduler.proofs.Calls.{found, seat_is, seat_emptied, some_in}
 use Rattle.scheduler.proofs.slots.Slots.empty.Goals as goal
 

@@ -1,5 +1,4 @@
-use Rattle.std.proofs.Common.{◌∙◌, sym, ap}
-use Rattle.std.specs.Prelude.{is_some}
+use Rattle.std.proofs.Common.{◌∙◌, sym, ap, is_some}
 use Rattle.scheduler.proofs.Calls.{found, seat_is, some_seat}
 use Rattle.scheduler.proofs.slots.Slots.has_job.Goals as goal
 

@@ -1,7 +1,5 @@
-use Rattle.std.proofs.Common.{List, Option, ap, ◌∙◌}
-use Rattle.std.specs.Prelude.{is_none}
-use Rattle.std.specs.List.{list_any}
-use Rattle.scheduler.specs.declared.slot.Slot.{Slot}
+use Rattle.std.proofs.Common.{List, Option, ap, ◌∙◌, is_none}
+use Rattle.scheduler.proofs.Common.{list_any, Slot}
 use Rattle.scheduler.proofs.Seats.{some_free}
 use Rattle.scheduler.proofs.slots.Slots.has_room.Goals as goal
 

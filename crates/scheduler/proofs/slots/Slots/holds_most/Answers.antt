@@ -1,7 +1,5 @@
 use Rattle.std.proofs.Common.{List, Option, ap, ◌∙◌}
-use Rattle.scheduler.specs.declared.slot.Slot.{Slot}
-use Rattle.scheduler.specs.Abstraction.{seats_of}
-use Rattle.scheduler.specs.Holding.{most_held}
+use Rattle.scheduler.proofs.Common.{Slot, seats_of, most_held}
 use Rattle.scheduler.proofs.slots.Slots.holds_most.Goals as goal
 
 pub returns : goal.returns

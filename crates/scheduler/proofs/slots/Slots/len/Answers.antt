@@ -1,7 +1,6 @@
 use Rattle.std.proofs.Common.{rules}
-use Rattle.scheduler.specs.Abstraction.{seat_of}
-use Rattle.scheduler.proofs.Seats.{map_length}
+use Rattle.scheduler.proofs.Common.{seat_of, length-map}
 use Rattle.scheduler.proofs.slots.Slots.len.Goals as goal
 
 pub returns : goal.returns
-returns c = let k = map_length seat_of c.args.self.now.items.items in search (rules, k)
+returns c = let k = length-map c.args.self.now.items.items seat_of in search (rules, k)

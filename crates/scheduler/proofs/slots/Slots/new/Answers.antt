@@ -1,5 +1,5 @@
 use Rattle.std.proofs.Common.{◌∙◌, ap, arith, ℕ, None, replicate}
-use Rattle.scheduler.specs.Abstraction.{seats_of}
+use Rattle.scheduler.proofs.Common.{seats_of}
 use Rattle.scheduler.proofs.Seats.{empty_seats}
 use Rattle.scheduler.proofs.slots.Slots.new.Goals as goal
 

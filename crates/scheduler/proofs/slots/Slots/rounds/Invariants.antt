@@ -1,20 +1,14 @@
-use Rattle.std.proofs.Common.{◌≡◌, ◌+◌, ◌≤◌, length}
-use Rattle.std.specs.Prelude.{vec_len, vec_capacity}
-use Rattle.mon_guard.specs.Cache.{CacheFits}
-use Rattle.scheduler.specs.Abstraction.{slots_in}
-use Rattle.scheduler.specs.States.{scheduler}
-use Rattle.scheduler.specs.Marks.{turns_left}
-use Rattle.scheduler.specs.inner.Rounding.{Going, stop_of}
-use Rattle.scheduler.specs.inner.Stepping.{jobs_in}
+use Rattle.std.proofs.Common.{◌≡◌, ◌+◌, ◌≤◌, length, vec_len, vec_capacity}
+use Rattle.scheduler.proofs.Common.{slots_in, turns_left, Going, stop_of, jobs_in, SameLoans, scheduler_in}
 use Rattle.scheduler.proofs.slots.Slots.rounds.Given as goal
 
 abbrev pub invariant-rounds : goal.invariant-rounds
 invariant-rounds g l = record {
-  going : Going (stop_of l.goal) (scheduler l.fn.catalogue (slots_in l.fn.self)) l.ends.items (scheduler l.catalogue (slots_in l.self))
-      (g.S.Sink.standing l.fn.audit) (g.S.Sink.standing l.audit);
+  going : Going (stop_of l.goal) (scheduler_in l.fn.self l.fn.floor) l.ends.items (scheduler_in l.self l.floor)
+      (g.S.Sink.standing l.fn.floor.audit.now) (g.S.Sink.standing l.floor.audit.now);
   room : vec_len l.ends + jobs_in (slots_in l.self) ≤ vec_capacity l.ends;
   size : length (slots_in l.self) ≡ length (slots_in l.fn.self);
-  fit : CacheFits l.guard l.catalogue;
+  loans : SameLoans l.fn.floor l.floor;
 }
 
 abbrev pub decreases-rounds : goal.decreases-rounds

@@ -1,18 +1,12 @@
-use Rattle.std.proofs.Common.{◌≡◌, ◌+◌, ◌-◌, ◌≤◌, length, drop}
-use Rattle.std.specs.Prelude.{min, vec_len, vec_capacity}
-use Rattle.mon_guard.specs.Cache.{CacheFits}
-use Rattle.scheduler.specs.Abstraction.{slots_in}
-use Rattle.scheduler.specs.States.{scheduler}
-use Rattle.scheduler.specs.Marks.{never}
-use Rattle.scheduler.specs.inner.Rounding.{Ahead}
-use Rattle.scheduler.specs.inner.Stepping.{jobs_in}
+use Rattle.std.proofs.Common.{◌≡◌, ◌+◌, ◌-◌, ◌≤◌, length, drop, min, vec_len, vec_capacity}
+use Rattle.scheduler.proofs.Common.{slots_in, never, Ahead, jobs_in, SameLoans, scheduler_in}
 use Rattle.scheduler.proofs.slots.Slots.turns.Given as goal
 
 abbrev pub invariant-loop-number : goal.invariant-loop-number
 invariant-loop-number g l = record {
-  ahead : Ahead never l.order (scheduler l.fn.catalogue (slots_in l.fn.self)) l.ends.items (drop l.number-index l.order) (scheduler l.catalogue (slots_in l.self))
-      (g.S.Sink.standing l.fn.audit) (g.S.Sink.standing l.audit);
+  ahead : Ahead never l.order (scheduler_in l.fn.self l.fn.floor) l.ends.items (drop l.number-index l.order) (scheduler_in l.self l.floor)
+      (g.S.Sink.standing l.fn.floor.audit.now) (g.S.Sink.standing l.floor.audit.now);
   room : vec_len l.ends + min (jobs_in (slots_in l.self)) (length l.order - l.number-index) ≤ vec_capacity l.ends;
   size : length (slots_in l.self) ≡ length (slots_in l.fn.self);
-  fit : CacheFits l.guard l.catalogue;
+  loans : SameLoans l.fn.floor l.floor;
 }

@@ -1,7 +1,5 @@
-use Rattle.std.proofs.Common.{◌∷◌, [], None, ◌∙◌, ap, arith}
-use Rattle.std.specs.Prelude.{is_some}
-use Rattle.scheduler.specs.Abstraction.{slots_in}
-use Rattle.scheduler.specs.Turns.{job_end}
+use Rattle.std.proofs.Common.{◌∷◌, [], None, ◌∙◌, ap, arith, is_some}
+use Rattle.scheduler.proofs.Common.{slots_in, job_end}
 use Rattle.scheduler.proofs.Seats.{seat_length}
 use Rattle.scheduler.proofs.slots.Slots.turns_of_lone.Goals as goal
 
@@ -14,7 +12,7 @@ keep_end-requires-clause-room g c = let k = c.run_lone-ending.ensures.ended.jobs
 pub returns-clause-going : goal.returns-clause-going
 returns-clause-going g c =
     let end = c.run_lone-ending.ensures.ended in
-    record { more = job_end end.slot c.run_lone-ending.result ∷ []; grown = c.keep_end.ensures.items end.slot end.there; is = rw c.keep_end.ensures.slots (end.is _ (c.keep_end.ensures.audited end.slot end.there)) }
+    record { more = job_end end.slot c.run_lone-ending.result ∷ []; grown = c.keep_end.ensures.items end.slot end.there; is = rw (c.keep_end.ensures.sets, c.keep_end.ensures.slots) (end.is _ (c.keep_end.ensures.audited end.slot end.there)) }
 
 pub returns-clause-less : goal.returns-clause-less
 returns-clause-less g c = let k = c.run_lone-ending.ensures.ended.less in rw c.keep_end.ensures.slots (omega (arith, k))

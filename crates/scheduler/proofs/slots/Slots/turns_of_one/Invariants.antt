@@ -1,16 +1,11 @@
-use Rattle.std.proofs.Common.{◌≡◌, ◌-◌, [], length}
-use Rattle.std.specs.Prelude.{replicate}
-use Rattle.mon_guard.specs.Cache.{CacheFits}
-use Rattle.scheduler.specs.Abstraction.{slots_in}
-use Rattle.scheduler.specs.States.{scheduler}
-use Rattle.scheduler.specs.Marks.{never}
-use Rattle.scheduler.specs.inner.Rounding.{Ahead}
+use Rattle.std.proofs.Common.{◌≡◌, ◌-◌, [], length, replicate}
+use Rattle.scheduler.proofs.Common.{slots_in, never, Ahead, SameLoans, scheduler_in}
 use Rattle.scheduler.proofs.slots.Slots.turns_of_one.Given as goal
 
 abbrev pub invariant-loop : goal.invariant-loop
 invariant-loop g l = record {
-  ahead : Ahead never (replicate l.count l.slot) (scheduler l.fn.catalogue (slots_in l.fn.self)) [] (replicate (l.count - l.counter) l.slot) (scheduler l.catalogue (slots_in l.self))
-      (g.S.Sink.standing l.fn.audit) (g.S.Sink.standing l.audit);
+  ahead : Ahead never (replicate l.count l.slot) (scheduler_in l.fn.self l.fn.floor) [] (replicate (l.count - l.counter) l.slot) (scheduler_in l.self l.floor)
+      (g.S.Sink.standing l.fn.floor.audit.now) (g.S.Sink.standing l.floor.audit.now);
   size : length (slots_in l.self) ≡ length (slots_in l.fn.self);
-  fit : CacheFits l.guard l.catalogue;
+  loans : SameLoans l.fn.floor l.floor;
 }

@@ -1,5 +1,0 @@
-use Rattle.mon_device.proofs.Putting.{puts_then}
-use Rattle.scheduler.proofs.printing.print_at_statement.Goals as goal
-
-pub returns : goal.returns
-returns g c = puts_then _ _ _ _ _ c.put.ensures c.print_number.ensures
