@@ -14,7 +14,7 @@ use Rattle.mon_catalogue.proofs.Back.{lines_spell}
 use Rattle.mon_catalogue.proofs.Printable.{catalogue_lines_show}
 use Rattle.mon_catalogue.proofs.Shorthand.{after_lines}
 use Rattle.mon_catalogue.proofs.Whole.{text_read}
-use Rattle.deck_syntax.specs.declared.deck_error.DeckError.TheVariants.{Truncated}
+use Rattle.deck_lines.specs.declared.deck_error.DeckError.TheVariants.{Truncated}
 use Rattle.deck_syntax.specs.Decks.{Deck, Cards, Asked, Refused}
 use Rattle.deck_syntax.specs.Sections.{Closed, stream_section, deck_of}
 use Rattle.deck_syntax.specs.Spelling.{SpellsAccounts}

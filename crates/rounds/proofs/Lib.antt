@@ -5,6 +5,9 @@ pub mod Taking
 pub mod Empty
 pub mod Delivering
 pub mod Telling
+pub mod InParts
+pub mod Isolated
+pub mod Example
 pub mod Heads
 pub mod Reaching
 pub mod Cutting

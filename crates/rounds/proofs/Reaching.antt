@@ -11,7 +11,7 @@ use Rattle.mon_monitor.specs.Printouts.{printout_text, printouts_text}
 use Rattle.mon_monitor.specs.Played.{Played, then_played, happened, played}
 use Rattle.mon_monitor.proofs.Parts.{and_played}
 use Rattle.mon_monitor.specs.Laws.{CardByCard, DrainEmpties, AccountsStay, SlotsStay}
-use Rattle.deck_syntax.specs.declared.deck_error.DeckError.TheVariants.{Truncated}
+use Rattle.deck_lines.specs.declared.deck_error.DeckError.TheVariants.{Truncated}
 use Rattle.deck_syntax.specs.Decks.{Deck, Asked, Enters, Drains, Stopped, Refused}
 use Rattle.deck_syntax.specs.Sections.{deck_of}
 use Rattle.deck_driver.specs.declared.options.Options.{Options}

@@ -7,7 +7,7 @@ use Rattle.mon_device.specs.Putting.{Standing, Puts}
 use Rattle.mon_device.proofs.Putting.{puts_same, puts_then}
 use Rattle.mon_catalogue.specs.Sets.{Sets}
 use Rattle.scheduler.specs.Marks.{Marks}
-use Rattle.deck_syntax.specs.declared.deck_error.DeckError.{DeckError}
+use Rattle.deck_lines.specs.declared.deck_error.DeckError.{DeckError}
 use Rattle.deck_syntax.specs.Decks.{Refused}
 use Rattle.deck_driver.specs.declared.fault.RunError.{RunError}
 use Rattle.deck_driver.specs.declared.fault.RunError.TheVariants.{DeckRefused}

@@ -5,7 +5,7 @@ use Rattle.mon_access.specs.declared.account.Account.{Account}
 use Rattle.mon_catalogue.specs.Sets.{Sets}
 use Rattle.mon_device.specs.Putting.{Standing, Puts}
 use Rattle.scheduler.specs.Marks.{Marks}
-use Rattle.deck_syntax.specs.declared.deck_error.DeckError.{DeckError}
+use Rattle.deck_lines.specs.declared.deck_error.DeckError.{DeckError}
 use Rattle.deck_syntax.specs.Decks.{Stopped}
 use Rattle.deck_syntax.specs.Sections.{deck_of}
 use Rattle.deck_driver.specs.declared.feed.DeckFeed.{DeckFeed}

@@ -3,7 +3,7 @@ ghost use Rattle.std.specs.Prelude.{◌≡◌, Ok, Err, IfOk, IfErr};
 ghost use Rattle.std.specs.Str.Lines.{lines};
 ghost use Rattle.preflight.specs.Submissions.{IfStopped};
 ghost use Rattle.site_plan.specs.Tables.{table_of};
-ghost use Rattle.site_plan.specs.Catalogues.{catalogue_of, checksum_of};
+ghost use Rattle.site_plan.specs.Catalogues.{catalogue_of};
 ghost use Rattle.site_plan.specs.Owning.{holdings_of};
 ghost use Rattle.rounds.specs.Compositions.{IsGoodHead, IsWholeHead};
 ghost use Rattle.rounds.specs.Beginnings.{Begins};

@@ -1,5 +1,8 @@
 //! Laws over rounds: each function's contract is one.
 ghost use Rattle.rounds.specs.Order.{FairOrder};
+ghost use Rattle.rounds.specs.Example.{TheyFindAlike};
+ghost use Rattle.rounds.specs.Isolation.{TextsIsolated, SitesIsolated};
+ghost use Rattle.rounds.specs.InParts.{RoundsRunInParts};
 ghost use Rattle.rounds.specs.Laws.{EachAlone, Delivers, EachTells, EachItsPart, EachItsOwn, EachItsDue, EachItsReply, GoesOn};
 
 /// The order of a round is fair: each text has its place in it, each account's stand in their own order, and nowhere is an
@@ -72,3 +75,31 @@ pub fn goes_on()
 {
     preflight::laws::never_refused();
 }
+
+/// A round that is run in parts, each over the data sets of its part alone, prints what it prints as one, and leaves what it leaves.
+pub fn rounds_run_in_parts()
+    ensures { RoundsRunInParts }
+{
+    frame_laws::laws::texts_run_in_parts();
+}
+
+/// Over data sets that look alike to its account, a text prints the same, and leaves data sets that look alike to it again.
+pub fn texts_isolated()
+    ensures { TextsIsolated }
+{
+    mon_monitor::isolation::isolated();
+}
+
+/// At a site, where others hand in what they like between an account's texts: if at each of its texts it finds data sets that look
+/// alike to it, its answers are the same.
+pub fn sites_isolated()
+    ensures { SitesIsolated }
+{
+    mon_monitor::isolation::isolated();
+    frame_laws::laws::names_stay_apart();
+}
+
+/// There are such sites: an example of two that differ, at which an account finds the same.
+pub fn they_find_alike()
+    ensures { TheyFindAlike }
+{}

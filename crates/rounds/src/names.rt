@@ -1,6 +1,5 @@
 //! The names of files in the folder of a site.
 ghost use Rattle.std.specs.Prelude.{◌≡◌, ◌++◌, codes, IfOk};
-ghost use Rattle.site_plan.specs.Names.{id_text, taken_text};
 ghost use Rattle.rounds.specs.Handing.{taken_name, answer_name};
 
 use mon_text::Name;

@@ -1,8 +1,7 @@
 //! A round is planned: the texts that run are put in their order behind the head of a deck, and the others are answered.
 ghost use Rattle.std.specs.Prelude.{◌≡◌, ◌++◌, ◌∷◌, [], Some, map, IfOk, OnOk, length};
 ghost use Rattle.std.specs.List.{flat_map};
-ghost use Rattle.rounds.specs.Order.{served};
-ghost use Rattle.rounds.specs.Compositions.{with_fence, front_text, IsWholeHead};
+ghost use Rattle.rounds.specs.Compositions.{front_text, IsWholeHead};
 ghost use Rattle.rounds.specs.Planning.{order_of, deck_of, seen, runs_as, refused_as, planned};
 
 use crate::beginning::Head;

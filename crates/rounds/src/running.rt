@@ -4,7 +4,7 @@ ghost use Rattle.mon_access.specs.declared.account.Account.{Account};
 ghost use Rattle.mon_catalogue.specs.Sets.{Sets};
 ghost use Rattle.mon_device.specs.Putting.{Standing, Puts};
 ghost use Rattle.scheduler.specs.Marks.{Marks};
-ghost use Rattle.deck_syntax.specs.declared.deck_error.DeckError.{DeckError as AnyCode};
+ghost use Rattle.deck_lines.specs.declared.deck_error.DeckError.{DeckError as AnyCode};
 ghost use Rattle.deck_syntax.specs.Decks.{Refused};
 ghost use Rattle.deck_driver.specs.declared.options.Counts.{Counts as AnyCounts};
 ghost use Rattle.deck_driver.specs.declared.options.Options.{Options as AnyOptions};
@@ -17,11 +17,11 @@ ghost use Rattle.preflight.specs.Rounds.{Handed};
 ghost use Rattle.rounds.specs.Compositions.{with_fence, front_text, round_text, IsGoodRound};
 ghost use Rattle.rounds.specs.Serving.{IsServed, StopsWithin, StopsInText, StopsAtEnd, StopsIn, Stands, BeginsTelling, BeginsEnding, IsBad, IsBadAtEnd, Finishes, HasEnded};
 
+use audit::print_stopped;
 use deck_driver::{DeckFeed, Options, RunError};
-use deck_syntax::DeckError;
+use deck_lines::DeckError;
 use mon_device::{Failed, Sink, TextSink};
 use mon_monitor::Printed;
-use mon_unit::print_stopped;
 use preflight::Submission;
 use std::alloc::{AllocError, Global};
 

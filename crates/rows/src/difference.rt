@@ -1,5 +1,5 @@
 //! Where what a run shows differs from what was wanted.
-ghost use Rattle.std.specs.Prelude.{◌≡◌, ◌↔◌, IsNone};
+ghost use Rattle.std.specs.Prelude.{◌↔◌, IsNone};
 ghost use Rattle.rows.specs.Outcomes.{AreSame};
 
 use crate::case::Outcome;

@@ -41,7 +41,7 @@
 //! | Kind | Given | Wanted |
 //! |---|---|---|
 //! | `TEXT` | an account, and its text | its tally; or `REFUSED`, a line, and why |
-//! | `LIMITS` | the limits, as `Limits` has them; how many data sets an account owns, and the bytes of their records; a line for each text, as `Tally` has them | the first limit that is broken, or `NONE` |
+//! | `LIMITS` | the limits, as `Quota` has them; how many data sets an account owns, and the bytes of their records; a line for each text, as `Tally` has them | the first limit that is broken, or `NONE` |
 //! | `ORDER` | the number of a round, and a line for each account, with its texts | the texts in the round's order |
 //! | `ROUND` | how many slots; accounts; behind `$SETS` data sets; behind `$OF` each text, with its account | the part of each text, and the catalogue that is left; and that the deck of the round prints the same |
 

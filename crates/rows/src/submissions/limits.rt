@@ -2,7 +2,7 @@
 
 use crate::submissions::block::put_line;
 use anyhow::{Context, Result};
-use preflight::{HandedIn, Limit, Limits, Tally, within};
+use preflight::{HandedIn, Limit, Quota, Tally, within};
 use std::alloc::{AllocError, Global};
 
 /// The first limit that the texts of an account break.
@@ -18,7 +18,7 @@ pub fn seen_of(alloc: Global, given: &str) -> Result<Vec<u8>> {
     Ok(out)
 }
 
-fn read_limits(alloc: Global, line: &str) -> Result<Limits> {
+fn read_limits(alloc: Global, line: &str) -> Result<Quota> {
     limits_of(&numbers_of(alloc, line)?).context("it has no limits")
 }
 
@@ -44,7 +44,7 @@ fn put_number_of(word: &str, numbers: &mut Vec<u64>) -> Result<()> {
     Ok(())
 }
 
-fn limits_of(numbers: &[u64]) -> Option<Limits> {
+fn limits_of(numbers: &[u64]) -> Option<Quota> {
     match numbers {
         [
             texts,
@@ -56,7 +56,7 @@ fn limits_of(numbers: &[u64]) -> Option<Limits> {
             data_sets,
             records,
         ] => {
-            Some(Limits {
+            Some(Quota {
                 texts: *texts,
                 bytes: *bytes,
                 jobs: *jobs,

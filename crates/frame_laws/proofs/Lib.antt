@@ -1,0 +1,7 @@
+pub mod Filtering
+pub mod Serving
+pub mod Turning
+pub mod Playing
+pub mod Owning
+pub mod Marking
+pub mod Parting

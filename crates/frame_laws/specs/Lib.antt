@@ -1,0 +1,4 @@
+pub mod Naming
+pub mod Owners
+pub mod Texts
+pub mod Laws

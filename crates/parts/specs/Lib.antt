@@ -1,0 +1,4 @@
+pub mod Told
+pub mod Splits
+pub mod Joining
+pub mod inner
