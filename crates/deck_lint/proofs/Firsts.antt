@@ -1,5 +1,5 @@
 -- The first reason of all is the one for which a load refuses a job.
-use Rattle.std.proofs.Common.{◌≡◌, ℕ, ◌+◌, Bool, true, false, List, [], ◌∷◌, ◌++◌, Option, Some, None, Result, Ok, Err, refl, sym, ap, ◌∙◌, append_assoc}
+use Rattle.std.proofs.Common.{◌≡◌, ℕ, ◌+◌, Bool, true, false, List, [], ◌∷◌, ◌++◌, Option, Some, None, Result, Ok, Err, refl, ap, ◌∙◌, append_assoc}
 use Rattle.std.specs.Prelude.{option_map, replicate, slice_set}
 use Rattle.std.specs.Option.{option_or}
 use Rattle.sno_cards.specs.declared.refusal.SyntaxError.{SyntaxError}
@@ -10,16 +10,16 @@ use Rattle.sno_syntax.specs.Labels.{LabelList}
 use Rattle.sno_syntax.specs.Refusals.{label_of, with_label, statement_refusal, statements_refusal, start_in, end_refusal, syntax_refusal}
 use Rattle.mon_access.specs.declared.account.Account.{Account}
 use Rattle.mon_access.specs.Accounts.{find_account}
-use Rattle.mon_unit.specs.declared.units.UnitError.{UnitError}
+use Rattle.unit_ties.specs.declared.unit_error.UnitError.{UnitError}
 use Rattle.deck_syntax.specs.declared.job_deck.UnitCard.{UnitCard}
 use Rattle.deck_syntax.specs.declared.job_deck.JobDeck.{JobDeck}
-use Rattle.scheduler.specs.declared.refusal.LoadError.{LoadError}
-use Rattle.scheduler.specs.declared.refusal.LoadError.TheVariants.{NoAccount, Cards, Syntax}
-use Rattle.scheduler.specs.Loads.{first_units, ties_refusal, refused_by, program_refusal, missing, deck_refusal}
-use Rattle.scheduler.proofs.Shorthand.{data_of}
-use Rattle.scheduler.specs.inner.Carding.{cards_refused as first_tie_refused}
-use Rattle.deck_lint.specs.Refused.{listed, first_of, tied_after, tie_listed, ties_refused, syntax_listed, statements_refused, end_refused, cards_refused, program_refused, deck_refused}
-use Rattle.scheduler.proofs.Carding.{all_by}
+use Rattle.load_refusal.specs.declared.load_error.LoadError.{LoadError}
+use Rattle.load_refusal.specs.declared.load_error.LoadError.TheVariants.{NoAccount, Cards, Syntax}
+use Rattle.unit_ties.specs.Ties.{refused_by}
+use Rattle.load_refusal.specs.Loads.{program_refusal, missing, job_refusal}
+use Rattle.load_refusal.specs.Loads.{cards_refused as first_tie_refused}
+use Rattle.program_listing.specs.Refused.{listed, syntax_listed, statements_refused, end_refused, cards_refused, program_refused}
+use Rattle.deck_lint.specs.Refused.{first_of, tied_after, tie_listed, ties_refused, deck_refused}
 
 -- LISTS
 
@@ -82,15 +82,27 @@ of_program (Err refusal) = refl
 
 -- THE JOB
 
-pub first_refusal : (accounts : List Account) (deck : JobDeck) → first_of (deck_refused accounts deck) ≡ deck_refusal accounts deck
+pub first_refusal : (accounts : List Account) (deck : JobDeck) → first_of (deck_refused accounts deck) ≡ job_refusal accounts deck
 first_refusal accounts deck =
     let account = missing NoAccount (find_account accounts deck.account) in
     let ties = ties_refused deck.ties (replicate 100 false) in
     let program = program_refused (statements_of deck.lines) in
-    let all = all_by deck.ties (data_of deck.lines (statements_of deck.lines)) in
     ap first_of (append_assoc (listed account) ties program)
     ∙ of_listed account (ties ++ program)
     ∙ ap (λ o. option_or account o)
     (of_both ties program
-    ∙ ap (λ o. option_or o (first_of program)) (of_ties deck.ties (replicate 100 false) ∙ ap (option_map Cards) (sym all))
-    ∙ ap (λ o. option_or (option_map Cards (ties_refusal deck.ties (first_units deck.lines))) o) (of_program (statements_of deck.lines)))
+    ∙ ap (λ o. option_or o (first_of program)) (of_ties deck.ties (replicate 100 false))
+    ∙ ap (λ o. option_or (option_map Cards (first_tie_refused deck.ties (replicate 100 false))) o) (of_program (statements_of deck.lines)))
+
+-- the same, of what was put reason by reason
+pub first_gathered : (accounts : List Account) (deck : JobDeck) (none one two three : List LoadError) (ties : List UnitCard) (lines : List (List ℕ))
+    → ties ≡ deck.ties → lines ≡ deck.lines
+    → none ≡ [] → one ≡ none ++ listed (missing NoAccount (find_account accounts deck.account)) → two ≡ one ++ ties_refused ties (replicate 100 false)
+    → three ≡ two ++ program_refused (statements_of lines) → first_of three ≡ job_refusal accounts deck
+first_gathered accounts deck none one two three ties lines ties_are lines_are none_is one_is two_is three_is =
+    let account = listed (missing NoAccount (find_account accounts deck.account)) in
+    let cards = one_is ∙ ap (λ (xs : List LoadError). xs ++ account) none_is in
+    let tied = two_is ∙ ap (λ (xs : List LoadError). xs ++ ties_refused ties (replicate 100 false)) cards ∙ ap (λ (cards : List UnitCard). account ++ ties_refused cards (replicate 100 false)) ties_are in
+    let all = three_is ∙ ap (λ (xs : List LoadError). xs ++ program_refused (statements_of lines)) tied
+    ∙ ap (λ (ls : List (List ℕ)). (account ++ ties_refused deck.ties (replicate 100 false)) ++ program_refused (statements_of ls)) lines_are in
+    ap first_of all ∙ first_refusal accounts deck

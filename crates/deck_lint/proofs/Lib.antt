@@ -1,3 +1,2 @@
 mod Firsts
-mod Gathering
 mod Tying

@@ -2,8 +2,8 @@
 use Rattle.std.proofs.Common.{◌≡◌, ℕ, ◌+◌, ◌<◌, Bool, List, ◌∷◌, ◌++◌, length, get_or, drop, sym, ap, ◌∙◌, append_assoc}
 use Rattle.std.proofs.lemmas.List.{at_drop_more}
 use Rattle.deck_syntax.specs.declared.job_deck.UnitCard.{UnitCard}
-use Rattle.scheduler.specs.declared.refusal.LoadError.{LoadError}
-use Rattle.scheduler.specs.Loads.{refused_by}
+use Rattle.load_refusal.specs.declared.load_error.LoadError.{LoadError}
+use Rattle.unit_ties.specs.Ties.{refused_by}
 use Rattle.deck_lint.specs.Refused.{tie_listed, tied_after, ties_refused}
 
 -- a card more: what was put so far, with the reasons of the cards that are left, is the whole

@@ -1,9 +1,8 @@
 //! Codes in words.
 
-use deck_syntax::DeckError;
+use deck_lines::DeckError;
 use mon_acl::{AclError, Tag};
 use mon_text::put_number;
-use sno_syntax::SyntaxCode;
 use std::alloc::AllocError;
 
 /// What a code says of a line of the deck.
@@ -26,25 +25,6 @@ pub(crate) fn cause_of(code: DeckError) -> &'static str {
     }
 }
 
-/// What a code says of a program.
-pub(crate) fn syntax_cause(code: SyntaxCode) -> &'static str {
-    match code {
-        SyntaxCode::NoEndLine => "no line begins with END",
-        SyntaxCode::NothingToContinue => "no statement is before it",
-        SyntaxCode::UnknownControlCard => "only -LIST, -UNLIST and -EJECT are known",
-        SyntaxCode::BadConstant => "the literal is not closed, or the integer is too large",
-        SyntaxCode::BlankMissing => "it would fit with other blanks around it",
-        SyntaxCode::Unexpected => "the statement can't go on or end like this",
-        SyntaxCode::LabelTaken => "the label is further up, or kept for the language",
-        SyntaxCode::VariableNeeded => "a variable has to stand here",
-        SyntaxCode::StatementTooLarge => "it has too many tokens or open parentheses",
-        SyntaxCode::BadEnd => "END, or what stands behind it, is no label of a statement",
-    }
-}
-
-/// What is said of a square bracket.
-pub(crate) const BRACKETS: &str = "there are no square brackets: an item is T<E>";
-
 /// Appends a code with what it says.
 ///
 /// # Errors
@@ -62,27 +42,25 @@ pub(crate) fn put_cause(text: &str, cause: &str, out: &mut Vec<u8>) -> Result<()
 ///
 /// Where a growth was refused; a part of it may have been appended then.
 pub(crate) fn put_list_cause(error: AclError, out: &mut Vec<u8>) -> Result<(), AllocError> {
-    match error {
-        AclError::BadTag(entry) => put_at_entry(b"A1 BAD TAG ENTRY ", entry, out),
-        AclError::BadQualifier(entry) => put_at_entry(b"A2 BAD QUALIFIER ENTRY ", entry, out),
-        AclError::BadPerms(entry) => put_at_entry(b"A3 BAD PERMS ENTRY ", entry, out),
-        AclError::Missing(tag) => out.extend_from_slice(missing(tag)),
-        AclError::Twice(entry) => put_at_entry(b"A5 TWICE ENTRY ", entry, out),
-        AclError::NoMask => out.extend_from_slice(b"A6 NO MASK"),
-        AclError::TooMany(entry) => put_at_entry(b"A7 TOO MANY ENTRY ", entry, out),
-    }
-}
-
-fn put_at_entry(text: &[u8], entry: u64, out: &mut Vec<u8>) -> Result<(), AllocError> {
-    out.extend_from_slice(text)?;
+    let (text, entry) = match error {
+        AclError::BadTag(entry) => ("A1 BAD TAG", entry),
+        AclError::BadQualifier(entry) => ("A2 BAD QUALIFIER", entry),
+        AclError::BadPerms(entry) => ("A3 BAD PERMS", entry),
+        AclError::Missing(tag) => return out.extend_from_slice(missing(tag).as_bytes()),
+        AclError::Twice(entry) => ("A5 TWICE", entry),
+        AclError::NoMask => return out.extend_from_slice(b"A6 NO MASK"),
+        AclError::TooMany(entry) => ("A7 TOO MANY", entry),
+    };
+    out.extend_from_slice(text.as_bytes())?;
+    out.extend_from_slice(b" ENTRY ")?;
     put_number(entry, out)
 }
 
-fn missing(tag: Tag) -> &'static [u8] {
+fn missing(tag: Tag) -> &'static str {
     match tag {
-        Tag::UserObj | Tag::User => b"A4 MISSING user::",
-        Tag::GroupObj | Tag::Group => b"A4 MISSING group::",
-        Tag::Mask => b"A4 MISSING mask::",
-        Tag::Other => b"A4 MISSING other::",
+        Tag::UserObj | Tag::User => "A4 MISSING user::",
+        Tag::GroupObj | Tag::Group => "A4 MISSING group::",
+        Tag::Mask => "A4 MISSING mask::",
+        Tag::Other => "A4 MISSING other::",
     }
 }

@@ -1,32 +1,52 @@
-//! The column at which a line of the deck is refused.
+//! The column at which a line of the deck is refused, and what its first word says.
 
-use crate::words::{first_card, words_of};
-use deck_syntax::DeckError;
-use deck_syntax::card::Card;
+use deck_lines::{Card, DeckError, Words};
 use mon_text::{read_count, read_name};
-use std::alloc::{AllocError, Global};
+
+/// Whether a card may begin something in the stream.
+pub fn is_stream_card(card: Card) -> bool {
+    match card {
+        Card::Create | Card::Delete | Card::SetAcl | Card::ShowAcl | Card::List => true,
+        Card::Catalog | Card::Job | Card::Turn | Card::Drain | Card::Stop => true,
+        _ => false,
+    }
+}
+
+/// Whether a line is refused for its characters or their number, and so nowhere else is read.
+pub fn is_line_code(code: DeckError) -> bool {
+    matches!(code, DeckError::LineTooLong | DeckError::BadCharacter)
+}
 
 /// The column at which a word begins, counted from 0; behind the text, where it has no such word.
-pub fn word_column(text: &[u8], wanted: u64) -> u64 {
-    let mut begun: u64 = 0;
-    let mut is_within = false;
+pub fn word_column(text: &[u8], wanted: usize) -> u64 {
+    let mut begun: usize = 0;
+    let mut before = b' ';
     for (index, byte) in text.iter().enumerate() {
-        if *byte == b' ' {
-            is_within = false;
-        } else {
-            if !is_within && begun == wanted {
+        if before == b' ' && *byte != b' ' {
+            if begun == wanted {
                 return index as u64 + 1;
             }
-            if !is_within {
-                begun = begun.saturating_add(1);
-            }
-            is_within = true;
+            begun = begun.saturating_add(1);
         }
+        before = *byte;
     }
     (text.len() as u64).saturating_add(1)
 }
 
-/// The column of the first character that no line may have.
+/// The column at which a line is refused for a code: of the character, or of the word, where it is one of these. A line may
+/// have so many characters.
+pub(crate) fn column_of(code: DeckError, text: &[u8], limit: usize) -> u64 {
+    let words = Words::of(text);
+    match code {
+        DeckError::LineTooLong => (limit as u64).saturating_add(1),
+        DeckError::BadCharacter => bad_column(text),
+        DeckError::BadName => word_column(text, bad_name(&words)),
+        DeckError::BadNumber => word_column(text, bad_number(&words)),
+        _ => word_column(text, 0),
+    }
+}
+
+// The column of the first character that no line may have.
 fn bad_column(text: &[u8]) -> u64 {
     for (index, byte) in text.iter().enumerate() {
         if !(b' '..=b'~').contains(byte) {
@@ -36,73 +56,37 @@ fn bad_column(text: &[u8]) -> u64 {
     1
 }
 
-/// The column at which a line is refused for a code: of the character, or of the word, where it is one of these. A line may
-/// have so many characters.
-///
-/// # Errors
-///
-/// Where a growth was refused.
-pub(crate) fn column_of(
-    alloc: Global,
-    code: DeckError,
-    text: &[u8],
-    limit: u64,
-) -> Result<u64, AllocError> {
-    match code {
-        DeckError::LineTooLong => Ok(limit.saturating_add(1)),
-        DeckError::BadCharacter => Ok(bad_column(text)),
-        DeckError::BadName => name_column(alloc, text),
-        DeckError::BadNumber => number_column(alloc, text),
-        _ => Ok(word_column(text, 0)),
-    }
-}
-
-// The column of the first word that has to be a name and is none.
-fn name_column(alloc: Global, text: &[u8]) -> Result<u64, AllocError> {
-    let from = match first_card(alloc, text)? {
+// The place of the first word that has to be a name and is none.
+fn bad_name(words: &Words<'_>) -> usize {
+    let from = match words.card() {
         None => 0,
         Some(Card::Tie) => 2,
         Some(_) => 1,
     };
-    let words = words_of(alloc, text)?;
-    for index in from..words.len() {
-        if read_name(words[index]).is_err() {
-            return Ok(word_column(text, index as u64));
+    for place in from..words.len() {
+        if read_name(words.at(place)).is_err() {
+            return place;
         }
     }
-    Ok(word_column(text, 0))
+    0
 }
 
-// The column of the first word that has to be a number and is none.
-fn number_column(alloc: Global, text: &[u8]) -> Result<u64, AllocError> {
-    let from = match first_card(alloc, text)? {
-        Some(Card::Job) => 2,
-        _ => 1,
-    };
-    let words = words_of(alloc, text)?;
-    for index in from..words.len() {
-        if !has_number(words[index]) {
-            return Ok(word_column(text, index as u64));
-        }
-    }
-    Ok(word_column(text, 0))
-}
-
-// Whether a word is a number, or an option with one.
-fn has_number(word: &[u8]) -> bool {
-    if word.starts_with(b"ST=".as_slice()) {
-        is_count_from(word, 3)
-    } else if word.starts_with(b"MATCH=".as_slice()) {
-        is_count_from(word, 6)
+// The place of the first word that has to be a number, or an option with one, and is none.
+fn bad_number(words: &Words<'_>) -> usize {
+    let from = if words.card() == Some(Card::Job) {
+        2
     } else {
-        is_count_from(word, 0)
+        1
+    };
+    for place in from..words.len() {
+        let number = match words.at(place) {
+            [b'S', b'T', b'=', number @ ..] => number,
+            [b'M', b'A', b'T', b'C', b'H', b'=', number @ ..] => number,
+            number => number,
+        };
+        if read_count(number).is_err() {
+            return place;
+        }
     }
-}
-
-// Whether a word is a number from an index on.
-fn is_count_from(word: &[u8], from: usize) -> bool {
-    match word.get(from..) {
-        Some(text) => read_count(text).is_ok(),
-        None => false,
-    }
+    0
 }

@@ -1,19 +1,10 @@
 //! `listing`: tells what the deck on standard input says before it is run, as its words ask, on standard output.
 //!
-//! Without words it reviews the deck: what each job is, and every mistake that can be seen. It goes on behind a line that is
-//! refused, so as to find the next one. What it keeps grows with the accounts, the names of the data sets and the longest job or
-//! permission list, and not with the deck.
+//! Without words it reviews the deck: what each job is, and every mistake that can be seen.
 #![tactic(auto)]
 
-mod catalogue;
-mod front;
-mod job;
-mod list;
 mod options;
-mod review;
 mod run;
-mod stage;
-mod stream;
 mod streams;
 
 use mon_device::Noted;

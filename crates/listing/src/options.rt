@@ -2,20 +2,30 @@
 ghost use Rattle.std.specs.Prelude.{◌≡◌, IfOk};
 ghost use Rattle.clap.specs.Words.{first_value, found_of};
 
+use access_report::{Form, Question};
 use clap::error::ErrorKind;
 use clap::{Arg, ArgAction, ArgMatches, Command, Error};
+use deck_review::Detail;
 use mon_text::{Name, read_name};
-use preflight::{Form, Question};
 use std::alloc::{AllocError, Global};
 use std::convert::AsStr;
 
 /// What is asked of a deck.
 #[derive(Drop)]
 pub enum Asked {
-    /// A listing of its jobs and its mistakes; where it is quiet, of its mistakes alone.
-    Listing { quiet: bool },
+    /// A listing of its jobs and its mistakes.
+    Listing(Listing),
     /// Who may do what.
     Access(Question),
+}
+
+/// A listing that is asked for.
+#[derive(Drop)]
+pub struct Listing {
+    /// How much is told.
+    pub detail: Detail,
+    /// The account that submits it, where it is a submission and no deck.
+    pub own: Option<Name>,
 }
 
 /// What the words of a command line ask. The first word is the program's name.
@@ -34,45 +44,36 @@ pub fn read_asked<S: AsStr>(alloc: Global, words: &[S]) -> Result<Asked, Error> 
     }
 }
 
-// What is asked where it is who may do what.
 fn read_access(alloc: Global, matches: &ArgMatches) -> Result<Asked, Error> {
-    if matches.get_flag("quiet") {
-        return Err(in_conflict(alloc, "--quiet goes without --access")?);
+    if matches.get_flag("quiet") || matches.get_flag("text") {
+        let text = "--quiet and --text go without --access";
+        return Err(in_conflict(alloc, text)?);
     }
     let account = name_in(alloc, matches, "account")?;
     let set = name_in(alloc, matches, "set")?;
-    Ok(Asked::Access(Question {
-        account,
-        set,
-        form: form_in(matches),
-    }))
-}
-
-// What is asked where it is a listing.
-fn read_listing(alloc: Global, matches: &ArgMatches) -> Result<Asked, Error> {
-    if narrows(matches) {
-        let text = "--csv, --account and --set go with --access";
-        return Err(in_conflict(alloc, text)?);
-    }
-    Ok(Asked::Listing {
-        quiet: matches.get_flag("quiet"),
-    })
-}
-
-// Whether an option is given that narrows who may do what.
-fn narrows(matches: &ArgMatches) -> bool {
-    matches.get_flag("csv")
-        || matches.get_str("account").is_some()
-        || matches.get_str("set").is_some()
-}
-
-// Whether the lines are to have fields.
-fn form_in(matches: &ArgMatches) -> Form {
-    if matches.get_flag("csv") {
+    let form = if matches.get_flag("csv") {
         Form::Csv
     } else {
         Form::Page
+    };
+    Ok(Asked::Access(Question { account, set, form }))
+}
+
+fn read_listing(alloc: Global, matches: &ArgMatches) -> Result<Asked, Error> {
+    if matches.get_flag("csv") || matches.get_str("set").is_some() {
+        return Err(in_conflict(alloc, "--csv and --set go with --access")?);
     }
+    if matches.get_flag("text") != matches.get_str("account").is_some() {
+        let text = "--text and --account go together, and --account with --access";
+        return Err(in_conflict(alloc, text)?);
+    }
+    let own = name_in(alloc, matches, "account")?;
+    let detail = if matches.get_flag("quiet") {
+        Detail::Mistakes
+    } else {
+        Detail::Listing
+    };
+    Ok(Asked::Listing(Listing { detail, own }))
 }
 
 // The name that an option gives, where it is given.
@@ -83,20 +84,17 @@ fn name_in(alloc: Global, matches: &ArgMatches, id: &str) -> Result<Option<Name>
         None => Ok(None),
         Some(text) => match read_name(text.as_bytes()) {
             Ok(name) => Ok(Some(name)),
-            Err(_) => Err(no_name(alloc)?),
+            Err(_) => {
+                let what =
+                    "a name is 1 to 31 characters: a letter, then letters, digits, `.`, `_` or `-`";
+                Err(command(alloc)?.error(ErrorKind::ValueValidation, what)?)
+            }
         },
     }
 }
 
 fn in_conflict(alloc: Global, text: &str) -> Result<Error, AllocError> {
     command(alloc)?.error(ErrorKind::ArgumentConflict, text)
-}
-
-fn no_name(alloc: Global) -> Result<Error, AllocError> {
-    command(alloc)?.error(
-        ErrorKind::ValueValidation,
-        "a name is 1 to 31 characters: a letter, then letters, digits, `.`, `_` or `-`",
-    )
 }
 
 /// The error for a word that is no text, and so no option.
@@ -112,7 +110,11 @@ pub fn no_text(alloc: Global) -> Result<Error, AllocError> {
 const AFTER_HELP: &str =
     "The deck comes from standard input. Without --access its jobs are listed with all mistakes:
 
-  listing < payroll.deck
+  snomon-listing < payroll.deck
+
+and those of one submission, without the deck around it, with --text:
+
+  snomon-listing --text --account lisa < report.job
 
 Exit status: 0 where there is no mistake, or all was told of who may do what, and for this help and
 the version; 1 where there is a mistake, or the deck is refused before its stream or has no account
@@ -122,7 +124,7 @@ or memory failed.
 
 // The program's options, as `clap` knows them. Help and version are among them without being named.
 fn command<'a>(alloc: Global) -> Result<Command<'a>, AllocError> {
-    Command::new(alloc, "listing")
+    Command::new(alloc, "snomon-listing")
         .version("0.1.0")
         .about("Tells what the deck on standard input says before it is run")
         .after_help(AFTER_HELP)
@@ -130,6 +132,11 @@ fn command<'a>(alloc: Global) -> Result<Command<'a>, AllocError> {
             alloc,
             "quiet",
             "Only the mistakes, without the listing and without warnings",
+        ))?
+        .arg(flag(
+            alloc,
+            "text",
+            "It is no deck, but what the account of --account submits at a site",
         ))?
         .arg(flag(
             alloc,
@@ -141,7 +148,11 @@ fn command<'a>(alloc: Global) -> Result<Command<'a>, AllocError> {
             "csv",
             "With --access: a line for each data set, account and permission, with commas",
         ))?
-        .arg(named(alloc, "account", "With --access: only this account"))?
+        .arg(named(
+            alloc,
+            "account",
+            "With --access: only this account; with --text: whose it is",
+        ))?
         .arg(named(alloc, "set", "With --access: only this data set"))
 }
 

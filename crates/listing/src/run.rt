@@ -1,13 +1,12 @@
 //! What the program does, over any streams of std: from its words to what stands in these, and the exit status.
 ghost use Rattle.std.specs.Prelude.{◌≡◌, IfSome};
-ghost use Rattle.preflight.specs.Reports.{ReportedTo, status_of};
+ghost use Rattle.access_report.specs.Reports.{ReportedTo, status_of};
 
-use crate::options::{Asked, no_text, read_asked};
+use crate::options::{Asked, Listing, no_text, read_asked};
 use crate::streams::review_streams;
+use access_report::{Fault, Question, report_streams};
 use clap::Error;
 use clap::error::ErrorKind;
-use deck_lint::Tally;
-use preflight::{Fault, Question, report_streams};
 use std::alloc::{AllocError, Global};
 use std::convert::AsStr;
 use std::io;
@@ -16,7 +15,7 @@ use std::io::{Read, Write};
 /// The exit status where the words ask nothing.
 const NOTHING_ASKED: u8 = 2;
 
-/// The exit status where a listing has a mistake.
+/// The exit status where a listing has a mistake. Warnings alone are none.
 const HAS_MISTAKES: u8 = 1;
 
 /// Tells of the deck that comes from one stream what these words ask, writes it to another, and tells on a third what went
@@ -30,11 +29,17 @@ pub fn run<S: AsStr + Drop, R: Read, W: Write, E: Write>(
     errors: &mut E,
 ) -> u8 {
     match given_words(alloc, words) {
-        Ok(Asked::Listing { quiet }) => run_listing(alloc, quiet, input, output, errors),
+        Ok(Asked::Listing(listing)) => run_listing(alloc, &listing, input, output, errors),
         Ok(Asked::Access(question)) => run_access(alloc, &question, input, output, errors),
         Err(error) if error.kind() == ErrorKind::OutOfMemory => tell(alloc, Fault::Memory, errors),
-        Err(error) if error.use_stderr() => refuse(&error, errors),
-        Err(error) => show(alloc, &error, output, errors),
+        Err(error) if error.use_stderr() => {
+            let _told = write!(errors, "{error}");
+            NOTHING_ASKED
+        }
+        Err(error) => match write!(output, "{error}") {
+            Ok(()) => 0,
+            Err(_) => tell(alloc, Fault::WriteFault, errors),
+        },
     }
 }
 
@@ -54,53 +59,30 @@ pub fn run_access<R: Read, W: Write, E: Write>(
     }
 }
 
-/// Lists the jobs of a deck, and its mistakes; or, where it is quiet, these alone.
+/// Lists the jobs of a deck or of a submission, and the mistakes; or, where it is quiet, these alone.
 pub fn run_listing<R: Read, W: Write, E: Write>(
     alloc: Global,
-    quiet: bool,
+    listing: &Listing,
     input: &mut R,
     output: &mut W,
     errors: &mut E,
 ) -> u8 {
-    match review_streams(alloc, quiet, input, output) {
-        Ok(tally) => status_of_listing(tally),
+    match review_streams(alloc, listing, input, output) {
+        Ok(tally) if tally.mistakes > 0 => HAS_MISTAKES,
+        Ok(_) => 0,
         Err(fault) => tell(alloc, fault, errors),
     }
-}
-
-// Warnings alone are no mistakes.
-fn status_of_listing(tally: Tally) -> u8 {
-    if tally.mistakes > 0 { HAS_MISTAKES } else { 0 }
 }
 
 // Tells a fault, as far as that can be done, and gives its status.
 fn tell<E: Write>(alloc: Global, fault: Fault, errors: &mut E) -> u8
     ensures { result ≡ status_of fault }
 {
-    let _told = put_fault(alloc, fault, errors);
-    fault.status()
-}
-
-fn put_fault<E: Write>(alloc: Global, fault: Fault, errors: &mut E) -> io::Result<()> {
     let mut line = Vec::new(alloc);
-    fault.put_line(&mut line)?;
-    errors.write_all(&line)
-}
-
-// Tells why the words ask nothing, as far as that can be done.
-fn refuse<E: Write>(error: &Error, errors: &mut E) -> u8
-    ensures { result ≡ NOTHING_ASKED }
-{
-    let _told = write!(errors, "{error}");
-    NOTHING_ASKED
-}
-
-// Writes the help or the version, for which the words ask.
-fn show<W: Write, E: Write>(alloc: Global, error: &Error, output: &mut W, errors: &mut E) -> u8 {
-    match write!(output, "{error}") {
-        Ok(()) => 0,
-        Err(_) => tell(alloc, Fault::WriteFault, errors),
+    if fault.put_line(&mut line).is_ok() {
+        let _told = errors.write_all(&line);
     }
+    fault.status()
 }
 
 // What the words ask.

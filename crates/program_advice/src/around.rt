@@ -1,0 +1,72 @@
+//! The characters around a place of a line.
+ghost use Rattle.std.specs.Prelude.{◌≡◌, find, reverse, slice_get, option_copied};
+ghost use Rattle.program_advice.specs.Causes.{or_end, is_apart, around};
+
+/// What stands for a character that the line does not have.
+const END: u8 = b'\n';
+
+/// The characters around a place of a line; a line feed for each that the line does not have.
+#[derive(Clone, Copy)]
+pub struct Around {
+    /// The last before the place that belongs to no identifier.
+    pub sign: u8,
+    /// The last before the place.
+    pub before: u8,
+    /// That at the place.
+    pub here: u8,
+    /// The next.
+    pub behind: u8,
+    /// The first, from the place on, that belongs to no identifier.
+    pub follows: u8,
+}
+
+impl Around {
+    /// Around a place that parts a line in two.
+    pub fn of(before: &[u8], from_here: &[u8]) -> Around
+        ensures { result ≡ around before.now from_here.now }
+    {
+        Around {
+            sign: last_apart(before),
+            before: last(before),
+            here: or_end(from_here.first()),
+            behind: or_end(from_here.get(1)),
+            follows: first_apart(from_here),
+        }
+    }
+}
+
+fn last(text: &[u8]) -> u8
+    ensures { result ≡ or_end (slice_get (reverse text.now) 0) }
+{
+    or_end(text.last())
+}
+
+// The last character that belongs to no identifier.
+fn last_apart(text: &[u8]) -> u8
+    ensures { result ≡ or_end (find is_apart (reverse text.now)) }
+{
+    or_end(text.iter().rev().find(|code| is_apart(**code)))
+}
+
+// The first such character.
+fn first_apart(text: &[u8]) -> u8
+    ensures { result ≡ or_end (find is_apart text.now) }
+{
+    or_end(text.iter().find(|code| is_apart(**code)))
+}
+
+fn or_end(code: Option<&u8>) -> u8
+    ensures { result ≡ or_end (option_copied code.entry) }
+{
+    match code {
+        Some(code) => *code,
+        None => END,
+    }
+}
+
+// Whether a character belongs to no identifier.
+fn is_apart(code: u8) -> bool
+    ensures { result ≡ is_apart code }
+{
+    !(code.is_ascii_alphanumeric() || code == b'.' || code == b'_')
+}
