@@ -13,7 +13,6 @@ use rounds::{Beginning, begin_round};
 use site_folder::{Act, read_parts};
 use site_plan::{CatalogueFault, Plan, checksum, read_catalogue};
 use std::alloc::{AllocError, Global};
-use std::fs::Metadata;
 use std::io::ErrorKind;
 
 /// The name of the catalogue's file.

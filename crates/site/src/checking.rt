@@ -1,4 +1,4 @@
-//! `site check`: what a text would be told. `site verify`: a round is run again.
+//! `snomon-site check`: what a text would be told. `snomon-site verify`: a round is run again.
 use crate::auditing::run_compared;
 use crate::fault::{Fault, Wrong};
 use crate::place::{Place, System, read_there};

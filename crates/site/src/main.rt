@@ -27,7 +27,7 @@ use options::{Asked, no_text, read_asked};
 use place::joined;
 use running::{Report, run_site};
 use status::refuse_lock;
-use std::alloc::{AllocError, Global};
+use std::alloc::AllocError;
 use std::fs::{File, OpenOptions, TryLockError};
 use std::os::unix::fs::OpenOptionsExt;
 use std::process::ExitCode;

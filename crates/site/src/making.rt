@@ -1,4 +1,4 @@
-//! `site init`: the folder of a site is made.
+//! `snomon-site init`: the folder of a site is made.
 use crate::catalogue::wrong_in;
 use crate::fault::{Fault, Wrong};
 use crate::keeper::{accounts_in, terms_in, users_in};
@@ -14,7 +14,7 @@ use std::fs;
 use std::io::ErrorKind;
 
 /// What an account may hand in where no file says it.
-const USUAL_LIMITS: &[u8] = b"# What an account may hand in for a round, and own: site(5).
+const USUAL_LIMITS: &[u8] = b"# What an account may hand in for a round, and own: snomon-site(5).
 #
 # A round ends when all its texts have run, so statements and work say how long one account can keep
 # the others waiting. A match takes up to 50 nanoseconds a step as a rule: work is then 83 minutes an

@@ -185,10 +185,10 @@ fn error_of_command(alloc: Global, kind: ErrorKind, words: &str) -> Result<Error
 }
 
 // What follows the list of commands in the help.
-const AFTER_HELP: &str = "A keeper makes a site once, and starts `site run` by a timer:
+const AFTER_HELP: &str = "A keeper makes a site once, and starts `snomon-site run` by a timer:
 
-  site init /srv/site --accounts accounts --users users
-  site run /srv/site
+  snomon-site init /srv/site --accounts accounts --users users
+  snomon-site run /srv/site
 
 Exit status: 0 where all was done, and for this help and the version; 1 where a text was refused
 or put off and all else done, or where a round's bytes are others; 2 where the words ask nothing;
@@ -198,7 +198,7 @@ holds the lock.
 
 // The program's commands, as `clap` knows them.
 fn command<'a>(alloc: Global) -> Result<Command<'a>, AllocError> {
-    let program = Command::new(alloc, "site")
+    let program = Command::new(alloc, "snomon-site")
         .version("0.1.0")
         .about(
             "Runs what the users of a system drop into a folder, in rounds, and gives each what is his",

@@ -1,4 +1,4 @@
-//! `site run`: what a round before left is brought to its end, and then the next round is run.
+//! `snomon-site run`: what a round before left is brought to its end, and then the next round is run.
 use crate::claiming::all_taken;
 use crate::fault::Fault;
 use crate::keeper::{Keeper, open_site};

@@ -1,4 +1,4 @@
-//! `site status`: what stands, and what is not as it must be.
+//! `snomon-site status`: what stands, and what is not as it must be.
 use crate::catalogue::fault_of_catalogue;
 use crate::fault::{Fault, Wrong};
 use crate::keeper::Keeper;

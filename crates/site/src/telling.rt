@@ -25,7 +25,7 @@ impl<R: System + Print + Eprint> Teller for R {}
 
 /// Tells a fault, and gives its exit status.
 pub fn tell_fault<R: Eprint>(rt: &R, fault: &Fault) -> u8 {
-    let _told = eprintln!(rt; "site: {fault}");
+    let _told = eprintln!(rt; "snomon-site: {fault}");
     fault.status()
 }
 
@@ -111,7 +111,10 @@ fn tell_text<R: Print>(rt: &R, text: &[u8]) -> io::Result<()> {
 pub fn tell_verified<R: Print + Eprint>(rt: &R, n: u64, same: Result<bool, Fault>) -> u8 {
     match same {
         Ok(true) => status_of(println!(rt; "round {n}: the same bytes"), 0),
-        Ok(false) => status_of(eprintln!(rt; "site: round {n}: other bytes"), REFUSED),
+        Ok(false) => status_of(
+            eprintln!(rt; "snomon-site: round {n}: other bytes"),
+            REFUSED,
+        ),
         Err(fault) => tell_fault(rt, &fault),
     }
 }

@@ -1,59 +1,21 @@
 -- What is printed of acts is read as these.
-use Rattle.std.proofs.Common.{◌≡◌, ℕ, ◌+◌, ◌-◌, ◌*◌, ◌/◌, ◌%◌, ◌^◌, ◌<◌, ◌≤◌, Bool, true, false, not, ◌&&◌, ◌==◌, nat_le, nat_lt, if◌then◌else◌, List, [], ◌∷◌, ◌++◌, length, take, drop, filter, Option, None, Some, cond, refl, sym, ap, ◌∙◌, arith, append_assoc, length-append}
+use Rattle.std.proofs.Common.{◌≡◌, ℕ, ◌+◌, ◌^◌, ◌<◌, Bool, true, false, not, ◌&&◌, ◌==◌, nat_lt, if◌then◌else◌, List, [], ◌∷◌, ◌++◌, length, take, drop, filter, Option, None, Some, cond, refl, sym, ap, ◌∙◌, arith, append_assoc, length-append}
 use Rattle.std.specs.Prelude.{decimal}
 use Rattle.std.specs.List.{AllByRecursion, list_all, slice_split, position, position_or_len}
 use Rattle.std.proofs.lemmas.Bool.Decides.{nat_tests}
-use Rattle.std.proofs.lemmas.Fmt.{decimal_by_steps, decimal_nonempty, length-decimal-le}
 use Rattle.std.proofs.lemmas.List.{take_at, drop_at}
 use Rattle.std.proofs.lemmas.List.Elements.{All-from_recursion}
-use Rattle.std.proofs.lemmas.List.Folds.{list_all-append}
 use Rattle.std.proofs.lemmas.List.Splits.{slice_split_at}
-use borrow.Author.Tests.{le-leb, lt-ltb, ne_eqb}
+use borrow.Author.Tests.{lt-ltb, ne_eqb}
 use Rattle.mon_text.specs.Characters.{is_digit, is_blank, is_line_feed}
-use Rattle.mon_text.specs.Counts.{is_count, value_of}
+use Rattle.mon_text.specs.Counts.{value_of}
 use Rattle.mon_text.specs.Feeding.{has_no_end}
 use Rattle.mon_text.specs.Lines.{is_nonempty}
-use Rattle.mon_text.proofs.Digits.{read_on}
+use Rattle.mon_text.proofs.Counted.{AreDigitsOf, digits_of_decimal, is_count_of}
 use Rattle.site_folder.specs.Parts.{Act, Puts, Removes, IsSpellable, is_owed, act_line, parts_text, put_words, put_at, put_act, act_of, and_act, acts_of_lines, acts_of}
 
--- ---- the digits of a number, and their value
-
-abbrev AreDigitsOf : ℕ → List ℕ → Type 0
-AreDigitsOf n ds = (list_all is_digit ds ≡ true) × (value_of ds ≡ n)
-
-read_on_push : (so_far : ℕ) (ds : List ℕ) (c : ℕ) → read_on so_far (ds ++ c ∷ []) ≡ 10 * read_on so_far ds + (c - 48)
-read_on_push so_far [] c = refl
-read_on_push so_far (d ∷ ds) c = read_on_push (10 * so_far + (d - 48)) ds c
-
-is_digit_of : (n : ℕ) → n < 10 → is_digit (48 + n) ≡ true
-is_digit_of n small = ap (λ (b : Bool). b && nat_le (48 + n) 57) (le-leb 48 (48 + n) (omega arith)) ∙ le-leb (48 + n) 57 (omega arith)
-
-one_digit : (n : ℕ) → n < 10 → AreDigitsOf n ((48 + n) ∷ [])
-one_digit n small = (ap (λ (b : Bool). b && true) (is_digit_of n small), omega arith)
-
-one_more_digit : (n : ℕ) (ds : List ℕ) → 10 ≤ n → AreDigitsOf (n / 10) ds → AreDigitsOf n (ds ++ (48 + n % 10) ∷ [])
-one_more_digit n ds large (digits, value) = (
-  list_all-append is_digit ds ((48 + n % 10) ∷ [])
-      ∙ ap (λ (b : Bool). b && (is_digit (48 + n % 10) && true)) digits
-      ∙ ap (λ (b : Bool). b && true) (is_digit_of (n % 10) (omega arith)),
-  read_on_push 0 ds (48 + n % 10) ∙ omega (arith, value),
-)
-
-module _ (n : ℕ) (fits : n < 2 ^ 63) where
-  fits_word : n < 2 ^ 64
-  fits_word = omega arith
-
-  few : n < 10 ^ 19
-  few = omega arith
-
-  digits : AreDigitsOf n (decimal n)
-  digits = decimal_by_steps AreDigitsOf one_digit one_more_digit n fits_word
-
-  is_count_of : is_count (decimal n) ≡ true
-  is_count_of =
-      ap (λ (b : Bool). b && nat_le 1 (length (decimal n)) && nat_le (length (decimal n)) 19) digits.0
-      ∙ ap (λ (b : Bool). b && nat_le (length (decimal n)) 19) (le-leb 1 (length (decimal n)) (decimal_nonempty n fits_word))
-      ∙ le-leb (length (decimal n)) 19 (length-decimal-le 19 n (omega arith) few fits_word)
+digits : (n : ℕ) → n < 2 ^ 63 → AreDigitsOf n (decimal n)
+digits n fits = digits_of_decimal n (omega arith)
 
 -- ---- what stands between blanks and line ends
 

@@ -3,7 +3,7 @@ use Rattle.std.specs.Prelude.{◌≡◌, ℕ, List, ◌++◌, length, None, Some
 use Rattle.std.specs.List.{AllByRecursion}
 use Rattle.site_folder.specs.Files.{Files}
 use Rattle.site_folder.specs.Parts.{Act, IsSpellable, parts_text, acts_of, total, puts_of, removals_of}
-use Rattle.site_folder.specs.Rounds.{Owed, owed_by, settled, output_name, committed, IsSettling, IsCommitting, IsDelivering}
+use Rattle.site_folder.specs.Rounds.{owed_by, settled, output_name, committed, IsSettling, IsCommitting, IsDelivering}
 
 -- whatever a crash on the way left, to settle it comes to the same files as without the crash
 abbrev pub Settles : Type 0

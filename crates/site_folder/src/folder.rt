@@ -1,5 +1,5 @@
 //! A folder as the site uses it: files by name, what a read finds, and what a crash may leave.
-ghost use Rattle.std.specs.Prelude.{◌≡◌, ◌≤◌, [], ◌∷◌, ℕ, List, Option, Some, None, option_map, IfOk, OnOk, IsErrOf};
+ghost use Rattle.std.specs.Prelude.{◌≡◌, ◌≤◌, [], ◌∷◌, ℕ, option_map, IfOk, OnOk, IsErrOf};
 ghost use Rattle.site_folder.specs.declared.folder.FolderError.TheVariants.{Memory};
 ghost use Rattle.site_folder.specs.Files.{Files, put_of, removal_of, with_given, AreSomeGiven};
 ghost use Rattle.site_folder.specs.Crashes.{Only, GoesBy};

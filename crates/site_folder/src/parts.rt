@@ -1,5 +1,5 @@
 //! The text of `N.parts`: what each name is given when a round is settled.
-ghost use Rattle.std.specs.Prelude.{◌≡◌, ◌<◌, ◌++◌, [], ◌∷◌, Some, None, map, option_map, length, IfSome, IfOk, OnOk, filter};
+ghost use Rattle.std.specs.Prelude.{◌≡◌, ◌<◌, ◌++◌, [], ◌∷◌, map, option_map, length, IfSome, IfOk, OnOk, filter};
 ghost use Rattle.std.specs.List.{slice_split, position};
 ghost use Rattle.mon_text.specs.Characters.{is_blank, is_line_feed};
 ghost use Rattle.mon_text.specs.Lines.{is_nonempty};

@@ -4,7 +4,7 @@ ghost use Rattle.std.specs.Prelude.{◌≡◌, ◌≤◌, ◌+◌, ◌++◌, ◌
 ghost use Rattle.site_folder.specs.Files.{put_of, with_given, with_all, AreSomeGiven};
 ghost use Rattle.site_folder.specs.Crashes.{Only, GoesBy, LeavesOnly};
 ghost use Rattle.site_folder.specs.Parts.{seen_act, acts_of, total, count_of, put_by, puts_of, removal_by, removals_of};
-ghost use Rattle.site_folder.specs.Rounds.{output_name, done_name, committed, settled, paid, fitting, owed_of, owed_by, owed, standing_of, standing_for, staged, IsPaying, IsSettling, IsCommitting, IsDelivering};
+ghost use Rattle.site_folder.specs.Rounds.{output_name, done_name, committed, settled, paid, fitting, owed_of, owed_by, owed, standing_of, standing_for, IsPaying, IsSettling, IsCommitting, IsDelivering};
 ghost use Rattle.site_folder.specs.inner.Found.{IsFound, named, with_output, IsStaging};
 
 use crate::names::{RoundNames, round_name};

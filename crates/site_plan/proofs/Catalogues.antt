@@ -10,11 +10,11 @@ use Rattle.mon_catalogue.specs.Progress.{Progress, step, is_due, finished}
 use Rattle.mon_catalogue.specs.Sets.{Sets}
 use Rattle.mon_catalogue.proofs.Shorthand.{after_lines}
 use Rattle.mon_catalogue.proofs.Whole.{text_spells}
-use Rattle.deck_syntax.specs.declared.deck_error.DeckError.{DeckError}
-use Rattle.deck_syntax.specs.declared.card.Card.TheVariants as card
-use Rattle.deck_syntax.specs.CardLines.{IsLineWithin, IsCard}
+use Rattle.deck_lines.specs.declared.deck_error.DeckError.{DeckError}
+use Rattle.deck_lines.specs.declared.card.Card.TheVariants as card
+use Rattle.deck_lines.specs.CardLines.{IsLineWithin, IsCard}
 use Rattle.deck_syntax.specs.Spelling.{version_words}
-use Rattle.deck_syntax.specs.Refusing.{line_refusal, is_dollar_line}
+use Rattle.deck_lines.specs.Refusing.{line_refusal, is_dollar_line}
 use Rattle.deck_syntax.specs.Sections.{account_refusal, accounts_refusal, catalogue_refusal, ends_catalogue}
 use Rattle.deck_syntax.specs.inner.Parts.{version_in, heading_refusal}
 use Rattle.deck_syntax.proofs.Spelled.{neither, taken_line}

@@ -1,69 +1,29 @@
 -- The accounts that a table gives are those that its lines spell, and have different names.
-use Rattle.std.proofs.Common.{◌≡◌, ℕ, ◌+◌, ◌≤◌, ◌==◌, nat_lt, Bool, true, false, not, if◌then◌else◌, List, [], ◌∷◌, ◌++◌, length, Option, None, Some, Result, Ok, Err, is_some, refl, sym, ap, subst, ◌∙◌, arith, true≢false, append_assoc, append-nil}
+use Rattle.std.proofs.Common.{◌≡◌, ℕ, ◌+◌, ◌==◌, Bool, true, false, if◌then◌else◌, List, [], ◌∷◌, ◌++◌, length, Option, None, Some, Result, Ok, Err, is_some, refl, sym, ap, subst, ◌∙◌, append_assoc, append-nil}
 use Rattle.std.specs.Prelude.{bytes_eq}
-use Rattle.std.specs.List.{list_all, IsDistinct}
+use Rattle.std.specs.List.{IsDistinct}
 use Rattle.std.specs.Option.{option_or, option_map_or}
 use Rattle.std.specs.Str.Lines.{lines}
 use Rattle.std.specs.Cmp.Lexicographic.{nat_list_eq_equiv}
-use Rattle.std.proofs.lemmas.Bool.Decides.{nat_tests}
 use Rattle.std.proofs.lemmas.List.{map-append}
 use Rattle.std.proofs.lemmas.Map.Keys.{IsDistinct-push}
-use Rattle.mon_text.specs.Names.{is_name}
 use Rattle.mon_text.specs.Lines.{is_blank_line, words}
 use Rattle.mon_access.specs.declared.account.Account.{Account}
 use Rattle.mon_access.specs.Accounts.{find_account, names_of, HaveDifferentNames}
-use Rattle.deck_syntax.specs.declared.deck_error.DeckError.{DeckError}
-use Rattle.deck_syntax.specs.declared.deck_error.DeckError.TheVariants.{BadName, BadCard, AccountTwice, TooManyGroups}
-use Rattle.deck_syntax.specs.Cards.{word_at}
-use Rattle.deck_syntax.specs.CardLines.{IsLineWithin}
-use Rattle.deck_syntax.specs.Refusing.{unless, line_refusal, is_dollar_line}
-use Rattle.deck_syntax.specs.Sections.{account_on, table_refusal, account_refusal, accounts_refusal, table_after}
-use Rattle.deck_syntax.specs.Spelling.{SpellsAccount, SpellsAccounts}
-use Rattle.deck_syntax.specs.inner.Parts.{words_refusal, heading_refusal}
-use Rattle.deck_syntax.proofs.Spelled.{neither, passes, taken_line}
+use Rattle.deck_lines.specs.declared.deck_error.DeckError.{DeckError}
+use Rattle.deck_lines.specs.CardLines.{IsLineWithin}
+use Rattle.deck_lines.specs.Refusing.{line_refusal, is_dollar_line}
+use Rattle.deck_syntax.specs.Sections.{account_on, account_refusal, accounts_refusal, table_after}
+use Rattle.deck_syntax.specs.Spelling.{SpellsAccounts}
+use Rattle.deck_syntax.specs.inner.Parts.{heading_refusal}
+use Rattle.deck_syntax.proofs.Spelled.{neither, taken_line}
 use Rattle.deck_syntax.proofs.Complete.{any_account}
+use Rattle.deck_syntax.proofs.Sound.{blank_before, account_spelled}
 use Rattle.site_plan.specs.declared.table.TableFault.{TableFault}
 use Rattle.site_plan.specs.declared.table.TableFault.TheVariants.{Line, Heading, NoAccount}
 use Rattle.site_plan.specs.Walks.{and_then, at_line, walked}
 use Rattle.site_plan.specs.Tables.{after_line, if_any}
 use Rattle.site_plan.specs.Laws.{IsGoodTable, GivesAccounts}
-
--- a blank line more before accounts
-blank_before : (accounts : List Account) (line : List ℕ) (table : List (List ℕ)) → length line ≤ 200 → is_blank_line line ≡ true
-    → SpellsAccounts table accounts → SpellsAccounts (line ∷ table) accounts
-blank_before [] line table short blank are = ((short, blank), are)
-blank_before (account ∷ accounts) line table short blank (blanks, first, rest, are, blanks_are, is, others) =
-    (line ∷ blanks, first, rest, ap (λ (ls : List (List ℕ)). line ∷ ls) are, ((short, blank), blanks_are), is, others)
-
--- a line that is taken is that of an account whose name is new
-account_spelled : (done : List Account) (line : List ℕ) → IsLineWithin 200 line → account_refusal done (words line) ≡ None
-    → SpellsAccount line (account_on (words line)) × (is_some (find_account done (word_at 0 (words line))) ≡ false)
-account_spelled done line within fine =
-    let two = neither (words_refusal (words line)) (table_refusal done (account_on (words line))) fine in
-    let ws = neither (unless (nat_lt 1 (length (words line))) BadCard) (unless (list_all is_name (words line)) BadName) two.0 in
-    let table = neither (unless (not (is_some (find_account done (word_at 0 (words line))))) AccountTwice) _ two.1 in (
-      by (words line) refl (passes (nat_lt 1 (length (words line))) BadCard ws.0) (passes (list_all is_name (words line)) BadName ws.1)
-          (few (account_on (words line)).groups (passes _ TooManyGroups table.1)),
-      new (is_some (find_account done (word_at 0 (words line)))) (passes _ AccountTwice table.0),
-    )
-  where
-    few : (groups : List (List ℕ)) → not (nat_lt 16 (length groups)) ≡ true → length groups ≤ 16
-    few groups h = grind (arith, nat_tests, h)
-
-    new : (b : Bool) → not b ≡ true → b ≡ false
-    new true h = absurd (true≢false (sym h))
-    new false h = refl
-
-    by : (ws : List (List ℕ)) → words line ≡ ws → nat_lt 1 (length ws) ≡ true → list_all is_name (words line) ≡ true
-        → length (account_on (words line)).groups ≤ 16 → SpellsAccount line (account_on (words line))
-    by [] e many names few = cc
-    by (a ∷ []) e many names few = cc
-    by (a ∷ b ∷ ws) e many names few = record {
-      line_is = within;
-      words_are = e ∙ ap (λ (us : List (List ℕ)). (account_on us).name ∷ (account_on us).primary ∷ (account_on us).groups) (sym e);
-      names_are = names;
-      few = few;
-    }
 
 push_name : (done : List Account) (account : Account) → HaveDifferentNames done → is_some (find_account done account.name) ≡ false
     → HaveDifferentNames (done ++ account ∷ [])

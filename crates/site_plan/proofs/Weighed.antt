@@ -4,8 +4,8 @@ use Rattle.std.specs.List.{list_all}
 use Rattle.std.proofs.lemmas.List.Folds.{list_all-append}
 use Rattle.std.proofs.lemmas.List.Sums.{fold-append}
 use Rattle.preflight.specs.declared.tally.Tally.{Tally}
-use Rattle.preflight.specs.declared.limits.Limits.{Limits}
-use Rattle.preflight.specs.declared.limits.HandedIn.{HandedIn}
+use Rattle.preflight.specs.declared.quota.Quota.{Quota}
+use Rattle.preflight.specs.declared.quota.HandedIn.{HandedIn}
 use Rattle.preflight.specs.Allowances.{with_text}
 use Rattle.site_plan.specs.declared.runs.Runs.{Runs}
 use Rattle.site_plan.specs.Weighing.{stopped_by, weighed, tallies, are_within, are_of}
@@ -15,7 +15,7 @@ none_before f None e = refl
 none_before f (Some x) e = cc
 
 -- a text that is not too heavy is not stopped
-pub not_stopped : (limits : Limits) (handed : HandedIn) (tally : Tally) → weighed limits handed tally ≡ None → stopped_by limits (with_text handed tally) tally ≡ None
+pub not_stopped : (limits : Quota) (handed : HandedIn) (tally : Tally) → weighed limits handed tally ≡ None → stopped_by limits (with_text handed tally) tally ≡ None
 not_stopped limits handed tally light = none_before _ (stopped_by limits (with_text handed tally) tally) light
 
 parts_are : (a b : Bool) → (a && b) ≡ true → (a ≡ true) × (b ≡ true)
@@ -31,7 +31,7 @@ both_are false b x y = cc
 free : {A : Type 0} (o : Option A) → o ≡ None → not (is_some o) ≡ true
 free o e = ap (λ o. not (is_some o)) e
 
-within_more : (limits : Limits) (handed : HandedIn) (before : List Tally) (tally : Tally) → are_within limits handed before ≡ true
+within_more : (limits : Quota) (handed : HandedIn) (before : List Tally) (tally : Tally) → are_within limits handed before ≡ true
     → stopped_by limits (with_text (fold with_text handed before) tally) tally ≡ None → are_within limits handed (before ++ tally ∷ []) ≡ true
 within_more limits handed [] tally so_far good = both_are _ true (free _ good) refl
 within_more limits handed (first ∷ before) tally so_far good =
@@ -43,7 +43,7 @@ tallies_more [] runs = refl
 tallies_more (first ∷ queue) runs = ap (λ ts. first.submission.tally ∷ ts) (tallies_more queue runs)
 
 -- the law of a desk, with one text more
-pub still_within : (limits : Limits) (handed start : HandedIn) (queue now : List Runs) (runs : Runs) → are_within limits start (tallies queue) ≡ true → handed ≡ fold with_text start (tallies queue)
+pub still_within : (limits : Quota) (handed start : HandedIn) (queue now : List Runs) (runs : Runs) → are_within limits start (tallies queue) ≡ true → handed ≡ fold with_text start (tallies queue)
     → weighed limits handed runs.submission.tally ≡ None → now ≡ queue ++ runs ∷ [] → are_within limits start (tallies now) ≡ true
 still_within limits handed start queue now runs so_far counted light is =
     ap (λ q. are_within limits start (tallies q)) is

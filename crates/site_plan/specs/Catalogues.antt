@@ -11,9 +11,9 @@ use Rattle.mon_catalogue.specs.declared.version.Version.{Version}
 use Rattle.mon_catalogue.specs.Progress.{Progress, SetDue, step, is_due}
 use Rattle.mon_catalogue.specs.Sets.{Sets}
 use Rattle.mon_catalogue.specs.Spelling.{IsCatalogueText}
-use Rattle.deck_syntax.specs.declared.card.Card.TheVariants as card
-use Rattle.deck_syntax.specs.CardLines.{IsLineWithin, IsCard}
-use Rattle.deck_syntax.specs.Refusing.{line_refusal, is_dollar_line}
+use Rattle.deck_lines.specs.declared.card.Card.TheVariants as card
+use Rattle.deck_lines.specs.CardLines.{IsLineWithin, IsCard}
+use Rattle.deck_lines.specs.Refusing.{line_refusal, is_dollar_line}
 use Rattle.deck_syntax.specs.Sections.{accounts_refusal, catalogue_refusal, ends_catalogue, sets_of}
 use Rattle.deck_syntax.specs.Spelling.{version_words}
 use Rattle.deck_syntax.specs.inner.Parts.{version_in}

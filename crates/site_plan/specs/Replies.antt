@@ -3,8 +3,8 @@
 use Rattle.std.specs.Prelude.{ℕ, ◌+◌, ◌-◌, ◌==◌, Bool, not, ◌&&◌, List, [], ◌++◌, map, take, drop, length, replicate, position, unwrap_or, slice_index_or, decimal, codes, if◌then◌else◌}
 use Rattle.std.specs.Str.Lines.{lines}
 use Rattle.mon_text.specs.Characters.{is_printable, is_blank}
-use Rattle.deck_syntax.specs.declared.deck_error.DeckError.TheVariants.{BadCharacter, LineTooLong}
-use Rattle.deck_syntax.specs.Refusing.{is_dollar_line}
+use Rattle.deck_lines.specs.declared.deck_error.DeckError.TheVariants.{BadCharacter, LineTooLong}
+use Rattle.deck_lines.specs.Refusing.{is_dollar_line}
 use Rattle.preflight.specs.declared.why.Why.{Why}
 use Rattle.preflight.specs.declared.why.Why.TheVariants.{Line, Foreign}
 use Rattle.preflight.specs.declared.why.Refusal.{Refusal}

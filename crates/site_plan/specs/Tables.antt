@@ -4,7 +4,7 @@ use Rattle.std.specs.Option.{option_or, option_map_or}
 use Rattle.std.specs.List.{flat_map}
 use Rattle.std.specs.Str.Lines.{lines}
 use Rattle.mon_access.specs.declared.account.Account.{Account}
-use Rattle.deck_syntax.specs.Refusing.{line_refusal, is_dollar_line}
+use Rattle.deck_lines.specs.Refusing.{line_refusal, is_dollar_line}
 use Rattle.deck_syntax.specs.Sections.{accounts_refusal, table_after}
 use Rattle.site_plan.specs.declared.table.TableFault.{TableFault}
 use Rattle.site_plan.specs.declared.table.TableFault.TheVariants.{Line, Heading, NoAccount}

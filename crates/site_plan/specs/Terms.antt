@@ -5,9 +5,9 @@ use Rattle.std.specs.List.{list_any}
 use Rattle.std.specs.Str.Lines.{lines}
 use Rattle.mon_text.specs.Lines.{words}
 use Rattle.mon_text.specs.Counts.{is_count, value_of}
-use Rattle.preflight.specs.declared.limits.Limit.{Limit}
-use Rattle.preflight.specs.declared.limits.Limit.TheVariants.{Texts, Bytes, Jobs, Statements, Largest, Work, DataSets, Records}
-use Rattle.preflight.specs.declared.limits.Limits.{Limits}
+use Rattle.preflight.specs.declared.quota.Limit.{Limit}
+use Rattle.preflight.specs.declared.quota.Limit.TheVariants.{Texts, Bytes, Jobs, Statements, Largest, Work, DataSets, Records}
+use Rattle.preflight.specs.declared.quota.Quota.{Quota}
 use Rattle.site_plan.specs.declared.terms.Term.{Term}
 use Rattle.site_plan.specs.declared.terms.Term.TheVariants.{Gives, Demonstration}
 use Rattle.site_plan.specs.declared.terms.Terms.{Terms}
@@ -67,7 +67,7 @@ number_of limit (Gives other number ∷ said) = if is_same_limit other limit the
 abbrev pub needed : {A : Type 0} → List Term → Limit → (ℕ → Result A TermsFault) → Result A TermsFault
 needed said limit later = option_map_or later (number_of limit said) (Err (Missing limit))
 
-abbrev pub limits_of : List Term → Result Limits TermsFault
+abbrev pub limits_of : List Term → Result Quota TermsFault
 limits_of said =
     needed said Texts (λ texts. needed said Bytes (λ bytes. needed said Jobs (λ jobs. needed said Statements (λ statements.
     needed said Largest (λ largest. needed said Work (λ work. needed said DataSets (λ data_sets. needed said Records (λ records.

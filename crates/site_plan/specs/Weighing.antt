@@ -2,10 +2,10 @@
 use Rattle.std.specs.Prelude.{ℕ, ◌+◌, ◌==◌, Bool, true, false, not, ◌&&◌, List, [], ◌∷◌, map, Option, Some, None, option_map, is_some, if◌then◌else◌, bytes_eq}
 use Rattle.std.specs.List.{list_all}
 use Rattle.preflight.specs.declared.tally.Tally.{Tally}
-use Rattle.preflight.specs.declared.limits.Limit.{Limit}
-use Rattle.preflight.specs.declared.limits.Limit.TheVariants.{Texts, Bytes, Jobs, Statements, Largest, Work, DataSets, Records}
-use Rattle.preflight.specs.declared.limits.Limits.{Limits}
-use Rattle.preflight.specs.declared.limits.HandedIn.{HandedIn}
+use Rattle.preflight.specs.declared.quota.Limit.{Limit}
+use Rattle.preflight.specs.declared.quota.Limit.TheVariants.{Texts, Bytes, Jobs, Statements, Largest, Work, DataSets, Records}
+use Rattle.preflight.specs.declared.quota.Quota.{Quota}
+use Rattle.preflight.specs.declared.quota.HandedIn.{HandedIn}
 use Rattle.preflight.specs.Allowances.{broken_limit, with_text}
 use Rattle.preflight.specs.Tallies.{tally_of}
 use Rattle.site_plan.specs.declared.runs.Runs.{Runs}
@@ -25,7 +25,7 @@ spared tally None = None
 spared tally (Some limit) = if (is_of_owned limit && (tally.jobs == 0) && (tally.creates == 0)) then None else Some limit
 
 -- the limit that stops a text, where the account has this handed in with it
-abbrev pub stopped_by : Limits → HandedIn → Tally → Option Limit
+abbrev pub stopped_by : Quota → HandedIn → Tally → Option Limit
 stopped_by limits after tally = spared tally (broken_limit limits after)
 
 -- how much there is of what a limit is about, and how much there may be
@@ -39,7 +39,7 @@ amount Work handed = handed.tally.work
 amount DataSets handed = handed.data_sets + handed.tally.creates
 amount Records handed = handed.records
 
-abbrev pub allowed : Limit → Limits → ℕ
+abbrev pub allowed : Limit → Quota → ℕ
 allowed Texts limits = limits.texts
 allowed Bytes limits = limits.bytes
 allowed Jobs limits = limits.jobs
@@ -50,7 +50,7 @@ allowed DataSets limits = limits.data_sets
 allowed Records limits = limits.records
 
 -- why a text does not run, for a limit
-abbrev pub weighed : Limits → HandedIn → Tally → Option Reason
+abbrev pub weighed : Quota → HandedIn → Tally → Option Reason
 weighed limits handed tally =
     let after = with_text handed tally in
     option_map (λ limit. reason.Limit limit (amount limit after) (allowed limit limits)) (stopped_by limits after tally)
@@ -65,7 +65,7 @@ abbrev pub tallies : List Runs → List Tally
 tallies queue = map (λ runs. runs.submission.tally) queue
 
 -- each text, with those before it, breaks no limit that stops it
-abbrev pub are_within : Limits → HandedIn → List Tally → Bool
+abbrev pub are_within : Quota → HandedIn → List Tally → Bool
 are_within limits handed [] = true
 are_within limits handed (tally ∷ tallies) = not (is_some (stopped_by limits (with_text handed tally) tally)) && are_within limits (with_text handed tally) tallies
 

@@ -2,16 +2,15 @@
 ghost use Rattle.std.specs.Prelude.{◌≡◌, ◌≤◌, ◌<◌, ◌+◌, ◌-◌, ◌^◌, Ok, Err, length, IfOk, IfErr, OnOk};
 ghost use Rattle.std.specs.Str.Lines.{lines};
 ghost use Rattle.mon_text.specs.Stops.{Gives};
-ghost use Rattle.mon_catalogue.specs.Progress.{lines_taken, SetDue};
+ghost use Rattle.mon_catalogue.specs.Progress.{lines_taken};
 ghost use Rattle.preflight.specs.Submissions.{IfStopped};
 ghost use Rattle.site_plan.specs.Catalogues.{version_of, after_line, is_ended, whole, sets_behind, catalogue_of, checksum_of};
 
 use crate::lines::stop_at;
-use deck_syntax::{DeckError, finish_catalogue, put_account_line, put_catalogue_line};
+use deck_syntax::{DeckError, finish_catalogue, first_line, put_account_line, put_catalogue_line};
 use mon_access::Accounts;
 use mon_catalogue::{Catalogue, Loading, Version};
 use mon_text::Stop;
-use preflight::first_line;
 use sha2::{Digest, Sha256};
 use std::alloc::{AllocError, Global};
 

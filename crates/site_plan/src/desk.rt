@@ -8,7 +8,7 @@ use crate::owning::Holding;
 use crate::reason::Reason;
 use crate::runs::Runs;
 use mon_text::Name;
-use preflight::{HandedIn, Limit, Limits, Tally, within};
+use preflight::{HandedIn, Limit, Quota, Tally, within};
 use std::alloc::{AllocError, Global};
 use std::collections::VecDeque;
 
@@ -18,7 +18,7 @@ pub struct Desk {
     /// The account.
     pub account: Name,
     /// What it may hand in.
-    pub limits: Limits,
+    pub limits: Quota,
     /// What it owned when the round started.
     pub held: Holding,
     /// What it has handed in.
@@ -35,7 +35,7 @@ pub struct Desk {
 
 impl Desk {
     /// Before the first text of a round.
-    pub fn new(alloc: Global, account: Name, limits: Limits, held: Holding) -> Desk
+    pub fn new(alloc: Global, account: Name, limits: Quota, held: Holding) -> Desk
         ensures account { result.account ≡ account }
         ensures limits { result.limits ≡ limits }
         ensures held { result.held ≡ held }
@@ -98,7 +98,7 @@ impl Desk {
 }
 
 // The limit that stops a text, where the account has this handed in with it.
-fn stopped_by(limits: &Limits, after: &HandedIn, tally: &Tally) -> Option<Limit>
+fn stopped_by(limits: &Quota, after: &HandedIn, tally: &Tally) -> Option<Limit>
     ensures { result ≡ stopped_by limits.now after.now tally.now }
 {
     match within(limits, after) {
@@ -146,7 +146,7 @@ fn amount(limit: Limit, handed: &HandedIn) -> u128
 }
 
 // How much an account may have of it.
-fn allowed(limit: Limit, limits: &Limits) -> u64
+fn allowed(limit: Limit, limits: &Quota) -> u64
     ensures { result ≡ allowed limit limits.now }
 {
     match limit {

@@ -13,7 +13,7 @@ use crate::runs::Runs;
 use crate::taken::Taken;
 use mon_access::Accounts;
 use mon_text::{Name, Stop};
-use preflight::{Limits, Submission, examine};
+use preflight::{Quota, Submission, examine};
 use std::alloc::{AllocError, Global};
 
 /// A text that does not run.
@@ -45,7 +45,7 @@ impl Judged {
     pub fn new(
         alloc: Global,
         accounts: &Accounts,
-        limits: &Limits,
+        limits: &Quota,
         held: &[Holding],
     ) -> Result<Judged, AllocError> {
         let desks = empty_desks(alloc, accounts, limits, held)?;
@@ -77,7 +77,7 @@ impl Judged {
 fn empty_desks(
     alloc: Global,
     accounts: &Accounts,
-    limits: &Limits,
+    limits: &Quota,
     held: &[Holding],
 ) -> Result<Vec<Desk>, AllocError> {
     let mut desks = Vec::new(alloc);
@@ -93,7 +93,7 @@ fn add_desk(
     desks: &mut Vec<Desk>,
     alloc: Global,
     account: &Name,
-    limits: &Limits,
+    limits: &Quota,
     held: Holding,
 ) -> Result<(), AllocError> {
     match desks.push(Desk::new(alloc, account.copy(), *limits, held)) {

@@ -1,6 +1,6 @@
 //! What accounts own, of a catalogue.
 ghost use Rattle.std.specs.Prelude.{◌≡◌, ◌++◌, map, drop, take, IfOk, OnOk};
-ghost use Rattle.site_plan.specs.Owning.{with_record, bytes_of, with_set, with_sets, held_by, holdings_of};
+ghost use Rattle.site_plan.specs.Owning.{bytes_of, with_set, with_sets, held_by, holdings_of};
 
 use mon_access::Accounts;
 use mon_catalogue::{Catalogue, DataSet, Records};

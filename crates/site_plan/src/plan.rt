@@ -6,8 +6,8 @@ ghost use Rattle.site_plan.specs.Plans.{word_of, numbers_of, front_text, entry_t
 
 use crate::lines::words_of;
 use crate::taken::Taken;
+use deck_syntax::first_line;
 use mon_text::{Stop, put_number, read_count};
-use preflight::first_line;
 use std::alloc::{AllocError, Global};
 
 /// What becomes of a text.

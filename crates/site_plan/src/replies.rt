@@ -8,10 +8,11 @@ ghost use Rattle.site_plan.specs.Replies.{is_no_blank, is_unprintable, is_never_
 use crate::lines::put_times;
 use crate::reason::Reason;
 use crate::terms::limit_name;
-use deck_syntax::DeckError;
+use deck_lines::DeckError;
+use deck_syntax::first_line;
 use itoa::Buffer;
 use mon_text::{Name, put_number};
-use preflight::{Limit, Refusal, Why, first_line};
+use preflight::{Limit, Refusal, Why};
 use std::alloc::{AllocError, Global};
 
 /// How many characters of a line are shown at the most.

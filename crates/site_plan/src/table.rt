@@ -6,10 +6,9 @@ ghost use Rattle.preflight.specs.Submissions.{IfStopped};
 ghost use Rattle.site_plan.specs.Tables.{after_line, table_of, ended_lines};
 
 use crate::lines::stop_at;
-use deck_syntax::{DeckError, put_account_line};
+use deck_syntax::{DeckError, first_line, put_account_line, whole_lines};
 use mon_access::Accounts;
 use mon_text::Stop;
-use preflight::{first_line, whole_lines};
 use std::alloc::{AllocError, Global};
 
 /// Why a line of the account table is refused.

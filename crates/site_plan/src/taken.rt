@@ -1,5 +1,5 @@
 //! The names of claimed files.
-ghost use Rattle.std.specs.Prelude.{◌≡◌, ◌++◌, ◌∷◌, [], length, decimal, codes, IfOk, OnOk, IfSome, if◌then◌else◌};
+ghost use Rattle.std.specs.Prelude.{◌≡◌, ◌++◌, [], codes, IfOk, OnOk, IfSome, if◌then◌else◌};
 ghost use Rattle.site_plan.specs.Names.{id_text, taken_text};
 
 use crate::lines::put_times;

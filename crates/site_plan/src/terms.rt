@@ -6,15 +6,16 @@ ghost use Rattle.preflight.specs.Submissions.{IfStopped};
 ghost use Rattle.site_plan.specs.Terms.{limit_name, limit_on, number_on, term_on, is_same_limit, is_same, with_term, after_line, number_of, limits_of, terms_in, terms_of};
 
 use crate::lines::{is_skipped, stop_at, words_of};
+use deck_syntax::first_line;
 use mon_text::{Stop, read_count};
-use preflight::{Limit, Limits, first_line};
+use preflight::{Limit, Quota};
 use std::alloc::Global;
 
 /// What a site's file of limits says.
 #[derive(Clone, Copy)]
 pub struct Terms {
     /// What each account may hand in for a round.
-    pub limits: Limits,
+    pub limits: Quota,
     /// Whether a user of the system may have several accounts.
     pub demonstration: bool,
 }
@@ -218,7 +219,7 @@ fn terms_in(said: &[Term]) -> Result<Terms, TermsFault>
 }
 
 // All limits.
-fn limits_of(said: &[Term]) -> Result<Limits, TermsFault>
+fn limits_of(said: &[Term]) -> Result<Quota, TermsFault>
     ensures { result ≡ limits_of said.now }
 {
     let texts = needed(said, Limit::Texts)?;
@@ -229,7 +230,7 @@ fn limits_of(said: &[Term]) -> Result<Limits, TermsFault>
     let work = needed(said, Limit::Work)?;
     let data_sets = needed(said, Limit::DataSets)?;
     let records = needed(said, Limit::Records)?;
-    Ok(Limits {
+    Ok(Quota {
         texts,
         bytes,
         jobs,

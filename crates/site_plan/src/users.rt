@@ -5,10 +5,10 @@ ghost use Rattle.preflight.specs.Submissions.{IfStopped};
 ghost use Rattle.site_plan.specs.Users.{uid_on, user_with, user_on, has_uid, has_account, with_user, with_known, after_line, users_of, uid_of};
 
 use crate::lines::{is_skipped, stop_at, words_of};
+use deck_syntax::first_line;
 use mon_access::Accounts;
 use mon_text::{Name, Stop, read_count, read_name};
-use preflight::first_line;
-use std::alloc::{AllocError, Global};
+use std::alloc::Global;
 
 /// A user of the system, by the number that the kernel has for him, and his account.
 #[derive(Drop)]
