@@ -1,0 +1,6 @@
+pub mod Sights
+pub mod Serving
+pub mod Admission
+pub mod Listing
+pub mod Taking
+pub mod Missing

@@ -1,0 +1,4 @@
+pub mod Disks
+pub mod Plans
+pub mod Events
+pub mod Memory

@@ -1,0 +1,10 @@
+pub mod Fitting
+pub mod Committing
+pub mod Tracing
+pub mod Claiming
+pub mod Delivering
+pub mod Coursing
+pub mod Recording
+pub mod Passing
+pub mod Placing
+pub mod Careful

@@ -1,0 +1,159 @@
+-- What stands under a number leaves its box.
+use Rattle.std.proofs.Common.{◌≡◌, ℕ, suc, ◌+◌, Bool, true, false, List, [], ◌∷◌, ◌++◌, length, map, Option, Some, None, refl, sym, ap, ◌∙◌, subst}
+use Rattle.std.specs.Prelude.{if◌then◌else◌, ◌==◌}
+use Rattle.std.specs.List.{AllByRecursion}
+use Rattle.ledger_disk.specs.declared.identity.Identity.{Identity}
+use Rattle.ledger_disk.specs.declared.name.Name.TheVariants.{Dropped, Claimed}
+use Rattle.ledger_disk.specs.Disks.{Disk, Which, Call, Write, SyncFile, Rename, Link, Remove, SyncFolder, Saw, Looked, Next, after, after_all, given, which_after, which_behind, LooksAreTrue, AreTrue}
+use Rattle.ledger_disk.specs.Plans.{Began}
+use Rattle.ledger_laws.specs.Traces.{changes_ledger}
+use Rattle.ledger_laws.specs.Answers.{AnswersFit}
+use Rattle.ledger_laws.specs.Places.{Calls, AreCareful}
+use Rattle.ledger_laws.proofs.Claiming.{after_both}
+use Rattle.ledger_laws.proofs.Careful.{IsUnder, leaves_carefully}
+use Rattle.ledger_run.specs.Meaning.{Step}
+use Rattle.ledger_run.specs.Runs.{Seen, Stood, IsOpen, Opens}
+use Rattle.ledger_run.specs.Finishing.{is_look, Looks, IsClaimed, IsUnclaimed, AreSorted, leave_calls, Leaves, Finishes, LeavesNone, FinishesCarefully}
+use Rattle.ledger_run.proofs.Looking.{behind_both, looks_same, split, looks_so}
+use Rattle.ledger_run.proofs.Aside.{AllAside, removals_aside, stood_behind}
+
+in_row : {A : Type 0} (xs ys zs : List A) → (xs ++ ys) ++ zs ≡ xs ++ (ys ++ zs)
+in_row [] ys zs = refl
+in_row {A} (x ∷ xs) ys zs = ap (λ (l : List A). x ∷ l) (in_row xs ys zs)
+
+none_behind : {A : Type 0} (xs : List A) → xs ++ [] ≡ xs
+none_behind [] = refl
+none_behind {A} (x ∷ xs) = ap (λ (l : List A). x ∷ l) (none_behind xs)
+
+-- ---- which files are left
+
+leave_now : (done : List ℕ) (time : ℕ) (which : Which) (d : ℕ) (file : Identity) → (which_behind time (leave_calls done) which (Dropped d)).now ≡ Some file → (which (Dropped d)).now ≡ Some file
+leave_now [] time which d file e = e
+leave_now (x ∷ done) time which d file e = by (d == x) (leave_now done (suc time) (which_after time (Remove (Dropped x)) which) d file e)
+  where
+    by : (b : Bool) → (if b then given None (which (Dropped x)) else which (Dropped d)).now ≡ Some file → (which (Dropped d)).now ≡ Some file
+    by true e = absurd (cc (e))
+    by false e = e
+
+leave_under : (done : List ℕ) (time : ℕ) (which : Which) (n : ℕ) → (which_behind time (leave_calls done) which (Claimed n)).now ≡ (which (Claimed n)).now
+leave_under [] time which n = refl
+leave_under (x ∷ done) time which n = leave_under done (suc time) (which_after time (Remove (Dropped x)) which) n
+
+unclaimed_behind : (done left : List ℕ) (time : ℕ) (which : Which) → AllByRecursion (IsUnclaimed which) left → AllByRecursion (IsUnclaimed (which_behind time (leave_calls done) which)) left
+unclaimed_behind done [] time which all = tt
+unclaimed_behind done (d ∷ left) time which all = (
+  record { under_none = λ n file less here under. all.0.under_none n file less (leave_now done time which d file here) (sym (leave_under done time which n) ∙ under) },
+  unclaimed_behind done left time which all.1,
+)
+
+pub leaves_none : {D : Type 0} (calls : D → List Call) (left : List ℕ) (old new : D) → Finishes calls left old new → LeavesNone calls left new
+leaves_none calls left old new f = record {
+  none = λ first told.
+      let s = split (calls f.mid) (leave_calls f.done) 0 first (subst (λ (l : List Call). LooksAreTrue 0 l first) f.did.all told) in
+      let sorted : AreSorted f.done left (which_behind 0 (calls old) first) = f.looks.told first s.before in
+      subst (λ (w : Which). AllByRecursion (IsUnclaimed w) left)
+      (sym (ap (λ (l : List Call). which_behind 0 l first) f.did.all ∙ behind_both (calls f.mid) (leave_calls f.done) 0 first))
+      (unclaimed_behind f.done left (0 + length (calls f.mid)) (which_behind 0 (calls f.mid) first) (subst (λ (w : Which). AllByRecursion (IsUnclaimed w) left) (sym (same first)) sorted.unclaimed));
+}
+  where
+    same : (first : Which) → which_behind 0 (calls f.mid) first ≡ which_behind 0 (calls old) first
+    same first =
+        ap (λ (l : List Call). which_behind 0 l first) f.looks.grows ∙ behind_both (calls old) f.looks.more 0 first
+        ∙ looks_same f.looks.more (0 + length (calls old)) (which_behind 0 (calls old) first) f.looks.only
+
+-- ---- the ledger is opened all the same
+
+no : false ≡ true → ⊥
+no e = cc (e)
+
+look_aside : (call : Call) → is_look call ≡ true → (changes_ledger call ≡ false) × ((expected : ℕ → Option (List ℕ)) (disk : Disk) → AnswersFit expected disk → AnswersFit expected (after call disk))
+look_aside (Looked name found) e = (refl, λ expected disk fit m. fit m)
+look_aside (Next from found) e = (refl, λ expected disk fit m. fit m)
+look_aside (Saw name found) e = absurd (cc (e))
+look_aside (Write name bytes) e = absurd (cc (e))
+look_aside (SyncFile name) e = absurd (cc (e))
+look_aside (Rename from to) e = absurd (cc (e))
+look_aside (Link from to) e = absurd (cc (e))
+look_aside (Remove name) e = absurd (cc (e))
+look_aside (SyncFolder folder) e = absurd (cc (e))
+
+looks_aside : (looks rest : List Call) → AllByRecursion (λ call. is_look call ≡ true) looks → AllAside rest → AllAside (looks ++ rest)
+looks_aside [] rest all aside = aside
+looks_aside (x ∷ looks) rest all aside = (look_aside x all.0, looks_aside looks rest all.1 aside)
+
+true_before : (xs ys : List Call) (disk : Disk) → AreTrue (xs ++ ys) disk → AreTrue xs disk
+true_before [] ys disk told = tt
+true_before (Write n b ∷ xs) ys disk told = true_before xs ys (after (Write n b) disk) told
+true_before (SyncFile n ∷ xs) ys disk told = true_before xs ys (after (SyncFile n) disk) told
+true_before (Rename n m ∷ xs) ys disk told = true_before xs ys (after (Rename n m) disk) told
+true_before (Link n m ∷ xs) ys disk told = true_before xs ys (after (Link n m) disk) told
+true_before (Remove n ∷ xs) ys disk told = true_before xs ys (after (Remove n) disk) told
+true_before (SyncFolder f ∷ xs) ys disk told = true_before xs ys (after (SyncFolder f) disk) told
+true_before (Looked n o ∷ xs) ys disk told = true_before xs ys (after (Looked n o) disk) told
+true_before (Next n o ∷ xs) ys disk told = true_before xs ys (after (Next n o) disk) told
+true_before (Saw n o ∷ xs) ys disk told = (told.0, true_before xs ys disk told.1)
+
+pub opens_finished : {D : Type 0} (calls : D → List Call) (step : Step) (seen : Seen) (behind : List (List ℕ)) (left : List ℕ) (old mid new : D)
+    → Opens calls step seen behind old mid → Finishes calls left mid new → Opens calls step seen behind old new
+opens_finished calls step seen behind left old mid new opens f = record {
+  opens = λ first chain events told fits is_left.
+      let before : AreTrue (calls mid) first = true_before (calls mid) plan first (subst (λ (l : List Call). AreTrue l first) grows told) in
+      let site : IsOpen seen behind step chain (after_all (calls mid) first) = opens.opens first chain events before fits is_left in
+      record {
+        events = site.events;
+        is = site.is;
+        stood = subst (Stood step chain site.events) (sym (ap (λ (l : List Call). after_all l first) grows ∙ after_both (calls mid) plan first))
+            (stood_behind step chain site.events plan (after_all (calls mid) first) aside site.stood);
+      };
+}
+  where
+    plan : List Call
+    plan = f.looks.more ++ leave_calls f.done
+
+    grows : calls new ≡ calls mid ++ plan
+    grows = f.did.all ∙ ap (λ (l : List Call). l ++ leave_calls f.done) f.looks.grows ∙ in_row (calls mid) f.looks.more (leave_calls f.done)
+
+    aside : AllAside plan
+    aside = looks_aside f.looks.more (leave_calls f.done) f.looks.only (removals_aside f.done)
+
+-- ---- and no file is lost
+
+looks_carefully : (looks rest : List Call) (time number : ℕ) (taken : List ℕ) (which : Which) → AllByRecursion (λ call. is_look call ≡ true) looks
+    → ((t : ℕ) → AreCareful t number taken which (map Calls rest)) → AreCareful time number taken which (map Calls (looks ++ rest))
+looks_carefully [] rest time number taken which all careful = careful time
+looks_carefully (Looked name found ∷ looks) rest time number taken which all careful = (refl, (tt, looks_carefully looks rest (suc time) number taken which all.1 careful))
+looks_carefully (Next from found ∷ looks) rest time number taken which all careful = (refl, (tt, looks_carefully looks rest (suc time) number taken which all.1 careful))
+looks_carefully (Saw name found ∷ looks) rest time number taken which all careful = absurd (no all.0)
+looks_carefully (Write name bytes ∷ looks) rest time number taken which all careful = absurd (no all.0)
+looks_carefully (SyncFile name ∷ looks) rest time number taken which all careful = absurd (no all.0)
+looks_carefully (Rename from to ∷ looks) rest time number taken which all careful = absurd (no all.0)
+looks_carefully (Link from to ∷ looks) rest time number taken which all careful = absurd (no all.0)
+looks_carefully (Remove name ∷ looks) rest time number taken which all careful = absurd (no all.0)
+looks_carefully (SyncFolder folder ∷ looks) rest time number taken which all careful = absurd (no all.0)
+
+claimed_under : (which : Which) (done : List ℕ) → AllByRecursion (IsClaimed which) done → AllByRecursion (IsUnder which) done
+claimed_under which [] all = tt
+claimed_under which (d ∷ done) all = (λ file now. record { number = all.0.under.number; is = all.0.under.is ∙ sym all.0.in_box ∙ now }, claimed_under which done all.1)
+
+pub finishes_carefully : FinishesCarefully
+finishes_carefully time number taken which looks done settled only claimed =
+    looks_carefully looks (leave_calls done) time number taken which only (λ t. leaves_carefully done t number taken which settled (claimed_under which done claimed))
+
+-- ---- how far it came
+
+module _ {D : Type 0} (calls : D → List Call) where
+  pub leaves_later : (old new : D) → Looks calls (λ which. Unit {0}) old new → Leaves calls old new
+  leaves_later old new looks = record {
+    done = [];
+    mid = new;
+    looks = looks_so calls (λ which. Unit {0}) (λ which. AllByRecursion (IsClaimed which) []) old new (λ which told. tt) looks;
+    began = record { count = 0; some = sym (none_behind (calls new)) };
+  }
+
+  pub leaves_begun : (done left : List ℕ) (old mid new : D) → Looks calls (AreSorted done left) old mid → Began calls (leave_calls done) mid new → Leaves calls old new
+  leaves_begun done left old mid new looks began = record {
+    done = done;
+    mid = mid;
+    looks = looks_so calls (AreSorted done left) (λ which. AllByRecursion (IsClaimed which) done) old mid (λ which told. told.claimed) looks;
+    began = began;
+  }

@@ -1,0 +1,11 @@
+pub mod ReadingOn
+pub mod Planned
+pub mod Keeping
+pub mod Safety
+pub mod OpeningUp
+pub mod Giving
+pub mod Writing
+pub mod Ahead
+pub mod Aside
+pub mod Looking
+pub mod Leaving

@@ -1,0 +1,25 @@
+use Rattle.std.proofs.Common.{◌≡◌, ◌+◌, ◌++◌, map, List, [], ◌∷◌, ℕ, Option, option_map, subst, sym, ap, ◌∙◌, arith}
+use Rattle.std.proofs.lemmas.List.{map-append}
+use Rattle.ledger_disk.specs.Disks.{Saw}
+use Rattle.ledger_disk.specs.Disks.{Disk as AnyDisk}
+use Rattle.ledger_disk.specs.Disks.{AreTrue}
+use Rattle.ledger_disk.specs.declared.name.Name.TheVariants.{Commit}
+use Rattle.ledger_disk.specs.Plans.{Did}
+use Rattle.ledger_run.proofs.ReadingOn.{Reads, goes_on, ends_there, ends_last}
+use Rattle.ledger_run.proofs.chain.read_ledger.Goals as goal
+
+pub returns-in-None : goal.returns-in-None
+returns-in-None g c =
+    ends_there g.D.Disk.calls c.args.disk.now c.loop-number.disk c.read.new.self (map (λ file. file.items) c.loop-number.commits.items) c.loop-number.number c.args.most c.loop-number-test.true c.loop-number.invariant
+    (subst (λ (o : Option (List ℕ)). Did g.D.Disk.calls (Saw (Commit c.loop-number.number) o ∷ []) c.loop-number.disk c.read.new.self) (ap (option_map (λ file. file.items)) c.in-None.is) c.in_ok-bytes.ensures.did)
+
+pub loop-number-preserved : goal.loop-number-preserved
+loop-number-preserved g c = λ first true.
+    let items : map (λ file. file.items) c.push.new.self.items ≡ map (λ file. file.items) c.loop-number.commits.items ++ c.in-Some.bytes.items ∷ [] = ap (map (λ file. file.items)) c.in_ok-push-in-Some.ensures.items ∙ map-append (λ file. file.items) c.loop-number.commits.items (c.in-Some.bytes ∷ []) in
+    subst (λ (l : List (List ℕ)). Reads g.D.Disk.calls c.args.disk.now c.read.new.self l (c.loop-number.number + 1) c.args.most first) (sym items)
+    (goes_on g.D.Disk.calls c.args.disk.now c.loop-number.disk c.read.new.self (map (λ file. file.items) c.loop-number.commits.items) c.loop-number.number c.args.most c.in-Some.bytes.items c.loop-number.invariant
+    (subst (λ (o : Option (List ℕ)). Did g.D.Disk.calls (Saw (Commit c.loop-number.number) o ∷ []) c.loop-number.disk c.read.new.self) (ap (option_map (λ file. file.items)) c.in-Some.is) c.in_ok-bytes.ensures.did) first true)
+
+pub returns : goal.returns
+returns g c = ends_last g.D.Disk.calls c.args.disk.now c.loop-number.disk (map (λ file. file.items) c.loop-number.commits.items) c.args.most
+    (subst (λ (n : ℕ). (first : AnyDisk) → AreTrue (g.D.Disk.calls c.loop-number.disk) first → Reads g.D.Disk.calls c.args.disk.now c.loop-number.disk (map (λ file. file.items) c.loop-number.commits.items) n c.args.most first) (let a = c.loop-number-test.false in let b = c.loop-number.auto.number-end in omega (arith, a, b)) c.loop-number.invariant)

@@ -1,0 +1,29 @@
+//! What is done to a disk, call by call: the ledger is read, commits are put, files claimed, answers put.
+#![tactic(auto)]
+
+pub mod answers;
+pub mod chain;
+pub mod claims;
+pub mod commits;
+pub mod error;
+mod event;
+pub mod finishing;
+mod folding;
+pub mod laws;
+pub mod ledger;
+pub mod machine;
+pub mod opening;
+pub mod recording;
+pub mod running;
+
+pub use answers::{Owed, deliver};
+pub use chain::read_ledger;
+pub use claims::{claim, claim_beside};
+pub use commits::commit;
+pub use error::LedgerError;
+pub use finishing::finish_claims;
+pub use ledger::{Ledger, Waiting};
+pub use machine::{Machine, Outcome};
+pub use opening::open_ledger;
+pub use recording::{give, record_act};
+pub use running::{run_and_give, run_first, run_texts};

@@ -1,0 +1,5 @@
+pub mod Made
+mod Applied
+pub mod Walking
+mod Between
+mod Written

@@ -1,0 +1,18 @@
+//! What a site's data sets are changed into, as records of a commit: the change from one catalogue to another is written, read back, and
+//! made.
+#![tactic(auto)]
+
+mod applying;
+mod copying;
+mod heads;
+pub mod laws;
+mod reading;
+mod records;
+mod sets;
+pub mod site;
+pub mod writing;
+
+pub use applying::apply_change;
+pub use copying::copy_catalogue;
+pub use site::{NoChange, State, Tables};
+pub use writing::{run_change, sets_change, tables_change};

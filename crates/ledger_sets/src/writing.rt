@@ -1,0 +1,90 @@
+//! The texts of changes: what a commit has beside its record.
+ghost use Rattle.std.specs.Prelude.{◌≡◌, ◌++◌, ◌∷◌, [], IfOk, OnOk};
+ghost use Rattle.ledger_text.specs.Text.{commit_text};
+ghost use Rattle.ledger_text.specs.Records.{Audit};
+ghost use Rattle.ledger_sets.specs.Changes.{said_text, change_text, changes_between, run_changes, tables_changes};
+ghost use Rattle.ledger_sets.specs.Writing.{texts_in};
+
+use crate::sets::put_changes;
+use ledger_text::{Record, commit_text, record_text};
+use mon_catalogue::Catalogue;
+use std::alloc::{AllocError, Global};
+
+/// The change from one catalogue to another, as the keeper makes it.
+///
+/// # Errors
+///
+/// Where a growth was refused.
+pub fn sets_change(
+    alloc: Global,
+    before: &Catalogue,
+    after: &Catalogue,
+) -> Result<Vec<u8>, AllocError>
+    ensures { IfOk result (λ text. text.items ≡ change_text (changes_between before.now after.now)) }
+{
+    let mut texts = Vec::new(alloc);
+    put_changes(alloc, before, after, &mut texts)?;
+    text_of_all(alloc, &texts)
+}
+
+/// What a text changed that ran: behind it so many jobs ran so far; its audit has these lines; and one catalogue became another.
+///
+/// # Errors
+///
+/// Where a growth was refused.
+pub fn run_change(
+    alloc: Global,
+    jobs: u64,
+    audit: &[u8],
+    before: &Catalogue,
+    after: &Catalogue,
+) -> Result<Vec<u8>, AllocError>
+    ensures { IfOk result (λ text. text.items ≡ change_text (run_changes jobs audit.now before.now after.now)) }
+{
+    let mut texts = Vec::new(alloc);
+    put_audit(alloc, jobs, audit, &mut texts)?;
+    put_changes(alloc, before, after, &mut texts)?;
+    text_of_all(alloc, &texts)
+}
+
+/// The keeper's texts are these.
+///
+/// # Errors
+///
+/// Where a growth was refused.
+pub fn tables_change(
+    alloc: Global,
+    accounts: &[u8],
+    users: &[u8],
+    limits: &[u8],
+) -> Result<Vec<u8>, AllocError>
+    ensures { IfOk result (λ text. text.items ≡ change_text (tables_changes accounts.now users.now limits.now)) }
+{
+    let tables = commit_text(alloc, &[accounts, users, limits])?;
+    let said = record_text(alloc, 0, Record::Tables(&tables))?;
+    commit_text(alloc, &[said.as_slice()])
+}
+
+fn put_audit(
+    alloc: Global,
+    jobs: u64,
+    audit: &[u8],
+    out: &mut Vec<Vec<u8>>,
+) -> Result<(), AllocError>
+    ensures { OnOk result (texts_in out.new.items ≡ texts_in out.old.items ++ said_text (Audit jobs audit.now) ∷ []) }
+{
+    let text = record_text(alloc, 0, Record::Audit(jobs, audit))?;
+    out.push(text)?;
+    Ok(())
+}
+
+// The text of fields that are these.
+fn text_of_all(alloc: Global, texts: &[Vec<u8>]) -> Result<Vec<u8>, AllocError>
+    ensures { IfOk result (λ text. text.items ≡ commit_text (texts_in texts.now)) }
+{
+    let mut fields = Vec::new(alloc);
+    for text in texts {
+        fields.push(text.as_slice())?;
+    }
+    commit_text(alloc, &fields)
+}

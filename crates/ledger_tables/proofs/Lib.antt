@@ -1,0 +1,4 @@
+pub mod Printed
+pub mod Walking
+pub mod LimitsBack
+pub mod UsersBack

@@ -1,0 +1,5 @@
+pub mod Queues
+pub mod Turns
+pub mod Fairness
+pub mod Taking
+pub mod Sorting
