@@ -1,0 +1,10 @@
+pub mod Words
+pub mod Reasons
+pub mod Jobs
+pub mod Commands
+pub mod Lines
+pub mod Sets
+pub mod Exchanges
+pub mod Decks
+pub mod Histories
+pub mod Telling

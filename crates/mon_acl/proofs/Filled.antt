@@ -1,8 +1,0 @@
--- Lines that are not blank.
-use Rattle.std.specs.Prelude.{ℕ, Bool, not, List}
-use Rattle.std.specs.List.{list_all}
-use Rattle.mon_acl.specs.Texts.{is_gap}
-
--- not blanks alone
-abbrev pub is_filled : List ℕ → Bool
-is_filled line = not (list_all is_gap line)

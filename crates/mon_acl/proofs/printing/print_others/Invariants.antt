@@ -1,8 +1,0 @@
-use Rattle.std.proofs.Common.{take}
-use Rattle.std.specs.Prelude.{flat_map}
-use Rattle.mon_device.specs.Putting.{Puts}
-use Rattle.mon_acl.specs.Printing.{next_text}
-use Rattle.mon_acl.proofs.printing.print_others.Given as goal
-
-abbrev pub invariant-loop-other : goal.invariant-loop-other
-invariant-loop-other g l = Puts (g.S.Sink.standing l.fn.sink) (g.S.Sink.standing l.sink) (flat_map next_text (take l.other-index l.others))

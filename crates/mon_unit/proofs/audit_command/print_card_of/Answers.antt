@@ -1,7 +1,0 @@
-use Rattle.std.proofs.Common.{ap}
-use Rattle.mon_command.specs.Printouts.{word}
-use Rattle.mon_device.proofs.Putting.{puts_then, puts_same}
-use Rattle.mon_unit.proofs.audit_command.print_card_of.Goals as goal
-
-pub returns : goal.returns
-returns g c = puts_then _ _ _ _ _ c.put.ensures (puts_same _ _ _ _ (ap word c.as_bytes.ensures.value) c.print_word.ensures)

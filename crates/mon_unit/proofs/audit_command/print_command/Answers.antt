@@ -1,6 +1,0 @@
-use Rattle.std.proofs.Common.{◌∙◌, sym, refl}
-use Rattle.mon_device.proofs.Putting.{puts_failed}
-use Rattle.mon_unit.proofs.audit_command.print_command.Goals as goal
-
-pub returns-else-listens : goal.returns-else-listens
-returns-else-listens g c = puts_failed _ _ _ (c.listens.ensures.silent (sym c.listens.ensures.is ∙ c.if-listens.false)) refl

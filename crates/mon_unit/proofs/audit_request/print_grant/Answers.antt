@@ -1,7 +1,0 @@
-use Rattle.std.proofs.Common.{ap, sym}
-use Rattle.mon_device.proofs.Putting.{puts_nothing, puts_same}
-use Rattle.mon_unit.specs.inner.AuditParts.{grant_words}
-use Rattle.mon_unit.proofs.audit_request.print_grant.Goals as goal
-
-pub returns-in-None : goal.returns-in-None
-returns-in-None g c = puts_same _ _ _ _ (ap grant_words (sym c.in-None.is)) (puts_nothing _)

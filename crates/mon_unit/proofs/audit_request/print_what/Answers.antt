@@ -1,7 +1,0 @@
-use Rattle.std.proofs.Common.{ap}
-use Rattle.mon_command.specs.Printouts.{word}
-use Rattle.mon_device.proofs.Putting.{puts_four, puts_same}
-use Rattle.mon_unit.proofs.audit_request.print_what.Goals as goal
-
-pub returns : goal.returns
-returns g c = puts_four _ _ _ _ _ _ _ _ _ c.put.ensures c.print_place.ensures (puts_same _ _ _ _ (ap word c.outcome_word.ensures) c.print_word.ensures) c.print_by.ensures
