@@ -203,7 +203,8 @@ def _together(line: bytes, rest: Pieces) -> Pieces:
 
 def _stream_item(lines: Lines, line: bytes) -> Tuple[StreamItem, Pieces]:
     words = line.split()
-    card, nothing = words[0], iter(())
+    card = words[0]
+    nothing: Pieces = iter(())
     if card not in CARDS:
         raise lines.refused(f'E1 UNKNOWN CARD: {shown(card)}')
     if card == b'$JOB':
@@ -216,7 +217,7 @@ def _stream_item(lines: Lines, line: bytes) -> Tuple[StreamItem, Pieces]:
     if card not in (b'$DRAIN', b'$STOP'):
         raise lines.refused(f'E3 OUT OF PLACE: {shown(card)}')
     _lone_card(lines, line, card)
-    return (Drain if card == b'$DRAIN' else Stop)(lines.number), nothing
+    return Drain(lines.number) if card == b'$DRAIN' else Stop(lines.number), nothing
 
 
 def _name(lines: Lines, word: bytes) -> bytes:

@@ -7,13 +7,17 @@ import signal
 import sys
 from typing import Callable, Optional, Sequence
 
-from . import audit, join, page, printed, rounds, split, trial
+from . import acl, faults, history, join, join_audit, page, printed, questions, rounds, split, trial, usage
+from .audits import audits_of
 from .catalogue import MODES
 from .cards import SLOTS_LIMIT
 from .files import say, written
-from .lists import BadList, canonical
 from .parts import PARTS_LIMIT
-from .text import Fault, Refused, is_name
+from .progress import told
+from .real_files import read_map
+from .text import Fault, Refused
+from .version import VERSION
+from .words import a_list, a_name, a_time, a_unit, number_of_job, up_to
 
 STATUS_REFUSED, STATUS_WORDS, STATUS_FAULT = 1, 2, 3
 ABOUT = ('Makes the next deck for snomon from what a run has printed, tells what failed in it and what was printed for whom, '
@@ -31,7 +35,8 @@ def main(words: Sequence[str]) -> int:
         signal.signal(number, _leave)  # so that what was begun is taken away
     try:
         options = _parsed(words)
-        return options.act(options) or 0
+        with told():
+            return options.act(options) or 0
     except (Refused, Fault) as error:
         say(str(error))
         return STATUS_REFUSED if isinstance(error, Refused) else STATUS_FAULT
@@ -56,7 +61,8 @@ def _leave(number: int, _frame: object) -> None:
 
 
 def _options() -> argparse.ArgumentParser:
-    parser = argparse.ArgumentParser(prog='deck', description=ABOUT, epilog=STATUSES)
+    parser = argparse.ArgumentParser(prog='snomon-deck', description=ABOUT, epilog=STATUSES)
+    parser.add_argument('--version', action='version', version=f'snomon-deck {VERSION}', help='tell the version and exit')
     kinds = parser.add_subparsers(metavar='COMMAND', required=True)
 
     def kind(name: str, act: Act, help_line: str, more: str = '', statuses: str = STATUSES) -> argparse.ArgumentParser:
@@ -69,10 +75,12 @@ def _options() -> argparse.ArgumentParser:
     _add_printed(kind)
     _add_sets(kind)
     _add_new(kind)
+    _add_acl(kind)
     _add_try(kind)
     _add_split(kind)
     _add_audit(kind)
     _add_page(kind)
+    _add_history(kind)
     return parser
 
 
@@ -100,12 +108,19 @@ def _add_printed(kind: Kind) -> None:
                 'denied and how it ended.', FAILED_STATUSES)
     _takes_output(made)
     _gives(made, 'the list')
+    made = kind('faults', _faults, 'tell on which line of its program each job failed, and why',
+                'It reads an output, or a site\'s answer, beside what snomon-listing wrote of the deck, or with --text of the submission. Of '
+                'each job that did not end normally, or was denied something, it gives the line of the file, the text of the statement, the '
+                'function, keyword or label that is concerned, where the listing names one, and else what helps.', FAILED_STATUSES)
+    _takes_output(made)
+    made.add_argument('listing', metavar='LISTING', help='what snomon-listing has written of the same deck, without --quiet')
+    _gives(made, 'what it tells')
     made = kind('printouts', _printouts, 'write what was printed before the catalogue',
                 'Whose a printout is, its title says: the account of the job or command.')
     _takes_output(made)
     which = made.add_mutually_exclusive_group()
-    which.add_argument('--job', type=_number_of_job, metavar='N', help='only what the job of this number printed')
-    which.add_argument('--account', type=_name, metavar='NAME', help='only what was printed for this account')
+    which.add_argument('--job', type=number_of_job, metavar='N', help='only what the job of this number printed')
+    which.add_argument('--account', type=a_name, metavar='NAME', help='only what was printed for this account')
     which.add_argument('--each', metavar='DIR',
                        help='write a file for each account into this folder, called as the account is. The folder is made if need '
                             'be; a file there of that name is replaced, and others stay. The files are named on standard output')
@@ -116,13 +131,13 @@ def _add_printed(kind: Kind) -> None:
 def _add_sets(kind: Kind) -> None:
     made = kind('get', _get, 'write the records of a data set, a line each')
     _takes_output(made)
-    made.add_argument('set', type=_name, metavar='SET', help='its name')
+    made.add_argument('set', type=a_name, metavar='SET', help='its name')
     _gives(made, 'the records')
     made = kind('put', _put, 'make the lines of a file the records of a data set',
                 'All else is written as it was. A record has at most 1,024 characters, all of ASCII 32 to 126; a CR before '
                 'the end of a line belongs to that end.')
     _takes_output(made)
-    made.add_argument('set', type=_name, metavar='SET', help='its name; it has to be there')
+    made.add_argument('set', type=a_name, metavar='SET', help='its name; it has to be there')
     made.add_argument('file', metavar='FILE', help='a text file')
     _gives(made, 'the whole output with that change', 'it may be OUTPUT itself')
     made = kind('names', _names, 'write the names of the data sets')
@@ -133,24 +148,51 @@ def _add_sets(kind: Kind) -> None:
 
 def _add_new(kind: Kind) -> None:
     made = kind('new', _new, 'make a catalogue of a folder of text files',
-                'Each file is a data set, which is called as the file is. The catalogue can be given to next as an output.')
+                'Each file is a data set, which is called as the file is. The catalogue can be given to next as an output. '
+                'Either --owner and --group are given, or --acl.')
     made.add_argument('folder', metavar='DIR', help='the folder, with nothing else in it')
-    made.add_argument('--owner', required=True, type=_name, metavar='ACCOUNT', help='the owner of each data set')
-    made.add_argument('--group', required=True, type=_name, metavar='GROUP', help='the group of each data set')
-    made.add_argument('--list', type=_list, default=NEW_LIST, metavar='LIST',
-                      help='the permission list of each data set, in the short form; %(default)s where it is not given')
+    made.add_argument('--owner', type=a_name, metavar='ACCOUNT', help='the owner of each data set')
+    made.add_argument('--group', type=a_name, metavar='GROUP', help='the group of each data set')
+    made.add_argument('--list', type=a_list, metavar='LIST',
+                      help='the permission list of each data set, in the short form; %s where it is not given' % NEW_LIST)
+    made.add_argument('--acl', action='store_true',
+                      help='give each data set the owner, the group and the permission list that its file has, and not those of the three words above')
+    _maps(made)
     made.add_argument('--mode', choices=[os.fsdecode(mode) for mode in MODES], metavar='MODE',
                       help='the mode of each data set, SEQ or APPEND; the catalogue is then one of version 2')
+    made.set_defaults(refuse=made.error)
     _gives(made, 'the catalogue')
+
+
+def _add_acl(kind: Kind) -> None:
+    made = kind('acl', _acl, 'take permission lists from real files, or give them back',
+                'With --import it makes a catalogue with an empty data set for each file, that has the file\'s owner, group and list. With '
+                '--export it writes what setfacl --restore takes. Folders, and their default: entries, are passed over; these are told, and '
+                'so is a list with which Linux would grant more than acl(5) says.')
+    which = made.add_mutually_exclusive_group(required=True)
+    which.add_argument('--import', dest='folder', metavar='FOLDER', help='a folder with files; or a file that getfacl -R has written')
+    which.add_argument('--export', dest='export', metavar='OUTPUT', help='what a run of snomon has written, or a catalogue')
+    _maps(made)
+    _gives(made, 'the catalogue', 'or what setfacl takes')
+
+
+def _maps(parser: argparse.ArgumentParser) -> None:
+    parser.add_argument('--map', metavar='FILE',
+                        help='what users, groups and files are called here that have numbers or other names: lines "user 1001 lisa", '
+                             '"group _ssh ssh", "file a/b PAYROLL"; "file a/c -" passes that file over')
 
 
 def _add_try(kind: Kind) -> None:
     made = kind('try', _try, 'make a deck of one program, to try it',
-                'It has one account, me, and no data set. Tabs become blanks, up to each eighth column, and a line that begins with '
-                '$ gets another. What stands behind the program\'s END line is data. So: deck try PROGRAM | snomon, and, to '
-                'see its mistakes, deck try PROGRAM | listing.')
+                'It has one account, me, and no data set but those of --unit. Tabs become blanks, up to each eighth column, and a line that begins with '
+                '$ gets another. What stands behind the program\'s END line is data. So: snomon-deck try PROGRAM | snomon, and, to '
+                'see its mistakes, snomon-deck try PROGRAM | snomon-listing.')
     made.add_argument('program', metavar='PROGRAM', help='a file with a SNOBOL4 program')
     made.add_argument('data', nargs='?', metavar='DATA', help='a file with the lines that it reads')
+    made.add_argument('--unit', dest='units', type=a_unit, action='append', default=[], metavar='N=FILE',
+                      help='tie this unit, 1 to 99, to a data set UNITn that has the lines of the file, and is of mode SEQ; may be given for '
+                           'several units')
+    made.set_defaults(refuse=made.error)
     _gives(made, 'the deck')
 
 
@@ -162,40 +204,78 @@ def _add_split(kind: Kind) -> None:
     made.add_argument('deck', metavar='DECK', help='a deck that snomon --check finds good')
     made.add_argument('folder', metavar='DIR', help='a folder for them: it is made if need be, and may have other files, but none '
                                                        'of another split')
-    made.add_argument('--parts', type=_up_to(PARTS_LIMIT), default=16, metavar='N',
+    made.add_argument('--parts', type=up_to(PARTS_LIMIT), default=16, metavar='N',
                       help='how many decks at most, 1 to %s; %%(default)s where it is not given' % PARTS_LIMIT)
-    made.add_argument('--slots', type=_up_to(SLOTS_LIMIT), default=4, metavar='N',
+    made.add_argument('--slots', type=up_to(SLOTS_LIMIT), default=4, metavar='N',
                       help='with how many slots the decks will be run, 1 to 8; %(default)s where it is not given')
     made = kind('join', _join, 'put together the outputs of the decks that split has made',
                 'Jobs are numbered, and data sets stand, as in the output of the whole deck.')
     made.add_argument('folder', metavar='DIR', help='the folder that split filled, with an output for each deck')
-    _gives(made, 'the output')
+    made.add_argument('--audit', action='store_true',
+                      help='put together the audits 1.audit, 2.audit and so on, and not the outputs. What jobs of different decks did '
+                           'between two cards may stand in another order')
+    _gives(made, 'the output', 'or the audit')
 
 
 def _add_audit(kind: Kind) -> None:
-    made = kind('audit', _audit, 'list who did what, by the audit of a run',
-                'Each line of the audit that all of the options want is a row; without them each is. Behind its number stand the '
+    made = kind('audit', _audit, 'list who did what, by the audits of runs',
+                'Each line of an audit that all of the options want is a row; without them each is. Behind its number stand the '
                 'job, 0 for a command, the account and the event; of what is asked of a unit also the data set, the statement, the '
-                'unit and how many records stand before the place; then the answer, and by which entry, why, or what more.')
-    made.add_argument('audit', metavar='AUDIT', help='what snomon --audit has written')
-    made.add_argument('--set', type=_name, metavar='SET', help='only what was asked of the data set of this name')
-    made.add_argument('--account', type=_name, metavar='NAME', help='only what this account did, by its jobs and its commands')
+                'unit and how many records stand before the place; then the answer, and by which entry, why, or what more. Of '
+                'several audits each row begins with its run, which is called as its file is, without .audit.')
+    made.add_argument('audits', nargs='+', metavar='AUDIT', help='what snomon --audit has written; or a folder with such files, NAME.audit')
+    made.add_argument('--set', type=a_name, metavar='SET', help='only what was asked of the data set of this name')
+    made.add_argument('--account', type=a_name, metavar='NAME', help='only what this account did, by its jobs and its commands')
     made.add_argument('--denied', action='store_true', help='only what was denied')
     made.add_argument('--lists', action='store_true',
                       help='only what changed a permission list: a $SETACL, $CREATE or $DELETE that is done')
-    made.add_argument('--from', dest='first', type=_number_of_job, metavar='N', help='from where this job is loaded or refused')
-    made.add_argument('--to', dest='last', type=_number_of_job, metavar='N', help='to where this job has ended or is refused')
-    made.add_argument('--csv', action='store_true', help='write comma-separated values and not a table')
+    made.add_argument('--from', dest='first', type=number_of_job, metavar='N', help='from where this job is loaded or refused, of one run')
+    made.add_argument('--to', dest='last', type=number_of_job, metavar='N', help='to where this job has ended or is refused, of one run')
+    which = made.add_mutually_exclusive_group()
+    which.add_argument('--unused', metavar='OUTPUT',
+                       help='list instead the data sets of this output, or of a site\'s catalogue, of which nobody read or wrote a record; '
+                            'with --account that account did not')
+    which.add_argument('--could', metavar='REPORT',
+                       help='list instead who could do more with a data set than they did, by what listing --access --csv has written: '
+                            'account, set, what it could and what it did')
+    form = made.add_mutually_exclusive_group()
+    form.add_argument('--csv', dest='form', action='store_const', const='csv', default='table',
+                      help='write comma-separated values and not a table; each row has its run')
+    form.add_argument('--json', dest='form', action='store_const', const='json',
+                      help='write a JSON list of objects, one a line; each has its run')
+    made.set_defaults(refuse=made.error)
+    _gives(made, 'the list')
+
+
+def _add_history(kind: Kind) -> None:
+    made = kind('history', _history, 'list what the ledger of a site tells: what was claimed, ran and changed, of whom and when',
+                'It is for sites that keep a ledger, DIR/keep/ledger; one that has a folder of rounds keeps none, and audit is for that. '
+                'Each commit has to name the SHA-256 of the one before it: the file of one that does not is told, and nothing is listed. A row '
+                'has the commit, the UTC time, the number of the text and its account, or the keeper, and what happened. It is one for each text '
+                'that was claimed, refused, run or dropped; for each data set that is new, changed or gone, with what it was; for each line '
+                'of the keeper\'s tables that is new or gone; and for what a text\'s jobs and commands asked for, with how often.')
+    made.add_argument('folder', metavar='DIR', help='the folder of the site')
+    made.add_argument('--since', type=a_time, metavar='TIME', help='only from this UTC time on: 2026-11-27, or 2026-11-27T08:30:00')
+    made.add_argument('--until', type=a_time, metavar='TIME', help='only what was before this UTC time')
+    made.add_argument('--account', type=a_name, metavar='NAME', help='only what this account did, and lines of tables that are of it')
+    made.add_argument('--set', type=a_name, metavar='SET', help='only what was asked of the data set of this name, and its changes')
+    made.add_argument('--denied', action='store_true', help='only what was denied, and texts that were refused or dropped')
+    form = made.add_mutually_exclusive_group()
+    form.add_argument('--csv', dest='form', action='store_const', const='csv', default='table', help='write comma-separated values and not a table')
+    form.add_argument('--json', dest='form', action='store_const', const='json', help='write a JSON list of objects, one a line')
+    form.add_argument('--sqlite', metavar='FILE',
+                      help='list nothing, and write all into this database for sqlite3: it is made, or gets the commits that it does not have '
+                           'yet. Its .schema says what its tables have')
     made.set_defaults(refuse=made.error)
     _gives(made, 'the list')
 
 
 def _add_page(kind: Kind) -> None:
     made = kind('page', _page, 'make a page of HTML of who may do what, or of who did what',
-                'It has a row for each data set and a column for each account. It stands alone: no script, and nothing from '
-                'outside.')
-    made.add_argument('report', metavar='REPORT',
-                      help='what listing --access --csv has written, with the status 0; or what snomon --audit has')
+                'Of who may do what it has a row for each data set and a column for each account. Of audits it has what was denied, '
+                'a table of letters, totals and the runs. It stands alone: no script, and nothing from outside.')
+    made.add_argument('reports', nargs='+', metavar='REPORT',
+                      help='what listing --access --csv has written, with the status 0; or audits, as for audit')
     _gives(made, 'the page')
 
 
@@ -207,33 +287,6 @@ def _gives(parser: argparse.ArgumentParser, what: str, more: str = '') -> None:
     parser.add_argument('-o', '--output', dest='target', metavar='FILE',
                         help=f'write {what} to this file, whole or not at all, and not to standard output'
                              + (f'; {more}' if more else ''))
-
-
-def _name(word: str) -> bytes:
-    if not is_name(os.fsencode(word)):
-        raise argparse.ArgumentTypeError(f'{word!r} is no name')
-    return os.fsencode(word)
-
-
-def _list(word: str) -> bytes:
-    try:
-        return canonical(os.fsencode(word))
-    except BadList as fault:
-        raise argparse.ArgumentTypeError(str(fault)) from fault
-
-
-def _number_of_job(word: str) -> int:
-    if not (word.isascii() and word.isdigit()):
-        raise argparse.ArgumentTypeError(f'{word!r} is no number of a job')
-    return int(word)
-
-
-def _up_to(most: int) -> Callable[[str], int]:
-    def number(word: str) -> int:
-        if not (word.isascii() and word.isdigit() and 1 <= int(word) <= most):
-            raise argparse.ArgumentTypeError(f'{word!r} is not 1 to {most}')
-        return int(word)
-    return number
 
 
 def _next(options: argparse.Namespace) -> None:
@@ -256,6 +309,16 @@ def _failed(options: argparse.Namespace) -> int:
         say(str(cut))
         say(f'{options.output}: its run ended early, or was not written to the end; what it did is not kept')
     return STATUS_REFUSED if is_any or cut is not None else 0
+
+
+def _faults(options: argparse.Namespace) -> int:
+    try:
+        with written(options.target) as file:
+            is_any = faults.faults(options.output, options.listing, file)
+    except (Refused, Fault) as error:
+        say(str(error))
+        return STATUS_WORDS
+    return STATUS_REFUSED if is_any else 0
 
 
 def _get(options: argparse.Namespace) -> None:
@@ -285,14 +348,41 @@ def _printouts(options: argparse.Namespace) -> None:
 
 
 def _new(options: argparse.Namespace) -> None:
-    common = rounds.NewSets(options.owner, options.group, options.list, None if options.mode is None else os.fsencode(options.mode))
+    given = [options.owner, options.group, options.list]
+    if options.acl and any(given):
+        options.refuse('--owner, --group and --list are not allowed with --acl')
+    if not options.acl and (options.owner is None or options.group is None or options.map is not None):
+        options.refuse('--owner and --group are required without --acl, and --map is not allowed')
+    mode = None if options.mode is None else os.fsencode(options.mode)
+    if options.acl:
+        names = read_map(options.map)
+
+        def common(path: str, name: bytes) -> rounds.NewSet:
+            data_set, permissions = acl.named_file(path, name, names, say)
+            return rounds.NewSet(data_set.name, data_set.owner, data_set.group, permissions)
+    else:
+        permissions = options.list or os.fsencode(NEW_LIST)
+
+        def common(path: str, name: bytes) -> rounds.NewSet:
+            return rounds.NewSet(name, options.owner, options.group, permissions)
     with written(options.target) as file:
-        rounds.new_catalogue(options.folder, common, file)
+        rounds.new_catalogue(options.folder, common, mode, file)
+
+
+def _acl(options: argparse.Namespace) -> None:
+    names = read_map(options.map)
+    with written(options.target) as file:
+        if options.folder is not None:
+            acl.import_lists(options.folder, names, say, file)
+        else:
+            acl.export_lists(options.export, names, file)
 
 
 def _try(options: argparse.Namespace) -> None:
+    if len({unit for unit, _ in options.units}) < len(options.units):
+        options.refuse('--unit names a unit twice')
     with written(options.target) as file:
-        trial.deck_of_program(options.program, options.data, file)
+        trial.deck_of_program(options.program, options.data, options.units, file)
 
 
 def _split(options: argparse.Namespace) -> None:
@@ -309,17 +399,42 @@ def _a_line_each(paths: Sequence[str]) -> bytes:
 
 def _join(options: argparse.Namespace) -> None:
     with written(options.target) as file:
-        join.join_outputs(options.folder, file)
+        (join_audit.join_audits if options.audit else join.join_outputs)(options.folder, file)
 
 
 def _audit(options: argparse.Namespace) -> None:
+    asks_of_lines = options.denied or options.lists or options.first is not None or options.last is not None
     if options.first is not None and options.last is not None and options.first > options.last:
         options.refuse('--to is an earlier job than --from')
-    question = audit.Question(options.set, options.account, options.denied, options.lists, options.first, options.last)
+    if asks_of_lines and (options.unused is not None or options.could is not None):
+        options.refuse('--unused and --could list no lines: only --set and --account are allowed with them')
+    audits = audits_of(options.audits)
+    if len(audits) > 1 and (options.first is not None or options.last is not None):
+        options.refuse('--from and --to are jobs of one run, and there are several audits')
+    names = [None if name is None else os.fsdecode(name) for name in (options.set, options.account)]
+    question = questions.Question(names[0], names[1], options.denied, options.lists, options.first, options.last)
     with written(options.target) as file:
-        audit.answered(options.audit, question, options.csv, file)
+        if options.unused is not None:
+            usage.write_unused(options.unused, audits, question, options.form, file)
+        elif options.could is not None:
+            usage.write_could(options.could, audits, question, options.form, file)
+        else:
+            questions.answered(audits, question, options.form, file)
+
+
+def _history(options: argparse.Namespace) -> None:
+    names = [None if name is None else os.fsdecode(name) for name in (options.account, options.set)]
+    question = history.Question(options.since, options.until, names[0], names[1], options.denied)
+    if options.sqlite is None:
+        with written(options.target) as file:
+            history.write_history(options.folder, question, options.form, file)
+        return
+    if question != history.Question() or options.target is not None:
+        options.refuse('--since, --until, --account, --set, --denied and -o are not allowed with --sqlite, which takes all')
+    from . import history_base  # here, since a Python without sqlite3 can do all else
+    history_base.write_base(options.folder, options.sqlite)
 
 
 def _page(options: argparse.Namespace) -> None:
     with written(options.target) as file:
-        page.page_of(options.report, file)
+        page.page_of(options.reports, file)

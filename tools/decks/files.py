@@ -10,8 +10,9 @@ import shutil
 import stat
 import sys
 import tempfile
-from typing import BinaryIO, Iterator, Optional
+from typing import BinaryIO, Iterator, Optional, cast
 
+from . import progress
 from .beside import FILE_MODE, part_file, part_folder, take_after
 from .text import Fault, Refused
 
@@ -24,28 +25,39 @@ def say(text: str) -> None:
     """A line on standard error."""
     line = ''.join(letter if letter.isprintable() else repr(letter)[1:-1] for letter in text)
     if sys.stderr is not None:
+        progress.take_away()
         with contextlib.suppress(OSError):  # there is nowhere else to say it
-            print(f'deck: {line}', file=sys.stderr)
+            print(f'snomon-deck: {line}', file=sys.stderr)
 
 
 def opened(path: str) -> BinaryIO:
     """A file to read. It is not a folder; whatever else can be read is good."""
     try:
-        return open(path, 'rb')
+        file = open(path, 'rb')
     except OSError as error:
         raise Fault(f'{path}: {error.strerror}') from error
+    progress.reads(path, file)
+    return file
 
 
 def opened_twice(path: str) -> BinaryIO:
     """A file to read more than once: one that cannot be read again is copied first."""
     file = opened(path)
-    if file.seekable():
-        return file
+    return file if file.seekable() else copied(file)
+
+
+def copied(file: BinaryIO) -> BinaryIO:
+    """What is left of a file, in one that has no name. The file is closed."""
     with file, blaming(tempfile.gettempdir()):
-        copy = tempfile.TemporaryFile()
+        copy = unnamed()
         shutil.copyfileobj(file, copy)
         copy.seek(0)
     return copy
+
+
+def unnamed() -> BinaryIO:
+    """A new file that is gone when it is closed."""
+    return cast(BinaryIO, tempfile.TemporaryFile())
 
 
 def made(path: str) -> BinaryIO:
@@ -111,7 +123,7 @@ def _written_into(name: str, target: str, own: Optional[int]) -> Iterator[Binary
             into = _copy_of(name, own)  # before another file can get this number
             stack.callback(os.close, into)
         stack.enter_context(blaming(tempfile.gettempdir()))
-        file = stack.enter_context(tempfile.TemporaryFile())
+        file = stack.enter_context(unnamed())
         yield file
         file.seek(0)
         with blaming(name):
@@ -130,6 +142,7 @@ def _copy_of(name: str, number: int) -> int:
 
 def _pour(file: BinaryIO, into: int) -> None:
     """All that is left of the file. A descriptor that does not block is waited for."""
+    progress.writes()
     ready = select.poll()
     ready.register(into, select.POLLOUT)
     for piece in iter(lambda: file.read(PIECE), b''):

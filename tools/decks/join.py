@@ -154,7 +154,7 @@ class Joining:
 
 
 def join_outputs(folder: str, joined: BinaryIO) -> None:
-    """One output of those of the decks in a folder that `deck split` filled."""
+    """One output of those of the decks in a folder that `snomon-deck split` filled."""
     path = os.path.join(folder, CARDS_FILE)
     with contextlib.ExitStack() as stack:
         events = read_events(Lines(path, stack.enter_context(opened(path))))

@@ -30,6 +30,10 @@ def output_of(folder: str, part: int) -> str:
     return os.path.join(folder, f'{part + 1}.out')
 
 
+def audit_of(folder: str, part: int) -> str:
+    return os.path.join(folder, f'{part + 1}.audit')
+
+
 @dataclass(frozen=True)
 class Event:
     """A line of `cards`. The part is counted from 0, and None where there is none or where it is all of them."""
@@ -52,9 +56,9 @@ def read_events(lines: Lines) -> Iterator[Event]:
         rest = words[2:] if has_part else words[1:]
         fewest, most = KINDS.get(words[0], (1, 0))
         if not fewest <= len(rest) <= most or (words[0] == b'decks') != (lines.number == 1):
-            raise lines.refused(f'deck split writes no such line: {shown(line)}')
+            raise lines.refused(f'snomon-deck split writes no such line: {shown(line)}')
         if not all(map(is_count if words[0] == b'decks' else is_name, rest)):
-            raise lines.refused(f'deck split writes no such words: {shown(line)}')
+            raise lines.refused(f'snomon-deck split writes no such words: {shown(line)}')
         part = _part(lines, words, decks) if has_part else None
         if words[0] == b'decks':
             decks = int(rest[0])

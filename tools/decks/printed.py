@@ -21,7 +21,7 @@ def printouts(output: str, job: Optional[int], account: Optional[bytes], listing
     """All printouts, or those of one job or account. An output that a refused deck left has printouts too, and no catalogue."""
     with opened(output) as file:
         is_there = job is None and account is None
-        for title, lines in _all_printouts(Output(OutputLines(output, file))):
+        for title, lines in all_printouts(Output(OutputLines(output, file))):
             if job is not None:
                 is_wanted = title[0] == b'JOB' and int(title[1]) == job
             else:
@@ -35,7 +35,7 @@ def printouts(output: str, job: Optional[int], account: Optional[bytes], listing
                                            f'nothing was printed for {shown(account)}'))
 
 
-def _all_printouts(reading: Output) -> Iterator[Tuple[List[bytes], Iterator[bytes]]]:
+def all_printouts(reading: Output) -> Iterator[Tuple[List[bytes], Iterator[bytes]]]:
     """Each with its title; its lines are to be read before the next. Behind them is the end, or a catalogue begins."""
     while reading.is_at_a_printout():
         yield reading.title(), reading.printout()
@@ -47,7 +47,7 @@ def printouts_of_each(output: str, folder: str) -> List[str]:
     """A file for each account, which is called as the account is and has all that was printed for it. Their paths."""
     with opened(output) as file, filled(folder) as room:
         accounts: Set[str] = set()
-        for title, lines in _all_printouts(Output(OutputLines(output, file))):
+        for title, lines in all_printouts(Output(OutputLines(output, file))):
             account = os.fsdecode(account_of(title))
             accounts.add(account)
             with made(os.path.join(room, account)) as printed:

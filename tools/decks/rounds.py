@@ -4,11 +4,11 @@ from __future__ import annotations
 import os
 import tempfile
 from dataclasses import dataclass, replace
-from typing import BinaryIO, Iterator, List, Optional, Set
+from typing import BinaryIO, Callable, Iterator, List, Optional, Set
 
 from .cards import Stop, read_accounts, read_stream
 from .catalogue import RECORDS_LIMIT, SETS_LIMIT, DataSet, Found, heading
-from .files import blaming, opened
+from .files import blaming, opened, unnamed
 from .lists import named_users
 from .output import Output
 from .text import CATALOGUE_LIMIT, PIECE, Fault, Lines, OutputLines, Refused, counted, is_name, shown, text_of
@@ -22,7 +22,7 @@ def next_deck(output: str, accounts: str, stream: str, deck: BinaryIO) -> List[s
         known = _copy_accounts(Lines(accounts, file), deck)
     missing: List[str] = []
     with opened(output) as file:
-        reading = _at_its_catalogue(output, file)
+        reading = at_its_catalogue(output, file)
         deck.write(text_of([heading(reading.version())]))
         for found in reading.data_sets():
             missing.extend(f'{output}: {told}, and {accounts} has no such account' for told in _named_beyond(found, known))
@@ -74,7 +74,7 @@ def _copy(pieces: Iterator[List[bytes]], file: BinaryIO) -> None:
         file.write(text_of(piece))
 
 
-def _at_its_catalogue(name: str, file: BinaryIO) -> Output:
+def at_its_catalogue(name: str, file: BinaryIO) -> Output:
     output = Output(OutputLines(name, file))
     for _ in output.skip_printouts():
         pass
@@ -85,7 +85,7 @@ def get_records(output: str, name: bytes, records: BinaryIO) -> None:
     """The records of that data set, a line each."""
     with opened(output) as file:
         is_there = False
-        for found in _at_its_catalogue(output, file).data_sets():
+        for found in at_its_catalogue(output, file).data_sets():
             if found.data_set.name == name:
                 is_there = True
                 _copy(found.records, records)
@@ -96,7 +96,7 @@ def get_records(output: str, name: bytes, records: BinaryIO) -> None:
 def names(output: str, long: bool, listing: BinaryIO) -> None:
     """The names of the data sets; with `long` all that their cards say."""
     with opened(output) as file:
-        for found in _at_its_catalogue(output, file).data_sets():
+        for found in at_its_catalogue(output, file).data_sets():
             data_set = found.data_set
             listing.write(text_of([b' '.join(data_set.words()) if long else data_set.name]))
 
@@ -116,7 +116,7 @@ class Records:
 def read_records(path: str) -> Records:
     """The lines of this text file. The first that cannot be a record is told."""
     with blaming(tempfile.gettempdir()):
-        records = Records(0, tempfile.TemporaryFile())
+        records = Records(0, unnamed())
         with opened(path) as file:
             lines = Lines(path, file)
             for piece in iter(lambda: lines.take(PIECE), []):
@@ -140,41 +140,43 @@ def put_records(output: str, name: bytes, path: str, changed: BinaryIO) -> None:
         for found in reading.data_sets():
             if found.data_set.name == name:
                 is_there = True
-                _write_set(found.data_set, found.permissions, records, changed)
+                write_set(found.data_set, found.permissions, records, changed)
             else:
                 _copy(found.pieces(), changed)
         if not is_there:
             raise Refused(f'{output}: no data set is called {shown(name)}')
 
 
-def _write_set(data_set: DataSet, permissions: bytes, records: Records, file: BinaryIO) -> None:
+def write_set(data_set: DataSet, permissions: bytes, records: Records, file: BinaryIO) -> None:
     file.write(text_of([replace(data_set, count=records.count).card(), permissions]))
     records.copy_to(file)
 
 
 @dataclass(frozen=True)
-class NewSets:
-    """What the data sets of a new catalogue have in common. With a mode the catalogue is one of version 2."""
+class NewSet:
+    """What a data set of a new catalogue is called and whose it is."""
+    name: bytes
     owner: bytes
     group: bytes
     permissions: bytes
-    mode: Optional[bytes]
 
 
-def new_catalogue(folder: str, common: NewSets, catalogue: BinaryIO) -> None:
-    """A catalogue with a data set for each file of the folder, in the order of their names."""
+def new_catalogue(folder: str, made: Callable[[str, bytes], NewSet], mode: Optional[bytes], catalogue: BinaryIO) -> None:
+    """A catalogue with a data set for each file of the folder, in the order of their names. With a mode it is one of version 2."""
     try:
         paths = sorted(os.listdir(os.fsencode(folder)))
     except OSError as error:
         raise Fault(f'{folder}: {error.strerror}') from error
     if len(paths) > SETS_LIMIT:
         raise Refused(f'{folder}: it has {counted(len(paths), "file")}, and there are at most {SETS_LIMIT:,} data sets')
-    catalogue.write(text_of([heading(1 if common.mode is None else 2)]))
+    catalogue.write(text_of([heading(1 if mode is None else 2)]))
+    names: Set[bytes] = set()
     for name in paths:
         path = os.path.join(folder, os.fsdecode(name))
-        if not is_name(name):
-            raise Refused(f'{path}: what the file is called can be no name of a data set')
+        new = made(path, name)
+        if not is_name(new.name) or new.name in names:
+            raise Refused(f'{path}: what the file is called can be no name of a data set, or is one already')
+        names.add(new.name)
         records = read_records(path)
         with records.file:
-            data_set = DataSet(0, name, common.owner, common.group, common.mode, records.count)
-            _write_set(data_set, common.permissions, records, catalogue)
+            write_set(DataSet(0, new.name, new.owner, new.group, mode, records.count), new.permissions, records, catalogue)

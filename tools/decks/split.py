@@ -34,7 +34,7 @@ from .files import blaming, filled, made, opened_twice
 from .parts import CARDS_FILE, Event, deck_of, event_line
 from .text import Lines, Refused, counted, shown, text_of
 
-IN_THE_WAY = re.compile(r'cards|[0-9]+\.(deck|new|out)')  # what a folder has of another split, and of the runs of its decks
+IN_THE_WAY = re.compile(r'cards|[0-9]+\.(deck|new|out|audit)')  # what a folder has of another split, and of the runs of its decks
 Node = Union[bytes, int]  # the name of a data set, or the line of a job's card
 
 
@@ -176,7 +176,7 @@ def plan(deck: Survey, most: int, slots: int) -> Plan:
             notes.append(_told_of_kept(deck, clash, jobs, slots))
     count, part_of = _packed(deck, groups, most)
     everywhere = tuple(range(count))
-    by_line = {data_set.line: (part_of[groups.of(data_set.name)],) for data_set in deck.sets}
+    by_line: Dict[int, Tuple[int, ...]] = {data_set.line: (part_of[groups.of(data_set.name)],) for data_set in deck.sets}
     for stretch in stretches:
         by_line.update(_placed(stretch, groups, part_of, everywhere))
     by_line.update((card.line, everywhere) for card in deck.cards if isinstance(card, (Drain, Stop)))

@@ -2,22 +2,29 @@
 from __future__ import annotations
 
 import re
-from typing import BinaryIO, Iterator, Optional
+from typing import BinaryIO, Iterator, List, Optional, Tuple
 
+from .catalogue import DataSet
 from .files import opened
+from .rounds import read_records, write_set
 from .text import CARD_LIMIT, Lines, Refused, text_of
 
-HEAD = [b'$ACCOUNTS', b'me users', b'$CATALOGUE 2', b'$STREAM', b'$JOB me']
+ACCOUNT, GROUP = b'me', b'users'
+HEAD = [b'$ACCOUNTS', ACCOUNT + b' ' + GROUP, b'$CATALOGUE 2']
 FOOT = [b'$EOJ', b'$STOP']
+OWN_LIST = b'user::rwx,group::---,other::---'
 TAB_STOPS = 8
 END_LINE = re.compile(rb'END( |;|\Z)')
 
 
-def deck_of_program(program: str, data: Optional[str], deck: BinaryIO) -> None:
-    """A deck with one account, whose job is the program, and no data set. What stands behind the program's END line is data, and
-    so are the lines of the other file."""
+def deck_of_program(program: str, data: Optional[str], units: List[Tuple[int, str]], deck: BinaryIO) -> None:
+    """A deck with one account, whose job is the program, and a data set for each unit, with the lines of its file. What stands behind
+    the program's END line is data, and so are the lines of the other file."""
     ended = False
     deck.write(text_of(HEAD))
+    for unit, path in sorted(units):
+        _write_unit(unit, path, deck)
+    deck.write(text_of([b'$STREAM', b'$JOB ' + ACCOUNT, *(b'$UNIT %d UNIT%d' % (unit, unit) for unit, _ in sorted(units))]))
     for line in _lines_of_job(program):
         ended = ended or END_LINE.match(line) is not None
         deck.write(text_of([line]))
@@ -27,6 +34,12 @@ def deck_of_program(program: str, data: Optional[str], deck: BinaryIO) -> None:
         for line in _lines_of_job(data):
             deck.write(text_of([line]))
     deck.write(text_of(FOOT))
+
+
+def _write_unit(unit: int, path: str, deck: BinaryIO) -> None:
+    records = read_records(path)
+    with records.file:
+        write_set(DataSet(0, b'UNIT%d' % unit, ACCOUNT, GROUP, b'SEQ', records.count), OWN_LIST, records, deck)
 
 
 def _lines_of_job(name: str) -> Iterator[bytes]:
