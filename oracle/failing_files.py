@@ -2,10 +2,13 @@
 
 Counted are the calls of the C library on what stands below a folder: to open, read, write, bring to the disk, rename, remove,
 look at, list, make, lock, and to change mode, owner and length. It needs a C compiler."""
+from __future__ import annotations
+
 import itertools
 import os
 import subprocess
 import tempfile
+from typing import List, Tuple
 
 SHIM = r'''
 #define _GNU_SOURCE
@@ -99,7 +102,7 @@ CALL(int, statx, (int d, const char *restrict p, int g, unsigned m, struct statx
 '''
 
 
-def made_library(folder, source):
+def made_library(folder: str, source: str) -> str:
     """A library of this C source, to be loaded before a program's own."""
     with open(folder + '/shim.c', 'w') as file:
         file.write(source)
@@ -110,15 +113,15 @@ def made_library(folder, source):
 class Shim:
     """The library, made in a folder of its own while this is open."""
 
-    def __enter__(self):
+    def __enter__(self) -> Shim:
         self.room, self.marks = tempfile.TemporaryDirectory(), itertools.count()
         self.library = made_library(self.room.name, SHIM)
         return self
 
-    def __exit__(self, *_):
+    def __exit__(self, *_: object) -> None:
         self.room.cleanup()
 
-    def run(self, words, folder, call, kills=False):
+    def run(self, words: List[str], folder: str, call: int, kills: bool = False) -> Tuple[subprocess.CompletedProcess[bytes], bool]:
         """(how the run ended, whether it came to that call)"""
         mark = '%s/failed.%d' % (self.room.name, next(self.marks))
         more = {'LD_PRELOAD': self.library, 'SITE_FOLDER': folder, 'FAIL_CALL': str(call), 'FAILED': mark}

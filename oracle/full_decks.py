@@ -3,19 +3,23 @@
 python3 full_decks.py PROGRAM
 
 They and their outputs are worked out by hand, but too long to be kept as cases of crates/rows."""
+from __future__ import annotations
+
 import subprocess
 import sys
+from typing import List, Tuple
 
+Lines = List[str]
 FULL = 100000
 PAYROLL = ['user::rwx,user:lisa:rw-,group::r--,mask::r--,other::---', 'ADA 100', 'BOB 200', '']
 
 
-def records(count):
+def records(count: int) -> Lines:
     """A list, and so many records."""
     return ['user::rwx,group::---,other::---'] + ['R%d' % n for n in range(1, count + 1)]
 
 
-def one_more_record():
+def one_more_record() -> Tuple[Lines, Lines]:
     """All records are read, so that the write would be one too many: nothing changes."""
     payroll, big = PAYROLL, records(FULL)
     sets = ['$SET PAYROLL anna admin 3'] + payroll + ['$SET BIG anna admin %d' % FULL] + big
@@ -29,7 +33,7 @@ def one_more_record():
     return deck, ['JOB 1 anna', 'FULL STATEMENT 4 WRITE BIG', 'END NORMAL AFTER %d' % (FULL + 4), '$CATALOGUE 2'] + left
 
 
-def each_set_for_itself():
+def each_set_for_itself() -> Tuple[Lines, Lines]:
     """Beside a set that is full, one takes its last record and no further, and is cut by a write at its beginning."""
     one = ['$SET ONE anna admin SEQ %d' % FULL] + records(FULL)
     two = ['$SET TWO anna admin SEQ %d' % (FULL - 1)] + records(FULL - 1)
@@ -45,7 +49,7 @@ def each_set_for_itself():
         '$SET TWO anna admin SEQ 1', records(0)[0], 'FIRST']
 
 
-def a_log_that_is_full():
+def a_log_that_is_full() -> Tuple[Lines, Lines]:
     """A set of mode APPEND takes its last record and no further, wherever a unit stands: at its beginning, or behind a read."""
     log = records(FULL - 1)    # its list, and then its records
     deck = ['$ACCOUNTS', 'anna admin', '$CATALOGUE 2', '$SET LOG anna admin APPEND %d' % (FULL - 1)] + log + [
@@ -60,11 +64,11 @@ def a_log_that_is_full():
                   '$CATALOGUE 2', '$SET LOG anna admin APPEND %d' % FULL] + log + ['LAST']
 
 
-def text_of(lines):
+def text_of(lines: Lines) -> bytes:
     return ''.join(line + '\n' for line in lines).encode()
 
 
-def main():
+def main() -> None:
     failed = False
     cases = one_more_record, each_set_for_itself, a_log_that_is_full
     for case in cases:

@@ -1,7 +1,7 @@
 """A plain, slow monitor: whole decks, with owner commands and jobs, written from their rules alone.
 
 python3 monitor.py [--slots N] [--audit FILE] < deck    prints what snomon has to print, and writes to a file who asked for what: a
-                                                       line for each entry of the history, as mon_unit says it, and a last one
+                                                       line for each entry of the history, as the crate audit says it, and a last one
 
 Programs are run by snobol.py; refusals.py says which are refused, and where."""
 import re

@@ -115,7 +115,7 @@ class Crashes:
             return False, None, None
         os.unlink(mark)
         kind = 'ended the run' if done.returncode == 3 else 'not seen'
-        if done.returncode == 3 and done.stderr != b'site: out of memory\n':
+        if done.returncode == 3 and done.stderr != b'snomon-site: out of memory\n':
             return True, kind, 'standard error: ' + done.stderr.decode()[-200:]
         again = self.run(folder)
         wrong = None if again.returncode in (0, 1) else 'status %d: %s' % (again.returncode, again.stderr.decode()[-200:])

@@ -1,6 +1,6 @@
 """Rounds over a site's folder, by a second implementation: what is claimed, what runs and in which order, what each is given.
 
-python3 site_rounds.py run DIR SNOMON     makes the rounds that `site run DIR` has to make, and leaves the same files
+python3 site_rounds.py run DIR SNOMON     makes the rounds that `snomon-site run DIR` has to make, and leaves the same files
 
 What may be handed in, the limits and the order are asked of intake.py. The printout of a text is what SNOMON prints of it
 alone, over the catalogue as the text before it left it, and so is its part of the audit. Nothing here is locked or waits for the disk."""
@@ -281,7 +281,7 @@ class Site:
 
 
 def make(folder, accounts, users, limits, demonstration=False, catalogue=b'$CATALOGUE 2\n'):
-    """A site's folder, as `site init` makes it."""
+    """A site's folder, as `snomon-site init` makes it."""
     as_root = os.geteuid() == 0
     said = ''.join('%s %d\n' % one for one in limits.items()) + 'demonstration\n' * demonstration
     said_users = ''.join('%d %s\n' % (uid, account) for account, uid in users.items())

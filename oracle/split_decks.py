@@ -3,8 +3,9 @@
 python3 split_decks.py COUNT SEED PROGRAM      tells what differs, and then has status 1
 
 Kept have to be the catalogue, byte for byte; the printouts of the commands, in their order; and between two $DRAIN cards
-the jobs that are printed there, each byte for byte. Where the program reads version 2 of the catalogue's text, half of the
-decks are of that version."""
+the jobs that are printed there, each byte for byte. Of the audit, too: the lines of the commands, in their order; those of
+each job, in theirs; and the last. Where the program reads version 2 of the catalogue's text, half of the decks are of that
+version."""
 import concurrent.futures
 import io
 import os
@@ -15,7 +16,7 @@ import tempfile
 import random_decks
 
 sys.path.insert(0, os.path.join(os.path.dirname(os.path.abspath(__file__)), '..', 'tools'))
-from decks import join, split, text as texts  # noqa: E402
+from decks import join, join_audit, split, text as texts  # noqa: E402
 
 TITLES = tuple('JOB CREATE DELETE SETACL SHOWACL LIST CATALOG'.split())
 COMMANDS = tuple('$' + title + ' ' for title in TITLES[1:])
@@ -80,26 +81,35 @@ def deck(r, slots, version):
 
 
 def runs_of(path):
-    """A run of that program as a function of a deck and a number of slots: output, standard error, status."""
-    def run(text, slots):
-        done = subprocess.run([path, '--slots', str(slots)], input=text, capture_output=True, timeout=60)
+    """A run of that program as a function of a deck, a number of slots and a file for the audit: output, standard error, status."""
+    def run(text, slots, audit=os.devnull):
+        done = subprocess.run([path, '--slots', str(slots), '--audit', audit], input=text, capture_output=True, timeout=60)
         return done.stdout.decode(), done.stderr.decode(), done.returncode
     return run
 
 
 def split_run_and_join(run, path, folder, slots, parts):
-    """(how many decks, what was told of the cut, the joined output)"""
+    """(how many decks, what was told of the cut, the joined output, the joined audit)"""
     decks, told = split.split_deck(path, folder, parts, slots)
     for name in decks:
         with open(name, 'rb') as file:
-            out, error, status = run(file.read(), slots)
+            out, error, status = run(file.read(), slots, name[:-len('deck')] + 'audit')
         if status:
             raise texts.Fault('%s: status %d: %s' % (name, status, error))
         with open(name[:-len('deck')] + 'out', 'w') as file:
             file.write(out)
-    joined = io.BytesIO()
+    joined, audit = io.BytesIO(), io.BytesIO()
     join.join_outputs(folder, joined)
-    return len(decks), '\n'.join(told), joined.getvalue().decode()
+    join_audit.join_audits(folder, audit)
+    return len(decks), '\n'.join(told), joined.getvalue().decode(), audit.getvalue().decode()
+
+
+def by_asker(audit):
+    """The lines of an audit by what they are of: each job by its number, the commands, the run."""
+    found = {}
+    for line in audit.splitlines():
+        found.setdefault(tuple(line.split(' ')[:2]), []).append(line)
+    return found, audit.splitlines()[-1:]
 
 
 def printouts(lines):
@@ -155,14 +165,17 @@ def try_one(run, seed, version):
         path = room + '/whole.deck'
         with open(path, 'w') as file:
             file.write(text)
-        whole, error, status = run(text.encode(), slots)
+        whole, error, status = run(text.encode(), slots, room + '/whole.audit')
         if status:
             return 'status %d: %s' % (status, error), 0, False, False
         try:
-            count, told, joined = split_run_and_join(run, path, room + '/parts', slots, parts)
+            count, told, joined, audit = split_run_and_join(run, path, room + '/parts', slots, parts)
+            with open(room + '/whole.audit') as file:
+                whole_audit = file.read()
         except (texts.Refused, texts.Fault) as fault:
             return str(fault), 0, False, False
-    different = None if what_is_kept(whole, text) == what_is_kept(joined, text) else 'another output'
+    different = ('another output' if what_is_kept(whole, text) != what_is_kept(joined, text) else
+                 'another audit' if by_asker(whole_audit) != by_asker(audit) else None)
     return different, count, 'stay in one deck' in told, 'join makes one' in told
 
 

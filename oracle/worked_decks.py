@@ -2,18 +2,22 @@
 """worked_decks.py PROGRAM CASES: runs a program, as it is started at the shell, on each worked deck of that folder, on a native
 stack of 1 MiB, and compares output, standard error and status, and the audit where one is stored beside them. Prints what differs;
 the status is 1 where something does."""
+from __future__ import annotations
+
 import multiprocessing.pool
 import os
 import resource
 import subprocess
 import sys
 import tempfile
+from typing import Optional, TypeVar, Union
 
+Other = TypeVar('Other')
 STACK = 1 << 20
 SECONDS = 120
 
 
-def of_case(folder, name, otherwise):
+def of_case(folder: str, name: str, otherwise: Other) -> Union[bytes, Other]:
     path = os.path.join(folder, name)
     if not os.path.exists(path):
         return otherwise
@@ -21,7 +25,7 @@ def of_case(folder, name, otherwise):
         return file.read()
 
 
-def runs(program, folder):
+def runs(program: str, folder: str) -> Optional[str]:
     """What differs from the case, or None."""
     words = of_case(folder, 'args', b'').decode().split()
     audit = of_case(folder, 'audit', None)
@@ -39,7 +43,7 @@ def runs(program, folder):
     return f'{folder}: another {" and ".join(differs)}' if differs else None
 
 
-def main():
+def main() -> int:
     program, cases = os.path.abspath(sys.argv[1]), sys.argv[2]
     resource.setrlimit(resource.RLIMIT_STACK, (STACK, STACK))
     folders = sorted(entry.path for entry in os.scandir(cases) if entry.is_dir())

@@ -40,13 +40,15 @@ class Checkout(Trying):
         for name in ('tools', 'examples', 'bin', 'crates/snomon/src', 'crates/listing/src', 'crates/site/src',
                      'crates/mon_low/specs', 'crates/other/src'):
             os.makedirs(self.path(name))
-        for name in ('run', 'listing', 'site', 'install', 'tools/proved', 'tools/release', 'tools/deck', 'examples/payroll.deck'):
+        for name in ('run', 'bin/snomon-listing', 'bin/snomon-site', 'bin/snomon-deck', 'install', 'tools/proved', 'tools/release', 'tools/deck', 'tools/package', 'examples/payroll.deck',
+                     'LICENSE', 'CHANGELOG.md', 'SECURITY.md'):
             shutil.copy(os.path.join(TOP, name), self.path(name))
-        for name in ('tools/decks', 'docs/man', 'examples/site'):
+        for name in ('tools/decks', 'docs/man', 'examples/site', 'packaging'):
             shutil.copytree(os.path.join(TOP, name), self.path(name))
         self.write('crates.txt', b'# crates\nmon_low: thiserror\nsnomon: mon_low clap\nlisting: mon_low\nsite: mon_low\nother: mon_low\n')
         self.write('HANDLES', b'Handles allowed: none.\n')
-        for name in ('crates/snomon/src/main.rt', 'crates/listing/src/main.rt', 'crates/site/src/main.rt', 'crates/mon_low/specs/Low.antt', 'crates/other/src/lib.rt'):
+        for name in ('crates/snomon/src/main.rt', 'crates/listing/src/main.rt', 'crates/site/src/main.rt', 'crates/mon_low/specs/Low.antt',
+                     'crates/other/src/lib.rt'):
             self.write(name, b'one\n')
         self.write('version', b'kit 1\n')
         self.script('bin/rt', RT.encode())

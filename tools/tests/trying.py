@@ -127,7 +127,7 @@ class Trying(unittest.TestCase):
     def is_refused(self, done, message, status=1):
         """It ended with that status, one line that fits the message, and nothing on standard output."""
         self.assertEqual((done.status, done.out), (status, b''), done.err)
-        self.assertRegex(done.err, r'\Adeck: [^\n]*\n\Z')
+        self.assertRegex(done.err, r'\Asnomon-deck: [^\n]*\n\Z')
         self.assertIn(message, done.err)
 
     def is_refused_at(self, done, name, line, message):

@@ -1,0 +1,150 @@
+"""The answers of users whose primary group has others in it, at a site whose keeper is not root: examples/site/answers-acl."""
+import os
+import shutil
+import stat
+import subprocess
+import unittest
+from trying import TOP, run
+import sites
+
+GIVE = os.path.join(TOP, 'examples', 'site', 'answers-acl')
+KEEPER, ANNA, LISA, GROUP = 64010, 64011, 64012, 64013 # no users of the system; the group is that of anna and lisa
+LIST, REFUSED = b'$LIST anna LOG\n', b'$STOP\n'
+HAND_OVER = 'chown "$1:$1" "$2" "$2"/*; chgrp "$1" "$2"/in/*; chown "$1" "$2"/out/*'
+
+
+def keeps_acls(folder):
+    """Whether there is setfacl, and the file system takes what it gives."""
+    if not shutil.which('setfacl'):
+        return False
+    path = os.path.join(folder, 'tried')
+    os.mkdir(path)
+    done = run(['setfacl', '-m', 'd:u:%d:r' % ANNA, path])
+    os.rmdir(path)
+    return done.status == 0
+
+
+@unittest.skipUnless(os.path.exists(sites.SITE), 'there is no site')
+@unittest.skipUnless(os.geteuid() == 0, 'a keeper and two users can only be tried as root')
+class Answers(sites.SiteTrying):
+    users = {'anna': ANNA, 'lisa': LISA}
+    demonstration = False
+
+    def setUp(self):
+        super().setUp()
+        if not keeps_acls(self.room):
+            self.skipTest('no acls can be set here')
+        self.program = self.path('program') # the keeper may not reach it where it stands
+        shutil.copy(sites.SITE, self.program)
+        self.hand_over()
+
+    def hand_over(self):
+        """The folder, as root made it, is given to the keeper."""
+        for name in os.listdir(self.folder + '/out'):
+            os.chown(self.folder + '/out/' + name, -1, GROUP)
+        done = run(['/bin/sh', '-e', '-c', HAND_OVER, 'sh', str(KEEPER), self.folder])
+        self.assertEqual((done.status, done.err), (0, ''))
+
+    def site(self, *words, **more):
+        return run([self.program, *words], cwd='/', user=KEEPER, group=KEEPER, extra_groups=[], umask=0o027, **more)
+
+    def drop(self, account, name, content):
+        super().drop(account, name, content)
+        os.chown(self.box(account, name), -1, KEEPER)
+        os.chmod(self.box(account, name), 0o640)
+
+    def can(self, uid, script, path):
+        """Whether a user of the group can do that."""
+        return subprocess.run(['/bin/sh', '-c', script, 'sh', path], user=uid, group=GROUP, extra_groups=[], cwd='/', capture_output=True,
+                              timeout=60).returncode == 0
+
+    def answer(self, account, content, status=0):
+        """A round answers one text: the path of the answer."""
+        before = set(os.listdir(self.folder + '/out/' + account))
+        self.drop(account, 'it', content)
+        self.run_site(status=status)
+        new, = set(os.listdir(self.folder + '/out/' + account)) - before
+        return '%s/out/%s/%s' % (self.folder, account, new)
+
+    def give(self, folder=None):
+        return run([GIVE, folder or self.folder], cwd='/')
+
+    def test_what_root_made_is_the_keepers(self):
+        self.assertEqual(self.site('status', self.folder).status, 0)
+        for name, wanted in {'': (KEEPER, KEEPER, 0o755), 'catalogue': (KEEPER, KEEPER, 0o600), 'rounds': (KEEPER, KEEPER, 0o700),
+                             'in/anna': (ANNA, KEEPER, 0o2770), 'out/anna': (KEEPER, GROUP, 0o2750)}.items():
+            seen = os.stat(os.path.join(self.folder, name))
+            self.assertEqual((seen.st_uid, seen.st_gid, stat.S_IMODE(seen.st_mode)), wanted, name)
+
+    def test_only_its_user_reads_an_answer(self):
+        before = self.answer('anna', LIST)
+        self.assertEqual([self.can(uid, 'cat "$1"', before) for uid in (ANNA, LISA)], [True, True])
+        done = self.give()
+        self.assertEqual((done.status, done.err), (0, ''))
+        self.assertEqual(done.out.decode(), 'out/anna is for the user %d\nout/lisa is for the user %d\n' % (ANNA, LISA))
+        after = self.answer('anna', LIST)
+        refused = self.answer('anna', REFUSED, status=1)
+        for path in (before, after, refused):
+            self.assertEqual([self.can(uid, 'cat "$1"', path) for uid in (ANNA, LISA, KEEPER)], [True, False, True], path)
+            self.assertFalse(self.can(LISA, 'ls "$1"', path))
+        hers = self.answer('lisa', b'$LIST lisa LOG\n')
+        self.assertEqual([self.can(uid, 'cat "$1"', hers) for uid in (ANNA, LISA)], [False, True])
+
+    def test_an_answer_keeps_its_own_acl_where_it_is_reached_otherwise(self):
+        self.give()
+        path = self.answer('anna', LIST)
+        os.rename(path, self.path('aside'))
+        self.assertEqual([self.can(uid, 'cat "$1"', self.path('aside')) for uid in (ANNA, LISA, KEEPER)], [True, False, True])
+        self.assertFalse(any(self.can(uid, 'echo >>"$1"', self.path('aside')) for uid in (ANNA, LISA)))
+
+    def test_nobody_else_lists_or_changes_the_folder(self):
+        self.give()
+        self.answer('anna', LIST)
+        folder = self.folder + '/out/anna'
+        self.assertEqual([self.can(uid, 'ls "$1"', folder) for uid in (ANNA, LISA)], [True, False])
+        for uid in (ANNA, LISA):
+            self.assertFalse(self.can(uid, 'echo >"$1/new"', folder))
+            self.assertFalse(self.can(uid, 'rm -f "$1"/*.out && ! ls "$1"/*.out', folder))
+
+    def test_the_site_finds_nothing_wrong_with_it(self):
+        self.give()
+        for name in ('out/anna', 'out/lisa'):
+            seen = os.stat(os.path.join(self.folder, name))
+            self.assertEqual((seen.st_uid, seen.st_gid, stat.S_IMODE(seen.st_mode)), (KEEPER, GROUP, 0o2750))
+        done = self.site('status', self.folder)
+        self.assertEqual((done.status, done.err), (0, ''))
+        self.assertEqual(self.give().status, 0)
+        path = self.answer('anna', LIST)
+        seen = os.stat(path)
+        self.assertEqual((seen.st_uid, stat.S_IMODE(seen.st_mode)), (KEEPER, 0o640))
+
+    def test_an_account_that_changed_hands_is_given_anew(self):
+        self.give()
+        before = self.answer('anna', LIST)
+        self.write('site/users', b'# who\n\n  %d  lisa\n%d anna' % (ANNA, LISA))
+        os.chown(self.folder + '/users', KEEPER, KEEPER)
+        self.assertEqual(self.give().status, 0)
+        self.assertEqual([self.can(uid, 'ls "$1"', self.folder + '/out/anna') for uid in (ANNA, LISA)], [False, True])
+        self.assertFalse(self.can(ANNA, 'cat "$1"', before))
+
+    def test_what_is_no_folder_of_the_site_is_left_alone(self):
+        os.mkdir(self.path('elsewhere'))
+        os.rename(self.folder + '/out/anna', self.path('anna'))
+        os.symlink(self.path('elsewhere'), self.folder + '/out/anna')
+        done = self.give()
+        self.assertEqual((done.status, done.out), (1, b'out/lisa is for the user %d\n' % LISA))
+        self.assertIn('out/anna has no acl', done.err)
+        self.assertNotIn('user:', run(['getfacl', '-cpn', self.path('elsewhere')]).out.decode().replace('user::', ''))
+        os.remove(self.folder + '/out/anna')
+        self.assertEqual(self.give().status, 1)
+        self.write('site/users', b'../../elsewhere 1\n')
+        done = self.give()
+        self.assertEqual((done.status, done.out), (1, b''))
+        self.assertIn('is no user and account', done.err)
+
+    def test_other_words_are_refused(self):
+        for words in ([], ['-h'], [self.folder, 'more']):
+            done = run([GIVE, *words])
+            self.assertEqual((done.status, done.out), (2, b''))
+            self.assertIn('answers-acl DIR', done.err)
+        self.assertNotEqual(self.give(self.path('nowhere')).status, 0)
