@@ -9,12 +9,16 @@ the commands before it print. Commands without an `output` behind them print not
 
 Blocks marked `root` are run as `sh` is, by root: a page with one is followed in a place of its own, where /etc is a copy, and /home
 and /srv are empty. Where that cannot be made, such a page is left out."""
+from __future__ import annotations
+
+import contextlib
 import os
 import re
 import shutil
 import subprocess
 import sys
 import tempfile
+from typing import Iterator, List
 
 TOP = os.path.realpath(os.path.join(os.path.dirname(os.path.realpath(__file__)), '..'))
 BLOCK = re.compile(r'^```([^\n]*)\n(.*?)^```\n', re.M | re.S)
@@ -29,64 +33,45 @@ read -r _ || true
 '''
 
 
-def is_guide(name):
+def is_guide(name: str) -> bool:
     return os.path.dirname(name) in ('docs/tutorial', 'docs/howto')
 
 
-def is_for_root(text):
+def is_for_root(text: str) -> bool:
     return any(mark == 'root' for mark, _ in BLOCK.findall(text))
 
 
-def has_places():
+def has_places() -> bool:
     """Whether root, and such a place, are to be had here."""
     return os.geteuid() == 0 and all(map(shutil.which, ('unshare', 'nsenter', 'useradd', 'runuser'))) and subprocess.run(
         ['unshare', '--mount', '--propagation', 'private', 'mount', '-t', 'tmpfs', 'place', '/srv'],
         stdout=subprocess.DEVNULL, stderr=subprocess.DEVNULL).returncode == 0
 
 
-class Here:
-    """The system as it is."""
-
-    def __enter__(self):
-        return []
-
-    def __exit__(self, *fault):
-        pass
-
-
-class Place:
+@contextlib.contextmanager
+def place_for_root(room: str) -> Iterator[List[str]]:
     """A place of its own for commands of root, as long as it is entered: the words by which a command gets there."""
-
-    def __init__(self, room):
-        self.room = room
-
-    def __enter__(self):
-        self.held = subprocess.Popen(['unshare', '--mount', '--propagation', 'private', 'bash', '-euc', PLACE, 'place', os.path.join(self.room, 'etc')],
-                                     stdin=subprocess.PIPE, stdout=subprocess.PIPE)
-        if self.held.stdout.readline() != b'ready\n':
+    words = ['unshare', '--mount', '--propagation', 'private', 'bash', '-euc', PLACE, 'place', os.path.join(room, 'etc')]
+    with subprocess.Popen(words, stdin=subprocess.PIPE, stdout=subprocess.PIPE) as held:
+        if not held.stdout or held.stdout.readline() != b'ready\n':
             raise OSError('there is no place for root')
-        return ['nsenter', f'--mount=/proc/{self.held.pid}/ns/mnt', 'sh', '-c', 'test -e /srv/.place && cd "$0" && exec "$@"',
-                os.path.join(self.room, 'folder')]
-
-    def __exit__(self, *fault):
-        self.held.stdin.close()
-        self.held.wait()
+        yield ['nsenter', f'--mount=/proc/{held.pid}/ns/mnt', 'sh', '-c', 'test -e /srv/.place && cd "$0" && exec "$@"', os.path.join(room, 'folder')]
 
 
-def printed(there, folder, path, commands):
+def printed(there: List[str], folder: str, path: str, commands: str) -> str:
     """What the commands print in the folder, standard error among it, as a terminal shows it; and where they fail, their status."""
     done = subprocess.run([*there, 'timeout', '60', 'bash', '-euo', 'pipefail', '-c', commands], cwd=folder, stdin=subprocess.DEVNULL,
                           stdout=subprocess.PIPE, stderr=subprocess.STDOUT, env={**os.environ, 'LC_ALL': 'C', 'PATH': path})
     return done.stdout.decode() + (f'status {done.returncode}\n' if done.returncode else '')
 
 
-def site():
+def site() -> str:
     """The program snomon-site itself: each user can run a copy of it, wherever this repository is."""
     return os.environ.get('SITE') or subprocess.run([os.path.join(TOP, 'tools', 'proved'), '--path', 'site'], check=True,
                                                     stdout=subprocess.PIPE).stdout.decode().strip()
 
 
-def linked(programs, program, text):
+def linked(programs: str, program: str, text: str) -> str:
     """A folder for the path of commands that has the programs of this repository."""
     os.mkdir(programs)
     for name, path in (('snomon', program), ('snomon-deck', os.path.join(TOP, 'bin', 'snomon-deck')),
@@ -97,7 +82,7 @@ def linked(programs, program, text):
     return programs + os.pathsep + os.environ['PATH']
 
 
-def followed(program, text):
+def followed(program: str, text: str) -> Iterator[str]:
     """What is not as the page says, block by block."""
     parts = BLOCK.split(text)
     steps = list(zip(parts[0::3], parts[1::3], parts[2::3]))
@@ -106,7 +91,8 @@ def followed(program, text):
         os.mkdir(folder)
         for place in (room, os.path.join(room, 'programs'), folder):
             os.chmod(place, 0o755)  # other users look into them, whatever the umask is
-        with Place(room) if is_for_root(text) else Here() as there:
+        here: List[str] = []
+        with place_for_root(room) if is_for_root(text) else contextlib.nullcontext(here) as there:
             for number, (before, mark, block) in enumerate(steps):
                 kind, _, name = mark.partition(' ')
                 if kind == 'file' and name and f'`{name}`' in before:
@@ -122,7 +108,7 @@ def followed(program, text):
                     yield f'block {number + 1} is marked {mark!r}, and is no file that the text before it names, no command and no output'
 
 
-def main(program, pages):
+def main(program: str, pages: List[str]) -> int:
     failed = 0
     for page in pages:
         with open(page, encoding='utf-8') as file:

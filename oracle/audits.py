@@ -8,10 +8,12 @@ In the audit's order stand the commands with their replies, and the jobs that en
 and each line for the spool. Each request on a data set that was granted names an entry, and no other does. A line is one of LINE: so no
 record's text is in it. So does each command that lists records, and each data set that a CATALOG shows; what only an owner may do says so.
 The last line says how the deck came to its end."""
-import os
-import random
+from __future__ import annotations
+
 import re
 import sys
+from random import Random
+from typing import Dict, Iterable, Iterator, List, Match, Optional, Tuple
 import monitor
 import random_decks
 from snobol import in_a_large_stack
@@ -43,9 +45,9 @@ class Unfit(Exception):
     pass
 
 
-def blocks(lines):
+def blocks(lines: Iterable[str]) -> Iterator[List[str]]:
     """What is printed of each command, and of each job that ended or was refused."""
-    block = []
+    block: List[str] = []
     for line in lines:
         block.append(line)
         is_job = block[0].startswith('JOB ')
@@ -56,14 +58,14 @@ def blocks(lines):
         raise Unfit('the output is cut off in %r' % block[0])
 
 
-def note(said):
+def note(said: Match[str]) -> str:
     """What the printout of its job has of a request that was denied, or that found no room."""
     target = said['target'] if said['target'][0] != '.' else 'UNIT ' + said['unit']
     words = 'STATEMENT %s %s %s' % (said['st'], said['act'], target)
     return 'FULL ' + words if said['outcome'] == 'FULL' else 'DENIED %s %s' % (words, said['by'])
 
 
-def named_rightly(said):
+def named_rightly(said: Match[str]) -> bool:
     """A grant is named exactly of what a data set's list granted."""
     if said['outcome'] == 'DENIED':
         return said['by'] is not None
@@ -71,22 +73,24 @@ def named_rightly(said):
     return on_a_set == (said['by'] is not None and said['by'].startswith('BY '))
 
 
-def granted_rightly(said):
+def granted_rightly(said: Match[str]) -> bool:
     """By what a command was granted is said exactly of what was done or shown, but for CREATE, and CATALOG, which has its lines."""
     if said['reply'].startswith(('DENIED ', 'REFUSED ')) or said['card'] not in GRANTS:
         return said['grant'] is None
     return said['grant'] is not None and ('owner' if said['grant'] == 'owner' else 'entry') in GRANTS[said['card']]
 
 
-def names_of(block):
+def names_of(block: List[str]) -> List[str]:
     """The names that the printout of a CATALOG shows."""
     return [line.split(' ')[1] for line in block if line.startswith(' ')]
 
 
-def printed(audit):
+def printed(audit: Iterable[str]) -> Iterator[Tuple[str, List[str], Optional[int], str]]:
     """What has to be printed, by the audit alone, but for texts: for each block its first line, its notes, how many lines are spooled
     (or None), and its last line. Of a CATALOG the notes are the names that are shown."""
-    notes, spooled, shown = {}, {}, None
+    notes: Dict[str, List[str]] = {}
+    spooled: Dict[str, int] = {}
+    shown: Optional[Tuple[str, List[str]]] = None       # of a CATALOG: for whom, and what
     for line in audit:
         said = LINE.fullmatch(line)
         if said is None:
@@ -118,12 +122,12 @@ def printed(audit):
                 spooled[head] = spooled.get(head, 0) + 1
 
 
-def last_line(err):
+def last_line(err: str) -> str:
     """How the run came to its end, by standard error."""
     return 'RUN 0 .NONE ' + (re.sub(r'snomon: line (\d+): (.*)\n', r'REFUSED LINE \1 \2', err) or 'STOPPED')
 
 
-def fit(out, err, audit):
+def fit(out: str, err: str, audit: List[str]) -> None:
     if audit[-1:] != [last_line(err)]:
         raise Unfit('its last line is not %r' % last_line(err))
     lines = out.split('\n')
@@ -141,10 +145,11 @@ def fit(out, err, audit):
         raise Unfit('%d are printed, and the audit has %d' % (len(found), len(wanted)))
 
 
-def run(count, seed):
-    r, unfit, lines = random.Random(seed), 0, 0
+def run(count: int, seed: int) -> int:
+    r, unfit, lines = Random(seed), 0, 0
     for n in range(count):
-        text, audit = random_decks.deck(r, 1 + n % 4), []
+        audit: List[str] = []
+        text = random_decks.deck(r, 1 + n % 4)
         out, err, _ = monitor.run(text.encode(), 1 + n % 4, audit)
         lines += len(audit)
         try:
@@ -156,23 +161,23 @@ def run(count, seed):
     return 1 if unfit or not lines else 0
 
 
-def of_case(cases, name):
+def of_case(cases: str, name: str) -> Tuple[str, str, List[str]]:
     """(output, standard error, the audit) of a worked deck, as monitor.py gives them"""
-    audit = []
+    audit: List[str] = []
     with open('%s/%s/args' % (cases, name)) as args, open('%s/%s/deck' % (cases, name), 'rb') as deck:
         words = args.read().split()
         out, err, _ = monitor.run(deck.read(), int(words[words.index('--slots') + 1]) if '--slots' in words else 4, audit)
     return out, err, audit
 
 
-def store(cases):
+def store(cases: str) -> int:
     for name in STORED:
         with open('%s/%s/audit' % (cases, name), 'w', newline='') as file:
             file.writelines(line + '\n' for line in of_case(cases, name)[2])
     return 0
 
 
-def stored(cases):
+def stored(cases: str) -> int:
     unfit = 0
     for name in STORED:
         out, err, audit = of_case(cases, name)
@@ -188,7 +193,7 @@ def stored(cases):
     return 1 if unfit else 0
 
 
-def main():
+def main() -> int:
     if sys.argv[1] in ('--store', '--stored'):
         return (store if sys.argv[1] == '--store' else stored)(sys.argv[2])
     return run(int(sys.argv[1]), int(sys.argv[2]))

@@ -1,10 +1,13 @@
 #!/usr/bin/env python3
 """check.py FILE..: runs each case of these files through the oracle, and prints where it differs from what is wanted."""
+from __future__ import annotations
+
 import sys
+from typing import Dict, Iterator, List, Set, Tuple
 from snobol import run, in_a_large_stack
 
 
-def cases(text):
+def cases(text: str) -> Iterator[Tuple[str, Dict[str, str], List[str], List[str], List[str]]]:
     """(name, options, cards, answers, wanted) of each case of a file"""
     for part in text.split('\n$CASE ')[1:]:
         head, rest = part.split('\n', 1)
@@ -15,13 +18,13 @@ def cases(text):
         yield words[0], options, program.split('\n')[:-1], answers.split('\n')[:-1], wanted.split('\n')[:-1]
 
 
-def transcript(options, cards, answers):
+def transcript(options: Dict[str, str], cards: List[str], answers: List[str]) -> List[str]:
     return run(cards, answers, int(options.get('ST', 50000)), int(options.get('MATCH', 1000000)))
 
 
-def main():
+def main() -> None:
     good = bad = 0
-    names = set()
+    names: Set[str] = set()
     for path in sys.argv[1:]:
         with open(path) as f:
             text = f.read()

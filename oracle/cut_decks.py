@@ -1,12 +1,15 @@
 """Decks cut at each of their bytes: what a program prints of each beginning, beside what monitor.py says of it.
 
 python3 cut_decks.py PROGRAM DECK..        of decks without jobs; a deck of 70,000 bytes takes a processor some minutes"""
+from __future__ import annotations
+
 import subprocess
 import sys
+from typing import Iterable, List, Optional, Tuple
 from monitor import DataSet, Deck, Monitor, Refused
 
 
-def copied(deck):
+def copied(deck: Deck) -> Deck:
     """The same deck once more, as far as it has come."""
     old, new = deck.monitor, Monitor(len(deck.monitor.slots))
     new.accounts = dict(old.accounts)
@@ -15,18 +18,20 @@ def copied(deck):
     other.section, other.limit, other.due = getattr(other, deck.section.__name__), deck.limit, deck.due
     other.version = deck.version
     if deck.list:
-        other.list = deck.list[:2] + (list(deck.list[2]),)
+        account, name, lines = deck.list
+        other.list = account, name, list(lines)
     if isinstance(deck.due, tuple):
-        open_set = next(name for name, s in old.sets.items() if s.records is deck.due[0])
-        other.due = (new.sets[open_set].records, deck.due[1])
+        records, wanted = deck.due
+        open_set = next(name for name, s in old.sets.items() if s.records is records)
+        other.due = new.sets[open_set].records, wanted
     return other
 
 
-def text_of(lines):
+def text_of(lines: Iterable[str]) -> str:
     return ''.join(line + '\n' for line in lines)
 
 
-def taken(deck, line, number):
+def taken(deck: Deck, line: bytes, number: int) -> Tuple[str, str, int, bool]:
     """What the deck prints of a line, on standard error and as its status where it ends with that line; whether it has ended."""
     try:
         deck.take(line)
@@ -37,9 +42,11 @@ def taken(deck, line, number):
         return text_of(deck.monitor.out), 'snomon: line %d: %s\n' % (number, code), 1, True
 
 
-def compare(program, data):
+def compare(program: str, data: bytes) -> Tuple[int, List[int]]:
     """(how many beginnings were tried, those at which something differs)"""
-    deck, printed, at, ended, different = Deck(Monitor(4)), '', 0, None, []
+    deck, printed, at = Deck(Monitor(4)), '', 0
+    ended: Optional[Tuple[str, str, int]] = None
+    different: List[int] = []
     for number, line in enumerate(data.split(b'\n'), 1):
         for end in range(len(line) + 1):
             if at + end >= len(data):

@@ -7,14 +7,19 @@ as they are asked to, or 7, or 1. Each such run has to tell the fault and to end
 printed what the lines that were read whole cause; where a write failed, a beginning of the output, of calls that move one byte
 exactly as many bytes as calls went before. Where a write to the output or to an audit failed, the audit is a beginning of the whole, and
 has the lines of each printout that the output has a byte of."""
+from __future__ import annotations
+
 import functools
 import os
 import subprocess
 import sys
 import tempfile
+from typing import List, Tuple
 import audits
 import monitor
-from monitor import Deck, Monitor, in_a_large_stack
+from failing_files import made_library
+from monitor import Deck, Monitor
+from snobol import in_a_large_stack
 
 SHIM = r'''
 #define _GNU_SOURCE
@@ -57,9 +62,10 @@ FILES = {'read': 0, 'write': 1, 'audit': 3}  # an audit is the first file that i
 
 
 @functools.lru_cache(maxsize=None)
-def printed(lines):
+def printed(lines: bytes) -> str:
     """What whole lines print; with `$STOP` among them that is all, the catalogue too."""
-    deck, end = Deck(Monitor(4)), []
+    deck = Deck(Monitor(4))
+    end: List[str] = []
     try:
         for line in lines.split(b'\n')[:-1]:
             deck.take(line[:-1] if line.endswith(b'\r') else line)
@@ -69,9 +75,11 @@ def printed(lines):
 
 
 @functools.lru_cache(maxsize=None)
-def whole_run(data):
+def whole_run(data: bytes) -> Tuple[str, str, List[int]]:
     """The output, the audit, and where each printout begins in the output."""
-    audit, begins, at = [], [], 0
+    audit: List[str] = []
+    begins: List[int] = []
+    at = 0
     whole = monitor.run(data, 4, audit)[0]
     lines = whole.split('\n')
     for block in audits.blocks(lines[:lines.index('$CATALOGUE 2')]):
@@ -80,14 +88,14 @@ def whole_run(data):
     return whole, ''.join(line + '\n' for line in audit), begins
 
 
-def is_ahead(data, out, audit):
+def is_ahead(data: bytes, out: str, audit: str) -> bool:
     """Whether the audit was written before what the output shows."""
     _, whole, begins = whole_run(data)
     told = audits.printed(line for line in audit.split('\n')[:-1] if not line.startswith('RUN '))
     return whole.startswith(audit) and sum(1 for _ in told) >= sum(1 for at in begins if at < len(out))
 
 
-def is_due(data, whole, call, k, most, out):
+def is_due(data: bytes, whole: str, call: str, k: int, most: int, out: str) -> bool:
     """Whether this is what stands written where the k-th call fails."""
     moved = (most or len(data)) * (k - 1)
     if call == 'read':
@@ -95,14 +103,15 @@ def is_due(data, whole, call, k, most, out):
     return whole.startswith(out) and (call == 'audit' or most != 1 or len(out) == moved)
 
 
-def failing(program, data, room, call, most, once):
+def failing(program: str, data: bytes, room: str, library: str, call: str, most: int, once: bool) -> Tuple[int, List[int]]:
     """(how many calls were made to fail, the numbers of those behind which something else was seen)"""
-    whole, wrong, k = whole_run(data)[0], [], 0
+    whole, k = whole_run(data)[0], 0
+    wrong: List[int] = []
     mark, audit = room + '/failed', room + '/audit'
     while True:
         k += 1
         got = subprocess.run([program] if call == 'read' else [program, '--audit', audit], input=data, capture_output=True, timeout=60, env={
-            'LD_PRELOAD': room + '/shim.so', 'FAIL_FILE': str(FILES[call]), 'FAIL_CALL': str(k), 'FAIL_ONCE': str(int(once)),
+            'LD_PRELOAD': library, 'FAIL_FILE': str(FILES[call]), 'FAIL_CALL': str(k), 'FAIL_ONCE': str(int(once)),
             'MOST': str(most), 'FAILED': mark})
         if not os.path.islink(mark):
             return k - 1, wrong
@@ -114,18 +123,17 @@ def failing(program, data, room, call, most, once):
             wrong.append(k)
 
 
-def main():
+def main() -> None:
     program, decks = sys.argv[1], sys.argv[2:]
     total, failed = 0, False
     with tempfile.TemporaryDirectory() as room:
-        open(room + '/shim.c', 'w').write(SHIM)
-        subprocess.run(['cc', '-shared', '-fPIC', '-O1', '-o', room + '/shim.so', room + '/shim.c', '-ldl'], check=True)
+        library = made_library(room, SHIM)
         for deck in decks:
             data = open(deck, 'rb').read()
             for call in FILES:
                 for most in (0, 7, 1):
                     for once in (False, True):
-                        count, wrong = failing(program, data, room, call, most, once)
+                        count, wrong = failing(program, data, room, library, call, most, once)
                         total += count
                         if wrong or not count:
                             failed = True

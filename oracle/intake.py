@@ -3,34 +3,47 @@
 python3 intake.py ACCOUNT < text       prints the text's verdict
 
 What a line of the stream says, and why a deck is refused at it, is asked of monitor.py, which reads decks."""
+from __future__ import annotations
+
 import sys
-from monitor import Deck, Refused, lines_of
+from typing import Callable, Dict, List, Mapping, NamedTuple, Optional, Sequence, Tuple, TypeVar, Union
+from monitor import Deck, Entries, JobCards, Monitor, Refused, lines_of
+
+One = TypeVar('One')
 
 FOREIGN, STOPS, UNFINISHED = 'I1 FOREIGN ACCOUNT', 'I2 STOP CARD', 'I3 UNFINISHED'
 
 
-class Noted:
-    """In the monitor's place: what cards ask for is noted, and nothing is done."""
+class Noted(Monitor):
+    """What cards ask for is noted, and nothing is done."""
 
-    def __init__(self):
-        self.jobs, self.slots, self.loaded, self.creates = 0, [], [], 0
+    def __init__(self) -> None:
+        super().__init__(0)
+        self.loaded: List[JobCards] = []
+        self.creates = 0
 
-    def load(self, job):
+    def load(self, job: JobCards) -> None:
         self.loaded.append(job)
 
-    def command(self, word, *_):
+    def command(self, word: str, account: str, name: str, mode: str = '', read: Callable[[], Entries] = dict) -> None:
         self.creates += word == 'CREATE'
 
-    def turn(self, slot):
+    def turn(self, s: int) -> None:
         pass
 
-    def drain(self):
+    def drain(self) -> None:
         pass
 
 
-def examine(own, text):
-    """(what is noted of the text, None) where it is admitted; else (None, (the line that settles it, why))."""
-    deck = Deck(Noted())
+class Refusal(NamedTuple):
+    line: int       # that settles it
+    why: str
+
+
+def examine(own: str, text: bytes) -> Union[Noted, Refusal]:
+    """What is noted of the text, where it is admitted."""
+    noted = Noted()
+    deck = Deck(noted)
     deck.section = deck.stream
     lines = lines_of(text)
     for number, line in enumerate(lines, 1):
@@ -38,33 +51,33 @@ def examine(own, text):
         try:
             deck.take(line)
         except Refused as code:
-            return None, (number, str(code))
+            return Refusal(number, str(code))
         except EOFError:
-            return None, (number, STOPS)
+            return Refusal(number, STOPS)
         words = line.decode().split()
         if is_card and words and words[0] not in ('$TURN', '$DRAIN') and words[1] != own:
-            return None, (number, FOREIGN)
+            return Refusal(number, FOREIGN)
     if deck.job is not None or deck.list is not None:
-        return None, (len(lines) + 1, UNFINISHED)
-    return deck.monitor, None
+        return Refusal(len(lines) + 1, UNFINISHED)
+    return noted
 
 
-def tally(text, noted):
+def tally(text: bytes, noted: Noted) -> Dict[str, int]:
     """Of a text that is admitted. Its lines count as they stand in a round: each ends with LF alone."""
-    statements = [job[2] for job in noted.loaded]
-    work = [job[2] * job[3] for job in noted.loaded]
+    statements = [job.statements for job in noted.loaded]
+    work = [job.statements * job.steps for job in noted.loaded]
     return {'jobs': len(noted.loaded), 'statements': sum(statements), 'largest': max(work, default=0), 'work': sum(work),
             'creates': noted.creates, 'bytes': sum(len(line) + 1 for line in lines_of(text))}
 
 
-def verdict(own, text):
-    noted, refusal = examine(own, text)
-    if refusal:
-        return 'REFUSED %d %s' % refusal
+def verdict(own: str, text: bytes) -> str:
+    noted = examine(own, text)
+    if isinstance(noted, Refusal):
+        return 'REFUSED %d %s' % noted
     return 'ADMITTED ' + ' '.join('%s=%d' % one for one in tally(text, noted).items())
 
 
-def first_broken(limits, owned, tallies):
+def first_broken(limits: Mapping[str, int], owned: Tuple[int, int], tallies: Sequence[Mapping[str, int]]) -> Optional[str]:
     """Which limit the texts of an account break first, or None; owned are, when the round starts, its data sets and their bytes."""
     total = {name: sum(one[name] for one in tallies) for name in ('bytes', 'jobs', 'statements', 'work', 'creates')}
     there = {'texts': len(tallies), 'bytes': total['bytes'], 'jobs': total['jobs'], 'statements': total['statements'],
@@ -73,7 +86,7 @@ def first_broken(limits, owned, tallies):
     return next((name for name in there if there[name] > limits[name]), None)
 
 
-def in_turns(number, queues):
+def in_turns(number: int, queues: List[List[One]]) -> List[One]:
     """The first text of each account, then the second of each, and so on. Each round begins with the next account."""
     first = number % len(queues) if queues else 0
     rotated = queues[first:] + queues[:first]

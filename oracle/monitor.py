@@ -4,9 +4,13 @@ python3 monitor.py [--slots N] [--audit FILE] < deck    prints what snomon has t
                                                        line for each entry of the history, as the crate audit says it, and a last one
 
 Programs are run by snobol.py; refusals.py says which are refused, and where."""
+from __future__ import annotations
+
 import re
 import sys
+from typing import Callable, Dict, FrozenSet, Iterable, Iterator, List, NamedTuple, Optional, Sequence, Tuple, Type, Union
 import snobol
+from refusals import is_end_line
 from snobol import in_a_large_stack
 
 NAME = re.compile(r'[A-Za-z][A-Za-z0-9._-]{0,30}\Z')
@@ -18,22 +22,26 @@ class Refused(Exception):
     """The deck is refused at the line at hand."""
 
 
-def unless(test, code):
+def unless(test: object, code: str) -> None:
     if not test:
         raise Refused(code)
 
 
-def is_name(word):
+def is_name(word: str) -> bool:
     return bool(NAME.match(word))
 
 
-def number(word):
+def number(word: str) -> int:
     unless(re.match(r'[0-9]{1,19}\Z', word), 'T2 BAD NUMBER')
     return int(word)
 
 
 # ---- permission lists -------------------------------------------------------------------------------------------
 
+Perms = FrozenSet[str]
+Tag = Tuple[str, str]           # of an entry: its kind, and whom it names, or nobody
+Entries = Dict[Tag, Perms]
+ALL: Perms = frozenset('rwx')
 ORDER = ['user', 'group', 'mask', 'other']
 TAGS = {'user': 'user', 'u': 'user', 'group': 'group', 'g': 'group', 'mask': 'mask', 'm': 'mask', 'other': 'other',
         'o': 'other'}
@@ -43,7 +51,7 @@ class BadList(Exception):
     pass
 
 
-def read_entry(text, n, entries):
+def read_entry(text: str, n: int, entries: Entries) -> None:
     fields = [f.strip(' \t') for f in text.split(':')]
     tag = TAGS.get(fields[0])
     if tag is None:
@@ -64,8 +72,8 @@ def read_entry(text, n, entries):
     entries[tag, fields[1]] = frozenset(perms) - {'-'}
 
 
-def read_list(pieces):
-    entries = {}
+def read_list(pieces: Iterable[str]) -> Entries:
+    entries: Entries = {}
     for n, piece in enumerate(pieces):
         read_entry(piece, n + 1, entries)
     for tag in ('user', 'group', 'other'):
@@ -76,27 +84,27 @@ def read_list(pieces):
     return entries
 
 
-def read_short(text):
+def read_short(text: str) -> Entries:
     return read_list(text.split(','))
 
 
-def read_long(lines):
+def read_long(lines: Iterable[str]) -> Entries:
     return read_list([t for t in (line.split('#')[0].strip(' \t') for line in lines) if t])
 
 
-def canonical(entries):
+def canonical(entries: Entries) -> List[Tag]:
     return sorted(entries, key=lambda e: (ORDER.index(e[0]), e[1]))
 
 
-def shown(perms):
+def shown(perms: Perms) -> str:
     return ''.join(c if c in perms else '-' for c in 'rwx')
 
 
-def short_line(entries):
+def short_line(entries: Entries) -> str:
     return ','.join('%s:%s:%s' % (tag, who, shown(entries[tag, who])) for tag, who in canonical(entries))
 
 
-def long_lines(entries):
+def long_lines(entries: Entries) -> Iterator[str]:
     for tag, who in canonical(entries):
         perms, line = entries[tag, who], '%s:%s:' % (tag, who)
         line += shown(perms)
@@ -106,79 +114,96 @@ def long_lines(entries):
         yield line
 
 
-def decider(account, data_set, request):
+def spelled(tag: Tag) -> str:
+    return '%s:%s:' % tag
+
+
+def matching_groups(account: Account, data_set: DataSet) -> List[Tag]:
+    return [e for e in canonical(data_set.acl) if e[0] == 'group' and (e[1] or data_set.group) in account[1]]
+
+
+def decider(account: Account, data_set: DataSet, request: str) -> Optional[str]:
     """None where the request is granted, else the entry that decides."""
-    name, groups = account
-    entries, mask = data_set.acl, data_set.acl.get(('mask', ''))
-    spelled = lambda e: '%s:%s:' % e
+    name, entries, mask = account[0], data_set.acl, data_set.acl.get(('mask', ''), ALL)
     if name == data_set.owner:
         return None if request in entries['user', ''] else 'user::'
     if ('user', name) in entries:
         if request not in entries['user', name]:
             return spelled(('user', name))
         return None if request in mask else 'mask::'
-    matching = [e for e in canonical(entries) if e[0] == 'group' and (e[1] or data_set.group) in groups]
+    matching = matching_groups(account, data_set)
     if matching:
         if not any(request in entries[e] for e in matching):
             return spelled(matching[0])
-        return None if mask is None or request in mask else 'mask::'
+        return None if request in mask else 'mask::'
     return None if request in entries['other', ''] else 'other::'
 
 
-def grantor(account, data_set, request):
+def grantor(account: Account, data_set: DataSet, request: str) -> str:
     """The entry that grants, where the request is granted."""
-    name, groups = account
-    entries = data_set.acl
+    name, entries = account[0], data_set.acl
     if name == data_set.owner:
         return 'user::'
     if ('user', name) in entries:
         return 'user:%s:' % name
-    matching = [e for e in canonical(entries) if e[0] == 'group' and (e[1] or data_set.group) in groups]
+    matching = matching_groups(account, data_set)
     if matching:
-        return '%s:%s:' % next(e for e in matching if request in entries[e])
+        return spelled(next(e for e in matching if request in entries[e]))
     return 'other::'
 
 
 # ---- data sets and units ----------------------------------------------------------------------------------------
 
+Account = Tuple[str, List[str]]     # its name and its groups
 MODES = ('SEQ', 'APPEND')
 
 
 class DataSet:
-    def __init__(self, owner, group, mode, acl, records):
+    def __init__(self, owner: str, group: str, mode: str, acl: Entries, records: List[str]) -> None:
         self.owner, self.group, self.mode, self.acl, self.records = owner, group, mode, acl, records
 
 
 class Unit:
-    def __init__(self, kind, name=None):
-        self.kind, self.name, self.position = kind, name, 0
+    def __init__(self, kind: str, name: str = '') -> None:
+        self.kind, self.name, self.position = kind, name, 0     # 'set', with its name; 'data' or 'spool'
+
+
+class JobCards(NamedTuple):
+    number: int
+    account: str
+    statements: int
+    steps: int
+    ties: List[Tuple[int, str]]     # units and data sets
+    lines: List[str]                # the program and its data
 
 
 class Running(snobol.Job):
     """A job in a slot: its requests are served by the monitor's data sets."""
 
-    def __init__(self, monitor, number, account, program, data, units, statements, steps):
+    def __init__(self, monitor: Monitor, number: int, account: Account, program: snobol.Program, data: List[str], units: Dict[int, Unit],
+                 statements: int, steps: int) -> None:
         super().__init__(program, (), statements, steps)
         self.monitor, self.number, self.account, self.data, self.units = monitor, number, account, data, units
-        self.spool, self.notes, self.point = [], [], program.start
-        self.why = ''
+        self.spool: List[str] = []
+        self.notes: List[str] = []
+        self.point, self.why = program.start, ''
 
-    def denied(self, act, target, why):
+    def denied(self, act: str, target: str, why: str) -> str:
         self.notes.append('DENIED STATEMENT %d %s %s %s' % (self.stno, act, target, why))
         self.why = ' ' + why
         return 'DENIED'
 
-    def ask(self, act, number, text=None):
+    def ask(self, act: str, number: int, text: Optional[str] = None) -> str:
         asked = self.asked(act, number)
-        answer = self.answer(act, number, text)
+        answer = self.answer(act, number, text or '')
         outcome = answer.split(' ')[0]
         self.audit('ASKED %s %s%s' % (asked[0], outcome, self.why if outcome == 'DENIED' else asked[1]))
         return answer
 
-    def audit(self, what):
+    def audit(self, what: str) -> None:
         self.monitor.audit.append('JOB %d %s %s' % (self.number, self.account[0], what))
 
-    def asked(self, act, number):
+    def asked(self, act: str, number: int) -> Tuple[str, str]:
         """What the audit says of a request, and by which entry it is granted if it is, as things stand before it."""
         unit, granted = self.units.get(number), ''
         target = '.NONE' if unit is None else unit.name if unit.kind == 'set' else '.' + unit.kind.upper()
@@ -192,7 +217,7 @@ class Running(snobol.Job):
                 granted = ' BY ' + grantor(self.account, data_set, request)
         return '%d %s %d %s %d' % (self.stno, act, number, target, place), granted
 
-    def answer(self, act, number, text=None):
+    def answer(self, act: str, number: int, text: str) -> str:
         unit = self.units.get(number)
         if unit is None:
             return self.denied(act, 'UNIT %d' % number, 'NO UNIT')
@@ -210,13 +235,13 @@ class Running(snobol.Job):
         self.spool.append(text)
         return 'DONE'
 
-    def next_of(self, records, unit):
+    def next_of(self, records: Sequence[str], unit: Unit) -> str:
         if unit.position >= len(records):
             return 'EOF'
         unit.position += 1
         return 'GOT ' + records[unit.position - 1]
 
-    def ask_set(self, act, unit, text):
+    def ask_set(self, act: str, unit: Unit, text: str) -> str:
         if act == 'REWIND':
             unit.position = 0
             return 'DONE'
@@ -241,10 +266,10 @@ class Running(snobol.Job):
             data_set.records, unit.position = kept, len(kept)
         return 'DONE'
 
-    def turn(self):
+    def turn(self) -> Optional[str]:
         """None where it goes on, else its ending."""
         try:
-            if self.point != 'END':
+            if isinstance(self.point, int):
                 self.point = self.statement(self.point)
             return 'NORMAL' if self.point == 'END' else None
         except snobol.Over as over:
@@ -252,7 +277,7 @@ class Running(snobol.Job):
         except snobol.Fault as fault:
             return 'FAULT %s AT %d' % (fault, self.stno)
 
-    def printout(self, ending):
+    def printout(self, ending: str) -> List[str]:
         return (['JOB %d %s' % (self.number, self.account[0])] + [' ' + line for line in self.spool] + self.notes
                 + ['END %s AFTER %d' % (ending, self.stcount)])
 
@@ -260,34 +285,40 @@ class Running(snobol.Job):
 # ---- the deck ---------------------------------------------------------------------------------------------------
 
 class Monitor:
-    def __init__(self, slots):
-        self.accounts, self.sets, self.slots = {}, {}, [None] * slots
-        self.out, self.jobs, self.audit = [], 0, []
+    def __init__(self, slots: int, running: Type[Running] = Running) -> None:
+        self.running = running
+        self.accounts: Dict[str, List[str]] = {}
+        self.sets: Dict[str, DataSet] = {}
+        self.slots: List[Optional[Running]] = [None] * slots
+        self.out: List[str] = []
+        self.audit: List[str] = []
+        self.jobs = 0
 
-    def turn(self, s):
-        if s < len(self.slots) and self.slots[s] is not None:
-            ending = self.slots[s].turn()
+    def turn(self, s: int) -> None:
+        running = self.slots[s] if s < len(self.slots) else None
+        if running is not None:
+            ending = running.turn()
             if ending is not None:
-                self.slots[s].audit('ENDED %s AFTER %d' % (ending, self.slots[s].stcount))
-                self.out += self.slots[s].printout(ending)
+                running.audit('ENDED %s AFTER %d' % (ending, running.stcount))
+                self.out += running.printout(ending)
                 self.slots[s] = None
 
-    def rounds(self, enough):
+    def rounds(self, enough: Callable[[], bool]) -> None:
         while True:
             for s in range(len(self.slots)):
                 if enough():
                     return
                 self.turn(s)
 
-    def drain(self):
+    def drain(self) -> None:
         self.rounds(lambda: not any(self.slots))
 
-    def load(self, job):
+    def load(self, job: JobCards) -> None:
         self.rounds(lambda: None in self.slots)
         number, account, statements, steps, ties, lines = job
         head = 'JOB %d %s' % (number, account)
 
-        def refuse(said):
+        def refuse(said: str) -> None:
             self.out += [head, said]
             self.audit.append('%s %s' % (head, said))
 
@@ -301,32 +332,32 @@ class Monitor:
                 refuse('REFUSED %s UNIT %d' % (code, u))
                 return
             units[u] = Unit('set', name)
-        end = next((i for i, line in enumerate(lines) if line[:1] != '*' and snobol.is_end_line(line)), len(lines))
+        end = next((i for i, line in enumerate(lines) if line[:1] != '*' and is_end_line(line)), len(lines))
         try:
             program = snobol.Program(lines[:end + 1])
         except SyntaxError as said:
             refuse(str(said))
             return
         self.audit.append(head + ' LOADED')
-        self.slots[self.slots.index(None)] = Running(
+        self.slots[self.slots.index(None)] = self.running(
             self, number, (account, self.accounts[account]), program, lines[end + 1:], units, statements, steps)
 
-    def command(self, word, account, name, further):
+    def command(self, word: str, account: str, name: str, mode: str = '', read: Callable[[], Entries] = dict) -> None:
         self.out.append(' '.join([word, account] + ([name] if name else [])))
-        reply = self.served(word, account, name, further)
+        reply = self.served(word, account, name, mode, read)
         self.out += reply
         line = ' '.join(['COMMAND 0', account, word] + ([name] if name else []) + reply[-1:])
         if reply == ['DONE'] and word == 'CREATE':
-            line += ' ' + further
+            line += ' ' + mode
         elif reply == ['DONE'] and word == 'SETACL':
             line += ' ' + short_line(self.sets[name].acl)
-        who = account, self.accounts.get(account)
+        who = account, self.accounts.get(account, [])
         self.audit.append(line + self.granted(word, who, name, reply[-1]))
         for shown_name, data_set in self.sets.items() if word == 'CATALOG' and account in self.accounts else ():
             if decider(who, data_set, 'x') is None:
                 self.audit.append('COMMAND 0 %s CATALOG SHOWN %s BY %s' % (account, shown_name, grantor(who, data_set, 'x')))
 
-    def granted(self, word, who, name, last):
+    def granted(self, word: str, who: Account, name: str, last: str) -> str:
         """By what the audit says that a command was granted which is done or shows something; what it shows it leaves as it is."""
         if last == 'DONE' and word in ('DELETE', 'SETACL'):
             return ' BY owner'
@@ -336,8 +367,8 @@ class Monitor:
             return ' BY owner' if who[0] == self.sets[name].owner else ' BY ' + grantor(who, self.sets[name], 'x')
         return ''
 
-    def served(self, word, account, name, further):
-        """What is further on the card: of CREATE the mode, of SETACL the list, to be read."""
+    def served(self, word: str, account: str, name: str, mode: str, read: Callable[[], Entries]) -> List[str]:
+        """Of CREATE the mode, of SETACL how its list is read."""
         if account not in self.accounts:
             return ['REFUSED M2 NO ACCOUNT']
         who, data_set = (account, self.accounts[account]), self.sets.get(name)
@@ -346,7 +377,7 @@ class Monitor:
                 return ['REFUSED K1 NAME TAKEN']
             if len(self.sets) == 1000:
                 return ['REFUSED K4 CATALOGUE FULL']
-            self.sets[name] = DataSet(account, self.accounts[account][0], further, read_short('u::rwx,g::---,o::---'), [])
+            self.sets[name] = DataSet(account, self.accounts[account][0], mode, read_short('u::rwx,g::---,o::---'), [])
             return ['DONE']
         if word == 'CATALOG':
             names = [' %s %s %s %d' % (n, s.owner, s.group, len(s.records)) for n, s in self.sets.items()
@@ -361,7 +392,7 @@ class Monitor:
             return ['DONE']
         if word == 'SETACL':
             try:
-                data_set.acl = further()
+                data_set.acl = read()
             except BadList as bad:
                 return ['REFUSED %s' % bad]
             return ['DONE']
@@ -373,7 +404,7 @@ class Monitor:
         return (['OWNER %s GROUP %s' % (data_set.owner, data_set.group)] + [' ' + e for e in long_lines(data_set.acl)]
                 + ['ENTRIES %d' % len(data_set.acl)])
 
-    def catalogue(self):
+    def catalogue(self) -> List[str]:
         out = ['$CATALOGUE 2']
         for name, s in self.sets.items():
             out.append('$SET %s %s %s %s %d' % (name, s.owner, s.group, s.mode, len(s.records)))
@@ -385,18 +416,21 @@ class Monitor:
 class Deck:
     """The lines of a deck, taken one by one; what each causes is done at once."""
 
-    def __init__(self, monitor):
-        self.monitor, self.section, self.job, self.list, self.due = monitor, self.opening, None, None, None
-        self.version = 1
-        self.limit = 200
+    def __init__(self, monitor: Monitor) -> None:
+        self.monitor, self.version, self.limit = monitor, 1, 200
+        self.section: Callable[[str], None] = self.opening
+        self.job: Optional[JobCards] = None
+        self.list: Optional[Tuple[str, str, List[str]]] = None      # of $SETACL: the account, the data set, and the lines so far
+        # The words of the $SET card whose list is due; or the data set's records so far, and how many there will be.
+        self.due: Union[List[str], Tuple[List[str], int], None] = None
 
-    def take(self, raw):
+    def take(self, raw: bytes) -> None:
         unless(len(raw) <= self.limit, 'T4 LINE TOO LONG')
         in_list = self.list is not None and raw[:1] != b'$'
         unless(all(32 <= c <= 126 or in_list and c == 9 for c in raw), 'T3 BAD CHARACTER')
         self.section(raw.decode('ascii'))
 
-    def lone(self, line, due, further=()):
+    def lone(self, line: str, due: str, further: Sequence[str] = ()) -> List[str]:
         """The card that is due, alone, or with one of these words behind it; the words behind it."""
         words = line.split()
         unless(words[0] in CARDS, 'E1 UNKNOWN CARD')
@@ -404,12 +438,12 @@ class Deck:
         unless(len(words) == 1 or len(words) == 2 and words[1] in further, 'E2 BAD CARD')
         return words[1:]
 
-    def opening(self, line):
+    def opening(self, line: str) -> None:
         if line.strip(' '):
             self.lone(line, '$ACCOUNTS')
             self.section = self.table
 
-    def table(self, line):
+    def table(self, line: str) -> None:
         if line[:1] == '$':
             self.version = 2 if self.lone(line, '$CATALOGUE', ('2',)) else 1
             self.section, self.limit = self.sets, 5000
@@ -422,7 +456,7 @@ class Deck:
             unless(len(words) <= 18, 'C2 TOO MANY GROUPS')
             self.monitor.accounts[words[0]] = words[1:]
 
-    def sets(self, line):
+    def sets(self, line: str) -> None:
         if self.due is None:
             words = line.split()
             if not words:
@@ -451,19 +485,20 @@ class Deck:
             self.due = (self.monitor.sets[name].records, int(count)) if int(count) else None
         else:
             unless(len(line) <= 1024, 'K5 BAD TEXT')
-            self.due[0].append(line)
-            if len(self.due[0]) == self.due[1]:
+            records, wanted = self.due
+            records.append(line)
+            if len(records) == wanted:
                 self.due = None
 
-    def stream(self, line):
+    def stream(self, line: str) -> None:
         if self.list is not None:
-            self.list_line(line)
+            self.list_line(line, *self.list)
         elif self.job is not None:
-            self.job_line(line)
+            self.job_line(line, self.job)
         elif line.strip(' '):
             self.card(line, line.split())
 
-    def card(self, line, words):
+    def card(self, line: str, words: List[str]) -> None:
         card, monitor = words[0], self.monitor
         unless(card in CARDS, 'E1 UNKNOWN CARD')
         unless(card not in ('$ACCOUNTS', '$CATALOGUE', '$SET', '$STREAM', '$ENDACL', '$UNIT', '$EOJ'), 'E3 OUT OF PLACE')
@@ -490,64 +525,60 @@ class Deck:
             if card == '$SETACL' and len(words) == 3:
                 self.list = (words[1], words[2], [])
                 return
-            further = (words[3] if has_mode else 'SEQ') if card == '$CREATE' else None
-            if card == '$SETACL':
-                rest = line.split(None, 3)[3]
-                further = lambda: read_short(rest)
-            monitor.command(card[1:], words[1], words[2] if n == 3 else None, further)
+            mode = words[3] if has_mode else 'SEQ'
+            monitor.command(card[1:], words[1], words[2] if n == 3 else '', mode, lambda: read_short(line.split(None, 3)[3]))
 
-    def list_line(self, line):
-        account, name, lines = self.list
+    def list_line(self, line: str, account: str, name: str, lines: List[str]) -> None:
         if line[:1] == '$':
             unless(line.split()[0] == '$ENDACL', 'E3 OUT OF PLACE')
             unless(len(line.split()) == 1, 'E2 BAD CARD')
             self.list = None
-            self.monitor.command('SETACL', account, name, lambda: read_long(lines))
+            self.monitor.command('SETACL', account, name, read=lambda: read_long(lines))
         else:
             lines.append(line)
 
-    def open_job(self, words):
+    def open_job(self, words: List[str]) -> None:
         options = {'ST': 50000, 'MATCH': 1000000}
         unless(len(words) >= 2, 'E2 BAD CARD')
-        found = [re.match(r'(ST|MATCH)=(.*)', w) for w in words[2:]]
-        unless(all(found) and len({m.group(1) for m in found}) == len(found), 'E2 BAD CARD')
+        found = [m for m in (re.match(r'(ST|MATCH)=(.*)', w) for w in words[2:]) if m]
+        unless(len(found) == len(words) - 2 and len({m.group(1) for m in found}) == len(found), 'E2 BAD CARD')
         unless(is_name(words[1]), 'T1 BAD NAME')
         for m in found:
             options[m.group(1)] = number(m.group(2))
         unless(all(1 <= n <= 10000000 for n in options.values()), 'E2 BAD CARD')
         self.monitor.jobs += 1
-        self.job = [self.monitor.jobs, words[1], options['ST'], options['MATCH'], [], []]
+        self.job = JobCards(self.monitor.jobs, words[1], options['ST'], options['MATCH'], [], [])
         self.begun = False
 
-    def job_line(self, line):
+    def job_line(self, line: str, job: JobCards) -> None:
         if line[:1] == '$' and line[:2] != '$$':
             words = line.split()
             unless(words[0] in CARDS or self.begun, 'E1 UNKNOWN CARD')
             unless(words[0] == '$EOJ' or words[0] == '$UNIT' and not self.begun, 'E3 OUT OF PLACE')
             unless(len(words) == (1 if words[0] == '$EOJ' else 3), 'E2 BAD CARD')
             if words[0] == '$EOJ':
-                job, self.job = self.job, None
+                self.job = None
                 self.monitor.load(job)
                 return
             n = number(words[1])
             unless(is_name(words[2]), 'T1 BAD NAME')
-            self.job[4].append((n, words[2]))
+            job.ties.append((n, words[2]))
             return
         self.begun = True
-        self.job[5].append(line[1:] if line[:2] == '$$' else line)
+        job.lines.append(line[1:] if line[:2] == '$$' else line)
 
 
-def lines_of(data):
+def lines_of(data: bytes) -> List[bytes]:
     """A CR before the LF belongs to the line's end; the last line may lack its end."""
     lines = data.split(b'\n')
     last = lines.pop()
     return [l[:-1] if l.endswith(b'\r') else l for l in lines] + ([last] if last else [])
 
 
-def run(data, slots=4, audit=None):
+def run(data: bytes, slots: int = 4, audit: Optional[List[str]] = None, running: Type[Running] = Running) -> Tuple[str, str, int]:
     """(output, standard error, exit status); a list that is given gets the lines of the audit"""
     lines = lines_of(data)
-    monitor = Monitor(slots)
+    monitor = Monitor(slots, running)
     if audit is not None:
         monitor.audit = audit
     deck = Deck(monitor)
@@ -564,10 +595,10 @@ def run(data, slots=4, audit=None):
         return ''.join(line + '\n' for line in monitor.out), 'snomon: line %d: %s\n' % (n + 1, code), 1
 
 
-def main():
+def main() -> None:
     words = sys.argv[1:]
     slots = int(words[words.index('--slots') + 1]) if '--slots' in words else 4
-    audit = []
+    audit: List[str] = []
     out, err, status = in_a_large_stack(lambda: run(sys.stdin.buffer.read(), slots, audit))
     if '--check' in words:
         out = 'DECK OK\n' if status == 0 else ''

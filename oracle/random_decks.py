@@ -2,10 +2,13 @@
 
 python3 random_decks.py COUNT SEED FOLDER [SLOTS] writes FOLDER/N.deck, N.stdout, N.status and N.audit;
 python3 random_decks.py --compare FOLDER SLOTS COMMAND.. runs the command on each, tells what differs, and then has status 1."""
+from __future__ import annotations
+
 import os
-import random
 import subprocess
 import sys
+from random import Random
+from typing import List
 import monitor
 from snobol import in_a_large_stack
 
@@ -15,20 +18,23 @@ SETS = ['PAY', 'LOG', 'FIVE', 'BOX.1']
 TEXTS = ['A', 'BB', '', 'ADA 100', 'X' * 40, ' Z ', '$JOB', '7']
 
 
-def perms(r):
+def perms(r: Random) -> str:
     return ''.join(c if r.random() < 0.6 else '-' for c in 'rwx')
 
 
-def acl(r):
+def acl(r: Random) -> List[str]:
     named = ['user:%s:%s' % (n, perms(r)) for n in r.sample(sorted(ACCOUNTS), r.randint(0, 2))]
     groups = ['group:%s:%s' % (g, perms(r)) for g in r.sample(GROUPS, r.randint(0, 3))]
     mask = ['mask::' + perms(r)] if named or groups or r.random() < 0.2 else []
     return ['user::' + perms(r), 'group::' + perms(r), 'other::' + perms(r)] + named + groups + mask
 
 
-def act(r, tied, reads, writes):
+def quoted(r: Random) -> str:
+    return "'%s'" % r.choice(TEXTS)
+
+
+def act(r: Random, tied: List[int], reads: List[str], writes: List[str]) -> str:
     u, v = r.choice([5, 6, 9, 20] + 4 * tied), r.choice('ABC')
-    q = lambda: "'%s'" % r.choice(TEXTS)
     goto = r.choice(['', '', '', ' :F(END)', ' :S(L)', ' :F(L)'])
     kind = r.randrange(10)
     if kind == 0:
@@ -40,17 +46,17 @@ def act(r, tied, reads, writes):
     if kind in (2, 3):
         return '  X = %s%s' % (r.choice(reads), goto)
     if kind in (4, 5):
-        return '  %s = %s%s' % (r.choice(writes), r.choice([q(), 'X', "X '.' N"]), goto)
+        return '  %s = %s%s' % (r.choice(writes), r.choice([quoted(r), 'X', "X '.' N"]), goto)
     if kind == 6:
         return '  %s(%d)%s' % (r.choice(['REWIND', 'ENDFILE', 'ENDFILE']), u, goto)
     if kind == 7:
-        return '  OUTPUT = %s%s' % (r.choice(['X', q(), 'INPUT', 'N', '&STNO', "F('Y')"]), goto)
+        return '  OUTPUT = %s%s' % (r.choice(['X', quoted(r), 'INPUT', 'N', '&STNO', "F('Y')"]), goto)
     if kind == 8:
         return '  ' + r.choice(["T<X> = T<X> 'Y'", 'OUTPUT = T<N> T<X>', 'T<N> = INPUT', 'T<INPUT> = X', "T<X> 'A' = 'T'", 'T = TABLE()']) + goto
     return '  N = N + 1'
 
 
-def job(r):
+def job(r: Random) -> List[str]:
     reads, writes = ['INPUT'], ['OUTPUT']
     tied = r.choices([5, 6, 7, 8, 9, 9, 8], k=r.randint(0, 3))
     body = [act(r, tied, reads, writes) for _ in range(r.randint(1, 9))]
@@ -66,7 +72,7 @@ def job(r):
             + [r.choice(['END', 'END', 'END L'])] + data + ['$EOJ'])
 
 
-def card(r, slots):
+def card(r: Random, slots: int) -> List[str]:
     who, name = r.choice(sorted(ACCOUNTS) + ['nobody']), r.choice(SETS + ['GONE'])
     kind = r.randrange(14)
     if kind < 6:
@@ -86,7 +92,7 @@ def card(r, slots):
     return ['$%s %s %s%s' % (word, who, name, mode)]
 
 
-def catalogue(r):
+def catalogue(r: Random) -> List[str]:
     version = r.choice([1, 2, 2])
     lines = ['$CATALOGUE' + ' 2' * (version == 2)]
     for name in SETS[:r.randint(2, 4)]:
@@ -97,26 +103,26 @@ def catalogue(r):
     return lines
 
 
-def deck(r, slots):
+def deck(r: Random, slots: int) -> str:
     lines = ['$ACCOUNTS'] + [' '.join([a] + g) for a, g in ACCOUNTS.items()] + catalogue(r) + ['$STREAM']
     for _ in range(r.randint(1, 12)):
         lines += card(r, slots)
     return '\n'.join(lines + ['$STOP', ''])
 
 
-def write(count, seed, folder, slots):
-    r = random.Random(seed)
+def write(count: int, seed: int, folder: str, slots: int) -> None:
+    r = Random(seed)
     os.makedirs(folder, exist_ok=True)
     for n in range(count):
         text = deck(r, slots)
-        audit = []
+        audit: List[str] = []
         out, err, status = monitor.run(text.encode(), slots, audit)
         for what, it in (('deck', text), ('stdout', out), ('status', '%d\n%s' % (status, err)), ('audit', '\n'.join(audit + ['']))):
             with open('%s/%d.%s' % (folder, n, what), 'w') as f:
                 f.write(it)
 
 
-def compare(folder, slots, command):
+def compare(folder: str, slots: str, command: List[str]) -> None:
     decks = sorted((f for f in os.listdir(folder) if f.endswith('.deck')), key=lambda f: int(f[:-5]))
     different = 0
     for f in decks:

@@ -8,13 +8,16 @@ random_intake.py decks COUNT SEED PROGRAM: the same texts in decks. One is admit
 and a $STOP; one that is refused for a line's code is refused so there.
 
 The first two write cases for the program `rows`."""
+from __future__ import annotations
+
 import concurrent.futures
-import random
 import re
 import subprocess
 import sys
+from random import Random
+from typing import Iterator, List, NamedTuple, Optional, Tuple
 import random_decks
-from intake import FOREIGN, STOPS, UNFINISHED, examine, first_broken, in_turns, verdict
+from intake import FOREIGN, STOPS, UNFINISHED, Noted, examine, first_broken, in_turns, verdict
 
 # Lines that are refused where nothing is open, or in a list, or in a job; {own} is the account, {other} is none of its names.
 FAULTS = {
@@ -42,27 +45,27 @@ ODD = ['$TURN 8 1000000', '$TURN 01 0002', ' $DRAIN ', '$JOB {own} ST=10000000 M
        '$SETACL {own} P\n\tuser::rwx # all\t\n\n $STOP\n' + '#' * 200 + '\n$ENDACL', '$JOB {own}\n *\n $STOP\n$$LIST\n$EOJ']
 
 
-def others(own):
+def others(own: str) -> List[str]:
     return sorted(set(random_decks.ACCOUNTS) - {own}) + [own.upper(), own.capitalize(), own + '.', own + 'x', own[:-1]]
 
 
-def filled(r, line, own):
+def filled(r: Random, line: str, own: str) -> str:
     return line.format(own=own, other=r.choice(others(own)))
 
 
-def long_list(r, own):
+def long_list(r: Random, own: str) -> List[str]:
     entries = random_decks.acl(r)
     lines = [r.choice(['', '', ' ', '\t']) + entry + r.choice(['', '', ' ', '\t# \t mine']) for entry in entries]
     lines += r.choices(['', '# $ENDACL', ' \t ', ' $ENDACL'], k=r.randint(0, 2)) + ['# more'] * r.choice([0, 0, 0, 150])
     return ['$SETACL %s %s' % (own, r.choice(random_decks.SETS))] + lines + ['$ENDACL']
 
 
-def long_job(r, own):
+def long_job(r: Random, own: str) -> List[str]:
     units, lines = r.choices([0, 1, 62, 63, 64, 65, 130], k=2)
     return ['$JOB %s ST=%d' % (own, r.randint(1, 99))] + ['$UNIT 7 PAY'] * units + r.choices(['*', '', '$$'], k=lines) + ['$EOJ']
 
 
-def card(r, own):
+def card(r: Random, own: str) -> List[str]:
     """A card of this account, with what belongs to it."""
     kind = r.random()
     if kind < 0.13:
@@ -76,14 +79,14 @@ def card(r, own):
     return [r.choice(['', '', '', ' ', '   ']) + ' '.join(words)] + made[1:]
 
 
-def whole(r, own, most):
+def whole(r: Random, own: str, most: int) -> List[str]:
     lines = []
     for _ in range(r.randint(0, most)):
         lines += card(r, own) + r.choices(['', '   '], k=r.choice([0, 0, 0, 1, 2]))
     return lines
 
 
-def bytes_of(r, lines):
+def bytes_of(r: Random, lines: List[str]) -> str:
     """With LF, with CR LF, or with both; the last line may have none."""
     ends = r.choice([['\n'], ['\n'], ['\n'], ['\r\n'], ['\n', '\r\n']])
     text = ''.join(line + r.choice(ends) for line in lines)
@@ -92,7 +95,7 @@ def bytes_of(r, lines):
     return text
 
 
-def text_of(r, own):
+def text_of(r: Random, own: str) -> str:
     lines = whole(r, own, r.choice([2, 4, 8]))
     kind, at = r.random(), r.randint(0, len(lines))
     if kind < 0.5:
@@ -112,30 +115,30 @@ def text_of(r, own):
     return text
 
 
-def texts(count, seed):
+def texts(count: int, seed: int) -> Iterator[Tuple[str, str, str]]:
     """(its name, the account, the text)"""
     for n in range(seed, seed + count):
-        r = random.Random(n)
+        r = Random(n)
         own = r.choice(sorted(random_decks.ACCOUNTS))
         yield 'text-%d' % n, own, text_of(r, own)
 
 
-def block(text):
+def block(text: str) -> str:
     """A line of a case for each line: one that ends with LF has a blank before it, the last one may have a - instead."""
     lines = text.split('\n')
     last = lines.pop()
     return ''.join(' %s\n' % line for line in lines) + ('-%s\n' % last if last else '')
 
 
-def kind_of(said):
+def kind_of(said: str) -> str:
     return said.split(' ', 2)[2] if said.startswith('REFUSED') else 'ADMITTED'
 
 
-def counted(kinds):
+def counted(kinds: List[str]) -> str:
     return ', '.join('%d %s' % (kinds.count(kind), kind) for kind in sorted(set(kinds)))
 
 
-def write_texts(count, seed, path):
+def write_texts(count: int, seed: int, path: str) -> None:
     parts, kinds = [], []
     for name, own, text in texts(count, seed):
         said = verdict(own, text.encode())
@@ -153,50 +156,60 @@ LIMITS = ['texts', 'bytes', 'jobs', 'statements', 'largest', 'work', 'data sets'
 TABLE = '$ACCOUNTS\n' + ''.join('%s\n' % ' '.join([name] + groups) for name, groups in random_decks.ACCOUNTS.items())
 
 
-def ended(text):
+def ended(text: str) -> str:
     return text if text[-1:] in ('', '\n') else text + '\n'
 
 
-def admitted(r, own):
+def admitted(r: Random, own: str) -> str:
     while True:
         text = bytes_of(r, whole(r, own, 5)) if r.random() < 0.8 else text_of(r, own)
-        if examine(own, text.encode())[1] is None:
+        if isinstance(examine(own, text.encode()), Noted):
             return text
 
 
-def alone(program, slots, catalogue, text):
+def alone(program: str, slots: int, catalogue: str, text: str) -> Tuple[str, str]:
     """What the text prints as the only one of a deck, and the catalogue that it leaves."""
     deck = TABLE + catalogue + '$STREAM\n' + ended(text) + '$STOP\n'
     done = subprocess.run([program, '--slots', str(slots)], input=deck.encode(), capture_output=True, timeout=60, check=True)
     output = done.stdout.decode()
-    at = re.search('^\\$CATALOGUE 2$', output, re.M).start()
-    return output[:at], output[at:]
+    heading = re.search('^\\$CATALOGUE 2$', output, re.M)
+    assert heading
+    return output[:heading.start()], output[heading.start():]
 
 
-def numbered_behind(jobs, printed):
+def numbered_behind(jobs: int, printed: str) -> str:
     return re.sub('^JOB ([0-9]+) ', lambda said: 'JOB %d ' % (int(said[1]) + jobs), printed, flags=re.M)
 
 
-def round_of(program, seed):
-    """(a case, how many texts and jobs it has, whether one deck of all texts prints the same)"""
-    r = random.Random(seed)
-    slots, jobs, texts, wanted = r.choice([1, 2, 4, 4, 8]), 0, [], ''
+class Round(NamedTuple):
+    case: str
+    texts: int
+    jobs: int
+    prints_the_same: bool       # as one deck of all texts
+
+
+def round_of(program: str, seed: int) -> Round:
+    r = Random(seed)
+    slots, jobs, wanted = r.choice([1, 2, 4, 4, 8]), 0, ''
+    texts: List[Tuple[str, str]] = []
     first = catalogue = alone(program, slots, '\n'.join(random_decks.catalogue(r) + ['']), '')[1]
     for own in r.choices(sorted(random_decks.ACCOUNTS), k=r.randint(2, 12)):
         texts.append((own, admitted(r, own)))
         printed, catalogue = alone(program, slots, catalogue, texts[-1][1])
         wanted += '$OF %s\n' % own + numbered_behind(jobs, printed)
-        jobs += examine(own, texts[-1][1].encode())[0].jobs
+        noted = examine(own, texts[-1][1].encode())
+        assert isinstance(noted, Noted)
+        jobs += noted.jobs
     together = alone(program, slots, first, ''.join(ended(text) + '$DRAIN\n' for _, text in texts))
     given = block(TABLE.split('\n', 1)[1]) + '$SETS\n' + block(first.split('\n', 1)[1])
     given += ''.join('$OF %s\n%s' % (own, block(text)) for own, text in texts)
     case = '$CASE ROUND round-%d %d\n%s$WANTED\n%s' % (seed, slots, given, block(wanted + '$LEFT\n' + catalogue))
-    return case, len(texts), jobs, together == (re.sub('^\\$OF .*\n', '', wanted, flags=re.M), catalogue)
+    return Round(case, len(texts), jobs, together == (re.sub('^\\$OF .*\n', '', wanted, flags=re.M), catalogue))
 
 
-def order_of(seed):
+def order_of(seed: int) -> str:
     """The texts of some accounts, and in which order a round takes them."""
-    r = random.Random(seed)
+    r = Random(seed)
     queues = [['%s%d' % (name, k) for k in range(r.choice([0, 1, 2, 2, 5]))] for name in 'abcdef'[:r.randint(0, 6)]]
     number = r.choice([0, 1, 2, 3, 7, 12, 2**64 - 1])
     lines = ''.join(' %s\n' % ' '.join(queue) for queue in queues)
@@ -204,28 +217,28 @@ def order_of(seed):
     return '$CASE ORDER order-%d %d\n%s$WANTED\n%s' % (seed, number, lines, wanted)
 
 
-def limits_of(seed):
+def limits_of(seed: int) -> str:
     """The limits of an account, most of them about what its texts come to; what it owns; and the tallies of its texts."""
-    r = random.Random(seed)
+    r = Random(seed)
     tallies = [[r.choice([0, 1, 2, 10**6, 10**14]) for _ in TALLY] for _ in range(r.randint(0, 5))]
-    owned = [r.choice([0, 3, 1000]), r.choice([0, 60, 10**9])]
+    owned = r.choice([0, 3, 1000]), r.choice([0, 60, 10**9])
     sums = [sum(one[k] for one in tallies) for k in range(len(TALLY))]
     largest = max((one[2] for one in tallies), default=0)
     about = [len(tallies), sums[5], sums[0], sums[1], largest, sums[3], owned[0] + sums[4], owned[1]]
     limits = [max(0, n + r.choice([-1, 0, 0, 0, 0, 0, 0, 1, 10])) for n in about]
     broken = first_broken(dict(zip(LIMITS, limits)), owned, [dict(zip(TALLY, one)) for one in tallies])
-    lines = ''.join(' %s\n' % ' '.join(map(str, line)) for line in [limits, owned] + tallies)
+    lines = ''.join(' %s\n' % ' '.join(map(str, line)) for line in [limits, owned, *tallies])
     return '$CASE LIMITS limits-%d\n%s$WANTED\n %s\n' % (seed, lines, (broken or 'none').upper())
 
 
-def write_rounds(count, seed, path, program):
+def write_rounds(count: int, seed: int, path: str, program: str) -> bool:
     with concurrent.futures.ThreadPoolExecutor(2) as pool:
         made = list(pool.map(lambda n: round_of(program, n), range(seed, seed + count)))
     with open(path, 'w', encoding='utf-8', newline='') as file:
         file.write('Random rounds, orders and limits.\n\n')
-        file.writelines('\n'.join([one[0], order_of(seed + n), limits_of(seed + n), '']) for n, one in enumerate(made))
-    different = ['DIFFERENT as one deck: round-%d' % (seed + n) for n, one in enumerate(made) if not one[3]]
-    texts_and_jobs = sum(one[1] for one in made), sum(one[2] for one in made)
+        file.writelines('\n'.join([one.case, order_of(seed + n), limits_of(seed + n), '']) for n, one in enumerate(made))
+    different = ['DIFFERENT as one deck: round-%d' % (seed + n) for n, one in enumerate(made) if not one.prints_the_same]
+    texts_and_jobs = sum(one.texts for one in made), sum(one.jobs for one in made)
     print('\n'.join(different + ['%d rounds of %d texts and %d jobs, %d of them different as one deck; as many orders, and limits'
                                  % (count, *texts_and_jobs, len(different))]))
     return bool(different) or not count
@@ -236,7 +249,7 @@ def write_rounds(count, seed, path, program):
 FRONT = TABLE + '$CATALOGUE 2\n$STREAM\n'
 
 
-def asked_of(text, said):
+def asked_of(text: str, said: str) -> Tuple[str, Optional[Tuple[int, str]]]:
     """(a stream that shows why the text is admitted or refused so, the line and the code for which its deck is refused, or None)"""
     if said.startswith('ADMITTED'):
         return ended(text) + '$STOP', None
@@ -250,17 +263,18 @@ def asked_of(text, said):
     return text, (int(line), why)
 
 
-def deck_differs(program, own, text):
+def deck_differs(program: str, own: str, text: str) -> bool:
     stream, refused = asked_of(text, verdict(own, text.encode()))
     done = subprocess.run([program, '--check'], input=(FRONT + stream).encode(), capture_output=True, timeout=60)
     error = 'snomon: line %d: %s\n' % (FRONT.count('\n') + refused[0], refused[1]) if refused else ''
     return (done.returncode, done.stderr.decode()) != (1 if refused else 0, error)
 
 
-def compare_decks(count, seed, program):
+def compare_decks(count: int, seed: int, program: str) -> bool:
+    made = list(texts(count, seed))
     with concurrent.futures.ThreadPoolExecutor(2) as pool:
-        tried = pool.map(lambda text: text[0] if deck_differs(program, *text[1:]) else None, texts(count, seed))
-        different = [name for name in tried if name]
+        differing = pool.map(lambda one: deck_differs(program, one[1], one[2]), made)
+        different = [name for (name, _, _), differs in zip(made, differing) if differs]
     for name in different:
         print('DIFFERENT', name)
     print('%d texts in decks, %d different' % (count, len(different)))

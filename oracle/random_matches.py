@@ -1,15 +1,25 @@
 #!/usr/bin/env python3
 """random_matches.py COUNT SEED FILE: random matches, each under its exact number of steps and under one step less."""
+from __future__ import annotations
+
 import sys
+from typing import List, Optional
 from random_programs import Maker, wrapped
 from snobol import Job, Program, in_a_large_stack
 
 TEXTS = ["'AABAB'", "'(A)B(())'", "'ABCABC'", "'A,B,,C'", "''", "'AAAA'", "'12AB'", "'X Y X'", "'((A+B))C'", "')A('"]
 
 
-def steps_of(program, answers):
+class Simple(Maker):
+    """In place of a call stands what takes no request."""
+
+    def call(self, deep: int) -> str:
+        return self.pick(['A', "'B'", 'P'])
+
+
+def steps_of(program: Program, answers: List[str]) -> Optional[int]:
     """the number of steps of the longest match of the program, by halving"""
-    def limited(n):
+    def limited(n: int) -> bool:
         return 'MATCH LIMIT' in Job(program, answers, 200, n).run()[-1]
     if limited(4000):
         return None
@@ -23,17 +33,15 @@ def steps_of(program, answers):
     return high
 
 
-def one(seed):
-    m = Maker(seed)
-    m.functions = []
-    m.call = lambda deep: m.pick(['A', "'B'", 'P'])
+def one(seed: int) -> List[str]:
+    m = Simple(seed)
     deep = m.pick([2, 3, 4])
     lines = ["  A = %s; X = %s; N = 2" % (m.pick(["'A'", "'AB'", "''"]), m.pick(["'B'", "*A", "LEN(1)"])),
              "  T = TABLE(); U = T; T<1> = 'A'; U<'A'> = %s; T<N> = P" % m.pick(["'AB'", '*X', "LEN(1) | 'B'"]),
              "  P = %s" % m.pattern(2), "  S = %s" % m.pick(TEXTS)]
     if m.chance(0.2):
         lines.append("  &ANCHOR = 1")
-    lines.append("  %s %s%s :F(NO)" % (m.pick(['S', 'S', m.pick(TEXTS)]), m.pattern(deep), ''))
+    lines.append("  %s %s :F(NO)" % (m.pick(['S', 'S', m.pick(TEXTS)]), m.pattern(deep)))
     if m.chance(0.4):
         lines[-1] = "  S %s = %s :F(NO)" % (m.pattern(deep), m.pick(["'Z'", '', 'A', "'LONG ONE'"]))
     lines += ["  OUTPUT = 'YES ' S ' ' A ' ' N :(END)", "NO OUTPUT = 'NO ' S ' ' A ' ' N"]
@@ -51,9 +59,10 @@ def one(seed):
     return out
 
 
-def main():
+def main() -> None:
     count, seed, path = int(sys.argv[1]), int(sys.argv[2]), sys.argv[3]
-    parts, left = [], 0
+    parts: List[str] = []
+    left = 0
     while len(parts) < count:
         try:
             parts += one(seed)

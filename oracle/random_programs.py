@@ -2,9 +2,14 @@
 """random_programs.py COUNT SEED FILE: writes COUNT random programs as cases, with what the oracle says of each.
 
 Expressions are made by the type that is wanted, and now and then by another, so that programs get some way before a fault."""
+from __future__ import annotations
+
 import random
 import sys
+from typing import Callable, Dict, List, Sequence, Tuple, TypeVar
 from snobol import run, in_a_large_stack
+
+One = TypeVar('One')
 
 STRINGS = ["''", "'A'", "'AB'", "'(A)'", "'B A '", "'0'", "'12'", "'-7'", "'AAB'", "'X'", "' '", "'N'", "'A,B'", '"it\'s"']
 NUMBERS = ['0', '1', '2', '3', '7', '10', '007', '9223372036854775807']
@@ -18,19 +23,19 @@ RECORDS = ['A', 'B', 'AB', '', '12', 'A B ', ' X  ', 'N', '(A)', '7', 'AAB', 'L1
 
 
 class Maker:
-    def __init__(self, seed):
+    def __init__(self, seed: int) -> None:
         self.r = random.Random(seed)
-        self.functions = []
-        self.labels = []
+        self.functions: List[Tuple[str, int]] = []      # how many arguments each has
+        self.labels: List[str] = []
         self.at = 0
 
-    def pick(self, xs):
+    def pick(self, xs: Sequence[One]) -> One:
         return self.r.choice(xs)
 
-    def chance(self, p):
+    def chance(self, p: float) -> bool:
         return self.r.random() < p
 
-    def variable(self, deep=0):
+    def variable(self) -> str:
         k = self.r.random()
         if k < 0.78:
             return self.pick(NAMES)
@@ -40,10 +45,10 @@ class Maker:
             return self.pick(['OUTPUT', 'W', 'PUNCH'])
         return '$' + self.pick(["'A'", "'X Y'", 'S', 'A', "('V' N)", ".B", "$'S'", "INPUT"])
 
-    def assigned(self):
+    def assigned(self) -> str:
         return self.variable() if self.chance(0.8) else 'OUTPUT'
 
-    def item(self, deep):
+    def item(self, deep: int) -> str:
         name = self.pick(TABLES if self.chance(0.96) else NAMES + ['OUTPUT', 'R', 'TABLE'])
         k = self.r.random()
         if deep <= 0 or k < 0.7:
@@ -55,7 +60,7 @@ class Maker:
         return name + self.pick(['<%s>', '<%s>', '<%s>', '< %s>', '<%s >']) % key
 
     # elements and expressions
-    def number(self, deep):
+    def number(self, deep: int) -> str:
         k = self.r.random()
         if deep <= 0 or k < 0.25:
             return self.pick(NUMBERS)
@@ -68,36 +73,29 @@ class Maker:
         if k < 0.62:
             return 'SIZE(' + self.text(deep - 1) + ')'
         if k < 0.70:
-            return self.pick('+-') + self.number_element(deep - 1)
+            return self.pick('+-') + self.group(self.number(deep - 1))
         if k < 0.74:
             return self.call(deep)
         return self.chain(deep, self.number, ['+', '-', '*', '/', '+', '-', '**', '-'])
 
-    def chain(self, deep, make, operators, n=None):
+    def chain(self, deep: int, make: Callable[[int], str], operators: Sequence[str]) -> str:
         parts = [self.element_of(make, deep - 1)]
-        for _ in range(n or self.r.randint(1, 3)):
+        for _ in range(self.r.randint(1, 3)):
             parts.append(self.pick(operators))
             parts.append(self.element_of(make, deep - 1))
         return ' '.join(parts).replace(' JOIN ', ' ')
 
-    def element_of(self, make, deep):
+    def element_of(self, make: Callable[[int], str], deep: int) -> str:
         e = make(deep)
         # some operands stay without parentheses, so that precedence decides
         return e if ' ' not in e or self.chance(0.4) else '(' + e + ')'
 
-    def element(self, e):
-        plain = ' ' not in e.replace("' '", "'_'").replace("'X Y'", "'XY'") or e.startswith('(') and e.endswith(')') and e.count('(') == 1
-        return e if plain else '(' + e + ')'
-
-    def number_element(self, deep):
-        return self.group(self.number(deep))
-
-    def group(self, e):
+    def group(self, e: str) -> str:
         """one element of this expression"""
-        level, quote = 0, None
-        for i, ch in enumerate(e):
+        level, quote = 0, ''
+        for ch in e:
             if quote:
-                quote = None if ch == quote else quote
+                quote = '' if ch == quote else quote
             elif ch in '\'"':
                 quote = ch
             elif ch in '(<':
@@ -108,7 +106,7 @@ class Maker:
                 return '(' + e + ')'
         return e
 
-    def text(self, deep):
+    def text(self, deep: int) -> str:
         k = self.r.random()
         if deep <= 0 or k < 0.22:
             return self.pick(STRINGS)
@@ -135,7 +133,7 @@ class Maker:
             return self.predicate(deep) + ' ' + self.element_of(self.text, deep - 1)
         return self.chain(deep, self.text, ['JOIN'])
 
-    def predicate(self, deep):
+    def predicate(self, deep: int) -> str:
         k = self.r.random()
         if k < 0.40:
             return self.pick(['EQ', 'NE', 'LT', 'LE', 'GT', 'GE']) + '(' + self.number(deep - 1) + ',' + self.number(deep - 1) + ')'
@@ -149,7 +147,7 @@ class Maker:
             return self.pick('~?') + self.group(self.predicate(deep - 1) if deep > 0 else self.pick(['EQ(1,2)', 'EQ(N,N)']))
         return self.pick('~?') + self.group(self.any(deep - 1))
 
-    def call(self, deep):
+    def call(self, deep: int) -> str:
         if not self.functions or self.chance(0.08):
             name = self.pick(['NOFUN', 'DETACH', 'ENDFILE', 'REWIND', 'INPUT', 'OUTPUT', 'DEFINE'])
             return self.acting(name, deep)
@@ -157,7 +155,7 @@ class Maker:
         args = [self.any(deep - 1) if self.chance(0.85) else '' for _ in range(max(0, count + self.pick([0, 0, 0, 0, 1, -1])))]
         return name + '(' + ','.join(args) + ')'
 
-    def acting(self, name, deep):
+    def acting(self, name: str, deep: int) -> str:
         target = self.pick(["'R'", "'W'", "'A'", '.W', "'INPUT'", "'OUTPUT'", 'S', "''"])
         unit = self.pick(['8', '9', "''", '7', '99', "'08'", '', '8', '100', '0', "'X'"] if self.chance(0.3) else ['8', '9', ''])
         if name == 'INPUT':
@@ -174,7 +172,7 @@ class Maker:
             return 'NOFUN(%s)' % self.any(deep - 1)
         return '%s(%s)' % (name, unit)
 
-    def pattern(self, deep):
+    def pattern(self, deep: int) -> str:
         k = self.r.random()
         if deep <= 0 or k < 0.14:
             return self.text(0)
@@ -198,7 +196,7 @@ class Maker:
             return self.call(deep)
         return self.chain(deep, self.pattern, ['JOIN', 'JOIN', '|'])
 
-    def any(self, deep):
+    def any(self, deep: int) -> str:
         k = self.r.random()
         if k < 0.35:
             return self.text(deep)
@@ -213,7 +211,7 @@ class Maker:
         return '*' + self.pick(NAMES + TABLES)
 
     # statements
-    def target(self):
+    def target(self) -> str:
         k = self.r.random()
         later = [l for l in self.labels if int(l[1:]) > self.at + 1]
         if k < 0.55 and later:
@@ -228,7 +226,7 @@ class Maker:
             return '($' + self.pick(["('L' N)", "'L1'", 'S', 'INPUT', 'A', "'RETURN'", '.L2', self.item(1)]) + ')'
         return '(' + self.pick(['NOWHERE', 'NRETURN']) + ')'
 
-    def goto(self):
+    def goto(self) -> str:
         k = self.r.random()
         if k < 0.55:
             return ''
@@ -240,7 +238,7 @@ class Maker:
             return ' :F' + self.target()
         return ' :S' + self.target() + 'F' + self.target()
 
-    def body(self):
+    def body(self) -> str:
         k = self.r.random()
         deep = self.pick([1, 2, 2, 3])
         if k < 0.20:
@@ -270,13 +268,13 @@ class Maker:
             return self.group(self.pick([self.predicate(deep), self.call(deep)]))
         return ''
 
-    def program(self):
+    def program(self) -> List[str]:
         n = self.r.randint(4, 12)
         names = ['L%d' % (i + 1) for i in range(n)]
         self.labels = [l for l in names if self.chance(0.6)]
-        lines = []
+        lines: List[str] = []
         functions = self.r.randint(0, 2)
-        tail = []
+        tail: List[str] = []
         for f in ['F', 'G'][:functions]:
             count = self.r.randint(0, 2)
             own = self.r.randint(0, 1)
@@ -305,7 +303,7 @@ class Maker:
         lines[-1] += ' :(END)' if ' :' not in lines[-1] else ''
         return lines + tail
 
-    def answers(self):
+    def answers(self) -> List[str]:
         out = []
         for _ in range(self.r.randint(0, 12)):
             k = self.r.random()
@@ -313,26 +311,26 @@ class Maker:
         return [a.rstrip() if a == 'GOT ' else a for a in out]
 
 
-def wrapped(line):
+def wrapped(line: str) -> List[str]:
     """a statement over cards of at most 190 characters, cut at blanks outside literals"""
     out = []
     while len(line) > 190:
-        at, quote = None, None
+        at, quote = 0, ''
         for i, ch in enumerate(line[:190]):
             if quote:
-                quote = None if ch == quote else quote
+                quote = '' if ch == quote else quote
             elif ch in '\'"':
                 quote = ch
             elif ch == ' ' and i > 5:
                 at = i
-        if at is None:
+        if not at:
             raise SyntaxError('too long')
         out.append(line[:at])
         line = '+' + line[at + 1:]
     return out + [line]
 
 
-def one(seed):
+def one(seed: int) -> str:
     m = Maker(seed)
     cards = [c for line in m.program() for c in wrapped(line)] + ['END']
     statements, steps = m.pick([30, 60, 100]), m.pick([20, 100, 400, 2000])
@@ -342,9 +340,11 @@ def one(seed):
         seed, statements, steps, '\n'.join(cards), ''.join(a + '\n' for a in answers), '\n'.join(wanted))
 
 
-def main():
+def main() -> None:
     count, seed, path = int(sys.argv[1]), int(sys.argv[2]), sys.argv[3]
-    parts, endings, refused = [], {}, 0
+    parts: List[str] = []
+    endings: Dict[str, int] = {}
+    refused = 0
     while len(parts) < count:
         try:
             parts.append(one(seed))

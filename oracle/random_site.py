@@ -5,15 +5,18 @@ python3 random_site.py COUNT SEED SITE SNOMON      (needs a C compiler)
 Each site has some rounds. Before each, files are dropped: texts, texts with faults, and what is no text: links, FIFOs, folders,
 links to others' files, files of another owner; and a user may open his box to all. A third of the runs breaks off at some call on files, for ever or as by a power
 cut, and is made again. What then stands in the folder is what site_rounds.py makes of the folder as it was left."""
+from __future__ import annotations
+
 import concurrent.futures
 import os
-import random
 import re
 import shutil
 import stat
 import subprocess
 import sys
 import tempfile
+from random import Random
+from typing import Dict, List, NamedTuple, Optional, Tuple, Union
 import random_decks
 import random_intake
 import site_rounds
@@ -25,38 +28,49 @@ ROUNDS = 5  # of each site
 ROOM = '/dev/shm' if os.access('/dev/shm', os.W_OK) else None
 
 
-def limits_of(r):
+class Seen(NamedTuple):
+    """What stands at a name."""
+    kind: int
+    mode: str
+    owner: int
+    content: bytes
+
+
+Tree = Dict[str, Seen]
+
+
+def limits_of(r: Random) -> Dict[str, int]:
     about = {'texts': [2, 3, 9], 'bytes': [300, 2000, 9000], 'jobs': [1, 3, 9], 'statements': [500, 60000, 10**6], 'largest': [10**8, 10**11],
              'work': [10**9, 10**12], 'data_sets': [2, 4, 50], 'records': [40, 10**6]}
     return {name: r.choice(numbers + numbers[-1:] * 3) for name, numbers in about.items()}
 
 
-def users_of():
+def users_of() -> Dict[str, int]:
     names = sorted(random_decks.ACCOUNTS)
     return dict(zip(names, UIDS if os.geteuid() == 0 else [os.geteuid()] * len(names)))
 
 
-def make_site(r, folder):
+def make_site(r: Random, folder: str) -> None:
     lines = random_decks.catalogue(r)
     catalogue = site_rounds.canonical(TABLE, ''.join(line + '\n' for line in lines).encode())
     site_rounds.make(folder, TABLE, users_of(), limits_of(r), os.geteuid() != 0, catalogue)
 
 
-def text_of(r, own):
+def text_of(r: Random, own: str) -> bytes:
     return (random_intake.admitted if r.random() < 0.6 else random_intake.text_of)(r, own).encode()
 
 
 NAMES = ['report.job', 'a', 'B', 'z_9', '.hidden', 'kept~', 'two words', 'x' * 64, 'x' * 65, '\xe4', 'a\nb', '-', '-rf', 'END', 'job;1']
 
 
-def write(path, content, owner):
+def write(path: Union[str, bytes], content: bytes, owner: int) -> None:
     with open(path, 'wb') as file:
         file.write(content)
     if os.geteuid() == 0:
         os.chown(path, owner, -1)
 
 
-def drop_odd(r, folder, path, uid):
+def drop_odd(r: Random, folder: str, path: bytes, uid: int) -> None:
     """Something that is no file of the box's owner."""
     kind = r.randrange(6)
     if kind == 0:
@@ -76,7 +90,7 @@ def drop_odd(r, folder, path, uid):
         write(path + b'\xff', b'$DRAIN\n', uid)
 
 
-def drop(r, folder):
+def drop(r: Random, folder: str) -> int:
     users, count = users_of(), 0
     for account, uid in users.items():
         os.chmod('%s/in/%s' % (folder, account), 0o2777 if r.random() < 0.04 else 0o2770)
@@ -93,9 +107,9 @@ def drop(r, folder):
     return count
 
 
-def tree(folder):
-    """All that stands there: kind, mode, owner, content; by name. What was being written at a crash is left out."""
-    found = {}
+def tree(folder: str) -> Tree:
+    """All that stands there. What was being written at a crash is left out."""
+    found: Tree = {}
     for place, folders, files in os.walk(os.fsencode(folder)):
         for name in folders + files:
             path = os.path.join(place, name)
@@ -107,28 +121,29 @@ def tree(folder):
             elif stat.S_ISLNK(seen.st_mode):
                 content = os.readlink(path)
             key = os.path.relpath(path, os.fsencode(folder)).decode(errors='replace')
-            if not key.endswith('.tmp') and not key.startswith('lock'):
-                found[key] = (stat.S_IFMT(seen.st_mode), oct(stat.S_IMODE(seen.st_mode)), seen.st_uid, content)
+            # (a run that was killed leaves `progress`, on which nothing rests)
+            if not key.endswith('.tmp') and not key.startswith('lock') and key != 'progress':
+                found[key] = Seen(stat.S_IFMT(seen.st_mode), oct(stat.S_IMODE(seen.st_mode)), seen.st_uid, content)
     return found
 
 
-def differing(one, other):
+def differing(one: Tree, other: Tree) -> List[str]:
     return sorted(name for name in {**one, **other} if one.get(name) != other.get(name))
 
 
-def is_shown_nothing(before, after):
+def is_shown_nothing(before: Tree, after: Tree) -> bool:
     """Where the output of no new round stands, nobody was shown anything."""
     if any(re.match(r'rounds/\d+\.out\Z', name) and name not in before for name in after):
         return True
-    seen = lambda found: {name: one for name, one in found.items() if name.startswith('out/') or name == 'catalogue'}
-    return seen(before) == seen(after)
+    seen, then = ({name: one for name, one in found.items() if name.startswith('out/') or name == 'catalogue'} for found in (before, after))
+    return seen == then
 
 
 class Tried:
-    def __init__(self, site, snomon, shim):
+    def __init__(self, site: str, snomon: str, shim: Shim) -> None:
         self.site, self.snomon, self.shim = site, snomon, shim
 
-    def crash(self, r, folder):
+    def crash(self, r: Random, folder: str) -> Tuple[bool, Optional[str]]:
         """Whether the run came to the call at which it broke off."""
         before = tree(folder)
         done, came = self.shim.run([self.site, 'run', folder], folder, r.randint(1, r.choice([60, 200, 500])), r.random() < 0.5)
@@ -138,7 +153,7 @@ class Tried:
             return came, 'something was shown'
         return came, None
 
-    def round(self, r, folder):
+    def round(self, r: Random, folder: str) -> Tuple[bool, Optional[str]]:
         """(whether it crashed before, what is wrong)"""
         drop(r, folder)
         came = False
@@ -157,9 +172,9 @@ class Tried:
             return came, 'status %d and not %d: %s' % (done.returncode, wanted, done.stderr.decode()[-300:])
         return came, 'differing: ' + ' '.join(differ) if differ else None
 
-    def rounds(self, seed):
+    def rounds(self, seed: int) -> Tuple[int, int, Optional[str]]:
         """(how many rounds, how many crashes, what is wrong)"""
-        r, crashes = random.Random(seed), 0
+        r, crashes = Random(seed), 0
         with tempfile.TemporaryDirectory(dir=ROOM) as room:
             os.chmod(room, 0o755)
             folder = os.path.realpath(room) + '/site'
@@ -174,8 +189,9 @@ class Tried:
         return ROUNDS, crashes, None
 
 
-def main():
-    count, seed, site, snomon = int(sys.argv[1]), int(sys.argv[2]), *map(os.path.abspath, sys.argv[3:5])
+def main() -> bool:
+    count, seed = int(sys.argv[1]), int(sys.argv[2])
+    site, snomon = (os.path.abspath(path) for path in sys.argv[3:5])
     with Shim() as shim, concurrent.futures.ThreadPoolExecutor(2) as pool:
         tried = Tried(site, snomon, shim)
         made = list(pool.map(tried.rounds, range(seed, seed + count // ROUNDS)))

@@ -1,33 +1,36 @@
 #!/usr/bin/env python3
 """random_texts.py COUNT SEED FILE: one-line programs on random prototypes, formats, numbers and characters."""
-import random
+from __future__ import annotations
+
 import sys
+from random import Random
+from typing import Dict, List
 from snobol import run, in_a_large_stack
 
 
-def text(r, characters, most):
+def text(r: Random, characters: str, most: int) -> str:
     return ''.join(r.choice(characters) for _ in range(r.randint(0, most)))
 
 
-def mutated(r, s, characters):
-    s = list(s)
+def mutated(r: Random, s: str, characters: str) -> str:
+    out = list(s)
     for _ in range(r.choice([0, 0, 1, 1, 2])):
-        at = r.randint(0, len(s))
+        at = r.randint(0, len(out))
         k = r.random()
         if k < 0.4:
-            s.insert(at, r.choice(characters))
-        elif s and at < len(s):
-            s[at:at + 1] = [] if k < 0.7 else [r.choice(characters)]
-    return ''.join(s)
+            out.insert(at, r.choice(characters))
+        elif at < len(out):
+            out[at:at + 1] = [] if k < 0.7 else [r.choice(characters)]
+    return ''.join(out)
 
 
-def key(r):
+def key(r: Random) -> str:
     """a number or a text, in one of the ways that a program may write it"""
     n = r.choice(['0', '1', '7', '12', '007', '9223372036854775807', '-1', '-0', ''])
     return r.choice(["'%s'", '%s' if n else "'%s'", "+'%s'", "TRIM('%s ')", "('' '%s')", "'%s '", "-'%s'"]) % n
 
 
-def line(r):
+def line(r: Random) -> List[str]:
     k = r.random()
     if k < 0.15:
         a, b, c = key(r), key(r), mutated(r, r.choice(["'K%s'", "'1'", '12', '.K', "'a' 'B'", "X 'A'"]).replace('%s', text(r, 'AB', 1)), "'1A +")
@@ -52,11 +55,12 @@ def line(r):
     return ["  %s" % r.choice(["ENDFILE('%s')", "REWIND('%s')", "INPUT('R','%s')", "OUTPUT('W','%s')", "INPUT('R',8,'%s')"]) % u, '  W = R']
 
 
-def main():
+def main() -> None:
     count, seed, path = int(sys.argv[1]), int(sys.argv[2]), sys.argv[3]
-    parts, n = [], 0
+    parts: List[str] = []
+    n = 0
     while len(parts) < count:
-        r = random.Random(seed)
+        r = Random(seed)
         cards = line(r) + ['END']
         cards = [c for c in cards if c != 'F']
         try:
@@ -70,7 +74,7 @@ def main():
     with open(path, 'w') as f:
         f.write('Random texts.\n\n' + '\n'.join(parts))
     print(len(parts), 'cases', n, 'left out')
-    ends = {}
+    ends: Dict[str, int] = {}
     for p in parts:
         e = ' '.join(p.rstrip('\n').split('\n')[-1].split(' ')[1:3])
         ends[e] = ends.get(e, 0) + 1

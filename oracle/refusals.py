@@ -2,7 +2,14 @@
 
 refusal(cards) gives None for a program that is good, else (code, card, column).  The tokens are taken one by one by a small
 machine with a stack of what is open; a token that it cannot take is P2 where it could with other blanks round it, else P3."""
+from __future__ import annotations
+
 import string
+from typing import Callable, List, NamedTuple, NoReturn, Optional, Sequence, Set, Tuple
+
+Place = Tuple[int, int]             # card and column
+Piece = List[Tuple[str, Place]]     # characters, each with its place
+Fault = Tuple[str, int, int]        # code, card and column
 
 LETTERS, DIGITS = set(string.ascii_letters), set(string.digits)
 NAMED = LETTERS | DIGITS | set('._')
@@ -12,22 +19,23 @@ BINARY = {'**', '*', '/', '+', '-', '.', '$', '|'}
 
 
 class Refused(Exception):
-    """code, then the place: card and column"""
+    def __init__(self, code: str, place: Place) -> None:
+        self.fault: Fault = (code, *place)
 
 
-def refuse(code, place):
-    raise Refused(code, *place)
+def refuse(code: str, place: Place) -> NoReturn:
+    raise Refused(code, place)
 
 
 # ---- cards: each character stands with its place ----------------------------------------------------------------
 
-def is_end_line(card):
+def is_end_line(card: str) -> bool:
     return card[:3] == 'END' and (len(card) == 3 or card[3] in ' ;')
 
 
-def read_cards(cards):
+def read_cards(cards: Sequence[str]) -> Tuple[List[Piece], Piece]:
     """(the joined lines of statements, the END line's rest), as lists of (character, place)"""
-    lines = []
+    lines: List[Piece] = []
     for n, card in enumerate(cards, 1):
         placed = [(ch, (n, i)) for i, ch in enumerate(card, 1)]
         if card[:1] == '*':
@@ -36,7 +44,7 @@ def read_cards(cards):
             word = card[1:].split(' ')[0].upper()
             if word not in ('LIST', 'UNLIST', 'EJECT'):
                 refuse('S3', (n, 1))
-        elif card[:1] in ('+', '.') and card:
+        elif card[:1] in ('+', '.'):
             if not lines:
                 refuse('S2', (n, 1))
             lines[-1] += [(' ', (n, 1))] + placed[1:]
@@ -47,12 +55,13 @@ def read_cards(cards):
     refuse('S1', (len(cards) + 1, 1))
 
 
-def pieces(line):
+def pieces(line: Piece) -> List[Piece]:
     """Cut at each `;` outside literals."""
-    out, quote = [[]], None
+    out: List[Piece] = [[]]
+    quote = ''
     for ch, place in line:
         if quote:
-            quote = None if ch == quote else quote
+            quote = '' if ch == quote else quote
         elif ch in '\'"':
             quote = ch
         if ch == ';' and not quote:
@@ -64,15 +73,18 @@ def pieces(line):
 
 # ---- tokens -----------------------------------------------------------------------------------------------------
 
-class Token:
-    def __init__(self, kind, place, before, after):
-        self.kind, self.place, self.before, self.after = kind, place, before, after
+class Token(NamedTuple):
+    kind: str           # 'name', 'constant', 'label', 'S', 'F', or the sign itself
+    place: Place
+    before: bool        # whether a blank, or the statement's edge, is there
+    after: bool
 
 
-def tokens(piece, at):
-    """The tokens from there on: 'name', 'constant', 'label', 'S', 'F', or the sign itself."""
+def tokens(piece: Piece, at: int) -> List[Token]:
+    """The tokens from there on."""
     text = ''.join(ch for ch, _ in piece)
-    out, depth, own, colon = [], 0, 0, False        # `own`: what the goto has open
+    out: List[Token] = []
+    depth, own, colon = 0, 0, False                 # `own`: what the goto has open
     while True:
         begun = at
         while at < len(text) and text[at] == ' ':
@@ -100,8 +112,8 @@ def tokens(piece, at):
             if at == 0:
                 refuse('P1', piece[start][1])
         else:
-            kind = next((s for s in SIGNS if text.startswith(s, at)), None)
-            if kind is None:
+            kind = next((s for s in SIGNS if text.startswith(s, at)), '')
+            if not kind:
                 refuse('P3', piece[start][1])
             at += len(kind)
         if len(out) == 1000 or kind in '(<' and depth == 100:
@@ -130,31 +142,37 @@ class Walk:
     'target', 'target-end', 'done'   in a target's parentheses, before them closing, behind the last target
     `open` has what is open: 'group', 'call', 'item'."""
 
-    def __init__(self):
-        self.state, self.open, self.has_equals, self.in_subject = 'start', (), False, True
-        self.targets, self.in_computed = (), False      # the outcomes that were given; within `($ ..)` of a goto
+    def __init__(self) -> None:
+        self.state, self.has_equals, self.in_subject = 'start', False, True
+        self.open: Tuple[str, ...] = ()
+        self.targets: Tuple[str, ...] = ()      # the outcomes that were given
+        self.in_computed = False                # within `($ ..)` of a goto
 
-    def copy(self):
+    def copy(self) -> Walk:
         new = Walk.__new__(Walk)
         new.__dict__.update(self.__dict__)
         return new
 
-    def after_operand(self):
+    def after_operand(self) -> str:
         if self.open:
             return 'behind'
         return 'target-end' if self.in_computed else 'first' if self.in_subject else 'behind'
 
-    def take(self, t):
+    def take(self, t: Token) -> Optional[Walk]:
         """the walk behind this token, or None"""
         new = self.copy()
-        return new if getattr(new, 'at_' + self.state.replace('-', '_'))(t) else None
+        return new if new.step(t) else None
 
-    def go(self, state):
+    def step(self, t: Token) -> bool:
+        taking: Callable[[Token], bool] = getattr(self, 'at_' + self.state.replace('-', '_'))
+        return taking(t)
+
+    def go(self, state: str) -> bool:
         self.state = state
         return True
 
     # elements
-    def element(self, t):
+    def element(self, t: Token) -> bool:
         if t.kind == 'name':
             return self.go('name')
         if t.kind == 'constant':
@@ -168,13 +186,13 @@ class Walk:
 
     at_prefixed = at_operand = element
 
-    def at_word(self, t):
+    def at_word(self, t: Token) -> bool:
         return t.kind == 'name' and self.go(self.after_operand())
 
-    def at_empty(self, t):
+    def at_empty(self, t: Token) -> bool:
         return self.close_call(t) or self.element(t)
 
-    def close_call(self, t):
+    def close_call(self, t: Token) -> bool:
         if t.kind == ',':
             return self.go('empty')
         if t.kind == ')':
@@ -182,7 +200,7 @@ class Walk:
             return self.go(self.after_operand())
         return False
 
-    def at_name(self, t):
+    def at_name(self, t: Token) -> bool:
         if t.kind == '(' and not t.before:
             self.open += ('call',)
             return self.go('empty')
@@ -190,10 +208,10 @@ class Walk:
             self.open += ('item',)
             return self.go('operand')
         self.state = self.after_operand()
-        return getattr(self, 'at_' + self.state.replace('-', '_'))(t)
+        return self.step(t)
 
     # behind operands
-    def at_behind(self, t):
+    def at_behind(self, t: Token) -> bool:
         if self.open and self.open[-1] == 'call' and self.close_call(t):
             return True
         if self.open and t.kind == {'group': ')', 'item': '>', 'call': None}[self.open[-1]]:
@@ -203,28 +221,28 @@ class Walk:
             return self.go('operand')
         return not self.open and self.begin_rest(t) or t.before and self.element(t)
 
-    def begin_rest(self, t):
+    def begin_rest(self, t: Token) -> bool:
         """`=` or a goto, outside of all parentheses"""
         if t.kind == '=' and not self.has_equals and t.before and t.after:
             self.has_equals = True
             return self.go('object')
         return t.kind == ':' and t.before and self.go('goto')
 
-    def at_first(self, t):
+    def at_first(self, t: Token) -> bool:
         if self.begin_rest(t):
             return True
         self.in_subject = False
         return t.before and self.element(t)
 
-    def at_start(self, t):
+    def at_start(self, t: Token) -> bool:
         return t.kind == ':' and t.before and self.go('goto') or self.element(t)
 
-    def at_object(self, t):
+    def at_object(self, t: Token) -> bool:
         self.in_subject = False
         return t.kind == ':' and t.before and self.go('goto') or self.element(t)
 
     # gotos
-    def at_goto(self, t):
+    def at_goto(self, t: Token) -> bool:
         if t.kind in ('S', 'F') and t.kind not in self.targets:
             self.targets += (t.kind,)
             return self.go('due')
@@ -233,10 +251,10 @@ class Walk:
             return self.go('target')
         return False
 
-    def at_due(self, t):
+    def at_due(self, t: Token) -> bool:
         return t.kind == '(' and self.go('target')
 
-    def at_target(self, t):
+    def at_target(self, t: Token) -> bool:
         if t.kind == 'label':
             return self.go('target-end')
         if t.kind == '$' and not t.after:
@@ -244,16 +262,16 @@ class Walk:
             return self.go('prefixed')
         return False
 
-    def at_target_end(self, t):
+    def at_target_end(self, t: Token) -> bool:
         if t.kind == ')':
             self.in_computed = False
             return self.go('done' if len(self.targets) == 2 else 'goto')
         return False
 
-    def at_done(self, t):
+    def at_done(self, t: Token) -> bool:
         return False
 
-    def may_end(self):
+    def may_end(self) -> bool:
         if self.state in ('start', 'done', 'object'):
             return True
         if self.state == 'goto':
@@ -261,12 +279,12 @@ class Walk:
         return not self.open and not self.in_computed and self.state in ('name', 'first', 'behind')
 
 
-def fits(walk, t):
+def fits(walk: Walk, t: Token) -> bool:
     """whether the token could be taken with other blanks round it"""
     return any(walk.take(Token(t.kind, t.place, b, a)) for b in (False, True) for a in (False, True))
 
 
-def lacks_variable(taken, i):
+def lacks_variable(taken: List[Token], i: int) -> bool:
     """whether the element that begins with token i of those is known to be no variable"""
     if i >= len(taken):
         return False
@@ -275,9 +293,11 @@ def lacks_variable(taken, i):
     return taken[i].kind != '$'
 
 
-def walked(piece, out):
+def walked(piece: Piece, out: List[Token]) -> None:
     """Takes the tokens; refuses at the leftmost fault."""
-    walk, taken, fault = Walk(), [], None
+    walk = Walk()
+    taken: List[Token] = []
+    fault = None
     wanting = []                                # the tokens at which a variable has to begin
     for t in out:
         new = walk.take(t)
@@ -304,9 +324,9 @@ def walked(piece, out):
         refuse('P3', (card, column + 1))
 
 
-def refuse_first(cards):
+def refuse_first(cards: Sequence[str]) -> None:
     lines, rest = read_cards(cards)
-    labels = set()
+    labels: Set[str] = set()
     for line in lines:
         for piece in pieces(line):
             at, text = 0, ''.join(ch for ch, _ in piece)
@@ -326,14 +346,14 @@ def refuse_first(cards):
         refuse('P7', rest[len(text) - len(text.lstrip(' '))][1])
 
 
-def refusal(cards):
+def refusal(cards: Sequence[str]) -> Optional[Fault]:
     try:
         refuse_first(cards)
     except Refused as refused:
-        return refused.args
+        return refused.fault
     return None
 
 
-def verdict(cards):
+def verdict(cards: Sequence[str]) -> str:
     found = refusal(cards)
     return 'parsed' if found is None else 'REFUSED %s CARD %d COLUMN %d' % found

@@ -9,14 +9,17 @@ moments. While the output of the round does not stand, nothing was shown to anyo
 stand where nothing broke off, byte for byte: no text is lost, and none is run twice. `growths` refuses a growth of memory, so many of
 them in even steps: the run ends for want of memory, or a text is put off and run alone, or a job ends early, or nothing differs; behind
 one more run each text has one answer, and each round's deck gives its output and its audit again."""
+from __future__ import annotations
+
 import concurrent.futures
 import os
-import random
 import shutil
 import subprocess
 import sys
 import tempfile
 import time
+from random import Random
+from typing import Dict, Iterator, List, Optional, Tuple
 import random_site
 import refused_memory
 import site_rounds
@@ -27,14 +30,14 @@ LOG = b'$CATALOGUE 2\n$SET LOG anna admin APPEND 0\nuser::rwx,group::---,other::
 LIMITS = dict.fromkeys(site_rounds.NAMES, 10**15)
 
 
-def dropped():
+def dropped() -> List[Tuple[str, str]]:
     """(account, text) of twelve texts: eight that are run, and each adds to one data set; a list; three that are refused."""
     texts = [(account, ADDS % (account, account + str(k), account, account)) for account in sorted(random_site.users_of()) for k in (1, 2)]
     return texts + [('anna', '$SETACL anna LOG\nuser::rwx\ngroup::---\nother::rw-\n$ENDACL\n'), ('eve', '$LIST hugo LOG\n'), ('hugo', '$STOP\n'),
                     ('lisa', '$JOB lisa\nEND\n')]
 
 
-def make(folder):
+def make(folder: str) -> Iterator[None]:
     """A site behind its first round, and what is dropped for the second. No name is one that a reply repeats, since a run that
     breaks off forgets it."""
     site_rounds.make(folder, random_site.TABLE, random_site.users_of(), LIMITS, os.geteuid() != 0, LOG)
@@ -45,8 +48,12 @@ def make(folder):
             yield
 
 
+def answers(found: random_site.Tree) -> List[str]:
+    return sorted(name for name in found if name.startswith('out/') and name.endswith('.out'))
+
+
 class Crashes:
-    def __init__(self, room, site, snomon):
+    def __init__(self, room: str, site: str, snomon: str) -> None:
         self.room, self.site = room, site
         self.template = room + '/template'
         for _ in make(self.template):
@@ -62,15 +69,15 @@ class Crashes:
             site_rounds.Site(copy, snomon).run(nothing)
         self.beside = random_site.differing(self.wanted, random_site.tree(copy))
 
-    def copy(self, name):
+    def copy(self, name: str) -> str:
         folder = '%s/%s' % (self.room, name)
         subprocess.run(['cp', '-a', self.template, folder], check=True)
         return folder
 
-    def run(self, folder):
+    def run(self, folder: str) -> subprocess.CompletedProcess[bytes]:
         return subprocess.run([self.site, 'run', folder], capture_output=True, timeout=120)
 
-    def goes_on(self, folder):
+    def goes_on(self, folder: str) -> Optional[str]:
         """What is wrong behind a run that broke off, and behind one more."""
         if not random_site.is_shown_nothing(self.before, random_site.tree(folder)):
             return 'something was shown'
@@ -82,7 +89,7 @@ class Crashes:
         # A round that was settled, or was shown to need no more, has nothing to tell of what was refused in it.
         return None if done.returncode in (0, self.status) else 'status %d: %s' % (done.returncode, done.stderr.decode()[-200:])
 
-    def at_call(self, shim, call, kills):
+    def at_call(self, shim: Shim, call: int, kills: bool) -> Tuple[bool, Optional[str]]:
         """(whether the run came to that call, what is wrong)"""
         folder = self.copy('%d.%d' % (call, kills))
         done, came = shim.run([self.site, 'run', folder], folder, call, kills)
@@ -90,7 +97,7 @@ class Crashes:
             return came, 'status %d: %s' % (done.returncode, done.stderr.decode()[-200:])
         return came, self.goes_on(folder)
 
-    def at_moment(self, k, seconds):
+    def at_moment(self, k: int, seconds: float) -> Tuple[bool, Optional[str]]:
         folder = self.copy('moment.%d' % k)
         running = subprocess.Popen([self.site, 'run', folder], stdout=subprocess.DEVNULL, stderr=subprocess.DEVNULL)
         try:
@@ -100,11 +107,7 @@ class Crashes:
             running.wait()
         return running.returncode == -9, self.goes_on(folder)
 
-
-    def answers(self, folder):
-        return {name: one[3] for name, one in random_site.tree(folder).items() if name.startswith('out/') and name.endswith('.out')}
-
-    def at_growth(self, library, growth, snomon):
+    def at_growth(self, library: str, growth: int, snomon: str) -> Tuple[bool, str, Optional[str]]:
         """(whether the run came to that growth, what came of it, what is wrong)"""
         folder = self.copy('growth.%d' % growth)
         mark = folder + '.refused'
@@ -112,7 +115,7 @@ class Crashes:
                               env={**os.environ, 'LD_PRELOAD': library, 'REFUSE': str(growth), 'REFUSED': mark})
         if not os.path.islink(mark):
             shutil.rmtree(folder)
-            return False, None, None
+            return False, '', None
         os.unlink(mark)
         kind = 'ended the run' if done.returncode == 3 else 'not seen'
         if done.returncode == 3 and done.stderr != b'snomon-site: out of memory\n':
@@ -123,11 +126,9 @@ class Crashes:
             kind = 'put off, or a job ended'
         return True, kind, wrong or self.is_whole(folder, snomon)
 
-    def is_whole(self, folder, snomon):
+    def is_whole(self, folder: str, snomon: str) -> Optional[str]:
         """What is wrong with a folder whose answers may be others for want of memory."""
-        wanted = {name: one[3] for name, one in self.wanted.items() if name.startswith('out/') and name.endswith('.out')}
-        found = self.answers(folder)
-        if sorted(found) != sorted(wanted):
+        if answers(random_site.tree(folder)) != answers(self.wanted):
             return 'other answers'
         if os.listdir(folder + '/taken'):
             return 'claimed files are left'
@@ -143,10 +144,11 @@ class Crashes:
         return None
 
 
-def growths(crashes, count, snomon):
-    kinds, wrong = {}, []
+def growths(crashes: Crashes, count: int, snomon: str) -> Tuple[str, List[str]]:
+    kinds: Dict[str, int] = {}
+    wrong: List[str] = []
     with tempfile.TemporaryDirectory() as room, concurrent.futures.ThreadPoolExecutor(2) as pool:
-        library = made_library(room, refused_memory.SHIM.replace('#include <string.h>', '#include <string.h>\n#include <unistd.h>'))
+        library = made_library(room, refused_memory.SHIM)
         last = 1
         while crashes.at_growth(library, last, snomon)[0]:
             last *= 2
@@ -159,30 +161,31 @@ def growths(crashes, count, snomon):
     return 'growths refused: ' + ', '.join('%d %s' % (kinds[kind], kind) for kind in sorted(kinds)), wrong if kinds else ['none']
 
 
-def calls(crashes):
-    wrong, most = [], 0
+def calls(crashes: Crashes) -> Tuple[str, List[str]]:
+    wrong: List[str] = []
+    most, first = 0, 1
     with Shim() as shim, concurrent.futures.ThreadPoolExecutor(2) as pool:
-        for first in range(1, 100000, 100):
+        while most == first - 1:
             tried = [(call, kills) for call in range(first, first + 100) for kills in (False, True)]
             for (call, kills), (came, bad) in zip(tried, pool.map(lambda one: crashes.at_call(shim, *one), tried)):
                 most = max(most, call if came else 0)
                 if bad:
                     wrong.append('call %d %s: %s' % (call, 'ends the run' if kills else 'fails', bad))
-            if most < first + 99:
-                return '%d calls on files, each failing and each ending the run' % most, wrong or ([] if most else ['no call failed'])
+            first += 100
+    return '%d calls on files, each failing and each ending the run' % most, wrong or ([] if most else ['no call failed'])
 
 
-def moments(crashes, count, seed):
-    r = random.Random(seed)
+def moments(crashes: Crashes, count: int, seed: int) -> Tuple[str, List[str]]:
+    r = Random(seed)
     with concurrent.futures.ThreadPoolExecutor(2) as pool:
         tried = list(pool.map(lambda k: crashes.at_moment(k, r.uniform(0, 1.5 * crashes.takes)), range(count)))
     wrong = ['moment %d: %s' % (k, bad) for k, (_, bad) in enumerate(tried) if bad]
     return '%d runs killed, %d before their end' % (count, sum(came for came, _ in tried)), wrong
 
 
-def main():
+def main() -> bool:
     kind, *rest = sys.argv[1:]
-    site, snomon = map(os.path.abspath, rest[-2:])
+    site, snomon = (os.path.abspath(path) for path in rest[-2:])
     with tempfile.TemporaryDirectory(dir=random_site.ROOM) as room:
         os.chmod(room, 0o755)
         crashes = Crashes(os.path.realpath(room), site, snomon)

@@ -6,13 +6,16 @@ Kept have to be the catalogue, byte for byte; the printouts of the commands, in 
 the jobs that are printed there, each byte for byte. Of the audit, too: the lines of the commands, in their order; those of
 each job, in theirs; and the last. Where the program reads version 2 of the catalogue's text, half of the decks are of that
 version."""
+from __future__ import annotations
+
 import concurrent.futures
 import io
 import os
-import random
 import subprocess
 import sys
 import tempfile
+from random import Random
+from typing import Callable, Dict, List, NamedTuple, Optional, Tuple
 import random_decks
 
 sys.path.insert(0, os.path.join(os.path.dirname(os.path.abspath(__file__)), '..', 'tools'))
@@ -20,10 +23,13 @@ from decks import join, join_audit, split, text as texts  # noqa: E402
 
 TITLES = tuple('JOB CREATE DELETE SETACL SHOWACL LIST CATALOG'.split())
 COMMANDS = tuple('$' + title + ' ' for title in TITLES[1:])
+Printout = List[str]
+Stretch = Tuple[List[Printout], List[Printout]]             # between two $DRAIN cards: those of commands, and those of jobs
+Run = Callable[[bytes, int, str], Tuple[str, str, int]]     # of a deck, with slots, and a file for the audit: output, standard error, status
 EMPTY_OF_VERSION_2 = '$ACCOUNTS\n$CATALOGUE 2\n$STREAM\n$STOP\n'
 
 
-def renamed(card, group):
+def renamed(card: List[str], group: int) -> List[str]:
     """A card whose data sets are those of a group."""
     first = card[0].split(' ')
     if first[0] == '$JOB':
@@ -40,13 +46,13 @@ BUSY_PROGRAMS = [["  OUTPUT('W',8)", 'L N = N + 1', "  W = 'N' N", '  LT(N,%d) :
 OPEN_LIST = ['user::rwx', 'group::rwx', 'other::rwx']
 
 
-def busy_job(r):
+def busy_job(r: Random) -> List[str]:
     body = [line % r.randint(1, 6) if '%d' in line else line for line in r.choice(BUSY_PROGRAMS)]
     head = ['$JOB %s' % r.choice(sorted(random_decks.ACCOUNTS)), '$UNIT 8 %s' % r.choice(random_decks.SETS)]
     return head + body + ['END', '$EOJ']
 
 
-def data_set(r, name, version):
+def data_set(r: Random, name: str, version: int) -> List[str]:
     records = r.choices(random_decks.TEXTS + ['$CATALOGUE', '$SET A b c 1', '$STREAM', '$STOP'], k=r.randint(0, 5))
     mode = r.choice(['SEQ ', 'APPEND ']) if version == 2 else ''
     acl = random_decks.acl(r) if r.random() < 0.3 else OPEN_LIST
@@ -54,7 +60,7 @@ def data_set(r, name, version):
     return ['$SET %s %s %s %s%d' % (name, owner, group, mode, len(records)), ','.join(acl)] + records
 
 
-def card(r, slots, groups, version):
+def card(r: Random, slots: int, groups: int, version: int) -> List[str]:
     made = busy_job(r) if r.random() < 0.4 else random_decks.card(r, slots)
     made = renamed(made, r.randint(1, groups))
     if made[0].startswith('$JOB') and r.random() < 0.1:  # a job that ties data sets of two groups together
@@ -64,7 +70,7 @@ def card(r, slots, groups, version):
     return made
 
 
-def deck(r, slots, version):
+def deck(r: Random, slots: int, version: int) -> str:
     groups = r.randint(1, 6)
     lines = ['$ACCOUNTS'] + [' '.join([a] + g) for a, g in random_decks.ACCOUNTS.items()]
     lines.append('$CATALOGUE 2' if version == 2 else '$CATALOGUE')
@@ -80,15 +86,15 @@ def deck(r, slots, version):
     return '\n'.join(lines + ['$STOP', ''])
 
 
-def runs_of(path):
-    """A run of that program as a function of a deck, a number of slots and a file for the audit: output, standard error, status."""
-    def run(text, slots, audit=os.devnull):
+def runs_of(path: str) -> Run:
+    """A run of that program."""
+    def run(text: bytes, slots: int, audit: str) -> Tuple[str, str, int]:
         done = subprocess.run([path, '--slots', str(slots), '--audit', audit], input=text, capture_output=True, timeout=60)
         return done.stdout.decode(), done.stderr.decode(), done.returncode
     return run
 
 
-def split_run_and_join(run, path, folder, slots, parts):
+def split_run_and_join(run: Run, path: str, folder: str, slots: int, parts: int) -> Tuple[int, str, str, str]:
     """(how many decks, what was told of the cut, the joined output, the joined audit)"""
     decks, told = split.split_deck(path, folder, parts, slots)
     for name in decks:
@@ -104,16 +110,16 @@ def split_run_and_join(run, path, folder, slots, parts):
     return len(decks), '\n'.join(told), joined.getvalue().decode(), audit.getvalue().decode()
 
 
-def by_asker(audit):
+def by_asker(audit: str) -> Tuple[Dict[Tuple[str, ...], List[str]], List[str]]:
     """The lines of an audit by what they are of: each job by its number, the commands, the run."""
-    found = {}
+    found: Dict[Tuple[str, ...], List[str]] = {}
     for line in audit.splitlines():
         found.setdefault(tuple(line.split(' ')[:2]), []).append(line)
     return found, audit.splitlines()[-1:]
 
 
-def printouts(lines):
-    found = []
+def printouts(lines: List[str]) -> List[Printout]:
+    found: List[Printout] = []
     for line in lines:
         if line.split(' ')[0] in TITLES:
             found.append([])
@@ -121,9 +127,10 @@ def printouts(lines):
     return found
 
 
-def by_stretch(found, deck_lines):
+def by_stretch(found: List[Printout], deck_lines: List[str]) -> Tuple[List[Stretch], List[Printout]]:
     """Of the printouts between two $DRAIN cards: those of commands in their order, and those of jobs in any."""
-    stretches, taken, due = [], 0, 0
+    stretches: List[Stretch] = []
+    taken = due = 0
     for line in deck_lines:
         due += line.startswith(('$JOB ',) + COMMANDS)
         if line in ('$DRAIN', '$STOP'):
@@ -134,14 +141,14 @@ def by_stretch(found, deck_lines):
     return stretches, found[taken:]
 
 
-def what_is_kept(output, deck_text):
+def what_is_kept(output: str, deck_text: str) -> Tuple[List[Stretch], List[Printout], List[str]]:
     lines = output.split('\n')
     heading = next(n for n, line in enumerate(lines) if line.startswith('$'))
     stretches, others = by_stretch(printouts(lines[:heading]), stream_of(deck_text))
     return stretches, others, lines[heading:]
 
 
-def stream_of(deck_text):
+def stream_of(deck_text: str) -> List[str]:
     """The lines of the stream of a deck that was made here: a data set may have a record `$STREAM`, and then more records."""
     lines, at = deck_text.split('\n'), 0
     while lines[at] not in ('$CATALOGUE', '$CATALOGUE 2'):
@@ -152,13 +159,19 @@ def stream_of(deck_text):
     return lines[at + 1:]
 
 
-def reads_version_2(run):
-    return run(EMPTY_OF_VERSION_2.encode(), 4)[2] == 0
+def reads_version_2(run: Run) -> bool:
+    return run(EMPTY_OF_VERSION_2.encode(), 4, os.devnull)[2] == 0
 
 
-def try_one(run, seed, version):
-    """(what differs or None, how many decks, whether something was kept together, whether a $CATALOG was joined)"""
-    r = random.Random(seed)
+class Tried(NamedTuple):
+    different: Optional[str]    # what differs
+    decks: int                  # how many there were of one
+    kept: bool                  # whether jobs were kept together
+    joined: bool                # whether a $CATALOG was joined
+
+
+def try_one(run: Run, seed: int, version: int) -> Tried:
+    r = Random(seed)
     slots, parts = r.choice([1, 2, 3, 4, 8]), r.choice([2, 3, 16])
     text = deck(r, slots, version)
     with tempfile.TemporaryDirectory() as room:
@@ -167,27 +180,27 @@ def try_one(run, seed, version):
             file.write(text)
         whole, error, status = run(text.encode(), slots, room + '/whole.audit')
         if status:
-            return 'status %d: %s' % (status, error), 0, False, False
+            return Tried('status %d: %s' % (status, error), 0, False, False)
         try:
             count, told, joined, audit = split_run_and_join(run, path, room + '/parts', slots, parts)
             with open(room + '/whole.audit') as file:
                 whole_audit = file.read()
         except (texts.Refused, texts.Fault) as fault:
-            return str(fault), 0, False, False
+            return Tried(str(fault), 0, False, False)
     different = ('another output' if what_is_kept(whole, text) != what_is_kept(joined, text) else
                  'another audit' if by_asker(whole_audit) != by_asker(audit) else None)
-    return different, count, 'stay in one deck' in told, 'join makes one' in told
+    return Tried(different, count, 'stay in one deck' in told, 'join makes one' in told)
 
 
-def compare(run, count, seed, at_once=2):
+def compare(run: Run, count: int, seed: int, at_once: int = 2) -> Tuple[str, List[str]]:
     """(a line that tells what was tried, those that differ)"""
     versions = [1, 2] if reads_version_2(run) else [1]
     with concurrent.futures.ThreadPoolExecutor(at_once) as pool:
         tried = list(pool.map(lambda n: try_one(run, seed + n, versions[n % len(versions)]), range(count)))
-    different = ['DIFFERENT seed %d: %s' % (seed + n, it[0]) for n, it in enumerate(tried) if it[0]]
-    several, kept, catalogs = (sum(1 for it in tried if test(it)) for test in (lambda it: it[1] > 1, lambda it: it[2], lambda it: it[3]))
+    different = ['DIFFERENT seed %d: %s' % (seed + n, it.different) for n, it in enumerate(tried) if it.different]
+    several, kept, catalogs = sum(it.decks > 1 for it in tried), sum(it.kept for it in tried), sum(it.joined for it in tried)
     return ('%d decks, %d of them cut into %d, %d with jobs kept together, %d with $CATALOG in each, versions %s, %d different'
-            % (count, several, sum(it[1] for it in tried), kept, catalogs, versions, len(different)), different)
+            % (count, several, sum(it.decks for it in tried), kept, catalogs, versions, len(different)), different)
 
 
 if __name__ == '__main__':

@@ -1,11 +1,12 @@
 #!/usr/bin/env python3
-"""tools/ledger_model.py [TEXTS]     searches the calls of a ledger on a disk through every crash
+"""tools/ledger_model.py [TEXTS]            searches the calls of a ledger on a disk through every crash
+tools/ledger_model.py --calls TEXTS     lists the calls of a run that is not cut off, and how many outcomes a strict disk has
 
 A run opens the ledger, claims dropped files, records them, runs them, answers, until nothing waits. Behind each of its calls the
 power may be cut, or the run be killed; every outcome that the disk allows is tried, and a run goes on from each, until no new disk
 is reached. So many texts (three, if none is said) are dropped before the first run; each planted fault is tried with two. The disk
-is that of crates/ledger_disk, the calls are those of crates/ledger_laws and ledger_run, written a second time: nothing is read there,
-and the site of today makes other calls.
+is that of crates/ledger_disk, the calls are those of crates/ledger_laws and ledger_run, written a second time: nothing is read there.
+crates/ledger_tests searches what is proved, on a strict disk: what it prints is what `--calls` lists.
 
 A disk is read as one of these. In each, a file that was not brought to the disk may have any bytes.
   strict   each name by itself has what is seen, or what it had at any moment since its folder was last brought to the disk
@@ -13,15 +14,19 @@ A disk is read as one of these. In each, a file that was not brought to the disk
   ordered  all names have what they had at one moment; a folder that is brought to the disk is so alone
   journal  the same, and any folder brings all (ext4, XFS): faults of order do not show there
 """
+from __future__ import annotations
+
 import itertools
+import re
 import sys
 import time
-from typing import Dict, FrozenSet, Iterator, List, NamedTuple, Optional, Tuple
+from typing import Dict, FrozenSet, Iterable, Iterator, List, NamedTuple, Optional, Set, Tuple, Union
 
 ORDERS = ('strict', 'notlost', 'ordered', 'journal')
 TORN = 'torn'
 BOXES = {'in/a': 'out/a', 'in/b': 'out/b'}  # and where their answers are put
 DROPS = (('in/a/x', 'A'), ('in/b/z', 'C'), ('in/a/y', 'B'))
+CALLED = {'ledger': 'commit', 'taken': 'claimed', 'out': 'answer'}
 
 # What a run may leave out, or do in another order. On a strict disk each loses a text, runs it twice, or shows a wrong answer; where
 # a renamed file is never left under neither name, the last does no harm.
@@ -32,8 +37,41 @@ FAULTS = (
 )
 
 
+class Took(NamedTuple):
+    number: int
+    account: str  # who dropped it
+    text: str
+
+
+class Ran(NamedTuple):
+    number: int
+    text: str
+    before: Tuple[str, ...]  # the texts that had run then
+
+
+class Gave(NamedTuple):
+    first: int  # of the numbers whose answers were put
+    last: int
+
+
+Record = Union[Took, Ran, Gave]
+
+
+class Commit(NamedTuple):
+    before: int  # the hash of the commit before
+    record: Record
+
+
+class Answer(NamedTuple):
+    text: str
+    before: Tuple[str, ...]
+
+
+Content = Union[str, Commit, Answer]  # a text that was dropped, or torn
+
+
 class File(NamedTuple):
-    content: object
+    content: Content
     whole: bool  # whether its bytes are on the disk
 
 
@@ -45,6 +83,8 @@ class Slot(NamedTuple):
 
 NOTHING = Slot(None, frozenset())
 Change = Tuple[str, Optional[File], Optional[File]]  # a name, what it had, what it got
+Calls = Tuple[Tuple[Change, ...], ...]
+Key = Tuple[FrozenSet[Tuple[str, Slot]], Calls]
 
 
 def folder_of(name: str) -> str:
@@ -55,21 +95,40 @@ def is_draft(name: str) -> bool:
     return name.startswith('draft/')
 
 
+def number_of(name: str) -> int:
+    found = re.search('[0-9]+$', name)
+    assert found
+    return int(found.group())
+
+
+def called(name: str) -> str:
+    """A name, as crates/ledger_tests prints it."""
+    if is_draft(name):
+        return 'draft' if name == 'draft/commit' else 'unfinished'
+    kind = name.partition('/')[0]
+    return f'dropped {[drop for drop, _ in DROPS].index(name)}' if kind == 'in' else f'{CALLED[kind]} {number_of(name)}'
+
+
 class Disk:
     """Names in folders. What stands in `draft` is never read, and written anew before it gets another name: no crash leaves it."""
 
-    def __init__(self, order: str, slots: Dict[str, Slot], log: Tuple[Tuple[Change, ...], ...] = ()) -> None:
+    def __init__(self, order: str, slots: Dict[str, Slot], log: Calls = ()) -> None:
         self.order, self.slots, self.log = order, slots, log
         self.moments: Optional[List[Disk]] = None  # the disks behind each call, where they are kept
+        self.made: List[str] = []                  # and these calls
 
-    def copy(self) -> 'Disk':
+    def copy(self) -> Disk:
         return Disk(self.order, dict(self.slots), self.log)
 
-    def key(self):
+    def key(self) -> Key:
         return frozenset((name, slot) for name, slot in self.slots.items() if slot != NOTHING and not is_draft(name)), self.log
 
     def now(self, name: str) -> Optional[File]:
         return self.slots.get(name, NOTHING).now
+
+    def content(self, name: str) -> Optional[Content]:
+        file = self.now(name)
+        return file.content if file else None
 
     def names(self, folder: str) -> List[str]:
         return sorted(name for name, slot in self.slots.items() if folder_of(name) == folder and slot.now is not None)
@@ -81,40 +140,54 @@ class Disk:
         for name, file in given:
             slot = self.slots.get(name, NOTHING)
             self.slots[name] = Slot(file, frozenset() if is_draft(name) else slot.others | {slot.now})
-        self.done()
 
-    def done(self) -> None:
+    def done(self, call: str) -> None:
         if self.moments is not None:
             self.moments.append(self.copy())
+            self.made.append(call)
 
-    def write(self, name: str, content) -> None:
+    def write(self, name: str, content: Content) -> None:
         self.change((name, File(content, False)))
+        self.done(f'write {called(name)}')
 
     def rename(self, old: str, new: str) -> None:
         self.change((old, None), (new, self.now(old)))
+        self.done(f'rename {called(old)} to {called(new)}')
 
     def link(self, old: str, new: str) -> None:
         self.change((new, self.now(old)))
+        self.done(f'link {called(old)} to {called(new)}')
 
     def remove(self, name: str) -> None:
         self.change((name, None))
+        self.done(f'remove {called(name)}')
 
     def sync_file(self, name: str) -> None:
         file, others = self.slots[name]
+        assert file
         whole = File(file.content, True)
         self.slots[name] = Slot(whole, others)
         self.log = tuple(tuple((n, old, whole if n == name and new == file else new) for n, old, new in call) for call in self.log)
-        self.done()
+        self.done(f'sync {called(name)}')
 
-    def sync_folder(self, folder: str) -> None:
+    def sync_folders(self, what: str, folders: Iterable[str]) -> None:
+        """Brings these to the disk, one after the other. On a strict disk that is one call: what is left between two of them is left
+        before the first too."""
+        for folder in folders:
+            self.bring(folder)
+            if self.order != 'strict':
+                self.done(f'sync {what}')
+        if self.order == 'strict':
+            self.done(f'sync {what}')
+
+    def bring(self, folder: str) -> None:
         def stays(name: str) -> bool:
             return self.order != 'journal' and folder_of(name) != folder
         self.slots = {name: slot if stays(name) else Slot(slot.now, frozenset()) for name, slot in self.slots.items()}
         calls = (tuple(change for change in call if stays(change[0])) for call in self.log)
         self.log = tuple(call for call in calls if call)
-        self.done()
 
-    def outcomes(self) -> Iterator['Disk']:
+    def outcomes(self) -> Iterator[Disk]:
         """The disks that a power cut may leave."""
         for names in self.moments_left() if self.order in ('ordered', 'journal') else [self.choices()]:
             for files in itertools.product(*names.values()):
@@ -150,159 +223,163 @@ class Wrong(Exception):
 
 
 class State(NamedTuple):
-    """What the ledger says: the texts that ran, in their order; who dropped each, and what; what each printed; who has his answer."""
-    ran: Tuple[str, ...]
-    taken: Dict[int, Tuple[str, str]]
-    printed: Dict[int, Tuple[str, Tuple[str, ...]]]
-    given: FrozenSet[int]
+    """What the ledger says."""
+    ran: Tuple[str, ...]        # the texts that ran, in their order
+    taken: Dict[int, Took]      # who dropped each, and what
+    printed: Dict[int, Answer]  # what each printed
+    given: FrozenSet[int]       # who has his answer
 
 
 class Ledger:
     """The commits of a disk, each with the hash of the one before."""
 
     def __init__(self, disk: Disk) -> None:
-        self.disk, self.commits = disk, []
-        for number, name in enumerate(disk.names('ledger'), 1):
-            content = disk.now(name).content
-            if name != f'ledger/{number}' or content == TORN or content[0] != self.last():
+        self.disk = disk
+        self.commits: List[Commit] = []
+        for number, name in enumerate(disk.names('ledger')):
+            commit = disk.content(name)
+            if name != commit_name(number) or not isinstance(commit, Commit) or commit.before != self.last():
                 raise Wrong(f'the ledger is refused at {name}')
-            self.commits.append(content)
+            self.commits.append(commit)
 
     def last(self) -> int:
         return hash(self.commits[-1]) if self.commits else 0
 
-    def records(self) -> Iterator[tuple]:
-        return (record for _, records in self.commits for record in records)
+    def records(self) -> Iterator[Record]:
+        return (commit.record for commit in self.commits)
 
     def state(self) -> State:
-        ran, taken, printed, given = (), {}, {}, set()
-        for kind, number, *more in self.records():
-            if kind == 'TOOK':
-                taken[number] = tuple(more)
-            elif kind == 'RAN':
-                printed[number] = tuple(more)
-                ran += (taken[number][1],) if number in taken else ('?',)
+        ran: Tuple[str, ...] = ()
+        taken: Dict[int, Took] = {}
+        printed: Dict[int, Answer] = {}
+        given: FrozenSet[int] = frozenset()
+        for record in self.records():
+            if isinstance(record, Took):
+                taken[record.number] = record
+            elif isinstance(record, Ran):
+                printed[record.number] = Answer(record.text, record.before)
+                ran += (taken[record.number].text,) if record.number in taken else ('?',)
             else:
-                given.add(number)
-        return State(ran, taken, printed, frozenset(given))
+                given = frozenset(printed)
+        return State(ran, taken, printed, given)
 
-    def commit(self, records: List[tuple], faults: FrozenSet[str]) -> None:
-        content = (self.last(), tuple(records))
+    def commit(self, record: Record, faults: FrozenSet[str]) -> None:
+        content = Commit(self.last(), record)
         self.disk.write('draft/commit', content)
         if 'no sync of a draft' not in faults:
             self.disk.sync_file('draft/commit')
-        self.disk.rename('draft/commit', f'ledger/{len(self.commits) + 1}')
+        self.disk.rename('draft/commit', commit_name(len(self.commits)))
         if 'no sync of the ledger' not in faults:
-            self.disk.sync_folder('ledger')
+            self.disk.sync_folders('ledger', ['ledger'])
         self.commits.append(content)
+
+
+def commit_name(number: int) -> str:
+    return f'ledger/{number:02}'
 
 
 def account_of(claimed: str) -> str:
     return claimed.split('/')[1].split('.')[0]
 
 
-def number_of(claimed: str) -> int:
-    return int(claimed.rpartition('.')[2])
+def dropped(disk: Disk) -> List[str]:
+    return [name for name, _ in DROPS if disk.now(name) is not None]
 
 
-def claim(disk: Disk, state: State, faults: FrozenSet[str]) -> None:
-    by_rename = bool(faults & {'claims by rename', 'claims by rename, and finishes that'})
-    number = max([0, *state.taken, *map(number_of, disk.names('taken'))])
-    changed = set() if by_rename else set(BOXES)
-    for box in BOXES:
-        for name in disk.names(box):
-            if disk.now(name) in [disk.now(other) for other in disk.names('taken')]:
-                continue
-            number += 1
-            to = f'taken/{box[3:]}.{number}'
-            if by_rename:
-                disk.rename(name, to)
-                changed.add(box)
-            else:
-                disk.link(name, to)
-    if 'no sync of what was claimed' not in faults:
-        disk.sync_folder('taken')
+def claimed(disk: Disk) -> List[str]:
+    return sorted(disk.names('taken'), key=number_of)
+
+
+def is_claimed(disk: Disk, drop: str) -> bool:
+    return disk.now(drop) in map(disk.now, disk.names('taken'))
+
+
+def finish_claims(disk: Disk, faults: FrozenSet[str]) -> None:
+    """What stands under a number leaves its box."""
     if 'claims by rename' not in faults:
-        taken = [disk.now(name) for name in disk.names('taken')]
-        for name in [name for box in BOXES for name in disk.names(box) if disk.now(name) in taken]:
-            disk.remove(name)
-            changed.add(folder_of(name))
+        for drop in [drop for drop in dropped(disk) if is_claimed(disk, drop)]:
+            disk.remove(drop)
     if 'no sync of the boxes' not in faults:
-        for box in sorted(changed):
-            disk.sync_folder(box)
+        disk.sync_folders('boxes', BOXES)
 
 
-def record(disk: Disk, ledger: Ledger, faults: FrozenSet[str]) -> bool:
-    """Commits the files that were claimed and are not in the ledger, and removes those that are."""
-    new = [name for name in disk.names('taken') if number_of(name) not in ledger.state().taken]
-    files = {name: disk.now(name) for name in new}
-    if 'removes before it records' in faults:
-        for name in new:
+def claim(disk: Disk, ledger: Ledger, faults: FrozenSet[str]) -> None:
+    drops = [drop for drop in dropped(disk) if not is_claimed(disk, drop)]
+    if not drops:
+        return
+    by_rename = bool(faults & {'claims by rename', 'claims by rename, and finishes that'})
+    first = max([-1, *ledger.state().taken, *map(number_of, claimed(disk))]) + 1
+    for number, drop in enumerate(drops, first):
+        (disk.rename if by_rename else disk.link)(drop, f'taken/{folder_of(drop)[3:]}.{number}')
+    if 'no sync of what was claimed' not in faults:
+        disk.sync_folders('taken', ['taken'])
+    if not by_rename:
+        for drop in drops:
+            disk.remove(drop)
+    if 'no sync of the boxes' not in faults:
+        disk.sync_folders('boxes', BOXES)
+
+
+def take_all(disk: Disk, ledger: Ledger, faults: FrozenSet[str]) -> None:
+    """Commits the files that were claimed and are not in the ledger, each, and removes it then; and those that are."""
+    for name in claimed(disk):
+        text = disk.content(name)
+        assert isinstance(text, str)
+        if 'removes before it records' in faults:
             disk.remove(name)
-    if new:
-        ledger.commit([('TOOK', number_of(name), account_of(name), files[name].content) for name in new], faults)
-    remove_recorded(disk, ledger)
-    return bool(new)
-
-
-def remove_recorded(disk: Disk, ledger: Ledger) -> None:
-    taken = ledger.state().taken
-    for name in disk.names('taken'):
-        if number_of(name) in taken:
+        if number_of(name) not in ledger.state().taken:
+            ledger.commit(Took(number_of(name), account_of(name), text), faults)
+        if 'removes before it records' not in faults:
             disk.remove(name)
 
 
 def answer_name(state: State, number: int) -> str:
-    return f'out/{state.taken[number][0]}/{number}'
+    return f'out/{state.taken[number].account}/{number}'
 
 
-def put_answer(disk: Disk, name: str, printed, faults: FrozenSet[str]) -> None:
+def put_answer(disk: Disk, name: str, printed: Answer, faults: FrozenSet[str]) -> None:
     disk.write('draft/answer', printed)
     if 'no sync of an answer' not in faults:
         disk.sync_file('draft/answer')
     disk.rename('draft/answer', name)
 
 
-def run_batch(disk: Disk, ledger: Ledger, batch: int, faults: FrozenSet[str]) -> bool:
+def waiting(state: State) -> List[int]:
+    return [number for number in sorted(state.taken) if number not in state.printed]
+
+
+def run_first(disk: Disk, ledger: Ledger, faults: FrozenSet[str]) -> None:
     state = ledger.state()
-    waiting = [number for number in sorted(state.taken) if number not in state.printed][:batch]
-    records, ran = [], state.ran
-    for number in waiting:
-        text = state.taken[number][1]
-        records.append(('RAN', number, text, ran))
-        ran += (text,)
-    if 'answers before it commits' in faults:
-        for _, number, *printed in records:
-            put_answer(disk, answer_name(state, number), tuple(printed), faults)
-    if records:
-        ledger.commit(records, faults)
-    return bool(records)
+    for number in waiting(state)[:1]:
+        printed = Answer(state.taken[number].text, state.ran)
+        if 'answers before it commits' in faults:
+            put_answer(disk, answer_name(state, number), printed, faults)
+        ledger.commit(Ran(number, printed.text, printed.before), faults)
 
 
-def deliver(disk: Disk, ledger: Ledger, faults: FrozenSet[str]) -> None:
+def give(disk: Disk, ledger: Ledger, faults: FrozenSet[str]) -> None:
     state = ledger.state()
     owed = [number for number in sorted(state.printed) if number not in state.given]
     for number in owed:
-        if disk.now(answer_name(state, number)) is None:
-            put_answer(disk, answer_name(state, number), state.printed[number], faults)
+        put_answer(disk, answer_name(state, number), state.printed[number], faults)
     if owed:
-        for folder in BOXES.values():
-            disk.sync_folder(folder)
-        ledger.commit([('GAVE', number) for number in owed], faults)
+        disk.sync_folders('out', BOXES.values())
+        ledger.commit(Gave(owed[0], owed[-1]), faults)
 
 
 def run(disk: Disk, batch: int, faults: FrozenSet[str]) -> None:
     if 'opens without syncs' not in faults:
-        for folder in ('ledger', 'taken', *BOXES, *BOXES.values()):
-            disk.sync_folder(folder)
+        for what, folders in (('ledger', ['ledger']), ('boxes', [*BOXES]), ('taken', ['taken']), ('out', [*BOXES.values()])):
+            disk.sync_folders(what, folders)
     ledger = Ledger(disk)
+    finish_claims(disk, faults)
+    claim(disk, ledger, faults)
+    take_all(disk, ledger, faults)
     for _ in range(8):
-        remove_recorded(disk, ledger)
-        claim(disk, ledger.state(), faults)
-        took = record(disk, ledger, faults)
-        ran = run_batch(disk, ledger, batch, faults)
-        deliver(disk, ledger, faults)
-        if not took and not ran:
+        for _ in range(batch):
+            run_first(disk, ledger, faults)
+        give(disk, ledger, faults)
+        if not waiting(ledger.state()):
             return
     raise Wrong('a run does not end')
 
@@ -314,7 +391,7 @@ def check(disk: Disk, texts: List[str], is_over: bool) -> None:
     check_runs(ledger)
     for text in texts:
         waits = sum(slot.now is not None and slot.now.content == text for slot in disk.slots.values())
-        taken = sum(record[0] == 'TOOK' and record[3] == text for record in ledger.records())
+        taken = sum(isinstance(record, Took) and record.text == text for record in ledger.records())
         if taken > 1:
             raise Wrong(f'text {text} is in {taken} commits')
         if waits + taken == 0:
@@ -325,7 +402,7 @@ def check(disk: Disk, texts: List[str], is_over: bool) -> None:
         number = int(name.rpartition('/')[2])
         if number not in state.printed:
             raise Wrong('an answer that is not committed')
-        if name != answer_name(state, number) or disk.now(name).content != state.printed[number]:
+        if name != answer_name(state, number) or disk.content(name) != state.printed[number]:
             raise Wrong('another answer')
     if is_over and (set(state.printed) != set(state.taken) or any(disk.now(answer_name(state, n)) is None for n in state.given)):
         raise Wrong('a text waits, or an answer is missing')
@@ -333,16 +410,17 @@ def check(disk: Disk, texts: List[str], is_over: bool) -> None:
 
 def check_runs(ledger: Ledger) -> None:
     """Each text ran once, over what those before it left."""
-    before, seen, taken = (), set(), ledger.state().taken
+    before: Tuple[str, ...] = ()
+    seen: Set[int] = set()
+    taken = ledger.state().taken
     for record in ledger.records():
-        if record[0] == 'RAN':
-            _, number, text, state = record
-            if number in seen or number not in taken:
+        if isinstance(record, Ran):
+            if record.number in seen or record.number not in taken:
                 raise Wrong('a text ran twice, or was never taken')
-            if (text, state) != (taken[number][1], before):
+            if (record.text, record.before) != (taken[record.number].text, before):
                 raise Wrong('a text ran over another state')
-            seen.add(number)
-            before += (text,)
+            seen.add(record.number)
+            before += (record.text,)
 
 
 class Search(NamedTuple):
@@ -352,10 +430,23 @@ class Search(NamedTuple):
     calls: int
 
 
+def begun(order: str, texts: int) -> Disk:
+    """So many texts are dropped, and are on the disk."""
+    return Disk(order, {name: Slot(File(text, True), frozenset()) for name, text in DROPS[:texts]})
+
+
+def calls_of(texts: int) -> List[str]:
+    """The calls of a run that is not cut off."""
+    disk = begun('strict', texts)
+    disk.moments = []
+    run(disk, 1, frozenset())
+    return disk.made
+
+
 def search(order: str, texts: int, batch: int = 2, late: bool = False, faults: FrozenSet[str] = frozenset()) -> Search:
     """Every crash of every run, from so many dropped texts on; where `late`, another file of the first one's name is dropped between
     two runs once. Raises Wrong at the first disk on which something does not hold."""
-    first = Disk(order, {name: Slot(File(text, True), frozenset()) for name, text in DROPS[:texts]})
+    first = begun(order, texts)
     todo, known, outcomes, calls = [(first, False)], {(first.key(), False)}, 0, 0
 
     def reach(disk: Disk, dropped: bool) -> bool:
@@ -393,17 +484,30 @@ def with_late(disk: Disk) -> Disk:
     return late
 
 
-def told(order: str, texts: int, **how) -> str:
-    begun = time.monotonic()
+def told(order: str, texts: int, batch: int = 2, late: bool = False, faults: FrozenSet[str] = frozenset()) -> str:
+    start = time.monotonic()
     try:
-        found = search(order, texts, **how)
+        found = search(order, texts, batch, late, faults)
         what = f'holds: {found.disks:,} disks, {found.outcomes:,} outcomes, {found.calls:,} calls'
     except Wrong as wrong:
         what = f'FAILS: {wrong}'
-    return f'{what} ({time.monotonic() - begun:.0f} s)'
+    return f'{what} ({time.monotonic() - start:.0f} s)'
+
+
+def listed(texts: int) -> Iterator[str]:
+    """What crates/ledger_tests prints for so many texts."""
+    for batch in (1, 2):
+        found = search('strict', texts, batch=batch)
+        yield f'{texts} dropped, {batch} in a batch: holds: {found.disks} disks, {found.outcomes} outcomes, {found.calls} calls'
+    for call in calls_of(texts):
+        yield f'  {call}'
 
 
 def main() -> int:
+    if sys.argv[1:2] == ['--calls']:
+        for line in listed(int(sys.argv[2])):
+            print(line)
+        return 0
     texts = int(sys.argv[1]) if len(sys.argv) > 1 else len(DROPS)
     for fault in FAULTS:
         for order in ORDERS:

@@ -7,7 +7,7 @@
 //! Jobs run by `jobs.rs`, which is a part of this program.
 //!
 //! Reads a whole deck from standard input, writes the printouts and the catalogue, and tells of the first refusal as
-//! `snomon` does; it takes no options. `docs/REFERENCE.md` has the rules that both follow.
+//! `snomon` does; it takes no options. `docs/reference/deck.md` has the rules that both follow.
 
 use std::collections::HashMap;
 use std::fmt;

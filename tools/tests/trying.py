@@ -1,11 +1,13 @@
 """What the tests have in common: a room of their own, the command, and a built snomon."""
+from __future__ import annotations
+
 import os
-import re
 import subprocess
 import sys
 import tempfile
 import traceback
 import unittest
+from typing import Any, Callable, Iterable, List, Union
 
 TOOLS = os.path.join(os.path.dirname(os.path.realpath(__file__)), '..')
 TOP = os.path.realpath(os.path.join(TOOLS, '..'))
@@ -16,6 +18,7 @@ from decks import command  # noqa: E402
 SNOMON = os.path.abspath(os.environ.get('SNOMON', os.path.join(TOP, 'run')))
 MEASURED = ('import resource, subprocess, sys; status = subprocess.call(sys.argv[1:]); '
             'print(resource.getrusage(resource.RUSAGE_CHILDREN).ru_maxrss, status)')
+NO_WORDS: List[str] = []
 MOST_MEMORY = 64 * 1024  # that deck may take, however long a file is, in KiB
 
 # An output of each version, whose records look like what stands between data sets.
@@ -65,22 +68,23 @@ ACCOUNTS = b'anna admin\nlisa staff\nhugo ops staff\n'
 class Done:
     """How a command ended: its status, its output, and what it said."""
 
-    def __init__(self, status, out, err):
+    def __init__(self, status: int, out: bytes, err: bytes) -> None:
         self.status, self.out, self.err = status, out, err.decode()
 
 
-def run(words, given=b'', **more):
+def run(words: Iterable[str], given: bytes = b'', **more: Any) -> Done:
+    """`more` is what subprocess.run knows."""
     done = subprocess.run([os.fspath(word) for word in words], input=given, capture_output=True, timeout=300, **more)
     return Done(done.returncode, done.stdout, done.stderr)
 
 
-def deck(*words, preexec_fn=lambda: None):
+def deck(*words: str, preexec_fn: Callable[[], object] = lambda: None) -> Done:
     """Runs the command in a copy of this process, since Python takes longer to begin than most commands do. `DECK` is what
     tests run that are about how it begins or ends, and about its streams."""
     with tempfile.TemporaryFile() as given, tempfile.TemporaryFile() as out, tempfile.TemporaryFile() as err:
         child = os.fork()
         if child == 0:
-            status = 99
+            status: Union[int, str, None] = 99
             try:
                 for number, file in enumerate((given, out, err)):
                     os.dup2(file.fileno(), number)
@@ -94,7 +98,7 @@ def deck(*words, preexec_fn=lambda: None):
             finally:
                 sys.stdout.flush()
                 sys.stderr.flush()
-                os._exit(status)
+                os._exit(status if isinstance(status, int) else 1)
         ended = os.waitpid(child, 0)[1]
         for file in (out, err):
             file.seek(0)
@@ -104,46 +108,44 @@ def deck(*words, preexec_fn=lambda: None):
 class Trying(unittest.TestCase):
     """Each test has an empty folder as its room."""
 
-    def setUp(self):
+    seen = ''  # what is told of a test that passed
+
+    def setUp(self) -> None:
         room = tempfile.TemporaryDirectory()
         self.addCleanup(room.cleanup)
         self.room = room.name
 
-    def path(self, name):
+    def path(self, name: str) -> str:
         return os.path.join(self.room, name)
 
-    def write(self, name, content):
+    def write(self, name: str, content: bytes) -> str:
         with open(self.path(name), 'wb') as file:
             file.write(content)
         return self.path(name)
 
-    def read(self, name):
+    def read(self, name: str) -> bytes:
         with open(self.path(name), 'rb') as file:
             return file.read()
 
-    def names(self):
+    def names(self) -> List[str]:
         return sorted(os.listdir(self.room))
 
-    def is_refused(self, done, message, status=1):
+    def is_refused(self, done: Done, message: str, status: int = 1) -> None:
         """It ended with that status, one line that fits the message, and nothing on standard output."""
         self.assertEqual((done.status, done.out), (status, b''), done.err)
         self.assertRegex(done.err, r'\Asnomon-deck: [^\n]*\n\Z')
         self.assertIn(message, done.err)
 
-    def is_refused_at(self, done, name, line, message):
+    def is_refused_at(self, done: Done, name: str, line: int, message: str) -> None:
         self.is_refused(done, f'{self.path(name)}: line {line}: {message}')
 
-    def memory_of(self, words, status=0):
+    def memory_of(self, words: Iterable[str], status: int = 0) -> int:
         """The most that a run of deck took, in KiB. A small process starts it, since what a process begins as counts too."""
         done = run([sys.executable, '-c', MEASURED, sys.executable, DECK, *words])
         memory, ended = map(int, done.out.split())
         self.assertEqual(ended, status, done.err)
         return memory
 
-    def line_of(self, err):
-        found = re.search(r': line (\d+): ', err)
-        return int(found.group(1)) if found else None
 
-
-def snomon(deck_text, *words):
+def snomon(deck_text: bytes, *words: str) -> Done:
     return run([SNOMON, *words], given=deck_text)
