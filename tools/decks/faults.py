@@ -16,9 +16,10 @@ REFUSED = re.compile(rb'REFUSED (?P<code>[A-Z]\d)(?P<more>.*)')
 STATEMENT_LIMIT = b'END STATEMENT LIMIT '
 
 # By the fault: how a report begins that says which name is concerned.
-REPORTS = {b'FUNCTION': (b'NO FUNCTION ',), b'KEYWORD': (b'NO KEYWORD ',), b'LABEL': (b'NO LABEL ',), b'TYPE': (b'NO TABLE ',)}
+REPORTS = {b'FUNCTION': (b'NO FUNCTION ',), b'KEYWORD': (b'NO KEYWORD ', b'OUT OF RANGE '), b'LABEL': (b'NO LABEL ',),
+           b'TYPE': (b'NO TABLE ', b'TOO LATE '), b'FORMAT': (b'NO FILE ',)}
 
-# What to do where no report says it: LANGUAGE, "Faults".
+# What to do where no report says it: docs/reference/language.md, "Faults".
 ADVICE = {b'TYPE': 'ask INTEGER(V) or DATATYPE(V) before', b'ARITH': 'test the operands, as NE(N,0)', b'NULL': 'test with DIFFER(S)',
           b'FUNCTION': 'DEFINE the function first', b'PROTOTYPE': 'write both parentheses, and each identifier once',
           b'KEYWORD': 'there is no such keyword, it is only read, or the number is out of its range',

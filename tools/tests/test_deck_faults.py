@@ -1,7 +1,9 @@
 """Where jobs failed: an output, or a site's answer, beside what listing wrote of the deck."""
+from __future__ import annotations
+
 import os
 import unittest
-from trying import Trying, deck, run, snomon
+from trying import Done, Trying, deck, run, snomon
 
 # A listing as listing writes it, of three jobs; the last has statements on one line, a continuation and a comment between.
 LISTING = b'''JOB 1 anna LINE 4 STATEMENTS 9 STEPS 100
@@ -61,10 +63,10 @@ PLACE = b'LINE 5 CARD 1 STATEMENT 1\n        L       X = LPAD(X,1)         :(L)\
 
 
 class Faults(Trying):
-    def told(self, output, listing=LISTING):
+    def told(self, output: bytes, listing: bytes = LISTING) -> Done:
         return deck('faults', self.write('output', output), self.write('listing', listing))
 
-    def test_the_line_the_text_and_the_name_are_told(self):
+    def test_the_line_the_text_and_the_name_are_told(self) -> None:
         ends = {b'FAULT FUNCTION AT 1 AFTER 1': PLACE + b"NO FUNCTION LPAD: write DUPL(' ',N - SIZE(S)) S, which fails if S is longer",
                 b'FAULT TYPE AT 1 AFTER 1': PLACE + b'ask INTEGER(V) or DATATYPE(V) before',
                 b'MATCH LIMIT AT 1 AFTER 1': PLACE + b'a match takes more than 100 steps: take BREAK or SPAN for ARB, begin with POS(0), or '
@@ -74,16 +76,16 @@ class Faults(Trying):
             done = self.told(AFTER_SEVEN % end)
             self.assertEqual((done.status, done.out.decode()), (1, (FIRST % (end, told) + REST).decode()))
 
-    def test_a_statement_may_share_its_line_and_go_on(self):
+    def test_a_statement_may_share_its_line_and_go_on(self) -> None:
         text = AFTER_SEVEN.replace(b'DENIED STATEMENT 4', b'DENIED STATEMENT 3') % b'NORMAL AFTER 1'
         self.assertIn(b'    LINE 17 CARD 2 STATEMENT 3, number 3 of 3 that begin there\n        A = 1; B = A /\n        +   0; C = 3\n    FULL',
                       self.told(text).out)
 
-    def test_nothing_failed(self):
+    def test_nothing_failed(self) -> None:
         done = self.told(b'JOB 1 anna\nEND NORMAL AFTER 1\nJOB 2 lisa\nEND NORMAL AFTER 1\nJOB 3 anna\nEND NORMAL AFTER 1\n$CATALOGUE 2\n')
         self.assertEqual((done.status, done.out), (0, b''))
 
-    def test_another_deck_is_refused(self):
+    def test_another_deck_is_refused(self) -> None:
         self.is_refused(self.told(b'JOB 1 anna\nEND NORMAL AFTER 1\n'), 'it has 3 jobs, and the output 1', 2)
         other = AFTER_SEVEN.replace(b'JOB 9 anna', b'JOB 9 hugo') % b'NORMAL AFTER 1'
         self.is_refused(self.told(other), 'job 3 is of anna, and that of the output of hugo', 2)
@@ -93,9 +95,19 @@ class Faults(Trying):
         self.is_refused(deck('faults', self.path('none'), self.write('listing', LISTING)), 'none: No such file', 2)
 
     @unittest.skipUnless('LISTING' in os.environ, 'LISTING names no program')
-    def test_a_run_and_its_listing(self):
+    def test_a_run_and_its_listing(self) -> None:
         program = b"        INPUT('R',8)\nLOOP    R 'X' =   :S(LOOP)\n        A = 1 ; B = A / (A - 1)\nEND\n"
         given = deck('try', self.write('program', program), '--unit', '8=' + self.write('unit', b'AXX\n')).out
         done = self.told(snomon(given).out, run([os.environ['LISTING']], given=given).out)
         self.assertEqual(done.out, b'JOB 1 me\n    END FAULT ARITH AT 4 AFTER 5\n    LINE 12 CARD 3 STATEMENT 4, number 2 of 2 that begin there\n'
                                    b'                A = 1 ; B = A / (A - 1)\n    test the operands, as NE(N,0)\n')
+
+    @unittest.skipUnless('LISTING' in os.environ, 'LISTING names no program')
+    def test_a_fault_of_which_the_listing_warns(self) -> None:
+        faults = {b'&STLIMIT = -1': (b'KEYWORD', b'OUT OF RANGE &STLIMIT: '), b"'AB' LEN(*N)": (b'TYPE', b'TOO LATE LEN: '),
+                  b"INPUT('R',8,'r.txt')": (b'FORMAT', b'NO FILE r.txt: '), b"OUTPUT('R',8,'r.txt')": (b'FORMAT', b'NO FILE r.txt: ')}
+        for statement, (fault, told) in faults.items():
+            given = deck('try', self.write('program', b'        %s\nEND\n' % statement)).out
+            said = self.told(snomon(given).out, run([os.environ['LISTING']], given=given).out).out
+            self.assertIn(b'    END FAULT %s AT 1 AFTER 1\n' % fault, said)
+            self.assertIn(b'    ' + told, said)

@@ -1,15 +1,18 @@
 """Programs as people bring them from other systems: what listing says of each, and what it comes to."""
+from __future__ import annotations
+
 import os
 import re
+from typing import Dict, Iterator, List, Optional, Tuple
 from trying import TOP, Trying, deck, run, snomon
 
 LISTING = os.path.abspath(os.environ.get('LISTING', os.path.join(TOP, 'bin', 'snomon-listing')))
 PROGRAMS = os.path.join(TOP, 'tools', 'tests', 'data', 'programs_as_people_write_them.txt')
-LANGUAGE = os.path.join(TOP, 'docs', 'LANGUAGE.md')
+LANGUAGE = os.path.join(TOP, 'docs', 'reference', 'language.md')
 THERE_IS_NONE = 'there is no code'
 
 
-def programs():
+def programs() -> Iterator[Tuple[str, Dict[str, str]]]:
     """Each program's name and sections."""
     with open(PROGRAMS, encoding='ascii') as file:
         parts = re.split(r'^=== (.*)\n', file.read(), flags=re.M)[1:]
@@ -18,8 +21,8 @@ def programs():
         yield name, {'program': sections[0], **dict(zip(sections[1::2], sections[2::2]))}
 
 
-def index(heading):
-    """The names of a table of LANGUAGE's index that are not here, each with whether something stands for it."""
+def index(heading: str) -> Iterator[Tuple[str, bool]]:
+    """The names of a table of the language's index that are not here, each with whether something stands for it."""
     with open(LANGUAGE, encoding='utf-8') as file:
         table = file.read().split(f'| {heading} | |\n')[1].split('\n\n')[0]
     for row in table.splitlines()[1:]:
@@ -29,20 +32,20 @@ def index(heading):
 
 
 class Programs(Trying):
-    def deck_of(self, program, data):
+    def deck_of(self, program: str, data: Optional[str]) -> bytes:
         words = [self.write('program', program.encode())]
         if data is not None and re.search(r'^END', program, flags=re.M):
             words.append(self.write('data', data.encode()))
         return deck('try', *words).out
 
-    def told(self, deck_text):
+    def told(self, deck_text: bytes) -> List[str]:
         listed = run([LISTING], given=deck_text).out.decode()
         return re.findall(r'^LINE \d+ (?:STATEMENT \d+ )?(.*)\n', listed, flags=re.M)
 
-    def test_there_are_25(self):
-        self.assertEqual(len(list(programs())), 25)
+    def test_there_are_29(self) -> None:
+        self.assertEqual(len(list(programs())), 29)
 
-    def test_each_runs_or_is_told_what_to_write_instead(self):
+    def test_each_runs_or_is_told_what_to_write_instead(self) -> None:
         for name, program in programs():
             with self.subTest(name):
                 told = program.get('told', '').splitlines()
@@ -57,7 +60,7 @@ class Programs(Trying):
                 self.assertEqual([line[1:] for line in printed if line.startswith(' ')], program['prints'].splitlines())
                 self.assertRegex(printed[-2], r'\AEND NORMAL ')
 
-    def test_listing_has_the_index_by_name(self):
+    def test_listing_has_the_index_by_name(self) -> None:
         for heading, statement, told in (('Functions', ' X = %s(1)', 'NO FUNCTION '), ('Keywords', ' X = %s', 'NO KEYWORD ')):
             names = list(index(heading))
             self.assertGreater(len(names), 30)

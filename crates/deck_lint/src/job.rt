@@ -326,7 +326,15 @@ fn cause_at(spot: SourceSpan<'_>, code: SyntaxCode) -> &'static str {
 
 // What is said of a function that looks called, as in `*F (X)`.
 const NOT_CALLED: &str =
-    "*V is the value of a variable: P = F(X), and then *P, or test after the match";
+    "*V is the value of a variable: P = F(X), and then *P, or call F behind the match";
+
+// What is said of a literal that names a file, as it seems.
+const NO_FILE: &str =
+    "a card ties the unit to a data set, as $UNIT 8 SET: here a length stands, for OUTPUT as (80A1), or nothing";
+
+// What is said of a function that is given `*V`.
+const TOO_LATE: &str =
+    "it needs the value at once: match up to it in one statement, and write LEN(N) in the next";
 
 // What is said of a name that leads nowhere: what to write instead, where other systems have it.
 fn put_name_cause(alloc: Global, name: &LooseName, out: &mut Vec<u8>) -> Result<(), AllocError> {
@@ -352,6 +360,14 @@ fn put_name_cause(alloc: Global, name: &LooseName, out: &mut Vec<u8>) -> Result<
             ("NO OUTPUT BY ", instead, "it is a variable like others")
         }
         LooseKind::NotCalled => ("NOT CALLED ", None, NOT_CALLED),
+        LooseKind::File => ("NO FILE ", None, NO_FILE),
+        LooseKind::LaterArgument => ("TOO LATE ", None, TOO_LATE),
+        LooseKind::Statements => (
+            "OUT OF RANGE &",
+            None,
+            "ST= on the $JOB card raises the limit",
+        ),
+        LooseKind::Characters => ("OUT OF RANGE &", None, "it is 0 to 100,000"),
     };
     out.extend_from_slice(before.as_bytes())?;
     out.extend_from_slice(name.name.as_bytes())?;

@@ -1,9 +1,10 @@
 -- Why a program is refused (own): by the code, and by the characters around the place.
 use Rattle.std.specs.Prelude.{ℕ, Bool, not, ◌&&◌, ◌||◌, ◌==◌, List, reverse, find, slice_get, Option, if◌then◌else◌}
 use Rattle.std.specs.Option.{unwrap_or}
-use Rattle.mon_text.specs.Characters.{is_letter, is_digit, is_quote, is_identifier_character}
+use Rattle.mon_text.specs.Characters.{is_letter, is_digit, is_blank, is_quote, is_identifier_character}
 use Rattle.sno_cards.specs.declared.refusal.SyntaxCode.{SyntaxCode}
 use Rattle.sno_cards.specs.declared.refusal.SyntaxCode.TheVariants as code
+use Rattle.program_advice.specs.Brackets.{found_behind}
 use Rattle.program_advice.specs.declared.around.Around.{Around}
 use Rattle.program_advice.specs.declared.cause.Cause.{Cause}
 use Rattle.program_advice.specs.declared.cause.Cause.TheVariants as cause
@@ -17,11 +18,16 @@ or_end c = unwrap_or c 10
 abbrev pub is_apart : ℕ → Bool
 is_apart c = not (is_identifier_character c)
 
+abbrev pub is_no_blank : ℕ → Bool
+is_no_blank c = not (is_blank c)
+
 -- what stands before a place of a line, and from there on
 abbrev pub around : List ℕ → List ℕ → Around
 around before from_here = record {
   sign = or_end (find is_apart (reverse before));
   before = or_end (slice_get (reverse before) 0);
+  ended = or_end (find is_no_blank (reverse before));
+  opened = found_behind (reverse before);
   here = or_end (slice_get from_here 0);
   behind = or_end (slice_get from_here 1);
   follows = or_end (find is_apart from_here);
@@ -33,6 +39,16 @@ around before from_here = record {
 abbrev pub is_comment : Around → Bool
 is_comment a = a.here == 35 || (a.here == 124 || a.here == 33) && a.before == 10 || a.here == 42 && a.before == 59
 
+-- the end of an element: of a name or number, of a literal, of a parenthesis or item
+abbrev pub ends_element : ℕ → Bool
+ends_element c = is_identifier_character c || is_quote c || c == 41 || c == 62
+
+-- a binary operator between blanks, behind an element: behind a subject there is none
+unfoldable pub is_behind_subject : Around → Bool
+is_behind_subject a =
+    (a.here == 43 || a.here == 45 || a.here == 42 || a.here == 47 || a.here == 124 || a.here == 46 || a.here == 36)
+    && a.before == 32 && a.behind == 32 && ends_element a.ended
+
 -- a token would fit with other blanks
 abbrev pub blank_cause : Around → Cause
 blank_cause a =
@@ -43,12 +59,14 @@ blank_cause a =
     else if a.here == 61 then cause.TightEquals  -- `A=B`
     else if a.here == 58 then cause.TightColon  -- `X:(L)`
     else if a.here == 60 && a.behind == 32 then cause.Comparison  -- `A < B`; an item would touch its variable
+    else if is_behind_subject a then cause.SubjectOfOne  -- `A * B P`
     else cause.OtherBlanks
 
 -- a sign that fits with no blanks
 abbrev pub sign_cause : Around → Cause
 sign_cause a =
-    if a.here == 44 then cause.Comma  -- `A<I,J>`
+    if a.here == 44 && a.opened == 40 then cause.Alternatives  -- `(A, B)`
+    else if a.here == 44 then cause.Comma  -- `A<I,J>`
     else if a.here == 91 || a.here == 93 then cause.SquareBracket  -- `A[I]`
     else if a.here == 60 || a.here == 62 then cause.Comparison  -- `A < B`
     else if a.here == 61 then cause.Assignment  -- `(A = B)`
@@ -57,6 +75,7 @@ sign_cause a =
     else if a.here == 32 || a.here == 59 || a.here == 10 then cause.EndsEarly  -- `(1 + 2`
     else if a.here == 41 then cause.NoneOpen  -- `1 + 2)`
     else if a.before == 10 then cause.FirstColumn
+    else if is_behind_subject a then cause.SubjectOfOne  -- `A / B P`
     else cause.Unexpected
 
 -- something fits with no blanks

@@ -41,7 +41,8 @@ instead_of_string_function name =
 -- all
 abbrev pub instead_of_function : List ℕ → Option Instead
 instead_of_function name =
-    if is_among name (codes "ARRAY COPY ITEM PROTOTYPE RSORT SORT") then Some instead.Table
+    if is_among name (codes "ARRAY COPY ITEM PROTOTYPE") then Some instead.Table
+    else if is_among name (codes "RSORT SORT") then Some instead.Sorting
     else if is_among name (codes "DATA FIELD") then Some instead.Fields
     else if is_among name (codes "APPLY ARG LOCAL OPSYN FUNCTION LABEL") then Some instead.ComputedGoto
     else if is_among name (codes "CODE EVAL") then Some instead.OwnFunction

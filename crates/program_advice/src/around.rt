@@ -1,6 +1,8 @@
 //! The characters around a place of a line.
 ghost use Rattle.std.specs.Prelude.{◌≡◌, find, reverse, slice_get, option_copied};
-ghost use Rattle.program_advice.specs.Causes.{or_end, is_apart, around};
+ghost use Rattle.program_advice.specs.Causes.{or_end, is_apart, is_no_blank, around};
+
+use crate::brackets::open_behind;
 
 /// What stands for a character that the line does not have.
 const END: u8 = b'\n';
@@ -12,6 +14,10 @@ pub struct Around {
     pub sign: u8,
     /// The last before the place.
     pub before: u8,
+    /// The last before the place that is no blank.
+    pub ended: u8,
+    /// The innermost `(` or `<` that is open at the place.
+    pub opened: u8,
     /// That at the place.
     pub here: u8,
     /// The next.
@@ -28,6 +34,8 @@ impl Around {
         Around {
             sign: last_apart(before),
             before: last(before),
+            ended: last_in_print(before),
+            opened: open_behind(before),
             here: or_end(from_here.first()),
             behind: or_end(from_here.get(1)),
             follows: first_apart(from_here),
@@ -46,6 +54,19 @@ fn last_apart(text: &[u8]) -> u8
     ensures { result ≡ or_end (find is_apart (reverse text.now)) }
 {
     or_end(text.iter().rev().find(|code| is_apart(**code)))
+}
+
+// The last character that is no blank.
+fn last_in_print(text: &[u8]) -> u8
+    ensures { result ≡ or_end (find is_no_blank (reverse text.now)) }
+{
+    or_end(text.iter().rev().find(|code| is_no_blank(**code)))
+}
+
+fn is_no_blank(code: u8) -> bool
+    ensures { result ≡ is_no_blank code }
+{
+    code != b' '
 }
 
 // The first such character.

@@ -1,7 +1,7 @@
 //! Why a program is refused, as far as the characters around the place tell.
 ghost use Rattle.std.specs.Prelude.{◌≡◌};
-ghost use Rattle.mon_text.specs.Characters.{is_quote};
-ghost use Rattle.program_advice.specs.Causes.{cause_of, blank_cause, unexpected_cause, sign_cause, variable_cause, is_comment};
+ghost use Rattle.mon_text.specs.Characters.{is_quote, is_identifier_character};
+ghost use Rattle.program_advice.specs.Causes.{cause_of, blank_cause, unexpected_cause, sign_cause, variable_cause, is_comment, is_behind_subject, ends_element};
 
 use crate::around::Around;
 use sno_cards::SyntaxCode;
@@ -31,8 +31,12 @@ pub enum Cause {
     TightEquals,
     /// `X:(L)`
     TightColon,
+    /// `A * B P`
+    SubjectOfOne,
     /// Another blank.
     OtherBlanks,
+    /// `(A, B)`
+    Alternatives,
     /// `A<I,J>`
     Comma,
     /// `A[I]`
@@ -92,12 +96,15 @@ impl Cause {
             Cause::QuoteInLiteral =>
                 "a literal has none of its own quotes: write \"it's\", and '\"' for one of the other kind",
             Cause::LaterThanVariables =>
-                "only a variable is evaluated later: P = F(X), and then *P, or test after the match; a product is A * F(X)",
+                "only a variable is evaluated later: P = F(X), and then *P, or call F behind the match; a product is A * F(X)",
             Cause::NotBinary =>
                 "it stands before one operand, which it touches; a match is S P, without a ?",
             Cause::TightEquals => "= has a blank on both sides",
             Cause::TightColon => "a goto has a blank before its :",
+            Cause::SubjectOfOne => "the subject is one element: write (A * B) P",
             Cause::OtherBlanks => "it would fit with other blanks around it",
+            Cause::Alternatives =>
+                "there is no (A,B): a statement for each, as X = A :S(GO), and then X = B",
             Cause::Comma => "only a call has commas: an item has one key, as A<I ',' J>",
             Cause::SquareBracket => "there are no square brackets: an item is T<E>",
             Cause::CodeGoto => "a goto has a label, or $ and what names one: there is no code",
@@ -165,9 +172,35 @@ fn blank_cause(around: Around) -> Cause
         Cause::TightColon
     } else if around.here == b'<' && around.behind == b' ' {
         Cause::Comparison
+    } else if is_behind_subject(around) {
+        Cause::SubjectOfOne
     } else {
         Cause::OtherBlanks
     }
+}
+
+// Whether a binary operator stands between blanks, behind an element.
+#[tactic(auto, unfolding(crate::specs::Causes::is_behind_subject))]
+fn is_behind_subject(around: Around) -> bool
+    ensures { result ≡ is_behind_subject around }
+{
+    matches!(around.here, b'+' | b'-' | b'*' | b'/' | b'|' | b'.' | b'$')
+        && around.before == b' '
+        && around.behind == b' '
+        && ends_element(around.ended)
+}
+
+// Whether a character may end an element.
+fn ends_element(code: u8) -> bool
+    ensures { result ≡ ends_element code }
+{
+    is_identifier_character(code) || is_quote(code) || code == b')' || code == b'>'
+}
+
+fn is_identifier_character(code: u8) -> bool
+    ensures { result ≡ is_identifier_character code }
+{
+    code.is_ascii_alphanumeric() || code == b'.' || code == b'_'
 }
 
 // Where something stands that fits with no blanks.
@@ -196,6 +229,7 @@ fn sign_cause(around: Around) -> Cause
     ensures { result ≡ sign_cause around }
 {
     match around.here {
+        b',' if around.opened == b'(' => Cause::Alternatives,
         b',' => Cause::Comma,
         b'[' | b']' => Cause::SquareBracket,
         b'<' | b'>' => Cause::Comparison,
@@ -205,6 +239,7 @@ fn sign_cause(around: Around) -> Cause
         b' ' | b';' | b'\n' => Cause::EndsEarly,
         b')' => Cause::NoneOpen,
         _ if around.before == b'\n' => Cause::FirstColumn,
+        _ if is_behind_subject(around) => Cause::SubjectOfOne,
         _ => Cause::Unexpected,
     }
 }

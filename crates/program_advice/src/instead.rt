@@ -8,6 +8,8 @@ ghost use Rattle.program_advice.specs.Substitutes.{instead_of_keyword, instead_o
 pub enum Instead {
     /// A table.
     Table,
+    /// A second table, with keys in order.
+    Sorting,
     /// A variable for each field.
     Fields,
     /// A computed goto.
@@ -73,10 +75,13 @@ impl Instead {
     pub fn text(self) -> &'static str {
         match self {
             Instead::Table => "write a table, A = TABLE(), and A<I ',' J> for A<I,J>",
+            Instead::Sorting =>
+                "write a second table of its keys, KEYS<I>: put each in its place as it comes, by LGT",
             Instead::Fields => "write a variable for each field, $(NAME '.AGE')",
             Instead::ComputedGoto => "write a computed goto, :($('DO.' NAME))",
             Instead::OwnFunction => "write a function of your own; only *V is evaluated later",
-            Instead::Conversion => "write REPLACE(V) for a string, +V for a number",
+            Instead::Conversion =>
+                "write REPLACE(V) for a string, +V for a number; for an array note a table's keys, in a string or a second table",
             Instead::Remainder => "write M - (M / N) * N",
             Instead::PaddingBefore => "write DUPL(' ',N - SIZE(S)) S, which fails if S is longer",
             Instead::PaddingBehind => "write S DUPL(' ',N - SIZE(S)), which fails if S is longer",
@@ -111,8 +116,10 @@ impl Instead {
 pub fn instead_of_function(name: &[u8]) -> Option<Instead>
     ensures { result ≡ instead_of_function name.now }
 {
-    if is_among(name, b"ARRAY COPY ITEM PROTOTYPE RSORT SORT") {
+    if is_among(name, b"ARRAY COPY ITEM PROTOTYPE") {
         Some(Instead::Table)
+    } else if is_among(name, b"RSORT SORT") {
+        Some(Instead::Sorting)
     } else if is_among(name, b"DATA FIELD") {
         Some(Instead::Fields)
     } else if is_among(name, b"APPLY ARG LOCAL OPSYN FUNCTION LABEL") {

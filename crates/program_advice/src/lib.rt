@@ -5,6 +5,7 @@
 #![tactic(auto)]
 
 pub mod around;
+pub mod brackets;
 pub mod cause;
 pub mod instead;
 

@@ -3,6 +3,7 @@
 #![tactic(auto)]
 
 pub mod loose_name;
+mod misuse;
 pub mod program;
 pub mod rows;
 pub mod source;

@@ -1,7 +1,8 @@
 //! Names in a program that lead nowhere: labels that a goto names and no statement has, functions that are called and that
 //! nobody defines, keywords and variables that other systems have, names of the language in small letters, items where there is no
-//! table, and functions that look called and are not.
+//! table, and functions that look called and are not; and names that the language has, used so that the statement fails.
 
+use crate::misuse::{Misuse, literal_at, misuse_at};
 use crate::rows::place_at;
 use crate::usage::{Usage, defined_by, is_named, name_at};
 use mon_text::{Line, Stop};
@@ -28,6 +29,14 @@ pub enum LooseKind {
     Variable,
     /// A function's name as a variable that is evaluated later, and a parenthesis behind a blank: no call of it.
     NotCalled,
+    /// A literal that names a file, as it seems, where INPUT and OUTPUT take a length.
+    File,
+    /// A function that is given `*V`, and needs its value.
+    LaterArgument,
+    /// `&STLIMIT`, set to less than 0.
+    Statements,
+    /// `&MAXLNGTH`, set to what is out of its range.
+    Characters,
 }
 
 /// A name that leads nowhere, and where it stands.
@@ -123,6 +132,10 @@ impl Known {
                     self.note_told(kind, name.as_bytes(), index)?;
                     let place = place_at(text, *offset);
                     loose.push(LooseName { kind, name, place })?;
+                } else if self.functions.find(name.as_bytes()).is_none() {
+                    if let Some(misuse) = misuse_at(read.tokens(), at, name.as_bytes(), usage) {
+                        loose.push(misused(self.alloc, text, &read, at, name, misuse)?)?;
+                    }
                 }
             }
         }
@@ -173,6 +186,30 @@ impl Known {
     fn is_function(&self, name: &[u8]) -> bool {
         is_named(name, Usage::Call) || self.functions.find(name).is_some()
     }
+}
+
+// A name of the language, at an index, that is misused so: what is told of it, and where.
+fn misused(
+    alloc: Global,
+    text: &StatementText,
+    read: &Tokens<'_>,
+    at: usize,
+    name: Line,
+    misuse: Misuse,
+) -> Result<LooseName, AllocError> {
+    let (kind, index) = match misuse {
+        Misuse::File(index) => (LooseKind::File, index),
+        Misuse::Later(index) => (LooseKind::LaterArgument, index),
+        Misuse::Statements => (LooseKind::Statements, at),
+        Misuse::Characters => (LooseKind::Characters, at),
+    };
+    let name = match (kind, literal_at(read.tokens(), index)) {
+        (LooseKind::File, Some(file)) => file.copy(alloc)?,
+        _ => name,
+    };
+    let offset = read.offsets().get(index).copied().unwrap_or(usize::MAX);
+    let place = place_at(text, offset);
+    Ok(LooseName { kind, name, place })
 }
 
 // The tokens of a statement, where they can be read.
