@@ -9,7 +9,8 @@ use Rattle.deck_reader.specs.Events.{refusal_in, event_in, open_after}
 use Rattle.deck_syntax.specs.Decks.{Asked}
 use Rattle.deck_syntax.specs.Sections.{Open, Closed, InList, InJob}
 use Rattle.preflight.specs.declared.why.Why.{Why}
-use Rattle.preflight.specs.Examined.{IsOwn, Verdict, Admits, Refuses, asks_of, refused_to, why_in, and_then, all_then, examined}
+use Rattle.preflight.specs.Examined.{IsOwn, Verdict, Admits, Refuses}
+use Rattle.preflight.specs.inner.Reading.{asks_of, refused_to, why_in, and_then, all_then, examined}
 use Rattle.preflight.proofs.Goes.{Goes, further, stepped}
 use Rattle.preflight.proofs.Verdicts.{none_both, is_own}
 
@@ -50,7 +51,7 @@ asked_own own event.Stops rest mine are = are
 some_none : {A : Type 0} (why : Why) → Some why ≡ None → A
 some_none why is = cc
 
-goes_on : (own : List ℕ) (e : Event) → refused_to own e ≡ None → e ≡ event.Stops → ⊥
+pub goes_on : (own : List ℕ) (e : Event) → refused_to own e ≡ None → e ≡ event.Stops → ⊥
 goes_on own event.Stops mine is = some_none _ mine
 goes_on own event.Nothing mine is = cc
 goes_on own (event.Opens account) mine is = cc

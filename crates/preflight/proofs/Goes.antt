@@ -8,7 +8,7 @@ use Rattle.deck_reader.proofs.Following.{by_event}
 use Rattle.deck_syntax.specs.Decks.{Cards, Asked}
 use Rattle.deck_syntax.specs.Sections.{Open, Closed, stream_section}
 use Rattle.deck_syntax.proofs.Shorthand.{goes_on}
-use Rattle.preflight.specs.Examined.{asks_of}
+use Rattle.preflight.specs.inner.Reading.{asks_of}
 
 -- the card that ends a deck
 abbrev pub stop : List ℕ

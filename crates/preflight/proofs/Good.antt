@@ -23,7 +23,8 @@ use Rattle.deck_syntax.specs.inner.Parts.{with_unit, with_program_line, program_
 use Rattle.deck_syntax.proofs.Shorthand.{goes_on}
 use Rattle.preflight.specs.declared.why.Why.{Why}
 use Rattle.preflight.specs.declared.why.Why.TheVariants.{Line}
-use Rattle.preflight.specs.Examined.{IsOwn, Admits, Refuses, asks_of, refused_to, why_in, all_then, examined}
+use Rattle.preflight.specs.Examined.{IsOwn, Admits, Refuses}
+use Rattle.preflight.specs.inner.Reading.{asks_of, refused_to, why_in, all_then, examined}
 use Rattle.preflight.proofs.Goes.{stop, Goes, with_asked, good_line, stepped}
 use Rattle.preflight.proofs.Verdicts.{all_admitted, not_foreign}
 
@@ -95,7 +96,7 @@ OpenIsOwn own (InList list) = list.account ≡ own
 OpenIsOwn own (InJob job) = job.account ≡ own
 
 -- a line of a job leaves its account
-same_account : (job : OpenJob) (line : List ℕ) → (after_job_line job line).account ≡ job.account
+pub same_account : (job : OpenJob) (line : List ℕ) → (after_job_line job line).account ≡ job.account
 same_account job line = by (is_job_card_line line)
   where
     by : (b : Bool) → (if b then with_unit job (unit_on (words line)) else with_program_line job (program_text line)).account ≡ job.account

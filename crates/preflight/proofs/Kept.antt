@@ -6,7 +6,8 @@ use Rattle.deck_syntax.specs.Decks.{Asked}
 use Rattle.deck_syntax.specs.Sections.{Closed}
 use Rattle.preflight.specs.declared.tally.Tally.{Tally}
 use Rattle.preflight.specs.declared.submission.Submission.{Submission}
-use Rattle.preflight.specs.Examined.{IsSubmission, Admits, examined}
+use Rattle.preflight.specs.Examined.{IsSubmission, Admits}
+use Rattle.preflight.specs.inner.Reading.{examined}
 use Rattle.preflight.specs.Submissions.{IsAdmitted, lines_of}
 use Rattle.preflight.specs.Tallies.{tally_of}
 use Rattle.preflight.proofs.Exactly.{admits_exactly}

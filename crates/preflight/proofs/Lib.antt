@@ -7,6 +7,9 @@ pub mod Written
 pub mod Composed
 pub mod Exactly
 pub mod Refusals
+pub mod Beginning
+pub mod FirstWrong
+pub mod Limited
 pub mod Tallying
 pub mod Reached
 pub mod Kept

@@ -12,7 +12,8 @@ use Rattle.preflight.specs.declared.tally.Tally.{Tally}
 use Rattle.preflight.specs.declared.why.Why.{Why}
 use Rattle.preflight.specs.declared.why.Refusal.{Refusal}
 use Rattle.preflight.specs.declared.why.Why.TheVariants.{Unfinished}
-use Rattle.preflight.specs.Examined.{Admits, Refuses, asks_of, why_in, all_then, at_end, examined}
+use Rattle.preflight.specs.Examined.{Admits, Refuses}
+use Rattle.preflight.specs.inner.Reading.{asks_of, why_in, all_then, at_end, examined}
 use Rattle.preflight.specs.Submissions.{IfStopped}
 use Rattle.preflight.specs.Tallies.{tally_of}
 use Rattle.preflight.specs.inner.Counts.{IsBelow, Counted, refusal_at, ended}

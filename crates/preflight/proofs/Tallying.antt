@@ -17,7 +17,7 @@ use Rattle.preflight.specs.declared.intake.Counts.{Counts}
 use Rattle.preflight.specs.Tallies.{jobs_of, creates, statements_of, work_of, more_work, tally_of}
 use Rattle.deck_reader.specs.declared.stream_reader.Event.{Event}
 use Rattle.deck_reader.specs.declared.stream_reader.Event.TheVariants as event
-use Rattle.preflight.specs.Examined.{asks_of}
+use Rattle.preflight.specs.inner.Reading.{asks_of}
 use Rattle.preflight.specs.inner.Counts.{IsBelow, Counted, one_line, one_creation, one_job}
 
 jobs_append : (xs ys : List Asked) → jobs_of (xs ++ ys) ≡ jobs_of xs ++ jobs_of ys

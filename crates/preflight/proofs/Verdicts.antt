@@ -7,7 +7,8 @@ use Rattle.deck_lines.specs.declared.deck_error.DeckError.{DeckError}
 use Rattle.deck_syntax.specs.Decks.{Asked}
 use Rattle.preflight.specs.declared.why.Why.{Why}
 use Rattle.preflight.specs.declared.why.Why.TheVariants.{Line, Foreign}
-use Rattle.preflight.specs.Examined.{Verdict, Admits, Refuses, and_then, all_then, foreign}
+use Rattle.preflight.specs.Examined.{Verdict, Admits, Refuses}
+use Rattle.preflight.specs.inner.Reading.{and_then, all_then, foreign}
 
 pub both_then : (xs ys : List Asked) (v : Verdict) → all_then xs (all_then ys v) ≡ all_then (xs ++ ys) v
 both_then [] ys v = refl

@@ -1,18 +1,15 @@
--- Which texts an account may hand in (own): the cards that they spell, or the first line that is wrong.
-use Rattle.std.specs.Prelude.{◌≡◌, ℕ, ◌+◌, List, [], ◌∷◌, Option, Some, None, option_map, if◌then◌else◌, bytes_eq}
-use Rattle.std.specs.Option.{option_or, option_map_or}
+-- Which texts an account may hand in (own); and of any other, which line is the first that is wrong, and why.
+use Rattle.std.specs.Prelude.{◌≡◌, ◌≤◌, ◌+◌, ◌-◌, ℕ, List, ◌++◌, length, take}
 use Rattle.std.specs.List.{AllByRecursion}
 use Rattle.deck_lines.specs.Commands.{account_of}
-use Rattle.deck_reader.specs.declared.stream_reader.Event.{Event}
-use Rattle.deck_reader.specs.declared.stream_reader.Event.TheVariants as event
-use Rattle.deck_reader.specs.Events.{refusal_in, event_in, open_after}
-use Rattle.deck_syntax.specs.Decks.{Asked, Commands, Enters, Gives, Drains}
-use Rattle.deck_syntax.specs.Sections.{Open, Closed, InList, InJob}
+use Rattle.deck_lines.specs.declared.deck_error.DeckError.TheVariants.{Truncated}
+use Rattle.deck_syntax.specs.Decks.{Asked, Commands, Enters, Gives, Drains, Ending, Stopped, Refused}
+use Rattle.deck_syntax.specs.Sections.{Closed, stream_section}
 use Rattle.deck_syntax.specs.Spelling.{SpellsStream}
 use Rattle.preflight.specs.declared.why.Why.{Why}
 use Rattle.preflight.specs.declared.why.Why.TheVariants.{Line, Foreign, Stops, Unfinished}
 
--- ---- the relation
+-- ---- texts that an account may hand in
 
 -- what is asked is asked for this account
 abbrev pub IsOwn : List ℕ → Asked → Type 0
@@ -26,54 +23,44 @@ pub record IsSubmission (own : List ℕ) (lines : List (List ℕ)) (asked : List
   pub spelled : SpellsStream lines asked
   pub are_own : AllByRecursion (IsOwn own) asked
 
--- ---- the first fault
+-- ---- the first line that is wrong
 
--- what a line asks for, by what it brings
-abbrev pub asks_of : Event → List Asked
-asks_of (event.Asks command) = Commands command ∷ []
-asks_of (event.Enters job) = Enters job ∷ []
-asks_of (event.Turns turn) = Gives turn ∷ []
-asks_of event.Drains = Drains ∷ []
-asks_of _ = []
+-- the lines before number n, and some behind them, are a text that the account may hand in
+pub record BeginsGood (own : List ℕ) (n : ℕ) (ls : List (List ℕ)) : Type 0 where
+  pub counted : 1 ≤ n
+  pub rest : List (List ℕ)
+  pub asked : List Asked
+  pub good : IsSubmission own (take (n - 1) ls ++ rest) asked
 
--- a card of another account is refused, and the deck's end
-abbrev pub foreign : List ℕ → List ℕ → Option Why
-foreign own account = if bytes_eq account own then None else Some Foreign
+-- the lines up to number n are there, and no text that begins with them is one that the account may hand in
+pub record NeverGood (own : List ℕ) (n : ℕ) (ls : List (List ℕ)) : Type 0 where
+  pub within : n ≤ length ls
+  pub whatever_follows : (more : List (List ℕ)) (asked : List Asked) → IsSubmission own (take n ls ++ more) asked → ⊥
 
-abbrev pub refused_to : List ℕ → Event → Option Why
-refused_to own (event.Opens account) = foreign own account
-refused_to own (event.Asks command) = foreign own (account_of command)
-refused_to own (event.Enters job) = foreign own job.account
-refused_to own event.Stops = Some Stops
-refused_to own _ = None
+-- how a deck ends whose stream has these lines and no others
+abbrev pub stream_ending : List (List ℕ) → Ending
+stream_ending ls = (stream_section 1 Closed ls).ending
 
--- why a line is refused where this is open
-abbrev pub why_in : List ℕ → Open → List ℕ → Option Why
-why_in own pending line = option_or (option_map Line (refusal_in pending line)) (refused_to own (event_in pending line))
+-- What is wrong with line n, by how a deck's stream of the lines up to it ends: it is refused there, or has come to its `$STOP`, or
+-- wants more lines, and so is good but for the account. Behind the last line: these are no whole text.
+abbrev pub IsWrong : List ℕ → ℕ → List (List ℕ) → Why → Type 0
+IsWrong own n ls (Line code) = NeverGood own n ls × (stream_ending (take n ls) ≡ Refused n code)
+IsWrong own n ls Stops = NeverGood own n ls × (stream_ending (take n ls) ≡ Stopped)
+IsWrong own n ls Foreign = NeverGood own n ls × (stream_ending (take n ls) ≡ Refused (n + 1) Truncated)
+IsWrong own n ls Unfinished = (n ≡ length ls + 1) × ((asked : List Asked) → IsSubmission own ls asked → ⊥)
 
--- a text is admitted for what it asks, or refused at a line
+-- line n is the first that is wrong, and this is wrong with it
+pub record IsFirstWrong (own : List ℕ) (n : ℕ) (ls : List (List ℕ)) (why : Why) : Type 0 where
+  pub begins : BeginsGood own n ls
+  pub wrong : IsWrong own n ls why
+
+-- ---- what is said of a text
+
+-- it is admitted for what it asks, or refused at a line
 pub data Verdict : Type 0 where
   Admits : List Asked → Verdict
   Refuses : ℕ → Why → Verdict
 
--- this is asked before
-abbrev pub and_then : Asked → Verdict → Verdict
-and_then one (Admits asked) = Admits (one ∷ asked)
-and_then one (Refuses n why) = Refuses n why
-
-abbrev pub all_then : List Asked → Verdict → Verdict
-all_then [] v = v
-all_then (one ∷ asked) v = and_then one (all_then asked v)
-
--- behind the last line nothing may be open
-abbrev pub at_end : ℕ → Open → Verdict
-at_end n Closed = Admits []
-at_end n (InList list) = Refuses n Unfinished
-at_end n (InJob job) = Refuses n Unfinished
-
--- the lines from number n on, where this is open
-abbrev pub examined : List ℕ → ℕ → Open → List (List ℕ) → Verdict
-examined own n pending [] = at_end n pending
-examined own n pending (line ∷ lines) =
-    option_map_or (Refuses n) (why_in own pending line)
-    (all_then (asks_of (event_in pending line)) (examined own (n + 1) (open_after pending line) lines))
+abbrev pub IsVerdict : List ℕ → List (List ℕ) → Verdict → Type 0
+IsVerdict own ls (Admits asked) = IsSubmission own ls asked
+IsVerdict own ls (Refuses n why) = IsFirstWrong own n ls why

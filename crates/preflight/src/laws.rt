@@ -1,15 +1,16 @@
 //! Laws over texts that are handed in: each function's contract is one, and its body is empty.
-ghost use Rattle.preflight.specs.Laws.{AdmitsExactly, NeverRefused, RefusalsStand};
+ghost use Rattle.preflight.specs.Laws.{LimitsAreTold, NeverRefused, OneVerdict};
 
-/// A text is admitted exactly where it spells whole cards of its account, and for what it spells.
-pub fn admits_exactly()
-    ensures { AdmitsExactly }
+/// Each text is one that its account may hand in, or one line of it is the first that is wrong, for one reason: the lines before it
+/// begin a text that the account may hand in, and no such text begins with the lines up to it. That line is the one behind the last
+/// where the text ends too early.
+pub fn one_verdict()
+    ensures { OneVerdict }
 {}
 
-/// A text that is not admitted is refused for the first line that is wrong: no text that begins with the lines up to it is
-/// admitted. The exception is a text that ends too early.
-pub fn refusals_stand()
-    ensures { RefusalsStand }
+/// What is handed in breaks no limit exactly where each number is within its own, and the limit that is told is one that is broken.
+pub fn limits_are_told()
+    ensures { LimitsAreTold }
 {}
 
 /// A deck of admitted texts, over a catalogue as it is written, is good: none of its lines is refused.

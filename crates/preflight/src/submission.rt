@@ -2,8 +2,7 @@
 ghost use Rattle.std.specs.Prelude.{◌≡◌, List, IfOk, IfErr};
 ghost use Rattle.std.specs.Str.Lines.{lines};
 ghost use Rattle.deck_syntax.specs.Decks.{Asked};
-ghost use Rattle.deck_syntax.specs.Sections.{Closed};
-ghost use Rattle.preflight.specs.Examined.{Refuses, examined};
+ghost use Rattle.preflight.specs.Examined.{IsFirstWrong};
 ghost use Rattle.preflight.specs.Submissions.{IfStopped, IsAdmitted, lines_of};
 
 use crate::intake::count;
@@ -34,7 +33,7 @@ pub fn examine(alloc: Global, own: &Name, text: &[u8]) -> Result<Submission, Sto
     ensures admitted { IfOk result (λ kept. (asked : List Asked) × IsAdmitted kept asked) }
     ensures account { IfOk result (λ kept. kept.account ≡ own.now) }
     ensures lines { IfOk result (λ kept. lines_of kept ≡ lines text.now) }
-    ensures refused { IfErr result (IfStopped (λ refusal. examined own.now 1 Closed (lines text.now) ≡ Refuses refusal.line refusal.why)) }
+    ensures refused { IfErr result (IfStopped (λ refusal. IsFirstWrong own.now refusal.line (lines text.now) refusal.why)) }
 {
     let counted = count(alloc, own, text)?;
     let whole = whole_lines(alloc, text)?;

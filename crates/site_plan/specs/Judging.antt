@@ -1,12 +1,11 @@
 -- What becomes of a claimed file (own): its text runs, or its user is told why not: what was found in its place, else the
 -- first line that is wrong, else the limit that the account would break.
-use Rattle.std.specs.Prelude.{◌≡◌, ℕ, List, [], ◌∷◌, length, Option, Some, None, if◌then◌else◌, bytes_eq}
+use Rattle.std.specs.Prelude.{◌≡◌, ℕ, List, [], ◌∷◌, ◌++◌, length, Option, Some, None, if◌then◌else◌, bytes_eq}
 use Rattle.std.specs.Option.{option_or}
 use Rattle.std.specs.Str.Lines.{lines}
-use Rattle.deck_syntax.specs.Sections.{Closed}
 use Rattle.preflight.specs.declared.submission.Submission.{Submission}
 use Rattle.preflight.specs.declared.tally.Tally.{Tally}
-use Rattle.preflight.specs.Examined.{Verdict, Admits, Refuses, examined}
+use Rattle.preflight.specs.Examined.{Verdict, Admits, Refuses, IsVerdict}
 use Rattle.preflight.specs.Tallies.{tally_of}
 use Rattle.site_plan.specs.declared.taken.Taken.{Taken}
 use Rattle.site_plan.specs.declared.claimed.Found.{Found}
@@ -43,19 +42,27 @@ abbrev pub weighed_by : Option Desk → Tally → Option Reason
 weighed_by None tally = Some reason.NotOwn
 weighed_by (Some desk) tally = weighed desk.limits desk.handed tally
 
--- why one does not run that has these lines, and is examined so
+-- why one does not run that has these lines, where this is said of them
 abbrev pub why_examined : List ℕ → List Desk → List (List ℕ) → Verdict → Option Reason
 why_examined own desks lines (Refuses n why) = Some (reason.Line (record { line = n; why = why }))
 why_examined own desks lines (Admits asked) = weighed_by (desk_of own desks) (tally_of asked (length (ended_lines lines)))
 
--- why a file of this account does not run, if it does not
-abbrev pub why_not : List ℕ → List Desk → Found → Option Reason
-why_not own desks found = option_or (no_text found) (why_examined own desks (lines (text_in found)) (examined own 1 Closed (lines (text_in found))))
+-- why a file of this account does not run, if it does not, where this is said of its text
+abbrev pub why_not : List ℕ → List Desk → Found → Verdict → Option Reason
+why_not own desks found verdict = option_or (no_text found) (why_examined own desks (lines (text_in found)) verdict)
 
 -- a text of the account that was admitted: what is left is to weigh it
 pub record IsWeighedAs (own : List ℕ) (found : Found) (submission : Submission) : Type 0 where
   pub own_is : submission.account ≡ own
-  pub weighs : (desks : List Desk) → why_not own desks found ≡ weighed_by (desk_of own desks) submission.tally
+  pub verdict : Verdict
+  pub is_verdict : IsVerdict own (lines (text_in found)) verdict
+  pub weighs : (desks : List Desk) → why_not own desks found verdict ≡ weighed_by (desk_of own desks) submission.tally
+
+-- a file that does not run for this reason, whatever its account has handed in
+pub record IsRefusedFor (own : List ℕ) (found : Found) (why : Reason) : Type 0 where
+  pub verdict : Verdict
+  pub is_verdict : IsVerdict own (lines (text_in found)) verdict
+  pub refuses : (desks : List Desk) → why_not own desks found verdict ≡ Some why
 
 -- ---- what users are told
 
@@ -70,3 +77,9 @@ told text = record { taken = text.taken; file = text.file.items; reply = text.re
 abbrev pub told_for : Taken → List ℕ → Found → Option Reason → List Told
 told_for taken file found None = []
 told_for taken file found (Some why) = record { taken = taken; file = file; reply = reply_text file taken.account why (text_in found) } ∷ []
+
+-- what users are told of a file comes behind what they were told, by what is said of its text
+pub record IsJudged (taken : Taken) (file : List ℕ) (found : Found) (desks : List Desk) (before after : List Told) : Type 0 where
+  pub verdict : Verdict
+  pub is_verdict : IsVerdict taken.account (lines (text_in found)) verdict
+  pub tells : after ≡ before ++ told_for taken file found (why_not taken.account desks found verdict)

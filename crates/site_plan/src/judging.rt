@@ -1,8 +1,7 @@
 //! Which of the claimed texts run, and why the others do not.
-ghost use Rattle.std.specs.Prelude.{◌≡◌, ◌++◌, Some, None, List, map, option_map, IfOk, IfErr, IfSome, OnOk};
-ghost use Rattle.site_plan.specs.declared.desk.Desk.{Desk as AnyDesk};
+ghost use Rattle.std.specs.Prelude.{◌≡◌, ◌++◌, Some, None, map, option_map, IfOk, IfErr, IfSome, OnOk};
 ghost use Rattle.site_plan.specs.Weighing.{weighed};
-ghost use Rattle.site_plan.specs.Judging.{desk_of, weighed_by, no_text, text_in, why_not, IsWeighedAs, told, told_for};
+ghost use Rattle.site_plan.specs.Judging.{desk_of, weighed_by, no_text, text_in, IsWeighedAs, IsRefusedFor, told, told_for, IsJudged};
 
 use crate::claimed::{Claimed, Found};
 use crate::desk::Desk;
@@ -61,9 +60,10 @@ impl Judged {
     /// # Errors
     ///
     /// Where a growth was refused.
+    #[tactic(auto, using(crate::proofs::Verdicts::told_refused))]
     pub fn judge(&mut self, alloc: Global, claimed: Claimed) -> Result<(), AllocError>
-        ensures { OnOk result (map told self.new.refused.items ≡ map told self.old.refused.items
-            ++ told_for claimed.taken claimed.file.items claimed.found (why_not claimed.taken.account self.old.desks.items claimed.found)) }
+        ensures { OnOk result (IsJudged claimed.taken claimed.file.items claimed.found self.old.desks.items
+            (map told self.old.refused.items) (map told self.new.refused.items)) }
     {
         let Claimed { taken, file, found } = claimed;
         match text_of(alloc, &taken.account, &found)? {
@@ -103,13 +103,14 @@ fn add_desk(
 }
 
 // The text of a file that its account may hand in, or why there is none.
+#[tactic(auto, using(crate::proofs::Verdicts::refused_unread))]
 fn text_of(
     alloc: Global,
     account: &Name,
     found: &Found,
 ) -> Result<Result<Submission, Reason>, AllocError>
     ensures admitted { IfOk result (λ text. IfOk text (IsWeighedAs account.now found.now)) }
-    ensures refused { IfOk result (λ text. IfErr text (λ reason. (desks : List AnyDesk) → why_not account.now desks found.now ≡ Some reason)) }
+    ensures refused { IfOk result (λ text. IfErr text (IsRefusedFor account.now found.now)) }
 {
     match no_text(found) {
         Some(reason) => Ok(Err(reason)),
@@ -118,6 +119,7 @@ fn text_of(
 }
 
 // The same of a file whose bytes were read.
+#[tactic(auto, using(crate::proofs::Verdicts::refused_at))]
 fn examined_text(
     alloc: Global,
     account: &Name,
@@ -125,7 +127,7 @@ fn examined_text(
 ) -> Result<Result<Submission, Reason>, AllocError>
     requires { no_text found.now ≡ None }
     ensures admitted { IfOk result (λ text. IfOk text (IsWeighedAs account.now found.now)) }
-    ensures refused { IfOk result (λ text. IfErr text (λ reason. (desks : List AnyDesk) → why_not account.now desks found.now ≡ Some reason)) }
+    ensures refused { IfOk result (λ text. IfErr text (IsRefusedFor account.now found.now)) }
 {
     match examine(alloc, account, text_in(found)) {
         Ok(submission) => Ok(Ok(submission)),
@@ -157,6 +159,7 @@ fn text_in(found: &Found) -> &[u8]
 }
 
 // A text that its account may hand in runs, unless a limit stops it.
+#[tactic(auto, using(crate::proofs::Verdicts::told_weighed, crate::proofs::Verdicts::told_nothing))]
 fn judge_text(
     alloc: Global,
     judged: &mut Judged,
@@ -166,8 +169,7 @@ fn judge_text(
     submission: Submission,
 ) -> Result<(), AllocError>
     requires { IsWeighedAs taken.account found.now submission }
-    ensures { OnOk result (map told judged.new.refused.items ≡ map told judged.old.refused.items
-        ++ told_for taken file.items found.now (why_not taken.account judged.old.desks.items found.now)) }
+    ensures { OnOk result (IsJudged taken file.items found.now judged.old.desks.items (map told judged.old.refused.items) (map told judged.new.refused.items)) }
 {
     let runs = Runs {
         taken,

@@ -9,7 +9,8 @@ use Rattle.deck_syntax.specs.Decks.{Asked}
 use Rattle.deck_syntax.specs.Sections.{Open, Closed, InList, InJob}
 use Rattle.preflight.specs.declared.why.Why.{Why}
 use Rattle.preflight.specs.declared.why.Why.TheVariants.{Line}
-use Rattle.preflight.specs.Examined.{IsSubmission, Verdict, Admits, Refuses, asks_of, refused_to, why_in, and_then, all_then, at_end, examined}
+use Rattle.preflight.specs.Examined.{IsSubmission, Verdict, Admits, Refuses}
+use Rattle.preflight.specs.inner.Reading.{asks_of, refused_to, why_in, and_then, all_then, at_end, examined}
 use Rattle.preflight.proofs.Exactly.{admits_exactly}
 use Rattle.text_names.specs.declared.reading.Found.{Found}
 use Rattle.text_names.specs.Names.{names_of, is_of_all, names_in, asks_all, Speaks}

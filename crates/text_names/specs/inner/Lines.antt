@@ -2,7 +2,7 @@
 use Rattle.std.specs.Prelude.{◌≡◌, ℕ, ◌++◌, ◌||◌, Bool, List}
 use Rattle.deck_reader.specs.declared.stream_reader.Event.{Event}
 use Rattle.deck_syntax.specs.Sections.{Open}
-use Rattle.preflight.specs.Examined.{asks_of}
+use Rattle.preflight.specs.inner.Reading.{asks_of}
 use Rattle.text_names.specs.Names.{names_in, asks_all}
 use Rattle.text_names.specs.declared.reading.Found.{Found}
 

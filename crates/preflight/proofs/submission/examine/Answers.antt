@@ -1,7 +1,15 @@
 use Rattle.std.proofs.Common.{◌≡◌, ℕ, length, ap, ◌∙◌}
+use Rattle.std.specs.Str.Lines.{lines}
+use Rattle.std.proofs.lemmas.Result.{err_from_is_err_and}
 use Rattle.preflight.specs.declared.tally.Tally.{Tally}
+use Rattle.preflight.proofs.FirstWrong.{wrong_answer}
 use Rattle.preflight.proofs.Kept.{kept_lines, is_kept}
 use Rattle.preflight.proofs.submission.examine.Goals as goal
+
+pub returns-in_err-counted-clause-refused : goal.returns-in_err-counted-clause-refused
+returns-in_err-counted-clause-refused c =
+    let p = err_from_is_err_and c.from_residual.result c.from_residual.ensures.1 in
+    wrong_answer c.args.own.now (lines c.args.text.now) c.from_residual.result p.0 c.in_err-counted.field-0.0 p.1 p.2 c.in_err-counted.ensures.refused
 
 pub returns-clause-admitted : goal.returns-clause-admitted
 returns-clause-admitted c =
