@@ -29,6 +29,8 @@ mod memory;
 #[cfg(test)]
 mod monitor;
 #[cfg(test)]
+mod options;
+#[cfg(test)]
 mod syntax;
 #[cfg(test)]
 mod values;

@@ -1,0 +1,9 @@
+mod Examples
+mod Matched
+mod Numbers
+mod Taken
+mod Words
+mod Before
+mod Kept
+mod Moved
+mod Told

@@ -1,0 +1,48 @@
+-- What is told: one line, or two, one behind the other.
+use Rattle.std.proofs.Common.{◌≡◌, List, ℕ, ◌++◌, Option, Some, None, Result, Ok, Err, OnOk, sym, ap, subst, ◌∙◌, append_assoc, refl, arith}
+use Rattle.std.specs.Prelude.{IfErr}
+use Rattle.std.specs.Io.KnownBytes.{Appends}
+use Rattle.deck_driver.specs.declared.fault.RunError.{RunError}
+use Rattle.deck_driver.specs.declared.fault.RunError.TheVariants.{DeckRefused, ReadFault, WriteFault, AuditFault, Memory}
+use Rattle.deck_driver.specs.declared.options.Counts.{Counts}
+use Rattle.deck_run.specs.Faults.{status_of, fault_line, shortage_line}
+use Rattle.deck_run.specs.declared.shortage.Shortage.{Shortage}
+use Rattle.snomon_library.specs.Endings.{told_of}
+
+appended : (before mid after : Option (List ℕ)) (first second : List ℕ) → Appends before mid first → Appends mid after second → Appends before after (first ++ second)
+appended None mid after first second one two = tt
+appended (Some xs) None after first second one two = absurd one
+appended (Some xs) (Some ys) None first second one two = absurd two
+appended (Some xs) (Some ys) (Some zs) first second one two = two ∙ ap (λ v. v ++ second) one ∙ append_assoc xs first second
+
+-- memory ran out, and it is given how far the run had come
+pub both_told : {T E : Type 0} (result : Result T E) (before mid after : Option (List ℕ)) (fault : RunError) (given : Option Shortage) (shortage : Shortage)
+    → fault ≡ Memory → given ≡ Some shortage → Appends before mid (fault_line fault) → OnOk result (Appends mid after (shortage_line shortage))
+    → OnOk result (Appends before after (told_of fault given))
+both_told (Err error) before mid after fault given shortage is has one two = tt
+both_told (Ok x) before mid after fault given shortage is has one two =
+    subst (λ (f : RunError). Appends before after (told_of f given)) (sym is)
+    (subst (λ (g : Option Shortage). Appends before after (told_of Memory g)) (sym has)
+    (appended before mid after (fault_line Memory) (shortage_line shortage) (subst (λ (f : RunError). Appends before mid (fault_line f)) is one) two))
+
+-- it was another fault than want of memory
+pub fault_told : (fault : RunError) (given : Option Shortage) → (fault ≡ Memory → ⊥) → told_of fault given ≡ fault_line fault
+fault_told (DeckRefused line code) given other = refl
+fault_told ReadFault given other = refl
+fault_told WriteFault given other = refl
+fault_told AuditFault given other = refl
+fault_told Memory given other = absurd (other refl)
+
+-- a run never ends with the status of words that are refused
+pub never_two : (outcome : Result Counts RunError) → status_of outcome ≡ 2 → ⊥
+never_two (Ok counts) e = absurd (omega (arith, e))
+never_two (Err (DeckRefused line code)) e = absurd (omega (arith, e))
+never_two (Err ReadFault) e = absurd (omega (arith, e))
+never_two (Err WriteFault) e = absurd (omega (arith, e))
+never_two (Err AuditFault) e = absurd (omega (arith, e))
+never_two (Err Memory) e = absurd (omega (arith, e))
+
+-- what holds whatever went wrong
+pub each_err : {T E : Type 0} (result : Result T E) (P : E → Type 0) → ((error : E) → P error) → IfErr result P
+each_err (Ok x) P all = tt
+each_err (Err error) P all = all error
