@@ -162,7 +162,7 @@ class Plan:
         return parts
 
 
-def plan(deck: Survey, most: int, slots: int) -> Plan:
+def plan(deck: Survey, most: int, slots: int, tells_ties: bool = False) -> Plan:
     groups, notes = Groups(), []
     for card in deck.cards:
         if isinstance(card, Job):
@@ -174,6 +174,8 @@ def plan(deck: Survey, most: int, slots: int) -> Plan:
         if clash is not None and is_kept and len({groups.of(job.line) for job in jobs}) > 1:
             groups.join([job.line for job in jobs])
             notes.append(_told_of_kept(deck, clash, jobs, slots))
+    if tells_ties:
+        notes.extend(_told_of_ties(deck))
     count, part_of = _packed(deck, groups, most)
     everywhere = tuple(range(count))
     by_line: Dict[int, Tuple[int, ...]] = {data_set.line: (part_of[groups.of(data_set.name)],) for data_set in deck.sets}
@@ -189,6 +191,18 @@ def _told_of_kept(deck: Survey, clash: Clash, jobs: List[Job], slots: int) -> st
     between = f'more jobs than the {counted(slots, "slot")}' if len(jobs) > slots else '$TURN cards'
     return (f'{deck.name}: lines {jobs[0].line} to {jobs[-1].line}: {clash.told()}, with {between} and no $DRAIN between; '
             f'so the {counted(len(jobs), "job")} there stay in one deck')
+
+
+def _told_of_ties(deck: Survey) -> Iterator[str]:
+    """The data sets that several jobs are tied to, those with the most jobs first."""
+    jobs = [card for card in deck.cards if isinstance(card, Job)]
+    tied: Dict[bytes, int] = {}
+    for job in jobs:
+        for name in dict.fromkeys(job.ties):
+            tied[name] = tied.get(name, 0) + 1
+    for name in sorted(tied, key=lambda name: -tied[name]):
+        if tied[name] > 1:
+            yield f'{deck.name}: {shown(name)} keeps {tied[name]} of {counted(len(jobs), "job")} in one deck'
 
 
 def _told_of_catalog(deck: Survey, count: int) -> Iterator[str]:
@@ -235,12 +249,12 @@ def _placed(stretch: Stretch, groups: Groups, part_of: Dict[Node, int],
             yield card.line, tuple(of_jobs) if len(of_jobs) == 1 else ()
 
 
-def split_deck(path: str, folder: str, most: int, slots: int) -> Tuple[List[str], List[str]]:
+def split_deck(path: str, folder: str, most: int, slots: int, tells_ties: bool = False) -> Tuple[List[str], List[str]]:
     """Fills the folder with the decks, and with the file that `join` needs: the decks' paths, and what there is to tell."""
     _refuse_older_decks(folder)
     with opened_twice(path) as file:
         deck = survey(Lines(path, file))
-        planned = plan(deck, most, slots)
+        planned = plan(deck, most, slots, tells_ties)
         file.seek(0)
         with filled(folder) as room:
             _write_cards(deck, planned, room)

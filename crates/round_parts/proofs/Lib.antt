@@ -1,0 +1,4 @@
+pub mod Spoken
+pub mod Picked
+pub mod Audited
+pub mod Whole
