@@ -154,9 +154,10 @@ class Course:
         keeper = plain(head.text('who')) if head.kind == 'EDIT' else None
         text = head.number('number') if 'number' in head.fields else None
         try:
+            time = time_of(head.number('time'))
             for record in (head, *commit.changes):
                 for what in TOLD_BY[record.kind](self, record, text):
-                    yield Happened(commit, time_of(record.number('time')), keeper, what)
+                    yield Happened(commit, time, keeper, what)
         except Refused as fault:
             raise Refused(f'{commit.path}: {fault}') from fault
         if text is not None and head.kind != 'TOOK':
@@ -185,13 +186,15 @@ class Course:
         number = record.number('number')
         yield Ended(number, self.known.waiting.get(number), 0, plain(record.text('reason')), plain_lines(record.text('reply')))
 
-    def audit(self, record: Record, _: Text) -> Iterator[What]:
+    def audit(self, record: Record, text: Text) -> Iterator[What]:
+        if text is None:
+            raise Refused('it has an audit, and no text ran')
         told: 'Counter[Line]' = Counter()
         for piece in _pieces(record.fields['lines']):
             if not self.shapes.are_of(piece):
                 raise _bad_line(record.text('lines'))
             told.update(map(_asked, piece.decode('latin-1')[:-1].split('\n')))
-        yield Asked(record.number('number'), told)
+        yield Asked(text, told)
 
     def keep(self, record: Record, text: Text) -> Iterator[What]:
         before, kept, records = self._head(record), record.number('first'), records_of(record)

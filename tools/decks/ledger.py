@@ -2,7 +2,8 @@
 
 What a text of fields is, and which fields a record has, is defined in crates/ledger_text/specs (Text, Records); what a commit has, in
 crates/ledger_run/specs (Meaning); how the files are called, in crates/ledger_disk/src. A commit has three fields: the digest of the one
-before it, a record, and what that changed: nothing, or the text of fields each of which is a record."""
+before it, a record, and what that changed: nothing, or the text of fields each of which is a record. When it was, and of which text, the
+record of the commit says: one in a change says neither."""
 from __future__ import annotations
 
 import hashlib
@@ -25,6 +26,7 @@ KINDS = {kind: tuple(fields.split()) for kind, fields in {
     'EDIT': 'time who act'}.items()}
 NUMBERS = frozenset(('time', 'number', 'uid', 'first', 'last', 'count'))
 OF_CHANGES = frozenset(('AUDIT', 'KEEP', 'SET', 'GONE'))  # the kinds that stand in a change, and nowhere else
+ANYWHERE = frozenset(('TABLES',))                         # and those that do there too
 
 Field = memoryview
 
@@ -77,7 +79,7 @@ def record_of(text: Field) -> Optional[Record]:
 
 def _record(path: str, text: Field, is_of_change: bool) -> Record:
     record = record_of(text)
-    if record is None or (record.kind in OF_CHANGES) != is_of_change:
+    if record is None or (record.kind in OF_CHANGES) != is_of_change and record.kind not in ANYWHERE:
         raise Refused(f'{path}: no {"change" if is_of_change else "record"} is so: {shown(bytes(text[:40]))!r}')
     return record
 

@@ -4,11 +4,10 @@ use Rattle.std.specs.Prelude.{◌≡◌, ◌↔◌, ◌≤◌, ℕ, Bool, true, 
 use Rattle.std.specs.Option.{option_map_or}
 use Rattle.std.specs.Str.Lines.{lines}
 use Rattle.deck_syntax.specs.Decks.{Asked}
-use Rattle.deck_syntax.specs.Sections.{Closed}
 use Rattle.preflight.specs.declared.quota.HandedIn.{HandedIn}
 use Rattle.preflight.specs.declared.tally.Tally.{Tally}
 use Rattle.preflight.specs.Allowances.{with_text}
-use Rattle.preflight.specs.Examined.{IsSubmission, Verdict, Admits, Refuses as RefusesLine, examined}
+use Rattle.preflight.specs.Examined.{IsSubmission, Verdict, Admits, Refuses as RefusesLine, IsVerdict}
 use Rattle.preflight.specs.Tallies.{tally_of}
 use Rattle.site_plan.specs.declared.reason.Reason.{Reason}
 use Rattle.site_plan.specs.declared.reason.Reason.TheVariants as reason
@@ -50,25 +49,36 @@ text_for account ls = account ++ 10 ∷ ended_lines ls
 abbrev pub refused : Owner → List ℕ → List ℕ → Reason → Decided
 refused owner name bytes why = Refuses (reply_text name owner.account why bytes)
 
--- of a text that is examined so
+-- of a text that its account may hand in
 abbrev pub weighed_text : Owner → List ℕ → List ℕ → Tally → Decided
 weighed_text owner name bytes tally =
     option_map_or (refused owner name bytes) (weighed owner.quota owner.handed tally) (Takes (text_for owner.account (lines bytes)) tally)
 
+-- of one of which this is said
 abbrev pub decided_by : Owner → List ℕ → List ℕ → Verdict → Decided
 decided_by owner name bytes (RefusesLine n why) = refused owner name bytes (reason.Line (record { line = n; why = why }))
 decided_by owner name bytes (Admits asked) = weighed_text owner name bytes (tally_of asked (length (ended_lines (lines bytes))))
 
 -- of what was read
-abbrev pub decided_on : Owner → List ℕ → Option (List ℕ) → Decided
-decided_on owner name None = refused owner name [] reason.NotReadable
-decided_on owner name (Some bytes) =
+abbrev pub decided_on : Owner → List ℕ → Option (List ℕ) → Verdict → Decided
+decided_on owner name None verdict = refused owner name [] reason.NotReadable
+decided_on owner name (Some bytes) verdict =
     if nat_lt owner.quota.bytes (length bytes) then refused owner name [] reason.TooLong
-    else decided_by owner name bytes (examined owner.account 1 Closed (lines bytes))
+    else decided_by owner name bytes verdict
 
 -- of what stood there, and what was read of it
-abbrev pub decision : Owner → List ℕ → Option Look → Option (List ℕ) → Decided
-decision owner name look bytes = option_map_or (refused owner name []) (why_unread owner look) (decided_on owner name bytes)
+abbrev pub decision : Owner → List ℕ → Option Look → Option (List ℕ) → Verdict → Decided
+decision owner name look bytes verdict = option_map_or (refused owner name []) (why_unread owner look) (decided_on owner name bytes verdict)
+
+-- this is said of what was read, if it was
+abbrev pub IsSaidOf : Owner → Option (List ℕ) → Verdict → Type 0
+IsSaidOf owner None verdict = Unit {0}
+IsSaidOf owner (Some bytes) verdict = IsVerdict owner.account (lines bytes) verdict
+
+pub record IsDecidedOn (owner : Owner) (name : List ℕ) (bytes : Option (List ℕ)) (decided : Decided) : Type 0 where
+  pub verdict : Verdict
+  pub is_said : IsSaidOf owner bytes verdict
+  pub is : decided ≡ decided_on owner name bytes verdict
 
 -- what was seen for that
 abbrev pub sights_of : Owner → ℕ → Option Look → Option (List ℕ) → List Sight
@@ -78,8 +88,10 @@ sights_of owner number look bytes = Looked number look ∷ (if is_none (why_unre
 pub record DecidesBy {B : Type 0} (seen : B → List Sight) (owner : Owner) (name : List ℕ) (number : ℕ) (decided : Decided) (old new : B) : Type 0 where
   pub look : Option Look
   pub bytes : Option (List ℕ)
+  pub verdict : Verdict
+  pub is_said : IsSaidOf owner bytes verdict
   pub saw : seen new ≡ seen old ++ sights_of owner number look bytes
-  pub is : decided ≡ decision owner name look bytes
+  pub is : decided ≡ decision owner name look bytes verdict
 
 -- ---- what follows
 
@@ -112,5 +124,5 @@ pub record IsTaken (owner : Owner) (look : Option Look) (bytes : Option (List �
 
 -- it is taken exactly where it is such a file
 abbrev pub TakesExactly : Type 0
-TakesExactly = (owner : Owner) (name : List ℕ) (look : Option Look) (bytes : Option (List ℕ)) (text : List ℕ) (tally : Tally)
-    → (decision owner name look bytes ≡ Takes text tally) ↔ IsTaken owner look bytes text tally
+TakesExactly = (owner : Owner) (name : List ℕ) (look : Option Look) (bytes : Option (List ℕ)) (verdict : Verdict) (text : List ℕ) (tally : Tally)
+    → IsSaidOf owner bytes verdict → (decision owner name look bytes verdict ≡ Takes text tally) ↔ IsTaken owner look bytes text tally

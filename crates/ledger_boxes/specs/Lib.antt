@@ -4,3 +4,4 @@ pub mod Admission
 pub mod Listing
 pub mod Taking
 pub mod Missing
+pub mod Glimpses

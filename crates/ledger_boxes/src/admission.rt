@@ -1,9 +1,8 @@
 //! What becomes of a claimed file.
 ghost use Rattle.std.specs.Prelude.{◌≡◌, ◌++◌, ◌∷◌, option_map, IfOk};
 ghost use Rattle.std.specs.Str.Lines.{lines};
-ghost use Rattle.ledger_boxes.specs.Admission.{seen_decision, is_own, why_unread, refused, weighed_text, decided_by, decided_on, DecidesBy, text_for};
-ghost use Rattle.deck_syntax.specs.Sections.{Closed};
-ghost use Rattle.preflight.specs.Examined.{examined};
+ghost use Rattle.ledger_boxes.specs.Admission.{seen_decision, is_own, why_unread, refused, weighed_text, decided_by, IsDecidedOn, DecidesBy, text_for};
+ghost use Rattle.preflight.specs.Examined.{Verdict, IsVerdict};
 
 use crate::boxes::Boxes;
 use crate::look::Look;
@@ -100,13 +99,14 @@ fn refused(
 }
 
 // Of what was read.
+#[tactic(auto, using(crate::proofs::Deciding::on_none, crate::proofs::Deciding::on_long, crate::proofs::Deciding::on_bytes))]
 fn decide_on(
     alloc: Global,
     owner: &Owner,
     name: &[u8],
     bytes: &Option<Vec<u8>>,
 ) -> Result<Decision, AllocError>
-    ensures { IfOk result (λ made. seen_decision made ≡ decided_on owner.now name.now (option_map (λ read. read.items) bytes.now)) }
+    ensures { IfOk result (λ made. IsDecidedOn owner.now name.now (option_map (λ read. read.items) bytes.now) (seen_decision made)) }
 {
     match bytes {
         None => refused(alloc, owner, name, Reason::NotReadable, b""),
@@ -124,7 +124,8 @@ fn decide_text(
     name: &[u8],
     bytes: &[u8],
 ) -> Result<Decision, AllocError>
-    ensures { IfOk result (λ made. seen_decision made ≡ decided_by owner.now name.now bytes.now (examined owner.now.account 1 Closed (lines bytes.now))) }
+    ensures { IfOk result (λ made. (verdict : Verdict) × IsVerdict owner.now.account (lines bytes.now) verdict
+        × (seen_decision made ≡ decided_by owner.now name.now bytes.now verdict)) }
 {
     match examine(alloc, &owner.account, bytes) {
         Ok(submission) => decide_submission(alloc, owner, name, bytes, &submission),

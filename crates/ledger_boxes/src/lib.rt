@@ -4,16 +4,20 @@
 
 pub mod admission;
 pub mod boxes;
+pub mod files;
+mod glimpse;
 pub mod laws;
 pub mod listing;
 pub mod look;
 pub mod none;
+mod record;
 pub mod serving;
 pub mod taking;
 mod weighing;
 
 pub use admission::{Decision, Owner, decide};
 pub use boxes::Boxes;
+pub use files::FileBoxes;
 pub use listing::{first_in_box, names_in_box};
 pub use look::{BoxFault, BoxLook, Entry, Kind, Look};
 pub use none::NoBoxes;

@@ -111,19 +111,19 @@ pub trait Disk {
     ///
     /// # Errors
     ///
-    /// Where that was refused.
+    /// Where that was refused: it has none then.
     fn link(&mut self, from: Name, to: Name) -> Result<(), DiskError>
         ensures did { OnOk result (Did calls (Link from to ∷ []) self.old self.new) }
-        ensures began { Began calls (Link from to ∷ []) self.old self.new };
+        ensures none { OnErr result (calls self.new ≡ calls self.old) };
 
     /// Removes a name, if it is there.
     ///
     /// # Errors
     ///
-    /// Where that was refused.
+    /// Where that was refused: it stays then.
     fn remove(&mut self, name: Name) -> Result<(), DiskError>
         ensures did { OnOk result (Did calls (Remove name ∷ []) self.old self.new) }
-        ensures began { Began calls (Remove name ∷ []) self.old self.new };
+        ensures none { OnErr result (calls self.new ≡ calls self.old) };
 
     /// Brings the names of a folder to the disk.
     ///

@@ -4,8 +4,8 @@ use crate::event::Event;
 use crate::paths::{Paths, number_of};
 use crate::record::Record;
 use crate::{Disk, DiskError, Folder, Identity, Name};
-use std::alloc::AllocError;
-use std::fs::{self, DirEntry, File, Metadata, OpenFile, OpenOptions};
+use std::alloc::{AllocError, Global};
+use std::fs::{self, DirEntry, File, OpenFile, OpenOptions};
 use std::io::{self, ErrorKind, Write};
 use std::os::unix::fs::{MetadataExt, OpenOptionsExt};
 use std::rt::Files;
@@ -52,6 +52,23 @@ impl<R: System> FileDisk<R> {
         self.paths.add_answer(number, folder, name)
     }
 
+    /// What was claimed under this number stands under this name, and is put there.
+    pub fn add_claimed(&mut self, number: u64, name: &str) -> Result<(), AllocError>
+        ensures { self.new.made.calls ≡ self.old.made.calls }
+    {
+        self.paths.add_claimed(number, name)
+    }
+
+    /// The names of what was claimed.
+    pub fn claimed_names(&self) -> io::Result<Vec<String>> {
+        let mut names = Vec::new(self.rt.alloc());
+        let path = self.paths.kept("taken")?;
+        for entry in fs::read_dir(&self.rt, path.as_str())? {
+            add_name(self.rt.alloc(), entry, &mut names)?;
+        }
+        Ok(names)
+    }
+
     fn read_file(&self, name: Name) -> io::Result<Option<Vec<u8>>> {
         let path = self.paths.of(name)?;
         if_there(fs::read(&self.rt, path.as_str()))
@@ -60,18 +77,19 @@ impl<R: System> FileDisk<R> {
     fn look_at(&self, name: Name) -> io::Result<Option<Identity>> {
         let path = self.paths.of(name)?;
         match if_there(fs::symlink_metadata(&self.rt, path.as_str()))? {
-            Some(seen) => Ok(Some(identity_of(&seen))),
+            Some(seen) => {
+                let (device, inode) = (seen.dev(), seen.ino());
+                Ok(Some(Identity { device, inode }))
+            }
             None => Ok(None),
         }
     }
 
-    // The names are not gathered: they are read anew for each number.
     fn least_claimed(&self, from: u64) -> io::Result<Option<u64>> {
         let mut least = None;
-        let path = self.paths.kept("taken")?;
-        for entry in fs::read_dir(&self.rt, path.as_str())? {
-            let number = number_in(entry)?;
-            least = lesser(least, from, number);
+        let names = self.claimed_names()?;
+        for name in &names {
+            least = lesser(least, from, number_of(name));
         }
         Ok(least)
     }
@@ -80,7 +98,11 @@ impl<R: System> FileDisk<R> {
     fn write_file(&self, name: Name, bytes: &[u8]) -> io::Result<()> {
         let path = self.paths.of(name)?;
         if_there(fs::remove_file(&self.rt, path.as_str()))?;
-        let mut file = create_new(&self.rt, &path)?;
+        let mut file = OpenOptions::new()
+            .write(true)
+            .create_new(true)
+            .mode(0o600)
+            .open(&self.rt, path.as_str())?;
         file.write_all(bytes)
     }
 
@@ -204,26 +226,15 @@ fn if_there<T: Drop>(called: io::Result<T>) -> io::Result<Option<T>> {
     }
 }
 
-fn create_new<R: System>(rt: &R, path: &String) -> io::Result<R::File> {
-    OpenOptions::new()
-        .write(true)
-        .create_new(true)
-        .mode(0o600)
-        .open(rt, path.as_str())
-}
-
-fn identity_of(seen: &Metadata) -> Identity {
-    Identity {
-        device: seen.dev(),
-        inode: seen.ino(),
-    }
-}
-
-// The number of a claimed file; a name that is none is nobody's.
-fn number_in<R: System>(entry: io::Result<DirEntry<R>>) -> io::Result<Option<u64>> {
+// A name that is no text is nobody's.
+fn add_name<R: System>(
+    alloc: Global,
+    entry: io::Result<DirEntry<R>>,
+    names: &mut Vec<String>,
+) -> io::Result<()> {
     match entry {
-        Ok(entry) => Ok(number_of(entry.file_name())),
-        Err(error) if error.kind() == ErrorKind::InvalidFilename => Ok(None),
+        Ok(entry) => Ok(names.push(String::from_str(alloc, entry.file_name())?)?),
+        Err(error) if error.kind() == ErrorKind::InvalidFilename => Ok(()),
         Err(error) => Err(error),
     }
 }

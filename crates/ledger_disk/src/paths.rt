@@ -10,6 +10,13 @@ struct Answer {
     path: String,
 }
 
+/// What was claimed under a number, and its name.
+#[derive(Drop)]
+struct Claimed {
+    number: u64,
+    name: String,
+}
+
 /// The folder of a site.
 #[derive(Drop)]
 pub(crate) struct Paths {
@@ -18,6 +25,7 @@ pub(crate) struct Paths {
     // The files in boxes, each by its path.
     dropped: Vec<String>,
     answers: Vec<Answer>,
+    claimed: Vec<Claimed>,
     /// The boxes.
     pub(crate) boxes: Vec<String>,
     /// The folders of the answers.
@@ -31,6 +39,7 @@ impl Paths {
             top,
             dropped: Vec::new(alloc),
             answers: Vec::new(alloc),
+            claimed: Vec::new(alloc),
             boxes: Vec::new(alloc),
             outs: Vec::new(alloc),
         }
@@ -57,16 +66,35 @@ impl Paths {
         add_new(&mut self.outs, folder)
     }
 
+    /// What was claimed under this number stands under this name.
+    pub(crate) fn add_claimed(&mut self, number: u64, name: &str) -> Result<(), AllocError> {
+        let name = String::from_str(self.alloc, name)?;
+        self.claimed.push(Claimed { number, name })?;
+        Ok(())
+    }
+
     /// The path of a name.
     pub(crate) fn of(&self, name: Name) -> io::Result<String> {
         match name {
             Name::Commit(number) => self.numbered("ledger", number),
             Name::Draft => self.kept("draft/commit"),
-            Name::Claimed(number) => self.numbered("taken", number),
+            Name::Claimed(number) => self.claimed(number),
             Name::Unfinished => self.kept("draft/answer"),
             Name::Dropped(place) => known(self.dropped.get(place as usize)),
             Name::Answer(number) => known(self.answer(number)),
         }
+    }
+
+    // What nobody said a name of has its number for one.
+    fn claimed(&self, number: u64) -> io::Result<String> {
+        for claimed in self.claimed.iter() {
+            if claimed.number == number {
+                let alloc = self.alloc;
+                let path = format!(in alloc; "{}/keep/taken/{}", self.top, claimed.name)?;
+                return Ok(path);
+            }
+        }
+        self.numbered("taken", number)
     }
 
     fn answer(&self, number: u64) -> Option<&String> {
@@ -92,11 +120,14 @@ impl Paths {
     }
 }
 
-/// The number that the name of a numbered file has; other names are nobody's.
+/// The number that a claimed file's name begins with, before the first colon, if there is one; other names are nobody's.
 pub(crate) fn number_of(name: &str) -> Option<u64> {
-    let is_plain = name.len() == 8 || (name.len() > 8 && !name.starts_with('0'));
-    match name.parse::<u64>() {
-        Ok(number) if is_plain && !name.starts_with('+') => Some(number),
+    let digits = match name.split_once(':') {
+        Some((digits, _)) => digits,
+        None => name,
+    };
+    match digits.parse::<u64>() {
+        Ok(number) if !digits.starts_with('+') => Some(number),
         _ => None,
     }
 }

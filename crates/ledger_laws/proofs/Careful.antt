@@ -7,7 +7,7 @@ use Rattle.ledger_disk.specs.declared.identity.Identity.{Identity}
 use Rattle.ledger_disk.specs.declared.name.Name.TheVariants.{Dropped, Claimed}
 use Rattle.ledger_disk.specs.declared.name.Folder.TheVariants.{Boxes, Taken}
 use Rattle.ledger_disk.specs.Disks.{SlotOf, Which, Call, Link, Remove, SyncFolder, given, which_after, which_behind, IsAmong}
-use Rattle.ledger_laws.specs.Claims.{links, removals}
+use Rattle.ledger_laws.specs.Claims.{links, removals, AreOf}
 use Rattle.ledger_laws.specs.Places.{MayHave, May, Has, ClaimsOne, MayRemove, Calls, AreCareful, CanClaimOne, CanClaim}
 use Rattle.ledger_laws.specs.Laws.{ClaimsCarefully}
 
@@ -150,14 +150,24 @@ settled_under : (ds : List ℕ) (time : ℕ) (which : Which) → AllByRecursion 
 settled_under [] time which all = tt
 settled_under (d ∷ ds) time which all = (λ file now. (let s : Stands which file = all.0 file now in record { number = s.number; is = s.is }), settled_under ds time which all.1)
 
+among_under : (which : Which) (ds : List ℕ) (d : ℕ) → IsAmong d ds → AllByRecursion (IsUnder which) ds → IsUnder which d
+among_under which [] d among all = elim among [ ]
+among_under which (x ∷ ds) d (inl same) all = subst (IsUnder which) (sym same) all.0
+among_under which (x ∷ ds) d (inr more) all = among_under which ds d more all.1
+
+some_under : (which : Which) (gone ds : List ℕ) → AreOf gone ds → AllByRecursion (IsUnder which) ds → AllByRecursion (IsUnder which) gone
+some_under which [] ds are all = tt
+some_under which (d ∷ gone) ds are all = (among_under which ds d are.0 all, some_under which gone ds are.1 all)
+
 pub claims_carefully : ClaimsCarefully
-claims_carefully time number taken which n drops can =
-    links_carefully drops (SyncFolder Taken ∷ (removals drops ++ SyncFolder Boxes ∷ [])) time number taken which n can
+claims_carefully time number taken which n drops gone are can =
+    links_carefully drops (SyncFolder Taken ∷ (removals gone ++ SyncFolder Boxes ∷ [])) time number taken which n can
     (λ t. (
       refl,
       (
         tt,
-        leaves_carefully drops (suc t) number taken (which_after t (SyncFolder Taken) (which_behind time (links n drops) which)) (λ m. refl)
-            (settled_under drops t (which_behind time (links n drops) which) (links_end drops n time which)),
+        leaves_carefully gone (suc t) number taken (which_after t (SyncFolder Taken) (which_behind time (links n drops) which)) (λ m. refl)
+            (some_under (which_after t (SyncFolder Taken) (which_behind time (links n drops) which)) gone drops are
+            (settled_under drops t (which_behind time (links n drops) which) (links_end drops n time which))),
       ),
     ))

@@ -4,8 +4,8 @@ use Rattle.std.specs.Prelude.{if◌then◌else◌, ◌==◌}
 use Rattle.std.proofs.lemmas.Bool.Decides.{nat_tests}
 use Rattle.ledger_disk.specs.declared.name.Name.TheVariants.{Dropped, Claimed}
 use Rattle.ledger_disk.specs.declared.name.Folder.TheVariants.{Boxes, Taken}
-use Rattle.ledger_disk.specs.Disks.{Disk, File, Slot, Call, Link, Remove, SyncFolder, after, after_all, given, Files, Leaves, IsRead, IsOne}
-use Rattle.ledger_laws.specs.Claims.{nth, links, removals}
+use Rattle.ledger_disk.specs.Disks.{Disk, File, Slot, Call, Link, Remove, SyncFolder, after, after_all, given, Files, Leaves, IsRead, IsOne, IsAmong}
+use Rattle.ledger_laws.specs.Claims.{nth, links, removals, claim_calls}
 use Rattle.ledger_laws.specs.Laws.{ClaimsLoseNothing}
 
 alone : File → Slot
@@ -27,6 +27,13 @@ module _ (drop m : ℕ) (file : File) where
     where
       by : IsRead (Some file) (c (Dropped drop)) ⊎ IsOne [] (c (Dropped drop)) → IsKept c
       by (inl read) = inl read
+      by (inr none) = elim none [ ]
+
+  box_alone : (disk : Disk) → disk (Dropped drop) ≡ slot → (c : Files) → Leaves disk c → IsRead (Some file) (c (Dropped drop))
+  box_alone disk e c leaves = by (subst (λ (s : Slot). IsRead s.now (c (Dropped drop)) ⊎ IsOne s.others (c (Dropped drop))) e (leaves (Dropped drop)))
+    where
+      by : IsRead (Some file) (c (Dropped drop)) ⊎ IsOne [] (c (Dropped drop)) → IsRead (Some file) (c (Dropped drop))
+      by (inl read) = read
       by (inr none) = elim none [ ]
 
   in_taken : (disk : Disk) → disk (Claimed m) ≡ slot → (c : Files) → Leaves disk c → IsKept c
@@ -116,21 +123,42 @@ module _ (drop m : ℕ) (file : File) where
       by true = refl
       by false = now
 
-  gone_end : (drops : List ℕ) (place : ℕ) (disk : Disk) → nth drops place ≡ Some drop → after_all (removals drops ++ SyncFolder Boxes ∷ []) disk (Dropped drop) ≡ record { now = None; others = [] }
-  gone_end [] place disk has = absurd (cc (has))
-  gone_end (x ∷ drops) zero disk has = gone_stays drops (after (Remove (Dropped x)) disk) (by (drop == x) refl)
+  gone_end : (drops : List ℕ) (disk : Disk) → IsAmong drop drops → after_all (removals drops ++ SyncFolder Boxes ∷ []) disk (Dropped drop) ≡ record { now = None; others = [] }
+  gone_end [] disk among = elim among [ ]
+  gone_end (x ∷ drops) disk (inl same) = gone_stays drops (after (Remove (Dropped x)) disk) (by (drop == x) refl)
     where
       by : (b : Bool) → (drop == x) ≡ b → (if b then given None (disk (Dropped x)) else disk (Dropped drop)).now ≡ None
       by true e = refl
-      by false e = absurd (let same : x ≡ drop = cc (has) in grind (arith, nat_tests, same, e))
-  gone_end (x ∷ drops) (suc place) disk has = gone_end drops place (after (Remove (Dropped x)) disk) has
+      by false e = absurd (grind (arith, nat_tests, same, e))
+  gone_end (x ∷ drops) disk (inr more) = gone_end drops (after (Remove (Dropped x)) disk) more
+
+  -- ---- and where it is not claimed, it stays
+
+  unremoved : (drops : List ℕ) (disk : Disk) → (IsAmong drop drops → ⊥) → disk (Dropped drop) ≡ slot → (k : ℕ) (c : Files) → Leaves (after_all (take k (removals drops ++ SyncFolder Boxes ∷ [])) disk) c
+      → IsRead (Some file) (c (Dropped drop))
+  unremoved drops disk none e zero c leaves = box_alone disk e c leaves
+  unremoved [] disk none e (suc zero) c leaves = box_alone (after (SyncFolder Boxes) disk) (ap (λ (s : Slot). record { now = s.now; others = [] }) e) c leaves
+  unremoved [] disk none e (suc (suc k)) c leaves = box_alone (after (SyncFolder Boxes) disk) (ap (λ (s : Slot). record { now = s.now; others = [] }) e) c leaves
+  unremoved (x ∷ drops) disk none e (suc k) c leaves =
+      unremoved drops (after (Remove (Dropped x)) disk) (λ more. none (inr more))
+      (ap (λ (b : Bool). if b then given None (disk (Dropped x)) else disk (Dropped drop)) (apart (drop == x) refl) ∙ e) k c leaves
+    where
+      apart : (b : Bool) → (drop == x) ≡ b → (drop == x) ≡ false
+      apart true h = absurd (none (inl (grind (arith, nat_tests, h))))
+      apart false h = h
+
+  pub unclaimed : (drops gone : List ℕ) (n : ℕ) (disk : Disk) → (IsAmong drop gone → ⊥) → disk (Dropped drop) ≡ slot → (k : ℕ) (c : Files) → Leaves (after_all (take k (claim_calls n drops gone)) disk) c
+      → IsRead (Some file) (c (Dropped drop))
+  unclaimed drops gone n disk none e zero c leaves = box_alone disk e c leaves
+  unclaimed [] gone n disk none e (suc k) c leaves = unremoved gone (after (SyncFolder Taken) disk) none e k c leaves
+  unclaimed (x ∷ drops) gone n disk none e (suc k) c leaves = unclaimed drops gone (suc n) (after (Link (Dropped x) (Claimed n)) disk) none e k c leaves
 
 pub claims_lose_nothing : ClaimsLoseNothing
-claims_lose_nothing n drops disk drop place file has e = record {
-  kept = λ k c leaves. linking drop (n + place) file drops drops n place disk refl has e k c leaves;
-  claimed = ap (λ (d : Disk). d (Claimed (n + place))) (after_both (links n drops) (SyncFolder Taken ∷ (removals drops ++ SyncFolder Boxes ∷ [])) disk)
-      ∙ removed_stays drop (n + place) file drops (after (SyncFolder Taken) (after_all (links n drops) disk))
+claims_lose_nothing n drops gone disk drop place file has e = record {
+  kept = λ k c leaves. linking drop (n + place) file gone drops n place disk refl has e k c leaves;
+  claimed = ap (λ (d : Disk). d (Claimed (n + place))) (after_both (links n drops) (SyncFolder Taken ∷ (removals gone ++ SyncFolder Boxes ∷ [])) disk)
+      ∙ removed_stays drop (n + place) file gone (after (SyncFolder Taken) (after_all (links n drops) disk))
       (ap (λ (o : Option File). record { now = o; others = [] }) (linking_end drop (n + place) file drops n place disk refl has e));
-  gone = ap (λ (d : Disk). d (Dropped drop)) (after_both (links n drops) (SyncFolder Taken ∷ (removals drops ++ SyncFolder Boxes ∷ [])) disk)
-      ∙ gone_end drop (n + place) file drops place (after (SyncFolder Taken) (after_all (links n drops) disk)) has;
+  absent = λ left. ap (λ (d : Disk). d (Dropped drop)) (after_both (links n drops) (SyncFolder Taken ∷ (removals gone ++ SyncFolder Boxes ∷ [])) disk)
+      ∙ gone_end drop (n + place) file gone (after (SyncFolder Taken) (after_all (links n drops) disk)) left;
 }

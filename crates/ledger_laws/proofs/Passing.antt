@@ -39,19 +39,19 @@ cut_both (suc k) (x ∷ xs) ys = by (cut_both k xs ys)
     by (inr (j, e)) = inr (j, ap (λ (l : List Call). x ∷ l) e)
 
 pub pass_loses_nothing : PassLosesNothing
-pass_loses_nothing chain n drops bytes steps disk stands others drop place file has there k c leaves =
-    by (cut_both k (claim_calls n drops) (calls_of (length chain) (Commits bytes ∷ steps)))
+pass_loses_nothing chain n drops gone bytes steps disk stands others drop place file has there k c leaves =
+    by (cut_both k (claim_calls n drops gone) (calls_of (length chain) (Commits bytes ∷ steps)))
   where
     later : IsRead (Some file) (c (Claimed (n + place))) ⊎ IsPrefix chain (bytes ∷ commits_in steps) 1 c → (IsRead (Some file) (c (Dropped drop)) ⊎ IsRead (Some file) (c (Claimed (n + place)))) ⊎ IsPrefix chain (bytes ∷ commits_in steps) 1 c
     later (inl read) = inl (inr read)
     later (inr is) = inr is
 
-    by : ((i : ℕ) × (take k (claim_calls n drops ++ calls_of (length chain) (Commits bytes ∷ steps)) ≡ take i (claim_calls n drops)))
-        ⊎ ((j : ℕ) × (take k (claim_calls n drops ++ calls_of (length chain) (Commits bytes ∷ steps)) ≡ claim_calls n drops ++ take j (calls_of (length chain) (Commits bytes ∷ steps))))
+    by : ((i : ℕ) × (take k (claim_calls n drops gone ++ calls_of (length chain) (Commits bytes ∷ steps)) ≡ take i (claim_calls n drops gone)))
+        ⊎ ((j : ℕ) × (take k (claim_calls n drops gone ++ calls_of (length chain) (Commits bytes ∷ steps)) ≡ claim_calls n drops gone ++ take j (calls_of (length chain) (Commits bytes ∷ steps))))
         → (IsRead (Some file) (c (Dropped drop)) ⊎ IsRead (Some file) (c (Claimed (n + place)))) ⊎ IsPrefix chain (bytes ∷ commits_in steps) 1 c
-    by (inl (i, e)) = inl ((claims_lose_nothing n drops disk drop place file has there).kept i c (subst (λ (l : List Call). Leaves (after_all l disk) c) e leaves))
+    by (inl (i, e)) = inl ((claims_lose_nothing n drops gone disk drop place file has there).kept i c (subst (λ (l : List Call). Leaves (after_all l disk) c) e leaves))
     by (inr (j, e)) =
         later
-        (stays_until_recorded chain bytes steps (after_all (claim_calls n drops) disk) (n + place) file (all_stand chain (claim_calls n drops) disk stands (links_others n drops drops)) others
-        (claims_lose_nothing n drops disk drop place file has there).claimed j c
-        (subst (λ (d : Disk). Leaves d c) (ap (λ (l : List Call). after_all l disk) e ∙ after_both (claim_calls n drops) (take j (calls_of (length chain) (Commits bytes ∷ steps))) disk) leaves))
+        (stays_until_recorded chain bytes steps (after_all (claim_calls n drops gone) disk) (n + place) file (all_stand chain (claim_calls n drops gone) disk stands (links_others n drops gone)) others
+        (claims_lose_nothing n drops gone disk drop place file has there).claimed j c
+        (subst (λ (d : Disk). Leaves d c) (ap (λ (l : List Call). after_all l disk) e ∙ after_both (claim_calls n drops gone) (take j (calls_of (length chain) (Commits bytes ∷ steps))) disk) leaves))

@@ -4,11 +4,11 @@ use Rattle.ledger_disk.specs.declared.name.Folder.TheVariants.{Ledger}
 use Rattle.ledger_disk.specs.Disks.{Disk, Files, Leaves, booted, after, after_all, SyncFolder}
 use Rattle.ledger_laws.specs.Traces.{Step, Commits, AreOthers, calls_of, commits_in, ended}
 use Rattle.ledger_disk.specs.declared.name.Name.TheVariants.{Dropped, Claimed, Answer}
-use Rattle.ledger_disk.specs.Disks.{File, IsRead, Which, which_behind, which_booted, LeavesWhich}
+use Rattle.ledger_disk.specs.Disks.{File, IsRead, IsAmong, Which, which_behind, which_booted, LeavesWhich}
 use Rattle.ledger_disk.specs.declared.identity.Identity.{Identity}
 use Rattle.ledger_disk.specs.declared.name.Name.{Name}
 use Rattle.ledger_laws.specs.Places.{Act, Calls as ActCalls, AreCareful, IsKept, CanClaim, taken_by, calls_of as calls_of_acts, commits_in as commits_in_acts}
-use Rattle.ledger_laws.specs.Claims.{nth, claim_calls}
+use Rattle.ledger_laws.specs.Claims.{nth, claim_calls, AreOf}
 use Rattle.ledger_laws.specs.Answers.{deliver_calls, IsOwed, AreExpected, AnswersFit}
 use Rattle.ledger_laws.specs.Commits.{whole_file, Stands, IsLedger, commit_calls, read_from}
 
@@ -46,18 +46,18 @@ LeavesAPrefix = (chain : List (List ℕ)) (steps : List Step) (disk : Disk) → 
     → (k : ℕ) (c : Files) → Leaves (after_all (take k (calls_of (length chain) steps)) disk) c → IsPrefix chain (commits_in steps) (ended k steps) c
 
 -- Of the files that are claimed, the one of this place: whatever a crash leaves at any call, it stands in its box or under its
--- number; in the end it stands under its number alone, and that is on the disk.
-pub record ClaimsKeep (n : ℕ) (drops : List ℕ) (disk : Disk) (drop place : ℕ) (file : File) : Type 0 where
-  pub kept : (k : ℕ) (c : Files) → Leaves (after_all (take k (claim_calls n drops)) disk) c
+-- number; in the end it stands under its number, and that is on the disk; and not in its box, if it left it.
+pub record ClaimsKeep (n : ℕ) (drops gone : List ℕ) (disk : Disk) (drop place : ℕ) (file : File) : Type 0 where
+  pub kept : (k : ℕ) (c : Files) → Leaves (after_all (take k (claim_calls n drops gone)) disk) c
       → IsRead (Some file) (c (Dropped drop)) ⊎ IsRead (Some file) (c (Claimed (n + place)))
-  pub claimed : after_all (claim_calls n drops) disk (Claimed (n + place)) ≡ record { now = Some file; others = [] }
-  pub gone : after_all (claim_calls n drops) disk (Dropped drop) ≡ record { now = None; others = [] }
+  pub claimed : after_all (claim_calls n drops gone) disk (Claimed (n + place)) ≡ record { now = Some file; others = [] }
+  pub absent : IsAmong drop gone → after_all (claim_calls n drops gone) disk (Dropped drop) ≡ record { now = None; others = [] }
 
 -- whatever a crash leaves while files are claimed
 abbrev pub ClaimsLoseNothing : Type 0
-ClaimsLoseNothing = (n : ℕ) (drops : List ℕ) (disk : Disk) (drop place : ℕ) (file : File) → nth drops place ≡ Some drop
+ClaimsLoseNothing = (n : ℕ) (drops gone : List ℕ) (disk : Disk) (drop place : ℕ) (file : File) → nth drops place ≡ Some drop
     → disk (Dropped drop) ≡ record { now = Some file; others = [] }
-    → ClaimsKeep n drops disk drop place file
+    → ClaimsKeep n drops gone disk drop place file
 
 -- Each answer is absent or the one that the ledger has, whatever a crash leaves while owed answers are put; the next run may put them
 -- again; in the end those that were put are there and on the disk.
@@ -82,9 +82,9 @@ StaysUntilRecorded = (chain : List (List ℕ)) (bytes : List ℕ) (steps : List 
 -- A pass: files are claimed, then the commit that takes them is put, then whatever is done by calls that leave the ledger to commits.
 -- A power cut behind any of its calls leaves each file in its box, or under its number, or in the ledger for good.
 abbrev pub PassLosesNothing : Type 0
-PassLosesNothing = (chain : List (List ℕ)) (n : ℕ) (drops : List ℕ) (bytes : List ℕ) (steps : List Step) (disk : Disk) → Stands chain disk → AreOthers steps
+PassLosesNothing = (chain : List (List ℕ)) (n : ℕ) (drops gone bytes : List ℕ) (steps : List Step) (disk : Disk) → Stands chain disk → AreOthers steps
     → (drop place : ℕ) (file : File) → nth drops place ≡ Some drop → disk (Dropped drop) ≡ record { now = Some file; others = [] }
-    → (k : ℕ) (c : Files) → Leaves (after_all (take k (claim_calls n drops ++ calls_of (length chain) (Commits bytes ∷ steps))) disk) c
+    → (k : ℕ) (c : Files) → Leaves (after_all (take k (claim_calls n drops gone ++ calls_of (length chain) (Commits bytes ∷ steps))) disk) c
     → (IsRead (Some file) (c (Dropped drop)) ⊎ IsRead (Some file) (c (Claimed (n + place)))) ⊎ IsPrefix chain (bytes ∷ commits_in steps) 1 c
 
 -- Of a run that is cut off: the ledger has so many of its commits, and the file is in exactly one of these or those before, or where it
@@ -103,5 +103,5 @@ KeepsEachFile = (time : ℕ) (chain : List (List ℕ)) (taken : List ℕ) (acts 
 
 -- so files are claimed carefully
 abbrev pub ClaimsCarefully : Type 0
-ClaimsCarefully = (time number : ℕ) (taken : List ℕ) (which : Which) (n : ℕ) (drops : List ℕ) → CanClaim taken which n drops
-    → AreCareful time number taken which (map ActCalls (claim_calls n drops))
+ClaimsCarefully = (time number : ℕ) (taken : List ℕ) (which : Which) (n : ℕ) (drops gone : List ℕ) → AreOf gone drops → CanClaim taken which n drops
+    → AreCareful time number taken which (map ActCalls (claim_calls n drops gone))

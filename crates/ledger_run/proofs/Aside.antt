@@ -1,7 +1,8 @@
 -- Calls that touch neither the ledger nor an answer.
 use Rattle.std.proofs.Common.{◌≡◌, ℕ, zero, suc, false, List, [], ◌∷◌, ◌++◌, take, Option, refl, sym, ap, ◌∙◌, subst}
 use Rattle.ledger_disk.specs.declared.name.Folder.TheVariants.{Boxes, Taken}
-use Rattle.ledger_disk.specs.Disks.{Disk, Call, SyncFolder, Leaves, after, after_all}
+use Rattle.ledger_disk.specs.declared.name.Name.TheVariants.{Claimed}
+use Rattle.ledger_disk.specs.Disks.{Disk, Call, Remove, SyncFolder, Leaves, after, after_all}
 use Rattle.ledger_disk.specs.Plans.{Did, Began}
 use Rattle.ledger_laws.specs.Answers.{AnswersFit}
 use Rattle.ledger_laws.specs.Claims.{links, removals, claim_calls}
@@ -30,8 +31,11 @@ links_aside : (n : ℕ) (drops rest : List ℕ) → AllAside (links n drops ++ S
 links_aside n [] rest = ((refl, λ expected disk fit m. fit m), removals_aside rest)
 links_aside n (drop ∷ drops) rest = ((refl, λ expected disk fit m. fit m), links_aside (suc n) drops rest)
 
-pub claims_aside : (n : ℕ) (drops : List ℕ) → AllAside (claim_calls n drops)
-claims_aside n drops = links_aside n drops drops
+pub claims_aside : (n : ℕ) (drops gone : List ℕ) → AllAside (claim_calls n drops gone)
+claims_aside n drops gone = links_aside n drops gone
+
+pub removed_aside : (n : ℕ) → AllAside (Remove (Claimed n) ∷ [])
+removed_aside n = ((refl, λ expected disk fit m. fit m), tt)
 
 module _ (step : Step) (chain : List (List ℕ)) (events : List Event) where
   stood_aside : (plan : List Call) (disk : Disk) → AllAside plan → Stood step chain events disk → (k : ℕ) → Stood step chain events (after_all (take k plan) disk)

@@ -5,7 +5,6 @@ use Rattle.std.specs.List.{AllByRecursion}
 use Rattle.ledger_disk.specs.declared.identity.Identity.{Identity}
 use Rattle.ledger_disk.specs.declared.name.Name.TheVariants.{Dropped, Claimed}
 use Rattle.ledger_disk.specs.Disks.{Disk, Which, Call, Write, SyncFile, Rename, Link, Remove, SyncFolder, Saw, Looked, Next, after, after_all, given, which_after, which_behind, LooksAreTrue, AreTrue}
-use Rattle.ledger_disk.specs.Plans.{Began}
 use Rattle.ledger_laws.specs.Traces.{changes_ledger}
 use Rattle.ledger_laws.specs.Answers.{AnswersFit}
 use Rattle.ledger_laws.specs.Places.{Calls, AreCareful}
@@ -15,7 +14,9 @@ use Rattle.ledger_run.specs.Meaning.{Step}
 use Rattle.ledger_run.specs.Runs.{Seen, Stood, IsOpen, Opens}
 use Rattle.ledger_run.specs.Finishing.{is_look, Looks, IsClaimed, IsUnclaimed, AreSorted, leave_calls, Leaves, Finishes, LeavesNone, FinishesCarefully}
 use Rattle.ledger_run.proofs.Looking.{behind_both, looks_same, split, looks_so}
+use Rattle.ledger_run.specs.Claiming.{DidSome, BeganSome}
 use Rattle.ledger_run.proofs.Aside.{AllAside, removals_aside, stood_behind}
+use Rattle.ledger_run.proofs.Refusing.{some_claimed}
 
 in_row : {A : Type 0} (xs ys zs : List A) → (xs ++ ys) ++ zs ≡ xs ++ (ys ++ zs)
 in_row [] ys zs = refl
@@ -150,10 +151,19 @@ module _ {D : Type 0} (calls : D → List Call) where
     began = record { count = 0; some = sym (none_behind (calls new)) };
   }
 
-  pub leaves_begun : (done left : List ℕ) (old mid new : D) → Looks calls (AreSorted done left) old mid → Began calls (leave_calls done) mid new → Leaves calls old new
-  leaves_begun done left old mid new looks began = record {
-    done = done;
+  pub leaves_begun : (done left : List ℕ) (old mid new : D) → Looks calls (AreSorted done left) old mid → BeganSome calls leave_calls done mid new → Leaves calls old new
+  leaves_begun done left old mid new looks some = record {
+    done = some.some;
     mid = mid;
-    looks = looks_so calls (AreSorted done left) (λ which. AllByRecursion (IsClaimed which) done) old mid (λ which told. told.claimed) looks;
-    began = began;
+    looks = looks_so calls (AreSorted done left) (λ which. AllByRecursion (IsClaimed which) some.some) old mid (λ which told. some_claimed which some.some done some.are told.claimed) looks;
+    began = some.began;
+  }
+
+  pub finishes : (done left : List ℕ) (old mid new : D) → Looks calls (AreSorted done left) old mid → DidSome calls leave_calls done mid new → Finishes calls left old new
+  finishes done left old mid new looks some = record {
+    done = some.some;
+    mid = mid;
+    looks = looks_so calls (AreSorted done left) (AreSorted some.some left) old mid
+        (λ which told. record { claimed = some_claimed which some.some done some.does.are told.claimed; unclaimed = told.unclaimed }) looks;
+    did = some.does.did;
   }

@@ -9,3 +9,6 @@ pub mod Ahead
 pub mod Aside
 pub mod Looking
 pub mod Leaving
+pub mod Refusing
+pub mod Names
+pub mod Passing

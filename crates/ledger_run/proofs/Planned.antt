@@ -1,18 +1,16 @@
 -- Plans, one behind the other.
-use Rattle.std.proofs.Common.{◌≡◌, ◌<◌, ℕ, zero, suc, ◌+◌, List, [], ◌∷◌, ◌++◌, length, take, drop as list_drop, map, get_or, slice_index, refl, sym, ap, ◌∙◌, subst, arith}
-use Rattle.ledger_disk.specs.Disks.{Disk, Call, Write, SyncFile, Rename, Link, Remove, Leaves, after, after_all}
+use Rattle.std.proofs.Common.{◌≡◌, ◌<◌, ℕ, zero, suc, ◌+◌, List, [], ◌∷◌, ◌++◌, length, take, drop as list_drop, map, get_or, refl, sym, ap, ◌∙◌, subst, arith}
+use Rattle.ledger_disk.specs.Disks.{Disk, Call, Write, SyncFile, Rename, Leaves, after, after_all}
 use Rattle.ledger_laws.specs.Commits.{commit_calls}
 use Rattle.ledger_laws.proofs.Committing.{commits_whole}
-use Rattle.ledger_laws.proofs.Claiming.{claims_lose_nothing}
 use Rattle.std.proofs.lemmas.List.{drop_more}
-use Rattle.ledger_disk.specs.declared.name.Name.TheVariants.{Dropped, Claimed, Answer, Unfinished}
-use Rattle.ledger_laws.specs.Claims.{links, removals, claim_calls}
+use Rattle.ledger_disk.specs.declared.name.Name.TheVariants.{Answer, Unfinished}
 use Rattle.ledger_disk.specs.Plans.{Did, Began}
 use Rattle.ledger_laws.specs.Answers.{deliver_calls}
 use Rattle.ledger_run.specs.declared.answers.Owed.{Owed}
 use Rattle.ledger_run.specs.Owing.{owed_as}
 use Rattle.ledger_laws.proofs.Delivering.{delivers_whole}
-use Rattle.ledger_run.specs.Moments.{LeavesEither, KeepsEach, AnswersEach}
+use Rattle.ledger_run.specs.Moments.{LeavesEither, AnswersEach}
 
 -- what follows for a run of all that is left follows for a run of all
 pub record GoesOn {D : Type 0} (calls : D → List Call) (all left : List Call) (old now : D) : Type 0 where
@@ -90,7 +88,7 @@ module _ {D : Type 0} (calls : D → List Call) where
   -- ---- what a power cut leaves
 
   -- behind so many calls of the plan
-  moment : (plan : List Call) (old new : D) → Began calls plan old new → (first : Disk) (k : ℕ) → (i : ℕ) × (after_all (take (length (calls old) + k) (calls new)) first ≡ after_all (take i plan) (after_all (calls old) first))
+  pub moment : (plan : List Call) (old new : D) → Began calls plan old new → (first : Disk) (k : ℕ) → (i : ℕ) × (after_all (take (length (calls old) + k) (calls new)) first ≡ after_all (take i plan) (after_all (calls old) first))
   moment plan old new began first k =
       let (i, e) = taken_twice k began.count plan in (
         i,
@@ -108,24 +106,12 @@ module _ {D : Type 0} (calls : D → List Call) where
       (commits_whole chain bytes (after_all (calls old) first) stands i).cut c
       (subst (λ (d : Disk). Leaves d c) (e ∙ ap (λ (n : ℕ). after_all (take i (commit_calls n bytes)) (after_all (calls old) first)) (sym is)) leaves)
 
-  pub keeps : (number : ℕ) (drops : List ℕ) (old new : D) → Began calls (claim_calls number drops) old new → KeepsEach calls number drops old new
-  keeps number drops old new began first drop place file has there k c leaves =
-      let (i, e) = moment (claim_calls number drops) old new began first k in
-      (claims_lose_nothing number drops (after_all (calls old) first) drop place file has there).kept i c (subst (λ (d : Disk). Leaves d c) e leaves)
-
   pub answers : (owed : List (ℕ × List ℕ)) (old new : D) → Began calls (deliver_calls owed) old new → AnswersEach calls owed old new
   answers owed old new began first expected fit are k c leaves =
       let (i, e) = moment (deliver_calls owed) old new began first k in
       (delivers_whole expected owed (after_all (calls old) first) fit are).cut i c (subst (λ (d : Disk). Leaves d c) e leaves)
 
 -- ---- the files and the answers that are left
-
-pub next_link : (drops : List ℕ) (n i : ℕ) → i < length drops → links n (list_drop i drops) ≡ Link (Dropped (slice_index drops i)) (Claimed n) ∷ links (n + 1) (list_drop (i + 1) drops)
-next_link drops n i less =
-    ap (links n) (drop_more drops i 0 less) ∙ ap (λ (m : ℕ). Link (Dropped (slice_index drops i)) (Claimed n) ∷ links m (list_drop (i + 1) drops)) (omega arith)
-
-pub next_removal : (drops : List ℕ) (i : ℕ) → i < length drops → removals (list_drop i drops) ≡ Remove (Dropped (slice_index drops i)) ∷ removals (list_drop (i + 1) drops)
-next_removal drops i less = ap removals (drop_more drops i 0 less)
 
 pub next_answer : (owed : List Owed) (i : ℕ) (item : Owed) (bytes : List ℕ) → i < length owed → item ≡ get_or owed i item → bytes ≡ item.bytes.items
     → deliver_calls (map owed_as (list_drop i owed)) ≡ Write Unfinished bytes ∷ SyncFile Unfinished ∷ Rename Unfinished (Answer item.number) ∷ deliver_calls (map owed_as (list_drop (i + 1) owed))

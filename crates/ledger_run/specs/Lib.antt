@@ -4,3 +4,6 @@ pub mod Meaning
 pub mod Runs
 pub mod Following
 pub mod Finishing
+pub mod Claiming
+pub mod Naming
+pub mod Passes

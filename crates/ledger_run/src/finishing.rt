@@ -1,9 +1,9 @@
 //! How claims that a crash left half done are finished: a file that stands under a number leaves its box.
 ghost use Rattle.std.specs.Prelude.{◌≡◌, ◌+◌, ◌^◌, [], IfOk, OnOk, OnErr};
-ghost use Rattle.ledger_disk.specs.Plans.{Did, Began};
+ghost use Rattle.ledger_run.specs.Claiming.{DidSome, BeganSome};
 ghost use Rattle.ledger_run.specs.Finishing.{Looks, Adds, Gathered, bound, AreSorted, same_file, is_among, leave_calls, Leaves, Finishes};
 
-use crate::claims::remove_all;
+use crate::claims::remove_each;
 use ledger_disk::{Disk, DiskError, Folder, Identity, Name};
 use std::alloc::Global;
 
@@ -141,18 +141,19 @@ fn claimed_drops<D: Disk>(
     Ok(done)
 }
 
-// These files leave their boxes, and that is brought to the disk.
-fn leave<D: Disk>(disk: &mut D, done: &[u64]) -> Result<(), DiskError>
-    ensures did { OnOk result (Did D.calls (leave_calls done.now) disk.old disk.new) }
-    ensures began { Began D.calls (leave_calls done.now) disk.old disk.new }
+// These files leave their boxes, but where the system refuses it, and that is brought to the disk.
+fn leave<D: Disk>(alloc: Global, disk: &mut D, done: &[u64]) -> Result<(), DiskError>
+    ensures did { OnOk result (DidSome D.calls leave_calls done.now disk.old disk.new) }
+    ensures began { BeganSome D.calls leave_calls done.now disk.old disk.new }
 {
-    remove_all(disk, done)?;
+    let mut gone = Vec::new(alloc);
+    remove_each(disk, done, &mut gone)?;
     disk.sync_folder(Folder::Boxes)?;
     Ok(())
 }
 
 /// Of these files in boxes, by their places, those that stand under a number leave their boxes: a run that claimed them ended before it
-/// took them out. The places of the others that are there.
+/// took them out. One that the system lets nobody take out stays there and under its number. The places of the others that are there.
 ///
 /// # Errors
 ///
@@ -167,6 +168,6 @@ pub fn finish_claims<D: Disk>(
 {
     let mut left = Vec::new(alloc);
     let done = claimed_drops(alloc, disk, drops, &mut left)?;
-    leave(disk, &done)?;
+    leave(alloc, disk, &done)?;
     Ok(left)
 }

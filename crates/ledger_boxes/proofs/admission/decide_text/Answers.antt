@@ -1,6 +1,5 @@
-use Rattle.std.proofs.Common.{◌≡◌, IfOk, sym, subst}
-use Rattle.ledger_boxes.specs.Admission.{Decided, seen_decision}
-use Rattle.ledger_boxes.proofs.Deciding.{its_text, is_weighed}
+use Rattle.ledger_boxes.specs.Admission.{seen_decision}
+use Rattle.ledger_boxes.proofs.Deciding.{each_ok, its_text, by_submission, by_refusal}
 use Rattle.ledger_boxes.proofs.admission.decide_text.Goals as goal
 
 pub decide_submission-requires : goal.decide_submission-requires
@@ -11,6 +10,13 @@ decide_submission-requires c =
 pub returns-in-Ok : goal.returns-in-Ok
 returns-in-Ok c =
     let fine = c.in-Ok.ensures.admitted in
-    subst (λ (d : Decided). IfOk c.decide_submission.result (λ made. seen_decision made ≡ d))
-    (sym (is_weighed c.args.owner.now c.args.name.now c.args.bytes.now c.in-Ok.submission fine.0 fine.1 c.in-Ok.ensures.account c.in-Ok.ensures.lines))
+    each_ok c.decide_submission.result (λ made is.
+    by_submission c.args.owner.now c.args.name.now c.args.bytes.now c.in-Ok.submission fine.0 fine.1 c.in-Ok.ensures.account c.in-Ok.ensures.lines (seen_decision made) is)
     c.decide_submission.ensures
+
+pub returns-in-Err-Refused : goal.returns-in-Err-Refused
+returns-in-Err-Refused c =
+    each_ok c.refused.result (λ made is.
+    by_refusal c.args.owner.now c.args.name.now c.args.bytes.now c.in-Err-Refused.refusal (seen_decision made)
+    (rw c.in-Err-Refused.field-0-is at c.in-Err-Refused.ensures.refused) is)
+    c.refused.ensures

@@ -1,7 +1,7 @@
 use Rattle.std.proofs.Common.{ℕ, List, subst}
-use Rattle.ledger_disk.specs.Plans.{Did, Began}
+use Rattle.ledger_run.specs.Claiming.{DidSome, BeganSome}
 use Rattle.ledger_run.specs.Finishing.{leave_calls}
-use Rattle.ledger_run.proofs.Leaving.{leaves_later, leaves_begun}
+use Rattle.ledger_run.proofs.Leaving.{leaves_later, leaves_begun, finishes}
 use Rattle.ledger_run.proofs.finishing.finish_claims.Goals as goal
 
 pub returns-in_err-done-clause-began : goal.returns-in_err-done-clause-began
@@ -10,17 +10,14 @@ returns-in_err-done-clause-began g c = leaves_later g.D.Disk.calls c.args.disk.n
 pub returns-in_err-leave-clause-began : goal.returns-in_err-leave-clause-began
 returns-in_err-leave-clause-began g c =
     leaves_begun g.D.Disk.calls c.in_ok-done.done.items c.claimed_drops.new.left.items c.args.disk.now c.claimed_drops.new.disk c.leave.new.disk c.in_ok-done.ensures.ok
-    (subst (λ (l : List ℕ). Began g.D.Disk.calls (leave_calls l) c.claimed_drops.new.disk c.leave.new.disk) c.deref.ensures.value c.in_err-leave.ensures.began)
+    (subst (λ (l : List ℕ). BeganSome g.D.Disk.calls leave_calls l c.claimed_drops.new.disk c.leave.new.disk) c.deref.ensures.value c.in_err-leave.ensures.began)
 
 pub returns-clause-began : goal.returns-clause-began
 returns-clause-began g c =
     leaves_begun g.D.Disk.calls c.in_ok-done.done.items c.claimed_drops.new.left.items c.args.disk.now c.claimed_drops.new.disk c.leave.new.disk c.in_ok-done.ensures.ok
-    (subst (λ (l : List ℕ). Began g.D.Disk.calls (leave_calls l) c.claimed_drops.new.disk c.leave.new.disk) c.deref.ensures.value c.in_ok-leave.ensures.began)
+    (subst (λ (l : List ℕ). BeganSome g.D.Disk.calls leave_calls l c.claimed_drops.new.disk c.leave.new.disk) c.deref.ensures.value c.in_ok-leave.ensures.began)
 
 pub returns-clause-did : goal.returns-clause-did
-returns-clause-did g c = record {
-  done = c.in_ok-done.done.items;
-  mid = c.claimed_drops.new.disk;
-  looks = c.in_ok-done.ensures.ok;
-  did = subst (λ (l : List ℕ). Did g.D.Disk.calls (leave_calls l) c.claimed_drops.new.disk c.leave.new.disk) c.deref.ensures.value c.in_ok-leave.ensures.did;
-}
+returns-clause-did g c =
+    finishes g.D.Disk.calls c.in_ok-done.done.items c.claimed_drops.new.left.items c.args.disk.now c.claimed_drops.new.disk c.leave.new.disk c.in_ok-done.ensures.ok
+    (subst (λ (l : List ℕ). DidSome g.D.Disk.calls leave_calls l c.claimed_drops.new.disk c.leave.new.disk) c.deref.ensures.value c.in_ok-leave.ensures.did)

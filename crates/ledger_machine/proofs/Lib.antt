@@ -1,0 +1,7 @@
+pub mod Unmarked
+pub mod Stepping
+pub mod Decking
+pub mod Plain
+pub mod Happening
+pub mod Going
+pub mod Playing

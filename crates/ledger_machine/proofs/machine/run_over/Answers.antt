@@ -1,0 +1,24 @@
+use Rattle.std.proofs.Common.{ℕ, List, ap, ◌∙◌}
+use Rattle.std.specs.Str.Lines.{lines}
+use Rattle.mon_catalogue.specs.Sets.{Sets}
+use Rattle.mon_monitor.specs.Abstraction.{system_of}
+use Rattle.mon_monitor.specs.SystemStates.{first_system}
+use Rattle.deck_syntax.specs.Sections.{Closed}
+use Rattle.ledger_sets.specs.Seeing.{site_of}
+use Rattle.ledger_sets.specs.Changes.{run_changes, change_text}
+use Rattle.ledger_machine.specs.Running.{asked_ahead}
+use Rattle.ledger_machine.specs.Steps.{slots}
+use Rattle.ledger_machine.proofs.Playing.{step_so}
+use Rattle.ledger_machine.proofs.machine.run_over.Goals as goal
+
+pub returns : goal.returns
+returns c =
+    let site = site_of c.args.state.now in
+    let after = c.play_to.new.running in
+    let told = c.play_to.new.told.items in
+    let sets = c.catalogue.result.now in
+    step_so site c.args.accounts (asked_ahead Closed (lines c.args.text.now)) after.jobs (system_of c.in_ok-monitor.monitor) (system_of after.monitor)
+    c.new-out.result.items after.out.items c.new-told.result.items told c.in_ok-change.change.items sets
+    (c.in_ok-monitor.ensures ∙ ap (λ (s : Sets). first_system slots c.args.accounts s) c.in_ok-sets.ensures) c.new-out.ensures.items c.new-told.ensures.items
+    c.in_ok-play_to.ensures.printed c.in_ok-play_to.ensures.left c.in_ok-play_to.ensures.told c.in_ok-play_to.ensures.counted c.catalogue.ensures
+    (c.in_ok-change.ensures ∙ ap (λ (t : List ℕ). change_text (run_changes after.jobs t site.sets sets)) c.deref.ensures.value)

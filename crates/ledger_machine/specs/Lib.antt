@@ -1,0 +1,4 @@
+pub mod Steps
+pub mod Running
+pub mod Decks
+pub mod Laws

@@ -1,0 +1,144 @@
+//! What runs a site's texts: each over a copy of the data sets as they stand, so that one that is broken off has changed nothing.
+ghost use Rattle.std.specs.Prelude.{◌≡◌, List, ◌+◌, ◌++◌, [], Some, IfOk, OnOk};
+ghost use Rattle.std.specs.Str.Lines.{lines};
+ghost use Rattle.mon_monitor.specs.Abstraction.{system_of};
+ghost use Rattle.deck_syntax.specs.Sections.{Closed};
+ghost use Rattle.deck_syntax.specs.Decks.{Asked};
+ghost use Rattle.preflight.specs.Submissions.{IsAdmitted, lines_of};
+ghost use Rattle.site_plan.specs.Tables.{table_of};
+ghost use Rattle.ledger_sets.specs.Seeing.{site_of};
+ghost use Rattle.mon_monitor.specs.Printouts.{printouts_text};
+ghost use Rattle.mon_monitor.specs.Played.{played};
+ghost use Rattle.mon_monitor.specs.Audit.{audit_of};
+ghost use Rattle.deck_run.specs.Laws.{jobs_in};
+ghost use Rattle.ledger_machine.specs.Running.{asked_events, asked_ahead};
+ghost use Rattle.ledger_machine.specs.Steps.{good_of, step_asked, step_at};
+
+use crate::running::{Running, play};
+use deck_syntax::first_line;
+use ledger_run::{LedgerError, Outcome};
+use ledger_sets::{State, copy_catalogue, run_change};
+use mon_access::Accounts;
+use mon_catalogue::Catalogue;
+use mon_device::TextSink;
+use mon_monitor::Monitor;
+use mon_text::{Name, Stop, read_name};
+use preflight::{Submission, examine};
+use site_plan::read_table;
+use sno_text::Seed;
+use std::alloc::{AllocError, Global};
+
+/// Runs a text over a state, which stays: what it prints, and what it changes.
+///
+/// # Errors
+///
+/// Where memory was short; or the state's table gives no accounts, or the text is none that its account may hand in (`Refused`).
+pub fn run_text(
+    alloc: Global,
+    seed: Seed,
+    state: &State,
+    file: &[u8],
+) -> Result<Outcome, LedgerError>
+    ensures { IfOk result (λ outcome. step_at file.now (site_of state.now) ≡ (outcome.printout.items, outcome.change.items)) }
+{
+    if file.is_empty() {
+        return Err(LedgerError::Refused);
+    }
+    let (line, text) = first_line(file);
+    let own = read_own(line)?;
+    let kept = examined(alloc, &own, text)?;
+    drop(kept);
+    let accounts = read_accounts(alloc, &state.tables.accounts)?;
+    run_over(alloc, seed, accounts, state, text)
+}
+
+// Whose text it is.
+fn read_own(line: &[u8]) -> Result<Name, LedgerError>
+    ensures { IfOk result (λ own. own ≡ line.now) }
+{
+    match read_name(line) {
+        Ok(own) => Ok(own),
+        Err(_) => Err(LedgerError::Refused),
+    }
+}
+
+// The text, which its account may hand in.
+fn examined(alloc: Global, own: &Name, text: &[u8]) -> Result<Submission, LedgerError>
+    ensures admitted { IfOk result (λ kept. (asked : List Asked) × IsAdmitted kept asked) }
+    ensures account { IfOk result (λ kept. kept.account ≡ own.now) }
+    ensures lines { IfOk result (λ kept. lines_of kept ≡ lines text.now) }
+{
+    match examine(alloc, own, text) {
+        Ok(kept) => Ok(kept),
+        Err(Stop::Refused(_)) => Err(LedgerError::Refused),
+        Err(Stop::Memory) => Err(LedgerError::from(AllocError)),
+    }
+}
+
+fn read_accounts(alloc: Global, table: &[u8]) -> Result<Accounts, LedgerError>
+    ensures { IfOk result (λ accounts. good_of (table_of table.now) ≡ Some accounts) }
+{
+    match read_table(alloc, table) {
+        Ok(accounts) => Ok(accounts),
+        Err(Stop::Refused(_)) => Err(LedgerError::Refused),
+        Err(Stop::Memory) => Err(LedgerError::from(AllocError)),
+    }
+}
+
+fn copy_of(alloc: Global, catalogue: &Catalogue) -> Result<Catalogue, LedgerError>
+    ensures { IfOk result (λ copy. copy ≡ catalogue.now) }
+{
+    match copy_catalogue(alloc, catalogue) {
+        Ok(copy) => Ok(copy),
+        Err(_) => Err(LedgerError::from(AllocError)),
+    }
+}
+
+// Runs a text that was examined.
+fn run_over(
+    alloc: Global,
+    seed: Seed,
+    accounts: Accounts,
+    state: &State,
+    text: &[u8],
+) -> Result<Outcome, LedgerError>
+    ensures { IfOk result (λ outcome. step_asked (site_of state.now) accounts (asked_ahead Closed (lines text.now))
+        ≡ (outcome.printout.items, outcome.change.items)) }
+{
+    let sets = copy_of(alloc, &state.catalogue)?;
+    let monitor = Monitor::new(alloc, seed, accounts, sets, 4)?;
+    let out = Vec::new(alloc);
+    let mut told = Vec::new(alloc);
+    let mut running = Running {
+        monitor,
+        jobs: state.jobs,
+        out,
+    };
+    play_to(&mut running, alloc, text, &mut told)?;
+    let Running { monitor, jobs, out } = running;
+    let change = run_change(alloc, jobs, &told, &state.catalogue, monitor.catalogue())?;
+    Ok(Outcome {
+        printout: out,
+        change,
+    })
+}
+
+// Plays a text, with its audit appended to a text.
+fn play_to(
+    running: &mut Running,
+    alloc: Global,
+    text: &[u8],
+    told: &mut Vec<u8>,
+) -> Result<(), AllocError>
+    ensures printed { OnOk result (running.new.out.items ≡ running.old.out.items
+        ++ printouts_text (played (asked_events running.old.jobs (asked_ahead Closed (lines text.now))) [] (system_of running.old.monitor)).printouts) }
+    ensures left { OnOk result ((played (asked_events running.old.jobs (asked_ahead Closed (lines text.now))) [] (system_of running.old.monitor)).after
+        ≡ system_of running.new.monitor) }
+    ensures told { OnOk result (told.new.items ≡ told.old.items
+        ++ audit_of (asked_events running.old.jobs (asked_ahead Closed (lines text.now))) [] (system_of running.old.monitor)) }
+    ensures counted { OnOk result (running.old.jobs + jobs_in (asked_ahead Closed (lines text.now)) ≡ running.new.jobs) }
+{
+    let mut sink = TextSink::new(told);
+    play(running, alloc, text, &mut sink)?;
+    sink.settle()
+}

@@ -1,0 +1,4 @@
+//! What holds of the stretches of a ledger: of the records between two acts of the keeper.
+#![tactic(auto)]
+
+pub mod laws;

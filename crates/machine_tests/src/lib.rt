@@ -1,0 +1,5 @@
+//! Tests of the machine that runs a site's texts, in a crate above it.
+#![tactic(auto)]
+
+#[cfg(test)]
+mod life;
