@@ -1,11 +1,14 @@
 """A site's folder to try: of one user with three accounts, of two users of the system, and of a keeper who is not root."""
+from __future__ import annotations
+
 import os
 import pwd
 import re
 import shutil
 import subprocess
 import tempfile
-from trying import SNOMON, TOP, Trying, run
+from typing import Any, Dict, List, Union
+from trying import Done, SNOMON, TOP, Trying, run
 import random_site
 import site_rounds
 
@@ -19,6 +22,7 @@ CATALOGUE = b'$CATALOGUE 2\n$SET LOG anna admin APPEND 1\nuser::rwx,group::---,o
 LIST = b'$LIST %s LOG\n'
 HELLO = b"$JOB %s\n  OUTPUT = 'hello'\nEND\n$EOJ\n"
 NOBODY = 65534
+Name = Union[str, bytes]  # of a file
 OTHER = next((user.pw_uid for user in pwd.getpwall() if user.pw_uid not in (0, NOBODY)), 1)
 STRANGER = 64001  # no user of the system
 
@@ -29,7 +33,7 @@ class SiteTrying(Trying):
     users = dict.fromkeys(NAMES, os.geteuid())
     demonstration = True
 
-    def setUp(self):
+    def setUp(self) -> None:
         room = tempfile.TemporaryDirectory(dir=random_site.ROOM)
         self.addCleanup(room.cleanup)
         self.room = os.path.realpath(room.name)
@@ -37,13 +41,13 @@ class SiteTrying(Trying):
         self.folder = self.path('site')
         self.make(LIMITS)
 
-    def make(self, limits):
+    def make(self, limits: Dict[str, int]) -> None:
         site_rounds.make(self.folder, ACCOUNTS, self.users, limits, self.demonstration, CATALOGUE)
 
-    def site(self, *words, **more):
+    def site(self, *words: str, **more: Any) -> Done:
         return run([SITE, *words], cwd=self.room, **more)
 
-    def run_site(self, status=0, rounds=1):
+    def run_site(self, status: int = 0, rounds: int = 1) -> Done:
         """Runs what is due; each round's deck gives its output and its audit by a plain run, and `snomon-site verify` says so."""
         before = self.last_round()
         done = self.site('run', self.folder)
@@ -55,30 +59,30 @@ class SiteTrying(Trying):
             self.assertEqual(self.site('verify', self.folder, str(number)).status, 0)
         return done
 
-    def last_round(self):
+    def last_round(self) -> int:
         return max([int(name.split('.')[0]) for name in os.listdir(self.folder + '/rounds')], default=0)
 
-    def of(self, name):
+    def of(self, name: str) -> bytes:
         return self.read(os.path.join(self.folder, name))
 
-    def box(self, account, name):
+    def box(self, account: str, name: Name) -> bytes:
         return os.fsencode('%s/in/%s/' % (self.folder, account)) + os.fsencode(name)
 
-    def drop(self, account, name, content):
+    def drop(self, account: str, name: Name, content: bytes) -> None:
         random_site.write(self.box(account, name), content, self.users[account])
 
-    def answers(self, account):
+    def answers(self, account: str) -> Dict[int, str]:
         """What the account got, by id."""
         return {int(name.split('.')[0]): self.of('out/%s/%s' % (account, name)).decode() for name in sorted(os.listdir(self.folder + '/out/' + account))}
 
-    def waiting(self, account):
+    def waiting(self, account: str) -> List[str]:
         return sorted(os.listdir(self.folder + '/in/' + account))
 
-    def with_limits(self, **limits):
+    def with_limits(self, **limits: int) -> None:
         with open(self.folder + '/limits', 'w') as file:
             file.write(''.join('%s %d\n' % one for one in {**LIMITS, **limits}.items()) + 'demonstration\n' * self.demonstration)
 
-    def says(self, done, status, *texts):
+    def says(self, done: Done, status: int, *texts: str) -> None:
         """It ended so, and standard error has lines that begin with `snomon-site: `, and these texts."""
         self.assertEqual(done.status, status, done.err)
         self.assertTrue(done.err and all(line.startswith('snomon-site: ') for line in done.err.splitlines()), done.err)
@@ -92,12 +96,12 @@ class UsersTrying(SiteTrying):
     users = {'anna': NOBODY, 'lisa': OTHER}
     demonstration = False
 
-    def as_user(self, account, script, *words):
+    def as_user(self, account: str, script: str, *words: str) -> int:
         uid = self.users[account]
         done = subprocess.run(['/bin/sh', '-c', script, 'sh', *words], user=uid, group=uid, extra_groups=[], cwd='/', capture_output=True, timeout=60)
         return done.returncode
 
-    def drops(self, account, name, content):
+    def drops(self, account: str, name: Name, content: bytes) -> None:
         with tempfile.NamedTemporaryFile(dir=self.room) as file:
             file.write(content)
             file.flush()
@@ -110,7 +114,7 @@ class KeeperTrying(UsersTrying):
 
     keeper = 64010
 
-    def setUp(self):
+    def setUp(self) -> None:
         super().setUp()
         self.program = SITE
         with open(SITE, 'rb') as file:
@@ -129,10 +133,10 @@ class KeeperTrying(UsersTrying):
             os.chmod(self.folder + '/in/' + account, 0o2770)
             os.chmod(self.folder + '/out/' + account, 0o2750)
 
-    def site(self, *words, **more):
+    def site(self, *words: str, **more: Any) -> Done:
         return run([self.program, *words], cwd='/', user=self.keeper, group=self.keeper, extra_groups=[], umask=0o027, **more)
 
-    def drops(self, account, name, content):
+    def drops(self, account: str, name: Name, content: bytes) -> None:
         super().drops(account, name, content)
         os.chmod(self.box(account, name), 0o640)
 
@@ -151,7 +155,7 @@ SETS = [b'$SET SECRET lisa staff SEQ 6\n' + RIGHTS + b''.join(b'the secret %d\n'
 WHOLE = b'$CATALOGUE 2\n' + b''.join(SETS)
 
 
-def version_1(catalogue):
+def version_1(catalogue: bytes) -> bytes:
     """The same data sets in the first version of the text, which has no modes."""
     lines = catalogue.replace(b'$CATALOGUE 2\n', b'$CATALOGUE\n', 1)
     return re.sub(rb'^(\$SET \w+ \w+ \w+) (SEQ|APPEND) (\d+)$', rb'\1 \3', lines, flags=re.M)
@@ -160,11 +164,11 @@ def version_1(catalogue):
 class Kept(SiteTrying):
     """Sites of which something is wrong, so that nothing in them may change."""
 
-    def standing(self):
+    def standing(self) -> random_site.Tree:
         found = random_site.tree(self.folder)
         return {name: one for name, one in found.items() if name.split('/')[0] in KEPT and not name.startswith('taken/junk')}
 
-    def refusal(self, name):
+    def refusal(self, name: str) -> str:
         """What `run` and `status` say of the file for which both refuse the site; or how they do not, or what has changed."""
         before, begun, told = self.standing(), 'snomon-site: %s/%s: ' % (self.folder, name), []
         ended = [self.site(command, self.folder) for command in ('run', 'status')]
@@ -175,22 +179,22 @@ class Kept(SiteTrying):
             return told[0]
         return 'NOT REFUSED: ' + ''.join('status %d: %s%s; ' % (done.status, done.out.decode(), done.err) for done in ended) + 'changed: %s' % changed
 
-    def is_refused(self, name):
+    def refuses(self, name: str) -> str:
         said = self.refusal(name)
         if said.startswith('NOT REFUSED'):
             self.fail(said)
         return said
 
-    def refused_line(self, name):
+    def refused_line(self, name: str) -> Union[int, str]:
         """The line of the file that is told, or what came instead."""
         said = self.refusal(name)
         line = re.match(r'line (\d+): .', said)
         return int(line.group(1)) if line else said
 
-    def put(self, name, content):
+    def put(self, name: str, content: bytes) -> None:
         self.write('site/' + name, content)
 
-    def serves(self, account='lisa'):
+    def serves(self, account: str = 'lisa') -> None:
         """One more text of this account is answered in the next run."""
         before = len(self.answers(account))
         self.drop(account, 'one more', b'$LIST %s LOG\n' % account.encode())
@@ -203,7 +207,7 @@ ODD = 'x\n\x1b[2J\x1b]0;owned\x07\x9b2J\x7fsnomon-site: DISK FAILURE'
 
 
 class Told(Kept):
-    def is_told_plainly(self, done):
+    def is_told_plainly(self, done: Done) -> None:
         """Nothing of what it said can move a terminal's cursor, or be taken for a line of its own."""
         said = done.out.decode() + done.err
         self.assertEqual([c for c in said if c != '\n' and (c < ' ' or '\x7f' <= c < '\xa0')], [], said)

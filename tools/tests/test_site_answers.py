@@ -1,10 +1,13 @@
 """The answers of users whose primary group has others in it, at a site whose keeper is not root: examples/site/answers-acl."""
+from __future__ import annotations
+
 import os
 import shutil
 import stat
 import subprocess
 import unittest
-from trying import TOP, run
+from typing import Any, Optional
+from trying import Done, NO_WORDS, TOP, run
 import sites
 
 GIVE = os.path.join(TOP, 'examples', 'site', 'answers-acl')
@@ -13,7 +16,7 @@ LIST, REFUSED = b'$LIST anna LOG\n', b'$STOP\n'
 HAND_OVER = 'chown "$1:$1" "$2" "$2"/*; chgrp "$1" "$2"/in/*; chown "$1" "$2"/out/*'
 
 
-def keeps_acls(folder):
+def keeps_acls(folder: str) -> bool:
     """Whether there is setfacl, and the file system takes what it gives."""
     if not shutil.which('setfacl'):
         return False
@@ -30,7 +33,7 @@ class Answers(sites.SiteTrying):
     users = {'anna': ANNA, 'lisa': LISA}
     demonstration = False
 
-    def setUp(self):
+    def setUp(self) -> None:
         super().setUp()
         if not keeps_acls(self.room):
             self.skipTest('no acls can be set here')
@@ -38,27 +41,27 @@ class Answers(sites.SiteTrying):
         shutil.copy(sites.SITE, self.program)
         self.hand_over()
 
-    def hand_over(self):
+    def hand_over(self) -> None:
         """The folder, as root made it, is given to the keeper."""
         for name in os.listdir(self.folder + '/out'):
             os.chown(self.folder + '/out/' + name, -1, GROUP)
         done = run(['/bin/sh', '-e', '-c', HAND_OVER, 'sh', str(KEEPER), self.folder])
         self.assertEqual((done.status, done.err), (0, ''))
 
-    def site(self, *words, **more):
+    def site(self, *words: str, **more: Any) -> Done:
         return run([self.program, *words], cwd='/', user=KEEPER, group=KEEPER, extra_groups=[], umask=0o027, **more)
 
-    def drop(self, account, name, content):
+    def drop(self, account: str, name: sites.Name, content: bytes) -> None:
         super().drop(account, name, content)
         os.chown(self.box(account, name), -1, KEEPER)
         os.chmod(self.box(account, name), 0o640)
 
-    def can(self, uid, script, path):
+    def can(self, uid: int, script: str, path: str) -> bool:
         """Whether a user of the group can do that."""
         return subprocess.run(['/bin/sh', '-c', script, 'sh', path], user=uid, group=GROUP, extra_groups=[], cwd='/', capture_output=True,
                               timeout=60).returncode == 0
 
-    def answer(self, account, content, status=0):
+    def answer(self, account: str, content: bytes, status: int = 0) -> str:
         """A round answers one text: the path of the answer."""
         before = set(os.listdir(self.folder + '/out/' + account))
         self.drop(account, 'it', content)
@@ -66,17 +69,17 @@ class Answers(sites.SiteTrying):
         new, = set(os.listdir(self.folder + '/out/' + account)) - before
         return '%s/out/%s/%s' % (self.folder, account, new)
 
-    def give(self, folder=None):
+    def give(self, folder: Optional[str] = None) -> Done:
         return run([GIVE, folder or self.folder], cwd='/')
 
-    def test_what_root_made_is_the_keepers(self):
+    def test_what_root_made_is_the_keepers(self) -> None:
         self.assertEqual(self.site('status', self.folder).status, 0)
         for name, wanted in {'': (KEEPER, KEEPER, 0o755), 'catalogue': (KEEPER, KEEPER, 0o600), 'rounds': (KEEPER, KEEPER, 0o700),
                              'in/anna': (ANNA, KEEPER, 0o2770), 'out/anna': (KEEPER, GROUP, 0o2750)}.items():
             seen = os.stat(os.path.join(self.folder, name))
             self.assertEqual((seen.st_uid, seen.st_gid, stat.S_IMODE(seen.st_mode)), wanted, name)
 
-    def test_only_its_user_reads_an_answer(self):
+    def test_only_its_user_reads_an_answer(self) -> None:
         before = self.answer('anna', LIST)
         self.assertEqual([self.can(uid, 'cat "$1"', before) for uid in (ANNA, LISA)], [True, True])
         done = self.give()
@@ -90,14 +93,14 @@ class Answers(sites.SiteTrying):
         hers = self.answer('lisa', b'$LIST lisa LOG\n')
         self.assertEqual([self.can(uid, 'cat "$1"', hers) for uid in (ANNA, LISA)], [False, True])
 
-    def test_an_answer_keeps_its_own_acl_where_it_is_reached_otherwise(self):
+    def test_an_answer_keeps_its_own_acl_where_it_is_reached_otherwise(self) -> None:
         self.give()
         path = self.answer('anna', LIST)
         os.rename(path, self.path('aside'))
         self.assertEqual([self.can(uid, 'cat "$1"', self.path('aside')) for uid in (ANNA, LISA, KEEPER)], [True, False, True])
         self.assertFalse(any(self.can(uid, 'echo >>"$1"', self.path('aside')) for uid in (ANNA, LISA)))
 
-    def test_nobody_else_lists_or_changes_the_folder(self):
+    def test_nobody_else_lists_or_changes_the_folder(self) -> None:
         self.give()
         self.answer('anna', LIST)
         folder = self.folder + '/out/anna'
@@ -106,7 +109,7 @@ class Answers(sites.SiteTrying):
             self.assertFalse(self.can(uid, 'echo >"$1/new"', folder))
             self.assertFalse(self.can(uid, 'rm -f "$1"/*.out && ! ls "$1"/*.out', folder))
 
-    def test_the_site_finds_nothing_wrong_with_it(self):
+    def test_the_site_finds_nothing_wrong_with_it(self) -> None:
         self.give()
         for name in ('out/anna', 'out/lisa'):
             seen = os.stat(os.path.join(self.folder, name))
@@ -118,7 +121,7 @@ class Answers(sites.SiteTrying):
         seen = os.stat(path)
         self.assertEqual((seen.st_uid, stat.S_IMODE(seen.st_mode)), (KEEPER, 0o640))
 
-    def test_an_account_that_changed_hands_is_given_anew(self):
+    def test_an_account_that_changed_hands_is_given_anew(self) -> None:
         self.give()
         before = self.answer('anna', LIST)
         self.write('site/users', b'# who\n\n  %d  lisa\n%d anna' % (ANNA, LISA))
@@ -127,7 +130,7 @@ class Answers(sites.SiteTrying):
         self.assertEqual([self.can(uid, 'ls "$1"', self.folder + '/out/anna') for uid in (ANNA, LISA)], [False, True])
         self.assertFalse(self.can(ANNA, 'cat "$1"', before))
 
-    def test_what_is_no_folder_of_the_site_is_left_alone(self):
+    def test_what_is_no_folder_of_the_site_is_left_alone(self) -> None:
         os.mkdir(self.path('elsewhere'))
         os.rename(self.folder + '/out/anna', self.path('anna'))
         os.symlink(self.path('elsewhere'), self.folder + '/out/anna')
@@ -142,8 +145,8 @@ class Answers(sites.SiteTrying):
         self.assertEqual((done.status, done.out), (1, b''))
         self.assertIn('is no user and account', done.err)
 
-    def test_other_words_are_refused(self):
-        for words in ([], ['-h'], [self.folder, 'more']):
+    def test_other_words_are_refused(self) -> None:
+        for words in (NO_WORDS, ['-h'], [self.folder, 'more']):
             done = run([GIVE, *words])
             self.assertEqual((done.status, done.out), (2, b''))
             self.assertIn('answers-acl DIR', done.err)

@@ -1,6 +1,9 @@
 """What of a box is claimed, and names that are no plain ones."""
+from __future__ import annotations
+
 import os
 import unittest
+from typing import Callable, List
 from sites import HELLO, Kept, LISTED, ODD, SITE, Told
 
 
@@ -8,7 +11,7 @@ from sites import HELLO, Kept, LISTED, ODD, SITE, Told
 class Boxes(Kept):
     """What of a box is claimed."""
 
-    def test_names_that_are_hidden_or_kept_aside_stay(self):
+    def test_names_that_are_hidden_or_kept_aside_stay(self) -> None:
         aside = ['.', '..', '.hidden', '.x.swp', 'x~', 'report.job~', '.both~', '~']
         for name in aside[2:]:
             self.drop('lisa', name, HELLO % b'lisa')
@@ -17,7 +20,7 @@ class Boxes(Kept):
         self.assertEqual((self.waiting('lisa'), self.answers('lisa')), (sorted(aside[2:]), {1: LISTED % 'lisa'}))
         self.run_site(rounds=0)
 
-    def test_no_more_than_twice_the_texts_of_a_box_are_claimed_a_round(self):
+    def test_no_more_than_twice_the_texts_of_a_box_are_claimed_a_round(self) -> None:
         self.put('limits', self.of('limits').replace(b'texts 10\n', b'texts 2\n'))
         names = ['%02d' % k for k in range(11)]
         for name in names:
@@ -33,7 +36,7 @@ class Boxes(Kept):
             self.assertEqual([text for text in new if not text.startswith('REFUSED ')], [LISTED % 'lisa'] * 2)
         self.assertEqual((len(self.answers('lisa')), self.answers('hugo')), (11, {5: LISTED % 'hugo'}))
 
-    def test_thousands_of_names_stop_nobody(self):
+    def test_thousands_of_names_stop_nobody(self) -> None:
         self.put('limits', self.of('limits').replace(b'texts 10\n', b'texts 1\n'))
         for k in range(3000):
             self.drop('anna', '%d' % k + 'x' * 200, b'')
@@ -46,7 +49,7 @@ class Boxes(Kept):
 class OddNames(Told):
     """A name that a user or a keeper chose is told in characters that do nothing."""
 
-    def test_a_folder_of_an_odd_name_is_told_plainly(self):
+    def test_a_folder_of_an_odd_name_is_told_plainly(self) -> None:
         place = self.path(ODD)
         os.rename(self.folder, place)
         self.folder = place
@@ -62,8 +65,9 @@ class OddNames(Told):
         self.assertIn('/limits: ', done.err)
         self.is_told_plainly(done)
 
-    def test_files_of_odd_names_are_told_plainly(self):
-        for k, make in enumerate((os.mkdir, os.mkfifo, lambda path: os.symlink(b'nowhere', path))):
+    def test_files_of_odd_names_are_told_plainly(self) -> None:
+        makers: List[Callable[[bytes], None]] = [os.mkdir, os.mkfifo, lambda path: os.symlink(b'nowhere', path)]
+        for k, make in enumerate(makers):
             make(self.box('anna', ODD + str(k)))
         self.drop('anna', ODD + '7', b'$STOP\n')
         for command in ('status', 'run', 'status'):

@@ -1,4 +1,6 @@
 """Rounds that break off: what is on the disk before, and a keeper's edit while a round is open."""
+from __future__ import annotations
+
 import os
 import signal
 import stat
@@ -11,7 +13,7 @@ from breaking import Going, Watching
 class Disk(Watching):
     """What a run decides by is on the disk before, and no claimed file is ever on the disk under no name."""
 
-    def test_all_folders_are_brought_to_the_disk_before_anything_is_changed(self):
+    def test_all_folders_are_brought_to_the_disk_before_anything_is_changed(self) -> None:
         self.drop('lisa', 'it', b'$LIST lisa LOG\n')
         done, calls = self.watched()
         self.assertEqual(done.status, 0, done.err)
@@ -20,13 +22,13 @@ class Disk(Watching):
         folders = ['.', 'in', 'out', 'rounds', 'taken'] + ['%s/%s' % (place, name) for place in ('in', 'out') for name in self.users]
         self.assertEqual([name for name in folders if name not in settled], [], calls[:changes[0] + 1])
 
-    def test_a_claimed_file_is_on_the_disk_before_its_old_name_goes(self):
+    def test_a_claimed_file_is_on_the_disk_before_its_old_name_goes(self) -> None:
         for name in ('it', 'other'):
             self.drop('lisa', name, b'$LIST lisa LOG\n')
         done, calls = self.watched()
         self.assertEqual(done.status, 0, done.err)
 
-        def next_of(begin, *wanted):
+        def next_of(begin: int, *wanted: str) -> int:
             return next(k for k in range(begin, len(calls) + 1) if k == len(calls) or calls[k][:len(wanted)] == list(wanted))
 
         for name in ('it', 'other'):
@@ -48,13 +50,13 @@ class DiskOfAKeeper(KeeperTrying, Disk):
 class Edits(Going):
     """A keeper's edit of the catalogue while a round is open is not lost without a word."""
 
-    def is_refused_until_put_back(self, behind, *asked):
+    def is_refused_until_put_back(self, behind: str, *asked: str) -> None:
         self.drop('lisa', 'it', self.GIVES)
         self.break_off(behind)
         before = self.of('catalogue')
         for edited in (before.replace(b'LOG anna', b'LOG hugo'), before + SETS[1]):
             self.put('catalogue', edited)
-            said = self.is_refused('catalogue')
+            said = self.refuses('catalogue')
             self.assertGreater(len(said.split()), 5, 'what to do is told')
         self.put('catalogue', before)
         done = self.site('run', self.folder)
@@ -63,32 +65,32 @@ class Edits(Going):
         self.put('catalogue', self.of('catalogue').replace(b'LOG anna', b'LOG hugo')) # where no round is open, the keeper may
         self.serves()
 
-    def test_an_edit_behind_a_plan_is_refused_until_it_is_put_back(self):
+    def test_an_edit_behind_a_plan_is_refused_until_it_is_put_back(self) -> None:
         self.is_refused_until_put_back('rounds/1.deck')
 
-    def test_an_edit_behind_the_output_of_a_round_is_refused_until_it_is_put_back(self):
+    def test_an_edit_behind_the_output_of_a_round_is_refused_until_it_is_put_back(self) -> None:
         self.is_refused_until_put_back('rounds/1.out')
 
-    def test_an_edit_behind_the_new_catalogue_is_refused_until_it_is_put_back(self):
+    def test_an_edit_behind_the_new_catalogue_is_refused_until_it_is_put_back(self) -> None:
         self.is_refused_until_put_back('catalogue')
 
-    def test_an_edit_while_a_round_is_run_is_refused_until_it_is_put_back(self):
+    def test_an_edit_while_a_round_is_run_is_refused_until_it_is_put_back(self) -> None:
         edited = CATALOGUE.replace(b'LOG anna', b'LOG hugo')
 
-        def edit():
+        def edit() -> int:
             self.put('catalogue', edited)
             return signal.SIGCONT
 
         self.drop('lisa', 'it', self.GIVES)
         done, _ = self.watched('behind rounds/1.deck', edit)
         self.says(done, 3, '/catalogue: ')
-        self.is_refused('catalogue')
+        self.refuses('catalogue')
         self.assertEqual((self.of('catalogue'), self.answers('lisa')), (edited, {}))
         self.put('catalogue', CATALOGUE)
         done = self.site('run', self.folder)
         self.assertEqual((done.status, self.answers('lisa')), (0, {1: self.GIVEN}), done.err)
 
-    def test_a_round_that_broke_off_goes_on_without_an_edit(self):
+    def test_a_round_that_broke_off_goes_on_without_an_edit(self) -> None:
         for number, name in enumerate(('rounds/%d.deck', 'rounds/%d.out', 'catalogue', 'out/lisa/%08d.out', 'taken/lisa.%08d'), 1):
             self.drop('lisa', 'it', b'$LIST lisa LOG\n')
             self.break_off(name % number if '%' in name else name)

@@ -1,8 +1,11 @@
 """Catalogues that are cut off or not whole, and texts that are made to speak for another account through them."""
+from __future__ import annotations
+
 import os
 import re
 import shutil
 import unittest
+from typing import List, Tuple
 from sites import ACCOUNTS, CATALOGUE, HELLO, Kept, RIGHTS, SETS, SITE, WHOLE, version_1
 
 # A job whose data would be cards of lisa's, if a catalogue in front of it took its first lines for records.
@@ -14,7 +17,7 @@ PREPARED = (b'$JOB anna\nEND\n' + b'\n' * 50 + b' $STREAM\n $LIST lisa SECRET\n 
 class Catalogues(Kept):
     """A catalogue is its header and whole data sets, up to its end, and nothing else."""
 
-    def cuts(self, catalogue):
+    def cuts(self, catalogue: bytes) -> List[Tuple[List[bytes], bool]]:
         """(the lines up to a line end, whether a data set ends there)"""
         lines, whole, sets = catalogue.splitlines(keepends=True), [1], 1
         for one in SETS:
@@ -22,7 +25,7 @@ class Catalogues(Kept):
             whole.append(sets)
         return [(lines[:count], count in whole) for count in range(1, len(lines) + 1)]
 
-    def speaks_for_itself(self, catalogue):
+    def speaks_for_itself(self, catalogue: bytes) -> bool:
         """Whether the prepared text got what is its own, its catalogue is as it was, and lisa her list."""
         lists = 'LIST lisa SECRET\n' + (' the secret %d\n' * 6 % (0, 1, 2, 3, 4, 5) + 'RECORDS 6\n' if SETS[0][:12] in catalogue else 'DENIED NO DATA SET\n')
         self.drop('lisa', 'it', b'$LIST lisa SECRET\n')
@@ -31,7 +34,7 @@ class Catalogues(Kept):
         left = len(self.of('catalogue').splitlines())
         return (done.status, got, left) == (0, ['JOB anna\nEND NORMAL AFTER 0\n', lists], len(catalogue.splitlines()))
 
-    def try_each_cut(self, catalogue):
+    def try_each_cut(self, catalogue: bytes) -> None:
         wrong = []
         for lines, is_whole in self.cuts(catalogue):
             self.put('catalogue', b''.join(lines))
@@ -48,19 +51,19 @@ class Catalogues(Kept):
         if wrong:
             self.fail('%d cuts: %s' % (len(wrong), wrong[:2]))
 
-    def test_a_catalogue_that_is_cut_off_at_any_line_end_lets_no_text_speak_for_another(self):
+    def test_a_catalogue_that_is_cut_off_at_any_line_end_lets_no_text_speak_for_another(self) -> None:
         self.try_each_cut(WHOLE)
 
-    def test_a_catalogue_of_the_first_version_that_is_cut_off_does_not_either(self):
+    def test_a_catalogue_of_the_first_version_that_is_cut_off_does_not_either(self) -> None:
         lines = version_1(WHOLE).splitlines(keepends=True)
         for count in (2, 3, 5, len(lines) - 1):
             self.put('catalogue', b''.join(lines[:count]))
             self.drop('anna', 'prepared', PREPARED)
-            self.is_refused('catalogue')
+            self.refuses('catalogue')
         self.put('catalogue', b''.join(lines))
         self.assertTrue(self.speaks_for_itself(WHOLE), self.answers('anna'))
 
-    def test_a_catalogue_that_is_a_piece_of_a_deck_is_refused(self):
+    def test_a_catalogue_that_is_a_piece_of_a_deck_is_refused(self) -> None:
         self.drop('lisa', 'it', b'$LIST lisa LOG\n')
         self.drop('anna', 'it', b'$LIST anna LOG\n')
         self.run_site()
@@ -73,7 +76,7 @@ class Catalogues(Kept):
             self.assertEqual(self.refused_line('catalogue'), begun, content)
         self.assertEqual((self.waiting('hugo'), self.answers('hugo')), (['it'], {}))
 
-    def test_no_site_is_made_of_a_catalogue_that_is_not_whole(self):
+    def test_no_site_is_made_of_a_catalogue_that_is_not_whole(self) -> None:
         accounts, made = self.write('the-accounts', ACCOUNTS), self.path('made')
         words = ['init', made, '--accounts', accounts, '--demonstration', '--catalogue']
         for lines, is_whole in self.cuts(WHOLE):
@@ -117,7 +120,7 @@ class Catalogues(Kept):
         (BEGUN + b'x\n\n$STREAM\n', 6),
     ]
 
-    def test_the_line_of_a_catalogue_that_is_wrong_is_told_by_run_and_status_alike(self):
+    def test_the_line_of_a_catalogue_that_is_wrong_is_told_by_run_and_status_alike(self) -> None:
         self.drop('hugo', 'it', b'$LIST hugo LOG\n')
         wrong = []
         for content, line in self.WRONG:
@@ -133,7 +136,7 @@ class Catalogues(Kept):
         self.put('catalogue', CATALOGUE)
         self.run_site()
 
-    def test_who_owns_too_much_by_a_catalogue_of_the_first_version_is_held_to_the_limits(self):
+    def test_who_owns_too_much_by_a_catalogue_of_the_first_version_is_held_to_the_limits(self) -> None:
         hers = [b'$SET %s lisa staff SEQ 1\n' % name + RIGHTS + b'hello\n' for name in (b'A', b'B')]
         catalogue = b'$CATALOGUE 2\n' + b''.join(hers)
         for content in (version_1(catalogue), catalogue):

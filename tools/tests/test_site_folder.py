@@ -1,15 +1,18 @@
 """A site's folder: what in it is refused, what the keeper is told, how it is made, and whose its files are."""
+from __future__ import annotations
+
 import fcntl
 import os
 import stat
 import unittest
 from sites import ACCOUNTS, CATALOGUE, HELLO, LIST, SITE, SiteTrying
+from trying import NO_WORDS
 import random_site
 
 
 @unittest.skipUnless(os.path.exists(SITE), 'there is no site')
 class Folder(SiteTrying):
-    def test_a_folder_that_is_too_open_is_refused(self):
+    def test_a_folder_that_is_too_open_is_refused(self) -> None:
         for name in ('accounts', 'users', 'limits', 'catalogue', 'taken', 'rounds', 'in', 'out', 'out/anna', '.'):
             path = os.path.join(self.folder, name)
             mode = stat.S_IMODE(os.lstat(path).st_mode)
@@ -25,7 +28,7 @@ class Folder(SiteTrying):
             os.chmod(os.path.join(self.folder, name), 0o700 if name != 'catalogue' else 0o600)
         self.run_site()
 
-    def test_a_box_that_is_too_open_is_passed_over_alone(self):
+    def test_a_box_that_is_too_open_is_passed_over_alone(self) -> None:
         self.drop('anna', 'it', LIST % b'anna')
         self.drop('lisa', 'it', LIST % b'lisa')
         os.chmod(self.folder + '/in/anna', 0o2777)
@@ -40,7 +43,7 @@ class Folder(SiteTrying):
         self.run_site()
         self.assertEqual(len(self.answers('anna')), 1)
 
-    def test_a_folder_that_lacks_something_is_refused(self):
+    def test_a_folder_that_lacks_something_is_refused(self) -> None:
         self.drop('anna', 'it', LIST % b'anna')
         for name in ('accounts', 'users', 'limits', 'catalogue', 'taken', 'rounds', 'in', 'out'):
             os.rename(os.path.join(self.folder, name), self.path('aside'))
@@ -50,7 +53,7 @@ class Folder(SiteTrying):
         self.says(self.site('run', self.path('nowhere')), 3, 'nowhere')
         self.run_site()
 
-    def test_what_the_keeper_wrote_wrong_is_told(self):
+    def test_what_the_keeper_wrote_wrong_is_told(self) -> None:
         wrong = {'users': [b'anna 1\n', b'1 anna\n1 lisa\n2 anna\n', b'4294967296 anna\n', b'-1 anna\n', b'1 nobody\n', b'', b'# none\n\n'],
                  'limits': [b'texts 1\n', b'', b'texts x\n'], 'accounts': [b'anna\n', b'anna a\nanna b\n', b'$STREAM\n', b'', b'\n']}
         self.drop('anna', 'it', LIST % b'anna')
@@ -63,7 +66,7 @@ class Folder(SiteTrying):
             self.write('site/' + name, before)
         self.run_site()
 
-    def test_a_catalogue_that_is_wrong_is_told_and_nothing_is_lost(self):
+    def test_a_catalogue_that_is_wrong_is_told_and_nothing_is_lost(self) -> None:
         self.drop('anna', 'it', LIST % b'anna')
         for content in (b'', b'$CATALOGUE 2\n$SET A\n', b'$CATALOGUE 2\n$SET A anna admin SEQ 1\nuser::rwx,group::---,other::---\n'):
             self.write('site/catalogue', content)
@@ -73,7 +76,7 @@ class Folder(SiteTrying):
         self.assertEqual(self.site('run', self.folder).status, 0)
         self.assertEqual(self.answers('anna'), {1: 'LIST anna LOG\n first\nRECORDS 1\n'})
 
-    def test_a_second_run_at_a_time_is_told(self):
+    def test_a_second_run_at_a_time_is_told(self) -> None:
         self.drop('anna', 'it', LIST % b'anna')
         with open(self.folder + '/lock', 'rb') as file:
             fcntl.flock(file, fcntl.LOCK_EX)
@@ -81,13 +84,13 @@ class Folder(SiteTrying):
             self.assertEqual(self.waiting('anna'), ['it'])
         self.run_site()
 
-    def test_other_words_are_refused(self):
-        for words in ([], ['go'], ['run'], ['run', 'a', 'b'], ['run', '--bogus', 'a'], ['check', 'a'], ['verify', 'a'], ['verify', 'a', 'x'],
+    def test_other_words_are_refused(self) -> None:
+        for words in (NO_WORDS, ['go'], ['run'], ['run', 'a', 'b'], ['run', '--bogus', 'a'], ['check', 'a'], ['verify', 'a'], ['verify', 'a', 'x'],
                       ['init'], ['status'], ['--bogus']):
             done = self.site(*words)
             self.assertEqual((done.status, done.out, bool(done.err)), (2, b'', True), words)
 
-    def test_status_tells_what_stands(self):
+    def test_status_tells_what_stands(self) -> None:
         self.drop('anna', 'it', LIST % b'anna')
         self.drop('lisa', 'it', LIST % b'lisa')
         done = self.site('status', self.folder)
@@ -102,7 +105,7 @@ class Folder(SiteTrying):
         self.assertIn('last round: 1, not done', self.site('status', self.folder).out.decode())
         self.run_site(rounds=0)
 
-    def test_the_last_account_may_have_no_line_end(self):
+    def test_the_last_account_may_have_no_line_end(self) -> None:
         decks = []
         for ending in (b'\n', b'', b'\r\n'):
             with open(self.folder + '/accounts', 'wb') as file:
@@ -120,7 +123,7 @@ class Folder(SiteTrying):
             self.says(self.site(command, self.folder), 3, 'accounts', 'line 4')
         self.assertEqual((self.waiting('hugo'), os.listdir(self.folder + '/taken')), (['it'], []))
 
-    def test_a_catalogue_that_is_cut_off_is_told_before_a_text_is_claimed(self):
+    def test_a_catalogue_that_is_cut_off_is_told_before_a_text_is_claimed(self) -> None:
         self.drop('hugo', 'it', LIST % b'hugo')
         for content, told in ((CATALOGUE[:-1], 'line 4: the last line has no line end'), (CATALOGUE[:-3], 'line 4: the last line has no line end'),
                               (CATALOGUE[:-6], 'line 4: the file ends within a data set'), (b'', 'line 1: not $CATALOGUE')):
@@ -137,7 +140,7 @@ class Folder(SiteTrying):
         self.says(self.site(*words), 3, 'sets', 'line end')
         self.assertFalse(os.path.exists(self.path('new')))
 
-    def test_init_makes_the_folder(self):
+    def test_init_makes_the_folder(self) -> None:
         accounts = self.write('the-accounts', ACCOUNTS)
         words = ['init', self.path('new'), '--accounts', accounts]
         done = self.site(*words, '--demonstration')
@@ -152,7 +155,7 @@ class Folder(SiteTrying):
         self.run_site()
         self.says(self.site(*words, '--demonstration'), 3, 'new')
 
-    def test_modes_do_not_depend_on_the_umask(self):
+    def test_modes_do_not_depend_on_the_umask(self) -> None:
         modes = []
         for umask in (0, 0o022, 0o077):
             self.drop('anna', 'it', LIST % b'anna')
@@ -162,7 +165,7 @@ class Folder(SiteTrying):
             modes.append(sorted({name.rsplit('/', 1)[0]: mode for name, (_, mode, *_) in found.items()}.items()))
         self.assertEqual(modes, modes[:1] * 3)
 
-    def test_the_files_of_a_round_are_the_keepers_alone(self):
+    def test_the_files_of_a_round_are_the_keepers_alone(self) -> None:
         self.drop('anna', 'it', LIST % b'anna')
         self.run_site()
         for name in os.listdir(self.folder + '/rounds'):

@@ -1,17 +1,21 @@
 """Texts that take more memory than there is, and texts beyond the limits of their account."""
+from __future__ import annotations
+
 import os
 import resource
 import unittest
+from typing import Dict, List, Tuple
 from sites import HELLO, LIST, SITE, SiteTrying
+from trying import Done
 
 
 @unittest.skipUnless(os.path.exists(SITE), 'there is no site')
 class Memory(SiteTrying):
-    def short_of_memory(self):
+    def short_of_memory(self) -> Done:
         """A run in an address space of 40 MB."""
         return self.site('run', self.folder, preexec_fn=lambda: resource.setrlimit(resource.RLIMIT_AS, (40 << 20, resource.RLIM_INFINITY)))
 
-    def test_many_large_files_take_no_memory(self):
+    def test_many_large_files_take_no_memory(self) -> None:
         self.with_limits(bytes=2000000, texts=100)
         for k in range(200):
             self.drop('anna', '%03d' % k, b' ' * 200 + b'\n' + b'#' * 1000000)
@@ -19,7 +23,7 @@ class Memory(SiteTrying):
         done = self.short_of_memory()
         self.assertEqual((done.status, len(self.answers('lisa'))), (1, 1), done.err)
 
-    def test_a_text_without_memory_is_put_off_and_run_alone(self):
+    def test_a_text_without_memory_is_put_off_and_run_alone(self) -> None:
         self.with_limits(bytes=10000000)
         big = b'$JOB lisa\nEND\n' + b'X\n' * 400000 + b'$EOJ\n'
         for name in ('big', 'later'):
@@ -41,7 +45,7 @@ class Memory(SiteTrying):
         self.assertEqual(self.site('run', self.folder).status, 0)
         self.assertEqual((self.answers('lisa')[3], os.listdir(self.folder + '/taken')), ('JOB 1 lisa\nEND NORMAL AFTER 0\n', []))
 
-    def test_an_audit_that_fits_no_disk_puts_its_text_off(self):
+    def test_an_audit_that_fits_no_disk_puts_its_text_off(self) -> None:
         # Files have at most 100,000 bytes. Whoever writes more is told so, since the signal for it is not heeded.
         limits = dict(preexec_fn=lambda: resource.setrlimit(resource.RLIMIT_FSIZE, (100000, resource.RLIM_INFINITY)), restore_signals=False)
         reads = b"$JOB lisa ST=50000\n$UNIT 8 LOG\n INPUT('R',8)\nLOOP X = R :S(LOOP)\n K = LT(K,9000) K + 1 :F(END)\n REWIND(8) :(LOOP)\nEND\n$EOJ\n"
@@ -61,7 +65,7 @@ class Memory(SiteTrying):
 
 @unittest.skipUnless(os.path.exists(SITE), 'there is no site')
 class Limits(SiteTrying):
-    def refused_at(self, limit, value, *texts):
+    def refused_at(self, limit: str, value: int, *texts: bytes) -> List[str]:
         """The replies where this limit is so; the first text is within it."""
         self.with_limits(**{limit: value})
         before = len(self.answers('anna'))
@@ -70,24 +74,24 @@ class Limits(SiteTrying):
         self.run_site(status=1)
         return [text for text in list(self.answers('anna').values())[before:] if text.startswith('REFUSED')]
 
-    def test_each_limit_is_named_with_what_breaks_it(self):
+    def test_each_limit_is_named_with_what_breaks_it(self) -> None:
         job = b'$JOB anna ST=%d MATCH=%d\nEND\n$EOJ\n'
-        refused = {
-            'texts': (1, b'', b'$DRAIN\n'), 'bytes': (20, b'$DRAIN\n', b'$DRAIN\n', b'$DRAIN\n'), 'jobs': (1, job % (1, 1), job % (2, 1)),
-            'statements': (10, job % (4, 1), job % (7, 1)), 'largest': (12, job % (3, 4), job % (13, 1)), 'work': (20, job % (3, 4), job % (3, 3)),
-            'data_sets': (2, b'$CREATE anna A\n', b'$CREATE anna B\n')}
+        refused: Dict[str, Tuple[int, List[bytes]]] = {
+            'texts': (1, [b'', b'$DRAIN\n']), 'bytes': (20, [b'$DRAIN\n', b'$DRAIN\n', b'$DRAIN\n']), 'jobs': (1, [job % (1, 1), job % (2, 1)]),
+            'statements': (10, [job % (4, 1), job % (7, 1)]), 'largest': (12, [job % (3, 4), job % (13, 1)]), 'work': (20, [job % (3, 4), job % (3, 3)]),
+            'data_sets': (2, [b'$CREATE anna A\n', b'$CREATE anna B\n'])}
         sums = {'texts': 2, 'bytes': 21, 'jobs': 2, 'statements': 11, 'largest': 13, 'work': 21, 'data_sets': 3}
-        for limit, (most, *texts) in refused.items():
+        for limit, (most, texts) in refused.items():
             last = len(texts) - 1
             self.assertEqual(self.refused_at(limit, most, *texts), ['REFUSED %d\nLIMIT %s: %d of %d\n' % (last, limit, sums[limit], most)])
 
-    def test_who_owns_too_much_can_still_delete(self):
+    def test_who_owns_too_much_can_still_delete(self) -> None:
         self.assertEqual(self.refused_at('records', 4, b'$LIST anna LOG\n', HELLO % b'anna'), ['REFUSED 1\nLIMIT records: 5 of 4\n'])
         self.drop('anna', 'x', b'$DELETE anna LOG\n')
         self.run_site()
         self.assertEqual(self.of('catalogue'), b'$CATALOGUE 2\n')
 
-    def test_a_smaller_text_behind_one_that_breaks_a_limit_runs(self):
+    def test_a_smaller_text_behind_one_that_breaks_a_limit_runs(self) -> None:
         job = b'$JOB anna ST=%d\nEND\n$EOJ\n'
         refused = self.refused_at('statements', 10, job % 6, job % 5, job % 4)
         self.assertEqual(refused, ['REFUSED 1\nLIMIT statements: 11 of 10\n'])

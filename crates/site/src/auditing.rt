@@ -4,6 +4,7 @@ ghost use Rattle.std.specs.Prelude.{◌≡◌, ◌≤◌, true, false, None, len
 
 use crate::fault::{Fault, Wrong};
 use crate::place::{Place, System};
+use crate::progress::{Watch, Watched};
 use crate::serving::run_parted;
 use mon_device::{
     DeckDevices, DeckWriter, DeviceSink, Devices, Failed, MemReader, Room, StdWriter,
@@ -26,8 +27,9 @@ pub fn run_audited<R: System>(
 ) -> Result<Result<Round, RoundError>, Fault> {
     let name = audit_name(place, n)?;
     let room = Room::new(place.rt.alloc())?;
+    let watch = Watch::new(place, n, &parted.texts, true)?;
     let file = place.begin(&name)?;
-    let (told, file) = run_to_file(place, parted, room, file);
+    let (told, file) = run_to_file(place, parted, room, file, watch);
     end_audit(place, &name, file, told)
 }
 
@@ -37,11 +39,12 @@ fn run_to_file<R: System>(
     parted: Parted,
     room: Room,
     file: R::File,
+    watch: Watch<R>,
 ) -> (Told, R::File) {
     let mut room = room;
     let writer = StdWriter::<R::File, Brand>::new(file);
     let mut devices = Devices::new(MemReader::new(b""), writer);
-    let told = run_told(place.rt.alloc(), parted, &mut devices, &mut room);
+    let told = run_told(place.rt.alloc(), parted, &mut devices, &mut room, watch);
     (told, devices.writer.into_inner())
 }
 
@@ -72,7 +75,8 @@ pub fn run_compared<R: System>(
 ) -> Result<Option<Result<Round, RoundError>>, Fault> {
     let stored = stored_audit(place, n)?;
     let room = Room::new(place.rt.alloc())?;
-    Ok(run_against(place.rt.alloc(), parted, room, stored))
+    let watch = Watch::new(place, n, &parted.texts, false)?;
+    Ok(run_against(place.rt.alloc(), parted, room, stored, watch))
 }
 
 fn stored_audit<R: System>(place: &Place<R>, n: u64) -> Result<Stored<R::File>, Fault>
@@ -83,17 +87,18 @@ fn stored_audit<R: System>(place: &Place<R>, n: u64) -> Result<Stored<R::File>, 
     Ok(Stored::new(place.rt.alloc(), file)?)
 }
 
-fn run_against<F: Read + Drop>(
+fn run_against<F: Read + Drop, R: System>(
     alloc: Global,
     parted: Parted,
     room: Room,
     stored: Stored<F>,
+    watch: Watch<R>,
 ) -> Option<Result<Round, RoundError>>
     requires { stored.has_failed ≡ false }
 {
     let mut room = room;
     let mut devices = Devices::new(MemReader::new(b""), stored);
-    let told = run_told(alloc, parted, &mut devices, &mut room);
+    let told = run_told(alloc, parted, &mut devices, &mut room, watch);
     if !told.is_whole {
         return None;
     }
@@ -112,14 +117,24 @@ struct Told {
 }
 
 // Runs a round whose audit goes to these devices.
-fn run_told<D: DeckDevices>(alloc: Global, parted: Parted, devices: &mut D, room: &mut Room) -> Told
+fn run_told<D: DeckDevices, R: System>(
+    alloc: Global,
+    parted: Parted,
+    devices: &mut D,
+    room: &mut Room,
+    watch: Watch<R>,
+) -> Told
     requires { (D.read_failed devices.old ≡ false) × (D.write_failed devices.old ≡ false) }
 {
-    let mut audit = DeviceSink::new(devices, room);
-    let ended = run_parted(alloc, parted, &mut audit);
+    let mut watch = watch;
+    watch.renew();
+    let audit = DeviceSink::new(devices, room);
+    let mut watched = Watched { audit, watch };
+    let ended = run_parted(alloc, parted, &mut watched);
+    watched.watch.end();
     Told {
         ended,
-        is_whole: audit.settle().is_ok(),
+        is_whole: watched.audit.settle().is_ok(),
     }
 }
 

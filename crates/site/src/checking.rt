@@ -3,20 +3,40 @@ use crate::auditing::run_compared;
 use crate::fault::{Fault, Wrong};
 use crate::place::{Place, System, read_there};
 use crate::serving::{part_deck_of, parts_of, plan_there};
+use deck_review::{Detail, review_submission};
 use mon_text::{Name, Stop};
 use preflight::examine;
 use rounds::{Round, RoundError};
 use site_plan::{Plan, Reason, reply, shown_name};
+use std::alloc::Global;
 
-/// What the user of an account would be told of a file, if its text is refused.
-pub fn check_file<R: System>(rt: &R, path: &str, account: &Name) -> Result<Option<Vec<u8>>, Fault> {
+/// What is told of a text.
+#[derive(Drop)]
+pub struct Checked {
+    /// Whether it is admitted, or what its user is told; and then each mistake in it, and each warning.
+    pub told: Vec<u8>,
+    /// Whether it is admitted, and has no mistake.
+    pub is_good: bool,
+}
+
+/// What is told of the text of a file, which an account would hand in.
+pub fn check_file<R: System>(rt: &R, path: &str, account: &Name) -> Result<Checked, Fault> {
     let text = read_there(rt, path)?;
-    match examine(rt.alloc(), account, &text) {
-        Ok(_) => Ok(None),
+    let mut told = reply_to(rt.alloc(), path, account, &text)?;
+    let review = review_submission(rt.alloc(), Detail::Jobs, account, &text)?;
+    told.extend_from_slice(&review.out)?;
+    Ok(Checked {
+        told,
+        is_good: review.tally.mistakes == 0,
+    })
+}
+
+fn reply_to(alloc: Global, path: &str, account: &Name, text: &[u8]) -> Result<Vec<u8>, Fault> {
+    match examine(alloc, account, text) {
+        Ok(_) => Ok(Vec::from_slice(alloc, b"ADMITTED\n")?),
         Err(Stop::Refused(refusal)) => {
             let file = shown_name(last_part(path));
-            let told = reply(rt.alloc(), file, account, Reason::Line(refusal), &text)?;
-            Ok(Some(told))
+            Ok(reply(alloc, file, account, Reason::Line(refusal), text)?)
         }
         Err(Stop::Memory) => Err(Fault::Memory),
     }
@@ -32,8 +52,9 @@ fn last_part(path: &str) -> &[u8] {
 }
 
 /// Runs a round again, from its deck, and tells whether its output is the same, its parts and its audit.
-pub fn verify<R: System>(rt: R, top: String, n: u64) -> Result<bool, Fault> {
-    let place = Place::new(rt, top);
+pub fn verify<R: System>(rt: R, top: String, n: u64, tells: bool) -> Result<bool, Fault> {
+    let mut place = Place::new(rt, top);
+    place.tells = tells;
     let plan = plan_there(&place, n)?;
     verify_plan(&place, n, &plan)
 }

@@ -13,6 +13,7 @@ mod opening;
 mod options;
 mod place;
 mod planning;
+mod progress;
 mod round_files;
 mod running;
 mod serving;
@@ -29,11 +30,16 @@ use running::{Report, run_site};
 use status::refuse_lock;
 use std::alloc::AllocError;
 use std::fs::{File, OpenOptions, TryLockError};
+use std::io::IsTerminal;
 use std::os::unix::fs::OpenOptionsExt;
 use std::process::ExitCode;
 use std::rt::Env;
-use std::{env, io};
+use std::time::Duration;
+use std::{env, io, thread};
 use telling::{tell_check, tell_made, tell_run, tell_status, tell_verified, tell_words};
+
+/// How often a lock is tried that is held.
+const LOCK_ATTEMPTS: u64 = 3;
 
 fn main(rt: HostRuntime) -> ExitCode {
     let status = match given_words(&rt) {
@@ -62,9 +68,12 @@ fn serve(rt: &HostRuntime, asked: Asked) -> u8 {
     match asked {
         Asked::Init(init) => tell_made(rt, make_site(*rt, &init)),
         Asked::Run(top) => run(rt, top),
-        Asked::Status(top) => tell_status(rt, top),
+        Asked::Status(top) => {
+            let is_held = is_held(rt, &top);
+            tell_status(rt, top, is_held)
+        }
         Asked::Check(file, account) => tell_check(rt, check_file(rt, &file, &account)),
-        Asked::Verify(top, n) => tell_verified(rt, n, verify(*rt, top, n)),
+        Asked::Verify(top, n) => tell_verified(rt, n, verify(*rt, top, n, tells(rt))),
     }
 }
 
@@ -75,7 +84,7 @@ fn run(rt: &HostRuntime, top: String) -> u8 {
         passed: Vec::new(rt.alloc()),
     };
     let ended = match lock(rt, &top) {
-        Ok(_held) => run_site(*rt, top, &mut report),
+        Ok(_held) => run_site(*rt, top, tells(rt), &mut report),
         Err(fault) => Err(fault),
     };
     tell_run(rt, &report, ended)
@@ -91,12 +100,38 @@ fn lock(rt: &HostRuntime, top: &str) -> Result<File, Fault> {
     }
 }
 
+// Whoever asks whether it is held has it for a moment: so it is tried a few times.
 fn hold(rt: &HostRuntime, path: String, file: File) -> Result<File, Fault> {
-    match file.try_lock() {
-        Ok(()) => Ok(file),
-        Err(TryLockError::WouldBlock) => Err(Fault::Held(path)),
-        Err(TryLockError::Error(error)) => Err(Fault::failed(rt.alloc(), &path, error)),
+    for _ in 0..LOCK_ATTEMPTS {
+        match file.try_lock() {
+            Ok(()) => return Ok(file),
+            Err(TryLockError::WouldBlock) => thread::sleep(rt, Duration::from_millis(20)),
+            Err(TryLockError::Error(error)) => {
+                return Err(Fault::failed(rt.alloc(), &path, error));
+            }
+        }
     }
+    Err(Fault::Held(path))
+}
+
+// Whether somebody holds the lock of a site.
+fn is_held(rt: &HostRuntime, top: &str) -> bool {
+    match look_at_lock(rt, top) {
+        Some(file) => matches!(file.try_lock_shared(), Err(TryLockError::WouldBlock)),
+        None => false,
+    }
+}
+
+// It is opened only where it is a file of the keeper's: to open a pipe would be to wait.
+fn look_at_lock(rt: &HostRuntime, top: &str) -> Option<File> {
+    refuse_lock(*rt, top).ok()?;
+    let path = joined(rt.alloc(), top, "lock").ok()?;
+    File::open(rt, path.as_str()).ok()
+}
+
+// Whether somebody looks on at a terminal.
+fn tells(rt: &HostRuntime) -> bool {
+    rt.stderr().is_terminal()
 }
 
 fn open_lock(rt: &HostRuntime, path: &str) -> io::Result<File> {

@@ -12,6 +12,7 @@ use std::fs::{DirBuilder, DirEntry, File, Metadata, OpenFile, OpenOptions, Permi
 use std::io::{ErrorKind, Read, Write};
 use std::os::unix::fs::{DirBuilderExt, MetadataExt, OpenOptionsExt, PermissionsExt, lchown};
 use std::rt::Files;
+use std::time::Clock;
 use std::{fs, io, mem, str};
 
 /// The folder in `taken` for what is no part of a round.
@@ -31,9 +32,9 @@ pub enum Linked {
 }
 
 /// What the program asks of the system.
-pub trait System: Files + AllocGlobal + Clone + Drop {}
+pub trait System: Files + AllocGlobal + Clock + Eprint + Clone + Drop {}
 
-impl<R: Files + AllocGlobal + Clone + Drop> System for R {}
+impl<R: Files + AllocGlobal + Clock + Eprint + Clone + Drop> System for R {}
 
 /// The folder of a site.
 #[derive(Drop)]
@@ -42,6 +43,8 @@ pub struct Place<R: System> {
     pub rt: R,
     /// The path of the folder.
     pub top: String,
+    /// Whether a run tells on a terminal how far it is.
+    pub tells: bool,
     // Whose the answers are.
     users: Vec<User>,
     // Whether root runs the program, once a file was made.
@@ -63,6 +66,7 @@ impl<R: System> Place<R> {
         Place {
             rt,
             top,
+            tells: false,
             users: Vec::new(alloc),
             is_root: None,
             changed: Vec::new(alloc),

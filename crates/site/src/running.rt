@@ -27,9 +27,16 @@ pub struct Report {
     pub passed: Vec<Fault>,
 }
 
-/// Brings what stands there to its end, and serves what users dropped: first, one by one, the texts that are to run alone.
-pub fn run_site<R: System>(rt: R, top: String, report: &mut Report) -> Result<(), Fault> {
+/// Brings what stands there to its end, and serves what users dropped: first, one by one, the texts that are to run alone. It may tell on
+/// a terminal how far it is.
+pub fn run_site<R: System>(
+    rt: R,
+    top: String,
+    tells: bool,
+    report: &mut Report,
+) -> Result<(), Fault> {
     let (mut place, keeper) = open_site(rt, top)?;
+    place.tells = tells;
     refuse_open(&place, &keeper)?;
     let ended = run_opened(&mut place, &keeper, report);
     for fault in place.take_noted() {

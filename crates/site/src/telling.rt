@@ -1,9 +1,11 @@
 //! What the program tells, and its exit status.
+use crate::checking::Checked;
 use crate::claiming::{all_taken, waiting};
 use crate::fault::{FAILED, Fault};
 use crate::keeper::{Keeper, open_site};
 use crate::numbers::{last_round, refuse_damaged};
 use crate::place::{Place, System};
+use crate::progress::{Progress, progress_there, seconds_now};
 use crate::running::{Report, Served};
 use crate::status::faults_of;
 use clap::Error;
@@ -93,11 +95,13 @@ fn status_of_rounds(served: &[Served]) -> u8 {
     if whole { 0 } else { REFUSED }
 }
 
-/// Tells what a text would be told.
-pub fn tell_check<R: Print + Eprint>(rt: &R, checked: Result<Option<Vec<u8>>, Fault>) -> u8 {
+/// Tells what a text would be told, and each mistake in it.
+pub fn tell_check<R: Print + Eprint>(rt: &R, checked: Result<Checked, Fault>) -> u8 {
     match checked {
-        Ok(None) => status_of(println!(rt; "ADMITTED"), 0),
-        Ok(Some(reply)) => status_of(tell_text(rt, &reply), REFUSED),
+        Ok(checked) => {
+            let status = if checked.is_good { 0 } else { REFUSED };
+            status_of(tell_text(rt, &checked.told), status)
+        }
         Err(fault) => tell_fault(rt, &fault),
     }
 }
@@ -119,11 +123,11 @@ pub fn tell_verified<R: Print + Eprint>(rt: &R, n: u64, same: Result<bool, Fault
     }
 }
 
-/// Tells what stands in a site, and what is wrong with it.
-pub fn tell_status<R: Teller>(rt: &R, top: String) -> u8 {
+/// Tells what stands in a site, and what is wrong with it; and how far a run is, where one holds the lock.
+pub fn tell_status<R: Teller>(rt: &R, top: String, is_held: bool) -> u8 {
     match rt.clone() {
         Ok(own) => match open_site(own, top) {
-            Ok((place, keeper)) => match tell_standing(rt, &place, &keeper) {
+            Ok((place, keeper)) => match tell_standing(rt, &place, &keeper, is_held) {
                 Ok(status) => status,
                 Err(fault) => tell_fault(rt, &fault),
             },
@@ -133,7 +137,12 @@ pub fn tell_status<R: Teller>(rt: &R, top: String) -> u8 {
     }
 }
 
-fn tell_standing<R: Teller>(rt: &R, place: &Place<R>, keeper: &Keeper) -> Result<u8, Fault> {
+fn tell_standing<R: Teller>(
+    rt: &R,
+    place: &Place<R>,
+    keeper: &Keeper,
+    is_held: bool,
+) -> Result<u8, Fault> {
     let faults = faults_of(place, keeper)?;
     tell_faults(rt, &faults.boxes);
     tell_faults(rt, &faults.grave);
@@ -141,6 +150,7 @@ fn tell_standing<R: Teller>(rt: &R, place: &Place<R>, keeper: &Keeper) -> Result
         return Ok(FAILED);
     }
     refuse_damaged(place)?;
+    tell_progress(rt, place, is_held)?;
     tell_work(rt, place, keeper)?;
     Ok(if faults.boxes.is_empty() { 0 } else { FAILED })
 }
@@ -149,6 +159,31 @@ fn tell_faults<R: Eprint>(rt: &R, faults: &[Fault]) {
     for fault in faults {
         let _status = tell_fault(rt, fault);
     }
+}
+
+// Tells how far a run is, where one holds the lock, or how far one was that was ended.
+fn tell_progress<R: Teller>(rt: &R, place: &Place<R>, is_held: bool) -> Result<(), Fault> {
+    let _told = match progress_there(place) {
+        Some(far) if is_held => tell_at_work(rt, far),
+        Some(far) if !place.has_round_file(far.round, b".done")? => tell_ended(rt, far),
+        None if is_held => println!(rt; "at work: the lock is held"),
+        _ => Ok(()),
+    };
+    Ok(())
+}
+
+fn tell_at_work<R: Teller>(rt: &R, far: Progress) -> io::Result<()> {
+    let (round, text, texts) = (far.round, far.text, far.texts);
+    let (hours, minutes, seconds) = (far.since / 3600 % 24, far.since / 60 % 60, far.since % 60);
+    let passed = seconds_now(rt).saturating_sub(far.since);
+    println!(rt;
+        "at work: round {round}, submission {text} of {texts}, since {hours:02}:{minutes:02}:{seconds:02} UTC, for {passed} s"
+    )
+}
+
+fn tell_ended<R: Teller>(rt: &R, far: Progress) -> io::Result<()> {
+    let (round, text, texts) = (far.round, far.text, far.texts);
+    println!(rt; "a run was ended: round {round}, submission {text} of {texts}")
 }
 
 // Tells what was done, and what waits.

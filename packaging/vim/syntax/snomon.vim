@@ -1,4 +1,4 @@
-" Vim syntax file: decks of snomon, and programs in SNOBOL4. Words are those of LANGUAGE and of snomon-deck(5).
+" Vim syntax file: decks of snomon, and programs in SNOBOL4. Words are those of docs/reference/language.md and of snomon-deck(5).
 if exists('b:current_syntax')
   finish
 endif
