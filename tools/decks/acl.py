@@ -9,7 +9,7 @@ from .files import opened
 from .lists import canonical
 from .real_files import Map, RealFile, Say, deviation, escaped, files_of, list_of, real_file
 from .rounds import at_its_catalogue
-from .text import OutputLines, Refused, text_of
+from .text import Refused, text_of
 
 
 def import_lists(path: str, names: Map, tell: Say, catalogue: BinaryIO) -> None:

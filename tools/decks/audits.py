@@ -15,7 +15,7 @@ from typing import BinaryIO, Dict, Iterator, List, Set, Tuple
 
 from . import progress
 from .audit import Asked, asked_of, cells_of
-from .files import blaming, copied, opened
+from .files import blaming, copied, opened, say
 from .tables import Row
 from .text import CATALOGUE_LIMIT, OutputLines, Refused, shown
 
@@ -146,7 +146,11 @@ def _without_ending(name: str) -> str:
 
 def _in_folder(folder: str) -> List[str]:
     with blaming(folder):
-        names = [name for name in os.listdir(folder) if name.endswith(ENDING) and not name.startswith('.')]
+        there = [name for name in os.listdir(folder) if not name.startswith('.')]
+    names = [name for name in there if name.endswith(ENDING)]
+    packed = sum(name.endswith(ENDING + '.gz') for name in there)
+    if packed:
+        say(f'{folder}: {packed} of its files end in {ENDING}.gz, and are not asked: unpack them')
     if not names:
         raise Refused(f'{folder}: it has no file NAME{ENDING}')
     return [os.path.join(folder, name) for name in sorted(names, key=_by_number)]

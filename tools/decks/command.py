@@ -191,7 +191,8 @@ def _add_try(kind: Kind) -> None:
     made.add_argument('data', nargs='?', metavar='DATA', help='a file with the lines that it reads')
     made.add_argument('--unit', dest='units', type=a_unit, action='append', default=[], metavar='N=FILE',
                       help='tie this unit, 1 to 99, to a data set UNITn that has the lines of the file, and is of mode SEQ; may be given for '
-                           'several units')
+                           'several units. For a unit that the program writes give an empty file, as /dev/null: get OUTPUT UNITn then has what '
+                           'it wrote')
     made.set_defaults(refuse=made.error)
     _gives(made, 'the deck')
 
@@ -208,6 +209,8 @@ def _add_split(kind: Kind) -> None:
                       help='how many decks at most, 1 to %s; %%(default)s where it is not given' % PARTS_LIMIT)
     made.add_argument('--slots', type=up_to(SLOTS_LIMIT), default=4, metavar='N',
                       help='with how many slots the decks will be run, 1 to 8; %(default)s where it is not given')
+    made.add_argument('--ties', action='store_true',
+                      help='say, too, which data sets several jobs have units for, and how many jobs each keeps in one deck')
     made = kind('join', _join, 'put together the outputs of the decks that split has made',
                 'Jobs are numbered, and data sets stand, as in the output of the whole deck.')
     made.add_argument('folder', metavar='DIR', help='the folder that split filled, with an output for each deck')
@@ -386,7 +389,7 @@ def _try(options: argparse.Namespace) -> None:
 
 
 def _split(options: argparse.Namespace) -> None:
-    decks, notes = split.split_deck(options.deck, options.folder, options.parts, options.slots)
+    decks, notes = split.split_deck(options.deck, options.folder, options.parts, options.slots, options.ties)
     for note in notes:
         say(note)
     with written(None) as file:

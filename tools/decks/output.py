@@ -86,7 +86,8 @@ class Output:
             return version
         if self.is_at_a_printout():
             raise self.lines.refused(f'the catalogue is due, and there is {shown(self.line)}')
-        raise self.lines.refused(f'no line of an output before its catalogue begins with $: {shown(self.line)}')
+        raise self.lines.refused(f'no line of an output before its catalogue begins with $: {shown(self.line)}' +
+                                 (', so this is a deck' if self.line == b'$ACCOUNTS' else ''))
 
     def data_sets(self) -> Iterator[Found]:
         """Those of the catalogue whose heading is the line at hand, to the end of the output."""

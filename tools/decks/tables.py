@@ -5,8 +5,6 @@ import json
 from dataclasses import dataclass
 from typing import BinaryIO, Callable, FrozenSet, Iterable, Iterator, List, Tuple
 
-FORMS = ('table', 'csv', 'json')
-
 Row = Tuple[str, ...]
 Rows = Callable[[], Iterator[List[Row]]]  # all rows, from the first on each time
 

@@ -9,11 +9,11 @@ TOP = os.path.join(os.path.dirname(os.path.realpath(__file__)), '..', '..')
 
 
 def drawn(words: List[str], usage: Optional[str], name: str, picture: str, of: str) -> int:
-    """The status of a call with these words; `picture` draws docs/NAME.svg, and `of` says what it is then."""
+    """The status of a call with these words; `picture` draws docs/pictures/NAME.svg, and `of` says what it is then."""
     if words not in ([], ['--check']):
         print(usage, file=sys.stderr)
         return 2
-    path = os.path.join(TOP, 'docs', name + '.svg')
+    path = os.path.join(TOP, 'docs', 'pictures', name + '.svg')
     if not words:
         with open(path, 'w', encoding='utf-8') as file:
             file.write(picture)

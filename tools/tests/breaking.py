@@ -1,4 +1,6 @@
 """Runs of a site whose calls on files are told, and which stop or end where a test says so."""
+from __future__ import annotations
+
 import functools
 import os
 import re
@@ -7,9 +9,13 @@ import signal
 import tempfile
 import threading
 import time
+from typing import Callable, List, Optional, Tuple
 from sites import Kept, LISTED
+from trying import Done
 import failing_files
 import random_site
+
+Act = Callable[[], int]  # the signal by which a run goes on that was stopped
 
 # What a run does with the folder, told call by call; and a stop right before a name is claimed, or right behind a name stands.
 WATCH = r'''
@@ -90,7 +96,7 @@ ONE(fdatasync, (int f), (f), f, NULL, "fsync")
 
 
 @functools.lru_cache(maxsize=None)
-def watching():
+def watching() -> Tuple[str, tempfile.TemporaryDirectory[str]]:
     """The library, and the folder of it, which goes with this process."""
     room = tempfile.TemporaryDirectory(dir=random_site.ROOM)
     os.chmod(room.name, 0o755)
@@ -100,14 +106,15 @@ def watching():
 class Watching(Kept):
     """Runs whose calls are told."""
 
-    def watched(self, stop=None, act=None):
+    def watched(self, stop: Optional[str] = None, act: Act = lambda: signal.SIGCONT) -> Tuple[Done, List[List[str]]]:
         """How a run ended, and its calls. Where it stops, `act` does something, and says by which signal it goes on."""
         if not shutil.which('cc'):
             self.skipTest('there is no C compiler')
         self.write('calls', b'')
         os.chmod(self.path('calls'), 0o666)
         more = {'LD_PRELOAD': watching()[0], 'SITE_FOLDER': self.folder, 'CALLS': self.path('calls'), **({'STOP': stop} if stop else {})}
-        ended, failed = threading.Event(), []
+        ended = threading.Event()
+        failed: List[OSError] = []
         waiting = threading.Thread(target=self.act_at_stop, args=[act, ended, failed])
         waiting.start()
         try:
@@ -121,11 +128,11 @@ class Watching(Kept):
         self.assertEqual(([call for call, *_ in calls].count('stop'), failed), (1 if stop else 0, []), (done.err, calls))
         return done, calls
 
-    def act_at_stop(self, act, ended, failed):
+    def act_at_stop(self, act: Act, ended: threading.Event, failed: List[OSError]) -> None:
         while not ended.is_set():
             told = re.search(rb'^stop\t(\d+)\t\n', self.read('calls'), re.M)
             if told and is_stopped(int(told[1])):
-                goes_on = signal.SIGCONT
+                goes_on: int = signal.SIGCONT
                 try:
                     goes_on = act()
                 except OSError as fault:
@@ -135,7 +142,7 @@ class Watching(Kept):
             time.sleep(0.001)
 
 
-def is_stopped(process):
+def is_stopped(process: int) -> bool:
     try:
         with open('/proc/%d/stat' % process, 'rb') as file:
             return file.read().rsplit(b')', 1)[1].split()[0] == b'T'
@@ -149,7 +156,7 @@ class Going(Watching):
     GIVES = b'$CREATE lisa NEW\n$LIST lisa LOG\n'
     GIVEN = 'CREATE lisa NEW\nDONE\n' + LISTED % 'lisa'
 
-    def break_off(self, name):
+    def break_off(self, name: str) -> None:
         """A run that ended right behind the moment at which this name stood."""
         done, _ = self.watched('behind ' + name, lambda: signal.SIGKILL)
         self.assertEqual(done.status, -signal.SIGKILL, done.err)

@@ -1,8 +1,11 @@
 """A small repository of its own, with the scripts of this one, beside an rt that takes a script for a program."""
+from __future__ import annotations
+
 import hashlib
 import os
 import shutil
-from trying import TOP, Trying, run
+from typing import Dict
+from trying import Done, TOP, Trying, run
 
 # A toolchain whose programs say their words and then their deck.
 RT = '''#!/bin/sh
@@ -24,18 +27,18 @@ OF_THE_GATE = b'#!/bin/sh\necho of the gate "$@"\n'
 RELEASED = b'#!/bin/sh\necho released "$@"\n'
 
 
-def sha256(content):
+def sha256(content: bytes) -> str:
     return hashlib.sha256(content).hexdigest()
 
 
-def without_rt():
+def without_rt() -> Dict[str, str]:
     """The environment of a machine that has no toolchain."""
     folders = os.environ['PATH'].split(os.pathsep)
     return {**os.environ, 'PATH': os.pathsep.join(folder for folder in folders if not os.path.exists(os.path.join(folder, 'rt')))}
 
 
 class Checkout(Trying):
-    def setUp(self):
+    def setUp(self) -> None:
         super().setUp()
         for name in ('tools', 'examples', 'bin', 'crates/snomon/src', 'crates/listing/src', 'crates/site/src',
                      'crates/mon_low/specs', 'crates/other/src'):
@@ -53,34 +56,34 @@ class Checkout(Trying):
         self.write('version', b'kit 1\n')
         self.script('bin/rt', RT.encode())
 
-    def script(self, name, content):
+    def script(self, name: str, content: bytes) -> None:
         os.makedirs(os.path.dirname(self.path(name)), exist_ok=True)
         self.write(name, content)
         os.chmod(self.path(name), 0o755)
 
-    def environment(self, with_rt=True):
+    def environment(self, with_rt: bool = True) -> Dict[str, str]:
         bare = without_rt()
         return {**bare, 'ROOM': self.room, 'PATH': os.pathsep.join([self.path('bin')] * with_rt + [bare['PATH']])}
 
-    def ran(self, *words, with_rt=True):
+    def ran(self, *words: str, with_rt: bool = True) -> Done:
         return run([self.path('run'), *words], given=b'deck\n', env=self.environment(with_rt), cwd='/')
 
-    def proved(self, *words):
+    def proved(self, *words: str) -> Done:
         return run([self.path('tools/proved'), *words], given=b'', cwd='/', env=self.environment())
 
-    def sum(self, name='snomon'):
+    def sum(self, name: str = 'snomon') -> str:
         return self.proved('--sum', name, 'kit 1').out.decode().strip('\n')
 
-    def builds(self):
+    def builds(self) -> int:
         return self.read('said').count(b'built') if 'said' in self.names() else 0
 
-    def release(self):
+    def release(self) -> None:
         for name in PROGRAMS:
             self.script(f'release/{name}', RELEASED)
         self.write('release/SHA256SUMS', ''.join(f'{sha256(RELEASED)}  {name}\n' for name in PROGRAMS).encode())
         self.write('release/SOURCES', ('commit 1234\ntoolchain kit 1\n' + ''.join(f'{name} {self.sum(name)}\n' for name in PROGRAMS)).encode())
 
-    def stamp(self, name, content):
+    def stamp(self, name: str, content: bytes) -> None:
         """As the gate does with a program that it has built."""
         self.script(f'crates/{name}/out/{name}', content)
         self.proved('--stamp', name, self.sum(name), 'kit 1')

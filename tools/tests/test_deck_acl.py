@@ -1,10 +1,13 @@
 """Permission lists of real files as those of data sets, and back: `acl`, and `new --acl`."""
+from __future__ import annotations
+
 import os
 import random
 import shutil
 import subprocess
 import unittest
-from trying import Trying, deck, run
+from typing import Iterable, List, Tuple
+from trying import Done, Trying, deck, run
 
 GETFACL = b'''# file: payroll
 # owner: root
@@ -41,6 +44,7 @@ group 1007 staff
 group _ssh ssh
 file b\\040c/LOG LOG
 '''
+MAP_OF_NAMES = MAP.replace(b'\\040', b' ').replace(b'file b c/LOG LOG', b'')
 PAY = b'$SET PAY anna staff 0\nuser::rw-,user:lisa:rwx,group::r--,group:ssh:r--,mask::r--,other::---\n'
 LOG = b'$SET LOG anna admin 0\nuser::rw-,group::---,other::r--\n'
 PEOPLE = range(45_001, 45_007)  # numbers of users that nobody has
@@ -48,7 +52,7 @@ GROUPS = range(46_001, 46_005)
 HAS_TOOLS = all(map(shutil.which, ('getfacl', 'setfacl')))
 
 
-def has_lists(folder):
+def has_lists(folder: str) -> bool:
     """Whether a file there can have a list."""
     path = os.path.join(folder, 'file')
     with open(path, 'wb'):
@@ -60,15 +64,15 @@ def has_lists(folder):
 class Read(Trying):
     """What getfacl has written."""
 
-    def imported(self, text=GETFACL, words=(), mapping=MAP.replace(b'\\040', b' ').replace(b'file b c/LOG LOG', b'')):
+    def imported(self, text: bytes = GETFACL, words: Iterable[str] = (), mapping: bytes = MAP_OF_NAMES) -> Done:
         return deck('acl', '--import', self.write('lists', text), '--map', self.write('map', mapping), *words)
 
-    def test_lists_are_read_as_getfacl_writes_them(self):
+    def test_lists_are_read_as_getfacl_writes_them(self) -> None:
         done = self.imported(GETFACL.replace(b'b\\040c/LOG', b'LOG'))
         self.assertEqual((done.status, done.out), (0, b'$CATALOGUE\n' + PAY + LOG))
         self.assertEqual(done.err, f'snomon-deck: {self.path("lists")}: line 1: payroll: its default: entries are passed over\n')
 
-    def test_what_has_no_name_here_is_refused_and_told(self):
+    def test_what_has_no_name_here_is_refused_and_told(self) -> None:
         for old, new, line, message in ((b'user 1001 lisa\n', b'', 11, 'user 1001 is no name here; a line "user 1001 NAME" of --map gives it one'),
                                         (b'group 1007 staff\n', b'', 11, 'group 1007 is no name here'), (b'group _ssh ssh\n', b'', 11, 'group _ssh is no name here')):
             done = self.imported(mapping=MAP.replace(old, new))
@@ -78,7 +82,7 @@ class Read(Trying):
         self.assertIn('line 22: payroll/b c/LOG: file b c/LOG is no name here; a line "file b\\040c/LOG NAME" of --map', done.err)
         self.assertEqual(self.imported(mapping=MAP).out, b'$CATALOGUE\n' + PAY + LOG)
 
-    def test_a_file_can_have_another_name_or_be_passed_over(self):
+    def test_a_file_can_have_another_name_or_be_passed_over(self) -> None:
         text = GETFACL.replace(b'b\\040c', b'b')
         for name, out in ((b'LOG.2', b'$CATALOGUE\n' + PAY + LOG.replace(b'LOG', b'LOG.2')), (b'-', b'$CATALOGUE\n' + PAY)):
             self.assertEqual(self.imported(text, mapping=MAP.replace(b'file b\\040c/LOG LOG', b'file b/LOG ' + name)).out, out)
@@ -86,12 +90,12 @@ class Read(Trying):
         self.assertEqual((done.status, done.out), (1, b''))
         self.assertIn('a file before this one is called PAY too', done.err)
 
-    def test_a_list_with_which_linux_grants_more_is_told(self):
+    def test_a_list_with_which_linux_grants_more_is_told(self) -> None:
         text = b'# file: A\n# owner: anna\n# group: admin\nuser::rw-\nuser:lisa:r--\ngroup::---\nmask::---\nother::%s\n'
         self.assertIn('line 1: A: its mask is ---: Linux then gives', self.imported(text % b'r--').err)
         self.assertEqual(self.imported(text % b'---').err, '')
 
-    def test_other_lines_are_refused(self):
+    def test_other_lines_are_refused(self) -> None:
         for old, new, line, message in ((b'group::r--', b'group:r--', 17, 'getfacl writes no such line: group:r--'), (b'# group: 1007\n', b'', 11, 'the line "# group: .." is due'),
                                         (b'mask::r--\n', b'', 11, 'payroll/PAY: its list: A6 NO MASK'), (b'mask::r--', b'mask::rx', 11, '')):
             done = self.imported(GETFACL.replace(old, new))
@@ -101,13 +105,13 @@ class Read(Trying):
                                        (b'host 1 a\n', 1, 'a map has lines'), (b'user 1 1\n', 1, 'a map has lines')):
             self.is_refused_at(self.imported(mapping=mapping), 'map', line, message)
 
-    def test_one_of_the_two_is_asked_for(self):
+    def test_one_of_the_two_is_asked_for(self) -> None:
         for words in (['acl'], ['acl', '--import', 'a', '--export', 'b'], ['new', self.room], ['new', self.room, '--acl', '--owner', 'anna'],
                       ['new', self.room, '--owner', 'anna'], ['new', self.room, '--owner', 'anna', '--group', 'g', '--map', 'x']):
             done = deck(*words)
             self.assertEqual((done.status, done.out), (2, b''), words)
 
-    def test_what_is_given_back_is_what_getfacl_would_write(self):
+    def test_what_is_given_back_is_what_getfacl_would_write(self) -> None:
         self.imported(GETFACL.replace(b'b\\040c/LOG', b'LOG'), ['-o', self.path('catalogue')])
         done = deck('acl', '--export', self.path('catalogue'), '--map', self.path('map'))
         wanted = GETFACL.split(b'\n\n', 1)[1].replace(b'payroll/', b'').replace(b'b\\040c/', b'').replace(b'# flags: -s-\n', b'').replace(b'\t\t#effective:r--', b'')
@@ -117,7 +121,7 @@ class Read(Trying):
 class Real(Trying):
     """Files of a disk that keeps lists, of other users."""
 
-    def setUp(self):
+    def setUp(self) -> None:
         super().setUp()
         if not HAS_TOOLS or os.geteuid() != 0 or not has_lists(self.room):
             self.skipTest('there is no getfacl or setfacl, no right to give files away, or no disk with lists')
@@ -125,7 +129,7 @@ class Real(Trying):
         os.mkdir(self.path('files'))
         self.write('map', b''.join([b'user %d p%d\n' % (number, number) for number in PEOPLE] + [b'group %d g%d\n' % (number, number) for number in GROUPS]))
 
-    def make(self, count, r):
+    def make(self, count: int, r: random.Random) -> None:
         """Files with random owners, groups and lists."""
         for number in range(count):
             path = self.write(f'files/F{number}', b'a record\n')
@@ -135,20 +139,20 @@ class Real(Trying):
             subprocess.run(['setfacl', '--set', ','.join(words), path], check=True)
 
     @staticmethod
-    def letters(r):
+    def letters(r: random.Random) -> str:
         return ''.join(r.choice((letter, '-')) for letter in 'rwx')
 
-    def getfacl(self):
+    def getfacl(self) -> bytes:
         """What it writes, its files by their names: it goes by the order of the file system, which may change."""
         done = subprocess.run(['getfacl', '-R', '-n', 'files'], cwd=self.room, capture_output=True, check=True)
         return b''.join(block + b'\n\n' for block in sorted(done.stdout.strip().split(b'\n\n')))
 
-    def imported(self, source):
+    def imported(self, source: str) -> bytes:
         done = deck('acl', '--import', source, '--map', self.path('map'), '-o', self.path('catalogue'))
         self.assertEqual(done.status, 0, done.err)
         return self.read('catalogue')
 
-    def test_200_lists_there_and_back(self):
+    def test_200_lists_there_and_back(self) -> None:
         self.make(200, random.Random(4))
         before = self.getfacl()
         catalogue = self.imported(self.path('files'))
@@ -167,7 +171,7 @@ class Real(Trying):
         self.assertEqual(self.getfacl(), before)
 
     @unittest.skipUnless('LISTING' in os.environ, 'LISTING names no program')
-    def test_the_kernel_grants_what_listing_says_but_for_an_empty_mask(self):
+    def test_the_kernel_grants_what_listing_says_but_for_an_empty_mask(self) -> None:
         r = random.Random(9)
         self.make(200, r)
         groups = {person: r.sample(GROUPS, r.randint(1, 3)) for person in PEOPLE}
@@ -186,7 +190,7 @@ class Real(Trying):
         self.seen = f'3,600 questions; {len(differing)} differ, all of lists with mask::---'
         self.assertEqual([name for name, by_kernel in differing if name not in empty or not by_kernel], [])
 
-    def access(self, user, groups, asked):
+    def access(self, user: int, groups: List[int], asked: List[Tuple[str, str]]) -> List[bool]:
         """What the kernel says to this user, in a process of its own."""
         reading, writing = os.pipe()
         if os.fork() == 0:
@@ -202,7 +206,7 @@ class Real(Trying):
         os.wait()
         return list(map(bool, found))
 
-    def test_folders_within_and_other_things_are_told(self):
+    def test_folders_within_and_other_things_are_told(self) -> None:
         os.makedirs(self.path('files/within'))
         subprocess.run(['setfacl', '-d', '-m', f'u:{PEOPLE[0]}:r', self.path('files/within')], check=True)
         self.make(1, random.Random(1))

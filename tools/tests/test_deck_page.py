@@ -1,4 +1,6 @@
 """The page of who may do what: what `page` makes of a report, and what it refuses."""
+from __future__ import annotations
+
 import html.parser
 import io
 import os
@@ -6,6 +8,7 @@ import random
 import re
 import time
 import xml.etree.ElementTree
+from typing import Dict, List, Optional, Tuple
 from trying import DECK, MOST_MEMORY, TOP, Trying, deck, run
 
 TITLE = b'account,set,permission,answer,entry\n'
@@ -31,50 +34,53 @@ hugo,LOG,w,denied,mask::
 hugo,LOG,x,granted,
 '''
 TWO = PAYROLL + LOG
+Attributes = Dict[str, Optional[str]]
 EMPTY_TAGS = ('meta', 'br', 'col')
 
 
 class Page(html.parser.HTMLParser):
     """A page as a browser reads it: its elements, each with the attributes and the text in it; each is closed where it must be."""
 
-    def __init__(self, text):
+    def __init__(self, text: bytes) -> None:
         super().__init__()
-        self.elements, self.open, self.declared = [], [], []
+        self.elements: List[Tuple[str, Attributes, List[str]]] = []
+        self.open: List[Tuple[str, Attributes, List[str]]] = []
+        self.declared: List[str] = []
         self.feed(text.decode('utf-8'))
         self.close()
         if self.open:
             raise ValueError(f'{self.open} are not closed')
 
-    def handle_decl(self, declaration):
-        self.declared.append(declaration)
+    def handle_decl(self, decl: str) -> None:
+        self.declared.append(decl)
 
-    def handle_starttag(self, tag, attributes):
-        self.elements.append((tag, dict(attributes), []))
+    def handle_starttag(self, tag: str, attrs: List[Tuple[str, Optional[str]]]) -> None:
+        self.elements.append((tag, dict(attrs), []))
         if tag not in EMPTY_TAGS:
             self.open.append(self.elements[-1])
         elif tag == 'br':
             self.handle_data('\n')
 
-    def handle_endtag(self, tag):
+    def handle_endtag(self, tag: str) -> None:
         if tag not in EMPTY_TAGS and self.open.pop()[0] != tag:
             raise ValueError(f'</{tag}> closes something else')
 
-    def handle_startendtag(self, tag, attributes):
-        self.handle_starttag(tag, attributes)
+    def handle_startendtag(self, tag: str, attrs: List[Tuple[str, Optional[str]]]) -> None:
+        self.handle_starttag(tag, attrs)
 
-    def handle_data(self, text):
+    def handle_data(self, data: str) -> None:
         for _, _, texts in self.open:
-            texts.append(text)
+            texts.append(data)
 
-    def all(self, *tags):
+    def all(self, *tags: str) -> List[Tuple[str, Attributes, str]]:
         return [(tag, attributes, ''.join(texts)) for tag, attributes, texts in self.elements if tag in tags]
 
-    def texts(self, *tags):
+    def texts(self, *tags: str) -> List[str]:
         return [text for _, _, text in self.all(*tags)]
 
-    def rows(self):
+    def rows(self) -> List[List[str]]:
         """The cells of the table, as lists of their texts; a header cell has its scope before it."""
-        rows = []
+        rows: List[List[str]] = []
         for tag, attributes, text in self.all('tr', 'th', 'td'):
             if tag == 'tr':
                 rows.append([])
@@ -84,12 +90,12 @@ class Page(html.parser.HTMLParser):
 
 
 class Made(Trying):
-    def page(self, report):
+    def page(self, report: bytes) -> bytes:
         done = deck('page', self.write('report', report))
         self.assertEqual((done.status, done.err), (0, ''))
         return done.out
 
-    def test_the_page_has_a_row_for_each_data_set_and_a_column_for_each_account(self):
+    def test_the_page_has_a_row_for_each_data_set_and_a_column_for_each_account(self) -> None:
         self.assertEqual(Page(self.page(TWO)).rows(), [
             ['col: Data set', 'col: anna', 'col: lisa', 'col: hugo'],
             ['row: PAYROLL', 'may read, write, look up', 'may read\nwrite denied by mask::\nlook up denied by user:lisa:',
@@ -98,23 +104,23 @@ class Made(Trying):
              'may look up\nread denied by group::\nwrite denied by mask::']])
         self.assertEqual(Page(self.page(TWO)).texts('p')[-1], 'In all 2 data sets and 3 accounts.')
 
-    def test_a_report_on_one_account_and_one_data_set_has_its_page(self):
+    def test_a_report_on_one_account_and_one_data_set_has_its_page(self) -> None:
         report = TITLE + b''.join(LOG.splitlines(True)[3:6])
         self.assertEqual(Page(self.page(report)).rows(), [['col: Data set', 'col: lisa'],
                                                           ['row: LOG', 'read, look up denied by group:staff:\nwrite denied by mask::']])
         self.assertEqual(Page(self.page(report)).texts('p')[-1], 'In all 1 data set and 1 account.')
 
-    def test_a_report_on_nobody_has_a_page_that_says_so(self):
+    def test_a_report_on_nobody_has_a_page_that_says_so(self) -> None:
         page = Page(self.page(TITLE))
         self.assertEqual((page.rows(), page.texts('p')[-1]), ([], 'The report has no account, or no data set.'))
 
-    def test_names_of_every_form_stand_as_they_are(self):
+    def test_names_of_every_form_stand_as_they_are(self) -> None:
         longest = b'Z' + b'.-_9aA' * 5
         page = Page(self.page(PAYROLL.replace(b'lisa', longest).replace(b'PAYROLL', b'a')))
         self.assertEqual(page.rows()[0][2], 'col: ' + longest.decode())
         self.assertEqual(page.rows()[1][2], f'may read\nwrite denied by mask::\nlook up denied by user:{longest.decode()}:')
 
-    def test_the_page_stands_alone(self):
+    def test_the_page_stands_alone(self) -> None:
         text = self.page(TWO)
         page = Page(text)
         self.assertEqual(page.declared, ['DOCTYPE html'])
@@ -126,7 +132,7 @@ class Made(Trying):
         self.assertIn(("meta", {'http-equiv': 'Content-Security-Policy', 'content': "default-src 'none'; style-src 'unsafe-inline'"}, ''),
                       page.all('meta'))
 
-    def test_the_page_is_one_that_everyone_can_read(self):
+    def test_the_page_is_one_that_everyone_can_read(self) -> None:
         text = self.page(TWO)
         page = Page(text)
         self.assertEqual(page.all('html')[0][1], {'lang': 'en'})
@@ -141,18 +147,18 @@ class Made(Trying):
         self.assertEqual(set(re.findall(r'var\((--\w+)\)', style)), set(re.findall(r'(--\w+):', text.decode())))
         xml.etree.ElementTree.fromstring(text)  # what is read by stricter rules is read the same by all
 
-    def test_colours_can_be_told_apart_from_the_text(self):
+    def test_colours_can_be_told_apart_from_the_text(self) -> None:
         style = Page(self.page(TWO)).texts('style')[0]
         for scheme in re.findall(r':root \{(.*?)\}', style):
             colours = dict(re.findall(r'--(\w+): (#\w+)', scheme))
             for ground in ('page', 'head', 'part', 'none'):
                 self.assertGreater(contrast(colours['text'], colours[ground]), 7, (scheme, ground))
 
-    def test_the_stored_page_is_that_of_the_example(self):
-        with open(os.path.join(TOP, 'docs', 'payroll-access.html'), 'rb') as page:
+    def test_the_stored_page_is_that_of_the_example(self) -> None:
+        with open(os.path.join(TOP, 'docs', 'pictures', 'payroll-access.html'), 'rb') as page:
             self.assertEqual(self.page(PAYROLL), page.read())
 
-    def test_the_program_makes_the_report_of_the_stored_page(self):
+    def test_the_program_makes_the_report_of_the_stored_page(self) -> None:
         if 'LISTING' not in os.environ:
             self.skipTest('LISTING names no program')
         with open(os.path.join(TOP, 'examples', 'payroll.deck'), 'rb') as example:
@@ -160,7 +166,7 @@ class Made(Trying):
         self.assertEqual((done.status, done.out, done.err), (0, PAYROLL, ''))
 
 
-def contrast(one, other):
+def contrast(one: str, other: str) -> float:
     """How far two colours are apart, from 1 to 21, as the guidelines for accessible pages (WCAG 2.1) reckon it."""
     lights = []
     for colour in (one, other):
@@ -172,13 +178,13 @@ def contrast(one, other):
 
 
 class Refused(Trying):
-    def refused(self, report, line, message):
+    def refused(self, report: bytes, line: int, message: str) -> None:
         self.write('old', b'the old page')
         done = deck('page', self.write('report', report), '-o', self.path('old'))
         self.is_refused_at(done, 'report', line, message)
         self.assertEqual((self.read('old'), self.names()), (b'the old page', ['old', 'report']))
 
-    def test_lines_that_no_report_has_are_refused(self):
+    def test_lines_that_no_report_has_are_refused(self) -> None:
         for old, new, line, message in (
                 (TITLE, b'', 1, 'the line account,set,permission,answer,entry is due, and there is anna,PAYROLL,r,granted,'),
                 (TITLE, b'SET PAYROLL OWNER anna GROUP admin MODE SEQ RECORDS 3\n', 1, 'the line account,set'),
@@ -199,7 +205,7 @@ class Refused(Trying):
             self.refused(TWO.replace(old, new, 1), line, message)
         self.refused(b'', 1, 'the line account,set,permission,answer,entry is due')
 
-    def test_lines_out_of_their_order_are_refused(self):
+    def test_lines_out_of_their_order_are_refused(self) -> None:
         lines = TWO.splitlines(True)
         for other, line, message in (
                 (lines[:2] + lines[3:], 3, 'w of anna on PAYROLL is due, and there is x of anna on PAYROLL'),
@@ -217,7 +223,7 @@ class Refused(Trying):
                 (lines[:16] + [line.replace(b'LOG', b'BOX') for line in lines[10:]], 17, 'hugo on LOG is due')):
             self.refused(b''.join(other), line, message)
 
-    def test_a_report_cut_anywhere_is_refused_but_where_it_is_a_whole_one(self):
+    def test_a_report_cut_anywhere_is_refused_but_where_it_is_a_whole_one(self) -> None:
         from decks import page, text
         lines = TWO.splitlines(True)
         # Of the first data set any number of accounts may be all of them; of the next not.
@@ -231,7 +237,7 @@ class Refused(Trying):
                 number = TWO[:end].count(b'\n') + 1
                 self.assertTrue(str(refusal).startswith(f'{self.path("report")}: line {number}: '), (str(refusal), number))
 
-    def test_files_that_cannot_be_read_or_written_are_told(self):
+    def test_files_that_cannot_be_read_or_written_are_told(self) -> None:
         self.is_refused(deck('page', self.path('gone')), 'gone: No such file or directory', 3)
         self.is_refused(deck('page', self.room), f'{self.room}: it has no file NAME.audit')
         self.is_refused(deck('page', self.write('report', TWO), '-o', '/dev/full'), '/dev/full: No space left on device', 3)
@@ -241,7 +247,7 @@ class Refused(Trying):
 
 
 class Long(Trying):
-    def test_the_page_of_1000_data_sets_and_200_accounts(self):
+    def test_the_page_of_1000_data_sets_and_200_accounts(self) -> None:
         entries, r = ['', 'user::', 'group:staff:', 'mask::', 'other::'], random.Random(1)
         kinds = [[r.choice(entries) for _ in 'rwx'] for _ in range(50)]
         with open(self.path('report'), 'wb') as report:

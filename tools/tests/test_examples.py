@@ -1,4 +1,6 @@
 """The man pages, and the examples of a round."""
+from __future__ import annotations
+
 import os
 import re
 import shutil
@@ -8,7 +10,7 @@ from test_deck_split import HEAD, job, sets
 
 
 class Pages(Trying):
-    def test_man_pages_are_set_without_a_warning(self):
+    def test_man_pages_are_set_without_a_warning(self) -> None:
         if not shutil.which('groff'):
             self.skipTest('there is no groff')
         for page in ('snomon.1', 'snomon-listing.1', 'snomon-deck.1', 'snomon-audit.5', 'snomon-deck.5'):
@@ -16,14 +18,14 @@ class Pages(Trying):
             self.assertEqual((done.status, done.err), (0, ''))
             self.assertIn(b'DESCRIPTION', re.sub(b'.\x08', b'', done.out))
 
-    def test_the_page_of_deck_is_what_its_help_says(self):
+    def test_the_page_of_deck_is_what_its_help_says(self) -> None:
         done = run([os.path.join(TOP, 'tools', 'manual'), '--check'])
         self.assertEqual((done.status, done.out), (0, b"ok docs/man/snomon-deck.1 is what snomon-deck --help says\n"))
 
-    def test_the_first_change_of_CODE_can_be_laid_over(self):
+    def test_the_first_change_of_CODE_can_be_laid_over(self) -> None:
         if not shutil.which('git'):
             self.skipTest('there is no git')
-        patch = os.path.join(TOP, 'docs', 'first-change.patch')
+        patch = os.path.join(TOP, 'docs', 'dev', 'first-change.patch')
         with open(patch, encoding='utf-8') as file:
             names = re.findall(r'^\+\+\+ b/(.*)$', file.read(), re.M)
         shutil.copytree(os.path.join(TOP, 'oracle'), self.path('oracle'), ignore=shutil.ignore_patterns('__pycache__'))
@@ -40,19 +42,19 @@ class Pages(Trying):
 
 
 class Rounds(Trying):
-    def setUp(self):
+    def setUp(self) -> None:
         super().setUp()
         names = [b'S%d' % number for number in range(8)]
         self.text = HEAD + sets(*names) + b'$STREAM\n' + b''.join(map(job, names)) + b'$DRAIN\n$LIST anna S3\n$STOP\n'
         self.write('monday.deck', self.text)
 
-    def is_as_the_whole(self):
+    def is_as_the_whole(self) -> None:
         whole = snomon(self.text).out
         at = whole.index(b'LIST anna')
         self.assertEqual(self.read('monday.out')[at:], whole[at:])
         self.assertEqual(sorted(self.read('monday.out').split(b'\n')), sorted(whole.split(b'\n')))
 
-    def test_the_makefile_splits_runs_and_joins(self):
+    def test_the_makefile_splits_runs_and_joins(self) -> None:
         if not shutil.which('make'):
             self.skipTest('there is no make')
         words = ['make', '-j', '2', '-f', os.path.join(TOP, 'examples', 'round', 'Makefile'), 'DECK=monday.deck', 'MOST=3']
@@ -73,7 +75,7 @@ class Rounds(Trying):
         done = run(words, cwd=self.room, env=without)
         self.assertEqual((done.status, self.names()), (2, ['monday.deck']))
 
-    def test_the_slurm_script_runs_each_part(self):
+    def test_the_slurm_script_runs_each_part(self) -> None:
         script = ('snomon-deck split monday.deck parts --parts 3; for task in 1 2 3; do SLURM_ARRAY_TASK_ID=$task "$0" parts || exit; done; '
                   'snomon-deck join parts -o monday.out')
         path = os.path.join(TOP, 'bin') + os.pathsep + os.environ['PATH']

@@ -1,7 +1,9 @@
 """Help and version of listing and site go to standard output with status 0; words that ask nothing keep standard error and status 2."""
+from __future__ import annotations
+
 import os
 import unittest
-from trying import TOP, Trying, run
+from trying import NO_WORDS, TOP, Trying, run
 import sites
 
 LISTING = os.environ.get('LISTING') or run([os.path.join(TOP, 'tools', 'proved'), '--path', 'listing']).out.decode().strip()
@@ -11,12 +13,12 @@ COMMANDS = ('init', 'run', 'status', 'check', 'verify')
 
 @unittest.skipUnless(all(map(os.path.exists, PROGRAMS.values())), 'there is no listing, or no site')
 class Help(Trying):
-    def says(self, name, *words):
+    def says(self, name: str, *words: str) -> str:
         done = run([PROGRAMS[name], *words], cwd=self.room)
         self.assertEqual((done.status, done.err), (0, ''), words)
         return done.out.decode()
 
-    def test_help_goes_to_standard_output(self):
+    def test_help_goes_to_standard_output(self) -> None:
         for name, program in PROGRAMS.items():
             said = self.says(name, '--help')
             self.assertIn('\nUsage: %s ' % os.path.basename(program), said)
@@ -24,31 +26,31 @@ class Help(Trying):
             self.assertEqual(self.says(name, '-h'), said)
         self.assertEqual(self.says('site', 'help'), self.says('site', '--help'))
 
-    def test_the_help_of_a_command_goes_there_too(self):
+    def test_the_help_of_a_command_goes_there_too(self) -> None:
         for command in COMMANDS:
             said = self.says('site', command, '--help')
             self.assertIn('\nUsage: %s %s ' % (os.path.basename(PROGRAMS['site']), command), said)
             self.assertEqual((self.says('site', command, '-h'), self.says('site', 'help', command)), (said, said))
 
-    def test_the_version_goes_there_too(self):
+    def test_the_version_goes_there_too(self) -> None:
         for name in PROGRAMS:
             self.assertRegex(self.says(name, '--version'), r'\Asnomon-%s \d+\.\d+\.\d+\n\Z' % name)
             self.assertEqual(self.says(name, '-V'), self.says(name, '--version'))
 
-    def test_nothing_is_read_for_them(self):
+    def test_nothing_is_read_for_them(self) -> None:
         for name, program in PROGRAMS.items():
             for word in ('--help', '--version'):
                 self.assertEqual(run(['/bin/sh', '-c', '"$0" "$1" </dev/zero', program, word]).out.decode(), self.says(name, word))
 
-    def test_words_that_ask_nothing_are_told_on_standard_error(self):
-        for name, words in (('site', []), ('site', ['--bogus', '--help']), ('site', ['run']), ('listing', ['--bogus']), ('listing', ['a', 'b']),
+    def test_words_that_ask_nothing_are_told_on_standard_error(self) -> None:
+        for name, words in (('site', NO_WORDS), ('site', ['--bogus', '--help']), ('site', ['run']), ('listing', ['--bogus']), ('listing', ['a', 'b']),
                             ('listing', ['--access', '--account', '9X']), ('listing', ['--text']), ('listing', ['--account', 'lisa']),
                             ('listing', ['--text', '--account', '9X']), ('listing', ['--text', '--access', '--account', 'lisa']),
                             ('listing', ['--text', '--account', 'lisa', '--csv']), ('listing', ['--set', 'A'])):
             done = run([PROGRAMS[name], *words], cwd=self.room)
             self.assertEqual((done.status, done.out, bool(done.err)), (2, b'', True), words)
 
-    def test_a_stream_that_is_full_is_told_by_the_status(self):
+    def test_a_stream_that_is_full_is_told_by_the_status(self) -> None:
         for name in PROGRAMS:
             for word in ('--help', '--version'):
                 self.assertEqual(run(['/bin/sh', '-c', '"$0" "$1" >/dev/full', PROGRAMS[name], word]).status, 3)

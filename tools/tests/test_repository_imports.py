@@ -1,4 +1,6 @@
 """tools/imports_and_widths: which imports nothing uses, which lines are wide, and that both may only fall."""
+from __future__ import annotations
+
 import os
 import shutil
 from trying import TOP, Trying, run
@@ -22,7 +24,7 @@ UNUSED = 'crates/low/src/it.rt: ghost ◌≤◌, ghost Some, ghost AnyOther, Uns
 
 
 class Imports(Trying):
-    def setUp(self):
+    def setUp(self) -> None:
         super().setUp()
         for name in ('tools/tests/data', 'crates/low/src', 'crates/low/specs/inner'):
             os.makedirs(self.path(name))
@@ -31,17 +33,17 @@ class Imports(Trying):
         self.write('crates/low/src/sink.rt', b'pub trait Sink {\n}\n')
         self.write('crates/low/specs/inner/Low.antt', '≡'.encode() * 160 + b'\n' + b'x' * 161 + b'\n')
 
-    def looked(self, word, status, *texts):
+    def looked(self, word: str, status: int, *texts: str) -> str:
         done = run([self.path('tools/imports_and_widths'), word], cwd='/')
         self.assertEqual((done.status, done.err), (status, ''), done.out.decode())
         for text in texts:
             self.assertIn(text, done.out.decode())
         return done.out.decode()
 
-    def test_imports_that_nothing_uses_are_listed(self):
+    def test_imports_that_nothing_uses_are_listed(self) -> None:
         self.assertEqual(self.looked('--list', 0), UNUSED)
 
-    def test_what_is_allowed_may_only_fall(self):
+    def test_what_is_allowed_may_only_fall(self) -> None:
         self.looked('--check', 1, 'crates/low/src/it.rt: 6 unused, 0 wide, and allowed are 0 unused, 0 wide: nothing uses ghost ◌≤◌', 'wide: 2')
         self.looked('--write', 0)
         self.looked('--check', 0, 'ok ')
@@ -53,13 +55,13 @@ class Imports(Trying):
         self.looked('--write', 0)
         self.looked('--check', 0)
 
-    def test_a_file_that_was_moved_is_followed(self):
+    def test_a_file_that_was_moved_is_followed(self) -> None:
         self.looked('--write', 0)
         os.rename(self.path('crates/low/src/it.rt'), self.path('crates/low/src/other.rt'))
         self.looked('--check', 1, 'other.rt', 'it.rt')
         self.looked('--write', 0)
         self.looked('--check', 0)
 
-    def test_other_words_are_refused(self):
+    def test_other_words_are_refused(self) -> None:
         done = run([self.path('tools/imports_and_widths'), '--all'])
         self.assertEqual((done.status, done.out), (2, b''))

@@ -1,8 +1,11 @@
 """What is installed, compared with what was released, and taken away again."""
+from __future__ import annotations
+
 import os
 import stat
+from typing import Any, List
 from checkout import BY_HAND, OF_THE_GATE, RELEASED, Checkout
-from trying import BOTH, PRINTOUTS, TOP, run
+from trying import BOTH, Done, PRINTOUTS, TOP, run
 
 FORMER = ['deck', 'listing', 'site']
 PROGRAMS = ['snomon-' + name for name in FORMER]
@@ -10,18 +13,18 @@ PAGES = sorted(os.listdir(os.path.join(TOP, 'docs', 'man')))
 
 
 class Installed(Checkout):
-    def setUp(self):
+    def setUp(self) -> None:
         super().setUp()
         self.release()
         self.there = self.path('there')
 
-    def install(self, *words, **more):
+    def install(self, *words: str, **more: Any) -> Done:
         return run([self.path('install'), *words], env=self.environment(with_rt=False), cwd=self.room, **more)
 
-    def files(self):
+    def files(self) -> List[str]:
         return sorted(os.path.relpath(os.path.join(folder, name), self.there) for folder, _, names in os.walk(self.there) for name in names)
 
-    def test_what_is_installed_runs(self):
+    def test_what_is_installed_runs(self) -> None:
         done = self.install(self.there)
         self.assertEqual((done.status, done.err), (0, ''))
         for name in done.out.decode().split():
@@ -37,14 +40,14 @@ class Installed(Checkout):
         self.assertNotIn('__pycache__', os.listdir(self.path('there/lib/snomon/decks')))
         self.assertEqual(self.install(self.there).status, 0)
 
-    def test_former_names_warn_and_call_what_they_are_called_now(self):
+    def test_former_names_warn_and_call_what_they_are_called_now(self) -> None:
         self.install(self.there)
         for former in FORMER:
             now, before = (run([self.path('there/bin/' + name), '--help']) for name in ('snomon-' + former, former))
             self.assertEqual((before.status, before.out), (now.status, now.out), former)
             self.assertEqual(before.err, f'{former} is called snomon-{former} now; the next version has no {former}\n' + now.err)
 
-    def test_the_units_name_what_is_installed(self):
+    def test_the_units_name_what_is_installed(self) -> None:
         self.install(self.there)
         unit = self.read('there/lib/systemd/system/snomon-site.service').decode()
         self.assertIn(f'\nExecStart={os.path.realpath(self.there)}/bin/snomon-site run /srv/snomon\n', unit)
@@ -52,7 +55,7 @@ class Installed(Checkout):
         self.assertIn('\nTimeoutStartSec=infinity\n', unit) # a round that is ended begins again with its first text
         self.assertIn('lib/systemd/system/snomon-site.timer', self.files())
 
-    def test_a_staged_install_names_the_places_that_it_will_have(self):
+    def test_a_staged_install_names_the_places_that_it_will_have(self) -> None:
         environment = {**self.environment(with_rt=False), 'DESTDIR': self.path('stage')}
         done = run([self.path('install'), '/usr'], env=environment, cwd=self.room)
         self.assertEqual((done.status, done.err), (0, ''))
@@ -68,33 +71,33 @@ class Installed(Checkout):
         self.assertEqual((done.status, done.out), (1, b''))
         self.assertIn('with DESTDIR the prefix begins with /', done.err)
 
-    def test_it_is_open_to_all_under_any_umask(self):
+    def test_it_is_open_to_all_under_any_umask(self) -> None:
         self.install(self.there, umask=0o077)
         for folder, folders, names in os.walk(self.there):
             for name in folders + names:
                 mode = stat.S_IMODE(os.stat(os.path.join(folder, name)).st_mode)
                 self.assertEqual(mode, 0o755 if name in folders or mode & 0o100 else 0o644, name)
 
-    def test_other_words_are_refused(self):
+    def test_other_words_are_refused(self) -> None:
         for words in (['--bogus'], ['a', 'b'], [''], ['--verify', ''], ['--remove', 'a', 'b'], ['--verify', '--remove']):
             before = self.names()
             done = self.install(*words)
             self.assertEqual((done.status, done.out, self.names()), (2, b'', before), words)
             self.assertIn('./install [PREFIX]', done.err)
 
-    def test_without_a_right_program_nothing_is_installed(self):
+    def test_without_a_right_program_nothing_is_installed(self) -> None:
         self.script('release/listing', BY_HAND)
         done = self.install(self.there)
         self.assertEqual((done.status, done.out, 'there' in self.names()), (1, b'', False))
         self.assertIn('there is no listing to install', done.err)
 
-    def test_a_folder_in_the_place_of_a_program_is_not_filled(self):
+    def test_a_folder_in_the_place_of_a_program_is_not_filled(self) -> None:
         os.makedirs(self.path('there/bin/snomon'))
         done = self.install(self.there)
         self.assertEqual((done.status, self.files()), (1, []))
         self.assertIn('there/bin/snomon is a folder', done.err)
 
-    def test_what_an_older_release_had_is_taken_away(self):
+    def test_what_an_older_release_had_is_taken_away(self) -> None:
         os.makedirs(self.path('there/lib/snomon/decks'))
         self.write('there/lib/snomon/decks/older.py', b'')
         self.install(self.there)
@@ -109,7 +112,7 @@ class Installed(Checkout):
         self.assertNotIn('lib/snomon/decks/newer.py', self.files())
         self.assertIn('lib/snomon/decks/of_another.py', self.files())
 
-    def test_what_is_installed_can_be_compared(self):
+    def test_what_is_installed_can_be_compared(self) -> None:
         self.install(self.there)
         done = self.install('--verify', self.there)
         self.assertEqual(done.status, 0, done.out)
@@ -123,13 +126,13 @@ class Installed(Checkout):
         failed = [line for line in done.out.decode().splitlines() if line.startswith('FAILED')]
         self.assertEqual(failed, [f'FAILED {self.there}/bin/snomon', f'FAILED {self.there}/lib/snomon/decks/text.py'])
 
-    def test_a_program_that_was_built_here_is_not_the_released_one(self):
+    def test_a_program_that_was_built_here_is_not_the_released_one(self) -> None:
         self.stamp('snomon', OF_THE_GATE)
         self.assertEqual(self.install(self.there).status, 0)
         done = self.install('--verify', self.there)
         self.assertEqual((done.status, done.out.count(b'FAILED'), b'FAILED' in done.out.splitlines()[0]), (1, 1, True))
 
-    def test_what_was_installed_is_taken_away(self):
+    def test_what_was_installed_is_taken_away(self) -> None:
         os.makedirs(self.path('there/bin'))
         self.write('there/bin/other', b'')
         self.install(self.there)

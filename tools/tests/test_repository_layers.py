@@ -1,6 +1,9 @@
 """No crate that reads, takes in, reviews or reports decks stands on the machine that runs them, directly or through others (crates.txt)."""
+from __future__ import annotations
+
 import os
 import unittest
+from typing import Dict, List
 from trying import TOP
 
 READERS = ('deck_syntax', 'preflight', 'program_listing', 'deck_lint', 'listing')
@@ -9,7 +12,7 @@ PARTS_OF_READERS = ('deck_lines', 'access_report')
 MACHINE = ('mon_guard', 'scheduler', 'sno_run')
 
 
-def read_crates():
+def read_crates() -> Dict[str, List[str]]:
     crates = {}
     with open(os.path.join(TOP, 'crates.txt'), encoding='utf-8') as file:
         for line in file:
@@ -19,7 +22,7 @@ def read_crates():
     return crates
 
 
-def ways_down(crates, name):
+def ways_down(crates: Dict[str, List[str]], name: str) -> Dict[str, List[str]]:
     """For each crate under this one, a shortest way from this one to it."""
     ways, front = {name: [name]}, [name]
     for above in front:
@@ -31,7 +34,7 @@ def ways_down(crates, name):
 
 
 class Layers(unittest.TestCase):
-    def test_readers_of_decks_stand_on_no_machine(self):
+    def test_readers_of_decks_stand_on_no_machine(self) -> None:
         crates = read_crates()
         self.assertEqual([name for name in READERS + MACHINE if name not in crates], [], 'there is no such crate')
         wrong = []

@@ -1,41 +1,57 @@
 """What is packaged: the package and the tarball, the version, licences, completions, syntax files; and the types of the Python tools."""
+from __future__ import annotations
+
 import os
 import re
 import shutil
 import subprocess
 import tarfile
 import unittest
+from typing import Dict, List
 from checkout import PROGRAMS, Checkout
-from trying import TOP, Trying, deck, run
+from trying import Done, NO_WORDS, TOP, Trying, deck, run
 from decks.cards import CARDS
 from decks.version import VERSION
 
-# What mypy finds no fault with, by its folder. tools/docs/count and gate_table, ledger_model.py, tests, and the other files of oracle and
-# bench have no types yet.
-TYPED = {
-    'tools': ['decks', 'deck', 'edits', 'imports_and_widths', 'manual', 'docs/fold', 'docs/layers', 'docs/pictures.py', 'docs/rounds', 'docs/sentences'],
-    'oracle': ['failing_files.py', 'full_decks.py', 'worked_decks.py'],
-    'bench': ['audit', 'counting.py', 'counts', 'decks.py', 'job_decks.py'],
-}
+# Where Python stands, and where the modules that it imports are looked for, beside that folder.
+FOLDERS = {'bench': '', 'examples': '', 'oracle': '../tools', 'tools': 'docs:tests:../oracle:../examples'}
 
 
-def text_of(*path):
+def text_of(*path: str) -> str:
     with open(os.path.join(TOP, *path), encoding='utf-8') as file:
         return file.read()
 
 
+def is_python(path: str) -> bool:
+    with open(path, 'rb') as file:
+        return path.endswith('.py') or b'python' in file.readline() and not path.endswith('.md')
+
+
+def files_of_python() -> Dict[str, List[str]]:
+    """All of it, by its folder: but for what builds leave in `out`."""
+    found: Dict[str, List[str]] = {}
+    for place, folders, names in os.walk(TOP):
+        folders[:] = [name for name in folders if name != 'out' and not name.startswith(('.', '__'))]
+        for name in names:
+            path = os.path.join(place, name)
+            if os.path.isfile(path) and is_python(path):
+                folder, _, rest = os.path.relpath(path, TOP).partition(os.sep)
+                found.setdefault(folder, []).append(rest)
+    return found
+
+
 class Versions(unittest.TestCase):
-    def test_all_programs_have_one_version(self):
+    def test_all_programs_have_one_version(self) -> None:
         self.assertEqual(deck('--version').out.decode(), f'snomon-deck {VERSION}\n')
         self.assertEqual(run([os.path.join(TOP, 'tools', 'package'), '--version']).out.decode(), f'snomon {VERSION}\n')
-        for program in PROGRAMS:
-            self.assertIn(f'.version("{VERSION}")', text_of('crates', program, 'src', 'options.rt'), program)
+        for crate in ('snomon_library' if program == 'snomon' else program for program in PROGRAMS):
+            self.assertIn(f'.version("{VERSION}")', text_of('crates', crate, 'src', 'options.rt'), crate)
         self.assertIn(f'This is version {VERSION}', text_of('README.md'))
         self.assertIn(f'\n## {VERSION}', text_of('CHANGELOG.md'))
 
-    def test_the_programs_print_it_and_tell_the_commit_that_they_are_of(self):
+    def test_the_programs_print_it_and_tell_the_commit_that_they_are_of(self) -> None:
         script = os.path.join(TOP, 'tools', 'proved')
-        commit = re.search('^commit (.*)$', text_of('release', 'SOURCES'), re.M)[1]
+        commit, = re.findall('^commit (.*)$', text_of('release', 'SOURCES'), re.M)
         for program in PROGRAMS:
             origin = run([script, program, '--origin'])
             if origin.status:
@@ -47,7 +63,7 @@ class Versions(unittest.TestCase):
 
 
 class Licences(unittest.TestCase):
-    def test_each_library_that_a_program_contains_is_named(self):
+    def test_each_library_that_a_program_contains_is_named(self) -> None:
         uses = {line.split(':')[0]: line.split(':')[1].split() for line in text_of('crates.txt').splitlines() if ':' in line and not line.startswith('#')}
         reached, left = set(), list(PROGRAMS)
         while left:
@@ -61,55 +77,55 @@ class Licences(unittest.TestCase):
 class Syntax(unittest.TestCase):
     """The files for vim and nano know the words that the documents have."""
 
-    def test_cards_are_those_of_a_deck(self):
+    def test_cards_are_those_of_a_deck(self) -> None:
         wanted = {card.decode()[1:] for card in CARDS}
         for name in ('vim/syntax/snomon.vim', 'nano/snomon.nanorc'):
-            found = re.search(r'\$\\?\(([A-Z|\\]*ACCOUNTS[A-Z|\\]*)\)', text_of('packaging', *name.split('/')))
-            self.assertEqual({word for word in re.split(r'[|\\]+', found.group(1)) if word}, wanted, name)
+            found, = re.findall(r'\$\\?\(([A-Z|\\]*ACCOUNTS[A-Z|\\]*)\)', text_of('packaging', *name.split('/')))
+            self.assertEqual({word for word in re.split(r'[|\\]+', found) if word}, wanted, name)
 
-    def test_functions_are_those_of_the_language(self):
-        told = text_of('docs', 'LANGUAGE.md')
+    def test_functions_are_those_of_the_language(self) -> None:
+        told = text_of('docs', 'reference', 'language.md')
         wanted = set(re.findall(r'^\| `([A-Z]+)\(', told[told.index('`SIZE(S)`') - 2:], re.M)) | {'DEFINE', 'TABLE'}
-        vim = re.search('snomonFunction (.*)', text_of('packaging', 'vim', 'syntax', 'snomon.vim')).group(1).split()
-        nano = re.search(r'\((ANY\|[A-Z|]*)\)', text_of('packaging', 'nano', 'snomon.nanorc')).group(1).split('|')
+        vim = re.findall('snomonFunction (.*)', text_of('packaging', 'vim', 'syntax', 'snomon.vim'))[0].split()
+        nano = re.findall(r'\((ANY\|[A-Z|]*)\)', text_of('packaging', 'nano', 'snomon.nanorc'))[0].split('|')
         self.assertEqual(vim, nano)
         self.assertLessEqual(wanted, set(vim))
         self.assertEqual([word for word in vim if f'`{word}' not in told], [])
 
 
 class Completed(Trying):
-    def completed(self, *words):
+    def completed(self, *words: str) -> List[str]:
         """What bash offers for the last word."""
         script = ('source "$0/packaging/completions.bash"; PATH=$0/bin:$PATH; COMP_WORDS=("$@"); COMP_CWORD=$(($# - 1)); _snomon; printf "%s\\n" "${COMPREPLY[@]}"')
         done = run(['bash', '-c', script, TOP, *words])
         self.assertEqual((done.status, done.err), (0, ''))
         return done.out.decode().split()
 
-    def test_commands_and_their_options(self):
+    def test_commands_and_their_options(self) -> None:
         self.assertLessEqual({'next', 'audit', 'acl', 'split'}, set(self.completed('snomon-deck', '')))
         self.assertEqual(self.completed('snomon-deck', 'au'), ['audit'])
         self.assertLessEqual({'--set', '--unused', '--json', '--help'}, set(self.completed('snomon-deck', 'audit', 'x', '--')))
         self.assertEqual(self.completed('snomon-deck', 'audit', '--un'), ['--unused'])
         self.assertEqual(self.completed('snomon-deck', 'audit', 'some'), [])
 
-    def test_the_programs_name_theirs(self):
+    def test_the_programs_name_theirs(self) -> None:
         self.assertLessEqual({'init', 'run', 'status', 'verify'}, set(self.completed('snomon-site', '')))
         self.assertIn('--access', self.completed('snomon-listing', '--acc'))
 
 
 @unittest.skipUnless(shutil.which('git'), 'there is no git')
 class Packaged(Checkout):
-    def setUp(self):
+    def setUp(self) -> None:
         super().setUp()
         self.release()
         for words in (['init', '-q'], ['add', '-A'], ['-c', 'user.name=A', '-c', 'user.email=a@example.com', 'commit', '-qm', 'one']):
             subprocess.run(['git', '-C', self.room, *words], check=True)
         os.mkdir(self.path('made'))
 
-    def package(self, *words):
+    def package(self, *words: str) -> Done:
         return run([self.path('tools/package'), *words], env=self.environment(with_rt=False), cwd='/')
 
-    def test_the_tarball_has_the_files_of_the_commit(self):
+    def test_the_tarball_has_the_files_of_the_commit(self) -> None:
         done = self.package('tarball', self.path('made'))
         self.assertEqual((done.status, done.err), (0, ''))
         name = f'snomon-{VERSION}.tar.gz'
@@ -123,7 +139,7 @@ class Packaged(Checkout):
         self.assertEqual(run(['sha256sum', '-c', name + '.sha256'], cwd=self.path('made')).status, 0)
 
     @unittest.skipUnless(shutil.which('dpkg-deb'), 'there is no dpkg-deb')
-    def test_the_package_installs_what_runs(self):
+    def test_the_package_installs_what_runs(self) -> None:
         done = self.package('deb', self.path('made'))
         self.assertEqual((done.status, done.err), (0, ''))
         path = done.out.decode().strip()
@@ -138,15 +154,15 @@ class Packaged(Checkout):
         os.rename(path, self.path('first.deb'))
         self.assertEqual((self.package('deb', self.path('made')).status, self.read('first.deb') == self.read(os.path.relpath(path, self.room))), (0, True))
 
-    def test_programs_that_do_not_fit_are_not_packaged(self):
+    def test_programs_that_do_not_fit_are_not_packaged(self) -> None:
         self.write('crates/snomon/src/main.rt', b'two\n')
         for kind in ('deb', 'tarball'):
             done = self.package(kind, self.path('made'))
             self.assertEqual((done.status, done.out, os.listdir(self.path('made'))), (1, b'', []))
             self.assertIn('the released programs do not fit the sources', done.err)
 
-    def test_other_words_are_refused(self):
-        for words in ([], ['rpm', self.room], ['deb'], ['deb', 'a', 'b']):
+    def test_other_words_are_refused(self) -> None:
+        for words in (NO_WORDS, ['rpm', self.room], ['deb'], ['deb', 'a', 'b']):
             self.assertEqual(self.package(*words).status, 2, words)
         self.assertEqual(self.package('deb', self.path('gone')).status, 1)
 
@@ -155,7 +171,7 @@ class Looked(Trying):
     """What other tools say, where they are there."""
 
     @unittest.skipUnless(all(map(shutil.which, ('lintian', 'dpkg-deb', 'git'))), 'there is no lintian, dpkg-deb or git')
-    def test_lintian_finds_no_error_in_the_package(self):
+    def test_lintian_finds_no_error_in_the_package(self) -> None:
         named = {**os.environ, 'DEBFULLNAME': 'A', 'DEBEMAIL': 'a@example.com'}  # whoever the commit is of
         done = run([os.path.join(TOP, 'tools', 'package'), 'deb', self.room], env=named)
         if done.status and 'do not fit the sources' in done.err:
@@ -165,9 +181,11 @@ class Looked(Trying):
         self.assertEqual([line for line in found.out.decode().splitlines() if line.startswith(('E:', 'W:'))], [])
 
     @unittest.skipUnless(shutil.which('mypy'), 'there is no mypy')
-    def test_mypy_finds_the_types_right(self):
-        for folder, files in TYPED.items():
+    def test_mypy_finds_the_types_right(self) -> None:
+        found = files_of_python()
+        self.assertEqual(sorted(found), sorted(FOLDERS))
+        for folder, files in found.items():
             with self.subTest(folder):
-                done = run(['mypy', '--strict', '--scripts-are-modules', '--cache-dir', self.path(folder), *files], cwd=os.path.join(TOP, folder),
-                           env={**os.environ, 'MYPYPATH': 'docs'})
+                done = run(['mypy', '--strict', '--scripts-are-modules', '--cache-dir', self.path('cache'), *files], cwd=os.path.join(TOP, folder),
+                           env={**os.environ, 'MYPYPATH': FOLDERS[folder]})
                 self.assertEqual(done.status, 0, done.out.decode())

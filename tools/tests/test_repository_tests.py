@@ -1,4 +1,6 @@
 """tools/test itself: how it tells of classes of tests that are left out or fail whole."""
+from __future__ import annotations
+
 import os
 import shutil
 import sys
@@ -9,30 +11,30 @@ TESTS = b'''import unittest
 
 class LeftOut(unittest.TestCase):
     @classmethod
-    def setUpClass(cls):
+    def setUpClass(cls) -> None:
         raise unittest.SkipTest('there is none here')
 
-    def test_it(self):
+    def test_it(self) -> None:
         self.fail('it was tried')
 
 
 class NotSetUp(unittest.TestCase):
     @classmethod
-    def setUpClass(cls):
+    def setUpClass(cls) -> None:
         raise OSError('no room')
 
-    def test_it(self):
+    def test_it(self) -> None:
         self.fail('it was tried')
 
 
 class Tried(unittest.TestCase):
-    def test_of_one_thing(self):
+    def test_of_one_thing(self) -> None:
         pass
 '''
 
 
 class Told(Trying):
-    def test_a_class_that_is_left_out_whole_is_told_and_not_counted(self):
+    def test_a_class_that_is_left_out_whole_is_told_and_not_counted(self) -> None:
         os.makedirs(self.path('tools/tests'))
         os.mkdir(self.path('examples'))
         for name in ('tools/test', 'tools/tests/trying.py', 'examples/payroll.deck'):
