@@ -9,8 +9,7 @@ use Rattle.sno_expression.specs.declared.tree.Expression.TheVariants as tree
 use Rattle.sno_expression.specs.declared.tree.Operands.{Operands'}
 use Rattle.sno_expression.specs.Expressions.{Expression, Identifier, Constant, IsOperand}
 use Rattle.sno_expression.specs.Abstraction.{expression_of}
-use Rattle.sno_expression.specs.inner.Walking.{opens_bracket, stops, inner_of}
-use Rattle.sno_expression.specs.inner.Reading.{State, At, Stack, Bottom, Hole, Begin, Named, Whole, Due, fill, begin, first, after, opened, read, ended, result, parens, variable_due, walk, start}
+use Rattle.sno_expression.specs.inner.Reading.{State, At, Stack, Bottom, Hole, Begin, Named, Whole, Due, fill, begin, first, after, opened, read, ended, result, parens, inner_of, stops, opens_bracket, variable_due, start}
 use Rattle.sno_expression.specs.inner.Telling.{follows, lack_at, fits_at, Told, Tells, then_tell, told, telling}
 use Rattle.sno_expression.specs.inner.First.{is_apart, plain, first_operand}
 use Rattle.sno_expression.specs.inner.Spines.{is_element}
@@ -48,14 +47,14 @@ named_whole alone st h n (t ∷ ts) a =
     ∙ ap (to false false) (and_false (variable_due h))
 
 -- an operand begins and is whole
-begun : (alone : Bool) (s : State) (st : Stack) (h : Hole) (t : Token) (ts : List Token) (x : Expression) → read alone s t ≡ begin st h t.blank_after t.kind → lack_at (walk s) t (length (t ∷ ts)) ≡ 0
+begun : (alone : Bool) (s : State) (st : Stack) (h : Hole) (t : Token) (ts : List Token) (x : Expression) → read alone s t ≡ begin st h t.blank_after t.kind → lack_at s t (length (t ∷ ts)) ≡ 0
     → plain t.kind ts ≡ Some x → told alone s (t ∷ ts) ≡ told alone (At st (Whole (fill h x))) ts
 begun alone s st h t ts x r l e =
     ap₂ (λ (o : Option State) (n : ℕ). then_tell o stop n (λ v. told alone v ts)) r l
     ∙ (at t.kind e ∙ with_none (told alone (At st (Whole (fill h x))) ts))
   where
     stop : Told
-    stop = Tells (result s) (t ∷ ts) 0 (fits_at alone (walk s) t.kind)
+    stop = Tells (result s) (t ∷ ts) 0 (fits_at alone s t.kind)
 
     to : State → Told
     to v = then_tell (Some v) stop 0 (λ v. told alone v ts)

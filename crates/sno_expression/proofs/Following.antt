@@ -12,7 +12,7 @@ use Rattle.sno_expression.specs.declared.tree.Pending.{Pending}
 use Rattle.sno_expression.specs.Expressions.{Expression, Identifier}
 use Rattle.sno_expression.specs.Abstraction.{expression_of}
 use Rattle.sno_expression.specs.inner.Levels.{FitsLeft}
-use Rattle.sno_expression.specs.inner.Reading.{State, At, Stack, After, Named, push, closed, named, read, result, walk}
+use Rattle.sno_expression.specs.inner.Reading.{State, At, Stack, After, Named, push, closed, named, read, result}
 use Rattle.sno_expression.specs.inner.Telling.{Tells, then_tell, told, fits_at}
 use Rattle.sno_expression.specs.inner.Runs.{spread_all}
 use Rattle.sno_expression.specs.inner.Spines.{is_element, is_under_all}
@@ -51,6 +51,6 @@ pub name_more : (alone : Bool) (st : Stack) (e e' : Expression) (n w : List ℕ)
 name_more alone st e e' n w t ts m d c b k p =
     let s = At st (Named (After e Concatenation) n) in
     ap (told alone s) d
-    ∙ (ap (λ (o : Option State). then_tell o (Tells (result s) (t ∷ m) 0 (fits_at alone (walk s) t.kind)) 0 (λ v. told alone v m)) (name_step alone st e n w t c b k)
+    ∙ (ap (λ (o : Option State). then_tell o (Tells (result s) (t ∷ m) 0 (fits_at alone s t.kind)) 0 (λ v. told alone v m)) (name_step alone st e n w t c b k)
     ∙ (with_none (told alone (At st (Named (After (push Concatenation (Identifier n) e) Concatenation) w)) m)
     ∙ ap (λ (x : Expression). told alone (At st (Named (After x Concatenation) w)) m) (sym p)))

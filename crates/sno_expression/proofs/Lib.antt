@@ -1,8 +1,8 @@
 pub mod Before
 pub mod Levels
 pub mod Feeding
-pub mod Steps
-pub mod Lone
+pub mod Lacks
+pub mod Closing
 pub mod Sound
 pub mod Spines
 pub mod Grammar

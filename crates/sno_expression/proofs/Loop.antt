@@ -4,7 +4,7 @@ use Rattle.std.specs.Prelude.{Bool, true, false, nat_le, Option, Some, None, if�
 use Rattle.std.proofs.lemmas.Bool.Decides.{nat_tests}
 use Rattle.sno_lexer.specs.declared.token.Token.{Token}
 use Rattle.sno_expression.specs.Expressions.{Expression}
-use Rattle.sno_expression.specs.inner.Reading.{State, read, result, walk}
+use Rattle.sno_expression.specs.inner.Reading.{State, read, result}
 use Rattle.sno_expression.specs.inner.Telling.{most, lack_at, fits_at, Told, Tells, with_lack, then_tell, told}
 use Rattle.sno_expression.specs.inner.Told.{Next, End, stepped}
 
@@ -61,26 +61,26 @@ most_none a = at (nat_le a 0) refl
 
 -- what is told of the tokens from a state on
 abbrev from_here : Bool → State → Token → List Token → Option State → Told
-from_here alone s t m o = then_tell o (Tells (result s) (t ∷ m) 0 (fits_at alone (walk s) t.kind)) (lack_at (walk s) t (length (t ∷ m))) (λ v. told alone v m)
+from_here alone s t m o = then_tell o (Tells (result s) (t ∷ m) 0 (fits_at alone s t.kind)) (lack_at s t (length (t ∷ m))) (λ v. told alone v m)
 
 -- a token is read
 pub on_next : (alone : Bool) (s v : State) (t : Token) (ts m : List Token) (l n : ℕ) (a : Told) → ts ≡ t ∷ m → Next v ≡ stepped (read alone s t) (result s)
-    → n ≡ most l (lack_at (walk s) t (length ts)) → a ≡ with_lack l (told alone s ts) → a ≡ with_lack n (told alone v m)
+    → n ≡ most l (lack_at s t (length ts)) → a ≡ with_lack l (told alone s ts) → a ≡ with_lack n (told alone v m)
 on_next alone s v t ts m l n a d e c h =
     h ∙ (ap (λ (x : List Token). with_lack l (told alone s x)) d
     ∙ (ap (λ (o : Option State). with_lack l (from_here alone s t m o)) (next_step (read alone s t) (result s) v e)
-    ∙ (with_both l (lack_at (walk s) t (length (t ∷ m))) (told alone v m)
-    ∙ (ap (λ (x : List Token). with_lack (most l (lack_at (walk s) t (length x))) (told alone v m)) (sym d)
+    ∙ (with_both l (lack_at s t (length (t ∷ m))) (told alone v m)
+    ∙ (ap (λ (x : List Token). with_lack (most l (lack_at s t (length x))) (told alone v m)) (sym d)
     ∙ ap (λ (x : ℕ). with_lack x (told alone v m)) (sym c)))))
 
 -- a token is not taken
 pub on_end : (alone : Bool) (s : State) (u : Option Expression) (t : Token) (ts m : List Token) (l : ℕ) (b : Bool) (a : Told) → ts ≡ t ∷ m
-    → End u ≡ stepped (read alone s t) (result s) → b ≡ fits_at alone (walk s) t.kind → a ≡ with_lack l (told alone s ts) → Tells u ts l b ≡ a
+    → End u ≡ stepped (read alone s t) (result s) → b ≡ fits_at alone s t.kind → a ≡ with_lack l (told alone s ts) → Tells u ts l b ≡ a
 on_end alone s u t ts m l b a d e c h =
     ap (λ (x : List Token). Tells u x l b) d
     ∙ (ap (λ (x : Option Expression). Tells x (t ∷ m) l b) (end_tree (read alone s t) (result s) u e)
     ∙ (ap (Tells (result s) (t ∷ m) l) c
-    ∙ (ap (λ (x : ℕ). Tells (result s) (t ∷ m) x (fits_at alone (walk s) t.kind)) (sym (most_none l))
+    ∙ (ap (λ (x : ℕ). Tells (result s) (t ∷ m) x (fits_at alone s t.kind)) (sym (most_none l))
     ∙ (sym (ap (λ (o : Option State). with_lack l (from_here alone s t m o)) (end_step (read alone s t) (result s) u e))
     ∙ (sym (ap (λ (x : List Token). with_lack l (told alone s x)) d) ∙ sym h)))))
 

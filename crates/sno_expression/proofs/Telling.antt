@@ -1,120 +1,206 @@
--- What is told besides a tree: the tree is the one that is read, and what fits is what is taken with some blanks.
-use Rattle.std.proofs.Common.{◌≡◌, ℕ, length, List, [], ◌∷◌, refl, ◌∙◌}
+-- What fits is what is taken with some blanks.
+use Rattle.std.proofs.Common.{◌≡◌, refl, ◌∙◌}
 use Rattle.std.specs.Prelude.{Bool, true, false, Option, Some, None, is_some, ◌||◌, ◌&&◌, not, if◌then◌else◌}
 use Rattle.sno_lexer.specs.declared.token.Mark.{Mark}
 use Rattle.sno_lexer.specs.declared.token.Mark.TheVariants as mark
-use Rattle.sno_lexer.specs.declared.token.Token.{Token}
+use Rattle.sno_lexer.specs.declared.token.Part.{Part}
 use Rattle.sno_lexer.specs.declared.token.TokenKind.{TokenKind}
 use Rattle.sno_lexer.specs.declared.token.TokenKind.TheVariants as token
-use Rattle.sno_expression.specs.declared.position.Paren.{Paren}
-use Rattle.sno_expression.specs.declared.position.Paren.TheVariants.{OfGroup, OfCall, OfItem}
-use Rattle.sno_expression.specs.declared.position.Position.{Position}
-use Rattle.sno_expression.specs.declared.position.Position.TheVariants.{AtStart, AfterBinary, AfterUnary, AfterPrefix, AfterIdentifier, AfterOperand}
-use Rattle.sno_expression.specs.Marks.{operator_of, prefix_of}
-use Rattle.sno_expression.specs.inner.Walking.{prefixed, joined, go_on, stops, step}
-use Rattle.sno_expression.specs.inner.Reading.{State, read, result, walk, Reading, Read, and_then, answer}
-use Rattle.sno_expression.specs.inner.Telling.{lack_at, begins, follows, fits, fits_at, Told, Tells, with_lack, then_tell, told}
+use Rattle.sno_expression.specs.declared.tree.BinaryOperator.TheVariants as operator
+use Rattle.sno_expression.specs.declared.tree.UnaryOperator.TheVariants as unary
+use Rattle.sno_expression.specs.declared.tree.IdentifierPrefix.TheVariants as prefix
+use Rattle.sno_expression.specs.declared.tree.Prefix.{Prefix}
+use Rattle.sno_expression.specs.declared.tree.Prefix.TheVariants.{OfOperand, OfIdentifier}
+use Rattle.sno_expression.specs.Marks.{prefix_of}
+use Rattle.sno_expression.specs.Expressions.{Expression, Identifier, Constant, Group, Call, Omitted, Argument, TableItem}
+use Rattle.sno_expression.specs.Spelling.{spaced}
+use Rattle.sno_expression.specs.inner.Reading.{Hole, Begin, After, Under, fill, Stack, Bottom, InGroup, InCall, InItem, Due, Prefixed, Named, Whole, State, At, with_prefix, prefixed, begin, first, go_on, closed, after, read, inner_of, parens, opens_bracket, opened, start}
+use Rattle.sno_expression.specs.inner.Telling.{begins, ends_argument, follows, fits_at}
 
-abbrev pub read_of : Told → Reading
-read_of (Tells t rest n b) = Read t rest
+or_left : (x y : Bool) → x ≡ true → (x || y) ≡ true
+or_left true y e = refl
+or_left false y e = cc
 
-lacked_reads : (m : ℕ) (x : Told) → read_of (with_lack m x) ≡ read_of x
-lacked_reads m (Tells t rest n b) = refl
+or_right : (x y : Bool) → y ≡ true → (x || y) ≡ true
+or_right true y e = refl
+or_right false y e = e
 
-pub told_reads : (alone : Bool) (ts : List Token) (s : State) → read_of (told alone s ts) ≡ answer alone s ts
-told_reads alone [] s = refl
-told_reads alone (t ∷ ts) s = at (read alone s t) (λ v. told_reads alone ts v)
+-- TAKEN, SO IT FITS
+
+begun_fits : (st : Stack) (h : Hole) (a : Bool) (k : TokenKind) (v : State) → begin st h a k ≡ Some v → begins false k ≡ true
+begun_fits st h a (token.Identifier n) v e = refl
+begun_fits st h a (token.Constant c) v e = refl
+begun_fits st h a token.Open v e = refl
+begun_fits st h true (token.Mark m) v e = cc
+begun_fits st h false (token.Mark m) v e = at (prefix_of m) e
   where
-    at : (o : Option State) → ((v : State) → read_of (told alone v ts) ≡ answer alone v ts)
-        → read_of (then_tell o (Tells (result s) (t ∷ ts) 0 (fits_at alone (walk s) t.kind)) (lack_at (walk s) t (length (t ∷ ts))) (λ v. told alone v ts))
-        ≡ and_then o (Read (result s) (t ∷ ts)) (λ v. answer alone v ts)
-    at None on = refl
-    at (Some v) on = lacked_reads (lack_at (walk s) t (length (t ∷ ts))) (told alone v ts) ∙ on v
+    at : (p : Option Prefix) → prefixed st h p ≡ Some v → is_some p ≡ true
+    at None d = cc
+    at (Some p) d = refl
+begun_fits st h a _ v e = cc
 
--- is it taken with some blanks
-abbrev pub steps : Bool → Option Paren → Position → TokenKind → Bool
-steps alone q p k =
-    is_some (step alone q p false false k) || is_some (step alone q p false true k) || is_some (step alone q p true false k) || is_some (step alone q p true true k)
+first_fits : (st : Stack) (a : Bool) (k : TokenKind) (v : State) → first st a k ≡ Some v → (begins false k || ends_argument (inner_of (parens st)) k) ≡ true
+first_fits Bottom a token.Close v e = cc
+first_fits (InGroup h st) a token.Close v e = cc
+first_fits (InCall f args h st) a token.Close v e = refl
+first_fits (InItem n h st) a token.Close v e = cc
+first_fits Bottom a token.Comma v e = cc
+first_fits (InGroup h st) a token.Comma v e = cc
+first_fits (InCall f args h st) a token.Comma v e = refl
+first_fits (InItem n h st) a token.Comma v e = cc
+first_fits st a k v e = or_left (begins false k) (ends_argument (inner_of (parens st)) k) (begun_fits st Begin a k v e)
 
-or_false : (x : Bool) → (x || false) ≡ x
-or_false true = refl
-or_false false = refl
+no_angle : (st : Stack) (t : Expression) (b a : Bool) → go_on st t b a token.OpenAngle ≡ None
+no_angle st t true a = refl
+no_angle st t false a = refl
 
-or_none : (x : Bool) → (x || false || false || false) ≡ x
-or_none true = refl
-or_none false = refl
+no_part : (st : Stack) (t : Expression) (b a : Bool) (p : Part) → go_on st t b a (token.Part p) ≡ None
+no_part st t true a p = refl
+no_part st t false a p = refl
 
-or_same : (x : Bool) → (x || false || x || false) ≡ (x || false)
-or_same true = refl
-or_same false = refl
+gone_fits : (st : Stack) (t : Expression) (b a : Bool) (k : TokenKind) (v : State) → go_on st t b a k ≡ Some v → follows (inner_of (parens st)) k ≡ true
+gone_fits st t b a token.OpenAngle v e = cc (no_angle st t b a)
+gone_fits st t b a (token.Part p) v e = cc (no_part st t b a p)
+gone_fits Bottom t b a token.Close v e = cc
+gone_fits Bottom t b a token.Comma v e = cc
+gone_fits Bottom t b a token.CloseAngle v e = cc
+gone_fits Bottom t b a _ v e = refl
+gone_fits (InGroup h st) t b a token.Comma v e = cc
+gone_fits (InGroup h st) t b a token.CloseAngle v e = cc
+gone_fits (InGroup h st) t b a _ v e = refl
+gone_fits (InCall f args h st) t b a token.CloseAngle v e = cc
+gone_fits (InCall f args h st) t b a _ v e = refl
+gone_fits (InItem n h st) t b a token.Close v e = cc
+gone_fits (InItem n h st) t b a token.Comma v e = cc
+gone_fits (InItem n h st) t b a _ v e = refl
 
-start_fits : (q : Option Paren) (alone : Bool) (k : TokenKind) → steps alone q AtStart k ≡ fits alone q AtStart k
-start_fits None alone (token.Mark m) = or_same (is_some (prefixed (prefix_of m)))
-start_fits None alone _ = refl
-start_fits (Some OfGroup) alone (token.Mark m) = or_same (is_some (prefixed (prefix_of m)))
-start_fits (Some OfGroup) alone _ = refl
-start_fits (Some OfCall) alone (token.Mark m) = or_same (is_some (prefixed (prefix_of m)))
-start_fits (Some OfCall) alone _ = refl
-start_fits (Some OfItem) alone (token.Mark m) = or_same (is_some (prefixed (prefix_of m)))
-start_fits (Some OfItem) alone _ = refl
-
-binary_fits : (alone : Bool) (q : Option Paren) (w : Bool) (k : TokenKind) → steps alone q (AfterBinary w) k ≡ begins false k
-binary_fits alone q w (token.Mark m) = or_false (is_some (prefixed (prefix_of m)))
-binary_fits alone q w _ = refl
-
-unary_fits : (alone : Bool) (q : Option Paren) (w : Bool) (k : TokenKind) → steps alone q (AfterUnary w) k ≡ begins false k
-unary_fits alone q w (token.Mark m) = or_none (is_some (prefixed (prefix_of m)))
-unary_fits alone q w _ = refl
-
-prefix_fits : (alone : Bool) (q : Option Paren) (k : TokenKind) → steps alone q AfterPrefix k ≡ fits alone q AfterPrefix k
-prefix_fits alone q (token.Identifier n) = refl
-prefix_fits alone q _ = refl
-
--- each mark stands before an operand or between two
-a_mark : (m : Mark) → (is_some (prefixed (prefix_of m)) || is_some (joined (operator_of m))) ≡ true
-a_mark mark.Power = refl
-a_mark mark.Star = refl
-a_mark mark.Slash = refl
-a_mark mark.Plus = refl
-a_mark mark.Minus = refl
-a_mark mark.Bar = refl
-a_mark mark.Dot = refl
-a_mark mark.Dollar = refl
-a_mark mark.At = refl
-a_mark mark.Tilde = refl
-a_mark mark.Question = refl
-a_mark mark.Ampersand = refl
-
-abbrev goes : Option Paren → TokenKind → Bool
-goes q k = is_some (go_on q false false k) || is_some (go_on q false true k) || is_some (go_on q true false k) || is_some (go_on q true true k)
-
-go_on_fits : (q : Option Paren) (k : TokenKind) → goes q k ≡ follows q k
-go_on_fits None (token.Mark m) = a_mark m
-go_on_fits None _ = refl
-go_on_fits (Some OfGroup) (token.Mark m) = a_mark m
-go_on_fits (Some OfGroup) _ = refl
-go_on_fits (Some OfCall) (token.Mark m) = a_mark m
-go_on_fits (Some OfCall) _ = refl
-go_on_fits (Some OfItem) (token.Mark m) = a_mark m
-go_on_fits (Some OfItem) _ = refl
-
-operand_fits : (alone : Bool) (q : Option Paren) (k : TokenKind) → steps alone q AfterOperand k ≡ fits alone q AfterOperand k
-operand_fits alone q k = at (stops alone q)
+after_fits : (alone : Bool) (st : Stack) (t : Expression) (b a : Bool) (k : TokenKind) (v : State) → after alone st t b a k ≡ Some v
+    → (not (closed alone st) && follows (inner_of (parens st)) k) ≡ true
+after_fits alone st t b a k v e = at (closed alone st) e
   where
-    at : (c : Bool) → (is_some (if c then None else go_on q false false k) || is_some (if c then None else go_on q false true k)
-        || is_some (if c then None else go_on q true false k) || is_some (if c then None else go_on q true true k)) ≡ (not c && follows q k)
-    at true = refl
-    at false = go_on_fits q k
+    at : (c : Bool) → (if c then None else go_on st t b a k) ≡ Some v → (not c && follows (inner_of (parens st)) k) ≡ true
+    at true d = cc
+    at false d = gone_fits st t b a k v d
 
-identifier_fits : (alone : Bool) (q : Option Paren) (w : Bool) (k : TokenKind) → steps alone q (AfterIdentifier w) k ≡ fits alone q (AfterIdentifier w) k
-identifier_fits alone q w token.Open = refl
-identifier_fits alone q w token.OpenAngle = refl
-identifier_fits alone q w k = operand_fits alone q k
+opens_touching : (b : Bool) (k : TokenKind) → opens_bracket b k ≡ true → opens_bracket false k ≡ true
+opens_touching b token.Open e = refl
+opens_touching b token.OpenAngle e = refl
+opens_touching b _ e = e
 
-pub steps_fit : (alone : Bool) (q : Option Paren) (p : Position) (k : TokenKind) → steps alone q p k ≡ fits alone q p k
-steps_fit alone q AtStart k = start_fits q alone k
-steps_fit alone q (AfterBinary w) k = binary_fits alone q w k
-steps_fit alone q (AfterUnary w) k = unary_fits alone q w k
-steps_fit alone q AfterPrefix k = prefix_fits alone q k
-steps_fit alone q (AfterIdentifier w) k = identifier_fits alone q w k
-steps_fit alone q AfterOperand k = operand_fits alone q k
+pub taken_fits : (alone : Bool) (s : State) (b a : Bool) (k : TokenKind) (v : State) → read alone s (spaced b a k) ≡ Some v → fits_at alone s k ≡ true
+taken_fits alone (At st (Due Begin)) b a k v e = first_fits st a k v e
+taken_fits alone (At st (Due (After l o))) true a k v e = begun_fits st (After l o) a k v e
+taken_fits alone (At st (Due (After l o))) false a k v e = cc
+taken_fits alone (At st (Due (Under s h))) true a k v e = cc
+taken_fits alone (At st (Due (Under s h))) false a k v e = begun_fits st (Under s h) a k v e
+taken_fits alone (At st (Prefixed h w)) false a (token.Identifier n) v e = refl
+taken_fits alone (At st (Prefixed h w)) b a _ v e = cc
+taken_fits alone (At st (Named h n)) b a k v e = at (opens_bracket b k) refl e
+  where
+    at : (c : Bool) → opens_bracket b k ≡ c → (if c then Some (At (opened n h st k) (Due Begin)) else after alone st (fill h (Identifier n)) b a k) ≡ Some v
+        → (opens_bracket false k || (not (closed alone st) && follows (inner_of (parens st)) k)) ≡ true
+    at true d f = or_left (opens_bracket false k) (not (closed alone st) && follows (inner_of (parens st)) k) (opens_touching b k d)
+    at false d f = or_right (opens_bracket false k) (not (closed alone st) && follows (inner_of (parens st)) k) (after_fits alone st (fill h (Identifier n)) b a k v f)
+taken_fits alone (At st (Whole t)) b a k v e = after_fits alone st t b a k v e
+
+-- IT FITS, SO IT IS TAKEN WITH SOME BLANKS
+
+abbrev pub IsTaken : Bool → State → TokenKind → Type 0
+IsTaken alone s k = (b : Bool) × (a : Bool) × (v : State) × (read alone s (spaced b a k) ≡ Some v)
+
+fits_begun : (st : Stack) (h : Hole) (a : Bool) (k : TokenKind) → begins a k ≡ true → (v : State) × (begin st h a k ≡ Some v)
+fits_begun st h a (token.Identifier n) e = (At st (Named h n), refl)
+fits_begun st h a (token.Constant c) e = (At st (Whole (fill h (Constant c))), refl)
+fits_begun st h a token.Open e = (At (InGroup h st) (Due Begin), refl)
+fits_begun st h true (token.Mark m) e = cc
+fits_begun st h false (token.Mark m) e = at (prefix_of m) e
+  where
+    at : (p : Option Prefix) → is_some p ≡ true → (v : State) × (prefixed st h p ≡ Some v)
+    at None d = cc
+    at (Some (OfOperand s)) d = (At st (Due (Under s h)), refl)
+    at (Some (OfIdentifier w)) d = (At st (Prefixed h w), refl)
+fits_begun st h a _ e = cc
+
+first_begins : (st : Stack) (a : Bool) (k : TokenKind) → begins a k ≡ true → first st a k ≡ begin st Begin a k
+first_begins st a token.Close e = cc
+first_begins st a token.Comma e = cc
+first_begins st a _ e = refl
+
+-- where an expression begins
+pub starts : (alone b a : Bool) (k : TokenKind) → begins a k ≡ true → (v : State) × (read alone start (spaced b a k) ≡ Some v)
+starts alone b a k e = let v = fits_begun Bottom Begin a k e in (v.0, first_begins Bottom a k e ∙ v.1)
+
+pub begins_any : (a : Bool) (k : TokenKind) → begins a k ≡ true → begins false k ≡ true
+begins_any true (token.Mark m) e = cc
+begins_any false (token.Mark m) e = e
+begins_any a (token.Identifier n) e = refl
+begins_any a (token.Constant c) e = refl
+begins_any a token.Open e = refl
+begins_any a _ e = cc
+
+or_false : (x : Bool) → (x || false) ≡ true → x ≡ true
+or_false true e = refl
+or_false false e = e
+
+begun_first : (alone : Bool) (st : Stack) (k : TokenKind) → begins false k ≡ true → IsTaken alone (At st (Due Begin)) k
+begun_first alone st k d = let v = fits_begun st Begin false k d in (false, false, v.0, first_begins st false k d ∙ v.1)
+
+fits_first : (alone : Bool) (st : Stack) (k : TokenKind) → (begins false k || ends_argument (inner_of (parens st)) k) ≡ true → IsTaken alone (At st (Due Begin)) k
+fits_first alone (InCall f args h st) token.Close e = (false, false, At st (Whole (fill h (Call f (Omitted args)))), refl)
+fits_first alone (InCall f args h st) token.Comma e = (false, false, At (InCall f (Omitted args) h st) (Due Begin), refl)
+fits_first alone Bottom k e = begun_first alone Bottom k (or_false (begins false k) e)
+fits_first alone (InGroup h st) k e = begun_first alone (InGroup h st) k (or_false (begins false k) e)
+fits_first alone (InItem n h st) k e = begun_first alone (InItem n h st) k (or_false (begins false k) e)
+fits_first alone (InCall f args h st) k e = begun_first alone (InCall f args h st) k (or_false (begins false k) e)
+
+go_mark : (st : Stack) (t : Expression) (m : Mark) → (a : Bool) × (v : State) × (go_on st t true a (token.Mark m) ≡ Some v)
+go_mark st t mark.Power = (true, At st (Due (After t operator.Power)), refl)
+go_mark st t mark.Star = (true, At st (Due (After t operator.Times)), refl)
+go_mark st t mark.Slash = (true, At st (Due (After t operator.Over)), refl)
+go_mark st t mark.Plus = (true, At st (Due (After t operator.Plus)), refl)
+go_mark st t mark.Minus = (true, At st (Due (After t operator.Minus)), refl)
+go_mark st t mark.Bar = (true, At st (Due (After t operator.Alternation)), refl)
+go_mark st t mark.Dot = (true, At st (Due (After t operator.Conditional)), refl)
+go_mark st t mark.Dollar = (true, At st (Due (After t operator.Immediate)), refl)
+go_mark st t mark.At = (false, At st (Due (Under unary.Cursor (After t operator.Concatenation))), refl)
+go_mark st t mark.Tilde = (false, At st (Due (Under unary.Not (After t operator.Concatenation))), refl)
+go_mark st t mark.Question = (false, At st (Due (Under unary.Query (After t operator.Concatenation))), refl)
+go_mark st t mark.Ampersand = (false, At st (Prefixed (After t operator.Concatenation) prefix.Keyword), refl)
+
+fits_gone : (st : Stack) (t : Expression) (k : TokenKind) → follows (inner_of (parens st)) k ≡ true → (a : Bool) × (v : State) × (go_on st t true a k ≡ Some v)
+fits_gone st t (token.Identifier n) e = (false, At st (Named (After t operator.Concatenation) n), refl)
+fits_gone st t (token.Constant c) e = (false, At st (Whole (fill (After t operator.Concatenation) (Constant c))), refl)
+fits_gone st t token.Open e = (false, At (InGroup (After t operator.Concatenation) st) (Due Begin), refl)
+fits_gone st t (token.Mark m) e = go_mark st t m
+fits_gone (InGroup h st) t token.Close e = (false, At st (Whole (fill h (Group t))), refl)
+fits_gone (InCall f args h st) t token.Close e = (false, At st (Whole (fill h (Call f (Argument args t)))), refl)
+fits_gone (InCall f args h st) t token.Comma e = (false, At (InCall f (Argument args t) h st) (Due Begin), refl)
+fits_gone (InItem n h st) t token.CloseAngle e = (false, At st (Whole (fill h (TableItem n t))), refl)
+fits_gone Bottom t _ e = cc
+fits_gone (InGroup h st) t _ e = cc
+fits_gone (InCall f args h st) t _ e = cc
+fits_gone (InItem n h st) t _ e = cc
+
+fits_after : (alone : Bool) (st : Stack) (t : Expression) (k : TokenKind) → (not (closed alone st) && follows (inner_of (parens st)) k) ≡ true
+    → (a : Bool) × (v : State) × (after alone st t true a k ≡ Some v)
+fits_after alone st t k e = at (closed alone st) e
+  where
+    at : (c : Bool) → (not c && follows (inner_of (parens st)) k) ≡ true → (a : Bool) × (v : State) × ((if c then None else go_on st t true a k) ≡ Some v)
+    at true d = cc
+    at false d = fits_gone st t k d
+
+pub fits_taken : (alone : Bool) (s : State) (k : TokenKind) → fits_at alone s k ≡ true → IsTaken alone s k
+fits_taken alone (At st (Due Begin)) k e = fits_first alone st k e
+fits_taken alone (At st (Due (After l o))) k e = let v = fits_begun st (After l o) false k e in (true, false, v.0, v.1)
+fits_taken alone (At st (Due (Under s h))) k e = let v = fits_begun st (Under s h) false k e in (false, false, v.0, v.1)
+fits_taken alone (At st (Prefixed h w)) (token.Identifier n) e = (false, false, At st (Whole (fill h (with_prefix w n))), refl)
+fits_taken alone (At st (Prefixed h w)) _ e = cc
+fits_taken alone (At st (Named h n)) token.Open e = (false, false, At (opened n h st token.Open) (Due Begin), refl)
+fits_taken alone (At st (Named h n)) token.OpenAngle e = (false, false, At (opened n h st token.OpenAngle) (Due Begin), refl)
+fits_taken alone (At st (Named h n)) k e = by k e
+  where
+    by : (k : TokenKind) → (opens_bracket false k || (not (closed alone st) && follows (inner_of (parens st)) k)) ≡ true → IsTaken alone (At st (Named h n)) k
+    by token.Open d = (false, false, At (opened n h st token.Open) (Due Begin), refl)
+    by token.OpenAngle d = (false, false, At (opened n h st token.OpenAngle) (Due Begin), refl)
+    by k d = let v = fits_after alone st (fill h (Identifier n)) k d in (true, v.0, v.1, v.2)
+fits_taken alone (At st (Whole t)) k e = let v = fits_after alone st t k e in (true, v.0, v.1, v.2)

@@ -1,6 +1,3 @@
-pub mod Moves
-pub mod Walking
-pub mod Walks
 pub mod Reading
 pub mod Telling
 pub mod First

@@ -1,10 +1,9 @@
 //! The walk with the trees that it makes.
 
 ghost use Rattle.std.specs.Prelude.{◌≡◌, ◌≤◌, IfOk, IfSome, length, drop, true, false, Some, None};
-ghost use Rattle.sno_expression.specs.inner.Walking.{inner_of};
 ghost use Rattle.sno_expression.specs.Expressions as expressions;
 ghost use Rattle.sno_expression.specs.inner.Spines.{is_element};
-ghost use Rattle.sno_expression.specs.inner.Reading.{fill, prefixed, begin, close, close_angle, comma, first, go_on, closed, after, due, omitted, omitted_last, after_prefix, named, read, ended, result as result_of, parens, position, variable_due};
+ghost use Rattle.sno_expression.specs.inner.Reading.{fill, prefixed, begin, close, close_angle, comma, first, go_on, closed, after, due, omitted, omitted_last, after_prefix, named, read, ended, result as result_of, inner_of, parens, position, variable_due};
 ghost use Rattle.sno_expression.specs.inner.Telling.{told, telling, Tells};
 ghost use Rattle.sno_expression.specs.inner.First.{is_apart, plain, first_operand};
 ghost use Rattle.sno_expression.specs.inner.Reading as states;

@@ -1,8 +1,8 @@
 //! Where in an expression a token stands, what it lacks there, and whether it would be taken with other blanks.
 
 ghost use Rattle.std.specs.Prelude.{◌≡◌, ◌<◌};
-ghost use Rattle.sno_expression.specs.inner.Telling.{most, lack, begins, ends_argument, follows, fits};
-ghost use Rattle.sno_expression.specs.inner.Walking.{stops, begins_variable, is_misfit, opens_bracket};
+ghost use Rattle.sno_expression.specs.inner.Reading.{stops, opens_bracket};
+ghost use Rattle.sno_expression.specs.inner.Telling.{begins_variable, is_misfit, most, lack, begins, ends_argument, follows, fits};
 
 use crate::tree::{Prefix, prefix_of};
 use sno_lexer::{Mark, TokenKind};

@@ -1,84 +1,152 @@
--- A statement that the tokens spell is the one that they are read as.
-use Rattle.std.proofs.Common.{◌≡◌, ℕ, length, List, [], ◌∷◌, refl, sym, ap, ◌∙◌, subst}
-use Rattle.std.specs.Prelude.{Bool, true, false, Option, Some, None, Result, Ok, Err, ◌||◌, if◌then◌else◌}
+-- A statement that the tokens spell is the one that they are read as, with the leftmost of the places where it lacks a variable.
+use Rattle.std.proofs.Common.{arith, ◌≡◌, ℕ, suc, ◌+◌, length, List, [], ◌∷◌, ◌++◌, refl, sym, ap, ◌∙◌, subst}
+use Rattle.std.specs.Prelude.{Bool, true, false, not, nat_le, Option, Some, None, is_some, Result, Ok, Err, ◌||◌, if◌then◌else◌}
 use Rattle.std.proofs.Common.{inl, inr}
+use Rattle.std.proofs.lemmas.List.{length-append, append_assoc}
+use Rattle.std.proofs.lemmas.Bool.Decides.{nat_tests}
 use Rattle.sno_lexer.specs.declared.token.Mark.{Mark}
 use Rattle.sno_lexer.specs.declared.token.Mark.TheVariants.{Dollar}
 use Rattle.sno_lexer.specs.declared.token.Outcome.{Outcome}
 use Rattle.sno_lexer.specs.declared.token.Outcome.TheVariants.{Success, Failure}
 use Rattle.sno_lexer.specs.declared.token.Part.TheVariants.{Equals, Colon}
 use Rattle.sno_lexer.specs.declared.token.Token.{Token}
-use Rattle.sno_lexer.specs.declared.token.TokenKind.{TokenKind}
 use Rattle.sno_lexer.specs.declared.token.TokenKind.TheVariants as token
+use Rattle.sno_expression.specs.declared.tree.BinaryOperator.{BinaryOperator}
+use Rattle.sno_expression.specs.declared.tree.BinaryOperator.TheVariants.{Concatenation}
 use Rattle.sno_expression.specs.declared.tree.UnaryOperator.TheVariants.{Indirect}
-use Rattle.sno_expression.specs.Expressions.{Expression, Unary}
-use Rattle.sno_expression.specs.Spelling.{spaced, SpellsTo}
+use Rattle.sno_expression.specs.declared.tree.UnaryOperator.TheVariants as unary
+use Rattle.sno_expression.specs.Expressions.{Expression, Arguments, Identifier, Constant, Keyword, Unevaluated, Group, Call, TableItem, Unary, Binary, NoArguments, Omitted, Argument, IsOperand, is_variable}
+use Rattle.sno_expression.specs.Spelling.{spaced, Joins, Parts, SpellsTo, SpellTo}
+use Rattle.sno_expression.specs.Lacking.{lacking, lacking_among}
+use Rattle.sno_expression.specs.Marks.{operand_is_variable}
 use Rattle.sno_expression.specs.inner.Reading.{Stops}
-use Rattle.sno_expression.specs.inner.Telling.{most, begins, Told, Tells, telling}
+use Rattle.sno_expression.specs.inner.Telling.{most, begins, telling}
 use Rattle.sno_statement.specs.declared.parser.Refusal.{Refusal}
 use Rattle.sno_statement.specs.declared.role.Role.{Role}
-use Rattle.sno_statement.specs.inner.Walking.{stands}
-use Rattle.sno_statement.specs.Statements.{Target, To, Computed, Goto, NoGoto, Always, OnSuccess, OnFailure, OnBoth, Object, NoObject, NullObject, ValueObject, Body, NoBody, Does, Statement, Says}
+use Rattle.sno_statement.specs.Statements.{Target, To, Computed, Goto, NoGoto, Always, OnSuccess, OnFailure, OnBoth, Object, NoObject, NullObject, ValueObject, Body, NoBody, Does, Statement, Says, may_be_set}
 use Rattle.sno_statement.specs.Spelling.{TargetTo, OutcomeTo, LeadsTo, GotoTo, ObjectTo, Spells}
-use Rattle.sno_statement.specs.inner.Parsing.{blamed, Aim, Aimed, computed, inside, target_in, Way, Leads, always, both, next, chosen, goto_in, Stated, States, stated, going, is_colon, ends_part, ending, giving, by_object, object_in, set, pattern_then, matching, by_subject, subject_then, acting, by_first, statement_in}
+use Rattle.sno_statement.specs.Lacking.{lacking_object, lacking_body, lacking_target, lacking_goto, named_first, lacking_in}
+use Rattle.sno_statement.specs.inner.Parsing.{stands, blamed, Aim, Aimed, computed, inside, target_in, Way, Leads, always, both, next, chosen, goto_in, Stated, States, stated, going, is_colon, ends_part, ending, giving, by_object, object_in, set, pattern_then, matching, by_subject, subject_then, acting, by_first, statement_in}
+use Rattle.sno_expression.proofs.Feeding.{complete, counted}
+use Rattle.sno_expression.proofs.Lacks.{lacks, lacks_append, lacks_closed, raised}
+use Rattle.sno_expression.proofs.Loop.{most_most, most_none, none_most}
 use Rattle.sno_statement.proofs.Roles.{headed, stops_blank, dollar, no_colon}
-use Rattle.sno_statement.proofs.Told.{told_complete}
-use Rattle.sno_statement.proofs.Shorthand.{PatternTo, ColonTo}
+use Rattle.sno_statement.proofs.Shorthand.{PatternTo, ColonTo, is_wrong, lacking_pattern}
 
--- what is read, with whatever places go with it
-abbrev IsAim : Result Aim Refusal → Target → List Token → Type 0
-IsAim x t rest = (n : ℕ) × (x ≡ Ok (Aimed t n rest))
+-- COUNTS
 
-abbrev IsWay : Result Way Refusal → Goto → Type 0
-IsWay x g = (n : ℕ) × (x ≡ Ok (Leads g n))
+-- two lists of marks, one behind the other
+chained : (cs bs : List Bool) (i l n : ℕ) → l ≡ length bs + n → most (most i (lacks cs l)) (lacks bs n) ≡ most i (lacks (cs ++ bs) n)
+chained cs bs i l n e =
+    most_most i (lacks cs l) (lacks bs n)
+    ∙ (ap (λ (k : ℕ). most i (most (lacks cs k) (lacks bs n))) e ∙ ap (most i) (lacks_append cs bs n))
 
-abbrev IsStated : Result Stated Refusal → Statement → Type 0
-IsStated x s = (n : ℕ) × (x ≡ Ok (States s n))
+target_counted : (t : Target) (ts rest : List Token) → TargetTo t ts rest → length ts ≡ length (lacking_target t) + length rest
+target_counted (To l) ts rest s = let e = ap length s.6 in omega (arith, e)
+target_counted (Computed t) ts rest s =
+    let e = ap length s.6 in
+    let c = counted (Unary Indirect t) false s.3 s.0 (spaced s.4 s.5 token.Close ∷ rest) s.7 in
+    let d = length-append (lacking false (Unary Indirect t)) (false ∷ []) in
+    omega (arith, e, c, d)
+
+outcome_counted : (o : Outcome) (t : Target) (ts rest : List Token) → OutcomeTo o t ts rest → length ts ≡ suc (length (lacking_target t)) + length rest
+outcome_counted o t ts rest s = let e = ap length s.3 in let c = target_counted t s.0 rest s.4 in omega (arith, e, c)
+
+both_counted : (o p : Outcome) (t u : Target) (ts m : List Token) → OutcomeTo o t ts m → OutcomeTo p u m [] → suc (length ts) ≡ length (false ∷ false ∷ (lacking_target t ++ false ∷ lacking_target u))
+both_counted o p t u ts m x y =
+    let c = outcome_counted o t ts m x in
+    let d = outcome_counted p u m [] y in
+    let e = length-append (lacking_target t) (false ∷ lacking_target u) in
+    omega (arith, c, d, e)
+
+leads_counted : (g : Goto) (ts : List Token) → LeadsTo g ts → suc (length ts) ≡ length (lacking_goto (named_first ts) g)
+leads_counted NoGoto ts s = absurd s
+leads_counted (Always t) ts s = let c = target_counted t ts [] s in omega (arith, c)
+leads_counted (OnSuccess t) ts s = let c = outcome_counted Success t ts [] s in omega (arith, c)
+leads_counted (OnFailure t) ts s = let c = outcome_counted Failure t ts [] s in omega (arith, c)
+leads_counted (OnBoth s f) ts (inl p) =
+    both_counted Success Failure s f ts p.0 p.1 p.2 ∙ ap (λ (o : Outcome). length (lacking_goto o (OnBoth s f))) (sym (ap named_first p.1.3))
+leads_counted (OnBoth s f) ts (inr p) =
+    both_counted Failure Success f s ts p.0 p.1 p.2 ∙ ap (λ (o : Outcome). length (lacking_goto o (OnBoth s f))) (sym (ap named_first p.1.3))
+
+colon_counted : (g : Goto) (ts : List Token) → ColonTo g ts → length ts ≡ length (lacking_goto (named_first ts) g)
+colon_counted g ts s =
+    ap length s.2 ∙ (leads_counted g s.0 s.3 ∙ ap (λ (o : Outcome). length (lacking_goto o g)) (sym (ap named_first s.2)))
+
+goto_counted : (g : Goto) (ts : List Token) → GotoTo g ts → length ts ≡ length (lacking_goto (named_first ts) g)
+goto_counted NoGoto ts s = ap length s
+goto_counted (Always t) ts s = colon_counted (Always t) ts s
+goto_counted (OnSuccess t) ts s = colon_counted (OnSuccess t) ts s
+goto_counted (OnFailure t) ts s = colon_counted (OnFailure t) ts s
+goto_counted (OnBoth t u) ts s = colon_counted (OnBoth t u) ts s
+
+object_counted : (o : Object) (ts m : List Token) → ObjectTo o ts m → length ts ≡ length (lacking_object o) + length m
+object_counted NoObject ts m s = let e = ap length s in omega (arith, e)
+object_counted NullObject ts m s = let e = ap length s in omega (arith, e)
+object_counted (ValueObject t) ts m s = let e = ap length s.1 in let c = counted t false true s.0 m s.2 in omega (arith, e, c)
+
+pattern_counted : (p : Option Expression) (ts m : List Token) → PatternTo p ts m → length ts ≡ length (lacking_pattern p) + length m
+pattern_counted None ts m s = let e = ap length s in omega (arith, e)
+pattern_counted (Some t) ts m s = counted t false true ts m s
+
+-- GOTOS
 
 computed_inside : (n : ℕ) (ts m : List Token) (c : Bool) (k : Mark) → k ≡ Dollar → ts ≡ spaced c false (token.Mark k) ∷ m → inside n ts ≡ computed n (telling true ts)
 computed_inside n ts m c k e d =
     let f : ts ≡ spaced c false (token.Mark Dollar) ∷ m = d ∙ ap (λ (x : Mark). spaced c false (token.Mark x) ∷ m) e in
     rw f
 
-target_read : (t : Target) (n : ℕ) (ts rest : List Token) → TargetTo t ts rest → IsAim (target_in n ts) t rest
-target_read (To l) n ts rest s = (n, ap (target_in n) s.6)
+abbrev aimed : Target → ℕ → List Token → Result Aim Refusal
+aimed t n rest = Ok (Aimed t (most n (lacks (lacking_target t) (length rest))) rest)
+
+target_read : (t : Target) (n : ℕ) (ts rest : List Token) → TargetTo t ts rest → target_in n ts ≡ aimed t n rest
+target_read (To l) n ts rest s = ap (target_in n) s.6 ∙ ap (λ (x : ℕ). Ok (Aimed (To l) x rest)) (sym (most_none n))
 target_read (Computed t) n ts rest s =
     let p = s.7 in
-    let x = told_complete true (Unary Indirect t) s.3 s.0 (spaced s.4 s.5 token.Close ∷ rest) tt p tt in (
-      most n x.0,
-      ap (target_in n) s.6 ∙ (computed_inside n s.0 p.0 s.3 p.1 (dollar p.1 p.2) p.3 ∙ ap (computed n) x.2),
-    )
+    let x = complete true (Unary Indirect t) s.3 s.0 (spaced s.4 s.5 token.Close ∷ rest) tt p tt in
+    ap (target_in n) s.6
+    ∙ (computed_inside n s.0 p.0 s.3 p.1 (dollar p.1 p.2) p.3
+    ∙ (ap (computed n) x.1 ∙ ap (λ (l : ℕ). Ok (Aimed (Computed t) (most n l) rest)) (lacks_closed (lacking false (Unary Indirect t)) (length rest))))
 
 -- a target alone is read as one
 alone_read : (t : Target) (n : ℕ) (ts rest : List Token) → TargetTo t ts rest → goto_in n ts ≡ always (target_in n ts)
 alone_read (To l) n ts rest s = rw s.6
 alone_read (Computed t) n ts rest s = rw s.6
 
-always_read : (t : Target) (n : ℕ) (ts : List Token) → TargetTo t ts [] → IsWay (goto_in n ts) (Always t)
-always_read t n ts s = let x = target_read t n ts [] s in (x.0, alone_read t n ts [] s ∙ ap always x.1)
+abbrev led : Goto → ℕ → List Bool → Result Way Refusal
+led g n bs = Ok (Leads g (most n (lacks bs 0)))
 
-outcome_read : (o : Outcome) (t : Target) (n : ℕ) (ts rest : List Token) → OutcomeTo o t ts rest → (m : ℕ) × (goto_in n ts ≡ next o t m rest)
-outcome_read o t n ts rest s = let x = target_read t n s.0 rest s.4 in (x.0, ap (goto_in n) s.3 ∙ ap (chosen o) x.1)
+outcome_read : (o : Outcome) (t : Target) (n : ℕ) (ts rest : List Token) → OutcomeTo o t ts rest → goto_in n ts ≡ next o t (most n (lacks (lacking_target t) (length rest))) rest
+outcome_read o t n ts rest s = ap (goto_in n) s.3 ∙ ap (chosen o) (target_read t n s.0 rest s.4)
 
-success_then : (s f : Target) (n : ℕ) (ts : List Token) → OutcomeTo Failure f ts [] → IsWay (next Success s n ts) (OnBoth s f)
-success_then s f n ts p = let x = target_read f n p.0 [] p.4 in (x.0, ap (next Success s n) p.3 ∙ ap (both Success s) x.1)
+success_then : (s f : Target) (n : ℕ) (ts : List Token) → OutcomeTo Failure f ts [] → next Success s n ts ≡ led (OnBoth s f) n (false ∷ lacking_target f)
+success_then s f n ts p = ap (next Success s n) p.3 ∙ ap (both Success s) (target_read f n p.0 [] p.4)
 
-failure_then : (s f : Target) (n : ℕ) (ts : List Token) → OutcomeTo Success s ts [] → IsWay (next Failure f n ts) (OnBoth s f)
-failure_then s f n ts p = let x = target_read s n p.0 [] p.4 in (x.0, ap (next Failure f n) p.3 ∙ ap (both Failure f) x.1)
+failure_then : (s f : Target) (n : ℕ) (ts : List Token) → OutcomeTo Success s ts [] → next Failure f n ts ≡ led (OnBoth s f) n (false ∷ lacking_target s)
+failure_then s f n ts p = ap (next Failure f n) p.3 ∙ ap (both Failure f) (target_read s n p.0 [] p.4)
 
-both_read : (s f : Target) (n : ℕ) (ts : List Token) → LeadsTo (OnBoth s f) ts → IsWay (goto_in n ts) (OnBoth s f)
+-- the count behind the second target
+second_count : (o : Outcome) (t u : Target) (n : ℕ) (m : List Token) → OutcomeTo o u m [] → most (most n (lacks (lacking_target t) (length m))) (lacks (false ∷ lacking_target u) 0)
+    ≡ most n (lacks (false ∷ false ∷ (lacking_target t ++ false ∷ lacking_target u)) 0)
+second_count o t u n m x =
+    let c = outcome_counted o u m [] x in
+    chained (lacking_target t) (false ∷ lacking_target u) n (length m) 0 (omega (arith, c))
+
+both_read : (s f : Target) (n : ℕ) (ts : List Token) → LeadsTo (OnBoth s f) ts → goto_in n ts ≡ led (OnBoth s f) n (lacking_goto (named_first ts) (OnBoth s f))
 both_read s f n ts (inl p) =
-    let x = outcome_read Success s n ts p.0 p.1 in
-    let y = success_then s f x.0 p.0 p.2 in
-    (y.0, x.1 ∙ y.1)
+    outcome_read Success s n ts p.0 p.1
+    ∙ (success_then s f (most n (lacks (lacking_target s) (length p.0))) p.0 p.2
+    ∙ (ap (λ (l : ℕ). Ok (Leads (OnBoth s f) l)) (second_count Failure s f n p.0 p.2)
+    ∙ ap (λ (o : Outcome). led (OnBoth s f) n (lacking_goto o (OnBoth s f))) (sym (ap named_first p.1.3))))
 both_read s f n ts (inr p) =
-    let x = outcome_read Failure f n ts p.0 p.1 in
-    let y = failure_then s f x.0 p.0 p.2 in
-    (y.0, x.1 ∙ y.1)
+    outcome_read Failure f n ts p.0 p.1
+    ∙ (failure_then s f (most n (lacks (lacking_target f) (length p.0))) p.0 p.2
+    ∙ (ap (λ (l : ℕ). Ok (Leads (OnBoth s f) l)) (second_count Success f s n p.0 p.2)
+    ∙ ap (λ (o : Outcome). led (OnBoth s f) n (lacking_goto o (OnBoth s f))) (sym (ap named_first p.1.3))))
 
-goto_read : (g : Goto) (n : ℕ) (ts : List Token) → LeadsTo g ts → IsWay (goto_in n ts) g
+goto_read : (g : Goto) (n : ℕ) (ts : List Token) → LeadsTo g ts → goto_in n ts ≡ led g n (lacking_goto (named_first ts) g)
 goto_read NoGoto n ts s = absurd s
-goto_read (Always t) n ts s = always_read t n ts s
+goto_read (Always t) n ts s = alone_read t n ts [] s ∙ ap always (target_read t n ts [] s)
 goto_read (OnSuccess t) n ts s = outcome_read Success t n ts [] s
 goto_read (OnFailure t) n ts s = outcome_read Failure t n ts [] s
 goto_read (OnBoth s f) n ts p = both_read s f n ts p
@@ -89,11 +157,17 @@ record GoesOn (on : List Token → Result Stated Refusal) (b : Body) : Type 0 wh
   ends : on [] ≡ Ok (States (Says b NoGoto) place)
   goes : (c : Bool) (ts : List Token) → on (spaced true c (token.Part Colon) ∷ ts) ≡ going b (goto_in place ts)
 
-colon_read : (on : List Token → Result Stated Refusal) (b : Body) (g : Goto) (ts : List Token) → GoesOn on b → ColonTo g ts → IsStated (on ts) (Says b g)
-colon_read on b g ts h s = let x = goto_read g h.place s.0 s.3 in (x.0, ap on s.2 ∙ (h.goes s.1 s.0 ∙ ap (going b) x.1))
+abbrev said : Body → Goto → ℕ → List Bool → Result Stated Refusal
+said b g n bs = Ok (States (Says b g) (most n (lacks bs 0)))
 
-last_read : (on : List Token → Result Stated Refusal) (b : Body) (g : Goto) (ts : List Token) → GoesOn on b → GotoTo g ts → IsStated (on ts) (Says b g)
-last_read on b NoGoto ts h s = (h.place, ap on s ∙ h.ends)
+colon_read : (on : List Token → Result Stated Refusal) (b : Body) (g : Goto) (ts : List Token) (h : GoesOn on b) → ColonTo g ts → on ts ≡ said b g h.place (lacking_goto (named_first ts) g)
+colon_read on b g ts h s =
+    ap on s.2
+    ∙ (h.goes s.1 s.0
+    ∙ (ap (going b) (goto_read g h.place s.0 s.3) ∙ ap (λ (o : Outcome). said b g h.place (lacking_goto o g)) (sym (ap named_first s.2))))
+
+last_read : (on : List Token → Result Stated Refusal) (b : Body) (g : Goto) (ts : List Token) (h : GoesOn on b) → GotoTo g ts → on ts ≡ said b g h.place (lacking_goto (named_first ts) g)
+last_read on b NoGoto ts h s = ap on s ∙ (h.ends ∙ ap (λ (n : ℕ). Ok (States (Says b NoGoto) n)) (sym (most_none h.place)))
 last_read on b (Always t) ts h s = colon_read on b (Always t) ts h s
 last_read on b (OnSuccess t) ts h s = colon_read on b (OnSuccess t) ts h s
 last_read on b (OnFailure t) ts h s = colon_read on b (OnFailure t) ts h s
@@ -153,40 +227,195 @@ on_ending w b n = record { place = n; ends = refl; goes = λ c ts. refl }
 on_object : (s : Expression) (p : Option Expression) (n : ℕ) → GoesOn (object_in s p n) (Does s p NullObject)
 on_object s p n = record { place = n; ends = refl; goes = λ c ts. refl }
 
+-- the place so far where an object is given, or where none is
+abbrev used : Object → ℕ → ℕ → ℕ
+used NoObject n i = n
+used _ n i = i
+
 -- behind the subject and the pattern
 object_read : (on : List Token → Result Stated Refusal) (s : Expression) (p : Option Expression) (i : ℕ) (o : Object) (g : Goto) (ts m : List Token)
-    → GoesOn on (Does s p NoObject) → ((k : List Token) → on (spaced true true (token.Part Equals) ∷ k) ≡ object_in s p i k)
-    → ObjectTo o ts m → GotoTo g m → IsStated (on ts) (Says (Does s p o) g)
-object_read on s p i NoObject g ts m h q d e = let x = last_read on (Does s p NoObject) g m h e in (x.0, ap on d ∙ x.1)
-object_read on s p i NullObject g ts m h q d e =
-    let x = last_read (object_in s p i) (Does s p NullObject) g m (on_object s p i) e in (x.0, ap on d ∙ (q m ∙ x.1))
+    (h : GoesOn on (Does s p NoObject)) → ((k : List Token) → on (spaced true true (token.Part Equals) ∷ k) ≡ object_in s p i k)
+    → ObjectTo o ts m → GotoTo g m → on ts ≡ said (Does s p o) g (used o h.place i) (lacking_object o ++ lacking_goto (named_first m) g)
+unfolding on_object on_ending
+object_read on s p i NoObject g ts m h q d e = ap on d ∙ last_read on (Does s p NoObject) g m h e
+object_read on s p i NullObject g ts m h q d e = ap on d ∙ (q m ∙ last_read (object_in s p i) (Does s p NullObject) g m (on_object s p i) e)
 object_read on s p i (ValueObject t) g ts m h q d e =
-    let y = told_complete false t true d.0 m tt d.2 (goto_stops false g m e) in
+    let y = complete false t true d.0 m tt d.2 (goto_stops false g m e) in
     let b = Does s p (ValueObject t) in
-    let x = last_read (ending y.1 b (most i y.0)) b g m (on_ending y.1 b (most i y.0)) e in
-    (x.0, ap on d.1 ∙ (q d.0 ∙ (giving_read s p i t d.0 m d.2 ∙ (ap (giving s p i) y.2 ∙ x.1))))
+    let j = most i (lacks (lacking false t) (length m)) in
+    let c = goto_counted g m e in
+    ap on d.1
+    ∙ (q d.0
+    ∙ (giving_read s p i t d.0 m d.2
+    ∙ (ap (giving s p i) y.1
+    ∙ (last_read (ending y.0 b j) b g m (on_ending y.0 b j) e
+    ∙ ap (λ (l : ℕ). Ok (States (Says b g) l)) (chained (lacking false t) (lacking_goto (named_first m) g) i (length m) 0 (omega (arith, c)))))))
+
+-- where the subject may not be assigned to, it is the first place of all
+abbrev first_or : Bool → ℕ → ℕ → ℕ
+first_or wrong z n = if wrong then most n z else n
+
+turned : (x : Bool) (z n : ℕ) → (if x then n else most n z) ≡ (if not x then most n z else n)
+turned true z n = refl
+turned false z n = refl
+
+most_swap : (a b c : ℕ) → most (most a b) c ≡ most (most a c) b
+most_swap a b c = most_most a b c ∙ (ap (most a) (most_turn b c) ∙ sym (most_most a c b))
+  where
+    most_turn : (a b : ℕ) → most a b ≡ most b a
+    most_turn a b = at (nat_le a b) (nat_le b a) refl refl
+      where
+        at : (x y : Bool) → nat_le a b ≡ x → nat_le b a ≡ y → (if x then b else a) ≡ (if y then a else b)
+        at true true e d = grind (arith, nat_tests, e, d)
+        at true false e d = refl
+        at false true e d = refl
+        at false false e d = grind (arith, nat_tests, e, d)
+
+behind_counted : (o : Object) (g : Goto) (m n : List Token) → ObjectTo o m n → GotoTo g n → length m ≡ length (lacking_object o ++ lacking_goto (named_first n) g)
+behind_counted o g m n d e =
+    let a = object_counted o m n d in
+    let b = goto_counted g n e in
+    let c = length-append (lacking_object o) (lacking_goto (named_first n) g) in
+    omega (arith, a, b, c)
+
+moved : (u : Bool) (z i : ℕ) (cs bs : List Bool) (l : ℕ) → l ≡ length bs
+    → most (first_or u z (most i (lacks cs l))) (lacks bs 0) ≡ most (first_or u z i) (lacks (cs ++ bs) 0)
+moved true z i cs bs l e = ap (λ (x : ℕ). most x (lacks bs 0)) (most_swap i (lacks cs l) z) ∙ chained cs bs (most i z) l 0 (omega (arith, e))
+moved false z i cs bs l e = chained cs bs i l 0 (omega (arith, e))
+
+used_set : (s : Expression) (p : Option Expression) (o : Object) (z n : ℕ) → used o n (set z s (is_some p) n) ≡ first_or (is_wrong s p o) z n
+used_set s p NoObject z n = refl
+used_set s p NullObject z n = turned (may_be_set s (is_some p)) z n
+used_set s p (ValueObject t) z n = turned (may_be_set s (is_some p)) z n
 
 pattern_read : (z : ℕ) (w : Bool) (s : Expression) (i : ℕ) (p : Option Expression) (o : Object) (g : Goto) (ts m n : List Token)
-    → PatternTo p ts m → ObjectTo o m n → GotoTo g n → IsStated (subject_then z w s i ts) (Says (Does s p o) g)
+    → PatternTo p ts m → ObjectTo o m n → GotoTo g n
+    → subject_then z w s i ts ≡ said (Does s p o) g (first_or (is_wrong s p o) z i) (lacking_pattern p ++ (lacking_object o ++ lacking_goto (named_first n) g))
 pattern_read z w s i None o g ts m n c d e =
     let on = subject_then z w s i in
-    let x = object_read on s None (set z s false i) o g m n (record { place = i; ends = refl; goes = λ b ts. refl }) (λ k. refl) d e in
-    (x.0, ap on c ∙ x.1)
+    ap on c
+    ∙ (object_read on s None (set z s false i) o g m n (record { place = i; ends = refl; goes = λ b ts. refl }) (λ k. refl) d e
+    ∙ ap (λ (x : ℕ). said (Does s None o) g x (lacking_object o ++ lacking_goto (named_first n) g)) (used_set s None o z i))
 pattern_read z w s i (Some p) o g ts m n c d e =
-    let y = told_complete false p true ts m tt c (object_stops false o g m n d e) in
-    let j = most i y.0 in
-    let x = object_read (pattern_then z y.1 s p j) s (Some p) (set z s true j) o g m n (record { place = j; ends = refl; goes = λ b ts. refl }) (λ k. refl) d e in
-    (x.0, matching_read z w s i p ts m c ∙ (ap (matching z s i) y.2 ∙ x.1))
+    let y = complete false p true ts m tt c (object_stops false o g m n d e) in
+    let j = most i (lacks (lacking false p) (length m)) in
+    let bs = lacking_object o ++ lacking_goto (named_first n) g in
+    let b = Does s (Some p) o in
+    matching_read z w s i p ts m c
+    ∙ (ap (matching z s i) y.1
+    ∙ (object_read (pattern_then z y.0 s p j) s (Some p) (set z s true j) o g m n (record { place = j; ends = refl; goes = λ b ts. refl }) (λ k. refl) d e
+    ∙ (ap (λ (x : ℕ). said b g x bs) (used_set s (Some p) o z j)
+    ∙ ap (λ (l : ℕ). Ok (States (Says b g) l)) (moved (is_wrong s (Some p) o) z i (lacking false p) bs (length m) (behind_counted o g m n d e)))))
 
--- a statement that spells the tokens is read from them
-pub statement_read : (s : Statement) (ts : List Token) → Spells s ts → IsStated (statement_in ts) s
+-- THE SUBJECT
+
+set_variable : (s : Expression) (p : Bool) → not (may_be_set s p) ≡ true → is_variable s ≡ false
+set_variable (Identifier n) p e = cc
+set_variable (Unary unary.Indirect t) p e = cc
+set_variable _ p e = refl
+
+wrong_variable : (s : Expression) (p : Option Expression) (o : Object) → is_wrong s p o ≡ true → is_variable s ≡ false
+wrong_variable s p NoObject e = cc
+wrong_variable s p NullObject e = set_variable s (is_some p) e
+wrong_variable s p (ValueObject t) e = set_variable s (is_some p) e
+
+-- where the subject may not be assigned to it lacks a variable where it begins
+lifted : (s : Expression) (u : Bool) (n : ℕ) → IsOperand s → (u ≡ true → is_variable s ≡ false)
+    → first_or u (length (lacking false s) + n) (lacks (lacking false s) n) ≡ lacks (lacking u s) n
+lifted s false n i h = refl
+lifted (Identifier x) true n i h = cc (h refl)
+lifted (Constant c) true n i h = sym (raised [] n)
+lifted (Keyword x) true n i h = sym (raised (false ∷ []) n)
+lifted (Unevaluated x) true n i h = sym (raised (false ∷ []) n)
+lifted (Group t) true n i h = sym (raised (lacking false t ++ false ∷ []) n)
+lifted (Call f args) true n i h = sym (raised (false ∷ (lacking_among args ++ false ∷ [])) n)
+lifted (TableItem x t) true n i h = sym (raised (false ∷ (lacking false t ++ false ∷ [])) n)
+lifted (Unary o t) true n i h =
+    sym (raised (lacking (operand_is_variable o) t) n) ∙ ap (λ (c : Bool). lacks (not c ∷ lacking (operand_is_variable o) t) n) (sym (h refl))
+lifted (Binary o l r) true n i h = absurd i
+
+-- A STATEMENT
+
+-- neither a tree nor `=` names an outcome
+join_names : (o : BinaryOperator) (m n : List Token) → Joins o m n → named_first m ≡ named_first n
+join_names Concatenation m n j = ap named_first j
+join_names _ m n j = ap named_first j.2
+
+part_names : (args : Arguments) (m n : List Token) → Parts args m n → named_first m ≡ named_first n
+part_names NoArguments m n p = ap named_first p
+part_names (Omitted args) m n p = ap named_first p.2
+part_names (Argument args t) m n p = ap named_first p.2
+
+mutual
+  tree_names : (t : Expression) (b : Bool) (ts rest : List Token) → SpellsTo b t ts rest → named_first ts ≡ named_first rest
+  tree_names (Identifier n) b ts rest s = ap named_first s.1
+  tree_names (Constant c) b ts rest s = ap named_first s.1
+  tree_names (Keyword n) b ts rest s = ap named_first s.1
+  tree_names (Unevaluated n) b ts rest s = ap named_first s.1
+  tree_names (Group t) b ts rest s = ap named_first s.5 ∙ tree_names t s.2 s.0 (spaced s.3 s.4 token.Close ∷ rest) s.6
+  tree_names (Call f args) b ts rest s = ap named_first s.5 ∙ arguments_name args s.0 (spaced s.3 s.4 token.Close ∷ rest) s.6
+  tree_names (TableItem n t) b ts rest s = ap named_first s.6 ∙ tree_names t s.3 s.0 (spaced s.4 s.5 token.CloseAngle ∷ rest) s.7
+  tree_names (Unary o t) b ts rest s = ap named_first s.3 ∙ tree_names t false s.0 rest s.4
+  tree_names (Binary o l r) b ts rest s = tree_names l b ts s.0 s.2 ∙ (join_names o s.0 s.1 s.3 ∙ tree_names r true s.1 rest s.4)
+
+  arguments_name : (args : Arguments) (ts rest : List Token) → SpellTo args ts rest → named_first ts ≡ named_first rest
+  arguments_name NoArguments ts rest s = ap named_first s
+  arguments_name (Omitted args) ts rest s = arguments_name args ts s.0 s.1 ∙ part_names args s.0 rest s.2
+  arguments_name (Argument args t) ts rest s = arguments_name args ts s.0 s.3 ∙ (part_names args s.0 s.1 s.4 ∙ tree_names t s.2 s.1 rest s.5)
+
+pattern_names : (p : Option Expression) (m n : List Token) → PatternTo p m n → named_first m ≡ named_first n
+pattern_names None m n s = ap named_first s
+pattern_names (Some p) m n s = tree_names p true m n s
+
+object_names : (o : Object) (m n : List Token) → ObjectTo o m n → named_first m ≡ named_first n
+object_names NoObject m n s = ap named_first s
+object_names NullObject m n s = ap named_first s
+object_names (ValueObject t) m n s = ap named_first s.1 ∙ tree_names t true s.0 n s.2
+
+-- a statement that spells the tokens is read from them, and what it lacks
+pub statement_read : (s : Statement) (ts : List Token) → Spells s ts → statement_in ts ≡ Ok (States s (lacks (lacking_in ts s) 0))
 statement_read (Says NoBody g) ts q =
-    let x = last_read statement_in NoBody g q.0 (record { place = 0; ends = refl; goes = λ b ts. refl }) q.2 in (x.0, ap statement_in q.1 ∙ x.1)
+    ap statement_in q.1
+    ∙ (last_read statement_in NoBody g q.0 (record { place = 0; ends = refl; goes = λ b ts. refl }) q.2
+    ∙ (ap (λ (l : ℕ). Ok (States (Says NoBody g) l)) (none_most (lacks (lacking_goto (named_first q.0) g) 0))
+    ∙ ap (λ (m : List Token). Ok (States (Says NoBody g) (lacks (lacking_goto (named_first m) g) 0))) (sym q.1)))
 statement_read (Says (Does s p o) g) ts q =
     let b = q.1 in
-    let y = told_complete true s b.2 ts b.0 b.6 b.3 (pattern_stops p o g b.0 b.1 q.0 b.4 b.5 q.2) in
-    let x = pattern_read (length ts) y.1 s y.0 p o g b.0 b.1 q.0 b.4 b.5 q.2 in
-    (x.0, acting_read s b.2 ts b.0 b.3 ∙ (ap (acting (length ts)) y.2 ∙ x.1))
+    let y = complete true s b.2 ts b.0 b.6 b.3 (pattern_stops p o g b.0 b.1 q.0 b.4 b.5 q.2) in
+    let n = lacks (lacking false s) (length b.0) in
+    let u = is_wrong s p o in
+    let gs = lacking_goto (named_first q.0) g in
+    let bs = lacking_pattern p ++ (lacking_object o ++ gs) in
+    let c = pattern_counted p b.0 b.1 b.4 in
+    let d = behind_counted o g b.1 q.0 b.5 q.2 in
+    let e = length-append (lacking_pattern p) (lacking_object o ++ gs) in
+    acting_read s b.2 ts b.0 b.3
+    ∙ (ap (acting (length ts)) y.1
+    ∙ (pattern_read (length ts) y.0 s n p o g b.0 b.1 q.0 b.4 b.5 q.2
+    ∙ (ap (λ (z : ℕ). said (Does s p o) g (first_or u z n) bs) (counted s false b.2 ts b.0 b.3)
+    ∙ (ap (λ (x : ℕ). said (Does s p o) g x bs) (lifted s u (length b.0) b.6 (wrong_variable s p o))
+    ∙ (ap (λ (l : ℕ). Ok (States (Says (Does s p o) g) l)) (
+    ap (λ (k : ℕ). most (lacks (lacking u s) k) (lacks bs 0)) (let f : length b.0 ≡ length bs + 0 = omega (arith, c, d, e) in f)
+    ∙ lacks_append (lacking u s) bs 0)
+    ∙ (ap (λ (l : List Bool). Ok (States (Says (Does s p o) g) (lacks l 0)))
+    (ap (λ (l : List Bool). lacking u s ++ l) (sym (append_assoc (lacking_pattern p) (lacking_object o) gs)) ∙ sym (append_assoc (lacking u s) (lacking_pattern p ++ lacking_object o) gs))
+    ∙ ap (λ (x : Outcome). Ok (States (Says (Does s p o) g) (lacks (lacking_body (Does s p o) ++ lacking_goto x g) 0)))
+    (sym (tree_names s b.2 ts b.0 b.3 ∙ (pattern_names p b.0 b.1 b.4 ∙ object_names o b.1 q.0 b.5)))))))))
 
 pub stated_read : (s : Statement) (ts : List Token) → Spells s ts → stated (statement_in ts) ≡ Some s
-stated_read s ts q = ap stated (statement_read s ts q).1
+stated_read s ts q = ap stated (statement_read s ts q)
+
+-- there is a mark for each token
+pub all_counted : (s : Statement) (ts : List Token) → Spells s ts → length ts ≡ length (lacking_in ts s)
+all_counted (Says NoBody g) ts q = ap length q.1 ∙ (goto_counted g q.0 q.2 ∙ ap (λ (m : List Token). length (lacking_goto (named_first m) g)) (sym q.1))
+all_counted (Says (Does s p o) g) ts q =
+    let b = q.1 in
+    let names = tree_names s b.2 ts b.0 b.3 ∙ (pattern_names p b.0 b.1 b.4 ∙ object_names o b.1 q.0 b.5) in
+    let c = counted s (is_wrong s p o) b.2 ts b.0 b.3 in
+    let d = pattern_counted p b.0 b.1 b.4 in
+    let e = object_counted o b.1 q.0 b.5 in
+    let f = goto_counted g q.0 q.2 ∙ ap (λ (x : Outcome). length (lacking_goto x g)) (sym names) in
+    let h = length-append (lacking_pattern p) (lacking_object o) in
+    let i = length-append (lacking (is_wrong s p o) s) (lacking_pattern p ++ lacking_object o) in
+    let j = length-append (lacking_body (Does s p o)) (lacking_goto (named_first ts) g) in
+    omega (arith, c, d, e, f, h, i, j)

@@ -1,367 +1,289 @@
 -- The fault that is found is the leftmost.
-use Rattle.std.proofs.Common.{arith, ◌≡◌, ℕ, ◌+◌, ◌<◌, ◌≤◌, List, [], ◌∷◌, ◌++◌, length, refl, sym, ap, ◌∙◌, subst}
-use Rattle.std.specs.Prelude.{Bool, true, false, ◌||◌, get_or, nat_le, Option, Some, None, if◌then◌else◌}
-use Rattle.std.proofs.lemmas.Bool.{leb-false, leb-true}
+use Rattle.std.proofs.Common.{arith, ◌≡◌, ℕ, suc, ◌+◌, ◌-◌, ◌<◌, List, [], ◌∷◌, ◌++◌, length, refl, sym, ap, ap₂, ◌∙◌, subst}
+use Rattle.std.specs.Prelude.{Bool, true, false, nat_eq, Option, Some, None, Result, Ok, Err, if◌then◌else◌}
+use Rattle.std.proofs.lemmas.List.{length-append, append_assoc, append-nil}
+use Rattle.std.proofs.lemmas.Bool.Decides.{nat_tests}
 use Rattle.sno_lexer.specs.declared.token.Token.{Token}
 use Rattle.sno_lexer.specs.declared.token.TokenKind.{TokenKind}
 use Rattle.sno_expression.specs.Spelling.{spaced}
+use Rattle.sno_expression.specs.inner.Telling.{most}
 use Rattle.sno_statement.specs.declared.fault.Fault.{Fault}
 use Rattle.sno_statement.specs.declared.fault.FaultKind.{FaultKind}
 use Rattle.sno_statement.specs.declared.fault.FaultKind.TheVariants.{MissingBlank, Unfit, NoVariable}
-use Rattle.sno_statement.specs.inner.Stages.{SubjectKind}
-use Rattle.sno_statement.specs.inner.Walking.{Walk, take, begins, may_end}
-use Rattle.sno_statement.specs.inner.Faults.{FaultAt, is_taken, refused_as, then_on, refusal_from, refusal, subject_kind, least, noted_here, then_note, noted_from, noted, earlier, fault}
-use Rattle.sno_statement.specs.Lacking.{lacking_in}
-use Rattle.sno_statement.specs.Faults.{IsSpelled, IsFit, Begins, EndsBefore, GoesOnSpaced, Stops, Lacks, Blames, IsLeftmostFault}
+use Rattle.sno_statement.specs.declared.parser.Refusal.{Refusal}
+use Rattle.sno_statement.specs.Statements.{Statement}
+use Rattle.sno_statement.specs.Spelling.{Spells}
+use Rattle.sno_statement.specs.Lacking.{lacking_in, StatementHasVariables}
+use Rattle.sno_statement.specs.Faults.{IsSpelled, IsFit, Begins, EndsBefore, Stops as Ends_for, Lacks, Blames, IsLeftmostFault}
 use Rattle.sno_statement.specs.Laws.{FaultIsLeftmost}
-use Rattle.sno_statement.proofs.Grammar.{taken, notes_exactly, not_noted, not_refused}
-use Rattle.sno_statement.proofs.Prefixes.{then_walk, along, taken_on, goes_no_further, completion, completes, quiet_completion, quiet_first}
-use Rattle.sno_statement.proofs.Marked.{marked, none, marked_least, unmarked}
-use Rattle.sno_statement.proofs.Placing.{places_noted}
+use Rattle.sno_statement.specs.inner.Parsing.{FaultAt, blamed, blame, fault_of, Stated, States, statement_in}
+use Rattle.sno_statement.specs.inner.Faults.{fault}
+use Rattle.sno_expression.proofs.Lacks.{lacks, marked, first_marked, none_lack, lack_none}
+use Rattle.sno_statement.proofs.Completing.{statement_read, all_counted}
+use Rattle.sno_statement.proofs.Shapes.{count, later, merged, count_later, count_merged, Shape, Start, run, begun_is, GoesTo, may, Step, Goes, Stops, step, some_goes, Ending, Ends, Unended, ending_of, completes, grows}
+use Rattle.sno_statement.proofs.Sound.{statement_sound}
 
-nothing : (ts : List Token) → ts ++ [] ≡ ts
-nothing [] = refl
-nothing (t ∷ ts) = ap (λ (x : List Token). t ∷ x) (nothing ts)
+-- WHERE A READING STANDS
 
--- A WALK AS FAR AS IT GOES
+-- what the tokens taken make of those to come; behind the place that lacks a variable stand so many of them
+abbrev Reached : List Token → Shape → Option ℕ → Type 0
+Reached taken c o = (m : List Token) → statement_in (taken ++ m) ≡ run c (count o (length m)) m
 
-abbrev Stopped : Walk → List Token → Type 0
-Stopped v [] = Unit {0}
-Stopped v (t ∷ left) = take v t ≡ None
+goes_on : (taken : List Token) (c : Shape) (o : Option ℕ) (t : Token) → Reached taken c o → (g : GoesTo c t) → Reached (taken ++ t ∷ []) g.0 (merged (later o) g.1)
+goes_on taken c o t r g m =
+    ap statement_in (append_assoc taken (t ∷ []) m)
+    ∙ (r (t ∷ m)
+    ∙ (g.2 (count o (suc (length m))) m
+    ∙ (ap (λ (x : ℕ). run g.0 (most x (count g.1 (length m))) m) (count_later o (length m)) ∙ ap (λ (x : ℕ). run g.0 x m) (count_merged (later o) g.1 (length m)))))
 
-record Split (w : Walk) (ts : List Token) : Type 0 where
-  pub begun : List Token
-  pub left : List Token
-  pub is : ts ≡ begun ++ left
-  pub walk : Walk
-  pub goes : along w begun ≡ Some walk
-  pub stops : Stopped walk left
+-- a completion, and what it lacks
+record Known (taken : List Token) (o : Option ℕ) : Type 0 where
+  rest : List Token
+  statement : Statement
+  spells : Spells statement (taken ++ rest)
+  place : lacks (lacking_in (taken ++ rest) statement) 0 ≡ count o (length rest)
+  size : length (lacking_in (taken ++ rest) statement) ≡ length taken + length rest
 
-split : (ts : List Token) (w : Walk) → Split w ts
-split [] w = record { begun = []; left = []; is = refl; walk = w; goes = refl; stops = tt }
-split (t ∷ ts) w = at (take w t) refl (λ v. split ts v)
-  where
-    at : (o : Option Walk) → take w t ≡ o → ((v : Walk) → Split v ts) → Split w (t ∷ ts)
-    at None e on = record { begun = []; left = t ∷ ts; is = refl; walk = w; goes = refl; stops = e }
-    at (Some v) e on = let s = on v in record {
-      begun = t ∷ s.begun;
-      left = s.left;
-      is = ap (λ (x : List Token). t ∷ x) s.is;
-      walk = s.walk;
-      goes = ap (λ (o : Option Walk). then_walk o (λ v. along v s.begun)) e ∙ s.goes;
-      stops = s.stops;
+stated_place : (x : Result Stated Refusal) (s t : Statement) (n k : ℕ) → x ≡ Ok (States s n) → x ≡ Ok (States t k) → n ≡ k
+stated_place x s t n k e d = cc
+
+known : (taken : List Token) (c : Shape) (o : Option ℕ) → Reached taken c o → Known taken o
+known taken c o r =
+    let x = completes c in
+    let y = x.1 (count o (length x.0)) in
+    let p = statement_sound (taken ++ x.0) y.0 (count o (length x.0)) (r x.0 ∙ y.1) in
+    record {
+      rest = x.0;
+      statement = y.0;
+      spells = p;
+      place = stated_place (statement_in (taken ++ x.0)) y.0 y.0 (lacks (lacking_in (taken ++ x.0) y.0) 0) (count o (length x.0)) (statement_read y.0 (taken ++ x.0) p) (r x.0 ∙ y.1);
+      size = sym (all_counted y.0 (taken ++ x.0) p) ∙ length-append taken x.0;
     }
 
-abbrev refused_at : ℕ → Walk → List Token → Option Fault
-refused_at n v [] = if may_end v then None else Some (FaultAt n Unfit)
-refused_at n v (t ∷ left) = Some (FaultAt n (refused_as v t.kind))
+begins : (taken : List Token) (c : Shape) (o : Option ℕ) → Reached taken c o → Begins taken
+begins taken c o r = let k = known taken c o r in (k.rest, (k.statement, k.spells))
 
-refused_here : (i : ℕ) (v : Walk) (left : List Token) → Stopped v left → refusal_from i v left ≡ refused_at i v left
-refused_here i v [] s = refl
-refused_here i v (t ∷ left) s = ap (λ (o : Option Walk). then_on o (Some (FaultAt i (refused_as v t.kind))) (λ v. refusal_from (i + 1) v left)) s
+lacks_here : (taken : List Token) (c : Shape) (d : ℕ) → Reached taken c (Some d) → Lacks taken (length taken - suc d)
+lacks_here taken c d r rest s p =
+    let e = statement_read s (taken ++ rest) p in
+    let g = grows rest c (suc (d + length rest)) (lacks (lacking_in (taken ++ rest) s) 0) s (sym (r rest) ∙ e) in
+    let m = marked (lacking_in (taken ++ rest) s) (omega (arith, g)) in
+    let h = m.1 in
+    let a = sym (all_counted s (taken ++ rest) p) ∙ length-append taken rest in
+    (m.0, omega (arith, g, h, a), m.2)
 
-refusal_split : (ts left : List Token) (w v : Walk) (i n : ℕ) → along w ts ≡ Some v → Stopped v left → n ≡ i + length ts → refusal_from i w (ts ++ left) ≡ refused_at n v left
-refusal_split [] left w v i n e s d =
-    let c : w ≡ v = cc in
-    let h : i ≡ n = omega (arith, d) in
-    ap (λ (x : Walk). refusal_from i x left) c ∙ (refused_here i v left s ∙ ap (λ (x : ℕ). refused_at x v left) h)
-refusal_split (t ∷ ts) left w v i n e s d = at (take w t) e (λ u c. refusal_split ts left u v (i + 1) n c s (omega (arith, d)))
+none_before : (taken : List Token) (c : Shape) (d : ℕ) → Reached taken c (Some d) → (i : ℕ) → i < length taken - suc d → Lacks taken i → ⊥
+none_before taken c d r i b l =
+    let k = known taken c (Some d) r in
+    let h = l k.rest k.statement k.spells in
+    let f = (first_marked (lacking_in (taken ++ k.rest) k.statement) h.0 h.2).0 in
+    let p : lacks (lacking_in (taken ++ k.rest) k.statement) 0 ≡ suc (d + length k.rest) = k.place in
+    let z = k.size in
+    let j = h.1 in
+    absurd (omega (arith, f, p, z, j, b))
+
+none_lacks : (taken : List Token) (c : Shape) → Reached taken c None → (i : ℕ) → Lacks taken i → ⊥
+none_lacks taken c r i l =
+    let k = known taken c None r in
+    let h = l k.rest k.statement k.spells in
+    let f = first_marked (lacking_in (taken ++ k.rest) k.statement) h.0 h.2 in
+    let a = f.0 in
+    let b = f.1 in
+    let p : lacks (lacking_in (taken ++ k.rest) k.statement) 0 ≡ 0 = k.place in
+    absurd (omega (arith, a, b, p))
+
+-- a token that is refused begins nothing
+refuses : (taken : List Token) (c : Shape) (o : Option ℕ) (t : Token) (w : Bool) → Reached taken c o
+    → ((n : ℕ) (m : List Token) → run c n (t ∷ m) ≡ Err (blamed w n (t ∷ m))) → Begins (taken ++ t ∷ []) → ⊥
+refuses taken c o t w r h b =
+    let e = statement_read b.1.0 ((taken ++ t ∷ []) ++ b.0) b.1.1 in
+    let d = ap statement_in (append_assoc taken (t ∷ []) b.0) ∙ (r (t ∷ b.0) ∙ h (count o (suc (length b.0))) b.0) in
+    cc (e, d)
+
+spaced_none : (taken : List Token) (c : Shape) (o : Option ℕ) (k : TokenKind) → Reached taken c o → may c k ≡ false → (b a : Bool) → Begins (taken ++ spaced b a k ∷ []) → ⊥
+spaced_none taken c o k r e b a g = at (step c (spaced b a k))
   where
-    at : (o : Option Walk) → then_walk o (λ u. along u ts) ≡ Some v → ((u : Walk) → along u ts ≡ Some v → refusal_from (i + 1) u (ts ++ left) ≡ refused_at n v left)
-        → then_on o (Some (FaultAt i (refused_as w t.kind))) (λ u. refusal_from (i + 1) u (ts ++ left)) ≡ refused_at n v left
-    at None c on = cc
-    at (Some u) c on = on u c
-
--- what comes behind and notes nothing changes nothing
-noted_split : (k : SubjectKind) (ts m : List Token) (w v : Walk) (i : ℕ) → along w ts ≡ Some v → ((j : ℕ) → noted_from k j v m ≡ None) → noted_from k i w (ts ++ m) ≡ noted_from k i w ts
-noted_split k [] m w v i e h = let c : w ≡ v = cc in ap (λ (x : Walk). noted_from k i x m) c ∙ h i
-noted_split k (t ∷ ts) m w v i e h = at (take w t) e (λ u c. noted_split k ts m u v (i + 1) c h)
-  where
-    at : (o : Option Walk) → then_walk o (λ u. along u ts) ≡ Some v → ((u : Walk) → along u ts ≡ Some v → noted_from k (i + 1) u (ts ++ m) ≡ noted_from k (i + 1) u ts)
-        → then_note o (λ u. least (noted_here k i w t) (noted_from k (i + 1) u (ts ++ m))) ≡ then_note o (λ u. least (noted_here k i w t) (noted_from k (i + 1) u ts))
-    at None c on = refl
-    at (Some u) c on = ap (least (noted_here k i w t)) (on u c)
-
--- a place at another, or before it
-abbrev Before : Option ℕ → Option ℕ → Type 0
-Before o None = Unit {0}
-Before None (Some p) = ⊥
-Before (Some q) (Some p) = q ≤ p
-
-least_both : (a b c : Option ℕ) → Before b c → Before (least a b) (least a c)
-least_both None b c h = h
-least_both (Some i) None None h = omega arith
-least_both (Some i) (Some j) None h = by (nat_le i j) refl
-  where
-    by : (x : Bool) → nat_le i j ≡ x → Before (if x then Some i else Some j) (Some i)
-    by true e = omega arith
-    by false e = let l = leb-false i j e in omega (arith, l)
-least_both (Some i) None (Some k) h = absurd h
-least_both (Some i) (Some j) (Some k) h = by (nat_le i j) (nat_le i k) refl refl
-  where
-    by : (x y : Bool) → nat_le i j ≡ x → nat_le i k ≡ y → Before (if x then Some i else Some j) (if y then Some i else Some k)
-    by true true e d = omega arith
-    by true false e d = let l = leb-true i j e in omega (arith, l, h)
-    by false true e d = let l = leb-false i j e in omega (arith, l)
-    by false false e d = h
-
-noted_before : (k : SubjectKind) (ts m : List Token) (w : Walk) (i : ℕ) → Before (noted_from k i w (ts ++ m)) (noted_from k i w ts)
-noted_before k [] m w i = tt
-noted_before k (t ∷ ts) m w i = at (take w t) (λ v. noted_before k ts m v (i + 1))
-  where
-    at : (o : Option Walk) → ((v : Walk) → Before (noted_from k (i + 1) v (ts ++ m)) (noted_from k (i + 1) v ts))
-        → Before (then_note o (λ v. least (noted_here k i w t) (noted_from k (i + 1) v (ts ++ m)))) (then_note o (λ v. least (noted_here k i w t) (noted_from k (i + 1) v ts)))
-    at None on = tt
-    at (Some v) on = least_both (noted_here k i w t) (noted_from k (i + 1) v (ts ++ m)) (noted_from k (i + 1) v ts) (on v)
-
--- what the subject is, is known by the first two tokens, and noted at the second at the earliest
-same_kind : (ts m : List Token) → noted_from (subject_kind (ts ++ m)) 0 begins ts ≡ noted ts
-same_kind [] m = refl
-same_kind (t ∷ []) m = quiet_first (take begins t) ∙ sym (quiet_first (take begins t))
-same_kind (t ∷ u ∷ ts) m = refl
-
-noted_whole : (ts m : List Token) (v : Walk) → along begins ts ≡ Some v → ((k : SubjectKind) (j : ℕ) → noted_from k j v m ≡ None) → noted (ts ++ m) ≡ noted ts
-noted_whole ts m v e h = noted_split (subject_kind (ts ++ m)) ts m begins v 0 e (h (subject_kind (ts ++ m))) ∙ same_kind ts m
-
-noted_no_later : (ts m : List Token) → Before (noted (ts ++ m)) (noted ts)
-noted_no_later ts m = subst (λ (o : Option ℕ). Before (noted (ts ++ m)) o) (same_kind ts m) (noted_before (subject_kind (ts ++ m)) ts m begins 0)
-
-left_quiet : (v : Walk) (left : List Token) → Stopped v left → (k : SubjectKind) (j : ℕ) → noted_from k j v left ≡ None
-left_quiet v [] s k j = refl
-left_quiet v (t ∷ left) s k j = ap (λ (o : Option Walk). then_note o (λ u. least (noted_here k j v t) (noted_from k (j + 1) u left))) s
-
--- PLACES THAT LACK A VARIABLE
-
-lacks_noted : (ts : List Token) (i : ℕ) → noted ts ≡ Some i → Lacks ts i
-lacks_noted ts i e rest s p =
-    at (noted (ts ++ rest)) refl (subst (λ (o : Option ℕ). Before (noted (ts ++ rest)) o) e (noted_no_later ts rest))
-  where
-    at : (o : Option ℕ) → noted (ts ++ rest) ≡ o → Before o (Some i) → (n : ℕ) × (n ≤ i) × (get_or (lacking_in (ts ++ rest) s) n false ≡ true)
-    at None d b = absurd b
-    at (Some q) d b =
-        let l = marked_least (lacking_in (ts ++ rest) s) 0 q (sym (places_noted s (ts ++ rest) p) ∙ d) in
-        let h = l.place in
-        (l.n, omega (arith, h, b), l.there)
-
--- the tokens that a walk takes, and those that complete them
-completed : (ts : List Token) (v : Walk) → along begins ts ≡ Some v → IsSpelled (ts ++ completion v)
-completed ts v e = (taken (ts ++ completion v)).0 (taken_on ts (completion v) begins v 0 e (λ j. completes v j))
-
-completed_notes : (ts : List Token) (v : Walk) (e : along begins ts ≡ Some v) → marked (lacking_in (ts ++ completion v) (completed ts v e).0) none 0 ≡ noted ts
-completed_notes ts v e =
-    let q = completed ts v e in
-    sym (places_noted q.0 (ts ++ completion v) q.1) ∙ noted_whole ts (completion v) v e (λ k j. quiet_completion k v j)
-
-none_lacks : (ts : List Token) (v : Walk) → along begins ts ≡ Some v → noted ts ≡ None → (j : ℕ) → Lacks ts j → ⊥
-none_lacks ts v e d j l =
-    let q = completed ts v e in
-    let h = l (completion v) q.0 q.1 in
-    unmarked (lacking_in (ts ++ completion v) q.0) 0 (completed_notes ts v e ∙ d) h.0 h.2
-
-none_before : (ts : List Token) (v : Walk) (i : ℕ) → along begins ts ≡ Some v → noted ts ≡ Some i → (j : ℕ) → j < i → Lacks ts j → ⊥
-none_before ts v i e d j b l =
-    let q = completed ts v e in
-    let h = l (completion v) q.0 q.1 in
-    let m = marked_least (lacking_in (ts ++ completion v) q.0) 0 i (completed_notes ts v e ∙ d) in
-    let p = m.place in
-    let a = m.least h.0 h.2 in
-    let c = h.1 in
-    absurd (omega (arith, p, a, b, c))
-
--- WHY TOKENS DO NOT GO ON
-
-along_one : (ts : List Token) (w v : Walk) (t : Token) → along w ts ≡ Some v → along w (ts ++ t ∷ []) ≡ take v t
-along_one [] w v t e = let c : w ≡ v = cc in ap (λ (x : Walk). along x (t ∷ [])) c ∙ at (take v t)
-  where
-    at : (o : Option Walk) → then_walk o (λ u. Some u) ≡ o
-    at None = refl
-    at (Some u) = refl
-along_one (u ∷ ts) w v t e = at (take w u) e (λ x c. along_one ts x v t c)
-  where
-    at : (o : Option Walk) → then_walk o (λ x. along x ts) ≡ Some v → ((x : Walk) → along x ts ≡ Some v → along x (ts ++ t ∷ []) ≡ take v t) → then_walk o (λ x. along x (ts ++ t ∷ [])) ≡ take v t
-    at None c on = cc
-    at (Some x) c on = on x c
-
-begins_with : (ts : List Token) (v : Walk) → along begins ts ≡ Some v → Begins ts
-begins_with ts v e = (completion v, completed ts v e)
-
-begins_walk : (ts : List Token) → Begins ts → (v : Walk) × (along begins ts ≡ Some v)
-begins_walk ts b = at (along begins ts) refl
-  where
-    at : (o : Option Walk) → along begins ts ≡ o → (v : Walk) × (along begins ts ≡ Some v)
-    at None e = absurd (goes_no_further ts e b)
-    at (Some v) e = (v, e)
-
-begins_one : (ts : List Token) (v u : Walk) (t : Token) → along begins ts ≡ Some v → take v t ≡ Some u → Begins (ts ++ t ∷ [])
-begins_one ts v u t e d = begins_with (ts ++ t ∷ []) u (along_one ts begins v t e ∙ d)
-
-stopped : (ts left : List Token) (v : Walk) → along begins ts ≡ Some v → EndsBefore ts left → Stopped v left
-stopped ts [] v e b = tt
-stopped ts (t ∷ left) v e b = at (take v t) refl
-  where
-    at : (o : Option Walk) → take v t ≡ o → o ≡ None
-    at None d = refl
-    at (Some u) d = absurd (b (begins_one ts v u t e d))
-
-ends_before : (ts left : List Token) (v : Walk) → along begins ts ≡ Some v → Stopped v left → EndsBefore ts left
-ends_before ts [] v e s = tt
-ends_before ts (t ∷ left) v e s = λ b. goes_no_further (ts ++ t ∷ []) (along_one ts begins v t e ∙ s) b
-
-taken_spaced : (ts : List Token) (v : Walk) (b a : Bool) (k : TokenKind) → along begins ts ≡ Some v → is_taken (take v (spaced b a k)) ≡ true → Begins (ts ++ spaced b a k ∷ [])
-taken_spaced ts v b a k e d = at (take v (spaced b a k)) refl d
-  where
-    at : (o : Option Walk) → take v (spaced b a k) ≡ o → is_taken o ≡ true → Begins (ts ++ spaced b a k ∷ [])
-    at None c h = cc
-    at (Some u) c h = begins_one ts v u (spaced b a k) e c
-
-spaced_taken : (ts : List Token) (v : Walk) (b a : Bool) (k : TokenKind) → along begins ts ≡ Some v → Begins (ts ++ spaced b a k ∷ []) → is_taken (take v (spaced b a k)) ≡ true
-spaced_taken ts v b a k e g = at (take v (spaced b a k)) refl
-  where
-    at : (o : Option Walk) → take v (spaced b a k) ≡ o → is_taken o ≡ true
-    at None c = absurd (goes_no_further (ts ++ spaced b a k ∷ []) (along_one ts begins v (spaced b a k) e ∙ c) g)
-    at (Some u) c = refl
-
-abbrev some_taken : Walk → TokenKind → Bool
-some_taken v k = is_taken (take v (spaced false false k)) || is_taken (take v (spaced false true k)) || is_taken (take v (spaced true false k)) || is_taken (take v (spaced true true k))
-
-one_of : (p q r s : Bool) (X : Type 0) → (p || q || r || s) ≡ true → (p ≡ true → X) → (q ≡ true → X) → (r ≡ true → X) → (s ≡ true → X) → X
-one_of true q r s X e f g h i = f refl
-one_of false true r s X e f g h i = g refl
-one_of false false true s X e f g h i = h refl
-one_of false false false true X e f g h i = i refl
-one_of false false false false X e f g h i = cc
-
-or_first : (p q r s : Bool) → p ≡ true → (p || q || r || s) ≡ true
-or_first true q r s e = refl
-or_first false q r s e = cc
-
-or_second : (p q r s : Bool) → q ≡ true → (p || q || r || s) ≡ true
-or_second true q r s e = refl
-or_second false true r s e = refl
-or_second false false r s e = cc
-
-or_third : (p q r s : Bool) → r ≡ true → (p || q || r || s) ≡ true
-or_third true q r s e = refl
-or_third false true r s e = refl
-or_third false false true s e = refl
-or_third false false false s e = cc
-
-or_fourth : (p q r s : Bool) → s ≡ true → (p || q || r || s) ≡ true
-or_fourth true q r s e = refl
-or_fourth false true r s e = refl
-or_fourth false false true s e = refl
-or_fourth false false false true e = refl
-or_fourth false false false false e = cc
-
-some_goes : (ts : List Token) (v : Walk) (t : Token) → along begins ts ≡ Some v → some_taken v t.kind ≡ true → GoesOnSpaced ts t
-some_goes ts v t e d =
-    one_of (is_taken (take v (spaced false false t.kind))) (is_taken (take v (spaced false true t.kind))) (is_taken (take v (spaced true false t.kind))) (is_taken (take v (spaced true true t.kind))) (GoesOnSpaced ts t) d
-    (λ h. (false, false, taken_spaced ts v false false t.kind e h))
-    (λ h. (false, true, taken_spaced ts v false true t.kind e h))
-    (λ h. (true, false, taken_spaced ts v true false t.kind e h))
-    (λ h. (true, true, taken_spaced ts v true true t.kind e h))
-
-goes_some : (ts : List Token) (v : Walk) (t : Token) → along begins ts ≡ Some v → GoesOnSpaced ts t → some_taken v t.kind ≡ true
-goes_some ts v t e g = by g.0 g.1 (spaced_taken ts v g.0 g.1 t.kind e g.2)
-  where
-    by : (b a : Bool) → is_taken (take v (spaced b a t.kind)) ≡ true → some_taken v t.kind ≡ true
-    by false false h = or_first _ (is_taken (take v (spaced false true t.kind))) (is_taken (take v (spaced true false t.kind))) (is_taken (take v (spaced true true t.kind))) h
-    by false true h = or_second (is_taken (take v (spaced false false t.kind))) _ (is_taken (take v (spaced true false t.kind))) (is_taken (take v (spaced true true t.kind))) h
-    by true false h = or_third (is_taken (take v (spaced false false t.kind))) (is_taken (take v (spaced false true t.kind))) _ (is_taken (take v (spaced true true t.kind))) h
-    by true true h = or_fourth (is_taken (take v (spaced false false t.kind))) (is_taken (take v (spaced false true t.kind))) (is_taken (take v (spaced true false t.kind))) _ h
+    at : Step c (spaced b a k) → ⊥
+    at (Goes d x) = cc (e, d)
+    at (Stops h) = refuses taken c o (spaced b a k) (may c k) r h g
 
 -- THE LAW
 
-may_spell : (ts : List Token) (v : Walk) → along begins ts ≡ Some v → may_end v ≡ true → IsSpelled ts
-may_spell ts v e m = (taken ts).0 (subst (λ (x : List Token). refusal x ≡ None) (nothing ts) (refusal_split ts [] begins v 0 (0 + length ts) e tt refl ∙ ap (λ (c : Bool). if c then None else Some (FaultAt (0 + length ts) Unfit)) m))
+abbrev kind_of : Bool → FaultKind
+kind_of w = if w then MissingBlank else Unfit
 
-fault_split : (ts left : List Token) (v : Walk) → along begins ts ≡ Some v → Stopped v left → fault (ts ++ left) ≡ earlier (noted ts) (refused_at (length ts) v left)
-fault_split ts left v e s =
-    ap (λ (o : Option ℕ). earlier o (refusal (ts ++ left))) (noted_whole ts left v e (left_quiet v left s))
-    ∙ ap (earlier (noted ts)) (refusal_split ts left begins v 0 (length ts) e s (omega arith))
+blames_place : (left taken : List Token) (c : Shape) (d : ℕ) → Reached taken c (Some d)
+    → Blames NoVariable (length (taken ++ left) - suc (d + length left)) taken left
+blames_place left taken c d r =
+    let a = length-append taken left in
+    let e : length taken - suc d ≡ length (taken ++ left) - suc (d + length left) = omega (arith, a) in
+    subst (λ (x : ℕ). Blames NoVariable x taken left) e (lacks_here taken c d r, none_before taken c d r)
 
-blames_stop : (ts left : List Token) (v : Walk) (f : Fault) → along begins ts ≡ Some v → ((j : ℕ) → Lacks ts j → ⊥) → refused_at (length ts) v left ≡ Some f → Blames f.kind f.at ts left
-blames_stop ts [] v f e n d = at (may_end v) refl d
+blames_end : (left taken : List Token) (c : Shape) (w : Bool) → Reached taken c None → Ends_for (kind_of w) taken left
+    → Blames (kind_of w) (length (taken ++ left) - length left) taken left
+blames_end left taken c true r h = let a = length-append taken left in (omega (arith, a), none_lacks taken c r, h)
+blames_end left taken c false r h = let a = length-append taken left in (omega (arith, a), none_lacks taken c r, h)
+
+some_is : (f g : Fault) → Some f ≡ Some g → f ≡ g
+some_is f g e = cc
+
+none_some : (f : Fault) → None ≡ Some f → ⊥
+none_some f e = cc
+
+not_zero : (n : ℕ) → nat_eq (suc n) 0 ≡ false
+not_zero n = grind (arith, nat_tests)
+
+refused_at : (left taken : List Token) (c : Shape) (o : Option ℕ) (w : Bool) → Reached taken c o → EndsBefore taken left → Ends_for (kind_of w) taken left
+    → statement_in (taken ++ left) ≡ Err (blamed w (count o (length left)) left) → (f : Fault) → fault (taken ++ left) ≡ Some f → IsLeftmostFault (taken ++ left) f
+refused_at left taken c None w r b h e f d =
+    let g = some_is (FaultAt (length (taken ++ left) - length left) (kind_of w)) f (sym (ap (fault_of (length (taken ++ left))) e) ∙ d) in
+    (taken, left, refl, begins taken c None r, b, subst (λ (x : Fault). Blames x.kind x.at taken left) g (blames_end left taken c w r h))
+refused_at left taken c (Some p) w r b h e f d =
+    let z = length (taken ++ left) in
+    let i : blame z (blamed w (suc (p + length left)) left) ≡ FaultAt (z - suc (p + length left)) NoVariable
+    = ap (λ (x : Bool). if x then FaultAt (z - length left) (kind_of w) else FaultAt (z - suc (p + length left)) NoVariable) (not_zero (p + length left)) in
+    let g = some_is (FaultAt (z - suc (p + length left)) NoVariable) f (sym (ap (fault_of z) e ∙ ap (λ (x : Fault). Some x) i) ∙ d) in
+    (taken, left, refl, begins taken c (Some p) r, b, subst (λ (x : Fault). Blames x.kind x.at taken left) g (blames_place left taken c p r))
+
+lacking_at : (taken : List Token) (c : Shape) (o : Option ℕ) (s : Statement) → Reached taken c o → statement_in (taken ++ []) ≡ Ok (States s (count o 0))
+    → (f : Fault) → fault (taken ++ []) ≡ Some f → IsLeftmostFault (taken ++ []) f
+lacking_at taken c None s r e f d = absurd (none_some f (sym (ap (fault_of (length (taken ++ []))) e) ∙ d))
+lacking_at taken c (Some p) s r e f d =
+    let z = length (taken ++ []) in
+    let i : fault_of z (Ok (States s (suc (p + 0)))) ≡ Some (FaultAt (z - suc (p + 0)) NoVariable)
+    = ap (λ (x : Bool). if x then None else Some (FaultAt (z - suc (p + 0)) NoVariable)) (not_zero (p + 0)) in
+    let g = some_is (FaultAt (z - suc (p + 0)) NoVariable) f (sym (ap (fault_of z) e ∙ i) ∙ d) in
+    (taken, [], refl, begins taken c (Some p) r, tt, subst (λ (x : Fault). Blames x.kind x.at taken []) g (blames_place [] taken c p r))
+
+judge : (left taken : List Token) (c : Shape) (o : Option ℕ) → Reached taken c o → (f : Fault) → fault (taken ++ left) ≡ Some f → IsLeftmostFault (taken ++ left) f
+judge [] taken c o r f e = at (ending_of c)
   where
-    at : (c : Bool) → may_end v ≡ c → (if c then None else Some (FaultAt (length ts) Unfit)) ≡ Some f → Blames f.kind f.at ts []
-    at true m h = cc
-    at false m h =
-        let g : FaultAt (length ts) Unfit ≡ f = cc in
-        subst (λ (x : Fault). Blames x.kind x.at ts []) g (
-          refl,
-          n,
-          λ s.
-              let a : refusal (ts ++ []) ≡ None = subst (λ (x : List Token). refusal x ≡ None) (sym (nothing ts)) ((taken ts).1 s) in
-              let b : refusal (ts ++ []) ≡ Some (FaultAt (length ts) Unfit) = refusal_split ts [] begins v 0 (length ts) e tt (omega arith) ∙ ap (λ (c : Bool). if c then None else Some (FaultAt (length ts) Unfit)) m in
-              cc,
-        )
-blames_stop ts (t ∷ left) v f e n d = at (some_taken v t.kind) refl d
+    at : Ending c → IsLeftmostFault (taken ++ []) f
+    at (Ends h) = let x = h (count o 0) in lacking_at taken c o x.0 r (r [] ∙ x.1) f e
+    at (Unended h) = refused_at [] taken c o false r tt (unspelled h) (r [] ∙ h (count o 0)) f e
+      where
+        unspelled : ((n : ℕ) → run c n [] ≡ Err (blamed false n [])) → IsSpelled taken → ⊥
+        unspelled h s =
+            let d = statement_read s.0 taken s.1 in
+            let g = sym (ap statement_in (append-nil taken)) ∙ (r [] ∙ h (count o 0)) in
+            cc (d, g)
+judge (t ∷ left) taken c o r f e = at (step c t) (λ d p q h. judge left (taken ++ t ∷ []) d p q f h)
   where
-    at : (c : Bool) → some_taken v t.kind ≡ c → Some (FaultAt (length ts) (if c then MissingBlank else Unfit)) ≡ Some f → Blames f.kind f.at ts (t ∷ left)
-    at true m h =
-        let g : FaultAt (length ts) MissingBlank ≡ f = cc in
-        subst (λ (x : Fault). Blames x.kind x.at ts (t ∷ left)) g (refl, n, some_goes ts v t e m)
-    at false m h =
-        let g : FaultAt (length ts) Unfit ≡ f = cc in
-        subst (λ (x : Fault). Blames x.kind x.at ts (t ∷ left)) g (refl, n, λ s. let a = goes_some ts v t e s in cc)
+    kinds : (w : Bool) → may c t.kind ≡ w → Ends_for (kind_of w) taken (t ∷ left)
+    kinds true d = let g = some_goes c t.kind d in (g.0, g.1, begins (taken ++ spaced g.0 g.1 t.kind ∷ []) g.2.0 (merged (later o) g.2.1) (goes_on taken c o (spaced g.0 g.1 t.kind) r g.2))
+    kinds false d = λ g. spaced_none taken c o t.kind r d g.0 g.1 g.2
 
-blamed : (ts left : List Token) (v : Walk) (f : Fault) (o : Option ℕ) → along begins ts ≡ Some v → noted ts ≡ o → earlier o (refused_at (length ts) v left) ≡ Some f → Blames f.kind f.at ts left
-blamed ts left v f None e n d = blames_stop ts left v f e (none_lacks ts v e n) d
-blamed ts left v f (Some i) e n d =
-    let g : FaultAt i NoVariable ≡ f = cc in
-    subst (λ (x : Fault). Blames x.kind x.at ts left) g (lacks_noted ts i n, none_before ts v i e n)
+    at : Step c t
+        → ((d : Shape) (p : Option ℕ) → Reached (taken ++ t ∷ []) d p → fault ((taken ++ t ∷ []) ++ left) ≡ Some f → IsLeftmostFault ((taken ++ t ∷ []) ++ left) f)
+        → IsLeftmostFault (taken ++ t ∷ left) f
+    at (Goes d g) on =
+        let a = append_assoc taken (t ∷ []) left in
+        subst (λ (x : List Token). IsLeftmostFault x f) a
+        (on g.0 (merged (later o) g.1) (goes_on taken c o t r g) (ap fault a ∙ e))
+    at (Stops h) on =
+        refused_at (t ∷ left) taken c o (may c t.kind) r (refuses taken c o t (may c t.kind) r h) (kinds (may c t.kind) refl)
+        (r (t ∷ left) ∙ h (count o (suc (length left))) left) f e
 
 pub found : (ts : List Token) (f : Fault) → fault ts ≡ Some f → IsLeftmostFault ts f
-found ts f e =
-    let s = split ts begins in (
-      s.begun,
-      s.left,
-      s.is,
-      begins_with s.begun s.walk s.goes,
-      ends_before s.begun s.left s.walk s.goes s.stops,
-      blamed s.begun s.left s.walk f (noted s.begun) s.goes refl (sym (fault_split s.begun s.left s.walk s.goes s.stops) ∙ (sym (ap fault s.is) ∙ e)),
-    )
+found ts f e = judge ts [] Start None begun_is f e
 
-stops_blamed : (ts left : List Token) (v : Walk) (k : FaultKind) (n : ℕ) → along begins ts ≡ Some v → n ≡ length ts → Stops k ts left → refused_at (length ts) v left ≡ Some (FaultAt n k)
-stops_blamed ts [] v Unfit n e d s = at (may_end v) refl
+-- ONE FAULT
+
+shorter : (pre b : List Token) (t : Token) → Begins (pre ++ t ∷ b) → Begins (pre ++ t ∷ [])
+shorter pre b t g = (
+  b ++ g.0,
+  subst IsSpelled (append_assoc pre (t ∷ b) g.0 ∙ sym (append_assoc pre (t ∷ []) (b ++ g.0))) g.1,
+)
+
+abbrev Last : List Token → List Token → Type 0
+Last taken left = Begins taken × EndsBefore taken left
+
+last_at : (a b : List Token) (left : List Token) → a ≡ b → Last a left → Last b left
+last_at a b left e l = subst (λ (x : List Token). Last x left) e l
+
+same_end : (a b l k pre : List Token) → a ++ l ≡ b ++ k → Last (pre ++ a) l → Last (pre ++ b) k → (a ≡ b) × (l ≡ k)
+same_end [] [] l k pre e x y = (refl, e)
+same_end [] (t ∷ b) l k pre e x y = absurd (short x)
   where
-    at : (c : Bool) → may_end v ≡ c → (if c then None else Some (FaultAt (length ts) Unfit)) ≡ Some (FaultAt n Unfit)
-    at true m = absurd (s (may_spell ts v e m))
-    at false m = ap (λ (x : ℕ). Some (FaultAt x Unfit)) (sym d)
-stops_blamed ts [] v MissingBlank n e d s = absurd s
-stops_blamed ts (t ∷ left) v Unfit n e d s = at (some_taken v t.kind) refl
+    short : Last (pre ++ []) l → ⊥
+    short z = let w = subst (λ (m : List Token). EndsBefore pre m) e (last_at (pre ++ []) pre l (append-nil pre) z).1 in w (shorter pre b t y.0)
+same_end (t ∷ a) [] l k pre e x y = absurd (short y)
   where
-    at : (c : Bool) → some_taken v t.kind ≡ c → Some (FaultAt (length ts) (if c then MissingBlank else Unfit)) ≡ Some (FaultAt n Unfit)
-    at true m = absurd (s (some_goes ts v t e m))
-    at false m = ap (λ (x : ℕ). Some (FaultAt x Unfit)) (sym d)
-stops_blamed ts (t ∷ left) v MissingBlank n e d s =
-    ap (λ (c : Bool). Some (FaultAt (length ts) (if c then MissingBlank else Unfit))) (goes_some ts v t e s) ∙ ap (λ (x : ℕ). Some (FaultAt x MissingBlank)) (sym d)
-stops_blamed ts left v NoVariable n e d s = absurd s
+    short : Last (pre ++ []) k → ⊥
+    short z = let w = subst (λ (m : List Token). EndsBefore pre m) (sym e) (last_at (pre ++ []) pre k (append-nil pre) z).1 in w (shorter pre a t x.0)
+same_end (t ∷ a) (u ∷ b) l k pre e x y =
+    let d : t ≡ u = cc in
+    let g : a ++ l ≡ b ++ k = cc in
+    let h = same_end a b l k (pre ++ t ∷ []) g
+    (last_at (pre ++ t ∷ a) ((pre ++ t ∷ []) ++ a) l (sym (append_assoc pre (t ∷ []) a)) x)
+    (last_at (pre ++ u ∷ b) ((pre ++ t ∷ []) ++ b) k (ap (λ (v : Token). pre ++ v ∷ b) (sym d) ∙ sym (append_assoc pre (t ∷ []) b)) y) in
+    (ap₂ (λ (v : Token) (c : List Token). v ∷ c) d h.0, h.1)
 
-same_place : (i n : ℕ) → (i < n → ⊥) → (n < i → ⊥) → i ≡ n
-same_place i n a b = omega (arith, a, b)
+same_blame : (taken left : List Token) (k q : FaultKind) (i j : ℕ) → Blames k i taken left → Blames q j taken left → FaultAt i k ≡ FaultAt j q
+same_blame taken left NoVariable NoVariable i j a b =
+    ap (λ (x : ℕ). FaultAt x NoVariable) (same (λ h. b.1 i h a.0) (λ h. a.1 j h b.0))
+  where
+    same : (i < j → ⊥) → (j < i → ⊥) → i ≡ j
+    same g h = omega (arith, g, h)
+same_blame taken left NoVariable Unfit i j a b = absurd (b.1 i a.0)
+same_blame taken left NoVariable MissingBlank i j a b = absurd (b.1 i a.0)
+same_blame taken left Unfit NoVariable i j a b = absurd (a.1 j b.0)
+same_blame taken left MissingBlank NoVariable i j a b = absurd (a.1 j b.0)
+same_blame taken left Unfit Unfit i j a b = ap (λ (x : ℕ). FaultAt x Unfit) (a.0 ∙ sym b.0)
+same_blame taken left MissingBlank MissingBlank i j a b = ap (λ (x : ℕ). FaultAt x MissingBlank) (a.0 ∙ sym b.0)
+same_blame taken [] Unfit MissingBlank i j a b = absurd b.2
+same_blame taken (t ∷ left) Unfit MissingBlank i j a b = absurd (a.2 b.2)
+same_blame taken [] MissingBlank Unfit i j a b = absurd a.2
+same_blame taken (t ∷ left) MissingBlank Unfit i j a b = absurd (b.2 a.2)
 
-decided : (ts left : List Token) (v : Walk) (k : FaultKind) (n : ℕ) (o : Option ℕ) → along begins ts ≡ Some v → noted ts ≡ o → Blames k n ts left → earlier o (refused_at (length ts) v left) ≡ Some (FaultAt n k)
-decided ts left v NoVariable n None e d b = absurd (none_lacks ts v e d n b.0)
-decided ts left v NoVariable n (Some i) e d b =
-    ap (λ (x : ℕ). Some (FaultAt x NoVariable)) (same_place i n (λ h. b.1 i h (lacks_noted ts i d)) (λ h. none_before ts v i e d n h b.0))
-decided ts left v Unfit n None e d b = stops_blamed ts left v Unfit n e b.0 b.2
-decided ts left v Unfit n (Some i) e d b = absurd (b.1 i (lacks_noted ts i d))
-decided ts left v MissingBlank n None e d b = stops_blamed ts left v MissingBlank n e b.0 b.2
-decided ts left v MissingBlank n (Some i) e d b = absurd (b.1 i (lacks_noted ts i d))
+one_fault : (ts : List Token) (f g : Fault) → IsLeftmostFault ts f → IsLeftmostFault ts g → f ≡ g
+one_fault ts f g x y =
+    let e = same_end x.0 y.0 x.1 y.1 [] (sym x.2 ∙ y.2) (x.3, x.4) (y.3, y.4) in
+    same_blame x.0 x.1 f.kind g.kind f.at g.at x.5 (subst (λ (m : List Token). Blames g.kind g.at m x.1) (sym e.0) (subst (λ (m : List Token). Blames g.kind g.at y.0 m) (sym e.1) y.5))
 
-pub is_found : (ts : List Token) (f : Fault) → IsLeftmostFault ts f → fault ts ≡ Some f
-is_found ts f b =
-    let w = begins_walk b.0 b.3 in
-    ap fault b.2 ∙ (fault_split b.0 b.1 w.0 w.1 (stopped b.0 b.1 w.0 w.1 b.4) ∙ decided b.0 b.1 w.0 f.kind f.at (noted b.0) w.1 refl b.5)
+-- NO FAULT
+
+pub has_variables : (ts : List Token) (s : Statement) (n : ℕ) → statement_in ts ≡ Ok (States s n) → nat_eq n 0 ≡ true → StatementHasVariables ts s
+has_variables ts s n e d =
+    let p = stated_place (statement_in ts) s s (lacks (lacking_in ts s) 0) n (statement_read s ts (statement_sound ts s n e)) e in
+    let z : n ≡ 0 = grind (arith, nat_tests, d) in
+    lack_none (lacking_in ts s) (p ∙ z)
 
 pub none_fit : (ts : List Token) → fault ts ≡ None → IsFit ts
-none_fit ts e =
-    let q = (taken ts).0 (not_refused (noted ts) (refusal ts) e) in
-    (q.0, (notes_exactly ts q.0 q.1).0 (not_noted (noted ts) (refusal ts) e), q.1)
+none_fit ts e = at (statement_in ts) refl e
+  where
+    at : (x : Result Stated Refusal) → statement_in ts ≡ x → fault_of (length ts) x ≡ None → IsFit ts
+    at (Err r) d g = cc
+    at (Ok (States s n)) d g = by (nat_eq n 0) refl g
+      where
+        by : (c : Bool) → nat_eq n 0 ≡ c → (if c then None else Some (FaultAt (length ts - n) NoVariable)) ≡ None → IsFit ts
+        by true h i = (s, has_variables ts s n d h, statement_sound ts s n d)
+        by false h i = cc
 
 pub fit_none : (ts : List Token) → IsFit ts → fault ts ≡ None
-fit_none ts s = ap (λ (o : Option ℕ). earlier o (refusal ts)) ((notes_exactly ts s.0 s.2).1 s.1) ∙ (taken ts).1 (s.0, s.2)
+fit_none ts s =
+    ap (fault_of (length ts)) (statement_read s.0 ts s.2)
+    ∙ ap (λ (n : ℕ). if nat_eq n 0 then None else Some (FaultAt (length ts - n) NoVariable)) (none_lack (lacking_in ts s.0) 0 s.1)
+
+-- what is fit has no fault
+fit_unblamed : (taken left : List Token) (k : FaultKind) (i : ℕ) → IsFit (taken ++ left) → EndsBefore taken left → Blames k i taken left → ⊥
+fit_unblamed taken (t ∷ left) k i s b x = b (left, (s.0, subst (Spells s.0) (sym (append_assoc taken (t ∷ []) left)) s.2))
+fit_unblamed taken [] NoVariable i s b x =
+    let h = x.0 [] s.0 s.2 in
+    let f = first_marked (lacking_in (taken ++ []) s.0) h.0 h.2 in
+    let z = none_lack (lacking_in (taken ++ []) s.0) 0 s.1 in
+    let a = f.0 in
+    let c = f.1 in
+    absurd (omega (arith, z, a, c))
+fit_unblamed taken [] Unfit i s b x = x.2 (s.0, subst (Spells s.0) (append-nil taken) s.2)
+fit_unblamed taken [] MissingBlank i s b x = x.2
+
+pub is_found : (ts : List Token) (f : Fault) → IsLeftmostFault ts f → fault ts ≡ Some f
+is_found ts f x = at (fault ts) refl
+  where
+    at : (o : Option Fault) → fault ts ≡ o → o ≡ Some f
+    at None e = absurd (fit_unblamed x.0 x.1 f.kind f.at (subst IsFit x.2 (none_fit ts e)) x.4 x.5)
+    at (Some g) e = ap (λ (h : Fault). Some h) (one_fault ts g f (found ts g e) x)
 
 pub fault_is_leftmost : FaultIsLeftmost
 fault_is_leftmost ts = (λ f. (found ts f, is_found ts f), (none_fit ts, fit_none ts))

@@ -4,8 +4,6 @@ use Rattle.std.specs.Option.{option_map_or}
 use Rattle.sno_lexer.specs.declared.token.Part.TheVariants.{Colon}
 use Rattle.sno_lexer.specs.declared.token.Token.{Token}
 use Rattle.sno_lexer.specs.declared.token.TokenKind.TheVariants as token
-use Rattle.sno_expression.specs.declared.tree.BinaryOperator.{BinaryOperator}
-use Rattle.sno_expression.specs.declared.tree.BinaryOperator.TheVariants.{Concatenation}
 use Rattle.sno_expression.specs.Expressions.{Expression}
 use Rattle.sno_expression.specs.Lacking.{lacking}
 use Rattle.sno_expression.specs.Spelling.{spaced, SpellsTo}
@@ -26,8 +24,3 @@ ColonTo g ts = (m : List Token) × (c : Bool) × (ts ≡ spaced true c (token.Pa
 abbrev pub is_wrong : Expression → Option Expression → Object → Bool
 is_wrong s p NoObject = false
 is_wrong s p _ = not (may_be_set s (is_some p))
-
--- between two operands stands a mark, and none where they are concatenated
-abbrev pub between : BinaryOperator → List Bool
-between Concatenation = []
-between _ = false ∷ []

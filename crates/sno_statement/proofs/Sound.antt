@@ -17,12 +17,10 @@ use Rattle.sno_statement.specs.declared.role.Role.{Role}
 use Rattle.sno_statement.specs.declared.role.Role.TheVariants.{Assigns, Goes, Follows, Touches}
 use Rattle.sno_statement.specs.Statements.{Target, To, Computed, Goto, NoGoto, Always, OnSuccess, OnFailure, OnBoth, NoObject, NullObject, ValueObject, Body, NoBody, Does, Statement, Says}
 use Rattle.sno_statement.specs.Spelling.{TargetTo, OutcomeTo, LeadsTo, GotoTo, BodyTo, Spells}
-use Rattle.sno_statement.specs.inner.Walking.{role}
-use Rattle.sno_statement.specs.inner.Parsing.{blamed, Aim, Aimed, closed_by, closing, computed, inside_by, inside, target_by, target_in, Way, Leads, at_last, always, both, next_by, next, chosen, goto_by, goto_in, Stated, States, going, is_colon, ends_part, ends_by, ending, giving, by_object, object_in, set, by_pattern, pattern_then, matching, by_subject, subject_then, acting, by_first, statement_in}
-use Rattle.sno_expression.proofs.Sound.{IsRead}
+use Rattle.sno_statement.specs.inner.Parsing.{role, blamed, Aim, Aimed, closed_by, closing, computed, inside_by, inside, target_by, target_in, Way, Leads, at_last, always, both, next_by, next, chosen, goto_by, goto_in, Stated, States, going, is_colon, ends_part, ends_by, ending, giving, by_object, object_in, set, by_pattern, pattern_then, matching, by_subject, subject_then, acting, by_first, statement_in}
+use Rattle.sno_expression.proofs.Sound.{IsRead, sound}
 use Rattle.sno_statement.proofs.Roles.{goes, assigns, blank_spells}
 use Rattle.sno_statement.proofs.Shorthand.{PatternTo}
-use Rattle.sno_statement.proofs.Told.{told_sound}
 
 abbrev AimRight : Result Aim Refusal → List Token → Type 0
 AimRight (Err r) ts = Unit {0}
@@ -46,7 +44,7 @@ computed_right n w b a t ts [] r = tt
 computed_right n w b a t ts (u ∷ rest) r = computed_by n w b a t ts u u.blank_before u.blank_after u.kind rest r
 
 reading_right : (n : ℕ) (b a : Bool) (ts : List Token) (x : Told) → telling true ts ≡ x → AimRight (computed n x) (spaced b a token.Open ∷ ts)
-reading_right n b a ts (Tells (Some (Unary Indirect t)) rest m w) e = computed_right (most n m) w b a t ts rest (told_sound true ts rest (Unary Indirect t) m w e)
+reading_right n b a ts (Tells (Some (Unary Indirect t)) rest m w) e = computed_right (most n m) w b a t ts rest (sound true ts rest (Unary Indirect t) m w e)
 reading_right n b a ts _ e = tt
 
 inside_by_right : (n : ℕ) (b a c d : Bool) (k : TokenKind) (ts : List Token) → AimRight (inside_by n c d k ts) (spaced b a token.Open ∷ spaced c d k ∷ ts)
@@ -151,7 +149,7 @@ giving_right : (s : Expression) (p : Option Expression) (n : ℕ) (ts : List Tok
     → Assigned s p ts (t ∷ k) → role t ≡ Follows → telling false (t ∷ k) ≡ x → Right (giving s p n x) ts
 giving_right s p n ts t k (Tells None rest m w) a r e = tt
 giving_right s p n ts t k (Tells (Some o) rest m w) a r e =
-    let i = told_sound false (t ∷ k) rest o m w e in
+    let i = sound false (t ∷ k) rest o m w e in
     ending_right w (Does s p (ValueObject o)) (most n m) ts rest
     (a.0, spaced true true (token.Part Equals) ∷ t ∷ k, a.1, a.3, a.4, (t ∷ k, refl, blank_spells o i.blank t k rest i.spells r), a.2)
 
@@ -188,7 +186,7 @@ matching_right : (z : ℕ) (s : Expression) (n : ℕ) (ts : List Token) (t : Tok
     → Right (matching z s n x) ts
 matching_right z s n ts t k (Tells None rest m w) a r e = tt
 matching_right z s n ts t k (Tells (Some p) rest m w) a r e =
-    let i = told_sound false (t ∷ k) rest p m w e in
+    let i = sound false (t ∷ k) rest p m w e in
     pattern_right z w s p (most n m) ts rest (t ∷ k, a.1, a.2, subst (λ (x : List Token). SpellsTo a.1 s ts x) a.4 a.3, blank_spells p i.blank t k rest i.spells r)
 
 subject_right : (z : ℕ) (w : Bool) (s : Expression) (n : ℕ) (ts m : List Token) → Subjected s None ts m → Right (subject_then z w s n m) ts
@@ -211,7 +209,7 @@ subject_right z w s n ts (t ∷ k) a = at (role t) refl
 acting_right : (z : ℕ) (ts : List Token) (x : Told) → telling true ts ≡ x → Right (acting z x) ts
 acting_right z ts (Tells None rest n w) e = tt
 acting_right z ts (Tells (Some s) rest n w) e =
-    let i = told_sound true ts rest s n w e in
+    let i = sound true ts rest s n w e in
     subject_right z w s n ts rest (rest, i.blank, i.suits, i.spells, refl)
 
 right : (ts : List Token) → Right (statement_in ts) ts

@@ -7,7 +7,7 @@ pub fn one_statement()
     ensures { OneStatement }
 {}
 
-/// The walk over tokens takes them all and may end there, exactly where they spell a statement.
+/// A statement is read from the tokens exactly where they spell it.
 pub fn walk_takes_statements()
     ensures { Taken }
 {}

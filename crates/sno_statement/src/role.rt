@@ -1,7 +1,7 @@
 //! What a token is between two parts of a statement.
 
 ghost use Rattle.std.specs.Prelude.{◌≡◌};
-ghost use Rattle.sno_statement.specs.inner.Walking.{role};
+ghost use Rattle.sno_statement.specs.inner.Parsing.{role};
 
 use sno_lexer::{Part, Token, TokenKind};
 

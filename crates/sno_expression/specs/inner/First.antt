@@ -4,7 +4,7 @@ use Rattle.sno_lexer.specs.declared.token.Token.{Token}
 use Rattle.sno_lexer.specs.declared.token.TokenKind.{TokenKind}
 use Rattle.sno_lexer.specs.declared.token.TokenKind.TheVariants as token
 use Rattle.sno_expression.specs.Expressions.{Expression, Identifier, Constant}
-use Rattle.sno_expression.specs.inner.Walking.{opens_bracket}
+use Rattle.sno_expression.specs.inner.Reading.{opens_bracket}
 
 -- a name behind which no bracket comes, or a constant
 abbrev pub is_apart : List Token → Bool

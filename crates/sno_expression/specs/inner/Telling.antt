@@ -1,6 +1,7 @@
 -- What a reading tells beside its tree: where a variable is lacking, and whether the token at which it stops would be taken
 -- with other blanks. A place is told by the number of tokens from it on, and 0 stands for none.
 use Rattle.std.specs.Prelude.{ℕ, ◌+◌, nat_le, Bool, true, false, List, [], ◌∷◌, Option, Some, None, is_some, length, ◌||◌, ◌&&◌, not, if◌then◌else◌}
+use Rattle.sno_lexer.specs.declared.token.Mark.TheVariants as mark
 use Rattle.sno_lexer.specs.declared.token.Token.{Token}
 use Rattle.sno_lexer.specs.declared.token.TokenKind.{TokenKind}
 use Rattle.sno_lexer.specs.declared.token.TokenKind.TheVariants as token
@@ -9,13 +10,24 @@ use Rattle.sno_expression.specs.declared.position.Paren.TheVariants.{OfGroup, Of
 use Rattle.sno_expression.specs.declared.position.Position.{Position}
 use Rattle.sno_expression.specs.declared.position.Position.TheVariants.{AtStart, AfterBinary, AfterUnary, AfterPrefix, AfterIdentifier, AfterOperand}
 use Rattle.sno_expression.specs.Expressions.{Expression}
-use Rattle.sno_expression.specs.inner.Walking.{begin, stops, inner_of, is_misfit, opens_bracket}
-use Rattle.sno_expression.specs.inner.Walks.{Walk, At}
-use Rattle.sno_expression.specs.inner.Reading.{State, read, result, start, walk}
+use Rattle.sno_expression.specs.Marks.{prefix_of}
+use Rattle.sno_expression.specs.inner.Reading.{State, At, read, result, start, stops, inner_of, opens_bracket, parens, position}
 
 -- the place further left: more tokens are left there
 abbrev pub most : ℕ → ℕ → ℕ
 most a b = if nat_le a b then b else a
+
+-- an element that stands where a variable is needed and is none is seen where it begins, or where its identifier opens a bracket
+abbrev pub begins_variable : TokenKind → Bool
+begins_variable (token.Identifier n) = true
+begins_variable (token.Mark mark.Dollar) = true
+begins_variable _ = false
+
+abbrev pub is_misfit : Position → Bool → TokenKind → Bool
+is_misfit (AfterBinary w) b k = w && not (begins_variable k)
+is_misfit (AfterUnary w) b k = w && not (begins_variable k)
+is_misfit (AfterIdentifier w) b k = w && opens_bracket b k
+is_misfit _ b k = false
 
 -- the place that a token shows to lack a variable, with n tokens left from the token on
 abbrev pub lacking_from : Position → ℕ → ℕ
@@ -25,12 +37,16 @@ lacking_from _ n = n
 abbrev pub lack : Position → Bool → TokenKind → ℕ → ℕ
 lack p b k n = if is_misfit p b k then lacking_from p n else 0
 
-abbrev pub lack_at : Walk → Token → ℕ → ℕ
-lack_at (At ps p) t n = lack p t.blank_before t.kind n
+abbrev pub lack_at : State → Token → ℕ → ℕ
+lack_at (At st spot) t n = lack (position spot) t.blank_before t.kind n
 
 -- does the token begin an operand
 abbrev pub begins : Bool → TokenKind → Bool
-begins a k = is_some (begin false a k)
+begins a (token.Identifier n) = true
+begins a (token.Constant c) = true
+begins a token.Open = true
+begins false (token.Mark m) = is_some (prefix_of m)
+begins a k = false
 
 -- does the token end an argument that is empty; does it go on after an operand, with some blanks round it
 abbrev pub ends_argument : Option Paren → TokenKind → Bool
@@ -59,8 +75,8 @@ fits alone inner AfterPrefix k = false
 fits alone inner (AfterIdentifier w) k = opens_bracket false k || (not (stops alone inner) && follows inner k)
 fits alone inner AfterOperand k = not (stops alone inner) && follows inner k
 
-abbrev pub fits_at : Bool → Walk → TokenKind → Bool
-fits_at alone (At ps p) k = fits alone (inner_of ps) p k
+abbrev pub fits_at : Bool → State → TokenKind → Bool
+fits_at alone (At st spot) k = fits alone (inner_of (parens st)) (position spot) k
 
 -- the tree, where one is complete when a token is not taken or there are no more; the tokens that are left; the leftmost
 -- place that lacks a variable; and whether the token would be taken with other blanks
@@ -77,7 +93,7 @@ then_tell (Some s) stop m on = with_lack m (on s)
 abbrev pub told : Bool → State → List Token → Told
 told alone s [] = Tells (result s) [] 0 false
 told alone s (t ∷ ts) =
-    then_tell (read alone s t) (Tells (result s) (t ∷ ts) 0 (fits_at alone (walk s) t.kind)) (lack_at (walk s) t (length (t ∷ ts))) (λ v. told alone v ts)
+    then_tell (read alone s t) (Tells (result s) (t ∷ ts) 0 (fits_at alone s t.kind)) (lack_at s t (length (t ∷ ts))) (λ v. told alone v ts)
 
 -- one expression, or one element
 abbrev pub telling : Bool → List Token → Told

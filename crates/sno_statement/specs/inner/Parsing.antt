@@ -1,6 +1,6 @@
 -- A statement read part by part, each part as far as it goes, and where the tokens go no further, why. A place is told by
 -- the number of tokens from it on; with what is read goes the leftmost place so far that lacks a variable, or 0.
-use Rattle.std.specs.Prelude.{ℕ, ◌-◌, Bool, true, false, List, [], ◌∷◌, length, Option, Some, None, Result, Ok, Err, nat_eq, ◌||◌, if◌then◌else◌}
+use Rattle.std.specs.Prelude.{ℕ, ◌-◌, Bool, true, false, List, [], ◌∷◌, length, Option, Some, None, Result, Ok, Err, nat_eq, ◌||◌, ◌&&◌, if◌then◌else◌}
 use Rattle.sno_lexer.specs.declared.token.Mark.TheVariants.{Dollar}
 use Rattle.sno_lexer.specs.declared.token.Outcome.{Outcome}
 use Rattle.sno_lexer.specs.declared.token.Outcome.TheVariants.{Success, Failure}
@@ -20,8 +20,19 @@ use Rattle.sno_statement.specs.declared.role.Role.{Role}
 use Rattle.sno_statement.specs.declared.role.Role.TheVariants.{Assigns, Goes, Follows, Touches}
 use Rattle.sno_statement.specs.Statements.{Target, To, Computed, Goto, NoGoto, Always, OnSuccess, OnFailure, OnBoth}
 use Rattle.sno_statement.specs.Statements.{NoObject, NullObject, ValueObject, Body, NoBody, Does, Statement, Says, may_be_set}
-use Rattle.sno_statement.specs.inner.Faults.{FaultAt}
-use Rattle.sno_statement.specs.inner.Walking.{role}
+
+-- what a token is between two parts of a statement: `=` with its blanks, `:` with a blank before it, or any other with or
+-- without a blank before it
+abbrev pub stands : Bool → Role
+stands b = if b then Follows else Touches
+
+abbrev pub role_by : Bool → Bool → TokenKind → Role
+role_by b a (token.Part Colon) = if b then Goes else Touches
+role_by b a (token.Part Equals) = if b && a then Assigns else stands b
+role_by b a _ = stands b
+
+abbrev pub role : Token → Role
+role t = role_by t.blank_before t.blank_after t.kind
 
 -- refused at the first of these tokens; would it be taken with other blanks
 abbrev pub refused : FaultKind → ℕ → List Token → Refusal
@@ -205,6 +216,9 @@ by_first Touches z t ts = if is_colon t.kind then Err (blamed true 0 (t ∷ ts))
 abbrev pub statement_in : List Token → Result Stated Refusal
 statement_in [] = Ok (States (Says NoBody NoGoto) 0)
 statement_in (t ∷ ts) = by_first (role t) (length (t ∷ ts)) t ts
+
+abbrev pub FaultAt : ℕ → FaultKind → Fault
+FaultAt i k = record { at = i; kind = k }
 
 -- what is wrong with z tokens: where a variable is lacking, that comes first
 abbrev pub blame : ℕ → Refusal → Fault

@@ -1,8 +1,7 @@
 use Rattle.std.proofs.Common.{◌≡◌, ℕ, ◌+◌, ◌-◌, ◌∙◌, ap, drop, length, arith}
 use Rattle.sno_expression.specs.declared.position.Position.{Position}
 use Rattle.sno_expression.specs.Abstraction.{expressions_of}
-use Rattle.sno_expression.specs.inner.Reading.{walk, parens, position}
-use Rattle.sno_expression.specs.inner.Walking.{inner_of}
+use Rattle.sno_expression.specs.inner.Reading.{inner_of, parens, position}
 use Rattle.sno_expression.specs.inner.Telling.{most, lack, lack_at, fits, told, with_lack}
 use Rattle.sno_expression.specs.inner.Told.{stack_of, spot_of, state_of}
 use Rattle.sno_expression.specs.declared.position.Paren.{Paren}
@@ -29,7 +28,7 @@ loop-at-preserved c =
     let t = c.index-tokens-at.result in
     let m = more ts i t c.loop-at-test.true c.index-tokens-at.is in
     let all = told c.args.alone (state_of c.args.begun) (drop c.args.from ts) in
-    let here : c.lack-here.result ≡ lack_at (walk (state_of c.loop-at.state)) t (length (drop i ts)) =
+    let here : c.lack-here.result ≡ lack_at (state_of c.loop-at.state) t (length (drop i ts)) =
     c.lack-here.ensures
     ∙ (ap (λ (p : Position). lack p t.blank_before t.kind (length ts - i)) c.position-position.ensures
     ∙ ap (λ (x : ℕ). lack (position (spot_of c.loop-at.state.spot)) t.blank_before t.kind x) (left_from ts (drop (i + 1) ts) i t m)) in
@@ -46,7 +45,7 @@ loop-at-preserved-then-names_stand c =
     let t = c.index-tokens-at.result in
     let m = more ts i t c.loop-at-test.true c.index-tokens-at.is in
     let all = told c.args.alone (state_of c.args.begun) (drop c.args.from ts) in
-    let here : c.lack-here.result ≡ lack_at (walk (state_of c.loop-at.state)) t (length (drop i ts)) =
+    let here : c.lack-here.result ≡ lack_at (state_of c.loop-at.state) t (length (drop i ts)) =
     c.lack-here.ensures
     ∙ (ap (λ (p : Position). lack p t.blank_before t.kind (length ts - i)) c.position-position.ensures
     ∙ ap (λ (x : ℕ). lack (position (spot_of c.loop-at.state.spot)) t.blank_before t.kind x) (left_from ts (drop (i + 1) ts) i t m)) in

@@ -3,7 +3,7 @@ use Rattle.std.specs.Prelude.{true, false, nat_eq}
 use Rattle.std.proofs.lemmas.Bool.Decides.{nat_tests}
 use Rattle.sno_statement.specs.declared.fault.FaultKind.TheVariants.{NoVariable}
 use Rattle.sno_statement.specs.Abstraction.{statement_of}
-use Rattle.sno_statement.specs.inner.Faults.{FaultAt}
+use Rattle.sno_statement.specs.inner.Parsing.{FaultAt}
 use Rattle.sno_statement.proofs.Parses.{is_refused, is_lacking, is_read}
 use Rattle.sno_statement.proofs.parsing.parse_statement.Goals as goal
 
