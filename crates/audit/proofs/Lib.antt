@@ -3,3 +3,4 @@ pub mod Named
 mod Catalogs
 pub mod Ordered
 pub mod Keeping
+mod Granted

@@ -1,6 +1,7 @@
 -- What the audit says of a command (own): who gives it, which, of which data set, what was answered, and by what it was granted; a new list
 -- stands in the line whole. Behind the line of a CATALOG stand those of the data sets that it shows.
 use Rattle.std.specs.Prelude.{ℕ, List, [], ◌++◌, codes, Option, Ok, Err}
+use Rattle.std.specs.Option.{option_and_then}
 use Rattle.acl_text.specs.Forms.{list_of_text}
 use Rattle.acl_text.specs.Printing.{short_form}
 use Rattle.mon_catalogue.specs.Modes.{mode_word}
@@ -18,7 +19,7 @@ use Rattle.mon_command.specs.Printouts.{word, number}
 use Rattle.mon_command.specs.Replies.{reply_text}
 use Rattle.audit.specs.declared.grants.Grant.{Grant}
 use Rattle.audit.specs.Words.{command_line}
-use Rattle.audit.specs.Grants.{known_grant, last_words}
+use Rattle.audit.specs.Grants.{command_grant, last_words}
 use Rattle.audit.specs.Catalogs.{shown_lines}
 
 -- the card's word, and the data set's name
@@ -60,4 +61,4 @@ spelled _ = []
 -- all that is said of a command of this account, if it is known, that was answered so over these data sets
 abbrev pub ordered_lines : Option Account → Sets → Command → Answer → List ℕ
 ordered_lines known sets command answer =
-    said_line command (said_of answer) (spelled command) (known_grant known sets command) ++ shown_lines known sets command
+    said_line command (said_of answer) (spelled command) (option_and_then (λ a. command_grant a sets command) known) ++ shown_lines known sets command

@@ -11,7 +11,7 @@ use Rattle.mon_catalogue.specs.Sets.{Sets, find_set}
 use Rattle.interaction.specs.declared.answer.Reason.{Reason}
 use Rattle.interaction.specs.declared.answer.Reason.TheVariants.{By}
 use Rattle.deck_lines.specs.declared.command.Command.{Command}
-use Rattle.deck_lines.specs.declared.command.Command.TheVariants.{Create, Delete, SetAcl, ShowAcl, List as Listing, Catalog}
+use Rattle.deck_lines.specs.declared.command.Command.TheVariants.{Delete, SetAcl, ShowAcl, List as Listing}
 use Rattle.mon_command.specs.declared.reply.Reply.{Reply}
 use Rattle.mon_command.specs.declared.reply.Reply.TheVariants.{Done}
 use Rattle.mon_command.specs.declared.said.Said.{Said}
@@ -43,12 +43,7 @@ command_grant account sets (Delete by name) = option_and_then (by_owner account)
 command_grant account sets (SetAcl by name text) = option_and_then (by_owner account) (find_set name sets)
 command_grant account sets (ShowAcl by name) = option_and_then (to_see_list account) (find_set name sets)
 command_grant account sets (Listing by name) = option_and_then (λ set. by_entry account set to_read) (find_set name sets)
-command_grant account sets (Create by name mode) = None
-command_grant account sets (Catalog by) = None
-
--- to its account, if that is known
-abbrev pub known_grant : Option Account → Sets → Command → Option Grant
-known_grant known sets command = option_and_then (λ account. command_grant account sets command) known
+command_grant account sets command = None
 
 -- THE WORDS
 
@@ -57,15 +52,23 @@ granted_words None = []
 granted_words (Some AsOwner) = codes " BY owner"
 granted_words (Some (ByEntry reason)) = word (reason_text reason)
 
+-- what stands last of a command that is done, or shows something
+abbrev pub last_words : Said → Option Grant → List ℕ
+last_words (Told Done) grant = granted_words grant
+last_words (Told reply) grant = []
+last_words said grant = granted_words grant
+
+-- NAMES OF THEIR OWN, for the code and for laws
+
+-- by what a command is granted to its account, if that is known
+abbrev pub known_grant : Option Account → Sets → Command → Option Grant
+known_grant known sets command = option_and_then (λ account. command_grant account sets command) known
+
 abbrev pub is_done : Reply → Bool
 is_done Done = true
 is_done reply = false
 
--- a command that is done, or shows something
+-- a command is done, or shows something
 abbrev pub is_granted : Said → Bool
 is_granted (Told reply) = is_done reply
 is_granted said = true
-
--- what stands last of it
-abbrev pub last_words : Said → Option Grant → List ℕ
-last_words said grant = if is_granted said then granted_words grant else []

@@ -142,11 +142,15 @@ if_done_reads (Entries n) text ws reads = no_words
 if_done_reads (Names n) text ws reads = no_words
 
 last_reads : (said : Said) (grant : Option Grant) → IfSome grant IsGrantNamed → Reads (last_words said grant) (last_list said grant)
-last_reads said grant h = by (is_granted said)
-  where
-    by : (b : Bool) → Reads (if b then granted_words grant else []) (if b then grant_list grant else [])
-    by true = grant_reads grant h
-    by false = no_words
+last_reads (ToldReply Done) grant h = grant_reads grant h
+last_reads (ToldReply NoAccount) grant h = no_words
+last_reads (ToldReply (Denied reason)) grant h = no_words
+last_reads (ToldReply NameTaken) grant h = no_words
+last_reads (ToldReply CatalogueFull) grant h = no_words
+last_reads (ToldReply (BadList error)) grant h = no_words
+last_reads (Records n) grant h = grant_reads grant h
+last_reads (Entries n) grant h = grant_reads grant h
+last_reads (Names n) grant h = grant_reads grant h
 
 -- of a command that neither makes a data set nor sets a list
 tail_back : (said : Said) (grant : Option Grant) → IfSome grant IsGrantNamed

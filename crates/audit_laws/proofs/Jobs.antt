@@ -20,8 +20,8 @@ use Rattle.sno_run.specs.declared.ending.Ending.{Ending}
 use Rattle.load_refusal.specs.declared.load_error.LoadError.{LoadError}
 use Rattle.audit.specs.Requests.{act_word, by_words, place_words, request_line}
 use Rattle.audit.specs.Words.{target_word, outcome_word, job_line}
-use Rattle.job_end.specs.Printouts.{ending_words}
-use Rattle.job_end.specs.AuditLines.{refusal_words, loaded_line, refused_line}
+use Rattle.job_end.specs.Printouts.{ending_words, refusal_words}
+use Rattle.job_end.specs.AuditLines.{loaded_line, refused_line}
 use Rattle.audit.specs.Laws.{IsNamed}
 use Rattle.audit_laws.specs.Sound.{IsEntryNamed, IsReasonNamed}
 use Rattle.sno_run.specs.declared.ending.Ending.TheVariants.{MatchLimit, Fault as Faults, Normal, StatementLimit, Memory}

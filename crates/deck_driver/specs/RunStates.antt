@@ -1,5 +1,6 @@
 -- What happens in a deck (own): its stream's cards ask for events, over a system.
 use Rattle.std.specs.Prelude.{ℕ, suc, ◌+◌, List, [], ◌∷◌, ◌++◌}
+use Rattle.std.specs.Str.Lines.{lines}
 use Rattle.mon_catalogue.specs.Sets.{Sets}
 use Rattle.scheduler.specs.Marks.{Marks}
 use Rattle.mon_monitor.specs.SystemStates.{SystemState, first_system}
@@ -7,7 +8,9 @@ use Rattle.mon_monitor.specs.Events.{Event, Serve, Load, Give, Drain}
 use Rattle.mon_monitor.specs.Played.{Played, played}
 use Rattle.deck_syntax.specs.Decks.{Deck, Cards, Asked, Commands, Enters, Gives, Drains, Ending, Stopped, Refused}
 use Rattle.deck_syntax.specs.Jobs.{job_deck_of}
+use Rattle.deck_syntax.specs.Sections.{deck_of}
 use Rattle.deck_driver.specs.declared.options.Counts.{Counts}
+use Rattle.deck_driver.specs.declared.options.Options.{Options}
 
 -- a deck from its stream on: the system, and the cards that are still to come
 pub record RunState : Type 0 where
@@ -20,6 +23,10 @@ over w cards = record { system = w; cards = cards }
 -- a deck's stream begins over its accounts and its catalogue, with so many slots
 abbrev pub opening : ℕ → Deck → RunState
 opening slots deck = record { system = first_system slots deck.accounts deck.catalogue; cards = deck.cards }
+
+-- where the stream of these bytes begins
+abbrev pub run_state_of : Options → List ℕ → RunState
+run_state_of options bytes = let d = deck_of (lines bytes) in record { system = first_system options.slots.number d.accounts d.catalogue; cards = d.cards }
 
 -- what the cards ask for, where the next job has number k
 abbrev pub events_of : ℕ → List Asked → List Event

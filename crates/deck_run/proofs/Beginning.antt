@@ -5,7 +5,10 @@ use Rattle.std.specs.Str.Lines.{lines}
 use Rattle.std.proofs.lemmas.Grind.{flat_map-append}
 use Rattle.mon_access.specs.declared.account.Account.{Account}
 use Rattle.mon_catalogue.specs.Sets.{Sets}
+use Rattle.mon_catalogue.specs.declared.version.Version.TheVariants.{Two}
 use Rattle.mon_catalogue.specs.Text.{text_of, catalogue_lines, catalogue_text}
+use Rattle.mon_catalogue.proofs.Whole.{reading_spells}
+use Rattle.mon_catalogue.proofs.Back.{text_is_stored}
 use Rattle.scheduler.specs.Marks.{Marks}
 use Rattle.mon_monitor.specs.SystemStates.{SystemState, first_system}
 use Rattle.mon_monitor.specs.Printouts.{printouts_text}
@@ -27,7 +30,7 @@ use Rattle.deck_driver.specs.Abstraction.{told, audit_told, Took}
 use Rattle.deck_driver.specs.declared.feed.DeckFeed.{DeckFeed}
 use Rattle.deck_driver.specs.Printouts.{closing, output_of_run_state}
 use Rattle.deck_run.specs.Runs.{run_state_of}
-use Rattle.deck_run.specs.Laws.{done, jobs_in, rest_of_output, RefusedPrintsAsGood, joined, PiecesAreJoined, HoweverCut, deck_around, CataloguesRunAgain}
+use Rattle.deck_run.specs.Laws.{done, jobs_in, rest_of_output, RefusedPrintsAsGood, joined, PiecesAreJoined, HoweverCut, ReadBackIsStored, deck_around, CataloguesRunAgain}
 use Rattle.deck_run.proofs.Ordered.{output_with, in_two, is_run}
 
 module _ (card_by_card : CardByCard) (slots : ℕ) (m : Marks) (bad deck : Deck) (last : List Asked) (n : ℕ) (code : DeckError) (accounts : deck.accounts ≡ bad.accounts)
@@ -112,6 +115,9 @@ however_cut start f pieces out a b begin took =
     let all = pieces_are_joined [] out start f pieces a b took in
     (all.marks, λ rest bytes. all.is rest bytes ∙ begin (all.marks ++ rest) (joined pieces ++ bytes))
 
+pub read_back_is_stored : ReadBackIsStored
+read_back_is_stored sets back = text_is_stored Two (lines (catalogue_text sets)) sets ((reading_spells Two (lines (catalogue_text sets)) sets).1 back.same)
+
 -- the text of a deck
 deck_text : (table : List (List ℕ)) (sets : Sets) → text_of (deck_lines table sets) ≡ deck_around table (closing sets Stopped)
 deck_text table sets =
@@ -126,7 +132,7 @@ catalogues_run_again options m bytes table accounts run stopped back spells diff
     let run_state = run_state_of options bytes in
     let all = played_run_state 0 m run_state in
     let sets = all.after.scheduler.sets in
-    let deck_is = (comes_back table accounts sets spells differ back.stored back.printable).1 in (
+    let deck_is = (comes_back table accounts sets spells differ (read_back_is_stored sets back) back.printable).1 in (
       closing sets Stopped,
       is_run options m bytes run ∙ ap (λ (e : Ending). printouts_text all.printouts ++ closing sets e) stopped,
       subst (λ (text : List ℕ). IsDeck (lines text) (deck_over accounts sets)) (deck_text table sets) deck_is,

@@ -5,9 +5,10 @@ use Rattle.std.specs.List.{flat_map, AllByRecursion}
 use Rattle.sno_run.specs.declared.ending.Ending.{Ending}
 use Rattle.sno_run.specs.declared.ending.Ending.TheVariants.{Memory}
 use Rattle.mon_command.specs.Printouts.{number, word, stored_line}
+use Rattle.audit.specs.Words.{job_line}
 use Rattle.mon_unit.specs.declared.note.Note.{Note}
 use Rattle.job_end.specs.declared.job_end.JobEnd.{JobEnd}
-use Rattle.job_end.specs.Printouts.{job_line, note_words, exchange_words, note_line, ending_line, printout}
+use Rattle.job_end.specs.Printouts.{note_words, exchange_words, note_line, ending_words, printout}
 use Rattle.scheduler.specs.Marks.{Marks}
 use Rattle.mon_monitor.specs.Printouts.{Printout, OfCommand, OfJob, OfRefused, printout_text, printouts_text}
 use Rattle.mon_monitor.specs.Laws.{NotByMemory}
@@ -53,8 +54,8 @@ none_in_back words text rest none has = none (in_back words text rest has)
 
 -- JOBS
 
-job_ends : (n : ℕ) (account : List ℕ) → EndsLine (job_line n account)
-job_ends n account = (codes "JOB" ++ number n ++ word account, refl)
+job_ends : (n : ℕ) (account : List ℕ) → EndsLine (job_line n account [])
+job_ends n account = (codes "JOB" ++ number n ++ word account ++ [], refl)
 
 stored_ends : (text : List ℕ) → EndsLine (stored_line text)
 stored_ends text = (word text, refl)
@@ -63,8 +64,11 @@ note_ends : (note : Note) → EndsLine (note_line note)
 note_ends note = (note_words note.why (exchange_words note), refl)
 
 -- all that stands before the line of its end
-before_end : (end : JobEnd) → EndsLine (job_line end.number end.account ++ flat_map stored_line end.spool ++ flat_map note_line end.notes)
+before_end : (end : JobEnd) → EndsLine (job_line end.number end.account [] ++ flat_map stored_line end.spool ++ flat_map note_line end.notes)
 before_end end = all_end note_line note_ends end.notes _ (all_end stored_line stored_ends end.spool _ (job_ends end.number end.account))
+
+abbrev ending_line : Ending → ℕ → List ℕ
+ending_line end n = codes "END" ++ ending_words end ++ codes " AFTER" ++ number n ++ codes "\n"
 
 by_memory : (n : ℕ) → ending_line Memory n ≡ codes "END MEMORY" ++ (codes " AFTER" ++ (number n ++ codes "\n"))
 by_memory n =
@@ -74,7 +78,7 @@ by_memory n =
 
 shown : (end : JobEnd) → end.ending ≡ Memory → HasLineWith (codes "END MEMORY") (printout end)
 shown end is =
-    let front = job_line end.number end.account ++ flat_map stored_line end.spool ++ flat_map note_line end.notes in
+    let front = job_line end.number end.account [] ++ flat_map stored_line end.spool ++ flat_map note_line end.notes in
     let line : ending_line end.ending end.statements ≡ codes "END MEMORY" ++ (codes " AFTER" ++ (number end.statements ++ codes "\n")) =
     ap (λ (e : Ending). ending_line e end.statements) is ∙ by_memory end.statements in
     let there = line_behind front (codes "END MEMORY") (codes " AFTER" ++ (number end.statements ++ codes "\n")) (before_end end) in

@@ -1,8 +1,8 @@
 -- What a run puts to its audit, and what the audit's writer has taken (own): a sink that stood as a says before, and stands as b says then.
-use Rattle.std.specs.Prelude.{◌≡◌, ◌⊎◌, ℕ, Bool, true, false, List, [], ◌++◌, Option, Result, Ok, Err}
+use Rattle.std.specs.Prelude.{◌≡◌, ◌⊎◌, ℕ, Bool, true, false, List, [], ◌++◌, codes, Option, Result, Ok, Err}
 use Rattle.std.specs.List.{flat_map}
 use Rattle.scheduler.specs.Marks.{Marks}
-use Rattle.audit.specs.RunEnds.{stopped_line, deck_refused_line}
+use Rattle.mon_command.specs.Printouts.{word, number}
 use Rattle.mon_monitor.specs.Audit.{audit_line}
 use Rattle.mon_device.specs.Devices.{Gives, holding}
 use Rattle.mon_device.specs.Putting.{Standing, Puts}
@@ -24,8 +24,8 @@ Audited = (options : Options) (m : Marks) (bytes : List ℕ) → options.check �
 -- and behind them how the deck has come to its end; nothing where it has not, or was only to be checked
 abbrev pub end_told : Bool → Result Counts RunError → List ℕ
 end_told true answer = []
-end_told false (Ok counts) = stopped_line
-end_told false (Err (DeckRefused n code)) = deck_refused_line n (code_text code)
+end_told false (Ok counts) = codes "RUN 0 .NONE STOPPED\n"
+end_told false (Err (DeckRefused n code)) = codes "RUN 0 .NONE REFUSED LINE" ++ number n ++ word (code_text code) ++ codes "\n"
 end_told false (Err _) = []
 
 -- whether a run broke off before its deck came to its end

@@ -9,6 +9,7 @@ use Rattle.mon_access.specs.declared.access.Decision.TheVariants.{Granted, Denie
 use Rattle.mon_access.specs.Accounts.{find_account, HaveDifferentNames}
 use Rattle.mon_catalogue.specs.declared.data_set.DataSet.{DataSet}
 use Rattle.mon_catalogue.specs.Sets.{Sets, find_set}
+use Rattle.mon_catalogue.specs.Stored.{IsStored}
 use Rattle.mon_catalogue.specs.Text.{text_of}
 use Rattle.mon_guard.specs.Deciding.{decision_on, to_read}
 use Rattle.mon_guard.specs.Reasons.{reason_of}
@@ -164,6 +165,10 @@ abbrev pub HoweverCut : Type 0
 HoweverCut = (start f : DeckFeed) (pieces : List (List ℕ)) (out : List ℕ) (a b : Standing)
     → ((m : Marks) (bytes : List ℕ) → outcome_from m start bytes ≡ comes_of start.options m bytes) → TookAll [] start pieces out f a b
     → (marks : Marks) × ((rest : Marks) (bytes : List ℕ) → told rest out f bytes ≡ comes_of start.options (marks ++ rest) (joined pieces ++ bytes))
+
+-- Data sets that are read back have names that are names, permission lists that are lists, and records that are records.
+abbrev pub ReadBackIsStored : Type 0
+ReadBackIsStored = (sets : Sets) → ReadsBack sets → IsStored sets
 
 -- a deck of an account table, of a catalogue as a run has written it, and of no card
 abbrev pub deck_around : List (List ℕ) → List ℕ → List ℕ

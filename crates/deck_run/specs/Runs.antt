@@ -13,7 +13,8 @@ use Rattle.mon_device.specs.Devices.{Gives, IsAtEnd, HasTaken, holding}
 use Rattle.mon_device.specs.Putting.{Standing, Puts}
 use Rattle.deck_driver.specs.declared.options.Options.{Options}
 use Rattle.deck_driver.specs.declared.options.Counts.{Counts}
-use Rattle.deck_driver.specs.RunStates.{RunState, opening, sets_after, all_counted}
+pub use Rattle.deck_driver.specs.RunStates.{run_state_of}
+use Rattle.deck_driver.specs.RunStates.{played_run_state, all_counted}
 use Rattle.deck_driver.specs.Printouts.{output_of, ReadsBack}
 use Rattle.deck_driver.specs.Feeds.{Begins}
 use Rattle.deck_driver.specs.Audits.{audit_for}
@@ -22,15 +23,11 @@ use Rattle.deck_driver.specs.Audits.{audit_for}
 abbrev pub deck_ending : List ℕ → Ending
 deck_ending bytes = let deck = deck_of (lines bytes) in deck.cards.ending
 
--- where the stream of these bytes begins
-abbrev pub run_state_of : Options → List ℕ → RunState
-run_state_of options bytes = opening options.slots.number (deck_of (lines bytes))
-
 -- The marks say where memory breaks turns off; no one can say beforehand where it will.
 
 -- the catalogue after all that these bytes ask for
 abbrev pub catalogue_after : Options → Marks → List ℕ → Sets
-catalogue_after options marks bytes = sets_after 0 marks (run_state_of options bytes)
+catalogue_after options marks bytes = let p = played_run_state 0 marks (run_state_of options bytes) in p.after.scheduler.sets
 
 -- how many jobs and commands there are
 abbrev pub counts_of : List ℕ → Counts

@@ -1,5 +1,5 @@
 //! Laws of the definitions: what a deck's output says. Each is the contract of a function that does nothing.
-ghost use Rattle.deck_run.specs.Laws.{ShowsWhereGranted, DenialsSayWhy, InItsPlace, InOrder, Unmarked, ShowsItsMarks, RefusedPrintsAsGood, PiecesAreJoined, HoweverCut, CataloguesRunAgain};
+ghost use Rattle.deck_run.specs.Laws.{ShowsWhereGranted, DenialsSayWhy, InItsPlace, InOrder, Unmarked, ShowsItsMarks, RefusedPrintsAsGood, PiecesAreJoined, HoweverCut, ReadBackIsStored, CataloguesRunAgain};
 ghost use Rattle.deck_run.specs.Isolation.{DecksIsolated};
 ghost use Rattle.deck_run.specs.Example.{TheyLookAlike};
 ghost use Rattle.deck_run.specs.Headline.{Headline};
@@ -101,6 +101,11 @@ pub fn pieces_are_joined()
 /// However the bytes of a deck are cut, the whole is the same.
 pub fn however_cut()
     ensures { HoweverCut }
+{}
+
+/// Data sets that are read back, as those that a run writes are, hold to what every catalogue holds to.
+pub fn read_back_is_stored()
+    ensures { ReadBackIsStored }
 {}
 
 /// The catalogue that a run writes is good in the next deck, behind any good account table, and is there the same data sets.

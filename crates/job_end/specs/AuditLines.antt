@@ -4,15 +4,7 @@ use Rattle.mon_command.specs.Printouts.{number}
 use Rattle.audit.specs.Words.{job_line}
 use Rattle.job_end.specs.declared.job_end.JobEnd.{JobEnd}
 use Rattle.load_refusal.specs.declared.load_error.LoadError.{LoadError}
-use Rattle.load_refusal.specs.declared.load_error.LoadError.TheVariants.{NoSlot, NoAccount, Cards, Syntax}
-use Rattle.job_end.specs.Printouts.{ending_words, unit_refusal, syntax_words}
-
--- why a job is not loaded; for want of a slot none is refused
-abbrev pub refusal_words : LoadError → List ℕ
-refusal_words NoSlot = codes "NO SLOT"
-refusal_words NoAccount = codes "M2 NO ACCOUNT"
-refusal_words (Cards error) = unit_refusal error
-refusal_words (Syntax error) = syntax_words error
+use Rattle.job_end.specs.Printouts.{ending_words, refusal_words}
 
 abbrev pub loaded_line : ℕ → List ℕ → List ℕ
 loaded_line n account = job_line n account (codes " LOADED")

@@ -6,24 +6,20 @@ use Rattle.sno_cards.specs.Codes.{code_symbol}
 use Rattle.sno_cards.specs.declared.refusal.SyntaxError.{SyntaxError}
 use Rattle.sno_run.specs.declared.ending.Ending.{Ending}
 use Rattle.sno_run.specs.declared.ending.Ending.TheVariants as ending
-use Rattle.mon_command.specs.declared.reply.Reply.TheVariants as reply
 use Rattle.mon_command.specs.Printouts.{word, number, stored_line}
-use Rattle.mon_command.specs.Replies.{reason_text, reply_line}
+use Rattle.mon_command.specs.Replies.{reason_text}
 use Rattle.mon_unit.specs.declared.note.Note.{Note}
 use Rattle.mon_unit.specs.declared.note.NoteTarget.{NoteTarget}
 use Rattle.mon_unit.specs.declared.note.NoteTarget.TheVariants.{Set, Unit as UnitOf}
 use Rattle.mon_unit.specs.declared.note.Why.{Why}
 use Rattle.mon_unit.specs.declared.note.Why.TheVariants.{Denied, Full}
+use Rattle.audit.specs.Words.{job_line}
 use Rattle.audit.specs.Requests.{act_word}
 use Rattle.unit_ties.specs.declared.unit_error.UnitError.{UnitError}
 use Rattle.unit_ties.specs.declared.unit_error.UnitError.TheVariants.{UnitRange, UnitTwice}
 use Rattle.job_end.specs.declared.job_end.JobEnd.{JobEnd}
 use Rattle.load_refusal.specs.declared.load_error.LoadError.{LoadError}
 use Rattle.load_refusal.specs.declared.load_error.LoadError.TheVariants.{NoSlot, NoAccount, Cards, Syntax}
-
--- a job's own line
-abbrev pub job_line : ℕ → List ℕ → List ℕ
-job_line n account = codes "JOB" ++ number n ++ word account ++ codes "\n"
 
 -- what was asked of: the data set, or the unit where there is none
 abbrev pub target_words : NoteTarget → List ℕ
@@ -42,26 +38,20 @@ note_words Full exchange = codes "FULL" ++ exchange
 abbrev pub note_line : Note → List ℕ
 note_line note = note_words note.why (exchange_words note) ++ codes "\n"
 
-abbrev pub statement_words : ℕ → List ℕ
-statement_words n = codes " AT" ++ number n
-
--- how a job ended
+-- how a job ended, and at which statement
 abbrev pub ending_words : Ending → List ℕ
 ending_words ending.Normal = codes " NORMAL"
 ending_words ending.StatementLimit = codes " STATEMENT LIMIT"
-ending_words (ending.MatchLimit n) = codes " MATCH LIMIT" ++ statement_words n
-ending_words (ending.Fault fault n) = codes " FAULT" ++ word (fault_name fault) ++ statement_words n
+ending_words (ending.MatchLimit n) = codes " MATCH LIMIT" ++ (codes " AT" ++ number n)
+ending_words (ending.Fault fault n) = codes " FAULT" ++ word (fault_name fault) ++ (codes " AT" ++ number n)
 ending_words ending.Memory = codes " MEMORY"
 
--- and after how many statements
-abbrev pub ending_line : Ending → ℕ → List ℕ
-ending_line end n = codes "END" ++ ending_words end ++ codes " AFTER" ++ number n ++ codes "\n"
-
--- what a job that has ended prints
+-- What a job that has ended prints: a line with its number and its account, and no more words; what it spooled, its notes, how it ended, and
+-- after how many statements.
 abbrev pub printout : JobEnd → List ℕ
 printout end =
-    job_line end.number end.account ++ flat_map stored_line end.spool ++ flat_map note_line end.notes
-    ++ ending_line end.ending end.statements
+    job_line end.number end.account [] ++ flat_map stored_line end.spool ++ flat_map note_line end.notes
+    ++ (codes "END" ++ ending_words end.ending ++ codes " AFTER" ++ number end.statements ++ codes "\n")
 
 -- a unit card that ties a unit that there is not, or once more
 abbrev pub unit_refusal : UnitError → List ℕ
@@ -70,15 +60,16 @@ unit_refusal (UnitTwice unit) = codes "U1 UNIT" ++ number unit
 
 -- where the program is refused: the card counted from the job's first, and its column
 abbrev pub syntax_words : SyntaxError → List ℕ
-syntax_words error =
-    code_symbol error.code ++ codes " CARD" ++ number error.place.card ++ codes " COLUMN" ++ number error.place.column
+syntax_words error = code_symbol error.code ++ codes " CARD" ++ number error.place.card ++ codes " COLUMN" ++ number error.place.column
 
-abbrev pub refused_words : List ℕ → List ℕ
-refused_words why = codes "REFUSED " ++ why ++ codes "\n"
+-- why a job is not loaded; for want of a slot none is refused
+abbrev pub refusal_words : LoadError → List ℕ
+refusal_words NoSlot = codes "NO SLOT"
+refusal_words NoAccount = codes "M2 NO ACCOUNT"
+refusal_words (Cards error) = unit_refusal error
+refusal_words (Syntax error) = syntax_words error
 
 -- what a job that is not loaded prints; one for which there was no slot prints nothing
 abbrev pub refusal_text : ℕ → List ℕ → LoadError → List ℕ
 refusal_text n account NoSlot = []
-refusal_text n account NoAccount = job_line n account ++ reply_line reply.NoAccount
-refusal_text n account (Cards error) = job_line n account ++ refused_words (unit_refusal error)
-refusal_text n account (Syntax error) = job_line n account ++ refused_words (syntax_words error)
+refusal_text n account refusal = job_line n account [] ++ (codes "REFUSED " ++ refusal_words refusal ++ codes "\n")

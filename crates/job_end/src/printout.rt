@@ -1,8 +1,10 @@
 //! What a job that has ended prints, put to a sink from where its lines stand: it takes no memory.
-ghost use Rattle.std.specs.Prelude.{◌≡◌, ◌++◌, length, take, OnOk, OnErr};
+ghost use Rattle.std.specs.Prelude.{◌≡◌, [], ◌++◌, codes, length, take, OnOk, OnErr};
 ghost use Rattle.std.specs.List.{flat_map};
 ghost use Rattle.mon_device.specs.Putting.{Puts};
-ghost use Rattle.job_end.specs.Printouts.{job_line, target_words, exchange_words, note_words, note_line, statement_words, ending_words, ending_line, printout};
+ghost use Rattle.mon_command.specs.Printouts.{number};
+ghost use Rattle.audit.specs.Words.{job_line};
+ghost use Rattle.job_end.specs.Printouts.{target_words, exchange_words, note_words, note_line, ending_words, printout};
 
 use crate::job_end::JobEnd;
 use audit::act_word;
@@ -53,7 +55,7 @@ fn put_text(end: &JobEnd, out: &mut Vec<u8>) -> Result<(), AllocError>
 
 // Puts a job's own line.
 pub(crate) fn print_job_line<S: Sink>(number: u64, account: &Name, sink: &mut S)
-    ensures { Puts (S.standing sink.old) (S.standing sink.new) (job_line number account.now) }
+    ensures { Puts (S.standing sink.old) (S.standing sink.new) (job_line number account.now []) }
 {
     sink.put(b"JOB");
     print_number(number, sink);
@@ -116,7 +118,7 @@ fn print_target<S: Sink>(target: &NoteTarget, sink: &mut S)
 }
 
 fn print_ending<S: Sink>(ending: Ending, statements: u64, sink: &mut S)
-    ensures { Puts (S.standing sink.old) (S.standing sink.new) (ending_line ending statements) }
+    ensures { Puts (S.standing sink.old) (S.standing sink.new) (codes "END" ++ ending_words ending ++ codes " AFTER" ++ number statements ++ codes "\n") }
 {
     sink.put(b"END");
     print_ending_words(ending, sink);
@@ -145,7 +147,7 @@ pub(crate) fn print_ending_words<S: Sink>(ending: Ending, sink: &mut S)
 }
 
 fn print_at_statement<S: Sink>(statement: u64, sink: &mut S)
-    ensures { Puts (S.standing sink.old) (S.standing sink.new) (statement_words statement) }
+    ensures { Puts (S.standing sink.old) (S.standing sink.new) (codes " AT" ++ number statement) }
 {
     sink.put(b" AT");
     print_number(statement, sink);

@@ -1,8 +1,7 @@
 //! What is printed of a job that is not loaded.
 ghost use Rattle.std.specs.Prelude.{◌≡◌, ◌++◌, length, take, OnOk, OnErr};
 ghost use Rattle.mon_device.specs.Putting.{Puts};
-ghost use Rattle.job_end.specs.Printouts.{unit_refusal, syntax_words, refusal_text};
-ghost use Rattle.job_end.specs.AuditLines.{refusal_words};
+ghost use Rattle.job_end.specs.Printouts.{unit_refusal, syntax_words, refusal_words, refusal_text};
 
 use crate::printout::print_job_line;
 use load_refusal::LoadError;

@@ -1,22 +1,24 @@
 -- THE AUDIT (own): a line for each entry of the history, in its order, and behind that of a CATALOG one for each data set that it shows. What
--- a line has of a request, and of a command, the crate audit says; and of jobs, scheduler.
-use Rattle.std.specs.Prelude.{ℕ, List}
+-- a line has of a request, and of a command, the crate audit says.
+use Rattle.std.specs.Prelude.{ℕ, List, ◌++◌, codes}
 use Rattle.std.specs.List.{flat_map}
 use Rattle.deck_syntax.specs.declared.job_deck.JobDeck.{JobDeck}
 use Rattle.scheduler.specs.Marks.{Marks}
+use Rattle.mon_command.specs.Printouts.{number}
+use Rattle.audit.specs.Words.{job_line}
+use Rattle.audit.specs.Requests.{request_line, asked_of}
 use Rattle.audit.specs.Commands.{ordered_lines}
-use Rattle.job_end.specs.AuditLines.{loaded_line, refused_line, ended_line}
-use Rattle.scheduler.specs.AuditLines.{exchanged_line}
+use Rattle.job_end.specs.Printouts.{ending_words, refusal_words}
 use Rattle.mon_monitor.specs.SystemStates.{SystemState}
 use Rattle.mon_monitor.specs.Events.{Event}
 use Rattle.mon_monitor.specs.Played.{loading}
 use Rattle.mon_monitor.specs.History.{Entry, Entered, Refused, Asked, Ended, Ordered, load_entry, event_entries, history}
 
 abbrev pub audit_line : Entry → List ℕ
-audit_line (Entered deck) = loaded_line deck.number deck.account
-audit_line (Refused deck refusal) = refused_line deck.number deck.account refusal
-audit_line (Asked e) = exchanged_line e
-audit_line (Ended end) = ended_line end
+audit_line (Entered deck) = job_line deck.number deck.account (codes " LOADED")
+audit_line (Refused deck refusal) = job_line deck.number deck.account (codes " REFUSED " ++ refusal_words refusal)
+audit_line (Asked e) = request_line (asked_of e.number e.account e.reach e.request) e.answer
+audit_line (Ended end) = job_line end.number end.account (codes " ENDED" ++ ending_words end.ending ++ codes " AFTER" ++ number end.statements)
 audit_line (Ordered known sets command answer) = ordered_lines known sets command answer
 
 -- what the audit says of these entries

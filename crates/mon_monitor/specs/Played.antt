@@ -31,18 +31,15 @@ of_loading deck m w =
     let l = loading deck w in
     record { printouts = elim l.0 [ Ok slot ↦ [] | Err refusal ↦ OfRefused deck.number deck.account refusal ∷ [] ]; after = l.1; marks = m }
 
-abbrev pub of_command : Command → Marks → SystemState → Played
-of_command command m w =
-    let s = answered w.accounts w.scheduler.sets command in
-    record { printouts = OfCommand (printed command s.answer) ∷ []; after = record w { scheduler = record (w.scheduler) { sets = s.sets } }; marks = m }
-
 -- one event and then another
 abbrev pub then_played : Played → (Marks → SystemState → Played) → Played
 then_played p next = let later = next p.marks p.after in record later { printouts = p.printouts ++ later.printouts }
 
 -- one event. Where no slot is free for a job, turns are given in rounds until one is.
 abbrev pub happened : Event → Marks → SystemState → Played
-happened (Serve command) m w = of_command command m w
+happened (Serve command) m w =
+    let s = answered w.accounts w.scheduler.sets command in
+    record { printouts = OfCommand (printed command s.answer) ∷ []; after = record w { scheduler = record (w.scheduler) { sets = s.sets } }; marks = m }
 happened (Load deck) m w = then_played (of_turns w (rounds_until has_free_slot m w.scheduler)) (of_loading deck)
 happened (Give slot count) m w = of_turns w (until never (replicate count slot) m w.scheduler)
 happened Drain m w = of_turns w (rounds_until is_done m w.scheduler)

@@ -7,6 +7,7 @@ use Rattle.mon_catalogue.specs.Text.{text_of}
 use Rattle.deck_syntax.specs.Decks.{Stopped}
 use Rattle.deck_syntax.specs.Sections.{deck_of}
 use Rattle.deck_run.specs.Runs.{deck_ending}
+use Rattle.deck_run.proofs.Beginning.{read_back_is_stored}
 use Rattle.preflight.specs.declared.submission.Submission.{Submission}
 use Rattle.preflight.specs.Rounds.{Handed, AreHanded, stream_lines, round_lines}
 use Rattle.preflight.specs.Laws.{NeverRefused}
@@ -50,5 +51,5 @@ module _ (never_refused : NeverRefused) where
     ends =
         good_ends (head_text (text_of table) sets) round.submissions table accounts sets round.texts
         (record { begins = record { head_is = refl; table_is = are; names_differ = differ; stored = stored; printable = printable }; texts_are = admitted.0 });
-    later = λ left is back. goes_on options table accounts left rounds are differ back.stored back.printable admitted.1;
+    later = λ left is back. goes_on options table accounts left rounds are differ (read_back_is_stored left back) back.printable admitted.1;
   }

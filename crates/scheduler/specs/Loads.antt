@@ -59,12 +59,8 @@ load_refusal accounts deck slots = option_or (missing NoSlot (first_free slots))
 
 -- what a slot holds when the job has been loaded
 abbrev pub loaded_slot : Account → JobDeck → Program → SlotState
-loaded_slot account deck p = record {
-  number = deck.number;
-  account = account;
-  job = first_job p deck.limits;
-  units = with_ties deck.ties (first_units deck.lines);
-}
+loaded_slot account deck p =
+    record { number = deck.number; account = account; job = first_job p deck.limits; units = with_ties deck.ties (first_units deck.lines) }
 
 -- the job of a deck that is not refused
 abbrev pub slot_in : List Account → JobDeck → Option SlotState

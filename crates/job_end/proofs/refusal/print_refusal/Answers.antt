@@ -1,12 +1,13 @@
-use Rattle.std.proofs.Common.{◌≡◌, ◌≢◌, ℕ, List, ◌++◌, refl, ap, sym}
+use Rattle.std.proofs.Common.{◌≡◌, ◌≢◌, ℕ, List, [], ◌++◌, refl, ap, sym}
+use Rattle.std.specs.Prelude.{codes}
 use Rattle.load_refusal.specs.declared.load_error.LoadError.{LoadError}
 use Rattle.load_refusal.specs.declared.load_error.LoadError.TheVariants.{NoSlot, NoAccount, Cards, Syntax}
-use Rattle.job_end.specs.Printouts.{job_line, refused_words, refusal_text}
-use Rattle.job_end.specs.AuditLines.{refusal_words}
+use Rattle.audit.specs.Words.{job_line}
+use Rattle.job_end.specs.Printouts.{refusal_words, refusal_text}
 use Rattle.mon_device.proofs.Putting.{puts_nothing, puts_same, puts_then, puts_three}
 use Rattle.job_end.proofs.refusal.print_refusal.Goals as goal
 
-refused : (n : ℕ) (account : List ℕ) (error : LoadError) → error ≢ NoSlot → job_line n account ++ refused_words (refusal_words error) ≡ refusal_text n account error
+refused : (n : ℕ) (account : List ℕ) (error : LoadError) → error ≢ NoSlot → job_line n account [] ++ (codes "REFUSED " ++ refusal_words error ++ codes "\n") ≡ refusal_text n account error
 refused n account NoSlot not = absurd (not refl)
 refused n account NoAccount not = refl
 refused n account (Cards error) not = refl
