@@ -14,7 +14,7 @@ pub enum Asked {
     Run(String),
     /// What stands, and what is wrong.
     Status(String),
-    /// What a text would be told.
+    /// What a submission would be told.
     Check(String, Name),
     /// To run a round again, and to compare.
     Verify(String, u64),
@@ -276,10 +276,10 @@ fn init_options<'a>(alloc: Global) -> [Arg<'a>; 5] {
 
 fn check_command<'a>(alloc: Global) -> Result<Command<'a>, AllocError> {
     let command = Command::new(alloc, "check")
-        .about("Tells whether a text would be admitted")
-        .arg(place(alloc, "FILE", "The text"))?;
+        .about("Tells whether a submission would be admitted")
+        .arg(place(alloc, "FILE", "The submission"))?;
     command.arg(
-        named(alloc, "account", "Whose text it is")
+        named(alloc, "account", "Whose submission it is")
             .value_name("NAME")
             .required(true),
     )

@@ -9,7 +9,7 @@ use mon_text::read_count;
 use preflight::Submission;
 use std::alloc::{AllocError, Global};
 use std::fs::OpenOptions;
-use std::io::Write;
+use std::io::{Seek, SeekFrom, Write};
 use std::os::unix::fs::OpenOptionsExt;
 use std::time::{Clock, Instant, SystemTime, UNIX_EPOCH};
 use std::{fs, io};
@@ -65,12 +65,19 @@ pub fn seconds_now<C: Clock>(clock: &C) -> u64 {
     }
 }
 
+// The file with its path.
+#[derive(Drop)]
+struct OwnFile<R: System> {
+    path: String,
+    open: R::File,
+}
+
 /// Looks on at the run of a round. It owns what it needs.
 #[derive(Drop)]
 pub struct Watch<R: System> {
     rt: R,
-    // The path of the file, if there is to be one.
-    path: Option<String>,
+    // The file, if there is to be one and it could be made.
+    file: Option<OwnFile<R>>,
     // Whether a terminal is told.
     tells: bool,
     now: Progress,
@@ -90,8 +97,8 @@ impl<R: System> Watch<R> {
         texts: &[Submission],
         has_file: bool,
     ) -> Result<Watch<R>, Fault> {
-        let path = if has_file {
-            Some(place.path(FILE)?)
+        let file = if has_file {
+            made_file(&place.rt, place.path(FILE)?)
         } else {
             None
         };
@@ -104,7 +111,7 @@ impl<R: System> Watch<R> {
         };
         Ok(Watch {
             rt: place.rt.clone()?,
-            path,
+            file,
             tells: place.tells,
             now,
             jobs,
@@ -118,7 +125,11 @@ impl<R: System> Watch<R> {
     fn see(&mut self, piece: &[u8]) {
         if piece == b" LOADED".as_slice() || piece == b" REFUSED ".as_slice() {
             self.begun = self.begun.saturating_add(1);
-            let before = self.jobs.iter().filter(|jobs| **jobs < self.begun).count();
+            let begun = self.begun;
+            let before = self
+                .jobs
+                .as_slice()
+                .partition_point(|jobs: &u64| *jobs < begun);
             let text = (before as u64).saturating_add(1);
             if text != self.now.text {
                 self.now.text = text;
@@ -130,8 +141,8 @@ impl<R: System> Watch<R> {
 
     /// Another text is at work, or the first. The file is not brought to the disk.
     pub fn renew(&mut self) {
-        if let Some(path) = &self.path {
-            let _kept = write_progress(&self.rt, path, self.now);
+        if let Some(file) = &mut self.file {
+            let _kept = write_progress(self.rt.alloc(), &mut file.open, self.now);
         }
         self.is_due = self.tells;
         self.tell();
@@ -156,8 +167,8 @@ impl<R: System> Watch<R> {
 
     /// The run has ended: no file tells how far it is.
     pub fn end(&self) {
-        if let Some(path) = &self.path {
-            let _gone = fs::remove_file(&self.rt, path.as_str());
+        if let Some(file) = &self.file {
+            let _gone = fs::remove_file(&self.rt, file.path.as_str());
         }
     }
 }
@@ -172,15 +183,22 @@ fn jobs_of(alloc: Global, texts: &[Submission]) -> Result<Vec<u64>, AllocError> 
     Ok(jobs)
 }
 
-fn write_progress<R: System>(rt: &R, path: &String, now: Progress) -> io::Result<()> {
-    let (round, text, texts, since) = (now.round, now.text, now.texts, now.since);
-    let line = format!(in rt.alloc(); "{round} {text} {texts} {since}\n")?;
-    let mut file = OpenOptions::new()
+fn made_file<R: System>(rt: &R, path: String) -> Option<OwnFile<R>> {
+    let open = OpenOptions::new()
         .write(true)
         .create(true)
         .truncate(true)
         .mode(0o600)
-        .open(rt, path.as_str())?;
+        .open(rt, path.as_str())
+        .ok()?;
+    Some(OwnFile { path, open })
+}
+
+// Writes over what stands there: only the number of the text changes, and it grows.
+fn write_progress<F: Write + Seek>(alloc: Global, file: &mut F, now: Progress) -> io::Result<()> {
+    let (round, text, texts, since) = (now.round, now.text, now.texts, now.since);
+    let line = format!(in alloc; "{round} {text} {texts} {since}\n")?;
+    file.seek(SeekFrom::Start(0))?;
     file.write_all(line.as_bytes())
 }
 
