@@ -30,10 +30,10 @@ owed_more given owed more answers e = sym (in_row given owed more) ∙ ap (λ (l
 
 pub becomes : (step : Step) (event : Made) (seen : Seen) (behind : List (List ℕ)) (kept : State) → IsKept seen behind kept
     → IsKept (after_event event seen) (changed_by event behind) (with_record (machine_of step) (seen_event event) kept)
-becomes step (code.Took n text) seen behind kept is =
-    record { state = is.state; waiting = ap (λ (l : List (ℕ × List ℕ)). l ++ (n, text.now) ∷ []) is.waiting; next = refl; given = is.given; answers = is.answers }
-becomes step (code.Refused n reply) seen behind kept is =
-    record { state = is.state; waiting = is.waiting; next = refl; given = is.given; answers = owed_more is.given seen.owed ((n, reply.now) ∷ []) kept.answers is.answers }
+becomes step (code.Took file text) seen behind kept is =
+    record { state = is.state; waiting = ap (λ (l : List (ℕ × List ℕ)). l ++ (file.number, text.now) ∷ []) is.waiting; next = refl; given = is.given; answers = is.answers }
+becomes step (code.Refused file reply) seen behind kept is =
+    record { state = is.state; waiting = is.waiting; next = refl; given = is.given; answers = owed_more is.given seen.owed ((file.number, reply.now) ∷ []) kept.answers is.answers }
 becomes step (code.Ran n printout change) seen behind kept is = record {
   state = ap (λ (l : List (List ℕ)). l ++ change.now ∷ []) is.state;
   waiting = ap behind_first is.waiting;

@@ -1,10 +1,12 @@
 -- What stands under a number leaves its box.
-use Rattle.std.proofs.Common.{◌≡◌, ℕ, suc, ◌+◌, Bool, true, false, List, [], ◌∷◌, ◌++◌, length, map, Option, Some, None, refl, sym, ap, ◌∙◌, subst}
+use Rattle.std.proofs.Common.{◌≡◌, inl, inr, ℕ, suc, ◌+◌, Bool, true, false, List, [], ◌∷◌, ◌++◌, length, map, Option, Some, None, refl, sym, ap, ◌∙◌, subst, arith}
+use Rattle.std.proofs.lemmas.Bool.Decides.{nat_tests}
+use Rattle.ledger_laws.specs.Claims.{AreOf}
 use Rattle.std.specs.Prelude.{if◌then◌else◌, ◌==◌}
 use Rattle.std.specs.List.{AllByRecursion}
 use Rattle.ledger_disk.specs.declared.identity.Identity.{Identity}
 use Rattle.ledger_disk.specs.declared.name.Name.TheVariants.{Dropped, Claimed}
-use Rattle.ledger_disk.specs.Disks.{Disk, Which, Call, Write, SyncFile, Rename, Link, Remove, SyncFolder, Saw, Looked, Next, after, after_all, given, which_after, which_behind, LooksAreTrue, AreTrue}
+use Rattle.ledger_disk.specs.Disks.{Disk, Which, Call, Write, SyncFile, Rename, Link, Remove, SyncFolder, Saw, Looked, Next, after, after_all, given, which_after, which_behind, LooksAreTrue, AreTrue, IsAmong}
 use Rattle.ledger_laws.specs.Traces.{changes_ledger}
 use Rattle.ledger_laws.specs.Answers.{AnswersFit}
 use Rattle.ledger_laws.specs.Places.{Calls, AreCareful}
@@ -12,7 +14,7 @@ use Rattle.ledger_laws.proofs.Claiming.{after_both}
 use Rattle.ledger_laws.proofs.Careful.{IsUnder, leaves_carefully}
 use Rattle.ledger_run.specs.Meaning.{Step}
 use Rattle.ledger_run.specs.Runs.{Seen, Stood, IsOpen, Opens}
-use Rattle.ledger_run.specs.Finishing.{is_look, Looks, IsClaimed, IsUnclaimed, AreSorted, leave_calls, Leaves, Finishes, LeavesNone, FinishesCarefully}
+use Rattle.ledger_run.specs.Finishing.{is_look, Looks, IsClaimed, IsUnclaimed, IsFit, AreSorted, leave_calls, Leaves, Finishes, LeavesNone, LeavesFit, FinishesCarefully}
 use Rattle.ledger_run.proofs.Looking.{behind_both, looks_same, split, looks_so}
 use Rattle.ledger_run.specs.Claiming.{DidSome, BeganSome}
 use Rattle.ledger_run.proofs.Aside.{AllAside, removals_aside, stood_behind}
@@ -28,7 +30,7 @@ none_behind {A} (x ∷ xs) = ap (λ (l : List A). x ∷ l) (none_behind xs)
 
 -- ---- which files are left
 
-leave_now : (done : List ℕ) (time : ℕ) (which : Which) (d : ℕ) (file : Identity) → (which_behind time (leave_calls done) which (Dropped d)).now ≡ Some file → (which (Dropped d)).now ≡ Some file
+pub leave_now : (done : List ℕ) (time : ℕ) (which : Which) (d : ℕ) (file : Identity) → (which_behind time (leave_calls done) which (Dropped d)).now ≡ Some file → (which (Dropped d)).now ≡ Some file
 leave_now [] time which d file e = e
 leave_now (x ∷ done) time which d file e = by (d == x) (leave_now done (suc time) (which_after time (Remove (Dropped x)) which) d file e)
   where
@@ -36,31 +38,66 @@ leave_now (x ∷ done) time which d file e = by (d == x) (leave_now done (suc ti
     by true e = absurd (cc (e))
     by false e = e
 
-leave_under : (done : List ℕ) (time : ℕ) (which : Which) (n : ℕ) → (which_behind time (leave_calls done) which (Claimed n)).now ≡ (which (Claimed n)).now
+leave_stays : (done : List ℕ) (time : ℕ) (which : Which) (d : ℕ) → (IsAmong d done → ⊥) → (which_behind time (leave_calls done) which (Dropped d)).now ≡ (which (Dropped d)).now
+leave_stays [] time which d apart = refl
+leave_stays (x ∷ done) time which d apart =
+    leave_stays done (suc time) (which_after time (Remove (Dropped x)) which) d (λ among. apart (inr among)) ∙ by (d == x) refl
+  where
+    by : (b : Bool) → (d == x) ≡ b → (if b then given None (which (Dropped x)) else which (Dropped d)).now ≡ (which (Dropped d)).now
+    by true e = absurd (apart (inl (grind (arith, nat_tests, e))))
+    by false e = refl
+
+pub leave_under : (done : List ℕ) (time : ℕ) (which : Which) (n : ℕ) → (which_behind time (leave_calls done) which (Claimed n)).now ≡ (which (Claimed n)).now
 leave_under [] time which n = refl
 leave_under (x ∷ done) time which n = leave_under done (suc time) (which_after time (Remove (Dropped x)) which) n
 
-unclaimed_behind : (done left : List ℕ) (time : ℕ) (which : Which) → AllByRecursion (IsUnclaimed which) left → AllByRecursion (IsUnclaimed (which_behind time (leave_calls done) which)) left
-unclaimed_behind done [] time which all = tt
-unclaimed_behind done (d ∷ left) time which all = (
-  record { under_none = λ n file less here under. all.0.under_none n file less (leave_now done time which d file here) (sym (leave_under done time which n) ∙ under) },
-  unclaimed_behind done left time which all.1,
+pub fit_behind : (drops done left : List ℕ) (time : ℕ) (which : Which) → AllByRecursion (λ drop. IsAmong drop done → ⊥) left → AllByRecursion (IsFit drops which) left
+    → AllByRecursion (IsFit drops (which_behind time (leave_calls done) which)) left
+fit_behind drops done [] time which apart all = tt
+fit_behind drops done (d ∷ left) time which apart all = (
+  record {
+    among = all.0.among;
+    file = all.0.file;
+    in_box = leave_stays done time which d apart.0 ∙ all.0.in_box;
+    under_none = λ n less under. all.0.under_none n less (sym (leave_under done time which n) ∙ under);
+    sole = λ e there is. all.0.sole e there (leave_now done time which e all.0.file is);
+  },
+  fit_behind drops done left time which apart.1 all.1,
 )
 
-pub leaves_none : {D : Type 0} (calls : D → List Call) (left : List ℕ) (old new : D) → Finishes calls left old new → LeavesNone calls left new
-leaves_none calls left old new f = record {
-  none = λ first told.
-      let s = split (calls f.mid) (leave_calls f.done) 0 first (subst (λ (l : List Call). LooksAreTrue 0 l first) f.did.all told) in
-      let sorted : AreSorted f.done left (which_behind 0 (calls old) first) = f.looks.told first s.before in
-      subst (λ (w : Which). AllByRecursion (IsUnclaimed w) left)
+inside : (a b : Identity) → Some a ≡ Some b → a ≡ b
+inside a b e = cc (e)
+
+unclaimed : (drops left : List ℕ) (which : Which) → AllByRecursion (IsFit drops which) left → AllByRecursion (IsUnclaimed which) left
+unclaimed drops [] which all = tt
+unclaimed drops (d ∷ left) which all = (
+  record { under_none = λ n file less here under. all.0.under_none n less (under ∙ ap (λ (f : Identity). Some f) (inside file all.0.file (sym here ∙ all.0.in_box))) },
+  unclaimed drops left which all.1,
+)
+
+pub leaves_fit : {D : Type 0} (calls : D → List Call) (drops left : List ℕ) (old new : D) → Finishes calls drops left old new → LeavesFit calls drops left new
+leaves_fit calls drops left old new f = record {
+  fit = λ first told.
+      let s : AreSorted drops f.done left (which_behind 0 (calls old) first) = sorted first told in
+      subst (λ (w : Which). AllByRecursion (IsFit drops w) left)
       (sym (ap (λ (l : List Call). which_behind 0 l first) f.did.all ∙ behind_both (calls f.mid) (leave_calls f.done) 0 first))
-      (unclaimed_behind f.done left (0 + length (calls f.mid)) (which_behind 0 (calls f.mid) first) (subst (λ (w : Which). AllByRecursion (IsUnclaimed w) left) (sym (same first)) sorted.unclaimed));
+      (fit_behind drops f.done left (0 + length (calls f.mid)) (which_behind 0 (calls f.mid) first) s.apart
+      (subst (λ (w : Which). AllByRecursion (IsFit drops w) left) (sym (same first)) s.fit));
+  once = λ first told. (sorted first told).once;
 }
   where
+    sorted : (first : Which) → LooksAreTrue 0 (calls new) first → AreSorted drops f.done left (which_behind 0 (calls old) first)
+    sorted first told = f.looks.told first (split (calls f.mid) (leave_calls f.done) 0 first (subst (λ (l : List Call). LooksAreTrue 0 l first) f.did.all told)).before
+
     same : (first : Which) → which_behind 0 (calls f.mid) first ≡ which_behind 0 (calls old) first
     same first =
         ap (λ (l : List Call). which_behind 0 l first) f.looks.grows ∙ behind_both (calls old) f.looks.more 0 first
         ∙ looks_same f.looks.more (0 + length (calls old)) (which_behind 0 (calls old) first) f.looks.only
+
+pub leaves_none : {D : Type 0} (calls : D → List Call) (drops left : List ℕ) (old new : D) → Finishes calls drops left old new → LeavesNone calls left new
+leaves_none calls drops left old new f = record {
+  none = λ first told. unclaimed drops left (which_behind 0 (calls new) first) ((leaves_fit calls drops left old new f).fit first told);
+}
 
 -- ---- the ledger is opened all the same
 
@@ -94,9 +131,9 @@ true_before (Looked n o ∷ xs) ys disk told = true_before xs ys (after (Looked 
 true_before (Next n o ∷ xs) ys disk told = true_before xs ys (after (Next n o) disk) told
 true_before (Saw n o ∷ xs) ys disk told = (told.0, true_before xs ys disk told.1)
 
-pub opens_finished : {D : Type 0} (calls : D → List Call) (step : Step) (seen : Seen) (behind : List (List ℕ)) (left : List ℕ) (old mid new : D)
-    → Opens calls step seen behind old mid → Finishes calls left mid new → Opens calls step seen behind old new
-opens_finished calls step seen behind left old mid new opens f = record {
+pub opens_finished : {D : Type 0} (calls : D → List Call) (step : Step) (seen : Seen) (behind : List (List ℕ)) (drops left : List ℕ) (old mid new : D)
+    → Opens calls step seen behind old mid → Finishes calls drops left mid new → Opens calls step seen behind old new
+opens_finished calls step seen behind drops left old mid new opens f = record {
   opens = λ first chain events told fits is_left.
       let before : AreTrue (calls mid) first = true_before (calls mid) plan first (subst (λ (l : List Call). AreTrue l first) grows told) in
       let site : IsOpen seen behind step chain (after_all (calls mid) first) = opens.opens first chain events before fits is_left in
@@ -132,7 +169,7 @@ looks_carefully (Link from to ∷ looks) rest time number taken which all carefu
 looks_carefully (Remove name ∷ looks) rest time number taken which all careful = absurd (no all.0)
 looks_carefully (SyncFolder folder ∷ looks) rest time number taken which all careful = absurd (no all.0)
 
-claimed_under : (which : Which) (done : List ℕ) → AllByRecursion (IsClaimed which) done → AllByRecursion (IsUnder which) done
+pub claimed_under : (which : Which) (done : List ℕ) → AllByRecursion (IsClaimed which) done → AllByRecursion (IsUnder which) done
 claimed_under which [] all = tt
 claimed_under which (d ∷ done) all = (λ file now. record { number = all.0.under.number; is = all.0.under.is ∙ sym all.0.in_box ∙ now }, claimed_under which done all.1)
 
@@ -151,19 +188,33 @@ module _ {D : Type 0} (calls : D → List Call) where
     began = record { count = 0; some = sym (none_behind (calls new)) };
   }
 
-  pub leaves_begun : (done left : List ℕ) (old mid new : D) → Looks calls (AreSorted done left) old mid → BeganSome calls leave_calls done mid new → Leaves calls old new
-  leaves_begun done left old mid new looks some = record {
+  pub leaves_begun : (drops done left : List ℕ) (old mid new : D) → Looks calls (AreSorted drops done left) old mid → BeganSome calls leave_calls done mid new → Leaves calls old new
+  leaves_begun drops done left old mid new looks some = record {
     done = some.some;
     mid = mid;
-    looks = looks_so calls (AreSorted done left) (λ which. AllByRecursion (IsClaimed which) some.some) old mid (λ which told. some_claimed which some.some done some.are told.claimed) looks;
+    looks = looks_so calls (AreSorted drops done left) (λ which. AllByRecursion (IsClaimed which) some.some) old mid (λ which told. some_claimed which some.some done some.are told.claimed) looks;
     began = some.began;
   }
 
-  pub finishes : (done left : List ℕ) (old mid new : D) → Looks calls (AreSorted done left) old mid → DidSome calls leave_calls done mid new → Finishes calls left old new
-  finishes done left old mid new looks some = record {
+  pub finishes : (drops done left : List ℕ) (old mid new : D) → Looks calls (AreSorted drops done left) old mid → DidSome calls leave_calls done mid new → Finishes calls drops left old new
+  finishes drops done left old mid new looks some = record {
     done = some.some;
     mid = mid;
-    looks = looks_so calls (AreSorted done left) (AreSorted some.some left) old mid
-        (λ which told. record { claimed = some_claimed which some.some done some.does.are told.claimed; unclaimed = told.unclaimed }) looks;
+    looks = looks_so calls (AreSorted drops done left) (AreSorted drops some.some left) old mid
+        (λ which told. record {
+          claimed = some_claimed which some.some done some.does.are told.claimed;
+          fit = told.fit;
+          once = told.once;
+          apart = apart_some some.some done some.does.are left told.apart;
+        }) looks;
     did = some.does.did;
   }
+    where
+      among_all : (some all : List ℕ) (d : ℕ) → AreOf some all → IsAmong d some → IsAmong d all
+      among_all [] all d are among = elim among [ ]
+      among_all (x ∷ some) all d are (inl same) = subst (λ (e : ℕ). IsAmong e all) (sym same) are.0
+      among_all (x ∷ some) all d are (inr more) = among_all some all d are.1 more
+
+      apart_some : (some all : List ℕ) → AreOf some all → (left : List ℕ) → AllByRecursion (λ drop. IsAmong drop all → ⊥) left → AllByRecursion (λ drop. IsAmong drop some → ⊥) left
+      apart_some some all are [] apart = tt
+      apart_some some all are (d ∷ left) apart = (λ among. apart.0 (among_all some all d are among), apart_some some all are left apart.1)

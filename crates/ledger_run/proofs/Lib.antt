@@ -6,9 +6,11 @@ pub mod OpeningUp
 pub mod Giving
 pub mod Writing
 pub mod Ahead
+pub mod Answering
 pub mod Aside
 pub mod Looking
+pub mod Sorting
 pub mod Leaving
 pub mod Refusing
-pub mod Names
 pub mod Passing
+pub mod Whole

@@ -5,10 +5,11 @@ use Rattle.std.specs.List.{AllByRecursion}
 use Rattle.std.proofs.lemmas.Bool.Decides.{nat_tests}
 use Rattle.ledger_disk.specs.declared.identity.Identity.{Identity}
 use Rattle.ledger_disk.specs.declared.name.Name.{Name}
-use Rattle.ledger_disk.specs.declared.name.Name.TheVariants.{Dropped, Claimed}
+use Rattle.ledger_disk.specs.declared.name.Name.TheVariants.{Claimed}
 use Rattle.ledger_disk.specs.Disks.{Which, Call, Write, SyncFile, Rename, Link, Remove, SyncFolder, Saw, Looked, Next, which_after, which_behind, LooksAreTrue, IsNext}
 use Rattle.ledger_disk.specs.Plans.{Did}
-use Rattle.ledger_run.specs.Finishing.{is_look, same_file, is_among, Looks, StandsUnder, Gathered, Adds, bound, IsClaimed, IsUnclaimed, AreSorted}
+use Rattle.ledger_names.specs.Sorting.{same_file, is_among}
+use Rattle.ledger_run.specs.Finishing.{is_look, Looks, StandsUnder, Gathered, Adds, bound}
 
 none_behind : {A : Type 0} (xs : List A) → xs ++ [] ≡ xs
 none_behind [] = refl
@@ -18,7 +19,7 @@ in_row : {A : Type 0} (xs ys zs : List A) → (xs ++ ys) ++ zs ≡ xs ++ (ys ++ 
 in_row [] ys zs = refl
 in_row {A} (x ∷ xs) ys zs = ap (λ (l : List A). x ∷ l) (in_row xs ys zs)
 
-all_both : {A : Type 0} (P : A → Type 0) (xs ys : List A) → AllByRecursion P xs → AllByRecursion P ys → AllByRecursion P (xs ++ ys)
+pub all_both : {A : Type 0} (P : A → Type 0) (xs ys : List A) → AllByRecursion P xs → AllByRecursion P ys → AllByRecursion P (xs ++ ys)
 all_both P [] ys a b = b
 all_both P (x ∷ xs) ys a b = (a.0, all_both P xs ys a.1 b)
 
@@ -141,7 +142,7 @@ among_front file (x ∷ xs) ys e = by (same_file file x) e (λ h. among_front fi
     by true e rest = refl
     by false e rest = rest e
 
-same_self : (file : Identity) → same_file file file ≡ true
+pub same_self : (file : Identity) → same_file file file ≡ true
 same_self file = grind (arith, nat_tests)
 
 among_end : (file : Identity) (xs : List Identity) → is_among file (xs ++ file ∷ []) ≡ true
@@ -152,10 +153,10 @@ among_end file (x ∷ xs) = by (same_file file x) (among_end file xs)
     by true e = refl
     by false e = e
 
-inside : (a b : Identity) → Some a ≡ Some b → a ≡ b
+pub inside : (a b : Identity) → Some a ≡ Some b → a ≡ b
 inside a b e = cc (e)
 
-same_is : (a b : Identity) → same_file a b ≡ true → a ≡ b
+pub same_is : (a b : Identity) → same_file a b ≡ true → a ≡ b
 same_is a b e = by (a.device == b.device) (a.inode == b.inode) refl refl e
   where
     by : (p q : Bool) → (a.device == b.device) ≡ p → (a.inode == b.inode) ≡ q → (p && q) ≡ true → a ≡ b
@@ -216,35 +217,6 @@ module _ (which : Which) (files : List Identity) (from : ℕ) (all : Gathered fi
 pub none_gathered : (which : Which) → Gathered [] 0 which
 none_gathered which = record { sound = tt; whole = λ n file less is. absurd (omega (arith, less)) }
 
--- ---- places in boxes
-
-module _ (which : Which) (files : List Identity) (all : Gathered files (2 ^ 64) which) (drop : ℕ) (file : Identity) (here : Some file ≡ (which (Dropped drop)).now) where
-  pub claimed_more : (done left : List ℕ) → is_among file files ≡ true → AreSorted done left which → AreSorted (done ++ drop ∷ []) left which
-  claimed_more done left among sorted = record {
-    claimed =
-        all_both (IsClaimed which) done (drop ∷ []) sorted.claimed (record { file = file; in_box = sym here; under = stands_among which files file all.sound among }, tt);
-    unclaimed = sorted.unclaimed;
-  }
-
-  pub unclaimed_more : (done left : List ℕ) → is_among file files ≡ false → AreSorted done left which → AreSorted done (left ++ drop ∷ []) which
-  unclaimed_more done left none sorted = record {
-    claimed = sorted.claimed;
-    unclaimed = all_both (IsUnclaimed which) left (drop ∷ []) sorted.unclaimed (record { under_none = λ n other less is under. by n other less is under }, tt);
-  }
-    where
-      by : (n : ℕ) (other : Identity) → n < 2 ^ 64 → (which (Dropped drop)).now ≡ Some other → (which (Claimed n)).now ≡ Some other → ⊥
-      by n other less is under =
-          let it : file ≡ other = inside file other (here ∙ is) in
-          let h : true ≡ false = sym (all.whole n other less under) ∙ subst (λ (f : Identity). is_among f files ≡ false) it none in
-          cc (h)
-
-pub none_sorted : (which : Which) → AreSorted [] [] which
-none_sorted which = record { claimed = tt; unclaimed = tt }
-
--- whoever sorted those before has sorted these
-abbrev pub Sorts : List Identity → List ℕ → List ℕ → List ℕ → List ℕ → Which → Type 0
-Sorts files done left more rest which = Gathered files (2 ^ 64) which → AreSorted done left which → AreSorted more rest which
-
 -- ---- what each call of the code comes to
 
 module _ {D : Type 0} (calls : D → List Call) where
@@ -299,42 +271,3 @@ module _ {D : Type 0} (calls : D → List Call) where
 
   pub gathers_on : (files : List Identity) (from : ℕ) (old mid new : D) → Looks calls (Gathered files from) old mid → Looks calls (λ which. Unit {0}) mid new → Looks calls (λ which. Unit {0}) old new
   gathers_on files from old mid new a b = looks_on calls (Gathered files from) Anything old mid new a b
-
-  -- ---- places
-
-  pub sorts_done : (files : List Identity) (done left : List ℕ) (drop : ℕ) (file : Identity) (found : Option Identity) (old new : D) → found ≡ Some file → is_among file files ≡ true
-      → Did calls (Looked (Dropped drop) found ∷ []) old new → Looks calls (Sorts files done left (done ++ drop ∷ []) left) old new
-  sorts_done files done left drop file found old new is among did =
-      looks_so calls (λ which. found ≡ (which (Dropped drop)).now) (Sorts files done left (done ++ drop ∷ []) left) old new
-      (λ which told all sorted. claimed_more which files all drop file (sym is ∙ told) done left among sorted) (look_one calls (Dropped drop) found old new did)
-
-  pub sorts_left : (files : List Identity) (done left : List ℕ) (drop : ℕ) (file : Identity) (found : Option Identity) (old new : D) → found ≡ Some file → is_among file files ≡ false
-      → Did calls (Looked (Dropped drop) found ∷ []) old new → Looks calls (Sorts files done left done (left ++ drop ∷ [])) old new
-  sorts_left files done left drop file found old new is none did =
-      looks_so calls (λ which. found ≡ (which (Dropped drop)).now) (Sorts files done left done (left ++ drop ∷ [])) old new
-      (λ which told all sorted. unclaimed_more which files all drop file (sym is ∙ told) done left none sorted) (look_one calls (Dropped drop) found old new did)
-
-  pub sorts_none : (files : List Identity) (done left : List ℕ) (name : Name) (found : Option Identity) (old new : D) → Did calls (Looked name found ∷ []) old new
-      → Looks calls (Sorts files done left done left) old new
-  sorts_none files done left name found old new did =
-      looks_so calls (λ which. found ≡ (which name).now) (Sorts files done left done left) old new (λ which told all sorted. sorted) (look_one calls name found old new did)
-
-  pub sorts_first : (files : List Identity) (done left : List ℕ) (old : D) → Looks calls (Sorts files done left done left) old old
-  sorts_first files done left old = looks_so calls Anything (Sorts files done left done left) old old (λ which told all sorted. sorted) (looks_none calls old old refl)
-
-  pub sorts_then : (files : List Identity) (done left more rest most last : List ℕ) (old mid new : D) → Looks calls (Sorts files done left more rest) old mid
-      → Looks calls (Sorts files more rest most last) mid new → Looks calls (Sorts files done left most last) old new
-  sorts_then files done left more rest most last old mid new a b =
-      looks_so calls (λ which. Sorts files done left more rest which × Sorts files more rest most last which) (Sorts files done left most last) old new
-      (λ which told all sorted. told.1 all (told.0 all sorted)) (looks_then calls (Sorts files done left more rest) (Sorts files more rest most last) old mid new a b)
-
-  pub sorts_on : (files : List Identity) (done left more rest : List ℕ) (old mid new : D) → Looks calls (Sorts files done left more rest) old mid → Looks calls (λ which. Unit {0}) mid new
-      → Looks calls (λ which. Unit {0}) old new
-  sorts_on files done left more rest old mid new a b = looks_on calls (Sorts files done left more rest) Anything old mid new a b
-
-  pub sorted_all : (files : List Identity) (done left more rest : List ℕ) (old mid new : D) → done ≡ [] → left ≡ [] → Looks calls (Gathered files (2 ^ 64)) old mid
-      → Looks calls (Sorts files done left more rest) mid new → Looks calls (AreSorted more rest) old new
-  sorted_all files done left more rest old mid new no_done no_left a b =
-      looks_so calls (λ which. Gathered files (2 ^ 64) which × Sorts files done left more rest which) (AreSorted more rest) old new
-      (λ which told. told.1 told.0 (subst (λ (d : List ℕ). AreSorted d left which) (sym no_done) (subst (λ (l : List ℕ). AreSorted [] l which) (sym no_left) (none_sorted which))))
-      (looks_then calls (Gathered files (2 ^ 64)) (Sorts files done left more rest) old mid new a b)

@@ -12,6 +12,7 @@ use Rattle.ledger_laws.proofs.Claiming.{after_both}
 use Rattle.ledger_run.specs.Meaning.{Step, Event, Says}
 use Rattle.ledger_run.specs.Runs.{Seen, IsOf, Stood, IsLeft, Opens, Restarts, settle_calls, answer_in}
 use Rattle.ledger_run.specs.Following.{seen_event, Takes, TakesAll, IsOfChain, with_commit, after_event}
+use Rattle.ledger_run.specs.Senders.{no_senders}
 use Rattle.ledger_run.proofs.Safety.{of_more}
 
 in_row : {A : Type 0} (xs ys zs : List A) → (xs ++ ys) ++ zs ≡ xs ++ (ys ++ zs)
@@ -35,7 +36,7 @@ takes_more step texts text seen behind mid mid_behind last last_behind all one =
       subst (IsOfChain last last_behind step) (in_row front texts (text ∷ []))
       (subst (λ (s : Seen). IsOfChain s last_behind step ((front ++ texts) ++ text ∷ [])) (sym one.ledger)
       (subst (λ (b : List (List ℕ)). IsOfChain (with_commit (digest_of text) (after_event one.event mid)) b step ((front ++ texts) ++ text ∷ [])) (sym one.machine)
-      record { events = before.events ++ seen_event one.event ∷ []; is = of_more step mid mid_behind (front ++ texts) before.events one.event text before.is one.is }));
+      record { events = before.events ++ seen_event one.event ∷ []; is = of_more step mid mid_behind (front ++ texts) before.events one.event text before.is one.is one.sent }));
 }
 
 pub next_text : {A : Type 0} (xs : List A) (f : A → List ℕ) (i : ℕ) (x : A) (bytes : List ℕ) → i < length xs → x ≡ get_or xs i x → bytes ≡ f x
@@ -95,10 +96,10 @@ opened calls step old mid new most commits start seen behind is did reads empty 
 }
 
 -- the ledger in memory before any commit
-pub no_commits : (step : Step) (seen : Seen) → seen ≡ record { waiting = []; owed = []; next = 0; commits = 0; last = [] } → IsOfChain seen [] step []
+pub no_commits : (step : Step) (seen : Seen) → seen ≡ record { waiting = []; owed = []; next = 0; commits = 0; last = []; senders = no_senders } → IsOfChain seen [] step []
 no_commits step seen is = subst (λ (s : Seen). IsOfChain s [] step []) (sym is) record {
   events = [];
-  is = record { commits = refl; last = refl; says = tt; kept = record { state = refl; waiting = refl; next = refl; given = []; answers = refl } };
+  is = record { commits = refl; last = refl; says = tt; kept = record { state = refl; waiting = refl; next = refl; given = []; answers = refl }; senders = refl };
 }
 
 -- ---- the next run

@@ -14,7 +14,7 @@ use Rattle.ledger_run.specs.Passes.{take_acts, AreAside, AreSole, PassIsCareful}
 
 -- ---- calls, and then more
 
-calls_then : (cs : List Call) (ys : List Act) (time number : ℕ) (taken : List ℕ) (which : Which) → AreCareful time number taken which (map Calls cs)
+pub calls_then : (cs : List Call) (ys : List Act) (time number : ℕ) (taken : List ℕ) (which : Which) → AreCareful time number taken which (map Calls cs)
     → ((t : ℕ) (w : Which) → w ≡ which_behind time cs which → AreCareful t number taken w ys) → AreCareful time number taken which (map Calls cs ++ ys)
 calls_then [] ys time number taken which careful later = later time which refl
 calls_then (c ∷ cs) ys time number taken which careful later =

@@ -19,7 +19,8 @@ use Rattle.ledger_run.specs.declared.event.Event.{Event as Made}
 use Rattle.ledger_run.specs.declared.event.Event.TheVariants as code
 use Rattle.ledger_run.specs.Meaning.{Step, Event, State, machine_of, event_behind, Says, end_of}
 use Rattle.ledger_run.specs.Runs.{Seen, IsKept, IsOf, Stood, IsSafe, AreSafe, IsOpen, GoesOnFrom, SafeFrom, CarriesOn, state_of, answer_in}
-use Rattle.ledger_run.specs.Following.{seen_event, first_number, may_follow, Tells, after_event, changed_by, with_commit}
+use Rattle.ledger_run.specs.Following.{seen_event, event_sent, first_number, may_follow, Tells, after_event, changed_by, with_commit}
+use Rattle.ledger_run.specs.Senders.{Sent, Senders, no_senders, after_sent, sent_in, senders_behind, senders_of}
 use Rattle.ledger_run.proofs.Planned.{taken_twice}
 use Rattle.ledger_run.proofs.Keeping.{becomes, follows, says_more, end_more, state_more, honest_more, answer_more}
 
@@ -115,8 +116,8 @@ module _ (step : Step) (chain : List (List ℕ)) (events : List Event) (disk : D
   }
 
 same_commits : (event : Made) (seen : Seen) → (after_event event seen).commits ≡ seen.commits
-same_commits (code.Took n text) seen = refl
-same_commits (code.Refused n reply) seen = refl
+same_commits (code.Took file text) seen = refl
+same_commits (code.Refused file reply) seen = refl
 same_commits (code.Ran n printout change) seen = refl
 same_commits (code.Dropped n reply) seen = refl
 same_commits (code.Edited change) seen = refl
@@ -129,17 +130,33 @@ one_commit event text seen new_seen is = ap (λ (s : Seen). s.commits) is ∙ ap
 of_commit : (text : List ℕ) (seen : Seen) (behind : List (List ℕ)) (kept : State) → IsKept seen behind kept → IsKept (with_commit (digest_of text) seen) behind kept
 of_commit text seen behind kept is = record { state = is.state; waiting = is.waiting; next = is.next; given = is.given; answers = is.answers }
 
+same_sent : (event : Made) (seen : Seen) → (after_event event seen).senders ≡ after_sent (event_sent event) seen.senders
+same_sent (code.Took file text) seen = refl
+same_sent (code.Refused file reply) seen = refl
+same_sent (code.Ran n printout change) seen = refl
+same_sent (code.Dropped n reply) seen = refl
+same_sent (code.Edited change) seen = refl
+same_sent code.Gave seen = refl
+same_sent code.Noted seen = refl
+
+senders_more : (chain : List (List ℕ)) (text : List ℕ) (senders : Senders) → senders_behind (chain ++ text ∷ []) senders ≡ after_sent (sent_in (commit_of text)) (senders_behind chain senders)
+senders_more [] text senders = refl
+senders_more (t ∷ chain) text senders = senders_more chain text (after_sent (sent_in (commit_of t)) senders)
+
 -- the ledger in memory, with one commit more
 pub of_more : (step : Step) (seen : Seen) (behind : List (List ℕ)) (chain : List (List ℕ)) (events : List Event) (event : Made) (text : List ℕ) → IsOf seen behind step chain events
-    → event_behind seen.last (commit_of text) ≡ Some (seen_event event)
+    → event_behind seen.last (commit_of text) ≡ Some (seen_event event) → event_sent event ≡ sent_in (commit_of text)
     → IsOf (with_commit (digest_of text) (after_event event seen)) (changed_by event behind) step (chain ++ text ∷ []) (events ++ seen_event event ∷ [])
-of_more step seen behind chain events event text is one = record {
+of_more step seen behind chain events event text is one sent = record {
   commits = ap suc (same_commits event seen) ∙ ap suc is.commits ∙ sym (length_more chain text);
   last = sym (end_more [] chain text);
   says = says_more [] chain events text (seen_event event) is.says (subst (λ (last : List ℕ). event_behind last (commit_of text) ≡ Some (seen_event event)) is.last one);
   kept = of_commit text (after_event event seen) (changed_by event behind) (state_of step (events ++ seen_event event ∷ []))
       (subst (λ (s : State). IsKept (after_event event seen) (changed_by event behind) s) (sym (state_more step events (seen_event event)))
       (becomes step event seen behind (state_of step events) is.kept));
+  senders =
+      same_sent event seen ∙ ap (after_sent (event_sent event)) is.senders ∙ ap (λ (s : Sent). after_sent s (senders_of chain)) sent
+      ∙ sym (senders_more chain text no_senders);
 }
 
 -- ---- over any disk
@@ -192,14 +209,14 @@ module _ {D : Type 0} (calls : D → List Call) (step : Step) where
       };
     }
 
-    pub commit_carries_on : Did calls (commit_calls seen.commits text) old new
+    pub commit_carries_on : event_sent event ≡ sent_in (commit_of text) → Did calls (commit_calls seen.commits text) old new
         → CarriesOn calls step seen behind (with_commit (digest_of text) (after_event event seen)) (changed_by event behind) old new
-    commit_carries_on did = record {
+    commit_carries_on sent did = record {
       on = λ first chain site. record {
         more = text ∷ [];
         is = record {
           events = site.events ++ seen_event event ∷ [];
-          is = of_more step seen behind chain site.events event text site.is (is ∙ one);
+          is = of_more step seen behind chain site.events event text site.is (is ∙ one) sent;
           stood = subst (λ (d : Disk). Stood step (chain ++ text ∷ []) (site.events ++ seen_event event ∷ []) d)
               (sym (ap (λ (l : List Call). after_all l first) (did.all ∙ ap (λ (l : List Call). calls old ++ l) (count first chain site)) ∙ after_both (calls old) (commit_calls (length chain) text) first))
               (commit_stood step chain site.events (after_all (calls old) first) text (seen_event event) site.is.says site.stood (here first chain site) (follow first chain site));

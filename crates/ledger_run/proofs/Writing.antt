@@ -1,5 +1,5 @@
 -- A commit is read as it was written.
-use Rattle.std.proofs.Common.{◌≡◌, ◌<◌, ◌≤◌, ◌^◌, ℕ, suc, ◌+◌, Bool, List, [], ◌∷◌, ◌++◌, length, None, refl, ap, ◌∙◌, subst, arith}
+use Rattle.std.proofs.Common.{◌≡◌, ◌<◌, ◌≤◌, ◌^◌, ℕ, suc, ◌+◌, Bool, List, [], ◌∷◌, ◌++◌, length, Some, None, refl, ap, ◌∙◌, subst, arith}
 use Rattle.std.specs.Prelude.{if◌then◌else◌, decimal}
 use Rattle.std.specs.List.{AllByRecursion}
 use Rattle.std.specs.Option.{option_and_then}
@@ -8,6 +8,7 @@ use Rattle.std.proofs.lemmas.Slice.Eq.{bytes_eq-Decides}
 use Rattle.ledger_text.specs.Text.{field_text, fields_text, commit_text, commit_of, AreShort, ReadsBack}
 use Rattle.ledger_text.specs.Records.{Said, fields_of, numbers_of, ReadsRecords}
 use Rattle.ledger_run.specs.Meaning.{event_of, event_in, event_behind, timed_event}
+use Rattle.ledger_run.specs.Senders.{sent_by, sent_of, sent_head, sent_in}
 
 -- ---- what is short as a whole is so in its parts
 
@@ -27,7 +28,7 @@ few_in [] = omega arith
 few_in (field ∷ fields) =
     let a = length-append (field_text field) (fields_text fields) in let b = field_in field in let h = few_in fields in omega (arith, a, b, h)
 
-short : (fields : List (List ℕ)) → length (commit_text fields) < 2 ^ 63 → AreShort fields
+pub short : (fields : List (List ℕ)) → length (commit_text fields) < 2 ^ 63 → AreShort fields
 short fields less =
     let a = length-append (decimal (length fields)) (10 ∷ fields_text fields) in let b = few_in fields in
     (omega (arith, a, b, less), short_in (2 ^ 63) fields (omega (arith, a, less)))
@@ -40,17 +41,27 @@ second_in one field fields =
 
 -- ---- a commit
 
-pub written : (reads_back : ReadsBack) (reads_records : ReadsRecords) (before : List ℕ) (time : ℕ) (said : Said) (change head text : List ℕ) → head ≡ commit_text (fields_of time said) → text ≡ commit_text (before ∷ head ∷ change ∷ [])
-    → length text < 2 ^ 63 → time < 2 ^ 63 → AllByRecursion (λ n. n < 2 ^ 63) (numbers_of said) → event_behind before (commit_of text) ≡ event_of said change
-written reads_back reads_records before time said change head text is_head is_text less early small =
-    ap (λ (t : List ℕ). event_behind before (commit_of t)) is_text ∙ ap (event_behind before) (reads_back (before ∷ head ∷ change ∷ []) (short (before ∷ head ∷ change ∷ []) whole))
-    ∙ ap (λ (b : Bool). if b then event_in change (commit_of head) else None) ((bytes_eq-Decides before before).1 refl)
-    ∙ ap (λ (h : List ℕ). event_in change (commit_of h)) is_head
-    ∙ ap (event_in change) (reads_back (fields_of time said) (short (fields_of time said) inner))
-    ∙ ap (option_and_then (timed_event change)) (reads_records time said early small)
-  where
-    whole : length (commit_text (before ∷ head ∷ change ∷ [])) < 2 ^ 63
-    whole = subst (λ (t : List ℕ). length t < 2 ^ 63) is_text less
+-- what a record's text is, and its commit's
+module _ (reads_back : ReadsBack) (reads_records : ReadsRecords) (before : List ℕ) (time : ℕ) (said : Said) (change head text : List ℕ) (is_head : head ≡ commit_text (fields_of time said))
+    (is_text : text ≡ commit_text (before ∷ head ∷ change ∷ [])) (less : length text < 2 ^ 63) (early : time < 2 ^ 63) (small : AllByRecursion (λ n. n < 2 ^ 63) (numbers_of said)) where
+  whole : length (commit_text (before ∷ head ∷ change ∷ [])) < 2 ^ 63
+  whole = subst (λ (t : List ℕ). length t < 2 ^ 63) is_text less
 
-    inner : length (commit_text (fields_of time said)) < 2 ^ 63
-    inner = let h : length head < 2 ^ 63 = (let a = second_in before head (change ∷ []) in omega (arith, a, whole)) in subst (λ (t : List ℕ). length t < 2 ^ 63) is_head h
+  inner : length (commit_text (fields_of time said)) < 2 ^ 63
+  inner = let h : length head < 2 ^ 63 = (let a = second_in before head (change ∷ []) in omega (arith, a, whole)) in subst (λ (t : List ℕ). length t < 2 ^ 63) is_head h
+
+  is_commit : commit_of text ≡ Some (before ∷ head ∷ change ∷ [])
+  is_commit = ap commit_of is_text ∙ reads_back (before ∷ head ∷ change ∷ []) (short (before ∷ head ∷ change ∷ []) whole)
+
+  is_record : commit_of head ≡ Some (fields_of time said)
+  is_record = ap commit_of is_head ∙ reads_back (fields_of time said) (short (fields_of time said) inner)
+
+  pub written : event_behind before (commit_of text) ≡ event_of said change
+  written =
+      ap (event_behind before) is_commit
+      ∙ ap (λ (b : Bool). if b then event_in change (commit_of head) else None) ((bytes_eq-Decides before before).1 refl)
+      ∙ ap (event_in change) is_record
+      ∙ ap (option_and_then (timed_event change)) (reads_records time said early small)
+
+  pub sent_written : sent_in (commit_of text) ≡ sent_by said
+  sent_written = ap sent_in is_commit ∙ ap sent_head is_record ∙ ap sent_of (reads_records time said early small)

@@ -1,11 +1,12 @@
 -- How claims that a crash left half done are finished (own): what stands under a number leaves its box.
-use Rattle.std.specs.Prelude.{◌≡◌, ◌<◌, ◌^◌, ℕ, ◌+◌, Bool, true, false, ◌==◌, ◌&&◌, if◌then◌else◌, List, [], ◌∷◌, ◌++◌, map, Option, None, Some}
+use Rattle.std.specs.Prelude.{◌≡◌, ◌<◌, ◌^◌, ℕ, ◌+◌, Bool, true, false, List, [], ◌∷◌, ◌++◌, map, Option, None, Some}
 use Rattle.std.specs.List.{AllByRecursion}
 use Rattle.ledger_disk.specs.declared.identity.Identity.{Identity}
 use Rattle.ledger_disk.specs.declared.name.Folder.TheVariants.{Boxes}
 use Rattle.ledger_disk.specs.declared.name.Name.TheVariants.{Dropped, Claimed}
-use Rattle.ledger_disk.specs.Disks.{Which, Call, Looked, Next, SyncFolder, LooksAreTrue, IsNext, which_behind}
+use Rattle.ledger_disk.specs.Disks.{Which, Call, Looked, Next, SyncFolder, LooksAreTrue, IsNext, IsAmong, which_behind}
 use Rattle.ledger_disk.specs.Plans.{Did, Began}
+use Rattle.ledger_names.specs.Sorting.{is_among}
 use Rattle.ledger_laws.specs.Claims.{removals}
 use Rattle.ledger_laws.specs.Places.{Calls, AreCareful}
 
@@ -14,14 +15,6 @@ abbrev pub is_look : Call → Bool
 is_look (Looked name found) = true
 is_look (Next from found) = true
 is_look call = false
-
--- whether a file is one of these
-abbrev pub same_file : Identity → Identity → Bool
-same_file a b = (a.device == b.device) && (a.inode == b.inode)
-
-abbrev pub is_among : Identity → List Identity → Bool
-is_among file [] = false
-is_among file (one ∷ files) = if same_file file one then true else is_among file files
 
 -- Nothing was done but looking. If all looks so far told what was there, this holds of what was there.
 pub record Looks {D : Type 0} (calls : D → List Call) (P : Which → Type 0) (old new : D) : Type 0 where
@@ -59,10 +52,26 @@ pub record IsClaimed (which : Which) (drop : ℕ) : Type 0 where
 pub record IsUnclaimed (which : Which) (drop : ℕ) : Type 0 where
   pub under_none : (n : ℕ) (file : Identity) → n < 2 ^ 64 → (which (Dropped drop)).now ≡ Some file → (which (Claimed n)).now ≡ Some file → ⊥
 
--- those of the first places stand under numbers, those of the others do not
-pub record AreSorted (done left : List ℕ) (which : Which) : Type 0 where
+-- It can be claimed: it stands under no number, and under no other of these places, which are those of all names in boxes.
+pub record IsFit (drops : List ℕ) (which : Which) (drop : ℕ) : Type 0 where
+  pub among : IsAmong drop drops
+  pub file : Identity
+  pub in_box : (which (Dropped drop)).now ≡ Some file
+  pub under_none : (n : ℕ) → n < 2 ^ 64 → (which (Claimed n)).now ≡ Some file → ⊥
+  pub sole : (d : ℕ) → IsAmong d drops → (which (Dropped d)).now ≡ Some file → d ≡ drop
+
+-- each of these once
+abbrev pub AreOnce : List ℕ → Type 0
+AreOnce [] = Unit {0}
+AreOnce (x ∷ xs) = (IsAmong x xs → ⊥) × AreOnce xs
+
+-- Of these places, some have files that stand under numbers. Others can be claimed, no two of them one file. A file that stands in
+-- boxes under several names is passed over.
+pub record AreSorted (drops done left : List ℕ) (which : Which) : Type 0 where
   pub claimed : AllByRecursion (IsClaimed which) done
-  pub unclaimed : AllByRecursion (IsUnclaimed which) left
+  pub fit : AllByRecursion (IsFit drops which) left
+  pub once : AreOnce left
+  pub apart : AllByRecursion (λ drop. IsAmong drop done → ⊥) left
 
 -- what leaves the boxes, and is brought to the disk
 abbrev pub leave_calls : List ℕ → List Call
@@ -76,15 +85,20 @@ pub record Leaves {D : Type 0} (calls : D → List Call) (old new : D) : Type 0 
   pub began : Began calls (leave_calls done) mid new
 
 -- it left its box; what is left there stands under none
-pub record Finishes {D : Type 0} (calls : D → List Call) (left : List ℕ) (old new : D) : Type 0 where
+pub record Finishes {D : Type 0} (calls : D → List Call) (drops left : List ℕ) (old new : D) : Type 0 where
   pub done : List ℕ
   pub mid : D
-  pub looks : Looks calls (AreSorted done left) old mid
+  pub looks : Looks calls (AreSorted drops done left) old mid
   pub did : Did calls (leave_calls done) mid new
 
 -- if all looks told what was there: what is left in the boxes stands under no number
 pub record LeavesNone {D : Type 0} (calls : D → List Call) (left : List ℕ) (new : D) : Type 0 where
   pub none : (first : Which) → LooksAreTrue 0 (calls new) first → AllByRecursion (IsUnclaimed (which_behind 0 (calls new) first)) left
+
+-- and can be claimed
+pub record LeavesFit {D : Type 0} (calls : D → List Call) (drops left : List ℕ) (new : D) : Type 0 where
+  pub fit : (first : Which) → LooksAreTrue 0 (calls new) first → AllByRecursion (IsFit drops (which_behind 0 (calls new) first)) left
+  pub once : (first : Which) → LooksAreTrue 0 (calls new) first → AreOnce left
 
 -- where the numbers are on the disk, finishing claims loses no file and gives none a second number
 abbrev pub FinishesCarefully : Type 0

@@ -10,16 +10,27 @@ use Rattle.ledger_text.specs.Records.{Said}
 use Rattle.ledger_text.specs.Text.{commit_of}
 use Rattle.ledger_text.specs.Digests.{digest_of}
 use Rattle.ledger_run.specs.Runs.{Seen, IsKept, IsOf}
+use Rattle.ledger_run.specs.Senders.{Sender, Sent, Waits, Answered, First, Given, Nothing, sender_of, after_sent, sent_in}
 
 -- what an event of the code says
 abbrev pub seen_event : Made → Event
-seen_event (code.Took n text) = course.Took n text.now
-seen_event (code.Refused n reply) = course.Refused n reply.now
+seen_event (code.Took file text) = course.Took file.number text.now
+seen_event (code.Refused file reply) = course.Refused file.number reply.now
 seen_event (code.Ran n printout change) = course.Ran n printout.now change.now
 seen_event (code.Dropped n reply) = course.Dropped n reply.now
 seen_event (code.Edited change) = course.Edited change.now
 seen_event code.Gave = course.Noted
 seen_event code.Noted = course.Noted
+
+-- and of whom
+abbrev pub event_sent : Made → Sent
+event_sent (code.Took file text) = Waits file.number (sender_of file)
+event_sent (code.Refused file reply) = Answered file.number (sender_of file)
+event_sent (code.Ran n printout change) = First
+event_sent (code.Dropped n reply) = First
+event_sent (code.Edited change) = Nothing
+event_sent code.Gave = Given
+event_sent code.Noted = Nothing
 
 -- the number of the first text that waits
 abbrev pub first_number : List (ℕ × List ℕ) → Option ℕ
@@ -74,36 +85,72 @@ runs (said.Edit who act) = false
 
 -- ---- what the ledger in memory and the machine have behind it
 
-abbrev pub with_text : ℕ → List ℕ → Seen → Seen
-with_text n text seen = record { waiting = seen.waiting ++ (n, text) ∷ []; owed = seen.owed; next = suc n; commits = seen.commits; last = seen.last }
+abbrev pub with_text : ℕ → Sender → List ℕ → Seen → Seen
+with_text n sender text seen = record {
+  waiting = seen.waiting ++ (n, text) ∷ [];
+  owed = seen.owed;
+  next = suc n;
+  commits = seen.commits;
+  last = seen.last;
+  senders = after_sent (Waits n sender) seen.senders;
+}
 
-abbrev pub with_answer : ℕ → List ℕ → Seen → Seen
-with_answer n reply seen = record { waiting = seen.waiting; owed = seen.owed ++ (n, reply) ∷ []; next = seen.next; commits = seen.commits; last = seen.last }
+abbrev pub with_answer : ℕ → Sender → List ℕ → Seen → Seen
+with_answer n sender reply seen = record {
+  waiting = seen.waiting;
+  owed = seen.owed ++ (n, reply) ∷ [];
+  next = seen.next;
+  commits = seen.commits;
+  last = seen.last;
+  senders = after_sent (Answered n sender) seen.senders;
+}
 
 abbrev pub with_next : ℕ → Seen → Seen
-with_next n seen = record { waiting = seen.waiting; owed = seen.owed; next = suc n; commits = seen.commits; last = seen.last }
+with_next n seen = record { waiting = seen.waiting; owed = seen.owed; next = suc n; commits = seen.commits; last = seen.last; senders = seen.senders }
 
-abbrev pub without_first : Seen → Seen
-without_first seen = record { waiting = behind_first seen.waiting; owed = seen.owed; next = seen.next; commits = seen.commits; last = seen.last }
+-- the first text that waits, which has this number, is answered
+abbrev pub first_answered : ℕ → List ℕ → Seen → Seen
+first_answered n reply seen = record {
+  waiting = behind_first seen.waiting;
+  owed = seen.owed ++ (n, reply) ∷ [];
+  next = seen.next;
+  commits = seen.commits;
+  last = seen.last;
+  senders = after_sent First seen.senders;
+}
 
 abbrev pub without_owed : Seen → Seen
-without_owed seen = record { waiting = seen.waiting; owed = []; next = seen.next; commits = seen.commits; last = seen.last }
+without_owed seen = record {
+  waiting = seen.waiting;
+  owed = [];
+  next = seen.next;
+  commits = seen.commits;
+  last = seen.last;
+  senders = after_sent Given seen.senders;
+}
 
 abbrev pub with_commit : List ℕ → Seen → Seen
-with_commit digest seen = record { waiting = seen.waiting; owed = seen.owed; next = seen.next; commits = suc seen.commits; last = digest }
+with_commit digest seen = record {
+  waiting = seen.waiting;
+  owed = seen.owed;
+  next = seen.next;
+  commits = suc seen.commits;
+  last = digest;
+  senders = seen.senders;
+}
 
 abbrev pub after_event : Made → Seen → Seen
-after_event (code.Took n text) seen = with_text n text.now seen
-after_event (code.Refused n reply) seen = with_answer n reply.now (with_next n seen)
-after_event (code.Ran n printout change) seen = with_answer n printout.now (without_first seen)
-after_event (code.Dropped n reply) seen = with_answer n reply.now (without_first seen)
+after_event (code.Took file text) seen = with_text file.number (sender_of file) text.now seen
+after_event (code.Refused file reply) seen = with_answer file.number (sender_of file) reply.now (with_next file.number seen)
+after_event (code.Ran n printout change) seen = first_answered n printout.now seen
+after_event (code.Dropped n reply) seen = first_answered n reply.now seen
 after_event (code.Edited change) seen = seen
 after_event code.Gave seen = without_owed seen
 after_event code.Noted seen = seen
 
 abbrev pub changed_by : Made → List (List ℕ) → List (List ℕ)
-changed_by (code.Took n text) behind = behind
-changed_by (code.Refused n reply) behind = behind
+changed_by (code.Took file text) behind = behind
+changed_by (code.Refused file reply) behind = behind
 changed_by (code.Ran n printout change) behind = behind ++ change.now ∷ []
 changed_by (code.Dropped n reply) behind = behind
 changed_by (code.Edited change) behind = behind ++ change.now ∷ []
@@ -117,6 +164,7 @@ pub record Takes (text : List ℕ) (seen : Seen) (behind : List (List ℕ)) (new
   pub event : Made
   pub may : may_follow seen.next (first_number seen.waiting) (seen_event event) ≡ true
   pub is : event_behind seen.last (commit_of text) ≡ Some (seen_event event)
+  pub sent : event_sent event ≡ sent_in (commit_of text)
   pub ledger : new_seen ≡ with_commit (digest_of text) (after_event event seen)
   pub machine : new_behind ≡ changed_by event behind
 

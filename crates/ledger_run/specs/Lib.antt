@@ -1,9 +1,11 @@
 pub mod Moments
 pub mod Owing
+pub mod Senders
 pub mod Meaning
 pub mod Runs
 pub mod Following
 pub mod Finishing
+pub mod Sorting
 pub mod Claiming
-pub mod Naming
 pub mod Passes
+pub mod Attempts

@@ -10,10 +10,19 @@ use Rattle.ledger_run.specs.declared.ledger.Ledger.{Ledger}
 use Rattle.ledger_run.specs.declared.ledger.Waiting.{Waiting}
 use Rattle.ledger_run.specs.Meaning.{Step, machine_of, Event, State, start, Says, end_of, answer_among}
 use Rattle.ledger_run.specs.Owing.{owed_as}
+use Rattle.ledger_run.specs.declared.answers.Owed.{Owed}
+use Rattle.ledger_run.specs.Senders.{Sender, Senders, seen_sender, senders_of}
 
 -- a text that waits, with its number
 abbrev pub waits_as : Waiting → ℕ × List ℕ
 waits_as waiting = (waiting.number, waiting.text.items)
+
+-- whose it is, and whose an answer is that is owed
+abbrev pub waits_for : Waiting → ℕ × Sender
+waits_for waiting = (waiting.number, seen_sender waiting.sender)
+
+abbrev pub owed_to : Owed → ℕ × Sender
+owed_to owed = (owed.number, seen_sender owed.sender)
 
 -- the ledger in memory
 pub record Seen : Type 0 where
@@ -22,6 +31,7 @@ pub record Seen : Type 0 where
   pub next : ℕ
   pub commits : ℕ
   pub last : List ℕ
+  pub senders : Senders
 
 abbrev pub seen_ledger : Ledger → Seen
 seen_ledger ledger = record {
@@ -30,6 +40,7 @@ seen_ledger ledger = record {
   next = ledger.next;
   commits = ledger.commits;
   last = ledger.last.items;
+  senders = record { waiting = map waits_for ledger.waiting.items; owed = map owed_to ledger.owed.items };
 }
 
 -- what it and the machine have is what the commits come to; of the answers, those behind some that were given
@@ -54,6 +65,7 @@ pub record IsOf (seen : Seen) (behind : List (List ℕ)) (step : Step) (chain : 
   pub last : seen.last ≡ end_of [] chain
   pub says : Says [] chain events
   pub kept : IsKept seen behind (state_of step events)
+  pub senders : seen.senders ≡ senders_of chain
 
 -- Each text ran once, over what the texts before it left; the ledger is on the disk; an answer's name has nothing or that answer.
 pub record Stood (step : Step) (chain : List (List ℕ)) (events : List Event) (disk : Disk) : Type 0 where

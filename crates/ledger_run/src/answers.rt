@@ -7,6 +7,7 @@ ghost use Rattle.ledger_laws.specs.Answers.{deliver_calls};
 ghost use Rattle.ledger_run.specs.Moments.{AnswersEach};
 ghost use Rattle.ledger_run.specs.Owing.{owed_as};
 
+use crate::Sender;
 use ledger_disk::{Disk, DiskError, Folder, Name};
 
 /// An answer that is to be put.
@@ -16,6 +17,8 @@ pub struct Owed {
     pub number: u64,
     /// The answer.
     pub bytes: Vec<u8>,
+    /// Whose the text was.
+    pub sender: Sender,
 }
 
 // Puts an answer whole: its name is brought to the disk later.

@@ -4,10 +4,11 @@ ghost use Rattle.std.specs.List.{AllByRecursion};
 ghost use Rattle.ledger_text.specs.Text.{commit_of};
 ghost use Rattle.ledger_text.specs.Records.{seen, numbers_of};
 ghost use Rattle.ledger_run.specs.Meaning.{event_of, event_in, event_behind};
-ghost use Rattle.ledger_run.specs.Following.{seen_event};
+ghost use Rattle.ledger_run.specs.Following.{seen_event, event_sent};
+ghost use Rattle.ledger_run.specs.Senders.{sent_by, sent_head, sent_in};
 
 use ledger_text::laws::{reads_back, reads_records};
-use ledger_text::{Entry, Record, commit_text, read_commit, read_record, record_text};
+use ledger_text::{Claimed, Entry, Record, commit_text, read_commit, read_record, record_text};
 use std::alloc::{AllocError, Global};
 
 // Lengths and numbers that are read as they were written are below this one.
@@ -16,10 +17,10 @@ const LIMIT: u64 = 1 << 63;
 /// What a commit says of the texts.
 #[derive(Clone, Copy)]
 pub(crate) enum Event<'a> {
-    /// A text was taken, under this number.
-    Took(u64, &'a [u8]),
+    /// A text was taken.
+    Took(Claimed<'a>, &'a [u8]),
     /// A file was refused, with this reply.
-    Refused(u64, &'a [u8]),
+    Refused(Claimed<'a>, &'a [u8]),
     /// The first text that waits ran: what it printed and changed.
     Ran(u64, &'a [u8], &'a [u8]),
     /// It was dropped, with this reply.
@@ -38,7 +39,8 @@ pub(crate) fn read_event<'a>(
     before: &[u8],
     text: &'a [u8],
 ) -> Result<Option<Event<'a>>, AllocError>
-    ensures { IfOk result (λ found. option_map seen_event found ≡ event_behind before.now (commit_of text.now)) }
+    ensures says { IfOk result (λ found. option_map seen_event found ≡ event_behind before.now (commit_of text.now)) }
+    ensures sent { IfOk result (λ found. IfSome found (λ event. event_sent event ≡ sent_in (commit_of text.now))) }
 {
     let Some(fields) = read_commit(alloc, text)? else {
         return Ok(None);
@@ -54,7 +56,8 @@ fn read_head<'a>(
     head: &'a [u8],
     change: &'a [u8],
 ) -> Result<Option<Event<'a>>, AllocError>
-    ensures { IfOk result (λ found. option_map seen_event found ≡ event_in change.now (commit_of head.now)) }
+    ensures says { IfOk result (λ found. option_map seen_event found ≡ event_in change.now (commit_of head.now)) }
+    ensures sent { IfOk result (λ found. IfSome found (λ event. event_sent event ≡ sent_head (commit_of head.now))) }
 {
     let Some(fields) = read_commit(alloc, head)? else {
         return Ok(None);
@@ -67,11 +70,12 @@ fn read_head<'a>(
 
 // What a record says with this change.
 pub(crate) fn said_event<'a>(said: Record<'a>, change: &'a [u8]) -> Option<Event<'a>>
-    ensures { option_map seen_event result ≡ event_of (seen said.entry) change.now }
+    ensures says { option_map seen_event result ≡ event_of (seen said.entry) change.now }
+    ensures sent { IfSome result (λ event. event_sent event ≡ sent_by (seen said.entry)) }
 {
     match said {
-        Record::Took(file, text) => Some(Event::Took(file.number, text)),
-        Record::Refused(file, reply) => Some(Event::Refused(file.number, reply)),
+        Record::Took(file, text) => Some(Event::Took(file, text)),
+        Record::Refused(file, reply) => Some(Event::Refused(file, reply)),
         Record::Ran(number, printout) => Some(Event::Ran(number, printout, change)),
         Record::Dropped(number, _, reply) => Some(Event::Dropped(number, reply)),
         Record::Edit(_, _) => Some(Event::Edited(change)),
@@ -109,8 +113,9 @@ pub(crate) fn event_text(
     entry: Entry<'_>,
     change: &[u8],
 ) -> Result<Option<Vec<u8>>, AllocError>
-    ensures { IfOk result (λ found. IfSome found (λ text.
+    ensures says { IfOk result (λ found. IfSome found (λ text.
         event_behind before.now (commit_of text.items) ≡ event_of (seen entry.entry.«record») change.now)) }
+    ensures sent { IfOk result (λ found. IfSome found (λ text. sent_in (commit_of text.items) ≡ sent_by (seen entry.entry.«record»))) }
 {
     if entry.time >= LIMIT {
         return Ok(None);

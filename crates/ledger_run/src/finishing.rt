@@ -1,10 +1,12 @@
 //! How claims that a crash left half done are finished: a file that stands under a number leaves its box.
-ghost use Rattle.std.specs.Prelude.{◌≡◌, ◌+◌, ◌^◌, [], IfOk, OnOk, OnErr};
+ghost use Rattle.std.specs.Prelude.{◌≡◌, ◌+◌, ◌^◌, IfOk, OnOk, OnErr};
 ghost use Rattle.ledger_run.specs.Claiming.{DidSome, BeganSome};
-ghost use Rattle.ledger_run.specs.Finishing.{Looks, Adds, Gathered, bound, AreSorted, same_file, is_among, leave_calls, Leaves, Finishes};
+ghost use Rattle.ledger_run.specs.Finishing.{Looks, Adds, Gathered, bound, AreSorted, leave_calls, Leaves, Finishes};
+ghost use Rattle.ledger_run.specs.Sorting.{AreSeen, SeesOne};
 
 use crate::claims::remove_each;
 use ledger_disk::{Disk, DiskError, Folder, Identity, Name};
+use ledger_names::{Boxed, Sorted, sort_boxed};
 use std::alloc::Global;
 
 // The file of this number is one of these from here on.
@@ -64,81 +66,41 @@ fn claimed_files<D: Disk>(alloc: Global, disk: &mut D) -> Result<Vec<Identity>, 
     Err(DiskError::Failed)
 }
 
-fn same_file(file: Identity, one: Identity) -> bool
-    ensures { result ≡ same_file file one }
+// The file in a box at this place is one of these from here on, if one is there.
+fn see_drop<D: Disk>(disk: &mut D, drop: u64, boxed: &mut Vec<Boxed>) -> Result<(), DiskError>
+    ensures err { OnErr result (Looks D.calls (λ which. Unit {0}) disk.old disk.new) }
+    ensures ok { OnOk result (Looks D.calls (SeesOne drop boxed.old.items boxed.new.items) disk.old disk.new) }
 {
-    file.device == one.device && file.inode == one.inode
-}
-
-// Whether a file is one of these.
-fn is_among(files: &[Identity], file: Identity) -> bool
-    ensures { result ≡ is_among file files.now }
-{
-    for index in 0..files.len() {
-        if same_file(file, files[index]) {
-            return true;
+    match disk.look(Name::Dropped(drop))? {
+        Some(file) => {
+            boxed.push(Boxed { drop, file })?;
+            Ok(())
         }
+        None => Ok(()),
     }
-    false
 }
 
-// The place of a file in a box is among the first from here on if the file stands under a number, and else among the others; among none
-// where no file is there.
-fn sort_drop<D: Disk>(
-    disk: &mut D,
-    drop: u64,
-    files: &[Identity],
-    done: &mut Vec<u64>,
-    left: &mut Vec<u64>,
-) -> Result<(), DiskError>
+// The files in boxes at these places.
+fn see_drops<D: Disk>(alloc: Global, disk: &mut D, drops: &[u64]) -> Result<Vec<Boxed>, DiskError>
     ensures err { OnErr result (Looks D.calls (λ which. Unit {0}) disk.old disk.new) }
-    ensures ok { OnOk result (Looks D.calls (λ which. Gathered files.now (2 ^ 64) which → AreSorted done.old.items left.old.items which
-        → AreSorted done.new.items left.new.items which) disk.old disk.new) }
+    ensures ok { IfOk result (λ boxed. Looks D.calls (AreSeen drops.now boxed.items) disk.old disk.new) }
 {
-    let Some(file) = disk.look(Name::Dropped(drop))? else {
-        return Ok(());
-    };
-    if is_among(files, file) {
-        done.push(drop)?;
-        return Ok(());
-    }
-    left.push(drop)?;
-    Ok(())
-}
-
-// The places of these files, sorted so.
-fn sort_drops<D: Disk>(
-    disk: &mut D,
-    drops: &[u64],
-    files: &[Identity],
-    done: &mut Vec<u64>,
-    left: &mut Vec<u64>,
-) -> Result<(), DiskError>
-    ensures err { OnErr result (Looks D.calls (λ which. Unit {0}) disk.old disk.new) }
-    ensures ok { OnOk result (Looks D.calls (λ which. Gathered files.now (2 ^ 64) which → AreSorted done.old.items left.old.items which
-        → AreSorted done.new.items left.new.items which) disk.old disk.new) }
-{
+    let mut boxed = Vec::new(alloc);
     for drop in drops {
-        sort_drop(disk, *drop, files, done, left)?;
+        see_drop(disk, *drop, &mut boxed)?;
     }
-    Ok(())
+    Ok(boxed)
 }
 
-// Which of these files stand under numbers: the places of those. The others are left.
-fn claimed_drops<D: Disk>(
-    alloc: Global,
-    disk: &mut D,
-    drops: &[u64],
-    left: &mut Vec<u64>,
-) -> Result<Vec<u64>, DiskError>
-    requires { left.old.items ≡ [] }
+// Which of these files stand under numbers, and which can be claimed: the places of those, and of these.
+fn sort_drops<D: Disk>(alloc: Global, disk: &mut D, drops: &[u64]) -> Result<Sorted, DiskError>
     ensures err { OnErr result (Looks D.calls (λ which. Unit {0}) disk.old disk.new) }
-    ensures ok { IfOk result (λ done. Looks D.calls (AreSorted done.items left.new.items) disk.old disk.new) }
+    ensures ok { IfOk result (λ sorted. Looks D.calls (AreSorted drops.now sorted.done.items sorted.left.items) disk.old disk.new) }
 {
     let files = claimed_files(alloc, disk)?;
-    let mut done = Vec::new(alloc);
-    sort_drops(disk, drops, &files, &mut done, left)?;
-    Ok(done)
+    let boxed = see_drops(alloc, disk, drops)?;
+    let sorted = sort_boxed(alloc, &files, &boxed)?;
+    Ok(sorted)
 }
 
 // These files leave their boxes, but where the system refuses it, and that is brought to the disk.
@@ -153,7 +115,8 @@ fn leave<D: Disk>(alloc: Global, disk: &mut D, done: &[u64]) -> Result<(), DiskE
 }
 
 /// Of these files in boxes, by their places, those that stand under a number leave their boxes: a run that claimed them ended before it
-/// took them out. One that the system lets nobody take out stays there and under its number. The places of the others that are there.
+/// took them out. One that the system lets nobody take out stays there and under its number. The places of the others that are there, but
+/// for files that stand there under several names: those are passed over, as one of two names would outlive the file's claim.
 ///
 /// # Errors
 ///
@@ -164,10 +127,10 @@ pub fn finish_claims<D: Disk>(
     drops: &[u64],
 ) -> Result<Vec<u64>, DiskError>
     ensures began { Leaves D.calls disk.old disk.new }
-    ensures did { IfOk result (λ left. Finishes D.calls left.items disk.old disk.new) }
+    ensures did { IfOk result (λ left. Finishes D.calls drops.now left.items disk.old disk.new) }
 {
-    let mut left = Vec::new(alloc);
-    let done = claimed_drops(alloc, disk, drops, &mut left)?;
+    let sorted = sort_drops(alloc, disk, drops)?;
+    let Sorted { done, left } = sorted;
     leave(alloc, disk, &done)?;
     Ok(left)
 }

@@ -1,8 +1,9 @@
 //! Each law is the contract of a function that does nothing.
 ghost use Rattle.ledger_run.specs.Finishing.{FinishesCarefully};
-ghost use Rattle.ledger_run.specs.Naming.{ReadsNames};
-ghost use Rattle.ledger_run.specs.Passes.{PassIsCareful};
+ghost use Rattle.ledger_run.specs.Passes.{PassIsCareful, RunKeepsFiles};
 ghost use Rattle.ledger_run.specs.Runs.{Restarts};
+
+pub use ledger_names::laws::reads_names;
 
 /// What a power cut leaves of a run is what the next run opens.
 pub fn restarts()
@@ -14,13 +15,14 @@ pub fn finishes_carefully()
     ensures { FinishesCarefully }
 {}
 
-/// The name under which a claimed file stands says whose it is and what it was called.
-pub fn reads_names()
-    ensures { ReadsNames }
-{}
-
 /// A whole pass is made of such calls and commits as `keeps_each_file` of `ledger_laws` asks for: files are claimed, each is recorded and
 /// removed then, and texts are run and answered.
 pub fn pass_is_careful()
     ensures { PassIsCareful }
+{}
+
+/// A whole run, from where the ledger's names are on the disk: claims that were left half done are finished, what can be claimed is, and a
+/// pass follows. Each dropped file is in exactly one commit, or still where it can be claimed, whatever a crash leaves.
+pub fn run_keeps_files()
+    ensures { RunKeepsFiles }
 {}

@@ -1,6 +1,7 @@
-//! What the commits of a ledger come to: the texts that wait, the answers that are owed, which number and which commit is next.
+//! What the commits of a ledger come to: the texts that wait, the answers that are owed, whose they are, which number and which commit
+//! is next.
 
-use crate::Owed;
+use crate::{Owed, Sender};
 use std::alloc::Global;
 use std::collections::VecDeque;
 
@@ -11,6 +12,8 @@ pub struct Waiting {
     pub number: u64,
     /// The text.
     pub text: Vec<u8>,
+    /// Whose it is.
+    pub sender: Sender,
 }
 
 /// What the commits of a ledger come to.
@@ -32,10 +35,11 @@ pub struct Ledger {
 impl Ledger {
     ghost use Rattle.std.specs.Prelude.{◌≡◌, []};
     ghost use Rattle.ledger_run.specs.Runs.{seen_ledger};
+    ghost use Rattle.ledger_run.specs.Senders.{no_senders};
 
     /// A ledger without commits.
     pub fn new(alloc: Global) -> Ledger
-        ensures { seen_ledger result ≡ record { waiting = []; owed = []; next = 0; commits = 0; last = [] } }
+        ensures { seen_ledger result ≡ record { waiting = []; owed = []; next = 0; commits = 0; last = []; senders = no_senders } }
     {
         Ledger {
             alloc,

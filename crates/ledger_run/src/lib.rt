@@ -2,6 +2,7 @@
 #![tactic(auto)]
 
 pub mod answers;
+pub mod attempts;
 pub mod chain;
 pub mod claims;
 pub mod commits;
@@ -12,20 +13,22 @@ mod folding;
 pub mod laws;
 pub mod ledger;
 pub mod machine;
-pub mod naming;
 pub mod opening;
 pub mod recording;
 pub mod running;
+pub mod sender;
 
 pub use answers::{Owed, deliver};
+pub use attempts::{Attempt, Dropping, drop_first, try_first};
 pub use chain::read_ledger;
 pub use claims::{Claims, claim_beside, remove_claimed};
 pub use commits::commit;
 pub use error::LedgerError;
 pub use finishing::finish_claims;
 pub use ledger::{Ledger, Waiting};
+pub use ledger_names::{Claim, claimed_name, naming, read_claimed_name};
 pub use machine::{Machine, Outcome};
-pub use naming::{Claim, claimed_name, read_claimed_name};
 pub use opening::open_ledger;
 pub use recording::{give, record_act};
 pub use running::{run_and_give, run_first, run_texts};
+pub use sender::Sender;

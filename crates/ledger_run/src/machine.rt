@@ -24,10 +24,10 @@ pub trait Machine {
     ///
     /// # Errors
     ///
-    /// Where a growth was refused, or the machine can't say it.
+    /// Where a growth was refused, or the machine can't say it, as where the text runs longer or prints more than it may (`Late`, `Long`).
     fn run(&mut self, text: &[u8]) -> Result<Outcome, LedgerError>
         ensures told { IfOk result (λ outcome. step text.now (behind self.old) ≡ (outcome.printout.items, outcome.change.items)) }
-        ensures stays { OnOk result (behind self.new ≡ behind self.old) };
+        ensures stays { behind self.new ≡ behind self.old };
 
     /// This is changed.
     ///

@@ -3,7 +3,7 @@ ghost use Rattle.std.specs.Prelude.{◌≡◌, [], map, IfOk, OnOk};
 ghost use Rattle.ledger_disk.specs.Plans.{Did};
 ghost use Rattle.ledger_run.specs.Runs.{seen_ledger, settle_calls, Opens};
 ghost use Rattle.ledger_run.specs.Following.{Takes, TakesAll};
-ghost use Rattle.ledger_run.specs.Finishing.{LeavesNone};
+ghost use Rattle.ledger_run.specs.Finishing.{LeavesNone, LeavesFit};
 
 use crate::event::read_event;
 use crate::finishing::finish_claims;
@@ -68,7 +68,8 @@ fn read_chain<D: Disk, M: Machine>(
 
 /// Opens the ledger: what its commits come to, in memory and by a machine that has no change behind it yet. Whatever an ended run or a
 /// power cut left is brought to the disk before anything is decided by it. Claims that it left half done are finished: of the files in
-/// boxes, by their places, those that stand under a number leave their boxes, and the others are left among `drops`.
+/// boxes, by their places, those that stand under a number leave their boxes, and the others are left among `drops`, but for those that
+/// stand there under several names.
 ///
 /// # Errors
 ///
@@ -83,6 +84,7 @@ pub fn open_ledger<D: Disk, M: Machine>(
     requires { M.behind machine.old ≡ [] }
     ensures opens { IfOk result (λ ledger. Opens D.calls M.step (seen_ledger ledger) (M.behind machine.new) disk.old disk.new) }
     ensures finished { OnOk result (LeavesNone D.calls drops.new.items disk.new) }
+    ensures fit { OnOk result (LeavesFit D.calls drops.old.items drops.new.items disk.new) }
 {
     let ledger = read_chain(alloc, disk, machine)?;
     let left = finish_claims(alloc, disk, drops)?;

@@ -7,7 +7,9 @@ ghost use Rattle.ledger_text.specs.Records.{seen};
 ghost use Rattle.ledger_laws.specs.Commits.{commit_calls};
 ghost use Rattle.ledger_run.specs.Meaning.{event_of, event_behind};
 ghost use Rattle.ledger_run.specs.Runs.{seen_ledger, SafeFrom, CarriesOn};
-ghost use Rattle.ledger_run.specs.Following.{seen_event, first_number, may_follow, Tells, after_event, changed_by, with_commit, runs};
+ghost use Rattle.ledger_run.specs.Following.{seen_event, event_sent, first_number, may_follow, Tells, after_event, changed_by, with_commit, runs};
+ghost use Rattle.ledger_run.specs.Senders.{sent_by, sent_in};
+ghost use Rattle.ledger_run.specs.Attempts.{Recorded};
 
 use crate::answers::put_answers;
 use crate::commits::put_commit;
@@ -24,6 +26,7 @@ fn next_event<'a>(
     change: &'a [u8],
 ) -> Result<Event<'a>, LedgerError>
     ensures is { IfOk result (λ event. event_of (seen said.entry) change.now ≡ Some (seen_event event)) }
+    ensures sent { IfOk result (λ event. event_sent event ≡ sent_by (seen said.entry)) }
     ensures may { IfOk result (λ event. may_follow ledger.now.next (first_number (seen_ledger ledger.now).waiting) (seen_event event) ≡ true) }
 {
     match said_event(said, change) {
@@ -34,7 +37,8 @@ fn next_event<'a>(
 
 // The text of the next commit.
 fn next_text(ledger: &Ledger, entry: Entry<'_>, change: &[u8]) -> Result<Vec<u8>, LedgerError>
-    ensures { IfOk result (λ text. event_behind ledger.now.last.items (commit_of text.items) ≡ event_of (seen entry.entry.«record») change.now) }
+    ensures says { IfOk result (λ text. event_behind ledger.now.last.items (commit_of text.items) ≡ event_of (seen entry.entry.«record») change.now) }
+    ensures sent { IfOk result (λ text. sent_in (commit_of text.items) ≡ sent_by (seen entry.entry.«record»)) }
 {
     match event_text(ledger.alloc, &ledger.last, entry, change)? {
         Some(text) => Ok(text),
@@ -78,6 +82,7 @@ pub(crate) fn put_record<D: Disk, M: Machine>(
     ensures done { OnOk result (CarriesOn D.calls M.step (seen_ledger ledger.old) (M.behind machine.old)
         (seen_ledger ledger.new) (M.behind machine.new) disk.old disk.new) }
     ensures one { OnOk result (ledger.new.commits ≡ ledger.old.commits + 1) }
+    ensures recorded { OnOk result (Recorded (seen entry.entry.«record») change.now (seen_ledger ledger.old) (seen_ledger ledger.new)) }
 {
     let event = next_event(ledger, entry.record, change)?;
     let text = next_text(ledger, entry, change)?;
@@ -108,6 +113,7 @@ pub fn record_act<D: Disk, M: Machine>(
     ensures any_moment { SafeFrom D.calls M.step (seen_ledger ledger.old) (M.behind machine.old) disk.old disk.new }
     ensures done { OnOk result (CarriesOn D.calls M.step (seen_ledger ledger.old) (M.behind machine.old)
         (seen_ledger ledger.new) (M.behind machine.new) disk.old disk.new) }
+    ensures recorded { OnOk result (Recorded (seen entry.entry.«record») change.now (seen_ledger ledger.old) (seen_ledger ledger.new)) }
 {
     if runs(entry.record) {
         return Err(LedgerError::Refused);

@@ -11,17 +11,20 @@ use ledger_text::{Entry, Record};
 
 // The first text that waits, run.
 #[derive(Drop)]
-struct First {
-    number: u64,
-    outcome: Outcome,
+pub(crate) struct First {
+    pub(crate) number: u64,
+    pub(crate) outcome: Outcome,
 }
 
 // What the first text that waits comes to, if one waits.
 #[tactic(auto, using(crate::proofs::Ahead::none_wait))]
-fn first_outcome<M: Machine>(machine: &mut M, ledger: &Ledger) -> Result<Option<First>, LedgerError>
+pub(crate) fn first_outcome<M: Machine>(
+    machine: &mut M,
+    ledger: &Ledger,
+) -> Result<Option<First>, LedgerError>
     ensures told { IfOk result (λ found. IfSome found (λ first.
         Tells M.step (Some (Ran first.number first.outcome.printout.items first.outcome.change.items)) (seen_ledger ledger.now) (M.behind machine.old))) }
-    ensures stays { OnOk result (M.behind machine.new ≡ M.behind machine.old) }
+    ensures stays { M.behind machine.new ≡ M.behind machine.old }
     ensures none { IfOk result (λ found. IsNone found → (seen_ledger ledger.now).waiting ≡ []) }
 {
     let Some(first) = ledger.waiting.front() else {
@@ -32,6 +35,31 @@ fn first_outcome<M: Machine>(machine: &mut M, ledger: &Ledger) -> Result<Option<
         number: first.number,
         outcome,
     }))
+}
+
+// Commits what it came to.
+pub(crate) fn put_first<D: Disk, M: Machine>(
+    disk: &mut D,
+    machine: &mut M,
+    ledger: &mut Ledger,
+    time: u64,
+    first: &First,
+) -> Result<(), LedgerError>
+    requires { Tells M.step (Some (Ran first.now.number first.now.outcome.printout.items first.now.outcome.change.items))
+        (seen_ledger ledger.old) (M.behind machine.old) }
+    ensures any_moment { SafeFrom D.calls M.step (seen_ledger ledger.old) (M.behind machine.old) disk.old disk.new }
+    ensures done { OnOk result (CarriesOn D.calls M.step (seen_ledger ledger.old) (M.behind machine.old)
+        (seen_ledger ledger.new) (M.behind machine.new) disk.old disk.new) }
+    ensures one { OnOk result (ledger.new.commits ≡ ledger.old.commits + 1) }
+{
+    let said = Record::Ran(first.number, &first.outcome.printout);
+    put_record(
+        disk,
+        machine,
+        ledger,
+        Entry { time, record: said },
+        &first.outcome.change,
+    )
 }
 
 /// Runs the first text that waits, if one does, and commits what it came to. A crash at any moment leaves the ledger as it was, or with
@@ -56,14 +84,7 @@ pub fn run_first<D: Disk, M: Machine>(
     let Some(first) = first_outcome(machine, ledger)? else {
         return Ok(false);
     };
-    let said = Record::Ran(first.number, &first.outcome.printout);
-    put_record(
-        disk,
-        machine,
-        ledger,
-        Entry { time, record: said },
-        &first.outcome.change,
-    )?;
+    put_first(disk, machine, ledger, time, &first)?;
     Ok(true)
 }
 

@@ -67,6 +67,7 @@ fn why(error: LedgerError) -> &'static str {
     match error {
         LedgerError::Refused => "a ledger is refused",
         LedgerError::Disk(_) => "a disk failed, or memory was short",
+        LedgerError::Late | LedgerError::Long => "a text was broken off",
     }
 }
 

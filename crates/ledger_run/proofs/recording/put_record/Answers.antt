@@ -1,10 +1,11 @@
-use Rattle.std.proofs.Common.{◌≡◌, ℕ, List, refl, sym, subst}
+use Rattle.std.proofs.Common.{◌≡◌, ℕ, List, refl, sym, ◌∙◌, subst}
 use Rattle.ledger_text.specs.Text.{commit_of}
 use Rattle.ledger_text.specs.Digests.{digest_of}
 use Rattle.ledger_text.specs.Records.{seen}
 use Rattle.ledger_run.specs.Meaning.{event_of, event_behind}
 use Rattle.ledger_run.specs.Runs.{Seen, seen_ledger, CarriesOn}
-use Rattle.ledger_run.specs.Following.{with_commit, after_event}
+use Rattle.ledger_run.specs.Following.{event_sent, with_commit, after_event}
+use Rattle.ledger_run.specs.Senders.{sent_in}
 use Rattle.ledger_run.proofs.Safety.{still_safe, commit_safe_from, commit_carries_on, one_commit}
 use Rattle.ledger_run.proofs.recording.put_record.Goals as goal
 
@@ -18,14 +19,14 @@ pub returns-in_err-put-clause-any_moment : goal.returns-in_err-put-clause-any_mo
 returns-in_err-put-clause-any_moment g c =
     commit_safe_from g.D.Disk.calls g.M.Machine.step (seen_ledger c.args.ledger.now) (g.M.Machine.behind c.args.machine.now) c.in_ok-event.event c.deref.result.now
     (event_of (seen c.args.entry.record) c.args.change.now) c.args.disk.now c.put.new.disk c.in_ok-event.ensures.may c.in_ok-event.ensures.is
-    (subst (λ (t : List ℕ). event_behind c.args.ledger.now.last.items (commit_of t) ≡ event_of (seen c.args.entry.record) c.args.change.now) (sym c.deref.ensures.value) c.in_ok-text.ensures)
+    (subst (λ (t : List ℕ). event_behind c.args.ledger.now.last.items (commit_of t) ≡ event_of (seen c.args.entry.record) c.args.change.now) (sym c.deref.ensures.value) c.in_ok-text.ensures.says)
     c.requires c.in_err-put.ensures.began
 
 pub returns-clause-any_moment : goal.returns-clause-any_moment
 returns-clause-any_moment g c =
     commit_safe_from g.D.Disk.calls g.M.Machine.step (seen_ledger c.args.ledger.now) (g.M.Machine.behind c.args.machine.now) c.in_ok-event.event c.deref.result.now
     (event_of (seen c.args.entry.record) c.args.change.now) c.args.disk.now c.put.new.disk c.in_ok-event.ensures.may c.in_ok-event.ensures.is
-    (subst (λ (t : List ℕ). event_behind c.args.ledger.now.last.items (commit_of t) ≡ event_of (seen c.args.entry.record) c.args.change.now) (sym c.deref.ensures.value) c.in_ok-text.ensures)
+    (subst (λ (t : List ℕ). event_behind c.args.ledger.now.last.items (commit_of t) ≡ event_of (seen c.args.entry.record) c.args.change.now) (sym c.deref.ensures.value) c.in_ok-text.ensures.says)
     c.requires c.in_ok-put.ensures.began
 
 pub returns-clause-done : goal.returns-clause-done
@@ -35,8 +36,19 @@ returns-clause-done g c =
     (sym c.in_ok-put.ensures.machine)
     (commit_carries_on g.D.Disk.calls g.M.Machine.step (seen_ledger c.args.ledger.now) (g.M.Machine.behind c.args.machine.now) c.in_ok-event.event c.deref.result.now
     (event_of (seen c.args.entry.record) c.args.change.now) c.args.disk.now c.put.new.disk c.in_ok-event.ensures.may c.in_ok-event.ensures.is
-    (subst (λ (t : List ℕ). event_behind c.args.ledger.now.last.items (commit_of t) ≡ event_of (seen c.args.entry.record) c.args.change.now) (sym c.deref.ensures.value) c.in_ok-text.ensures)
-    c.requires c.in_ok-put.ensures.did))
+    (subst (λ (t : List ℕ). event_behind c.args.ledger.now.last.items (commit_of t) ≡ event_of (seen c.args.entry.record) c.args.change.now) (sym c.deref.ensures.value) c.in_ok-text.ensures.says)
+    c.requires
+    (subst (λ (t : List ℕ). event_sent c.in_ok-event.event ≡ sent_in (commit_of t)) (sym c.deref.ensures.value) (c.in_ok-event.ensures.sent ∙ sym c.in_ok-text.ensures.sent))
+    c.in_ok-put.ensures.did))
 
 pub returns-clause-one : goal.returns-clause-one
 returns-clause-one g c = one_commit c.in_ok-event.event c.deref.result.now (seen_ledger c.args.ledger.now) (seen_ledger c.put.new.ledger) c.in_ok-put.ensures.ledger
+
+pub returns-clause-recorded : goal.returns-clause-recorded
+returns-clause-recorded g c = record {
+  event = c.in_ok-event.event;
+  digest = digest_of c.deref.result.now;
+  is = c.in_ok-event.ensures.is;
+  sent = c.in_ok-event.ensures.sent;
+  ledger = c.in_ok-put.ensures.ledger;
+}

@@ -1,6 +1,6 @@
 //! Under which name a claimed file stands: it says whose the file is and what it was called, so that a run that finds it there knows.
 ghost use Rattle.std.specs.Prelude.{◌≡◌, ◌<◌, length, option_map, IfOk, IfSome};
-ghost use Rattle.ledger_run.specs.Naming.{claimed_name, colon, split, claim_of, claim_in, seen_claim};
+ghost use Rattle.ledger_names.specs.Naming.{claimed_name, colon, split, claim_of, claim_in, seen_claim};
 
 use mon_text::{put_number, read_count};
 use std::alloc::{AllocError, Global};

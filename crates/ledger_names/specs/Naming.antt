@@ -3,7 +3,7 @@ use Rattle.std.specs.Prelude.{◌≡◌, ◌≢◌, ◌<◌, ◌^◌, ℕ, ◌+�
 use Rattle.std.specs.Option.{option_and_then}
 use Rattle.std.specs.List.{AllByRecursion}
 use Rattle.ledger_text.specs.Records.{count_of}
-use Rattle.ledger_run.specs.declared.naming.Claim as code
+use Rattle.ledger_names.specs.declared.naming.Claim as code
 
 abbrev pub claimed_name : ℕ → List ℕ → List ℕ → List ℕ
 claimed_name number account name = decimal number ++ 58 ∷ (account ++ 58 ∷ name)

@@ -11,7 +11,7 @@ use Rattle.mon_text.specs.Characters.{is_digit}
 use Rattle.mon_text.specs.Counts.{is_count, value_of}
 use Rattle.mon_text.proofs.Digits.{read_on}
 use Rattle.ledger_text.specs.Records.{count_of}
-use Rattle.ledger_run.specs.Naming.{colon, parts_at, split, claim_with, claim_behind, claim_of_parts, ReadsNames}
+use Rattle.ledger_names.specs.Naming.{colon, parts_at, split, claim_with, claim_behind, claim_of_parts, ReadsNames}
 
 -- ---- the digits of a number, and their value
 

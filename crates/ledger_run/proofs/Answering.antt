@@ -1,0 +1,52 @@
+-- The first text that waits is answered.
+use Rattle.std.proofs.Common.{◌≡◌, ℕ, true, List, [], ◌∷◌, map, Some, None, refl, ap, ◌∙◌, arith}
+use Rattle.std.proofs.lemmas.Bool.Decides.{nat_tests}
+use Rattle.ledger_text.specs.Records as said
+use Rattle.ledger_laws.specs.Course as course
+use Rattle.ledger_run.specs.declared.event.Event.{Event as Made}
+use Rattle.ledger_run.specs.declared.event.Event.TheVariants as code
+use Rattle.ledger_run.specs.declared.ledger.Waiting.{Waiting}
+use Rattle.ledger_run.specs.Meaning.{Event}
+use Rattle.ledger_run.specs.Runs.{Seen, waits_as}
+use Rattle.ledger_run.specs.Following.{seen_event, first_number, is_number, first_answered, after_event, with_commit}
+use Rattle.ledger_run.specs.Attempts.{Recorded, FirstAnswered}
+
+-- the one that is first has this number
+pub is_first : (x : Waiting) (rest : List Waiting) (n : ℕ) → is_number n (first_number (map waits_as (x ∷ rest))) ≡ true → n ≡ x.number
+is_first x rest n e = grind (arith, nat_tests, e)
+
+pub none_first : (n : ℕ) → is_number n (first_number []) ≡ true → ⊥
+none_first n e = cc (e)
+
+pub none_waits : (waiting : List (ℕ × List ℕ)) → None ≡ first_number waiting → waiting ≡ []
+none_waits [] e = refl
+none_waits (one ∷ waiting) e = absurd (cc (e))
+
+inside : (a b : Event) → Some a ≡ Some b → a ≡ b
+inside a b e = cc (e)
+
+pub first_dropped : (n : ℕ) (reason reply change : List ℕ) (seen new_seen : Seen) → first_number seen.waiting ≡ Some n → Recorded (said.Dropped n reason reply) change seen new_seen
+    → FirstAnswered reply seen new_seen
+first_dropped n reason reply change seen new_seen first done = by done.event (inside (course.Dropped n reply) (seen_event done.event) done.is) done.ledger
+  where
+    by : (event : Made) → course.Dropped n reply ≡ seen_event event → new_seen ≡ with_commit done.digest (after_event event seen) → FirstAnswered reply seen new_seen
+    by (code.Dropped m r) e is = record {
+      number = n;
+      first = first;
+      digest = done.digest;
+      ledger =
+          is ∙ ap (λ (k : ℕ). with_commit done.digest (first_answered k r.now seen)) number
+          ∙ ap (λ (t : List ℕ). with_commit done.digest (first_answered n t seen)) text;
+    }
+      where
+        number : m ≡ n
+        number = cc (e)
+
+        text : r.now ≡ reply
+        text = cc (e)
+    by (code.Took file text) e is = absurd (cc (e))
+    by (code.Refused file other) e is = absurd (cc (e))
+    by (code.Ran m printout other) e is = absurd (cc (e))
+    by (code.Edited other) e is = absurd (cc (e))
+    by code.Gave e is = absurd (cc (e))
+    by code.Noted e is = absurd (cc (e))
