@@ -1,0 +1,4 @@
+mod Standing
+mod Restricted
+mod Taken
+mod Opened

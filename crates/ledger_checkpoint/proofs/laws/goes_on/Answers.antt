@@ -1,0 +1,5 @@
+use Rattle.ledger_checkpoint.proofs.Opened.{goes_on}
+use Rattle.ledger_checkpoint.proofs.laws.goes_on.Goals as goal
+
+pub returns : goal.returns
+returns c = goes_on

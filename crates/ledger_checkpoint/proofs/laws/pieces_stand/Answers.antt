@@ -1,0 +1,5 @@
+use Rattle.ledger_checkpoint.proofs.Restricted.{pieces_stand}
+use Rattle.ledger_checkpoint.proofs.laws.pieces_stand.Goals as goal
+
+pub returns : goal.returns
+returns c = pieces_stand

@@ -1,0 +1,4 @@
+pub mod Index
+pub mod Course
+pub mod Opening
+pub mod Laws

@@ -1,0 +1,3 @@
+pub mod Pruning
+pub mod Starting
+pub mod Laws
