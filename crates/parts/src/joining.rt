@@ -4,7 +4,7 @@ ghost use Rattle.std.specs.List.{flat_map};
 ghost use Rattle.std.specs.Map.{lookup};
 ghost use Rattle.std.specs.Cmp.Lexicographic.{pointwise};
 ghost use Rattle.parts.specs.Splits.{goes};
-ghost use Rattle.parts.specs.Joining.{bytes_of, joined};
+ghost use Rattle.parts.specs.Joining.{bytes_of, joined, texts_joined};
 ghost use Rattle.parts.specs.inner.Picks.{printout_of, set_of};
 
 use crate::split::Split;
@@ -40,6 +40,24 @@ pub fn join_parts(
     put_printouts(split, parts, numbers, &mut out)?;
     out.extend_from_slice(b"$CATALOGUE 2\n")?;
     put_sets(split, parts, names, &mut out)?;
+    Ok(out)
+}
+
+/// What a round's audit says before its last line: of these texts, in this order, each from its part.
+///
+/// # Errors
+///
+/// Where a growth was refused.
+pub fn join_audits(
+    alloc: Global,
+    split: &Split,
+    parts: &[Part],
+    numbers: &[u64],
+) -> Result<Vec<u8>, AllocError>
+    ensures { IfOk result (λ out. out.items ≡ texts_joined (goes split.now) parts.now numbers.now) }
+{
+    let mut out = Vec::new(alloc);
+    put_printouts(split, parts, numbers, &mut out)?;
     Ok(out)
 }
 

@@ -9,7 +9,7 @@ pub mod split;
 pub mod text;
 
 pub use checking::are_apart;
-pub use joining::{Part, join_parts};
+pub use joining::{Part, join_audits, join_parts};
 pub use packing::pack;
 pub use split::Split;
 pub use text::Text;

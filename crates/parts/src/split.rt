@@ -1,5 +1,5 @@
 //! Which part each text goes to, by its number, and each name.
-ghost use Rattle.std.specs.Prelude.{◌≡◌, [], nat_eq};
+ghost use Rattle.std.specs.Prelude.{◌≡◌, ◌++◌, [], ◌∷◌, nat_eq, OnOk};
 ghost use Rattle.std.specs.List.{IsDistinct};
 ghost use Rattle.std.specs.Map.{keys_of};
 ghost use Rattle.std.specs.Cmp.Lexicographic.{pointwise};
@@ -7,7 +7,7 @@ ghost use Rattle.parts.specs.Splits.{goes};
 
 use indexmap::IndexMap;
 use mon_text::Name;
-use std::alloc::Global;
+use std::alloc::{AllocError, Global};
 use std::marker::Model;
 
 /// A split. What it does not tell goes to part 0.
@@ -34,6 +34,31 @@ impl Split {
             texts: Vec::new(alloc),
             names: IndexMap::new(alloc),
         }
+    }
+
+    /// One text more, which goes to this part.
+    ///
+    /// # Errors
+    ///
+    /// Where a growth was refused.
+    pub fn push_text(&mut self, part: u64) -> Result<(), AllocError>
+        ensures { OnOk result (self.new ≡ record self.old { texts = self.old.texts ++ part ∷ [] }) }
+    {
+        self.texts.push(part)?;
+        Ok(())
+    }
+
+    /// A name goes to this part.
+    ///
+    /// # Errors
+    ///
+    /// Where a growth was refused.
+    pub fn put_name(&mut self, name: &Name, part: u64) -> Result<(), AllocError>
+        ensures { OnOk result (self.new.texts ≡ self.old.texts) }
+    {
+        let before = self.names.insert(name.copy(), part)?;
+        drop(before);
+        Ok(())
     }
 
     // How many names it tells, no two of them the same.
